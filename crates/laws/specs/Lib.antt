@@ -1,0 +1,17 @@
+pub mod Bits
+pub mod Choice
+pub mod Counting
+pub mod Elements
+pub mod Front
+pub mod Lists
+pub mod Loops
+pub mod Prefixes
+pub mod Ranges
+pub mod Rows
+pub mod Search
+pub mod Select
+pub mod Tables
+pub mod Tests
+pub mod Truth
+pub mod Update
+pub mod Written

@@ -1,0 +1,123 @@
+-- What a loop over the first entries of a list has found after i turns: the list's first i entries, tested, chosen from, laid into a table or
+-- written to a list. Each law says what one entry more adds.
+use mathlib.Core.Path.{_≡_, refl, sym}
+use mathlib.Core.Bool.{Bool, true, false, _||_}
+use mathlib.Core.List.{List, [], _∷_, _++_, append-nil, append-assoc}
+use Prim.Native.Nat.{ℕ, zero, suc, _+_, _-_, _<_, _≤_}
+use native.Mathlib.Numerals.{add-one, unary-clauses}
+use native.Mathlib.Omega.{arith}
+use lib.ListN.{length, getD, set, take, replicate, length-append, length-replicate}
+use lib.Seq.{take-suc, set-append-seam}
+use Rattle.laws.specs.Choice.{by-bool}
+use Rattle.laws.specs.Lists.{select, orElse, lastOf, placed}
+use Rattle.laws.specs.Search.{anyBelow}
+use Rattle.laws.specs.Select.{select-append, some-append}
+use Rattle.laws.specs.Tests.{every, some-of}
+use Rattle.laws.specs.Truth.{and-both, and-left, and-right}
+
+-- the first i + 1 entries are the first i and entry i
+pub take-more : {A : Type 0} (l : List A) (i : ℕ) (d : A) → i < length l → take (i + 1) l ≡ take i l ++ (getD l i d ∷ [])
+take-more l i d h = rw add-one (take-suc l i d h)
+
+-- Two tests that agree everywhere choose the same.
+pub select-same : {A : Type 0} (t u : A → Bool) (l : List A) → ((x : A) → t x ≡ u x) → select t l ≡ select u l
+unfolding select
+select-same t u [] h = refl
+select-same t u (x ∷ l) h = rw (h x, select-same t u l h)
+
+-- Entry i of a list: x. It is chosen, or it is not.
+module _ {A : Type 0} (t : A → Bool) (l : List A) (i : ℕ) (d : A) (h : i < length l) where
+  pub select-yes : t (getD l i d) ≡ true → select t (take (i + 1) l) ≡ select t (take i l) ++ (getD l i d ∷ [])
+  unfolding select
+  select-yes e = rw (take-more l i d h, select-append, e)
+
+  pub select-no : t (getD l i d) ≡ false → select t (take (i + 1) l) ≡ select t (take i l)
+  unfolding select
+  select-no e = rw (take-more l i d h, select-append, e) (append-nil _)
+
+  pub some-yes : t (getD l i d) ≡ true → true ≡ some-of t (take (i + 1) l)
+  unfolding some-of
+  some-yes e = rw (take-more l i d h, some-append, e) (sym (or-true (some-of t (take i l))))
+    where
+      or-true : (b : Bool) → (b || true) ≡ true
+      or-true true = refl
+      or-true false = refl
+
+  pub some-no : (b : Bool) → b ≡ some-of t (take i l) → t (getD l i d) ≡ false → b ≡ some-of t (take (i + 1) l)
+  unfolding some-of
+  some-no b inv e = rw (take-more l i d h, some-append, e, inv) (sym (or-false (some-of t (take i l))))
+    where
+      or-false : (b : Bool) → (b || false) ≡ b
+      or-false true = refl
+      or-false false = refl
+
+-- a table with nothing laid into it
+pub placed-none : {A : Type 0} (n : ℕ) (d : A) → replicate n d ≡ placed n d []
+unfolding placed
+placed-none n d = simp unary-clauses
+
+-- the next free place of a table is filled
+pub placed-more : {A : Type 0} (n : ℕ) (d : A) (l : List A) (x : A) → length l < n → set (placed n d l) (length l) x ≡ placed n d (l ++ (x ∷ []))
+unfolding placed
+placed-more n d l x h =
+    let gap : n - length l ≡ suc (n - (length l + 1)) = omega arith in
+    rw (gap, set-append-seam, length-append, append-assoc)
+
+pub placed-length : {A : Type 0} (n : ℕ) (d : A) (l : List A) → length l ≤ n → length (placed n d l) ≡ n
+unfolding placed
+placed-length n d l h = rw (length-append, length-replicate) (omega arith)
+
+-- A loop that lays the chosen of the first i entries into a table: the table so far, how many it holds, and the two ways on.
+module _ {A : Type 0} (t : A → Bool) (l : List A) (n : ℕ) (unused : A) (i : ℕ) (d : A) (h : i < length l) (out : List A) (w : ℕ)
+    (count : w ≡ length (select t (take i l))) (laid : out ≡ placed n unused (select t (take i l))) where
+  pub laid-yes : t (getD l i d) ≡ true → w < n
+      → (w + 1 ≡ length (select t (take (i + 1) l))) × (set out w (getD l i d) ≡ placed n unused (select t (take (i + 1) l)))
+  laid-yes e room =
+      rw (select-yes t l i d h e, length-append, laid, count)
+      (refl, placed-more n unused (select t (take i l)) (getD l i d) (rw count at room))
+
+  pub laid-no : t (getD l i d) ≡ false → (w ≡ length (select t (take (i + 1) l))) × (out ≡ placed n unused (select t (take (i + 1) l)))
+  laid-no e = rw (select-no t l i d h e) (count, laid)
+
+-- One of two tests: no more are chosen than by the two one after the other.
+pub select-or : {A : Type 0} (t u : A → Bool) (l : List A) → length (select (λ x. t x || u x) l) ≤ length (select t l) + length (select u l)
+unfolding select
+select-or t u [] = omega arith
+select-or t u (x ∷ l) =
+    by-bool (t x)
+    (λ e. by-bool (u x) (λ d. rw (e, d) (omega (arith, select-or t u l))) (λ d. rw (e, d) (omega (arith, select-or t u l))))
+    (λ e. by-bool (u x) (λ d. rw (e, d) (omega (arith, select-or t u l))) (λ d. rw (e, d) (omega (arith, select-or t u l))))
+
+-- Some entry passes: some index below the length has an entry that does.
+pub any-shift : (n : ℕ) (t : ℕ → Bool) → anyBelow (suc n) t ≡ (t 0 || anyBelow n (λ k. t (suc k)))
+unfolding anyBelow
+any-shift zero t = refl
+any-shift (suc n) t =
+    by-bool (t (suc n))
+    (λ e. rw e (by-bool (t 0) (λ q. rw q) (λ q. rw q)))
+    (λ e. rw e (any-shift n t))
+
+pub some-any : {A : Type 0} (t : A → Bool) (l : List A) (d : A) → some-of t l ≡ anyBelow (length l) (λ k. t (getD l k d))
+unfolding some-of anyBelow
+some-any t [] d = refl
+some-any t (x ∷ l) d = rw (some-any t l d) (sym (any-shift (length l) (λ k. t (getD (x ∷ l) k d))))
+
+-- Where none passes, none is chosen.
+pub select-none : {A : Type 0} (t : A → Bool) (l : List A) → ((x : A) → t x ≡ false) → select t l ≡ []
+unfolding select
+select-none t [] h = refl
+select-none t (x ∷ l) h = rw (h x) (select-none t l h)
+
+-- What holds of every element holds of every chosen one, and of the last one.
+pub every-select : {A : Type 0} (u t : A → Bool) (l : List A) → every u l ≡ true → every u (select t l) ≡ true
+unfolding select every
+every-select u t [] h = refl
+every-select u t (x ∷ l) h =
+    by-bool (t x)
+    (λ e. rw e (and-both (u x) _ (and-left (u x) _ h) (every-select u t l (and-right (u x) _ h))))
+    (λ e. rw e (every-select u t l (and-right (u x) _ h)))
+
+pub every-last : {A : Type 0} (u : A → Bool) (l : List A) (d : A) → every u l ≡ true → u d ≡ true → u (orElse (lastOf l) d) ≡ true
+unfolding lastOf every
+every-last u [] d h e = e
+every-last u (x ∷ l) d h e = every-last u l x (and-right (u x) _ h) (and-left (u x) _ h)

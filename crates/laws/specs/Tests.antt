@@ -1,0 +1,20 @@
+-- How many numbers below a bound pass a test, and tests of the elements of a list. Search has the tests of all numbers and of some number.
+use mathlib.Core.Bool.{Bool, true, false, _&&_, _||_}
+use mathlib.Core.List.{List, [], _∷_}
+use Prim.Native.Nat.{ℕ, zero, suc, _+_}
+use Rattle.laws.specs.Choice.{pick}
+
+-- how many indexes below n pass
+unfoldable pub countBelow : ℕ → (ℕ → Bool) → ℕ
+countBelow zero t = 0
+countBelow (suc n) t = countBelow n t + pick (t n) 1 0
+
+-- every element of a list passes
+unfoldable pub every : {A : Type 0} → (A → Bool) → List A → Bool
+every t [] = true
+every t (x ∷ l) = t x && every t l
+
+-- some element of a list passes
+unfoldable pub some-of : {A : Type 0} → (A → Bool) → List A → Bool
+some-of t [] = false
+some-of t (x ∷ l) = t x || some-of t l

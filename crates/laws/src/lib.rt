@@ -1,0 +1,1 @@
+// General laws about lists, bounded loops and tests, in specs/. No function.

@@ -1,0 +1,115 @@
+-- Replaying block by block prints what replaying the whole prints. A block is a whole number of records; where the limit of records falls
+-- inside a block, its later records and all that follows print nothing.
+-- Assumes nothing.
+use mathlib.Core.Path.{_≡_, refl, sym, _∙_, ap}
+use mathlib.Core.Bool.{Bool, true, false}
+use mathlib.Core.List.{List, [], _∷_, _++_, append-nil, append-assoc}
+use mathlib.Core.Option.{Option, none, some}
+use Prim.Native.Nat.{ℕ, zero, suc, _+_, _*_, _≤_, _<_}
+use native.Mathlib.Omega.{arith}
+use lib.Dec.{ltb}
+use lib.ListN.{length, take, drop, length-drop}
+use lib.Seq.{length-take-le, take-add}
+use borrow.Author.Tests.{lt-ltb, le-ltb, ltb-false}
+use Rattle.laws.specs.Choice.{by-bool}
+use Rattle.model.specs.declared.Run.{Run}
+use Rattle.model.specs.declared.Event.{Event}
+use Rattle.model.specs.declared.Refusal.the-variants.{LeftOverBytes}
+use Rattle.model.specs.Calls.{call}
+use Rattle.model.specs.Trace.{decoded}
+use Rattle.model.specs.Listing.{callOf, perform, lineText, refusalText, mostRecords, records, stateAfterRecords}
+use Rattle.model.specs.WholeRuns.{Reachable}
+use Rattle.model.proofs.WholeRuns.{reachable-call}
+
+-- Past the limit nothing is printed, whatever follows.
+pub past-limit : (done : ℕ) (s : Run) (l : List ℕ) → mostRecords ≤ done → records done s l ≡ []
+unfolding records
+past-limit done s [] h = refl
+past-limit done s (a ∷ []) h = rw (le-ltb done mostRecords h)
+past-limit done s (a ∷ b ∷ []) h = rw (le-ltb done mostRecords h)
+past-limit done s (a ∷ b ∷ c ∷ []) h = rw (le-ltb done mostRecords h)
+past-limit done s (a ∷ b ∷ c ∷ d ∷ l) h = rw (le-ltb done mostRecords h)
+
+-- The law of blocks, for every number of records that were taken before.
+pub block-by-block : (k done : ℕ) (s : Run) (block rest : List ℕ) → length block ≡ 4 * k
+    → records done s (block ++ rest) ≡ records done s block ++ records (done + k) (stateAfterRecords s block) rest
+unfolding records stateAfterRecords
+block-by-block zero done s [] rest h = let e : done + zero ≡ done = omega arith in rw e
+block-by-block (suc k) done s [] rest h = absurd (omega arith)
+block-by-block k done s (a ∷ []) rest h = absurd (omega arith)
+block-by-block k done s (a ∷ b ∷ []) rest h = absurd (omega arith)
+block-by-block k done s (a ∷ b ∷ c ∷ []) rest h = absurd (omega arith)
+block-by-block zero done s (a ∷ b ∷ c ∷ d ∷ l) rest h = absurd (omega arith)
+block-by-block (suc k) done s (a ∷ b ∷ c ∷ d ∷ l) rest h =
+    let o = perform s (decoded (a ∷ b ∷ c ∷ d ∷ [])) in
+    let line = lineText (done + 1) (o .reply) in
+    let next : done + suc k ≡ (done + 1) + k = omega arith in
+    by-bool (ltb done mostRecords)
+    (λ t. rw (t, next, block-by-block k (done + 1) (o .run) l rest (omega arith)) (sym (append-assoc line (records (done + 1) (o .run) l) (records ((done + 1) + k) (stateAfterRecords (o .run) l) rest))))
+    (λ t. rw t (sym (past-limit (done + suc k) (stateAfterRecords (o .run) l) rest (omega (arith, ltb-false done mostRecords t)))))
+
+-- The same of the states.
+pub states-by-block : (k : ℕ) (s : Run) (block rest : List ℕ) → length block ≡ 4 * k
+    → stateAfterRecords s (block ++ rest) ≡ stateAfterRecords (stateAfterRecords s block) rest
+unfolding stateAfterRecords
+states-by-block zero s [] rest h = refl
+states-by-block (suc k) s [] rest h = absurd (omega arith)
+states-by-block k s (a ∷ []) rest h = absurd (omega arith)
+states-by-block k s (a ∷ b ∷ []) rest h = absurd (omega arith)
+states-by-block k s (a ∷ b ∷ c ∷ []) rest h = absurd (omega arith)
+states-by-block zero s (a ∷ b ∷ c ∷ d ∷ l) rest h = absurd (omega arith)
+states-by-block (suc k) s (a ∷ b ∷ c ∷ d ∷ l) rest h = states-by-block k (perform s (decoded (a ∷ b ∷ c ∷ d ∷ [])) .run) l rest (omega arith)
+
+-- One record is a block: its line below the limit, and the state after it.
+pub one-line : (done : ℕ) (s : Run) (r : List ℕ) → length r ≡ 4 → done < mostRecords → records done s r ≡ lineText (done + 1) (perform s (decoded r) .reply)
+unfolding records
+one-line done s [] h l = absurd (omega arith)
+one-line done s (a ∷ []) h l = absurd (omega arith)
+one-line done s (a ∷ b ∷ []) h l = absurd (omega arith)
+one-line done s (a ∷ b ∷ c ∷ []) h l = absurd (omega arith)
+one-line done s (a ∷ b ∷ c ∷ d ∷ []) h l = rw (lt-ltb done mostRecords l, append-nil)
+one-line done s (a ∷ b ∷ c ∷ d ∷ e ∷ r) h l = absurd (omega arith)
+
+pub one-state : (s : Run) (r : List ℕ) → length r ≡ 4 → stateAfterRecords s r ≡ perform s (decoded r) .run
+unfolding stateAfterRecords
+one-state s [] h = absurd (omega arith)
+one-state s (a ∷ []) h = absurd (omega arith)
+one-state s (a ∷ b ∷ []) h = absurd (omega arith)
+one-state s (a ∷ b ∷ c ∷ []) h = absurd (omega arith)
+one-state s (a ∷ b ∷ c ∷ d ∷ []) h = refl
+one-state s (a ∷ b ∷ c ∷ d ∷ e ∷ r) h = absurd (omega arith)
+
+-- A record takes a reachable state to a reachable state, and so does a block.
+pub reachable-record : (s : Run) → Reachable s → (e : Option Event) → Reachable (perform s e .run)
+unfolding perform
+reachable-record s v none = v
+reachable-record s v (some e) = reachable-call s v (callOf e)
+
+pub reachable-records : (s : Run) → Reachable s → (l : List ℕ) → Reachable (stateAfterRecords s l)
+unfolding stateAfterRecords
+reachable-records s v [] = v
+reachable-records s v (a ∷ []) = v
+reachable-records s v (a ∷ b ∷ []) = v
+reachable-records s v (a ∷ b ∷ c ∷ []) = v
+reachable-records s v (a ∷ b ∷ c ∷ d ∷ l) = reachable-records (perform s (decoded (a ∷ b ∷ c ∷ d ∷ [])) .run) (reachable-record s v (decoded (a ∷ b ∷ c ∷ d ∷ []))) l
+
+-- A block by its last record: the first k records of a trace, and the one behind them.
+module _ (k done : ℕ) (s : Run) (trace : List ℕ) (more : 4 * k + 4 ≤ length trace) where
+  first-records : length (take (4 * k) trace) ≡ 4 * k
+  first-records = length-take-le (4 * k) trace (omega arith)
+
+  pub next-length : length (take 4 (drop (4 * k) trace)) ≡ 4
+  next-length = length-take-le 4 (drop (4 * k) trace) (omega (arith, length-drop (4 * k) trace))
+
+  pub next-line : done + k < mostRecords → records done s (take (4 * k + 4) trace)
+      ≡ records done s (take (4 * k) trace) ++ lineText (done + k + 1) (perform (stateAfterRecords s (take (4 * k) trace)) (decoded (take 4 (drop (4 * k) trace))) .reply)
+  next-line h =
+      ap (records done s) (take-add (4 * k) 4 trace)
+      ∙ block-by-block k done s (take (4 * k) trace) (take 4 (drop (4 * k) trace)) first-records
+      ∙ ap (λ (l : List ℕ). records done s (take (4 * k) trace) ++ l) (one-line (done + k) (stateAfterRecords s (take (4 * k) trace)) (take 4 (drop (4 * k) trace)) next-length h)
+
+  pub next-state : stateAfterRecords s (take (4 * k + 4) trace) ≡ perform (stateAfterRecords s (take (4 * k) trace)) (decoded (take 4 (drop (4 * k) trace))) .run
+  next-state =
+      ap (stateAfterRecords s) (take-add (4 * k) 4 trace)
+      ∙ states-by-block k s (take (4 * k) trace) (take 4 (drop (4 * k) trace)) first-records
+      ∙ one-state (stateAfterRecords s (take (4 * k) trace)) (take 4 (drop (4 * k) trace)) next-length

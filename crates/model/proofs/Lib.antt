@@ -1,0 +1,9 @@
+pub mod Blocks
+pub mod Exam
+pub mod FailedSets
+pub mod Records
+pub mod Sizes
+pub mod WholeRuns
+pub mod ideal
+pub mod simulation
+pub mod whole

@@ -1,0 +1,223 @@
+-- How large the numbers of a reply can be, whatever the state: a call that is refused reports no value and no deletion, and one that is accepted
+-- found the state sound and the limits kept. The length of a printed line rests on this.
+-- Assumes nothing.
+use mathlib.Core.Path.{_≡_, refl, sym, _∙_, ap}
+use mathlib.Core.Bool.{Bool, true, false, _&&_, not}
+use mathlib.Core.List.{List, [], _∷_, _++_, map}
+use mathlib.Core.Option.{Option, none, some}
+use Prim.Native.Nat.{ℕ, zero, suc, _+_, _*_, _≤_, _<_, min}
+use native.Mathlib.Omega.{arith}
+use lib.Dec.{leb, ltb, eqb}
+use lib.ListN.{length, getD, take, length-append, length-map, length-take}
+use borrow.Author.Tests.{leb-true, ltb-true}
+use Rattle.laws.specs.Choice.{pick, by-bool}
+use Rattle.laws.specs.Counting.{count-le}
+use Rattle.laws.specs.Lists.{select, orElse, lastOf, gather}
+use Rattle.laws.specs.Prefixes.{every-select, every-last}
+use Rattle.laws.specs.Search.{allBelow, all-out}
+use Rattle.laws.specs.Select.{select-length}
+use Rattle.laws.specs.Tests.{every}
+use Rattle.laws.specs.Truth.{and-left, and-right, and-both}
+use Rattle.model.specs.declared.Interval.{Interval}
+use Rattle.model.specs.declared.Checkpoint.{Checkpoint}
+use Rattle.model.specs.declared.Message.{Message}
+use Rattle.model.specs.declared.Run.{Run}
+use Rattle.model.specs.declared.Event.{Event}
+use Rattle.model.specs.declared.Refusal.{Refusal}
+use Rattle.model.specs.declared.Refusal.the-variants.{CountOutsideRange, UnsoundState, ListTooShort, NoSuchProcess, SenderIsReceiver, NobodyFailed, NoSuchFailedProcess, NotUnderWay, TooManyUnderWay, MessageNumbersUsed, IntervalsUsed, NoFirstByte, LeftOverBytes, MalformedRecord}
+use Rattle.model.specs.Words.{places, mostUnderWay, mostMessages, named, Process, process, own, underWay, live}
+use Rattle.model.specs.Steps.{Deletion, listed, deletions, checkpointed, checkpointDeletions, found, forces, takenIn, delivered, deliverDeletions, member, pinsAfter, deletedAt, recoverDeletions, rolledBack, rolledBackCount}
+use Rattle.model.specs.Sound.{countSound, ownSound, vectorsSound, ascending, keptSound, pinsSound, messageSound, messagesSound, unusedSound, sound}
+use Rattle.model.specs.Refusals.{number, checkpointRefusal, sendRefusal, deliverRefusal, loseRefusal, lineRefusal, recoverRefusal}
+use Rattle.model.specs.Outcomes.{Report, refusing, accepting, message, deliverAnswer, checkpointOutcome, checkpointReport, sendOutcome, sendReport, deliverOutcome, deliverReport, loseOutcome, loseReport, lineOutcome, lineReport, recoverOutcome, recoverReport}
+use Rattle.model.specs.Calls.{Call, checkpoint, send, deliver, lose, recover, line, answered, call}
+use Rattle.model.specs.Listing.{callOf, perform}
+use Rattle.model.proofs.simulation.Accepted.{checkpoint-out, send-out, deliver-out, recover-out}
+use Rattle.model.proofs.simulation.Handed.{gather-length}
+
+-- Parts of a conjunction of six tests, and of one of four.
+six : (a b c d e f : Bool) → (a && b && c && d && e && f) ≡ true → (a ≡ true) × (d ≡ true) × (e ≡ true)
+six a b c d e f h =
+    let five = and-left (a && b && c && d && e) f h in
+    let four = and-left (a && b && c && d) e five in
+    (and-left a b (and-left (a && b) c (and-left (a && b && c) d four)), and-right (a && b && c) d four, and-right (a && b && c && d) e five)
+
+third : (a b c d : Bool) → (a && b && c && d) ≡ true → c ≡ true
+third a b c d h = and-right (a && b) c (and-left (a && b && c) d h)
+
+-- Parts of a sound state.
+module _ (s : Run) (h : sound s ≡ true) where
+  sound-parts : (countSound s ≡ true) × (allBelow (s .count) (λ p. keptSound s p && pinsSound s p) ≡ true) × (messagesSound s ≡ true)
+  unfolding sound
+  sound-parts = six (countSound s) (ownSound s) (vectorsSound s) (allBelow (s .count) (λ p. keptSound s p && pinsSound s p)) (messagesSound s) (unusedSound s) h
+
+  pub few-processes : s .count ≤ 16
+  unfolding countSound
+  few-processes = leb-true (s .count) 16 (and-right (leb 1 (s .count)) (leb (s .count) places) (sound-parts .0))
+
+  held-few : (p : ℕ) → keptSound s p ≡ true → getD (s .held) p 0 ≤ s .count
+  unfolding keptSound
+  held-few p k = leb-true (getD (s .held) p 0) (s .count) (second (leb 1 (getD (s .held) p 0)) (leb (getD (s .held) p 0) (s .count)) _ _ _ _ k)
+    where
+      second : (a b c d e f : Bool) → (a && b && c && d && e && f) ≡ true → b ≡ true
+      second a b c d e f h = and-right a b (and-left (a && b) c (and-left (a && b && c) d (and-left (a && b && c && d) e (and-left (a && b && c && d && e) f h))))
+
+  few-held : (p : ℕ) → p < s .count → getD (s .held) p 0 ≤ 16
+  few-held p lt =
+      omega (arith, few-processes, held-few p (and-left (keptSound s p) (pinsSound s p) (all-out (s .count) (λ q. keptSound s q && pinsSound s q) (sound-parts .1) p lt)))
+
+few-kept : (s : Run) → sound s ≡ true → (p : ℕ) → p < s .count → length (process s p .kept) ≤ 16
+unfolding process
+few-kept s h p lt = rw (length-take (getD (s .held) p 0) (getD (s .kept .0) p [])) (omega (arith, few-held s h p lt))
+
+-- The last element of a list passes a test that every element passes.
+last-passes : {A : Type 0} (u : A → Bool) (l : List A) (x : A) → every u l ≡ true → lastOf l ≡ some x → u x ≡ true
+unfolding every lastOf
+last-passes u [] x h e = absurd (let z : _≡_ {A = ℕ} 0 1 = cc in omega arith)
+last-passes u (y ∷ l) x h e =
+    let same : orElse (lastOf l) y ≡ x = cc in
+    rw (← same) (every-last u l y (and-right (u y) (every u l) h) (and-left (u y) (every u l) h))
+
+-- A message under way goes to a process of the run.
+all-messages : (s : Run) → messagesSound s ≡ true → every (messageSound s) (underWay s) ≡ true
+unfolding messagesSound
+all-messages s h = third (leb (s .underway) mostUnderWay) (ascending 1 (map (λ x. x .number) (underWay s))) (every (messageSound s) (underWay s)) (leb (s .last) mostMessages) h
+
+receiver-in : (s : Run) → sound s ≡ true → (m : ℕ) (x : Message) → found s m ≡ some x → x .receiver < s .count
+unfolding messageSound found
+receiver-in s h m x e =
+    let all = all-messages s (sound-parts s h .2) in
+    let here = last-passes (messageSound s) (select (λ y. eqb (y .number) m) (underWay s)) x (every-select (messageSound s) (λ y. eqb (y .number) m) (underWay s) all) e in
+    ltb-true (x .receiver) (s .count) (third (leb (x .number) (s .last)) (ltb (x .sender) (s .count)) (ltb (x .receiver) (s .count)) (not (eqb (x .sender) (x .receiver))) here)
+
+-- Deletions of one process are among the checkpoints that it keeps.
+listed-few : (p : ℕ) (t : Checkpoint → Bool) (l : List Checkpoint) → length (listed p (select t l)) ≤ length l
+unfolding listed
+listed-few p t l = rw (length-map {B = Deletion} (select t l) (λ c. record { process = p; index = c .index })) (select-length t l)
+
+deletions-few : (p : ℕ) (P : Process) → length (deletions p P) ≤ length (P .kept)
+unfolding deletions
+deletions-few p P = listed-few p (λ c. not (named (P .pins) c)) (P .kept)
+
+-- A checkpoint keeps one more before it deletes.
+stored-few : (i : ℕ) (P : Process) → length (P .kept) ≤ 16 → length (checkpointed i P .kept) ≤ 17
+unfolding checkpointed
+stored-few i P h = omega (arith, length-append (P .kept) (live i P ∷ []))
+
+checkpoint-few : (s : Run) (i : ℕ) → length (process s i .kept) ≤ 16 → length (checkpointDeletions s i) ≤ 17
+unfolding checkpointDeletions
+checkpoint-few s i h = omega (arith, deletions-few i (checkpointed i (process s i)), stored-few i (process s i) h)
+
+taken-few : (i : ℕ) (carried : List Interval) (P : Process) → length (P .kept) ≤ 16 → length (delivered i carried P .kept) ≤ 17
+unfolding delivered takenIn
+taken-few i carried P h = by-bool (forces P carried) (λ e. rw e (stored-few i P h)) (λ e. rw e (omega arith))
+
+deliver-few : (s : Run) (x : Message) → length (process s (x .receiver) .kept) ≤ 16 → length (deliverDeletions s x) ≤ 17
+unfolding deliverDeletions
+deliver-few s x h =
+    let P = process s (x .receiver) in
+    omega (arith, deletions-few (x .receiver) (delivered (x .receiver) (x .vector) P), taken-few (x .receiver) (x .vector) P h)
+
+deleted-few : (s : Run) (F p : ℕ) → length (deletedAt s F p) ≤ length (process s p .kept)
+unfolding deletedAt
+deleted-few s F p = listed-few p (λ c. not (leb (c .index .0) (member s F p .index .0) && named (pinsAfter s F p) c)) (process s p .kept)
+
+recover-few : (s : Run) (F : ℕ) → sound s ≡ true → length (recoverDeletions s F) ≤ 256
+unfolding recoverDeletions
+recover-few s F h =
+    omega (arith, few-processes s h, gather-length (s .count) 16 (deletedAt s F) (λ p lt. omega (arith, deleted-few s F p, few-kept s h p lt)))
+
+-- The report of a call, by whether it is refused.
+by-refusal : {P : Type 0} (o : Option Refusal) → (o ≡ none → P) → ((x : Refusal) → o ≡ some x → P) → P
+by-refusal none a b = a refl
+by-refusal (some x) a b = b x refl
+
+-- The highest number of the table is 14.
+number-small : (x : Refusal) → number x ≤ 14
+unfolding number
+number-small CountOutsideRange = omega arith
+number-small UnsoundState = omega arith
+number-small ListTooShort = omega arith
+number-small NoSuchProcess = omega arith
+number-small SenderIsReceiver = omega arith
+number-small NobodyFailed = omega arith
+number-small NoSuchFailedProcess = omega arith
+number-small NotUnderWay = omega arith
+number-small TooManyUnderWay = omega arith
+number-small MessageNumbersUsed = omega arith
+number-small IntervalsUsed = omega arith
+number-small NoFirstByte = omega arith
+number-small LeftOverBytes = omega arith
+number-small MalformedRecord = omega arith
+
+-- A report whose numbers are small: its refusal, its count of deletions, its value.
+pub record Small (r : Report) : Type 0 where
+  pub refused : r .refused ≤ 14
+  pub deletions : r .deletions ≤ 256
+  pub value : (v : ℕ) → r .value ≡ some v → v < 10000000000
+
+no-value : (v : ℕ) {P : Type 0} → _≡_ {A = Option ℕ} none (some v) → P
+no-value v e = absurd (let z : _≡_ {A = ℕ} 0 1 = cc in omega arith)
+
+pub small-refused : (x : Refusal) → Small (refusing x)
+small-refused x = record { refused = number-small x; deletions = omega arith; value = λ v e. no-value v e }
+
+small-accepted : (v k : ℕ) → v < 10000000000 → k ≤ 256 → Small (accepting (some v) k)
+small-accepted v k a b = record { refused = omega arith; deletions = b; value = λ w e. let same : v ≡ w = cc in omega arith }
+
+small-none : (k : ℕ) → k ≤ 256 → Small (accepting none k)
+small-none k b = record { refused = omega arith; deletions = b; value = λ v e. no-value v e }
+
+checkpoint-small : (s : Run) (i : ℕ) (deleted : List ℕ) → Small (checkpointReport (checkpointOutcome s i deleted .answer))
+unfolding checkpointReport checkpointOutcome live own
+checkpoint-small s i deleted = by-refusal (checkpointRefusal s i deleted)
+    (λ e. let fine = checkpoint-out s i deleted e in
+    rw e (small-accepted (own s i .0) (length (checkpointDeletions s i)) (omega (arith, fine .early)) (omega (arith, checkpoint-few s i (few-kept s (fine .whole) i (fine .present))))))
+    (λ x e. rw e (small-refused x))
+
+send-small : (s : Run) (i j : ℕ) → Small (sendReport (sendOutcome s i j .answer))
+unfolding sendReport sendOutcome
+send-small s i j = by-refusal (sendRefusal s i j)
+    (λ e. rw e (small-accepted (s .last + 1) 0 (omega (arith, send-out s i j e .numbers)) (omega arith)))
+    (λ x e. rw e (small-refused x))
+
+lose-small : (s : Run) (m : ℕ) → Small (loseReport (loseOutcome s m .answer))
+unfolding loseReport loseOutcome
+lose-small s m = by-refusal (loseRefusal s m) (λ e. rw e (small-none 0 (omega arith))) (λ x e. rw e (small-refused x))
+
+line-small : (s : Run) (F : ℕ) (lent : List ℕ) → Small (lineReport (lineOutcome s F lent .answer))
+unfolding lineReport lineOutcome
+line-small s F lent = by-refusal (lineRefusal s F lent) (λ e. rw e (small-none 0 (omega arith))) (λ x e. rw e (small-refused x))
+
+deliver-small : (s : Run) (m : ℕ) (deleted : List ℕ) → Small (deliverReport (deliverOutcome s m deleted .answer))
+unfolding deliverReport deliverOutcome deliverAnswer live own
+deliver-small s m deleted = by-refusal (deliverRefusal s m deleted)
+    (λ e. let fine = deliver-out s m deleted e in
+    let x = fine .message in
+    let few = deliver-few s x (few-kept s (fine .whole) (x .receiver) (receiver-in s (fine .whole) m x (fine .here))) in
+    rw (e, fine .here) (by-bool (forces (process s (x .receiver)) (x .vector))
+    (λ f. rw f (small-accepted (own s (x .receiver) .0) (length (deliverDeletions s x)) (omega (arith, fine .early f)) (omega arith)))
+    (λ f. rw f (small-none (length (deliverDeletions s x)) (omega arith)))))
+    (λ x e. rw e (small-refused x))
+
+recover-small : (s : Run) (F : ℕ) (deleted lent : List ℕ) → Small (recoverReport (recoverOutcome s F deleted lent .answer))
+unfolding recoverReport recoverOutcome rolledBackCount
+recover-small s F deleted lent = by-refusal (recoverRefusal s F deleted lent)
+    (λ e. let fine = recover-out s F deleted lent e in
+    rw e (small-accepted (rolledBackCount s F) (length (recoverDeletions s F)) (omega (arith, few-processes s (fine .whole), count-le (s .count) (rolledBack s F))) (recover-few s F (fine .whole))))
+    (λ x e. rw e (small-refused x))
+
+-- The report of every call is small, and so is that of every record.
+call-small : (s : Run) (c : Call) → Small (call s c .reply .report)
+unfolding call answered
+call-small s (checkpoint i deleted) = checkpoint-small s i deleted
+call-small s (send i j) = send-small s i j
+call-small s (deliver m deleted) = deliver-small s m deleted
+call-small s (lose m) = lose-small s m
+call-small s (recover F deleted lent) = recover-small s F deleted lent
+call-small s (line F lent) = line-small s F lent
+
+pub record-small : (s : Run) (e : Option Event) → Small (perform s e .reply .report)
+unfolding perform
+record-small s none = small-refused MalformedRecord
+record-small s (some e) = call-small s (callOf e)

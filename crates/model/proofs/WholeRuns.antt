@@ -1,0 +1,179 @@
+-- Demand 3, proved: right over whole runs. And what later work cites of states that calls from a start reach.
+-- Assumes nothing.
+use mathlib.Core.Path.{_≡_, refl, sym, _∙_, ap}
+use mathlib.Core.Bool.{Bool, true, false}
+use mathlib.Core.List.{List, [], _∷_, _++_}
+use mathlib.Core.Option.{Option, none, some}
+use Prim.Native.Nat.{ℕ, _^_, _≤_, _<_}
+use native.Mathlib.Omega.{arith}
+use lib.Dec.{eqb}
+use borrow.Author.Tests.{eq-eqb, eqb-true}
+use Rattle.laws.specs.Choice.{by-bool, by-eq}
+use Rattle.laws.specs.Counting.{count-mono}
+use Rattle.laws.specs.Elements.{same-test}
+use Rattle.laws.specs.Search.{anyBelow, any-out}
+use Rattle.laws.specs.Truth.{never-both}
+use Rattle.model.specs.declared.Run.{Run}
+use Rattle.model.specs.declared.Refusal.{Refusal}
+use Rattle.model.specs.declared.StartAnswer.the-variants.{Started}
+use Rattle.model.specs.Steps.{startState, latestAllowed}
+use Rattle.model.specs.Sound.{sound}
+use Rattle.model.specs.History.{checkpoints}
+use Rattle.model.specs.Refusals.{missing, noMember}
+use Rattle.model.specs.Outcomes.{startOutcome}
+use Rattle.model.specs.Calls.{Call, checkpoint, send, deliver, lose, recover, line, call, stateAfter, transcript}
+use Rattle.model.specs.Survival.{Surviving, beginning, after, survivingFrom, surviving}
+use Rattle.model.specs.WholeRuns.{LineIsRight, KeptIsRight, RightOverWholeRuns, Reachable}
+use Rattle.model.specs.WholeRuns.{LineIsRight, KeptIsRight, RightOverWholeRuns, LinePromise}
+use Rattle.model.proofs.ideal.Run.{Ideal, begin, keeps}
+use Rattle.model.proofs.ideal.Invariant.{Inv}
+use Rattle.model.proofs.ideal.Begin.{begin-inv, begin-n, begin-pin-own, begin-pin-other}
+use Rattle.model.proofs.ideal.Rule.{keeps-in, keeps-out, same-some}
+use Rattle.model.proofs.simulation.View.{stateOf, Limits, processOf}
+use Rattle.model.proofs.simulation.Reads.{count-is, process-is}
+use Rattle.model.proofs.simulation.Accepted.{start-in}
+use Rattle.model.proofs.simulation.Start.{start-is}
+use Rattle.model.proofs.simulation.Kept.{few-kept, pins-name, kept-holds}
+use Rattle.model.proofs.simulation.Lines.{line-is, latest-allowed}
+use Rattle.model.proofs.simulation.Sound.{state-sound}
+use Rattle.model.proofs.simulation.SoundLimits.{limits-begin}
+use Rattle.model.proofs.whole.Agreement.{Agrees}
+use Rattle.model.proofs.whole.Accepted.{Step, step-reached}
+use Rattle.model.proofs.whole.Answers.{answers-right}
+use Rattle.model.proofs.whole.LineRight.{line-right}
+use Rattle.model.proofs.whole.Reached.{Reached, exchange, refusal, refused-reached}
+use Rattle.model.proofs.whole.Recovers.{recover-step}
+use Rattle.model.proofs.whole.Steps.{checkpoint-step, send-step, deliver-step, lose-step, line-step}
+
+-- The history of the start agrees with the run as functions at its start.
+begin-keeps : (n p k : ℕ) → p < n → keeps (begin n) p k ≡ eqb k 0
+begin-keeps n p k hp = same-test (keeps (begin n) p k) (eqb k 0)
+    (λ e. let w = keeps-out (begin n) p k e in by-eq p (w .0)
+    (λ c. eq-eqb k 0 (same-some (begin n .pin p (w .0)) k 0 (w .2) (rw (← c) (begin-pin-own n p))))
+    (λ ne. absurd (nothing-named k (sym (begin-pin-other n p (w .0) ne) ∙ w .2))))
+    (λ e. keeps-in (begin n) p p k (rw (begin-n n) hp) (begin-pin-own n p ∙ ap some (sym (eqb-true k 0 e))))
+  where
+    nothing-named : (k : ℕ) → _≡_ {A = Option ℕ} none (some k) → ⊥
+    nothing-named k e = let z : _≡_ {A = ℕ} 0 1 = cc in omega arith
+
+begin-agrees : (n : ℕ) → Agrees beginning (begin n)
+unfolding beginning begin
+begin-agrees n = record { lists = refl; sends = refl; receiver = refl; kept = λ p k hp. sym (begin-keeps n p k hp) }
+
+-- An accepted start reaches the state that it returns.
+started-state : (n : ℕ) → 1 ≤ n → n ≤ 16 → startOutcome n .run ≡ startState n
+unfolding startOutcome
+started-state n pos few = rw (start-in n pos few)
+
+started-answer : (n : ℕ) → 1 ≤ n → n ≤ 16 → startOutcome n .answer ≡ Started
+unfolding startOutcome
+started-answer n pos few = rw (start-in n pos few)
+
+pub start-reached : (n : ℕ) → 1 ≤ n → n ≤ 16 → Reached n (startOutcome n .run) beginning
+unfolding begin
+start-reached n pos few = record {
+  run = begin n;
+  inv = begin-inv n;
+  limits = limits-begin n pos few;
+  size = refl;
+  state = started-state n pos few ∙ start-is n;
+  agrees = begin-agrees n;
+}
+
+-- Each accepted call is a step of the run as functions.
+step : (n : ℕ) (h : Surviving) (r : Ideal) → Inv r → Limits r → r .n ≡ n → Agrees h r → (c : Call) → refusal (stateOf r) c ≡ none → Step n h r c
+unfolding refusal
+step n h r v fit size g (checkpoint i deleted) e = checkpoint-step n h r v fit size g i deleted e
+step n h r v fit size g (send i j) e = send-step n h r v fit size g i j e
+step n h r v fit size g (deliver m deleted) e = deliver-step n h r v fit size g m deleted e
+step n h r v fit size g (lose m) e = lose-step n h r v fit size g m e
+step n h r v fit size g (recover F deleted lent) e = recover-step n h r v fit size g F deleted lent e
+step n h r v fit size g (line F lent) e = line-step n h r v fit size g F lent e
+
+-- A call, refused or accepted, takes a reached state to a reached state.
+by-refusal : {P : Type 0} (o : Option Refusal) → (o ≡ none → P) → ((x : Refusal) → o ≡ some x → P) → P
+by-refusal none a b = a refl
+by-refusal (some x) a b = b x refl
+
+-- What stands for s may be put for it.
+on-state : (n : ℕ) (s : Run) (h : Surviving) (c : Call) (r : Ideal) → s ≡ stateOf r → Reached n (call (stateOf r) c .run) (after n h (exchange (stateOf r) c))
+    → Reached n (call s c .run) (after n h (exchange s c))
+on-state n s h c r e v = rw e v
+
+pub call-reached : (n : ℕ) (s : Run) (h : Surviving) → Reached n s h → (c : Call) → Reached n (call s c .run) (after n h (exchange s c))
+call-reached n s h v c = by-refusal (refusal s c)
+    (λ e. on-state n s h c (v .run) (v .state)
+    (step-reached n (v .run) h c (v .inv) (v .size) (v .agrees) (rw (v .state) at e) (step n h (v .run) (v .inv) (v .limits) (v .size) (v .agrees) c (rw (v .state) at e))))
+    (λ x e. refused-reached n s h c x e v)
+
+pub calls-reached : (n : ℕ) (s : Run) (h : Surviving) → Reached n s h → (calls : List Call) → Reached n (stateAfter s calls) (survivingFrom n h (transcript s calls))
+unfolding stateAfter survivingFrom transcript
+calls-reached n s h v [] = v
+calls-reached n s h v (c ∷ calls) = calls-reached n (call s c .run) (after n h (exchange s c)) (call-reached n s h v c) calls
+
+-- The line of a reached state is right, for every non-empty failed set.
+members-found : (r : Ideal) → Inv r → Limits r → (F : ℕ) → noMember (stateOf r) F ≡ false
+unfolding noMember
+members-found r v fit F = none-missing (stateOf r .count) (λ p. missing (latestAllowed (stateOf r) F p))
+    (λ p hp. rw (latest-allowed r v (fit .few-processes) F p (rw (count-is r) at hp)))
+  where
+    none-missing : (n : ℕ) (t : ℕ → Bool) → ((p : ℕ) → p < n → t p ≡ false) → anyBelow n t ≡ false
+    none-missing n t h = by-bool (anyBelow n t) (λ e. let w = any-out n t e in never-both (t (w .0)) (w .2) (h (w .0) (w .1))) (λ e. e)
+
+pub reached-line : (n : ℕ) (s : Run) (h : Surviving) → Reached n s h → (F : ℕ) → 1 ≤ F → F < 2 ^ n → LineIsRight n s h F
+reached-line n s h v F pos less = rw (← v .size, v .state)
+    (line-right (v .run) (v .inv) (stateOf (v .run)) h (v .agrees) F (count-is (v .run)) (state-sound (v .run) (v .inv) (v .limits))
+    (line-is (v .run) (v .inv) (v .limits .few-processes) F) (members-found (v .run) (v .inv) (v .limits) F) pos (rw (v .size) less))
+
+-- What a reached state keeps is right.
+pub reached-kept : (n : ℕ) (s : Run) (h : Surviving) → Reached n s h → KeptIsRight n s h
+unfolding processOf
+reached-kept n s h v =
+    let r = v .run in
+    let few = v .limits .few-processes in
+    rw (← v .size, v .state) (record {
+      kept-in-state = λ p k hp. rw (process-is r p few hp) (kept-holds r (v .inv) p k ∙ sym (v .agrees .kept p k hp));
+      kept-by-pins = λ p k hp. rw (process-is r p few hp) (pins-name r p k few ∙ sym (v .agrees .kept p k hp));
+      at-most-n = λ p hp. omega (arith, count-mono (checkpoints (h .lists p)) (h .kept p) (keeps r p) (λ j lt e. sym (v .agrees .kept p j hp) ∙ e), few-kept r p (checkpoints (h .lists p)));
+    })
+
+-- A reached state is sound.
+pub reached-sound : (n : ℕ) (s : Run) (h : Surviving) → Reached n s h → sound s ≡ true
+reached-sound n s h v = rw (v .state) (state-sound (v .run) (v .inv) (v .limits))
+
+-- Demand 3.
+pub right-over-whole-runs : RightOverWholeRuns
+unfolding RightOverWholeRuns surviving
+right-over-whole-runs n pos few calls =
+    let v = calls-reached n (startOutcome n .run) beginning (start-reached n pos few) calls in (
+      started-answer n pos few,
+      answers-right (startOutcome n .run) calls,
+      reached-kept n (stateAfter (startOutcome n .run) calls) (survivingFrom n beginning (transcript (startOutcome n .run) calls)) v,
+      reached-line n (stateAfter (startOutcome n .run) calls) (survivingFrom n beginning (transcript (startOutcome n .run) calls)) v,
+    )
+
+-- Reachable states: the start, what a call makes of one, and that each is sound.
+pub reachable-start : (n : ℕ) → 1 ≤ n → n ≤ 16 → Reachable (startOutcome n .run)
+unfolding Reachable stateAfter
+reachable-start n pos few = (n, pos, few, [], refl)
+
+after-one : (s : Run) (calls : List Call) (c : Call) → stateAfter s (calls ++ (c ∷ [])) ≡ call (stateAfter s calls) c .run
+unfolding stateAfter
+after-one s [] c = refl
+after-one s (b ∷ calls) c = after-one (call s b .run) calls c
+
+pub reachable-call : (s : Run) → Reachable s → (c : Call) → Reachable (call s c .run)
+unfolding Reachable
+reachable-call s v c = (v .0, v .1, v .2, v .3 ++ (c ∷ []), ap (λ (t : Run). call t c .run) (v .4) ∙ sym (after-one (startOutcome (v .0) .run) (v .3) c))
+
+pub reachable-sound : (s : Run) → Reachable s → sound s ≡ true
+unfolding Reachable
+reachable-sound s v =
+    ap sound (v .4)
+    ∙ reached-sound (v .0) (stateAfter (startOutcome (v .0) .run) (v .3)) (survivingFrom (v .0) beginning (transcript (startOutcome (v .0) .run) (v .3)))
+    (calls-reached (v .0) (startOutcome (v .0) .run) beginning (start-reached (v .0) (v .1) (v .2)) (v .3))
+
+-- Demand 3 as a line or recover call says it of its state.
+pub line-promise : (s : Run) (F : ℕ) → LinePromise s F
+unfolding RightOverWholeRuns LinePromise
+line-promise s F n pos few calls e some-failed inside = rw e (right-over-whole-runs n pos few calls .3 F some-failed inside)

@@ -1,0 +1,286 @@
+-- Which calls are accepted: for each call, its refusal is none exactly if every test of the table fails, said as facts about the arguments and the state.
+-- And what a failed set is that no number of the table refuses.
+-- Assumes nothing.
+use mathlib.Core.Path.{_≡_, refl}
+use mathlib.Core.Bool.{Bool, true, false, _||_, not}
+use mathlib.Core.List.{List, [], _∷_}
+use mathlib.Core.Option.{Option, none, some}
+use Prim.Native.Nat.{ℕ, _*_, _^_, _≤_, _<_}
+use native.Mathlib.Nat.{div-eq-of-lt, pow-le-pow-right}
+use native.Mathlib.Omega.{arith}
+use lib.Dec.{leb}
+use lib.ListN.{length}
+use borrow.Author.Tests.{ltb-false, leb-true, leb-false, eqb-false, not-false, le-ltb, le-leb, lt-leb, ne-eqb}
+use Rattle.laws.specs.Choice.{by-bool}
+use Rattle.laws.specs.Truth.{never-both, and-left, and-right, and-both}
+use Rattle.model.specs.declared.Message.{Message}
+use Rattle.model.specs.declared.Run.{Run}
+use Rattle.model.specs.declared.Refusal.{Refusal}
+use Rattle.model.specs.Words.{places, mostUnderWay, mostMessages, mostInterval, process, own, failed}
+use Rattle.model.specs.Steps.{found, forces}
+use Rattle.model.specs.Sound.{sound}
+use Rattle.model.specs.Refusals.{Rule, firstOf, startRefusal, shortDeletions, shortLine, absent, checkpointRefusal, sendRefusal, missing, forcesPast, deliverRefusal, loseRefusal, noMember, emptySet, outside, lineRefusal, recoverRefusal}
+
+-- Where no rule applies, the first does not, and none of the others does.
+pub first-out : (t : Rule) (l : List Rule) → firstOf (t ∷ l) ≡ none → (t .holds ≡ false) × (firstOf l ≡ none)
+unfolding firstOf
+first-out t l e = by-bool (t .holds)
+    (λ q. absurd (clash (t .gives) (rw q at e)))
+    (λ q. (q, rw q at e))
+  where
+    clash : (g : Refusal) → some g ≡ none → ⊥
+    clash g d = let z : _≡_ {A = ℕ} 0 1 = cc in omega arith
+
+-- Where the first does not apply, and none of the others does, no rule applies.
+pub first-in : (t : Rule) (l : List Rule) → t .holds ≡ false → firstOf l ≡ none → firstOf (t ∷ l) ≡ none
+unfolding firstOf
+first-in t l p q = rw (p, q)
+
+-- Of no rules none applies.
+pub first-nil : firstOf [] ≡ none
+unfolding firstOf
+first-nil = refl
+
+-- A disjunction that fails.
+or-out : (a b : Bool) → (a || b) ≡ false → (a ≡ false) × (b ≡ false)
+or-out true b e = never-both true refl e
+or-out false b e = (refl, e)
+
+-- Two tests that fail.
+or-in : (a b : Bool) → a ≡ false → b ≡ false → (a || b) ≡ false
+or-in a b p q = rw (p, q)
+
+-- A test that holds.
+not-in : (a : Bool) → a ≡ true → not a ≡ false
+not-in a e = rw e
+
+-- An accepted start has 1 to 16 processes.
+pub start-out : (n : ℕ) → startRefusal n ≡ none → (1 ≤ n) × (n ≤ places)
+unfolding startRefusal
+start-out n e =
+    let h = not-false _ (first-out _ _ e .0) in
+    (leb-true 1 n (and-left (leb 1 n) (leb n places) h), leb-true n places (and-right (leb 1 n) (leb n places) h))
+
+-- A start with 1 to 16 processes is accepted.
+pub start-in : (n : ℕ) → 1 ≤ n → n ≤ places → startRefusal n ≡ none
+unfolding startRefusal
+start-in n a b = first-in _ [] (not-in _ (and-both _ _ (le-leb 1 n a) (le-leb n places b))) first-nil
+
+-- A checkpoint that is accepted.
+pub record CheckpointFine (s : Run) (i : ℕ) (deleted : List ℕ) : Type 0 where
+  pub whole : sound s ≡ true
+  pub room : 2 * s .count * s .count ≤ length deleted
+  pub present : i < s .count
+  pub early : own s i .0 < mostInterval
+
+-- An accepted checkpoint is one of these,
+pub checkpoint-out : (s : Run) (i : ℕ) (deleted : List ℕ) → checkpointRefusal s i deleted ≡ none → CheckpointFine s i deleted
+unfolding checkpointRefusal
+checkpoint-out s i deleted e =
+    let a = first-out _ _ e in
+    let b = first-out _ _ (a .1) in
+    let c = first-out _ _ (b .1) in
+    let d = first-out _ _ (c .1) in
+    record { whole = not-false _ (a .0); room = ltb-false _ _ (b .0); present = leb-false _ _ (c .0); early = leb-false _ _ (d .0) }
+
+-- and each of these is accepted.
+pub checkpoint-in : (s : Run) (i : ℕ) (deleted : List ℕ) → CheckpointFine s i deleted → checkpointRefusal s i deleted ≡ none
+unfolding checkpointRefusal
+checkpoint-in s i deleted h =
+    first-in _ _ (not-in _ (h .whole))
+    (first-in _ _ (le-ltb _ _ (h .room))
+    (first-in _ _ (lt-leb _ _ (h .present))
+    (first-in _ _ (lt-leb _ _ (h .early)) first-nil)))
+
+-- A send that is accepted.
+pub record SendFine (s : Run) (i j : ℕ) : Type 0 where
+  pub whole : sound s ≡ true
+  pub from : i < s .count
+  pub to : j < s .count
+  pub apart : i ≡ j → ⊥
+  pub room : s .underway < mostUnderWay
+  pub numbers : s .last < mostMessages
+
+-- An accepted send is one of these,
+pub send-out : (s : Run) (i j : ℕ) → sendRefusal s i j ≡ none → SendFine s i j
+unfolding sendRefusal
+send-out s i j e =
+    let a = first-out _ _ e in
+    let b = first-out _ _ (a .1) in
+    let c = first-out _ _ (b .1) in
+    let d = first-out _ _ (c .1) in
+    let f = first-out _ _ (d .1) in
+    let g = or-out (absent s i) (absent s j) (b .0) in
+    record {
+      whole = not-false _ (a .0);
+      from = leb-false _ _ (g .0);
+      to = leb-false _ _ (g .1);
+      apart = eqb-false _ _ (c .0);
+      room = leb-false _ _ (d .0);
+      numbers = leb-false _ _ (f .0);
+    }
+
+-- and each of these is accepted.
+pub send-in : (s : Run) (i j : ℕ) → SendFine s i j → sendRefusal s i j ≡ none
+unfolding sendRefusal
+send-in s i j h =
+    first-in _ _ (not-in _ (h .whole))
+    (first-in _ _ (or-in (absent s i) (absent s j) (lt-leb _ _ (h .from)) (lt-leb _ _ (h .to)))
+    (first-in _ _ (ne-eqb i j (h .apart))
+    (first-in _ _ (lt-leb _ _ (h .room))
+    (first-in _ _ (lt-leb _ _ (h .numbers)) first-nil))))
+
+-- A message that is not missing is there.
+there : (o : Option Message) → missing o ≡ false → (x : Message) × (o ≡ some x)
+there none e = never-both true refl e
+there (some x) e = (x, refl)
+
+-- A delivery that is accepted.
+pub record DeliverFine (s : Run) (m : ℕ) (deleted : List ℕ) : Type 0 where
+  pub whole : sound s ≡ true
+  pub room : 2 * s .count * s .count ≤ length deleted
+  pub message : Message
+  pub here : found s m ≡ some message
+  pub early : forces (process s (message .receiver)) (message .vector) ≡ true → own s (message .receiver) .0 < mostInterval
+
+-- A delivery that forces no checkpoint past the last interval: if it forces one, the own entry has room,
+early-out : (s : Run) (o : Option Message) (x : Message) → forcesPast s o ≡ false → o ≡ some x → forces (process s (x .receiver)) (x .vector) ≡ true → own s (x .receiver) .0 < mostInterval
+unfolding forcesPast
+early-out s o x e d q = let z = rw d at e in leb-false _ _ (rw q at z)
+
+-- and the other way round.
+early-in : (s : Run) (o : Option Message) (x : Message) → o ≡ some x → (forces (process s (x .receiver)) (x .vector) ≡ true → own s (x .receiver) .0 < mostInterval) → forcesPast s o ≡ false
+unfolding forcesPast
+early-in s o x d h = rw d (by-bool (forces (process s (x .receiver)) (x .vector))
+    (λ q. rw q (lt-leb _ _ (h q)))
+    (λ q. rw q))
+
+-- An accepted delivery is one of these,
+pub deliver-out : (s : Run) (m : ℕ) (deleted : List ℕ) → deliverRefusal s m deleted ≡ none → DeliverFine s m deleted
+unfolding deliverRefusal
+deliver-out s m deleted e =
+    let a = first-out _ _ e in
+    let b = first-out _ _ (a .1) in
+    let c = first-out _ _ (b .1) in
+    let d = first-out _ _ (c .1) in
+    let w = there (found s m) (c .0) in
+    record {
+      whole = not-false _ (a .0);
+      room = ltb-false _ _ (b .0);
+      message = w .0;
+      here = w .1;
+      early = early-out s (found s m) (w .0) (d .0) (w .1);
+    }
+
+-- and each of these is accepted.
+pub deliver-in : (s : Run) (m : ℕ) (deleted : List ℕ) → DeliverFine s m deleted → deliverRefusal s m deleted ≡ none
+unfolding deliverRefusal
+deliver-in s m deleted h =
+    first-in _ _ (not-in _ (h .whole))
+    (first-in _ _ (le-ltb _ _ (h .room))
+    (first-in _ _ (rw (h .here))
+    (first-in _ _ (early-in s (found s m) (h .message) (h .here) (h .early)) first-nil)))
+
+-- A loss that is accepted.
+pub record LoseFine (s : Run) (m : ℕ) : Type 0 where
+  pub whole : sound s ≡ true
+  pub message : Message
+  pub here : found s m ≡ some message
+
+-- An accepted loss is one of these,
+pub lose-out : (s : Run) (m : ℕ) → loseRefusal s m ≡ none → LoseFine s m
+unfolding loseRefusal
+lose-out s m e =
+    let a = first-out _ _ e in
+    let b = first-out _ _ (a .1) in
+    let w = there (found s m) (b .0) in
+    record { whole = not-false _ (a .0); message = w .0; here = w .1 }
+
+-- and each of these is accepted.
+pub lose-in : (s : Run) (m : ℕ) → LoseFine s m → loseRefusal s m ≡ none
+unfolding loseRefusal
+lose-in s m h = first-in _ _ (not-in _ (h .whole)) (first-in _ _ (rw (h .here)) first-nil)
+
+-- A failed set that is neither empty nor has a bit at n or above.
+abbrev pub SetFine : ℕ → ℕ → Type 0
+SetFine n F = (1 ≤ F) × (F < 2 ^ n)
+
+-- It is not empty.
+pub set-some : (n F : ℕ) → SetFine n F → emptySet F ≡ false
+set-some n F h = ne-eqb F 0 (omega (arith, h .0))
+
+-- It has no bit at n or above.
+pub set-inside : (s : Run) (F : ℕ) → SetFine (s .count) F → outside s F ≡ false
+set-inside s F h = lt-leb _ _ (h .1)
+
+-- No process at n or above is in it.
+pub set-above : (n F f : ℕ) → F < 2 ^ n → n ≤ f → failed F f ≡ false
+set-above n F f h le =
+    let less : F < 2 ^ f = omega (arith, pow-le-pow-right {n = 2} (omega arith) le) in
+    rw (div-eq-of-lt less)
+
+-- A line call that is accepted.
+pub record LineFine (s : Run) (F : ℕ) (line : List ℕ) : Type 0 where
+  pub whole : sound s ≡ true
+  pub room : s .count ≤ length line
+  pub set : SetFine (s .count) F
+  pub members : noMember s F ≡ false
+
+-- An accepted line call is one of these,
+pub line-out : (s : Run) (F : ℕ) (line : List ℕ) → lineRefusal s F line ≡ none → LineFine s F line
+unfolding lineRefusal
+line-out s F line e =
+    let a = first-out _ _ e in
+    let b = first-out _ _ (a .1) in
+    let c = first-out _ _ (b .1) in
+    let d = first-out _ _ (c .1) in
+    let f = first-out _ _ (d .1) in
+    let some-bit : F ≡ 0 → ⊥ = eqb-false F 0 (c .0) in
+    record { whole = not-false _ (a .0); room = ltb-false _ _ (b .0); set = (omega (arith, some-bit), leb-false _ _ (d .0)); members = f .0 }
+
+-- and each of these is accepted.
+pub line-in : (s : Run) (F : ℕ) (line : List ℕ) → LineFine s F line → lineRefusal s F line ≡ none
+unfolding lineRefusal
+line-in s F line h =
+    first-in _ _ (not-in _ (h .whole))
+    (first-in _ _ (le-ltb _ _ (h .room))
+    (first-in _ _ (set-some (s .count) F (h .set))
+    (first-in _ _ (set-inside s F (h .set))
+    (first-in _ _ (h .members) first-nil))))
+
+-- A recover call that is accepted.
+pub record RecoverFine (s : Run) (F : ℕ) (deleted line : List ℕ) : Type 0 where
+  pub whole : sound s ≡ true
+  pub room : 2 * s .count * s .count ≤ length deleted
+  pub line-room : s .count ≤ length line
+  pub set : SetFine (s .count) F
+  pub members : noMember s F ≡ false
+
+-- An accepted recovery is one of these,
+pub recover-out : (s : Run) (F : ℕ) (deleted line : List ℕ) → recoverRefusal s F deleted line ≡ none → RecoverFine s F deleted line
+unfolding recoverRefusal
+recover-out s F deleted line e =
+    let a = first-out _ _ e in
+    let b = first-out _ _ (a .1) in
+    let c = first-out _ _ (b .1) in
+    let d = first-out _ _ (c .1) in
+    let f = first-out _ _ (d .1) in
+    let g = or-out (shortDeletions s deleted) (shortLine s line) (b .0) in
+    let some-bit : F ≡ 0 → ⊥ = eqb-false F 0 (c .0) in
+    record {
+      whole = not-false _ (a .0);
+      room = ltb-false _ _ (g .0);
+      line-room = ltb-false _ _ (g .1);
+      set = (omega (arith, some-bit), leb-false _ _ (d .0));
+      members = f .0;
+    }
+
+-- and each of these is accepted.
+pub recover-in : (s : Run) (F : ℕ) (deleted line : List ℕ) → RecoverFine s F deleted line → recoverRefusal s F deleted line ≡ none
+unfolding recoverRefusal
+recover-in s F deleted line h =
+    first-in _ _ (not-in _ (h .whole))
+    (first-in _ _ (or-in (shortDeletions s deleted) (shortLine s line) (le-ltb _ _ (h .room)) (le-ltb _ _ (h .line-room)))
+    (first-in _ _ (set-some (s .count) F (h .set))
+    (first-in _ _ (set-inside s F (h .set))
+    (first-in _ _ (h .members) first-nil))))

@@ -1,0 +1,78 @@
+-- Calls on the state that stands for a run: what an accepted one says of the run, and which failed sets the table does not refuse.
+-- Assumes nothing.
+use mathlib.Core.Path.{_≡_}
+use mathlib.Core.Bool.{true, false}
+use mathlib.Core.List.{List}
+use mathlib.Core.Option.{Option, none, some}
+use Prim.Native.Nat.{ℕ, _*_, _≤_, _<_}
+use native.Mathlib.Omega.{arith}
+use lib.ListN.{length}
+use Rattle.laws.specs.Choice.{by-bool}
+use Rattle.model.specs.declared.Message.{Message}
+use Rattle.model.specs.Words.{mostInterval, own}
+use Rattle.model.specs.Steps.{found}
+use Rattle.model.specs.Refusals.{outside, checkpointRefusal, sendRefusal, deliverRefusal, loseRefusal, lineRefusal, recoverRefusal}
+use Rattle.model.proofs.ideal.Run.{Ideal, sending}
+use Rattle.model.proofs.ideal.Invariant.{Inv}
+use Rattle.model.proofs.simulation.View.{messageOf, stateOf, Limits}
+use Rattle.model.proofs.simulation.Reads.{count-is, last-is, underway-is, own-is}
+use Rattle.model.proofs.simulation.Messages.{used-number, found-is, found-none}
+use Rattle.model.proofs.simulation.Accepted.{SetFine, set-inside, checkpoint-out, send-out, deliver-out, lose-out, line-out, recover-out}
+use Rattle.model.proofs.simulation.SoundLimits.{limits-send}
+
+module _ (r : Ideal) (v : Inv r) (fit : Limits r) where
+  -- A failed set of processes of the run has no bit at n or above.
+  pub outside-run : (F : ℕ) → SetFine (r .n) F → outside (stateOf r) F ≡ false
+  outside-run F h = set-inside (stateOf r) F (rw (count-is r) h)
+
+  -- An accepted checkpoint at i: i is in the run, its own entry has room, and so has the list.
+  pub checkpoint-run : (i : ℕ) (deleted : List ℕ) → checkpointRefusal (stateOf r) i deleted ≡ none
+      → (i < r .n) × (r .own i < mostInterval) × (2 * r .n * r .n ≤ length deleted)
+  checkpoint-run i deleted e =
+      let h = checkpoint-out (stateOf r) i deleted e in
+      let hi : i < r .n = rw (count-is r) at (h .present) in
+      (hi, rw (own-is r i (fit .few-processes) hi (v .self i (r .own i) (omega arith))) at (h .early), rw (count-is r) at (h .room))
+
+  -- An accepted send from i to j: both are in the run and differ, and the run after it is within the limits.
+  pub send-run : (i j : ℕ) → sendRefusal (stateOf r) i j ≡ none → (i < r .n) × (j < r .n) × (i ≡ j → ⊥) × Limits (sending r i j)
+  send-run i j e =
+      let h = send-out (stateOf r) i j e in
+      (rw (count-is r) at (h .from), rw (count-is r) at (h .to), h .apart, limits-send r i j fit (rw (underway-is r) at (h .room)) (rw (last-is r) at (h .numbers)))
+
+  -- The message that is found is one under way in the run.
+  found-run : (m : ℕ) (x : Message) → found (stateOf r) m ≡ some x → (r .transit m ≡ true) × (x ≡ messageOf r m)
+  found-run m x e = by-bool (r .transit m)
+      (λ q. (q, same x (messageOf r m) (found (stateOf r) m) e (found-is r m (used-number r v m q) q)))
+      (λ q. absurd (clash x (found (stateOf r) m) e (found-none r m q)))
+    where
+      same : (x y : Message) (o : Option Message) → o ≡ some x → o ≡ some y → x ≡ y
+      same x y o a b = cc
+
+      clash : (x : Message) (o : Option Message) → o ≡ some x → o ≡ none → ⊥
+      clash x o a b = let z : _≡_ {A = ℕ} 0 1 = cc in omega arith
+
+  -- An accepted delivery: the message is under way, and the list has room.
+  pub deliver-run : (m : ℕ) (deleted : List ℕ) → deliverRefusal (stateOf r) m deleted ≡ none
+      → (r .transit m ≡ true) × (found (stateOf r) m ≡ some (messageOf r m)) × (2 * r .n * r .n ≤ length deleted)
+  deliver-run m deleted e =
+      let h = deliver-out (stateOf r) m deleted e in
+      let w = found-run m (h .message) (h .here) in
+      (w .0, found-is r m (used-number r v m (w .0)) (w .0), rw (count-is r) at (h .room))
+
+  -- An accepted loss: the message is under way.
+  pub lose-run : (m : ℕ) → loseRefusal (stateOf r) m ≡ none → (r .transit m ≡ true) × (found (stateOf r) m ≡ some (messageOf r m))
+  lose-run m e =
+      let h = lose-out (stateOf r) m e in
+      let w = found-run m (h .message) (h .here) in
+      (w .0, found-is r m (used-number r v m (w .0)) (w .0))
+
+  -- An accepted line call: the failed set is one of processes of the run, and the list has room.
+  pub line-run : (F : ℕ) (line : List ℕ) → lineRefusal (stateOf r) F line ≡ none → SetFine (r .n) F × (r .n ≤ length line)
+  line-run F line e = let h = line-out (stateOf r) F line e in (rw (count-is r) at (h .set), rw (count-is r) at (h .room))
+
+  -- An accepted recovery: the same, with room in both lists.
+  pub recover-run : (F : ℕ) (deleted line : List ℕ) → recoverRefusal (stateOf r) F deleted line ≡ none
+      → SetFine (r .n) F × (2 * r .n * r .n ≤ length deleted) × (r .n ≤ length line)
+  recover-run F deleted line e =
+      let h = recover-out (stateOf r) F deleted line e in
+      (rw (count-is r) at (h .set), rw (count-is r) at (h .room), rw (count-is r) at (h .line-room))

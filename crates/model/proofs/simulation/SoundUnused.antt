@@ -1,0 +1,201 @@
+-- The unused places of the state that stands for a run: every one holds zero, every unused pin is none. And how many checkpoints each row holds.
+-- Assumes nothing.
+use mathlib.Core.Path.{_≡_, refl, _∙_}
+use mathlib.Core.Bool.{Bool, true, false, not}
+use mathlib.Core.List.{List, []}
+use Prim.Native.Nat.{ℕ, zero, suc, _-_, _≤_, _<_}
+use native.Mathlib.Nat.{not-suc-le-zero}
+use native.Mathlib.Omega.{arith}
+use lib.Dec.{eqb}
+use lib.ListN.{length, getD, drop, replicate}
+use lib.Seq.{getD-set-same, getD-set-other, drop-set-lt, drop-append-seam}
+use Rattle.laws.specs.Choice.{by-eq}
+use Rattle.laws.specs.Lists.{placed}
+use Rattle.laws.specs.Search.{allBelow, all-in}
+use Rattle.laws.specs.Tests.{every}
+use Rattle.laws.specs.Elements.{every-drop, every-from, every-replicate}
+use Rattle.model.specs.declared.Pin.the-variants.{Nothing}
+use Rattle.model.specs.declared.Checkpoint.{Checkpoint}
+use Rattle.model.specs.declared.Run.{Run}
+use Rattle.model.specs.Words.{places, mostUnderWay, Process, zeroVector, noPins, noCheckpoint, noMessage, blank, withProcess, underWay, withMessages}
+use Rattle.model.specs.Steps.{withProcesses}
+use Rattle.model.specs.Sound.{zeroFrom, unusedCheckpoint, unusedMessage, isNothing, nothingFrom, rowUnused, unusedSound}
+use Rattle.model.proofs.ideal.Run.{Ideal}
+use Rattle.model.proofs.simulation.View.{vectorOf, pinsOf, checkpointOf, keptOf, processOf, messageOf, messagesOf, stateOf}
+use Rattle.model.proofs.simulation.Parts.{Room, room-all, room-blank}
+use Rattle.model.proofs.simulation.Reads.{entry-past, pin-past, count-is, underWay-is, process-is}
+use Rattle.model.proofs.simulation.SoundPassing.{passing-every}
+use Rattle.model.proofs.simulation.Kept.{kept-every}
+
+-- What a state holds of the checkpoints of one process: how many, and the row with its unused places.
+pub record Row (s : Run) (p : ℕ) (kept : List Checkpoint) : Type 0 where
+  pub many : getD (s .held) p 0 ≡ length kept
+  pub row : getD (s .kept .0) p [] ≡ placed places noCheckpoint kept
+
+-- Right after the part of p was put in.
+row-put : (s : Run) (p : ℕ) (P : Process) → Room s p → Row (withProcess s p P) p (P .kept)
+unfolding withProcess
+row-put s p P h = record {
+  many = getD-set-same (s .held) p (length (P .kept)) 0 (h .held);
+  row = getD-set-same (s .kept .0) p (placed places noCheckpoint (P .kept)) [] (h .kept);
+}
+
+-- The part of another process does not change it.
+row-other : (s : Run) (p q : ℕ) (Q : Process) (kept : List Checkpoint) → (p ≡ q → ⊥) → Row s p kept → Row (withProcess s q Q) p kept
+unfolding withProcess
+row-other s p q Q kept ne h = record {
+  many = getD-set-other (s .held) q p (length (Q .kept)) 0 ne ∙ h .many;
+  row = getD-set-other (s .kept .0) q p (placed places noCheckpoint (Q .kept)) [] ne ∙ h .row;
+}
+
+-- After the parts of all processes below n were put in.
+row-all : (n : ℕ) (f : ℕ → Process) (s : Run) (p : ℕ) → p < n → Room s p → Row (withProcesses n f s) p (f p .kept)
+unfolding withProcesses
+row-all zero f s p h room = absurd (not-suc-le-zero h)
+row-all (suc n) f s p h room = by-eq p n
+    (λ e. rw e (row-put (withProcesses n f s) n (f n) (rw e at (room-all n f s p room))))
+    (λ ne. row-other (withProcesses n f s) p n (f n) (f p .kept) ne (row-all n f s p (omega arith) room))
+
+-- Two states with the same rows from m on.
+record Behind (m : ℕ) (s t : Run) : Type 0 where
+  vectors : drop m (s .vectors .0) ≡ drop m (t .vectors .0)
+  pins : drop m (s .pins .0) ≡ drop m (t .pins .0)
+  sent : drop m (s .sent) ≡ drop m (t .sent)
+  kept : drop m (s .kept .0) ≡ drop m (t .kept .0)
+  held : drop m (s .held) ≡ drop m (t .held)
+
+-- The parts of processes below m leave the rows from m on.
+behind-all : (m n : ℕ) (f : ℕ → Process) (s : Run) → n ≤ m → Behind m (withProcesses n f s) s
+unfolding withProcesses withProcess
+behind-all m zero f s h = record { vectors = refl; pins = refl; sent = refl; kept = refl; held = refl }
+behind-all m (suc n) f s h =
+    let b = behind-all m n f s (omega arith) in
+    record {
+      vectors = drop-set-lt m (withProcesses n f s .vectors .0) n (f n .vector) h ∙ b .vectors;
+      pins = drop-set-lt m (withProcesses n f s .pins .0) n (f n .pins) h ∙ b .pins;
+      sent = drop-set-lt m (withProcesses n f s .sent) n (f n .mark) h ∙ b .sent;
+      kept = drop-set-lt m (withProcesses n f s .kept .0) n (placed places noCheckpoint (f n .kept)) h ∙ b .kept;
+      held = drop-set-lt m (withProcesses n f s .held) n (length (f n .kept)) h ∙ b .held;
+    }
+
+-- A vector of zeros is zero from any place on.
+zeros : (k : ℕ) → zeroFrom k zeroVector ≡ true
+unfolding zeroFrom
+zeros k = every-drop (λ x. eqb (x .0) 0) k zeroVector (every-replicate (λ x. eqb (x .0) 0) places (record { 0 = 0 }) refl)
+
+-- A row of unused pins has none.
+nothings : nothingFrom 0 noPins ≡ true
+unfolding nothingFrom isNothing
+nothings = every-replicate isNothing places Nothing refl
+
+-- An unused checkpoint holds zero.
+checkpoint-unused : unusedCheckpoint noCheckpoint ≡ true
+unfolding unusedCheckpoint
+checkpoint-unused = zeros 0
+
+-- An unused message holds zero.
+message-unused : unusedMessage noMessage ≡ true
+unfolding unusedMessage
+message-unused = zeros 0
+
+-- Behind the list that was laid into a table of fixed size every place is unused.
+placed-behind : {A : Type 0} (t : A → Bool) (size : ℕ) (x : A) (l : List A) → t x ≡ true → every t (drop (length l) (placed size x l)) ≡ true
+unfolding placed
+placed-behind t size x l e = rw (drop-append-seam l (replicate (size - length l) x)) (every-replicate t (size - length l) x e)
+
+-- A vector of n entries is zero from n on.
+vector-behind : (n : ℕ) (w : ℕ → ℕ) → zeroFrom n (vectorOf n w) ≡ true
+unfolding zeroFrom
+vector-behind n w = every-from (λ x. eqb (x .0) 0) (record { 0 = 0 }) n (vectorOf n w) (λ i a b. rw (entry-past n w i a))
+
+-- Pins from n on are none.
+pins-behind : (r : Ideal) (p : ℕ) → nothingFrom (r .n) (pinsOf r p) ≡ true
+unfolding nothingFrom isNothing
+pins-behind r p = every-from isNothing Nothing (r .n) (pinsOf r p) (λ i a b. rw (pin-past r p i a))
+
+-- What the state holds of the checkpoints of process p.
+pub row-is : (r : Ideal) (p : ℕ) → r .n ≤ places → p < r .n → Row (stateOf r) p (keptOf r p)
+unfolding stateOf withMessages processOf
+row-is r p few hp =
+    let w = row-all (r .n) (processOf r) (blank (r .n)) p hp (room-blank (r .n) p (omega arith)) in
+    record { many = w .many; row = w .row }
+
+-- From n on every row is as in a state of zeros.
+state-behind : (r : Ideal) → Behind (r .n) (stateOf r) (blank (r .n))
+unfolding stateOf withMessages
+state-behind r =
+    let b = behind-all (r .n) (r .n) (processOf r) (blank (r .n)) (omega arith) in
+    record { vectors = b .vectors; pins = b .pins; sent = b .sent; kept = b .kept; held = b .held }
+
+-- Stored vectors are zero from n on.
+stored-behind : (r : Ideal) (p : ℕ) → every (λ c. zeroFrom (r .n) (c .vector)) (keptOf r p) ≡ true
+unfolding checkpointOf
+stored-behind r p = kept-every r p _ (λ k lt e. vector-behind (r .n) (r .vector p k))
+
+-- So are the vectors that messages under way carry.
+carried-behind : (r : Ideal) → every (λ x. zeroFrom (stateOf r .count) (x .vector)) (underWay (stateOf r)) ≡ true
+unfolding messagesOf messageOf
+carried-behind r = rw (underWay-is r, count-is r) (passing-every _ (suc (r .last)) (r .transit) (messageOf r) (λ m lt e. vector-behind (r .n) (r .carried m)))
+
+-- A row of the run: its vector, its pins and its stored vectors from n on, and the places behind its checkpoints.
+row-unused : (r : Ideal) (p : ℕ) → r .n ≤ places → p < r .n → rowUnused (stateOf r) p ≡ true
+unfolding rowUnused processOf
+row-unused r p few hp = rw (
+  process-is r p few hp,
+  row-is r p few hp .many,
+  row-is r p few hp .row,
+  count-is r,
+  vector-behind (r .n) (r .vector p (r .own p)),
+  pins-behind r p,
+  stored-behind r p,
+  placed-behind unusedCheckpoint places noCheckpoint (keptOf r p) checkpoint-unused,
+)
+
+-- And so every row of the run.
+rows-unused : (r : Ideal) → r .n ≤ places → allBelow (stateOf r .count) (rowUnused (stateOf r)) ≡ true
+rows-unused r few = all-in (stateOf r .count) (rowUnused (stateOf r)) (λ p hp. row-unused r p few (rw (count-is r) at hp))
+
+-- The vectors from row n on are zero.
+vectors-unused : (r : Ideal) → every (zeroFrom 0) (drop (stateOf r .count) (stateOf r .vectors .0)) ≡ true
+unfolding blank
+vectors-unused r = rw (count-is r, state-behind r .vectors) (every-drop (zeroFrom 0) (r .n) (replicate places zeroVector) (every-replicate (zeroFrom 0) places zeroVector (zeros 0)))
+
+-- The pins from row n on are none.
+pins-unused : (r : Ideal) → every (nothingFrom 0) (drop (stateOf r .count) (stateOf r .pins .0)) ≡ true
+unfolding blank
+pins-unused r = rw (count-is r, state-behind r .pins) (every-drop (nothingFrom 0) (r .n) (replicate places noPins) (every-replicate (nothingFrom 0) places noPins nothings))
+
+-- The sent marks from n on are not set.
+sent-unused : (r : Ideal) → every not (drop (stateOf r .count) (stateOf r .sent)) ≡ true
+unfolding blank
+sent-unused r = rw (count-is r, state-behind r .sent) (every-drop not (r .n) (replicate places false) (every-replicate not places false refl))
+
+-- The checkpoints from row n on are unused.
+kept-unused : (r : Ideal) → every (every unusedCheckpoint) (drop (stateOf r .count) (stateOf r .kept .0)) ≡ true
+unfolding blank
+kept-unused r = rw (count-is r, state-behind r .kept) (every-drop (every unusedCheckpoint) (r .n) (replicate places (replicate places noCheckpoint))
+    (every-replicate (every unusedCheckpoint) places (replicate places noCheckpoint) (every-replicate unusedCheckpoint places noCheckpoint checkpoint-unused)))
+
+-- From row n on no checkpoint is held.
+held-unused : (r : Ideal) → every (eqb 0) (drop (stateOf r .count) (stateOf r .held)) ≡ true
+unfolding blank
+held-unused r = rw (count-is r, state-behind r .held) (every-drop (eqb 0) (r .n) (replicate places 0) (every-replicate (eqb 0) places 0 refl))
+
+-- The places behind the messages under way are unused.
+messages-unused : (r : Ideal) → every unusedMessage (drop (stateOf r .underway) (stateOf r .messages)) ≡ true
+unfolding stateOf withMessages
+messages-unused r = placed-behind unusedMessage mostUnderWay noMessage (messagesOf r) message-unused
+
+-- "Unused places hold zero; unused pins, in rows or columns at n and above, are none."
+pub unused-sound : (r : Ideal) → r .n ≤ places → unusedSound (stateOf r) ≡ true
+unfolding unusedSound
+unused-sound r few = rw (
+  rows-unused r few,
+  vectors-unused r,
+  pins-unused r,
+  sent-unused r,
+  kept-unused r,
+  held-unused r,
+  carried-behind r,
+  messages-unused r,
+)

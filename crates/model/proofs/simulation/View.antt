@@ -1,0 +1,63 @@
+-- The state that stands for a run as functions: the library's state after any list of accepted calls is `stateOf` of the run, to the last unused place.
+-- Assumes nothing.
+use mathlib.Core.Bool.{Bool}
+use mathlib.Core.List.{List, [], _∷_, _++_}
+use mathlib.Core.Option.{Option, none, some}
+use Prim.Native.Nat.{ℕ, zero, suc, _≤_}
+use lib.Dec.{ltb}
+use lib.ListN.{length}
+use Rattle.laws.specs.Choice.{pick}
+use Rattle.laws.specs.Lists.{table}
+use Rattle.model.specs.declared.Interval.{Interval}
+use Rattle.model.specs.declared.Pin.{Pin}
+use Rattle.model.specs.declared.Pin.the-variants.{Nothing, At}
+use Rattle.model.specs.declared.Checkpoint.{Checkpoint}
+use Rattle.model.specs.declared.Message.{Message}
+use Rattle.model.specs.declared.Run.{Run}
+use Rattle.model.specs.Words.{places, mostUnderWay, mostMessages, Process, blank, withMessages}
+use Rattle.model.specs.Steps.{withProcesses}
+use Rattle.model.proofs.ideal.Run.{Ideal, keeps}
+
+-- The values at the numbers below a bound that pass a test, in ascending order.
+unfoldable pub passing : {A : Type 0} → ℕ → (ℕ → Bool) → (ℕ → A) → List A
+passing zero t f = []
+passing (suc k) t f = passing k t f ++ pick (t k) (f k ∷ []) []
+
+-- A vector of n entries as a list of 16, zero at n and above.
+unfoldable pub vectorOf : ℕ → (ℕ → ℕ) → List Interval
+vectorOf n v = table places (λ f. record { 0 = pick (ltb f n) (v f) 0 })
+
+unfoldable pub pinOf : Option ℕ → Pin
+pinOf none = Nothing
+pinOf (some k) = At (record { 0 = k })
+
+unfoldable pub pinsOf : Ideal → ℕ → List Pin
+pinsOf r p = table places (λ f. pick (ltb f (r .n)) (pinOf (r .pin p f)) Nothing)
+
+-- State k of process p as a checkpoint: its index and its vector.
+unfoldable pub checkpointOf : Ideal → ℕ → ℕ → Checkpoint
+checkpointOf r p k = record { index = record { 0 = k }; vector = vectorOf (r .n) (r .vector p k) }
+
+-- The checkpoints that p keeps, ascending.
+unfoldable pub keptOf : Ideal → ℕ → List Checkpoint
+keptOf r p = passing (r .own p) (keeps r p) (checkpointOf r p)
+
+unfoldable pub processOf : Ideal → ℕ → Process
+processOf r p = record { vector = vectorOf (r .n) (r .vector p (r .own p)); pins = pinsOf r p; mark = r .mark p; kept = keptOf r p }
+
+unfoldable pub messageOf : Ideal → ℕ → Message
+messageOf r m = record { number = m; sender = r .sender m; receiver = r .receiver m; vector = vectorOf (r .n) (r .carried m) }
+
+-- The messages under way, ascending by number.
+unfoldable pub messagesOf : Ideal → List Message
+messagesOf r = passing (suc (r .last)) (r .transit) (messageOf r)
+
+unfoldable pub stateOf : Ideal → Run
+stateOf r = withMessages (withProcesses (r .n) (processOf r) (blank (r .n))) (messagesOf r) (r .last)
+
+-- The limits that the refusals keep.
+pub record Limits (r : Ideal) : Type 0 where
+  pub some-process : 1 ≤ r .n
+  pub few-processes : r .n ≤ places
+  pub few-messages : length (messagesOf r) ≤ mostUnderWay
+  pub few-numbers : r .last ≤ mostMessages

@@ -1,0 +1,113 @@
+-- The reported line of a reached state is right: both calls are accepted and write it; it is consistent by the messages of the surviving history;
+-- nothing later is; its members are live and not failed, or kept.
+-- Assumes nothing.
+use mathlib.Core.Path.{_≡_, sym, _∙_, ap}
+use mathlib.Core.Bool.{true, false, _||_}
+use mathlib.Core.List.{List}
+use mathlib.Core.Logic.{_⊎_, inl, inr}
+use mathlib.Core.Option.{none, some}
+use Prim.Native.Nat.{ℕ, _*_, _^_, _≤_, _<_}
+use native.Mathlib.Omega.{arith}
+use lib.Dec.{ltb}
+use lib.ListN.{length, getD}
+use borrow.Author.Tests.{lt-ltb, ltb-true, ltb-false}
+use Rattle.laws.specs.Choice.{by-bool}
+use Rattle.laws.specs.Front.{getD-written}
+use Rattle.laws.specs.Lists.{table}
+use Rattle.laws.specs.Tables.{length-table, getD-table}
+use Rattle.laws.specs.Truth.{or-left, or-in-right}
+use Rattle.model.specs.declared.Run.{Run}
+use Rattle.model.specs.declared.Refusal.the-variants.{ListTooShort}
+use Rattle.model.specs.Words.{failed}
+use Rattle.model.specs.Steps.{lineOf}
+use Rattle.model.specs.Sound.{sound}
+use Rattle.model.specs.History.{Lists, Line, checkpoints, Consistent}
+use Rattle.model.specs.Refusals.{firstOf, shortDeletions, shortLine, noMember, lineRefusal, recoverRefusal}
+use Rattle.model.specs.Outcomes.{lineOutcome, recoverOutcome}
+use Rattle.model.specs.Survival.{Surviving}
+use Rattle.model.specs.WholeRuns.{reported, LineIsRight}
+use Rattle.model.proofs.ideal.Run.{Ideal, line}
+use Rattle.model.proofs.ideal.Invariant.{Inv}
+use Rattle.model.proofs.ideal.Line.{line-le, line-consistent, failed-back, below-kept}
+use Rattle.model.proofs.ideal.Maximal.{line-maximal}
+use Rattle.model.proofs.simulation.Accepted.{line-in, recover-in}
+use Rattle.model.proofs.whole.Agreement.{Agrees}
+
+-- A list that is too short is the first thing that is refused of a sound state.
+module _ (s : Run) (F : ℕ) (whole : sound s ≡ true) where
+  line-short : (lent : List ℕ) → length lent < s .count → lineRefusal s F lent ≡ some ListTooShort
+  unfolding lineRefusal firstOf
+  line-short lent h = rw (whole, lt-ltb (length lent) (s .count) h)
+
+  recover-short : (deleted lent : List ℕ) → (length deleted < 2 * s .count * s .count) ⊎ (length lent < s .count) → recoverRefusal s F deleted lent ≡ some ListTooShort
+  unfolding recoverRefusal firstOf
+  recover-short deleted lent h = rw (whole, short h)
+    where
+      short : (length deleted < 2 * s .count * s .count) ⊎ (length lent < s .count) → (shortDeletions s deleted || shortLine s lent) ≡ true
+      short (inl d) = or-left (shortDeletions s deleted) (shortLine s lent) (lt-ltb (length deleted) (2 * s .count * s .count) d)
+      short (inr l) = or-in-right (shortDeletions s deleted) (shortLine s lent) (lt-ltb (length lent) (s .count) l)
+
+-- A run as functions for which the state stands, and whose history agrees; what the state's own line rule gives is its line.
+module _ (r : Ideal) (v : Inv r) (s : Run) (h : Surviving) (g : Agrees h r) (F : ℕ) (count : s .count ≡ r .n) (whole : sound s ≡ true)
+    (lines : lineOf s F ≡ table (r .n) (line r (failed F))) (members : noMember s F ≡ false) (some-bit : 1 ≤ F) (inside : F < 2 ^ r .n) where
+  -- The reported line is the line of the run as functions.
+  pub reported-is : (p : ℕ) → p < r .n → reported s F p ≡ line r (failed F) p
+  reported-is p hp = rw lines (getD-table (r .n) (line r (failed F)) p 0 hp)
+
+  line-length : length (lineOf s F) ≡ r .n
+  line-length = rw lines (length-table (r .n) (line r (failed F)))
+
+  own-is : (p : ℕ) → checkpoints (h .lists p) ≡ r .own p
+  own-is p = ap (λ (l : Lists). checkpoints (l p)) (g .lists) ∙ sym (v .counted p)
+
+  set-inside : F < 2 ^ s .count
+  set-inside = rw count inside
+
+  accepted-line : (lent : List ℕ) → r .n ≤ length lent → lineRefusal s F lent ≡ none
+  accepted-line lent room = line-in s F lent (record { whole = whole; room = omega arith; set = (some-bit, set-inside); members = members })
+
+  accepted-recover : (deleted lent : List ℕ) → 2 * r .n * r .n ≤ length deleted → r .n ≤ length lent → recoverRefusal s F deleted lent ≡ none
+  accepted-recover deleted lent pairs room =
+      recover-in s F deleted lent (record { whole = whole; room = rw count pairs; line-room = omega arith; set = (some-bit, set-inside); members = members })
+
+  writes-line : (lent : List ℕ) → r .n ≤ length lent → (p : ℕ) → p < r .n → getD (lineOutcome s F lent .line) p 0 ≡ reported s F p
+  unfolding lineOutcome
+  writes-line lent room p hp = rw (accepted-line lent room) (getD-written lent (lineOf s F) (omega (arith, line-length)) p 0 (omega (arith, line-length)))
+
+  writes-recover : (deleted lent : List ℕ) → 2 * r .n * r .n ≤ length deleted → r .n ≤ length lent → (p : ℕ) → p < r .n
+      → getD (recoverOutcome s F deleted lent .line) p 0 ≡ reported s F p
+  unfolding recoverOutcome
+  writes-recover deleted lent pairs room p hp =
+      rw (accepted-recover deleted lent pairs room) (getD-written lent (lineOf s F) (omega (arith, line-length)) p 0 (omega (arith, line-length)))
+
+  consistent-line : Consistent (r .n) (h .lists) (reported s F)
+  unfolding Consistent
+  consistent-line = rw (g .lists) (λ q p m hq hp. rw (reported-is q hq, reported-is p hp) (line-consistent r v (failed F) q p m hq hp))
+
+  maximal-line : (other : Line) → ((p : ℕ) → p < r .n → other p ≤ checkpoints (h .lists p)) → Consistent (r .n) (h .lists) other
+      → ((f : ℕ) → f < r .n → failed F f ≡ true → other f < checkpoints (h .lists f)) → (p : ℕ) → p < r .n → other p ≤ reported s F p
+  maximal-line = rw (g .lists) (λ other is-line consistent back p hp. rw (reported-is p hp) (line-maximal r v (failed F) other is-line consistent back p hp))
+
+  member-right : (p : ℕ) → p < r .n → ((reported s F p ≡ checkpoints (h .lists p)) × (failed F p ≡ false))
+      ⊎ ((reported s F p < checkpoints (h .lists p)) × (h .kept p (reported s F p) ≡ true))
+  member-right p hp = rw (reported-is p hp, own-is p) (by-bool (ltb (line r (failed F) p) (r .own p))
+      (λ e. let back : line r (failed F) p < r .own p = ltb-true _ _ e in inr (back, g .kept p (line r (failed F) p) hp ∙ below-kept r v (failed F) p back))
+      (λ e. let stays : r .own p ≤ line r (failed F) p = ltb-false _ _ e in
+      inl (
+        omega (arith, line-le r v (failed F) p),
+        by-bool (failed F p) (λ b. absurd (omega (arith, failed-back r v (failed F) p hp b))) (λ b. b),
+      )))
+
+  pub line-right : LineIsRight (r .n) s h F
+  line-right = record {
+    state-sound = whole;
+    line-accepted = accepted-line;
+    line-short = λ lent short. line-short s F whole lent (rw count short);
+    recover-accepted = accepted-recover;
+    recover-short = λ deleted lent short. recover-short s F whole deleted lent (rw count short);
+    line-writes = writes-line;
+    recover-writes = writes-recover;
+    consistent = consistent-line;
+    maximal = maximal-line;
+    members = member-right;
+  }

@@ -1,0 +1,88 @@
+-- A state and a surviving history that a list of calls from a start reaches: there is a run as functions for which the state stands and with which
+-- the history agrees. Here: the start, and that a refused call changes nothing.
+-- Assumes nothing.
+use mathlib.Core.Path.{_≡_, refl}
+use mathlib.Core.Bool.{false}
+use mathlib.Core.Option.{Option, some}
+use Prim.Native.Nat.{ℕ}
+use lib.Dec.{eqb}
+use Rattle.model.specs.declared.Run.{Run}
+use Rattle.model.specs.declared.Refusal.{Refusal}
+use Rattle.model.specs.declared.Refusal.the-variants.{CountOutsideRange, UnsoundState, ListTooShort, NoSuchProcess, SenderIsReceiver, NobodyFailed, NoSuchFailedProcess, NotUnderWay, TooManyUnderWay, MessageNumbersUsed, IntervalsUsed, NoFirstByte, LeftOverBytes, MalformedRecord}
+use Rattle.model.specs.Refusals.{number, checkpointRefusal, sendRefusal, deliverRefusal, loseRefusal, lineRefusal, recoverRefusal}
+use Rattle.model.specs.Outcomes.{checkpointOutcome, sendOutcome, deliverOutcome, loseOutcome, lineOutcome, recoverOutcome, checkpointReport, sendReport, deliverReport, loseReport, lineReport, recoverReport}
+use Rattle.model.specs.Calls.{Call, checkpoint, send, deliver, lose, recover, line, Exchange, answered, call}
+use Rattle.model.specs.Survival.{Surviving, after}
+use Rattle.model.proofs.ideal.Run.{Ideal}
+use Rattle.model.proofs.ideal.Invariant.{Inv}
+use Rattle.model.proofs.simulation.View.{stateOf, Limits}
+use Rattle.model.proofs.whole.Agreement.{Agrees}
+
+pub record Reached (n : ℕ) (s : Run) (h : Surviving) : Type 0 where
+  -- the run as functions, with all that the invariant says of it
+  pub run : Ideal
+  pub inv : Inv run
+  pub limits : Limits run
+  pub size : run .n ≡ n
+  -- the state stands for it to the last unused place; the history agrees with it
+  pub state : s ≡ stateOf run
+  pub agrees : Agrees h run
+
+-- A call with its answer, and the history after it.
+abbrev pub exchange : Run → Call → Exchange
+exchange s c = record { made = c; reply = call s c .reply }
+
+-- The refusal of a call, if any.
+unfoldable pub refusal : Run → Call → Option Refusal
+refusal s (checkpoint i deleted) = checkpointRefusal s i deleted
+refusal s (send i j) = sendRefusal s i j
+refusal s (deliver m deleted) = deliverRefusal s m deleted
+refusal s (lose m) = loseRefusal s m
+refusal s (recover F deleted lent) = recoverRefusal s F deleted lent
+refusal s (line F lent) = lineRefusal s F lent
+
+-- No refusal has the number 0.
+refused-number : (x : Refusal) → eqb (number x) 0 ≡ false
+unfolding number
+refused-number CountOutsideRange = refl
+refused-number UnsoundState = refl
+refused-number ListTooShort = refl
+refused-number NoSuchProcess = refl
+refused-number SenderIsReceiver = refl
+refused-number NobodyFailed = refl
+refused-number NoSuchFailedProcess = refl
+refused-number NotUnderWay = refl
+refused-number TooManyUnderWay = refl
+refused-number MessageNumbersUsed = refl
+refused-number IntervalsUsed = refl
+refused-number NoFirstByte = refl
+refused-number LeftOverBytes = refl
+refused-number MalformedRecord = refl
+
+-- A refused call returns the state as it came.
+pub refused-state : (s : Run) (c : Call) (x : Refusal) → refusal s c ≡ some x → call s c .run ≡ s
+unfolding refusal call answered checkpointOutcome sendOutcome deliverOutcome loseOutcome lineOutcome recoverOutcome
+refused-state s (checkpoint i deleted) x e = rw e
+refused-state s (send i j) x e = rw e
+refused-state s (deliver m deleted) x e = rw e
+refused-state s (lose m) x e = rw e
+refused-state s (recover F deleted lent) x e = rw e
+refused-state s (line F lent) x e = rw e
+
+-- Its report gives the refusal's number.
+refused-report : (s : Run) (c : Call) (x : Refusal) → refusal s c ≡ some x → call s c .reply .report .refused ≡ number x
+unfolding refusal call answered checkpointOutcome sendOutcome deliverOutcome loseOutcome lineOutcome recoverOutcome checkpointReport sendReport deliverReport loseReport lineReport recoverReport
+refused-report s (checkpoint i deleted) x e = rw e
+refused-report s (send i j) x e = rw e
+refused-report s (deliver m deleted) x e = rw e
+refused-report s (lose m) x e = rw e
+refused-report s (recover F deleted lent) x e = rw e
+refused-report s (line F lent) x e = rw e
+
+-- The surviving history stays as it was.
+pub refused-history : (n : ℕ) (s : Run) (h : Surviving) (c : Call) (x : Refusal) → refusal s c ≡ some x → after n h (exchange s c) ≡ h
+unfolding after
+refused-history n s h c x e = rw (refused-report s c x e) (rw (refused-number x))
+
+pub refused-reached : (n : ℕ) (s : Run) (h : Surviving) (c : Call) (x : Refusal) → refusal s c ≡ some x → Reached n s h → Reached n (call s c .run) (after n h (exchange s c))
+refused-reached n s h c x e v = rw (refused-state s c x e) (rw (refused-history n s h c x e) v)

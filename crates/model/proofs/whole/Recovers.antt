@@ -1,0 +1,86 @@
+-- An accepted recover call, as a step of the run as functions.
+-- Assumes nothing.
+use mathlib.Core.Path.{_≡_, _∙_}
+use mathlib.Core.List.{List}
+use mathlib.Core.Option.{none}
+use Prim.Native.Nat.{ℕ, _≤_, _<_}
+use native.Mathlib.Omega.{arith}
+use lib.ListN.{length, getD}
+use Rattle.laws.specs.Front.{getD-written}
+use Rattle.laws.specs.Lists.{table}
+use Rattle.laws.specs.Tables.{length-table, getD-table}
+use Rattle.model.specs.Words.{places, failed}
+use Rattle.model.specs.Steps.{recoverDeletions, lineOf}
+use Rattle.model.specs.Outcomes.{pairs, written, recoverOutcome, recoverReport}
+use Rattle.model.specs.Calls.{recover, answered, call}
+use Rattle.model.specs.Refusals.{recoverRefusal}
+use Rattle.model.specs.Survival.{Surviving, listsAfter, sendsAfter, receiverAfter}
+use Rattle.model.proofs.ideal.Run.{Ideal, line, recovered}
+use Rattle.model.proofs.ideal.Invariant.{Inv}
+use Rattle.model.proofs.ideal.Keeping.{recovered-moved}
+use Rattle.model.proofs.ideal.Recovered.{recovered-inv}
+use Rattle.model.proofs.simulation.View.{stateOf, Limits}
+use Rattle.model.proofs.simulation.SoundCalls.{recover-run}
+use Rattle.model.proofs.simulation.SoundLimits.{limits-recover}
+use Rattle.model.proofs.simulation.Handed.{recover-handed}
+use Rattle.model.proofs.simulation.Kept.{kept-most}
+use Rattle.model.proofs.simulation.Lines.{line-is}
+use Rattle.model.proofs.simulation.Recover.{recover-is}
+use Rattle.model.proofs.whole.Agreement.{Agrees, HandsOut}
+use Rattle.model.proofs.whole.Accepted.{Step}
+use Rattle.model.proofs.whole.Listed.{recover-lists}
+
+module _ (n : ℕ) (h : Surviving) (r : Ideal) (v : Inv r) (fit : Limits r) (size : r .n ≡ n) (g : Agrees h r) (F : ℕ) (deleted lent : List ℕ) (e : recoverRefusal (stateOf r) F deleted lent ≡ none) where
+  few : r .n ≤ places
+  few = fit .few-processes
+
+  recover-run-state : call (stateOf r) (recover F deleted lent) .run ≡ stateOf (recovered r (failed F))
+  unfolding call answered recoverOutcome
+  recover-run-state = rw e (recover-is r v few F)
+
+  recover-count : call (stateOf r) (recover F deleted lent) .reply .report .deletions ≡ length (recoverDeletions (stateOf r) F)
+  unfolding call answered recoverOutcome recoverReport
+  recover-count = rw e
+
+  recover-list : call (stateOf r) (recover F deleted lent) .reply .deleted ≡ written deleted (pairs (recoverDeletions (stateOf r) F))
+  unfolding call answered recoverOutcome
+  recover-list = rw e
+
+  recover-line : call (stateOf r) (recover F deleted lent) .reply .line ≡ written lent (lineOf (stateOf r) F)
+  unfolding call answered recoverOutcome
+  recover-line = rw e
+
+  -- The indexes written are the line.
+  written-line : (p : ℕ) → p < r .n → getD (call (stateOf r) (recover F deleted lent) .reply .line) p 0 ≡ line r (failed F) p
+  written-line p hp =
+      let room = recover-run r v fit F deleted lent e .2 in
+      let long : length (table (r .n) (line r (failed F))) ≡ r .n = length-table (r .n) (line r (failed F)) in
+      rw (recover-line, line-is r v few F)
+      (getD-written lent (table (r .n) (line r (failed F))) (omega arith) p 0 (omega arith) ∙ getD-table (r .n) (line r (failed F)) p 0 hp)
+
+  recover-hands-out : HandsOut (call (stateOf r) (recover F deleted lent) .reply) r (recovered r (failed F))
+  unfolding HandsOut
+  recover-hands-out p k hp =
+      recover-handed r v few (call (stateOf r) (recover F deleted lent) .reply) deleted (recover-run r v fit F deleted lent e .1) p k F hp (λ q hq. kept-most r q)
+      (record { deleted = recover-list; counted = recover-count })
+
+  recover-cut : listsAfter n h (recover F deleted lent) (call (stateOf r) (recover F deleted lent) .reply) ≡ recovered r (failed F) .events
+  unfolding listsAfter
+  recover-cut = rw (← size, g .lists) (recover-lists r v (failed F) (call (stateOf r) (recover F deleted lent) .reply .line) written-line)
+
+  recover-same : (sendsAfter h (recover F deleted lent) ≡ recovered r (failed F) .last) × (receiverAfter h (recover F deleted lent) ≡ recovered r (failed F) .receiver)
+  unfolding sendsAfter receiverAfter recovered
+  recover-same = (g .sends, g .receiver)
+
+  pub recover-step : Step n h r (recover F deleted lent)
+  recover-step = record {
+    run = recovered r (failed F);
+    inv = recovered-inv r v (failed F);
+    limits = limits-recover r (failed F) fit;
+    moved = recovered-moved r v (failed F);
+    state = recover-run-state;
+    lists = recover-cut;
+    sends = recover-same .0;
+    receiver = recover-same .1;
+    hands-out = recover-hands-out;
+  }

@@ -1,0 +1,230 @@
+-- Each accepted call, as a step of the run as functions: checkpoint, send, deliver, lose and line. Recover has a file of its own.
+-- Assumes nothing.
+use mathlib.Core.Path.{_≡_, refl, sym, _∙_, fun-ext}
+use mathlib.Core.Bool.{Bool, true, false, _&&_, not}
+use mathlib.Core.List.{List}
+use mathlib.Core.Logic.{inl}
+use mathlib.Core.Option.{none, some}
+use Prim.Native.Nat.{ℕ, _≤_, _<_}
+use native.Mathlib.Omega.{arith}
+use lib.ListN.{length}
+use Rattle.laws.specs.Choice.{by-bool}
+use Rattle.laws.specs.Search.{anyBelow}
+use Rattle.model.specs.Words.{places, process, live}
+use Rattle.model.specs.Steps.{checkpointDeletions, deliverDeletions}
+use Rattle.model.specs.Steps as steps
+use Rattle.model.specs.Outcomes.{pairs, written, checkpointOutcome, checkpointReport, sendOutcome, sendReport, message, deliverAnswer, deliverOutcome, deliverReport, loseOutcome, loseReport, lineOutcome, lineReport}
+use Rattle.model.specs.Calls.{checkpoint, send, deliver, lose, line, Reply, answered, call}
+use Rattle.model.specs.Refusals.{checkpointRefusal, sendRefusal, deliverRefusal, loseRefusal, lineRefusal}
+use Rattle.model.specs.Survival.{Surviving, handedOut, listsAfter, sendsAfter, receiverAfter}
+use Rattle.model.proofs.ideal.Run.{Ideal, keeps, checkpointed, sending, forces, delivered, lost}
+use Rattle.model.proofs.ideal.Invariant.{Inv}
+use Rattle.model.proofs.ideal.Messages.{underway-proper}
+use Rattle.model.proofs.ideal.Keeping.{checkpointed-moved, sending-moved, lost-moved, delivered-moved}
+use Rattle.model.proofs.ideal.CheckpointedViews.{checkpointed-last}
+use Rattle.model.proofs.ideal.Checkpointed.{checkpointed-inv}
+use Rattle.model.proofs.ideal.Sending.{sending-inv, sending-keeps}
+use Rattle.model.proofs.ideal.Lost.{lost-inv, lost-keeps}
+use Rattle.model.proofs.ideal.Delivered.{delivered-inv}
+use Rattle.model.proofs.ideal.DeliveredViews.{delivered-last, delivered-receiver}
+use Rattle.model.proofs.simulation.View.{messageOf, stateOf, Limits}
+use Rattle.model.proofs.simulation.SoundCalls.{checkpoint-run, send-run, deliver-run}
+use Rattle.model.proofs.simulation.SoundLimits.{limits-checkpoint, limits-deliver, limits-lose}
+use Rattle.model.proofs.simulation.Checkpoint.{checkpoint-is}
+use Rattle.model.proofs.simulation.Messages.{send-is, lose-is}
+use Rattle.model.proofs.simulation.Deliver.{deliver-is, deliver-forces}
+use Rattle.model.proofs.simulation.Handed.{checkpoint-handed, deliver-handed}
+use Rattle.model.proofs.simulation.Kept.{kept-most}
+use Rattle.model.proofs.whole.Agreement.{Agrees, HandsOut}
+use Rattle.model.proofs.whole.Accepted.{Step}
+use Rattle.model.proofs.whole.Listed.{checkpoint-lists, send-lists, send-sends, send-receiver, deliver-forced, deliver-plain}
+
+-- An answer without deletions hands out nothing, and nothing may be gone.
+no-change : (b : Bool) → (b && not b) ≡ false
+no-change true = refl
+no-change false = refl
+
+hands-out-none : (a : Reply) (r r′ : Ideal) → a .report .deletions ≡ 0 → ((p k : ℕ) → keeps r′ p k ≡ keeps r p k) → HandsOut a r r′
+unfolding HandsOut handedOut anyBelow
+hands-out-none a r r′ count same p k hp = rw (count, same p k) (sym (no-change (keeps r p k)))
+
+module _ (n : ℕ) (h : Surviving) (r : Ideal) (v : Inv r) (fit : Limits r) (size : r .n ≡ n) (g : Agrees h r) where
+  few : r .n ≤ places
+  few = fit .few-processes
+
+  self : (i : ℕ) → r .vector i (r .own i) i ≡ r .own i
+  self i = v .self i (r .own i) (omega arith)
+
+  -- Checkpoint at i.
+  module _ (i : ℕ) (deleted : List ℕ) (e : checkpointRefusal (stateOf r) i deleted ≡ none) where
+    checkpoint-run-state : call (stateOf r) (checkpoint i deleted) .run ≡ stateOf (checkpointed r i)
+    unfolding call answered checkpointOutcome
+    checkpoint-run-state = rw e (checkpoint-is r i few (checkpoint-run r v fit i deleted e .0) (self i))
+
+    checkpoint-count : call (stateOf r) (checkpoint i deleted) .reply .report .deletions ≡ length (checkpointDeletions (stateOf r) i)
+    unfolding call answered checkpointOutcome checkpointReport
+    checkpoint-count = rw e
+
+    checkpoint-list : call (stateOf r) (checkpoint i deleted) .reply .deleted ≡ written deleted (pairs (checkpointDeletions (stateOf r) i))
+    unfolding call answered checkpointOutcome
+    checkpoint-list = rw e
+
+    checkpoint-receiver : receiverAfter h (checkpoint i deleted) ≡ checkpointed r i .receiver
+    unfolding receiverAfter checkpointed
+    checkpoint-receiver = g .receiver
+
+    checkpoint-hands-out : HandsOut (call (stateOf r) (checkpoint i deleted) .reply) r (checkpointed r i)
+    unfolding HandsOut
+    checkpoint-hands-out p k hp =
+        let w = checkpoint-run r v fit i deleted e in
+        checkpoint-handed r v few (call (stateOf r) (checkpoint i deleted) .reply) deleted (w .2) p k i (w .0) (kept-most r i) (record { deleted = checkpoint-list; counted = checkpoint-count })
+
+    pub checkpoint-step : Step n h r (checkpoint i deleted)
+    unfolding sendsAfter
+    checkpoint-step = record {
+      run = checkpointed r i;
+      inv = checkpointed-inv r i v;
+      limits = limits-checkpoint r i fit;
+      moved = checkpointed-moved r i (checkpoint-run r v fit i deleted e .0);
+      state = checkpoint-run-state;
+      lists = checkpoint-lists n h r g i deleted (call (stateOf r) (checkpoint i deleted) .reply);
+      sends = g .sends ∙ sym (checkpointed-last r i);
+      receiver = checkpoint-receiver;
+      hands-out = checkpoint-hands-out;
+    }
+
+  -- Send from i to j.
+  module _ (i j : ℕ) (e : sendRefusal (stateOf r) i j ≡ none) where
+    send-run-state : call (stateOf r) (send i j) .run ≡ stateOf (sending r i j)
+    unfolding call answered sendOutcome
+    send-run-state = rw e (send-is r i j few (send-run r v fit i j e .0))
+
+    send-count : call (stateOf r) (send i j) .reply .report .deletions ≡ 0
+    unfolding call answered sendOutcome sendReport
+    send-count = rw e
+
+    pub send-step : Step n h r (send i j)
+    send-step =
+        let w = send-run r v fit i j e in
+        let a = call (stateOf r) (send i j) .reply in
+        record {
+          run = sending r i j;
+          inv = sending-inv r i j v (w .0) (w .1) (w .2);
+          limits = w .3;
+          moved = sending-moved r i j;
+          state = send-run-state;
+          lists = send-lists n h r g i j a;
+          sends = send-sends n h r g i j;
+          receiver = send-receiver n h r g i j;
+          hands-out = hands-out-none a r (sending r i j) send-count (sending-keeps r i j);
+        }
+
+  -- Lose m.
+  module _ (m : ℕ) (e : loseRefusal (stateOf r) m ≡ none) where
+    lose-run-state : call (stateOf r) (lose m) .run ≡ stateOf (lost r m)
+    unfolding call answered loseOutcome
+    lose-run-state = rw e (lose-is r m)
+
+    lose-count : call (stateOf r) (lose m) .reply .report .deletions ≡ 0
+    unfolding call answered loseOutcome loseReport
+    lose-count = rw e
+
+    lose-same : (listsAfter n h (lose m) (call (stateOf r) (lose m) .reply) ≡ lost r m .events) × (sendsAfter h (lose m) ≡ lost r m .last) × (receiverAfter h (lose m) ≡ lost r m .receiver)
+    unfolding listsAfter sendsAfter receiverAfter lost
+    lose-same = (g .lists, g .sends, g .receiver)
+
+    pub lose-step : Step n h r (lose m)
+    lose-step = record {
+      run = lost r m;
+      inv = lost-inv r m v;
+      limits = limits-lose r m fit;
+      moved = lost-moved r m;
+      state = lose-run-state;
+      lists = lose-same .0;
+      sends = lose-same .1;
+      receiver = lose-same .2;
+      hands-out = hands-out-none (call (stateOf r) (lose m) .reply) r (lost r m) lose-count (lost-keeps r m);
+    }
+
+  -- Line for F: nothing changes.
+  module _ (F : ℕ) (lent : List ℕ) (e : lineRefusal (stateOf r) F lent ≡ none) where
+    line-run-state : call (stateOf r) (line F lent) .run ≡ stateOf r
+    unfolding call answered lineOutcome
+    line-run-state = rw e
+
+    line-count : call (stateOf r) (line F lent) .reply .report .deletions ≡ 0
+    unfolding call answered lineOutcome lineReport
+    line-count = rw e
+
+    line-same : (listsAfter n h (line F lent) (call (stateOf r) (line F lent) .reply) ≡ r .events) × (sendsAfter h (line F lent) ≡ r .last) × (receiverAfter h (line F lent) ≡ r .receiver)
+    unfolding listsAfter sendsAfter receiverAfter
+    line-same = (g .lists, g .sends, g .receiver)
+
+    pub line-step : Step n h r (line F lent)
+    line-step = record {
+      run = r;
+      inv = v;
+      limits = fit;
+      moved = record { size = refl; back = λ p k lt q. q; one = λ p. inl (omega arith) };
+      state = line-run-state;
+      lists = line-same .0;
+      sends = line-same .1;
+      receiver = line-same .2;
+      hands-out = hands-out-none (call (stateOf r) (line F lent) .reply) r r line-count (λ p k. refl);
+    }
+
+  -- Deliver m.
+  module _ (m : ℕ) (deleted : List ℕ) (e : deliverRefusal (stateOf r) m deleted ≡ none) where
+    under : r .transit m ≡ true
+    under = deliver-run r v fit m deleted e .0
+
+    receives : r .receiver m < r .n
+    receives = underway-proper r v m under .to
+
+    the-message : message (stateOf r) m ≡ messageOf r m
+    the-message = rw (deliver-run r v fit m deleted e .1)
+
+    deliver-run-state : call (stateOf r) (deliver m deleted) .run ≡ stateOf (delivered r m)
+    unfolding call answered deliverOutcome
+    deliver-run-state = rw (e, the-message) (deliver-is r m few receives (self (r .receiver m)))
+
+    deliver-count : call (stateOf r) (deliver m deleted) .reply .report .deletions ≡ length (deliverDeletions (stateOf r) (messageOf r m))
+    unfolding call answered deliverOutcome deliverReport deliverAnswer
+    deliver-count = rw (e, the-message) (by-bool (steps.forces (process (stateOf r) (messageOf r m .receiver)) (messageOf r m .vector)) (λ q. rw q) (λ q. rw q))
+
+    deliver-list : call (stateOf r) (deliver m deleted) .reply .deleted ≡ written deleted (pairs (deliverDeletions (stateOf r) (messageOf r m)))
+    unfolding call answered deliverOutcome
+    deliver-list = rw (e, the-message)
+
+    value-forced : forces r m ≡ true → call (stateOf r) (deliver m deleted) .reply .report .value ≡ some (live (r .receiver m) (process (stateOf r) (r .receiver m)) .index .0)
+    unfolding call answered deliverOutcome deliverReport deliverAnswer messageOf
+    value-forced q = rw (e, the-message) (rw (deliver-forces r m few receives (self (r .receiver m)) ∙ q))
+
+    value-plain : forces r m ≡ false → call (stateOf r) (deliver m deleted) .reply .report .value ≡ none
+    unfolding call answered deliverOutcome deliverReport deliverAnswer messageOf
+    value-plain q = rw (e, the-message) (rw (deliver-forces r m few receives (self (r .receiver m)) ∙ q))
+
+    deliver-hands-out : HandsOut (call (stateOf r) (deliver m deleted) .reply) r (delivered r m)
+    unfolding HandsOut
+    deliver-hands-out p k hp =
+        deliver-handed r v few (call (stateOf r) (deliver m deleted) .reply) deleted (deliver-run r v fit m deleted e .2) p k m receives (kept-most r (r .receiver m))
+        (record { deleted = deliver-list; counted = deliver-count })
+
+    deliver-lists : listsAfter n h (deliver m deleted) (call (stateOf r) (deliver m deleted) .reply) ≡ delivered r m .events
+    deliver-lists = by-bool (forces r m)
+        (λ q. deliver-forced n h r g m deleted (call (stateOf r) (deliver m deleted) .reply) _ q (value-forced q))
+        (λ q. deliver-plain n h r g m deleted (call (stateOf r) (deliver m deleted) .reply) q (value-plain q))
+
+    pub deliver-step : Step n h r (deliver m deleted)
+    unfolding sendsAfter receiverAfter
+    deliver-step = record {
+      run = delivered r m;
+      inv = delivered-inv r m v under;
+      limits = limits-deliver r m fit;
+      moved = delivered-moved r v m under;
+      state = deliver-run-state;
+      lists = deliver-lists;
+      sends = g .sends ∙ sym (delivered-last r m);
+      receiver = g .receiver ∙ sym (fun-ext (delivered-receiver r m));
+      hands-out = deliver-hands-out;
+    }

@@ -1,0 +1,49 @@
+-- Document 01, "The surviving history": the lists, and the places in them. How calls and answers build the lists is in Survival.
+-- Assumes nothing.
+use mathlib.Core.List.{List, [], _∷_, List·Memᴰ}
+use Prim.Native.Nat.{ℕ, zero, suc, _<_}
+
+-- What a process's list holds: checkpoints, "sent m" and "received m". A checkpoint's number is its place among the checkpoints
+-- of its list, the first being 0: so each is "numbered one above the last there".
+pub data HistoryEvent : Type 0 where
+  stored : HistoryEvent
+  sent : ℕ → HistoryEvent
+  received : ℕ → HistoryEvent
+
+-- "It has one list for each process." The oldest event comes first.
+abbrev pub Lists : Type 0
+Lists = ℕ → List HistoryEvent
+
+-- How many checkpoints a list has. Its checkpoints are those below this number, and this number is the index of its live state:
+-- "its index is one above the last checkpoint there".
+unfoldable pub checkpoints : List HistoryEvent → ℕ
+checkpoints [] = 0
+checkpoints (stored ∷ l) = suc (checkpoints l)
+checkpoints (sent m ∷ l) = checkpoints l
+checkpoints (received m ∷ l) = checkpoints l
+
+-- The part of a list up to state k: up to checkpoint k and with it; the whole list where k is the live state,
+-- since "a live state stands at the end of its list".
+unfoldable pub upTo : ℕ → List HistoryEvent → List HistoryEvent
+upTo k [] = []
+upTo zero (stored ∷ l) = stored ∷ []
+upTo (suc k) (stored ∷ l) = stored ∷ upTo k l
+upTo k (sent m ∷ l) = sent m ∷ upTo k l
+upTo k (received m ∷ l) = received m ∷ upTo k l
+
+-- The part of a list after state k.
+unfoldable pub behind : ℕ → List HistoryEvent → List HistoryEvent
+behind k [] = []
+behind zero (stored ∷ l) = l
+behind (suc k) (stored ∷ l) = behind k l
+behind k (sent m ∷ l) = behind k l
+behind k (received m ∷ l) = behind k l
+
+-- "A line names one state of each process": the index of a checkpoint in its list, or of its live state.
+abbrev pub Line : Type 0
+Line = ℕ → ℕ
+
+-- "It is consistent if no message was sent after its sender's state in the line and received before its receiver's."
+-- "Before and after go by place in a list."
+unfoldable pub Consistent : ℕ → Lists → Line → Type 0
+Consistent n lists line = (q p m : ℕ) → q < n → p < n → List·Memᴰ (sent m) (behind (line q) (lists q)) → List·Memᴰ (received m) (upTo (line p) (lists p)) → ⊥

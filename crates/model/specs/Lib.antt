@@ -1,0 +1,12 @@
+pub mod Calls
+pub mod Exam
+pub mod History
+pub mod Listing
+pub mod Outcomes
+pub mod Refusals
+pub mod Sound
+pub mod Steps
+pub mod Survival
+pub mod Trace
+pub mod WholeRuns
+pub mod Words

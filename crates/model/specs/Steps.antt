@@ -1,0 +1,204 @@
+-- Document 01, "Steps": what each accepted call does. Each definition stands under the sentence that it says.
+-- Assumes nothing.
+use mathlib.Core.Bool.{Bool, true, false, _&&_, _||_, not}
+use mathlib.Core.List.{List, [], _∷_, _++_, map}
+use mathlib.Core.Option.{Option, none, some}
+use Prim.Native.Nat.{ℕ, zero, suc, _+_}
+use lib.Dec.{eqb, ltb, leb}
+use lib.ListN.{getD, set}
+use Rattle.laws.specs.Choice.{pick}
+use Rattle.laws.specs.Lists.{select, orElse, lastOf, table, gather}
+use Rattle.laws.specs.Search.{allBelow, anyBelow}
+use Rattle.laws.specs.Tests.{countBelow}
+use Rattle.model.specs.declared.Interval.{Interval}
+use Rattle.model.specs.declared.CheckpointIndex.{CheckpointIndex}
+use Rattle.model.specs.declared.Pin.{Pin}
+use Rattle.model.specs.declared.Pin.the-variants.{Nothing, At}
+use Rattle.model.specs.declared.Checkpoint.{Checkpoint}
+use Rattle.model.specs.declared.Message.{Message}
+use Rattle.model.specs.declared.Run.{Run}
+use Rattle.model.specs.Words.{places, entry, below, liveIndex, named, Process, live, zeroVector, noPins, noCheckpoint, blank, process, withProcess, own, underWay, withMessages, failed}
+
+-- A deleted checkpoint, as "pairs process, index".
+pub record Deletion : Type 0 where
+  pub process : ℕ
+  pub index : CheckpointIndex
+
+-- "A checkpoint is kept exactly while a pin names it": what process p keeps of its checkpoints, and what is deleted, once its pins have moved.
+unfoldable pub settled : Process → Process
+settled P = record { vector = P .vector; pins = P .pins; mark = P .mark; kept = select (named (P .pins)) (P .kept) }
+
+unfoldable pub listed : ℕ → List Checkpoint → List Deletion
+listed p = map (λ c. record { process = p; index = c .index })
+
+unfoldable pub deletions : ℕ → Process → List Deletion
+deletions p P = listed p (select (λ c. not (named (P .pins) c)) (P .kept))
+
+-- Each process below n takes the part that a function gives it.
+unfoldable pub withProcesses : ℕ → (ℕ → Process) → Run → Run
+withProcesses zero f s = s
+withProcesses (suc n) f s = withProcess (withProcesses n f s) n (f n)
+
+-- Start. "Each process stores checkpoint 0 with a vector of zeros. Then own entries are 1, others 0. Each own pin names checkpoint 0, others none.
+-- No process has sent."
+unfoldable pub started : ℕ → Process
+started p = record { vector = set zeroVector p (record { 0 = 1 }); pins = set noPins p (At (record { 0 = 0 })); mark = false; kept = noCheckpoint ∷ [] }
+
+unfoldable pub startState : ℕ → Run
+startState n = withProcesses n started (blank n)
+
+-- Checkpoint at i. "Store the vector under index own entry. The own pin names it. Add 1 to the own entry. Clear the sent mark."
+unfoldable pub advanced : ℕ → List Interval → List Interval
+advanced i v = set v i (record { 0 = entry v i .0 + 1 })
+
+unfoldable pub checkpointed : ℕ → Process → Process
+checkpointed i P = record {
+  vector = advanced i (P .vector);
+  pins = set (P .pins) i (At (live i P .index));
+  mark = false;
+  kept = P .kept ++ (live i P ∷ []);
+}
+
+unfoldable pub checkpointState : Run → ℕ → Run
+checkpointState s i = withProcess s i (settled (checkpointed i (process s i)))
+
+unfoldable pub checkpointDeletions : Run → ℕ → List Deletion
+checkpointDeletions s i = deletions i (checkpointed i (process s i))
+
+-- Send from i to j. "The message carries i's vector. Set i's sent mark." "Message numbers run from 1 .., one for each accepted send, never reused".
+unfoldable pub sentMessage : Run → ℕ → ℕ → Message
+sentMessage s i j = record { number = s .last + 1; sender = i; receiver = j; vector = process s i .vector }
+
+unfoldable pub marked : Process → Process
+marked P = record { vector = P .vector; pins = P .pins; mark = true; kept = P .kept }
+
+unfoldable pub sendState : Run → ℕ → ℕ → Run
+sendState s i j = withMessages (withProcess s i (marked (process s i))) (underWay s ++ (sentMessage s i j ∷ [])) (s .last + 1)
+
+-- The message number m under way, if there is one, and the others.
+unfoldable pub found : Run → ℕ → Option Message
+found s m = lastOf (select (λ x. eqb (x .number) m) (underWay s))
+
+unfoldable pub others : Run → ℕ → List Message
+others s m = select (λ x. not (eqb (x .number) m)) (underWay s)
+
+-- Deliver to i. "If the sent mark is set and some carried entry is greater than i's, first do a checkpoint at i (forced)."
+-- Entries at n and above are zero in every vector, so none of them is ever greater.
+unfoldable pub newer : List Interval → List Interval → Bool
+newer own carried = anyBelow places (λ f. below (entry own f) (entry carried f))
+
+unfoldable pub forces : Process → List Interval → Bool
+forces P carried = P .mark && newer (P .vector) carried
+
+-- "Then each entry that is smaller than the carried one takes it, and that entry's pin becomes the own pin."
+unfoldable pub takenEntry : List Interval → List Interval → ℕ → Interval
+takenEntry own carried f = pick (below (entry own f) (entry carried f)) (entry carried f) (entry own f)
+
+unfoldable pub takenVector : List Interval → List Interval → List Interval
+takenVector own carried = table places (takenEntry own carried)
+
+unfoldable pub takenPin : ℕ → List Interval → List Interval → List Pin → ℕ → Pin
+takenPin i own carried pins f = pick (below (entry own f) (entry carried f)) (getD pins i Nothing) (getD pins f Nothing)
+
+unfoldable pub takenPins : ℕ → List Interval → List Interval → List Pin → List Pin
+takenPins i own carried pins = table places (takenPin i own carried pins)
+
+unfoldable pub takenIn : ℕ → List Interval → Process → Process
+takenIn i carried P = record {
+  vector = takenVector (P .vector) carried;
+  pins = takenPins i (P .vector) carried (P .pins);
+  mark = P .mark;
+  kept = P .kept;
+}
+
+unfoldable pub delivered : ℕ → List Interval → Process → Process
+delivered i carried P = takenIn i carried (pick (forces P carried) (checkpointed i P) P)
+
+-- "The message is no longer under way."
+unfoldable pub deliverState : Run → Message → Run
+deliverState s x = withMessages (withProcess s (x .receiver) (settled (delivered (x .receiver) (x .vector) (process s (x .receiver))))) (others s (x .number)) (s .last)
+
+unfoldable pub deliverDeletions : Run → Message → List Deletion
+deliverDeletions s x = deletions (x .receiver) (delivered (x .receiver) (x .vector) (process s (x .receiver)))
+
+-- Lose. "The message is no longer under way; nothing else changes."
+unfoldable pub loseState : Run → ℕ → Run
+loseState s m = withMessages s (others s m) (s .last)
+
+-- Line for a failed set. "At each process, the latest among kept checkpoints and the live state whose entry f is less than f's current own entry,
+-- for every failed f."
+unfoldable pub allowed : Run → ℕ → Checkpoint → Bool
+allowed s F c = allBelow (s .count) (λ f. not (failed F f) || below (entry (c .vector) f) (own s f))
+
+unfoldable pub states : ℕ → Process → List Checkpoint
+states p P = P .kept ++ (live p P ∷ [])
+
+unfoldable pub latestAllowed : Run → ℕ → ℕ → Option Checkpoint
+latestAllowed s F p = lastOf (select (allowed s F) (states p (process s p)))
+
+-- The line's member at p. Where the rule accepts no state the call is refused, and the live state stands in.
+unfoldable pub member : Run → ℕ → ℕ → Checkpoint
+member s F p = orElse (latestAllowed s F p) (live p (process s p))
+
+unfoldable pub lineOf : Run → ℕ → List ℕ
+lineOf s F = table (s .count) (λ p. member s F p .index .0)
+
+-- Recover. "Take the line. A process whose member is stored takes that vector with 1 added to its own entry, loses its sent mark and later
+-- checkpoints; these count as deleted. Others stay live, mark included." A member is stored if its index is less than the live state's.
+unfoldable pub rolledBack : Run → ℕ → ℕ → Bool
+rolledBack s F p = ltb (member s F p .index .0) (liveIndex (own s p) .0)
+
+unfoldable pub vectorAfter : Run → ℕ → ℕ → List Interval
+vectorAfter s F p = pick (rolledBack s F p) (advanced p (member s F p .vector)) (process s p .vector)
+
+unfoldable pub notLost : Run → ℕ → ℕ → List Checkpoint
+notLost s F p = select (λ c. leb (c .index .0) (member s F p .index .0)) (process s p .kept)
+
+-- "Then let own(f) be the own entries after this."
+unfoldable pub ownAfter : Run → ℕ → ℕ → Interval
+ownAfter s F f = entry (vectorAfter s F f) f
+
+-- "names the latest checkpoint with entry f below own(f) among those kept before the call and not lost, none if there is none"
+unfoldable pub latestPin : Option Checkpoint → Pin
+latestPin none = Nothing
+latestPin (some c) = At (c .index)
+
+unfoldable pub movedPin : Run → ℕ → ℕ → ℕ → Pin
+movedPin s F p f = latestPin (lastOf (select (λ c. below (entry (c .vector) f) (ownAfter s F f)) (notLost s F p)))
+
+-- "At each process, a pin for f whose vector entry is not own(f) becomes none. In a rolled-back process a pin whose entry is own(f) names .."
+unfoldable pub pinAfter : Run → ℕ → ℕ → ℕ → Pin
+pinAfter s F p f =
+    pick (eqb (entry (vectorAfter s F p) f .0) (ownAfter s F f .0))
+    (pick (rolledBack s F p) (movedPin s F p f) (getD (process s p .pins) f Nothing))
+    Nothing
+
+unfoldable pub pinsAfter : Run → ℕ → ℕ → List Pin
+pinsAfter s F p = table places (pinAfter s F p)
+
+unfoldable pub recovered : Run → ℕ → ℕ → Process
+recovered s F p = record {
+  vector = vectorAfter s F p;
+  pins = pinsAfter s F p;
+  mark = process s p .mark && not (rolledBack s F p);
+  kept = select (named (pinsAfter s F p)) (notLost s F p);
+}
+
+-- "Every message under way is lost." Which ones are lost is said here alone.
+unfoldable pub stillUnderWay : Run → ℕ → List Message
+stillUnderWay s F = []
+
+unfoldable pub recoverState : Run → ℕ → Run
+recoverState s F = withMessages (withProcesses (s .count) (recovered s F) s) (stillUnderWay s F) (s .last)
+
+-- Deleted: the lost ones, and those that no pin names any more. "by process, then index, ascending"
+unfoldable pub deletedAt : Run → ℕ → ℕ → List Deletion
+deletedAt s F p =
+    listed p (select (λ c. not (leb (c .index .0) (member s F p .index .0) && named (pinsAfter s F p) c)) (process s p .kept))
+
+unfoldable pub recoverDeletions : Run → ℕ → List Deletion
+recoverDeletions s F = gather (s .count) (deletedAt s F)
+
+-- "how many rolled back"
+unfoldable pub rolledBackCount : Run → ℕ → ℕ
+rolledBackCount s F = countBelow (s .count) (rolledBack s F)

@@ -1,0 +1,95 @@
+-- Document 01, "The surviving history": "It is built from the calls and their answers, and from nothing in the state".
+-- Assumes nothing.
+use mathlib.Core.Bool.{Bool, _&&_, _||_, not}
+use mathlib.Core.List.{List, [], _∷_, _++_}
+use mathlib.Core.Option.{Option, none, some}
+use Prim.Native.Nat.{ℕ, _+_, _*_}
+use lib.Dec.{eqb, ltb, leb}
+use lib.ListN.{getD}
+use Rattle.laws.specs.Choice.{pick}
+use Rattle.laws.specs.Search.{anyBelow}
+use Rattle.laws.specs.Update.{upd}
+use Rattle.model.specs.History.{HistoryEvent, stored, sent, received, Lists, checkpoints, upTo}
+use Rattle.model.specs.Calls.{Call, checkpoint, send, deliver, lose, recover, line, Reply, Exchange}
+
+-- The surviving history: the lists; how many sends were accepted; the receiver that each send named; which checkpoints are kept.
+pub record Surviving : Type 0 where
+  pub lists : Lists
+  pub sends : ℕ
+  pub receiver : ℕ → ℕ
+  pub kept : ℕ → ℕ → Bool
+
+-- "After the start each list is checkpoint 0."
+unfoldable pub beginning : Surviving
+beginning = record { lists = λ p. stored ∷ []; sends = 0; receiver = λ m. 0; kept = λ p k. eqb k 0 }
+
+-- An event at the end of a process's list.
+unfoldable pub added : Lists → ℕ → HistoryEvent → Lists
+added lists p e = upd lists p (lists p ++ (e ∷ []))
+
+-- "the next checkpoint, if the answer names a forced one"
+unfoldable pub forcedFirst : Lists → ℕ → Option ℕ → Lists
+forcedFirst lists p none = lists
+forcedFirst lists p (some index) = added lists p stored
+
+-- "At an accepted recover, where the index written for a process is that of a checkpoint in its list, all after that checkpoint goes from the list.
+-- Other lists stay."
+unfoldable pub cut : ℕ → Lists → List ℕ → Lists
+cut n lists indexes p = pick (ltb p n && ltb (getD indexes p 0) (checkpoints (lists p))) (upTo (getD indexes p 0) (lists p)) (lists p)
+
+-- The lists after an accepted call. "An accepted checkpoint at i adds to i's list the next checkpoint".
+-- "Accepted sends are numbered 1, 2, 3 and on, over recoveries too; number m adds "sent m" to its sender's list."
+-- "An accepted delivery of m adds to the list of the receiver its send named the next checkpoint, if the answer names a forced one, then "received m"."
+-- "Lose, line .. change nothing."
+unfoldable pub listsAfter : ℕ → Surviving → Call → Reply → Lists
+listsAfter n h (checkpoint i deleted) r = added (h .lists) i stored
+listsAfter n h (send i j) r = added (h .lists) i (sent (h .sends + 1))
+listsAfter n h (deliver m deleted) r = added (forcedFirst (h .lists) (h .receiver m) (r .report .value)) (h .receiver m) (received m)
+listsAfter n h (lose m) r = h .lists
+listsAfter n h (recover F deleted lent) r = cut n (h .lists) (r .line)
+listsAfter n h (line F lent) r = h .lists
+
+-- How many sends were accepted, and whom each named.
+unfoldable pub sendsAfter : Surviving → Call → ℕ
+sendsAfter h (checkpoint i deleted) = h .sends
+sendsAfter h (send i j) = h .sends + 1
+sendsAfter h (deliver m deleted) = h .sends
+sendsAfter h (lose m) = h .sends
+sendsAfter h (recover F deleted lent) = h .sends
+sendsAfter h (line F lent) = h .sends
+
+unfoldable pub receiverAfter : Surviving → Call → ℕ → ℕ
+receiverAfter h (checkpoint i deleted) = h .receiver
+receiverAfter h (send i j) = upd (h .receiver) (h .sends + 1) j
+receiverAfter h (deliver m deleted) = h .receiver
+receiverAfter h (lose m) = h .receiver
+receiverAfter h (recover F deleted lent) = h .receiver
+receiverAfter h (line F lent) = h .receiver
+
+-- The answer hands out the pair p, k.
+unfoldable pub handedOut : Reply → ℕ → ℕ → Bool
+handedOut r p k = anyBelow (r .report .deletions) (λ d. eqb (getD (r .deleted) (2 * d) 0) p && eqb (getD (r .deleted) (2 * d + 1) 0) k)
+
+-- "A checkpoint in a list is kept until a pair handed out after it was stored names it": it is in the list now, was kept before or was not there, and is not handed out.
+unfoldable pub keptAfter : Surviving → Lists → Reply → ℕ → ℕ → Bool
+keptAfter h lists r p k = ltb k (checkpoints (lists p)) && (h .kept p k || leb (checkpoints (h .lists p)) k) && not (handedOut r p k)
+
+unfoldable pub accepted : ℕ → Surviving → Call → Reply → Surviving
+accepted n h c r = record {
+  lists = listsAfter n h c r;
+  sends = sendsAfter h c;
+  receiver = receiverAfter h c;
+  kept = keptAfter h (listsAfter n h c r) r;
+}
+
+-- ".. and every refused call change nothing."
+unfoldable pub after : ℕ → Surviving → Exchange → Surviving
+after n h e = pick (eqb (e .reply .report .refused) 0) (accepted n h (e .made) (e .reply)) h
+
+-- The surviving history of a run of n processes with this transcript.
+unfoldable pub survivingFrom : ℕ → Surviving → List Exchange → Surviving
+survivingFrom n h [] = h
+survivingFrom n h (e ∷ l) = survivingFrom n (after n h e) l
+
+unfoldable pub surviving : ℕ → List Exchange → Surviving
+surviving n = survivingFrom n beginning

@@ -1,0 +1,148 @@
+-- Document 01, "What the library covers" and "Words": limits, vectors, pins, kept checkpoints, the part of a state that is one process's.
+-- Assumes nothing.
+use mathlib.Core.Bool.{Bool, false}
+use mathlib.Core.List.{List, []}
+use Prim.Native.Nat.{ℕ, _-_, _/_, _%_, _^_}
+use lib.Dec.{eqb, ltb}
+use lib.ListN.{length, getD, set, take, replicate}
+use Rattle.laws.specs.Lists.{placed}
+use Rattle.laws.specs.Tests.{some-of}
+use Rattle.model.specs.declared.Interval.{Interval}
+use Rattle.model.specs.declared.CheckpointIndex.{CheckpointIndex}
+use Rattle.model.specs.declared.Pin.{Pin}
+use Rattle.model.specs.declared.Pin.the-variants.{Nothing, At}
+use Rattle.model.specs.declared.Checkpoint.{Checkpoint}
+use Rattle.model.specs.declared.Message.{Message}
+use Rattle.model.specs.declared.Run.{Run}
+
+-- "A run has n processes, 1 to 16, numbered from 0."
+abbrev pub places : ℕ
+places = 16
+
+-- "At most 64 messages are under way."
+abbrev pub mostUnderWay : ℕ
+mostUnderWay = 64
+
+-- "Message numbers run from 1 to 1,000,000"
+abbrev pub mostMessages : ℕ
+mostMessages = 1_000_000
+
+-- "Vector entries are 0 to 65,535."
+abbrev pub mostInterval : ℕ
+mostInterval = 65_535
+
+-- "Entry f of i's vector is the last interval of f that i knows, 0 if none"
+abbrev pub entry : List Interval → ℕ → Interval
+entry v f = getD v f (record { 0 = 0 })
+
+-- One interval number is less than another.
+abbrev pub below : Interval → Interval → Bool
+below a b = ltb (a .0) (b .0)
+
+-- "The live state counts as the checkpoint whose index is the own entry."
+abbrev pub liveIndex : Interval → CheckpointIndex
+liveIndex own = record { 0 = own .0 }
+
+-- "Interval g lies between checkpoints g - 1 and g": where g is the own entry, the last stored checkpoint is g - 1.
+abbrev pub lastStored : Interval → CheckpointIndex
+lastStored own = record { 0 = own .0 - 1 }
+
+-- "Checkpoint a of f comes causally before a state exactly if a is less than that state's entry f"
+abbrev pub comesBefore : CheckpointIndex → ℕ → List Interval → Bool
+comesBefore a f v = ltb (a .0) (entry v f .0)
+
+-- "A pin of i for f names one kept checkpoint of i, or none."
+abbrev pub names : Pin → CheckpointIndex → Bool
+names Nothing a = false
+names (At b) a = eqb (b .0) (a .0)
+
+-- "A checkpoint is kept exactly while a pin names it."
+unfoldable pub named : List Pin → Checkpoint → Bool
+named pins c = some-of (λ pin. names pin (c .index)) pins
+
+-- What a state holds of one process: its current vector, its pins, its sent mark, the checkpoints that it keeps.
+pub record Process : Type 0 where
+  pub vector : List Interval
+  pub pins : List Pin
+  pub mark : Bool
+  pub kept : List Checkpoint
+
+-- The live state of process i as a checkpoint.
+unfoldable pub live : ℕ → Process → Checkpoint
+live i P = record { index = liveIndex (entry (P .vector) i); vector = P .vector }
+
+-- Unused places: "Unused places hold zero; unused pins .. are none."
+abbrev pub zeroVector : List Interval
+zeroVector = replicate places (record { 0 = 0 })
+
+abbrev pub noPins : List Pin
+noPins = replicate places Nothing
+
+abbrev pub noCheckpoint : Checkpoint
+noCheckpoint = record { index = record { 0 = 0 }; vector = zeroVector }
+
+abbrev pub noMessage : Message
+noMessage = record { number = 0; sender = 0; receiver = 0; vector = zeroVector }
+
+-- "a state of zeros with every pin none", with a count.
+unfoldable pub blank : ℕ → Run
+blank n = record {
+  count = n;
+  vectors = record { 0 = replicate places zeroVector };
+  pins = record { 0 = replicate places noPins };
+  sent = replicate places false;
+  kept = record { 0 = replicate places (replicate places noCheckpoint) };
+  held = replicate places 0;
+  messages = replicate mostUnderWay noMessage;
+  underway = 0;
+  last = 0;
+}
+
+-- The part of a state that is process p's.
+unfoldable pub process : Run → ℕ → Process
+process s p = record {
+  vector = getD (s .vectors .0) p [];
+  pins = getD (s .pins .0) p [];
+  mark = getD (s .sent) p false;
+  kept = take (getD (s .held) p 0) (getD (s .kept .0) p []);
+}
+
+-- The state with another part for process p.
+unfoldable pub withProcess : Run → ℕ → Process → Run
+withProcess s p P = record {
+  count = s .count;
+  vectors = record { 0 = set (s .vectors .0) p (P .vector) };
+  pins = record { 0 = set (s .pins .0) p (P .pins) };
+  sent = set (s .sent) p (P .mark);
+  kept = record { 0 = set (s .kept .0) p (placed places noCheckpoint (P .kept)) };
+  held = set (s .held) p (length (P .kept));
+  messages = s .messages;
+  underway = s .underway;
+  last = s .last;
+}
+
+-- p's current interval: "its own entry is its current interval".
+unfoldable pub own : Run → ℕ → Interval
+own s p = entry (process s p .vector) p
+
+-- The messages under way, ascending by number.
+unfoldable pub underWay : Run → List Message
+underWay s = take (s .underway) (s .messages)
+
+-- The state with other messages under way and another last used number.
+unfoldable pub withMessages : Run → List Message → ℕ → Run
+withMessages s messages last = record {
+  count = s .count;
+  vectors = s .vectors;
+  pins = s .pins;
+  sent = s .sent;
+  kept = s .kept;
+  held = s .held;
+  messages = placed mostUnderWay noMessage messages;
+  underway = length messages;
+  last = last;
+}
+
+-- "The failed set is a number of 16 bits; bit p, worth 2 to the power p, stands for process p."
+abbrev pub failed : ℕ → ℕ → Bool
+failed F p = eqb (F / (2 ^ p) % 2) 1

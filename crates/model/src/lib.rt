@@ -1,0 +1,130 @@
+// The types of the state, the answers and the events. Document 01 as definitions is in specs/, the theorems about them are in proofs/.
+
+// An interval's number. "An interval number is never read as a checkpoint index": the two are types of their own.
+pub struct Interval(pub u16);
+
+// A checkpoint's number within its process.
+pub struct CheckpointIndex(pub u16);
+
+// A pin (document 01's word): it names one kept checkpoint of its process, or none.
+pub enum Pin {
+    Nothing,
+    At(CheckpointIndex),
+}
+
+// A stored checkpoint: its index and the dependency vector that it was stored with.
+pub struct Checkpoint {
+    pub index: CheckpointIndex,
+    pub vector: [Interval; 16],
+}
+
+// A message under way (document 01's word for in transit: sent, and neither received nor lost) with the vector that it carries.
+pub struct Message {
+    pub number: u32,
+    pub sender: usize,
+    pub receiver: usize,
+    pub vector: [Interval; 16],
+}
+
+// "The vectors form a square of n rows of n entries, and so do the pins." Each square stands alone in a struct of its own.
+pub struct Vectors(pub [[Interval; 16]; 16]);
+
+pub struct Pins(pub [[Pin; 16]; 16]);
+
+// Row p: the checkpoints that process p keeps, ascending.
+pub struct Kept(pub [[Checkpoint; 16]; 16]);
+
+// The state of a run. Unused places hold zero, unused pins nothing.
+pub struct Run {
+    // how many processes
+    pub count: usize,
+    // row p: the current dependency vector of p
+    pub vectors: Vectors,
+    // row p: the pins of p, one for each process
+    pub pins: Pins,
+    // the sent mark of each process: it has sent since its last checkpoint
+    pub sent: [bool; 16],
+    pub kept: Kept,
+    // how many checkpoints each process keeps
+    pub held: [usize; 16],
+    // the messages under way, ascending by number
+    pub messages: [Message; 64],
+    // how many messages are under way
+    pub underway: usize,
+    // the last message number used
+    pub last: u32,
+}
+
+// Why a call or a record is refused. specs/Refusals gives each its number, 1 to 14, in this order.
+pub enum Refusal {
+    CountOutsideRange,
+    UnsoundState,
+    ListTooShort,
+    NoSuchProcess,
+    SenderIsReceiver,
+    NobodyFailed,
+    NoSuchFailedProcess,
+    NotUnderWay,
+    TooManyUnderWay,
+    MessageNumbersUsed,
+    IntervalsUsed,
+    NoFirstByte,
+    LeftOverBytes,
+    MalformedRecord,
+}
+
+pub enum StartAnswer {
+    Refused(Refusal),
+    Started,
+}
+
+// Stored: the checkpoint's index, and how many were deleted.
+pub enum CheckpointAnswer {
+    Refused(Refusal),
+    Stored(CheckpointIndex, usize),
+}
+
+// Sent: the message's number.
+pub enum SendAnswer {
+    Refused(Refusal),
+    Sent(u32),
+}
+
+// Received: how many checkpoints were deleted. Forced: the same behind the index of the forced checkpoint.
+pub enum DeliverAnswer {
+    Refused(Refusal),
+    Received(usize),
+    Forced(CheckpointIndex, usize),
+}
+
+pub enum LoseAnswer {
+    Refused(Refusal),
+    Lost,
+}
+
+pub enum LineAnswer {
+    Refused(Refusal),
+    Written,
+}
+
+// Recovered: how many processes rolled back, and how many checkpoints were deleted.
+pub enum RecoverAnswer {
+    Refused(Refusal),
+    Recovered(usize, usize),
+}
+
+// The three fields of a record of a trace: 3, 4 and 25 bits.
+pub struct Fields {
+    pub kind: u32,
+    pub process: usize,
+    pub argument: u32,
+}
+
+// What a record of a trace stands for. The argument is kept whole, all of its 25 bits.
+pub enum Event {
+    Checkpoint(usize),
+    Send(usize, u32),
+    Deliver(u32),
+    Lose(u32),
+    Recover(u32),
+}
