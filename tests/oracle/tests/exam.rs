@@ -1,0 +1,400 @@
+//! The ten-record example and the exam sheet.
+
+mod common;
+
+use common::{kept, line, pins, DELETIONS, LINE};
+use oracle::cases::example;
+use oracle::run::{Checkpointed, Delivered, Recovered, Run};
+
+const EXAMPLE: [u32; 10] = [
+    0x20000001, 0x40000001, 0x02000000, 0x00000000, 0x22000000, 0x40000002, 0x20000001, 0x40000003,
+    0x80000001, 0x40000003,
+];
+
+const EXAMPLE_LISTING: &str = "\
+1 0 1 0
+2 0 - 0
+3 0 1 0
+4 0 1 1 0:0
+5 0 2 0
+6 0 - 0
+7 0 3 0
+8 0 2 2 1:0 1:1
+9 0 2 0
+10 8
+";
+
+fn sets(run: &Run) -> Vec<Vec<u16>> {
+    (1..1 << run.count())
+        .map(|failed| line(run, failed))
+        .collect()
+}
+
+#[test]
+fn the_ten_record_example() {
+    let mut trace = vec![2];
+    for record in EXAMPLE {
+        trace.extend_from_slice(&record.to_be_bytes());
+    }
+    assert_eq!(common::listing(&trace), EXAMPLE_LISTING);
+}
+
+#[test]
+fn the_start() {
+    for n in 1..=16 {
+        let run = Run::start(n).unwrap();
+        for i in 0..n {
+            for f in 0..n {
+                assert_eq!(run.vector(i)[f], (i == f) as u16);
+                assert_eq!(run.pin(i, f), (i == f).then_some(0));
+            }
+            assert_eq!(run.kept(i).collect::<Vec<_>>(), [(0, &vec![0; n][..])]);
+            assert!(!run.sent_mark(i));
+        }
+        assert!(run.under_way().is_empty());
+        assert_eq!(run.last_number(), 0);
+        common::assert_sound(&run);
+    }
+}
+
+#[test]
+fn case_1() {
+    let run = example(2);
+    assert_eq!(run.vector(0), [1, 0]);
+    assert_eq!(run.vector(1), [1, 1]);
+    assert_eq!(pins(&run, 1), [Some(0), Some(0)]);
+    assert_eq!(line(&run, 0b01), [0, 0]);
+    assert_eq!(line(&run, 0b10), [1, 0]);
+}
+
+#[test]
+fn case_2() {
+    let run = example(3);
+    assert_eq!(kept(&run, 1), [0, 1]);
+    assert_eq!(line(&run, 0b01), [0, 0]);
+    assert_eq!(line(&run, 0b10), [1, 1]);
+}
+
+#[test]
+fn case_3() {
+    let run = example(4);
+    assert_eq!(line(&run, 0b01), [1, 2]);
+    assert_eq!(line(&run, 0b10), [2, 1]);
+}
+
+#[test]
+fn case_4() {
+    let run = example(6);
+    assert_eq!(run.vector(0), [2, 2]);
+    assert_eq!(pins(&run, 0), [Some(1), Some(1)]);
+    assert_eq!(line(&run, 0b10), [1, 1]);
+}
+
+#[test]
+fn case_5() {
+    let run = example(8);
+    assert_eq!(run.vector(1), [2, 3]);
+    assert_eq!(kept(&run, 1), [2]);
+    assert_eq!(line(&run, 0b10), [2, 2]);
+    assert_eq!(line(&run, 0b01), [1, 2]);
+}
+
+#[test]
+fn case_6() {
+    let run = example(9);
+    assert_eq!(run.vector(0), [2, 0]);
+    assert_eq!(run.vector(1), [1, 3]);
+    assert_eq!(kept(&run, 0).len(), 1);
+    assert_eq!(kept(&run, 1).len(), 1);
+}
+
+#[test]
+fn case_7() {
+    let mut run = example(4);
+    let (mut deletions, mut written) = ([77; DELETIONS], [77; LINE]);
+    let answer = run.recover(0b10, &mut deletions, &mut written);
+    assert_eq!(
+        answer,
+        Ok(Recovered {
+            rolled_back: 1,
+            deletions: 1
+        })
+    );
+    assert_eq!(written[..3], [2, 1, 77]);
+    assert_eq!(deletions[..3], [1, 0, 77]);
+    assert_eq!(run.vector(1), [1, 2]);
+}
+
+#[test]
+fn case_8() {
+    let mut run = Run::start(3).unwrap();
+    assert_eq!(run.send(0, 1), Ok(1));
+    assert!(run.deliver(1, &mut [0; DELETIONS]).is_ok());
+    assert_eq!(run.send(1, 2), Ok(2));
+    assert!(run.deliver(2, &mut [0; DELETIONS]).is_ok());
+    assert_eq!(line(&run, 0b001), [0, 0, 0]);
+    assert_eq!(line(&run, 0b010), [1, 0, 0]);
+    assert_eq!(line(&run, 0b100), [1, 1, 0]);
+}
+
+#[test]
+fn case_9() {
+    let mut run = Run::start(2).unwrap();
+    assert_eq!(run.send(0, 1), Ok(1));
+    let mut written = [0; LINE];
+    let answer = run.recover(0b10, &mut [0; DELETIONS], &mut written);
+    assert_eq!(
+        answer,
+        Ok(Recovered {
+            rolled_back: 1,
+            deletions: 0
+        })
+    );
+    assert_eq!(written[..2], [1, 0]);
+    assert_eq!(run.deliver(1, &mut [0; DELETIONS]), Err(8));
+    // "Others stay live, mark included."
+    assert!(run.sent_mark(0));
+    assert!(!run.sent_mark(1));
+}
+
+#[test]
+fn case_10_counts() {
+    assert_eq!(Run::start(0).err(), Some(1));
+    assert_eq!(Run::start(17).err(), Some(1));
+    assert!(Run::start(1).is_ok());
+    assert!(Run::start(16).is_ok());
+    assert_eq!(Run::start(usize::MAX).err(), Some(1));
+}
+
+#[test]
+fn case_10_lists() {
+    for n in 1..=16 {
+        let (enough, few) = (2 * n * n, 2 * n * n - 1);
+        let new = || Run::start(n).unwrap();
+        assert!(new().checkpoint(0, &mut vec![0; enough]).is_ok());
+        assert_eq!(new().checkpoint(0, &mut vec![0; few]), Err(3));
+        assert!(new()
+            .recover(1, &mut vec![0; enough], &mut vec![0; n])
+            .is_ok());
+        assert_eq!(new().recover(1, &mut vec![0; few], &mut vec![0; n]), Err(3));
+        assert_eq!(
+            new().recover(1, &mut vec![0; enough], &mut vec![0; n - 1]),
+            Err(3)
+        );
+        assert_eq!(new().line(1, &mut vec![0; n]), Ok(()));
+        assert_eq!(new().line(1, &mut vec![0; n - 1]), Err(3));
+        if n > 1 {
+            let mut run = new();
+            run.send(0, 1).unwrap();
+            assert_eq!(run.deliver(1, &mut vec![0; few]), Err(3));
+            assert!(run.deliver(1, &mut vec![0; enough]).is_ok());
+        }
+    }
+}
+
+#[test]
+fn case_10_messages_under_way() {
+    let mut run = Run::start(2).unwrap();
+    for number in 1..=64 {
+        assert_eq!(run.send(0, 1), Ok(number));
+    }
+    assert_eq!(run.send(0, 1), Err(9));
+    // "a place freed by a delivery or loss is used again", the number is not.
+    assert_eq!(run.lose(30), Ok(()));
+    assert_eq!(run.send(0, 1), Ok(65));
+    assert_eq!(run.send(0, 1), Err(9));
+    assert!(run.deliver(65, &mut [0; DELETIONS]).is_ok());
+    assert_eq!(run.send(1, 0), Ok(66));
+    assert_eq!(run.lose(30), Err(8));
+    common::assert_sound(&run);
+}
+
+#[test]
+fn case_10_last_intervals() {
+    let mut run = Run::start(1).unwrap();
+    for index in 1..=65_533 {
+        let answer = run.checkpoint(0, &mut [0; 2]);
+        assert_eq!(
+            answer,
+            Ok(Checkpointed {
+                index,
+                deletions: 1
+            })
+        );
+    }
+    assert_eq!(run.own_entry(0), 65_534);
+    assert!(run.checkpoint(0, &mut [0; 2]).is_ok());
+    assert_eq!(run.own_entry(0), 65_535);
+    assert_eq!(run.checkpoint(0, &mut [0; 2]), Err(11));
+    // Rolled back to 65,534, it is again in its last interval.
+    assert!(run.recover(1, &mut [0; 2], &mut [0; 1]).is_ok());
+    assert_eq!(run.own_entry(0), 65_535);
+    assert_eq!(run.checkpoint(0, &mut [0; 2]), Err(11));
+    common::assert_sound(&run);
+}
+
+/// Process 1 at this own entry, sent mark set, message 2 to it under way.
+fn about_to_force(own_entry: u16) -> Run {
+    let mut run = Run::start(2).unwrap();
+    for _ in 1..own_entry {
+        run.checkpoint(1, &mut [0; 8]).unwrap();
+    }
+    run.send(1, 0).unwrap();
+    run.send(0, 1).unwrap();
+    run
+}
+
+#[test]
+fn a_forced_checkpoint_at_the_last_intervals() {
+    let mut run = about_to_force(65_534);
+    let answer = run.deliver(2, &mut [0; 8]).unwrap();
+    assert_eq!(answer.forced, Some(65_534));
+
+    let mut run = about_to_force(65_535);
+    assert_eq!(run.deliver(2, &mut [0; 8]), Err(11));
+    // The message stays under way.
+    assert_eq!(run.deliver(2, &mut [0; 8]), Err(11));
+    assert_eq!(run.lose(2), Ok(()));
+}
+
+#[test]
+fn a_delivery_without_news_in_the_last_interval() {
+    let mut run = Run::start(2).unwrap();
+    run.send(0, 1).unwrap();
+    run.send(0, 1).unwrap();
+    run.deliver(1, &mut [0; 8]).unwrap();
+    for _ in 1..65_535 {
+        run.checkpoint(1, &mut [0; 8]).unwrap();
+    }
+    run.send(1, 0).unwrap();
+    let answer = run.deliver(2, &mut [0; 8]);
+    assert_eq!(
+        answer,
+        Ok(Delivered {
+            forced: None,
+            deletions: 0
+        })
+    );
+}
+
+#[test]
+fn a_mark_without_news_and_news_without_a_mark_force_nothing() {
+    let mut run = Run::start(2).unwrap();
+    run.send(0, 1).unwrap();
+    run.send(0, 1).unwrap();
+    let none = Ok(Delivered {
+        forced: None,
+        deletions: 0,
+    });
+    assert_eq!(run.deliver(1, &mut [0; 8]), none);
+    run.send(1, 0).unwrap();
+    assert_eq!(run.deliver(2, &mut [0; 8]), none);
+    assert!(run.sent_mark(1));
+}
+
+#[test]
+fn a_rolled_back_process_loses_its_mark() {
+    let mut run = Run::start(2).unwrap();
+    run.send(0, 1).unwrap();
+    run.send(1, 0).unwrap();
+    run.recover(0b01, &mut [0; 8], &mut [0; 2]).unwrap();
+    assert!(!run.sent_mark(0));
+    assert!(run.sent_mark(1));
+    // So the next news forces nothing at 0, but does at 1.
+    run.send(1, 0).unwrap();
+    let answer = run.deliver(3, &mut [0; 8]);
+    assert_eq!(
+        answer,
+        Ok(Delivered {
+            forced: None,
+            deletions: 0
+        })
+    );
+    run.send(0, 1).unwrap();
+    let answer = run.deliver(4, &mut [0; 8]);
+    assert_eq!(
+        answer,
+        Ok(Delivered {
+            forced: Some(1),
+            deletions: 1
+        })
+    );
+}
+
+/// The text has every fact of the exam sheet where its layout says.
+#[test]
+fn the_exam_text() {
+    let text = oracle::cases::text();
+    assert!(text.is_ascii() && text.ends_with('\n'));
+    assert!(text
+        .lines()
+        .all(|line| !line.is_empty() && line.trim() == line));
+    assert!(!text.contains("  "));
+    let cases: Vec<&str> = text.split("case ").skip(1).collect();
+    assert_eq!(cases.len(), 10);
+
+    assert_eq!(
+        cases[0],
+        "1\nvector 0: 1 0\npins 0: 0 -\nkept 0: 0\nvector 1: 1 1\npins 1: 0 0\nkept 1: 0\n\
+         line 1: 0 0\nline 2: 1 0\nline 3: 0 0\n"
+    );
+    let holds = |case: usize, facts: &[&str]| {
+        for fact in facts {
+            let found = cases[case - 1].lines().filter(|line| line == fact).count();
+            assert_eq!(found, 1, "case {case}: {fact}");
+        }
+    };
+    holds(2, &["kept 1: 0 1", "line 1: 0 0", "line 2: 1 1"]);
+    holds(3, &["line 1: 1 2", "line 2: 2 1"]);
+    holds(4, &["vector 0: 2 2", "pins 0: 1 1", "line 2: 1 1"]);
+    holds(
+        5,
+        &["vector 1: 2 3", "kept 1: 2", "line 2: 2 2", "line 1: 1 2"],
+    );
+    holds(
+        6,
+        &["vector 0: 2 0", "vector 1: 1 3", "kept 0: 1", "kept 1: 2"],
+    );
+    assert!(cases[6].starts_with("7\nwritten 2: 2 1\nrecover 2: 1 1 1:0\nvector 0: 2 0\n"));
+    holds(7, &["vector 1: 1 2"]);
+    holds(8, &["line 1: 0 0 0", "line 2: 1 0 0", "line 4: 1 1 0"]);
+    assert!(cases[8].starts_with("9\nwritten 2: 1 0\nrecover 2: 1 0\ndeliver 1: 8\nvector 0: "));
+    holds(
+        10,
+        &["start 0: 1", "start 1: 0", "start 16: 0", "start 17: 1"],
+    );
+    holds(
+        10,
+        &[
+            "checkpoint 16 512: 0",
+            "checkpoint 16 511: 3",
+            "deliver 2 8: 0",
+        ],
+    );
+    holds(
+        10,
+        &[
+            "deliver 2 7: 3",
+            "recover 1 1: 3",
+            "line 2 1: 3",
+            "recoverline 16 15: 3",
+        ],
+    );
+    holds(
+        10,
+        &["send 64: 0", "send 65: 9", "own 65534: 0", "own 65535: 11"],
+    );
+    holds(
+        10,
+        &["forced 65534: 0", "forced 65535: 11", "quiet 65535: 0"],
+    );
+    assert_eq!(cases[9].lines().count(), 1 + 4 + 8 + 10 + 10 + 2 + 2 + 3);
+}
+
+/// A state is looked at in all its lines: every set has one.
+#[test]
+fn every_failed_set_has_a_line() {
+    for records in 0..=9 {
+        assert_eq!(sets(&example(records)).len(), 3);
+    }
+}

@@ -1,0 +1,374 @@
+//! Small random runs against the surviving history, by brute force.
+//!
+//! The history is kept as the paper's section "The surviving history" says:
+//! "It is built from the calls and their answers, and from nothing in the
+//! state". The reported lines are then held against all lines there are.
+
+mod common;
+
+use common::{Random, DELETIONS, LINE};
+use oracle::run::Run;
+
+#[derive(Clone, Copy, PartialEq)]
+enum Event {
+    Checkpoint { number: u16, kept: bool },
+    Sent(u32),
+    Received(u32),
+}
+
+/// A state of a process that a line can name: its index, and how many events
+/// of the list come before it.
+#[derive(Clone, Copy)]
+struct State {
+    index: u16,
+    place: usize,
+    live: bool,
+    kept: bool,
+}
+
+/// A message in the surviving history that was received there.
+struct Received {
+    sender: usize,
+    sent_at: usize,
+    receiver: usize,
+    received_at: usize,
+}
+
+struct History {
+    lists: Vec<Vec<Event>>,
+    /// The receiver that each send named, by number from 1.
+    receivers: Vec<usize>,
+}
+
+impl History {
+    /// "After the start each list is checkpoint 0."
+    fn start(n: usize) -> Self {
+        let first = Event::Checkpoint {
+            number: 0,
+            kept: true,
+        };
+        History {
+            lists: vec![vec![first]; n],
+            receivers: Vec::new(),
+        }
+    }
+
+    fn last_checkpoint(&self, i: usize) -> u16 {
+        let numbers = self.lists[i].iter().rev().filter_map(|event| match event {
+            Event::Checkpoint { number, .. } => Some(*number),
+            _ => None,
+        });
+        numbers
+            .into_iter()
+            .next()
+            .expect("checkpoint 0 is never lost")
+    }
+
+    /// "the next checkpoint, numbered one above the last there."
+    fn add_checkpoint(&mut self, i: usize) -> u16 {
+        let number = self.last_checkpoint(i) + 1;
+        self.lists[i].push(Event::Checkpoint { number, kept: true });
+        number
+    }
+
+    /// "number m adds "sent m" to its sender's list."
+    fn add_send(&mut self, sender: usize, receiver: usize) -> u32 {
+        self.receivers.push(receiver);
+        let number = self.receivers.len() as u32;
+        self.lists[sender].push(Event::Sent(number));
+        number
+    }
+
+    /// "An accepted delivery of m adds to the list of the receiver its send
+    /// named the next checkpoint, if the answer names a forced one, then
+    /// "received m"."
+    fn add_delivery(&mut self, number: u32, forced: Option<u16>) {
+        let receiver = self.receivers[number as usize - 1];
+        if let Some(index) = forced {
+            assert_eq!(self.add_checkpoint(receiver), index);
+        }
+        self.lists[receiver].push(Event::Received(number));
+    }
+
+    /// "A checkpoint in a list is kept until a pair handed out after it was
+    /// stored names it".
+    fn delete(&mut self, pairs: &[u16]) {
+        // "by process, then index, ascending"
+        let pairs: Vec<&[u16]> = pairs.chunks_exact(2).collect();
+        assert!(pairs.windows(2).all(|two| two[0] < two[1]));
+        for pair in pairs {
+            let (process, index) = (pair[0] as usize, pair[1]);
+            let mut found = 0;
+            for event in &mut self.lists[process] {
+                if let Event::Checkpoint { number, kept } = event {
+                    if *number == index {
+                        assert!(*kept, "{process}:{index} is handed out twice");
+                        *kept = false;
+                        found += 1;
+                    }
+                }
+            }
+            assert_eq!(found, 1, "{process}:{index} is in the list once");
+        }
+    }
+
+    /// "where the index written for a process is that of a checkpoint in its
+    /// list, all after that checkpoint goes from the list. Other lists stay."
+    /// Gives how many processes rolled back.
+    fn recover(&mut self, line: &[u16]) -> usize {
+        let mut rolled_back = 0;
+        for (list, index) in self.lists.iter_mut().zip(line) {
+            let place = list.iter().position(
+                |event| matches!(event, Event::Checkpoint { number, .. } if number == index),
+            );
+            if let Some(place) = place {
+                list.truncate(place + 1);
+                rolled_back += 1;
+            }
+        }
+        rolled_back
+    }
+
+    /// All states of process i, the live one last: "A live state stands at the
+    /// end of its list; its index is one above the last checkpoint there."
+    fn states(&self, i: usize) -> Vec<State> {
+        let mut states = Vec::new();
+        for (place, event) in self.lists[i].iter().enumerate() {
+            if let Event::Checkpoint { number, kept } = *event {
+                states.push(State {
+                    index: number,
+                    place,
+                    live: false,
+                    kept,
+                });
+            }
+        }
+        let (index, place) = (self.last_checkpoint(i) + 1, self.lists[i].len());
+        states.push(State {
+            index,
+            place,
+            live: true,
+            kept: false,
+        });
+        states
+    }
+
+    fn received(&self) -> Vec<Received> {
+        let mut all = Vec::new();
+        for (receiver, list) in self.lists.iter().enumerate() {
+            for (received_at, event) in list.iter().enumerate() {
+                if let Event::Received(number) = event {
+                    let (sender, sent_at) = self.find(Event::Sent(*number));
+                    all.push(Received {
+                        sender,
+                        sent_at,
+                        receiver,
+                        received_at,
+                    });
+                }
+            }
+        }
+        all
+    }
+
+    fn find(&self, wanted: Event) -> (usize, usize) {
+        for (process, list) in self.lists.iter().enumerate() {
+            if let Some(place) = list.iter().position(|event| *event == wanted) {
+                return (process, place);
+            }
+        }
+        panic!("a message was received and no longer has a sender");
+    }
+}
+
+/// "It is consistent if no message was sent after its sender's state in the
+/// line and received before its receiver's."
+fn consistent(line: &[State], messages: &[Received]) -> bool {
+    !messages.iter().any(|message| {
+        message.sent_at > line[message.sender].place
+            && message.received_at < line[message.receiver].place
+    })
+}
+
+/// All lines: every choice of one state for each process.
+fn for_every_line(states: &[Vec<State>], mut visit: impl FnMut(&[State])) {
+    let mut choice = vec![0; states.len()];
+    let mut line: Vec<State> = states.iter().map(|of_one| of_one[0]).collect();
+    loop {
+        visit(&line);
+        let mut i = 0;
+        loop {
+            if i == states.len() {
+                return;
+            }
+            choice[i] = (choice[i] + 1) % states[i].len();
+            line[i] = states[i][choice[i]];
+            if choice[i] != 0 {
+                break;
+            }
+            i += 1;
+        }
+    }
+}
+
+/// The demands on the reported lines and on what is kept.
+fn check(run: &Run, history: &History) {
+    let n = run.count();
+    let states: Vec<Vec<State>> = (0..n).map(|i| history.states(i)).collect();
+    let messages = history.received();
+
+    for i in 0..n {
+        let kept: Vec<u16> = states[i]
+            .iter()
+            .filter(|s| s.kept)
+            .map(|s| s.index)
+            .collect();
+        assert_eq!(kept, common::kept(run, i), "kept by pairs and by state");
+        assert!(kept.len() <= n, "at most n are kept");
+        assert_eq!(states[i].last().unwrap().index, run.own_entry(i));
+    }
+    common::assert_sound(run);
+
+    // The latest index of each process in any consistent line in which the
+    // failed processes are at stored checkpoints.
+    let mut latest = vec![vec![0; n]; 1 << n];
+    for_every_line(&states, |line| {
+        if !consistent(line, &messages) {
+            return;
+        }
+        for failed in 1..1 << n {
+            if (0..n).any(|i| failed >> i & 1 == 1 && line[i].live) {
+                continue;
+            }
+            for i in 0..n {
+                latest[failed][i] = line[i].index.max(latest[failed][i]);
+            }
+        }
+    });
+
+    for failed in 1..1 << n {
+        let reported = common::line(run, failed as u32);
+        let line: Vec<State> = (0..n)
+            .map(|i| {
+                *states[i]
+                    .iter()
+                    .find(|state| state.index == reported[i])
+                    .unwrap()
+            })
+            .collect();
+        assert!(
+            consistent(&line, &messages),
+            "the reported line is consistent"
+        );
+        for i in 0..n {
+            let has_failed = failed >> i & 1 == 1;
+            assert!(line[i].kept || line[i].live && !has_failed);
+        }
+        assert_eq!(
+            reported, latest[failed],
+            "no consistent line is later anywhere"
+        );
+    }
+}
+
+/// How often each kind of event comes, relative to the others: checkpoint,
+/// send, deliver, lose, recover.
+const WEIGHTS: [[usize; 5]; 5] = [
+    [3, 6, 6, 1, 1],
+    [1, 8, 8, 0, 1],
+    [6, 6, 6, 1, 0],
+    [2, 6, 6, 1, 4],
+    [4, 4, 8, 0, 2],
+];
+
+fn draw_kind(random: &mut Random, weights: &[usize; 5]) -> usize {
+    let mut drawn = random.below(weights.iter().sum());
+    for (kind, weight) in weights.iter().enumerate() {
+        if drawn < *weight {
+            return kind;
+        }
+        drawn -= weight;
+    }
+    unreachable!()
+}
+
+/// One call, drawn at random (some are refused), and its place in the history.
+fn step(run: &mut Run, history: &mut History, random: &mut Random, weights: &[usize; 5]) {
+    let n = run.count();
+    let (p, q) = (random.below(n), random.below(n));
+    let numbers = history.receivers.len();
+    // Mostly a late number, as it is more likely under way.
+    let number = numbers.saturating_sub(random.below(5)) as u32;
+    let mut deletions = [0; DELETIONS];
+    let mut line = [0; LINE];
+    match draw_kind(random, weights) {
+        0 => {
+            let answer = run.checkpoint(p, &mut deletions).unwrap();
+            assert_eq!(history.add_checkpoint(p), answer.index);
+            history.delete(&deletions[..2 * answer.deletions]);
+        }
+        1 => {
+            if let Ok(number) = run.send(p, q) {
+                assert_eq!(history.add_send(p, q), number);
+            }
+        }
+        2 => {
+            if let Ok(answer) = run.deliver(number, &mut deletions) {
+                history.add_delivery(number, answer.forced);
+                history.delete(&deletions[..2 * answer.deletions]);
+            }
+        }
+        3 => {
+            // "Lose, line and every refused call change nothing."
+            let _ = run.lose(number);
+        }
+        _ => {
+            let failed = 1 + random.below((1 << n) - 1) as u32;
+            let reported = common::line(run, failed);
+            let answer = run.recover(failed, &mut deletions, &mut line).unwrap();
+            assert_eq!(
+                line[..n],
+                reported,
+                "recover writes the line that line reports"
+            );
+            history.delete(&deletions[..2 * answer.deletions]);
+            assert_eq!(history.recover(&line[..n]), answer.rolled_back);
+        }
+    }
+}
+
+fn brute_force(seed: u64, n: usize, every_step: bool) {
+    let mut random = Random(seed);
+    let weights = WEIGHTS[random.below(WEIGHTS.len())];
+    let events = 10 + random.below(16);
+    let mut run = Run::start(n).unwrap();
+    let mut history = History::start(n);
+    for _ in 0..events {
+        step(&mut run, &mut history, &mut random, &weights);
+        if every_step {
+            check(&run, &history);
+        }
+    }
+    check(&run, &history);
+}
+
+#[test]
+fn two_processes() {
+    for seed in 0..4000 {
+        brute_force(seed, 2, true);
+    }
+}
+
+#[test]
+fn three_processes() {
+    for seed in 0..4000 {
+        brute_force(seed, 3, true);
+    }
+}
+
+#[test]
+fn four_processes() {
+    for seed in 0..6000 {
+        brute_force(seed, 4, seed % 4 == 0);
+    }
+}

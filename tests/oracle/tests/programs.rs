@@ -1,0 +1,221 @@
+//! The two programs as they are run.
+
+use std::io::{Read, Write};
+use std::process::{Command, Output, Stdio};
+use std::thread;
+
+fn generate(arguments: &[&str]) -> Vec<u8> {
+    let output = Command::new(env!("CARGO_BIN_EXE_generate"))
+        .args(arguments)
+        .output()
+        .unwrap();
+    assert!(output.status.success());
+    output.stdout
+}
+
+fn oracle(trace: &[u8]) -> Output {
+    let mut program = Command::new(env!("CARGO_BIN_EXE_oracle"))
+        .stdin(Stdio::piped())
+        .stdout(Stdio::piped())
+        .stderr(Stdio::piped())
+        .spawn()
+        .unwrap();
+    let mut input = program.stdin.take().unwrap();
+    thread::scope(|scope| {
+        scope.spawn(move || {
+            // A bad first byte ends the program before all is read.
+            let _ = input.write_all(trace);
+        });
+        program.wait_with_output().unwrap()
+    })
+}
+
+fn numbers(trace: &[u8]) -> Vec<u8> {
+    let output = oracle(trace);
+    assert!(output.status.success());
+    assert!(output.stderr.is_empty());
+    let listing = String::from_utf8(output.stdout).unwrap();
+    listing
+        .lines()
+        .map(|line| line.split(' ').nth(1).unwrap().parse().unwrap())
+        .collect()
+}
+
+fn count(numbers: &[u8], wanted: u8) -> usize {
+    numbers.iter().filter(|number| **number == wanted).count()
+}
+
+#[test]
+fn the_program_prints_the_cases() {
+    let output = Command::new(env!("CARGO_BIN_EXE_oracle"))
+        .arg("--cases")
+        .output()
+        .unwrap();
+    assert!(output.status.success());
+    assert_eq!(
+        String::from_utf8(output.stdout).unwrap(),
+        oracle::cases::text()
+    );
+}
+
+#[test]
+fn the_program_and_the_function_agree() {
+    for seed in 0..50 {
+        let trace = generate(&[&seed.to_string(), "--mix", "damaged"]);
+        let mut expected = Vec::new();
+        oracle::replay::replay(&trace[..], &mut expected).unwrap();
+        assert_eq!(oracle(&trace).stdout, expected);
+    }
+}
+
+#[test]
+fn no_input_at_all() {
+    assert_eq!(oracle(&[]).stdout, b"0 12\n");
+}
+
+#[test]
+fn a_reader_that_goes_away_ends_it_quietly() {
+    let mut program = Command::new(env!("CARGO_BIN_EXE_oracle"))
+        .stdin(Stdio::piped())
+        .stdout(Stdio::piped())
+        .stderr(Stdio::piped())
+        .spawn()
+        .unwrap();
+    drop(program.stdout.take());
+    let mut input = program.stdin.take().unwrap();
+    let mut trace = vec![1];
+    trace.extend(vec![0; 4_000_000]);
+    let _ = input.write_all(&trace);
+    drop(input);
+    let mut message = String::new();
+    program
+        .stderr
+        .take()
+        .unwrap()
+        .read_to_string(&mut message)
+        .unwrap();
+    assert!(!program.wait().unwrap().success());
+    assert_eq!(message, "");
+}
+
+#[test]
+fn the_same_seed_gives_the_same_trace() {
+    for seed in ["0", "1", "18446744073709551615"] {
+        assert_eq!(generate(&[seed]), generate(&[seed]));
+    }
+    assert_ne!(
+        generate(&["1", "--mix", "valid"]),
+        generate(&["2", "--mix", "valid"])
+    );
+}
+
+#[test]
+fn valid_traces_are_accepted() {
+    for n in 1..=16 {
+        for seed in 0..6 {
+            let (seed, n) = (seed.to_string(), n.to_string());
+            let trace = generate(&[&seed, "--n", &n, "--records", "500", "--mix", "valid"]);
+            assert_eq!(trace.len(), 1 + 4 * 500);
+            let numbers = numbers(&trace);
+            assert_eq!(numbers.len(), 500);
+            assert_eq!(count(&numbers, 0), 500);
+        }
+    }
+}
+
+#[test]
+fn a_long_valid_trace_is_accepted() {
+    for n in ["1", "2", "16"] {
+        let trace = generate(&["7", "--n", n, "--records", "1200000", "--mix", "valid"]);
+        let numbers = numbers(&trace);
+        assert_eq!(count(&numbers, 0), 1_200_000);
+    }
+}
+
+#[test]
+fn mixed_traces_are_refused_in_many_ways() {
+    let mut all = Vec::new();
+    for seed in 0..400 {
+        all.extend(numbers(&generate(&[&seed.to_string(), "--mix", "mixed"])));
+    }
+    for number in [0, 4, 5, 6, 7, 8, 9] {
+        assert!(count(&all, number) > 20, "{number}");
+    }
+    for number in [1, 2, 3, 12, 13, 14] {
+        assert_eq!(count(&all, number), 0, "{number}");
+    }
+}
+
+#[test]
+fn damaged_traces_are_damaged_in_many_ways() {
+    let mut all = Vec::new();
+    let mut empty = 0;
+    for seed in 0..400 {
+        let trace = generate(&[&seed.to_string(), "--mix", "damaged"]);
+        empty += (trace.len() == 1) as usize;
+        all.extend(numbers(&trace));
+    }
+    assert!(empty > 5);
+    for number in [0, 1, 4, 5, 6, 7, 8, 12, 13, 14] {
+        assert!(count(&all, number) > 5, "{number}");
+    }
+}
+
+/// The limits: what is refused, and the few that must be accepted there.
+#[test]
+fn limits_are_reached() {
+    for n in ["1", "2", "3", "16"] {
+        for seed in ["1", "2", "3"] {
+            let trace = generate(&[seed, "--n", n, "--mix", "limits"]);
+            let listing = String::from_utf8(oracle(&trace).stdout).unwrap();
+            let has = |end: &str| listing.lines().any(|line| line.contains(end));
+            assert!(has(" 0 65534 "));
+            let refused: Vec<usize> = (1..)
+                .zip(listing.lines())
+                .filter(|(_, line)| line.ends_with(" 11"))
+                .map(|(record, _)| record)
+                .collect();
+            let kind = |record: usize| trace[4 * record - 3] >> 5;
+            assert!(refused.iter().any(|record| kind(*record) == 0));
+            assert!(n == "1" || refused.iter().any(|record| kind(*record) == 2));
+        }
+    }
+}
+
+#[test]
+fn message_numbers_are_used_up() {
+    for n in ["2", "16"] {
+        let trace = generate(&["5", "--n", n, "--records", "2400000", "--mix", "limits"]);
+        let numbers = numbers(&trace);
+        assert!(count(&numbers, 9) > 0);
+        assert!(count(&numbers, 10) > 0);
+    }
+}
+
+#[test]
+fn wrong_arguments() {
+    let wrong: [&[&str]; 8] = [
+        &[],
+        &["x"],
+        &["1", "--n"],
+        &["1", "--n", "0"],
+        &["1", "--n", "17"],
+        &["1", "--records", "1000000001"],
+        &["1", "--mix", "none"],
+        &["1", "2", "3"],
+    ];
+    for arguments in wrong {
+        let status = Command::new(env!("CARGO_BIN_EXE_generate"))
+            .args(arguments)
+            .stderr(Stdio::null())
+            .status()
+            .unwrap();
+        assert_eq!(status.code(), Some(2), "{arguments:?}");
+    }
+    let status = Command::new(env!("CARGO_BIN_EXE_oracle"))
+        .arg("--what")
+        .stderr(Stdio::null())
+        .status()
+        .unwrap();
+    assert_eq!(status.code(), Some(2));
+}

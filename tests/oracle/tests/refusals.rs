@@ -1,0 +1,193 @@
+//! Which refusal, in which order, and that a refused call changes nothing.
+
+mod common;
+
+use common::{Random, DELETIONS, LINE};
+use oracle::run::Run;
+
+fn run_of(count: usize) -> Run {
+    Run::start(count).unwrap()
+}
+
+#[test]
+fn the_list_comes_before_everything() {
+    let mut run = run_of(2);
+    assert_eq!(run.checkpoint(9, &mut [0; 7]), Err(3));
+    assert_eq!(run.checkpoint(9, &mut [0; 8]), Err(4));
+    assert_eq!(run.deliver(1, &mut [0; 7]), Err(3));
+    assert_eq!(run.deliver(1, &mut [0; 8]), Err(8));
+    assert_eq!(run.recover(0, &mut [0; 7], &mut [0; 2]), Err(3));
+    assert_eq!(run.recover(0, &mut [0; 8], &mut [0; 1]), Err(3));
+    assert_eq!(run.recover(0, &mut [0; 8], &mut [0; 2]), Err(6));
+    assert_eq!(run.recover(4, &mut [0; 8], &mut [0; 1]), Err(3));
+    assert_eq!(run.recover(4, &mut [0; 8], &mut [0; 2]), Err(7));
+    assert_eq!(run.line(0, &mut [0; 1]), Err(3));
+    assert_eq!(run.line(0, &mut [0; 2]), Err(6));
+    assert_eq!(run.line(4, &mut [0; 1]), Err(3));
+    assert_eq!(run.line(4, &mut [0; 2]), Err(7));
+    assert_eq!(run, run_of(2));
+}
+
+#[test]
+fn a_process_not_in_the_run() {
+    let mut run = run_of(3);
+    for process in [3, 4, 15, 16, 17, 1 << 16, usize::MAX] {
+        assert_eq!(run.checkpoint(process, &mut [0; DELETIONS]), Err(4));
+        assert_eq!(run.send(process, 0), Err(4));
+        assert_eq!(run.send(0, process), Err(4));
+        // 4 before 5.
+        assert_eq!(run.send(process, process), Err(4));
+    }
+    assert_eq!(run.send(2, 2), Err(5));
+    assert_eq!(run, run_of(3));
+}
+
+#[test]
+fn the_failed_set() {
+    let run = run_of(3);
+    let judge = |failed| run.line(failed, &mut [0; 3]);
+    assert_eq!(judge(0), Err(6));
+    for failed in 1..8 {
+        assert_eq!(judge(failed), Ok(()));
+    }
+    // Only bits at n and above: 7, not 6.
+    for failed in [
+        8,
+        9,
+        1 << 15,
+        1 << 16,
+        1 << 24,
+        0x1FF_0000,
+        0x1FF_FFFF,
+        u32::MAX,
+    ] {
+        assert_eq!(judge(failed), Err(7));
+    }
+    let run = run_of(16);
+    assert_eq!(run.line(0xFFFF, &mut [0; LINE]), Ok(()));
+    assert_eq!(run.line(0x1_0000, &mut [0; LINE]), Err(7));
+    assert_eq!(run.line(0x1_0001, &mut [0; LINE]), Err(7));
+}
+
+#[test]
+fn a_message_not_under_way() {
+    let mut run = run_of(2);
+    run.send(0, 1).unwrap();
+    for number in [0, 2, 65_537, 1 << 24 | 1, 1_000_001, u32::MAX] {
+        assert_eq!(run.deliver(number, &mut [0; 8]), Err(8));
+        assert_eq!(run.lose(number), Err(8));
+    }
+    assert_eq!(run.lose(1), Ok(()));
+    assert_eq!(run.lose(1), Err(8));
+    assert_eq!(run.deliver(1, &mut [0; 8]), Err(8));
+}
+
+#[test]
+fn a_send_is_judged_in_order() {
+    let mut run = run_of(2);
+    for _ in 0..64 {
+        run.send(0, 1).unwrap();
+    }
+    assert_eq!(run.send(0, 1), Err(9));
+    assert_eq!(run.send(1, 1), Err(5));
+    assert_eq!(run.send(0, 2), Err(4));
+    assert_eq!(run.send(2, 0), Err(4));
+
+    // All numbers used, 64 of them under way.
+    for number in 65..=1_000_000 {
+        run.lose(number - 64).unwrap();
+        assert_eq!(run.send(0, 1), Ok(number));
+    }
+    assert_eq!(run.send(0, 1), Err(9));
+    assert_eq!(run.lose(1_000_000), Ok(()));
+    assert_eq!(run.send(0, 1), Err(10));
+    assert_eq!(run.send(1, 1), Err(5));
+    assert_eq!(run.send(1, 2), Err(4));
+    assert_eq!(run.last_number(), 1_000_000);
+    common::assert_sound(&run);
+    // The number is used up for good, over recoveries too.
+    run.recover(3, &mut [0; 8], &mut [0; 2]).unwrap();
+    assert_eq!(run.send(0, 1), Err(10));
+}
+
+#[test]
+fn intervals_used_up_comes_last() {
+    let mut run = run_of(1);
+    for _ in 1..65_535 {
+        run.checkpoint(0, &mut [0; 2]).unwrap();
+    }
+    assert_eq!(run.checkpoint(0, &mut [0; 2]), Err(11));
+    assert_eq!(run.checkpoint(1, &mut [0; 2]), Err(4));
+    assert_eq!(run.checkpoint(0, &mut [0; 1]), Err(3));
+}
+
+/// Makes one call, mostly one that is refused. Gives the refusal, if any.
+fn any_call(
+    run: &mut Run,
+    random: &mut Random,
+    deletions: &mut [u16],
+    line: &mut [u16],
+) -> Option<u8> {
+    let n = run.count();
+    let p = random.below(n + 2);
+    let q = random.below(n + 2);
+    let number = random.below(run.last_number() as usize + 3) as u32;
+    let failed = random.below(1 << (n + 1)) as u32;
+    // Now and then a list that is too short.
+    let short = random.below(8) == 0;
+    let most_deletions = if short {
+        2 * n * n - 1
+    } else {
+        deletions.len()
+    };
+    let most_line = if random.below(8) == 0 {
+        n - 1
+    } else {
+        line.len()
+    };
+    let deletions = &mut deletions[..most_deletions];
+    let line = &mut line[..most_line];
+    match random.below(10) {
+        0 | 1 => run.checkpoint(p, deletions).err(),
+        2..=4 => run.send(p, q).err(),
+        5..=7 => run.deliver(number, deletions).err(),
+        8 if random.below(2) == 0 => run.lose(number).err(),
+        8 => run.line(failed, line).err(),
+        _ if random.below(4) == 0 => run.recover(failed, deletions, line).err(),
+        _ => run.recover(0, deletions, line).err(),
+    }
+}
+
+#[test]
+fn a_refused_call_changes_nothing_and_an_accepted_one_leaves_the_rest_of_the_lists() {
+    let mut met = [0; 12];
+    for seed in 0..2000 {
+        let mut random = Random(seed);
+        let n = 1 + random.below(6);
+        let mut run = run_of(n);
+        for _ in 0..60 {
+            let before = run.clone();
+            let mut deletions: Vec<u16> = (0..DELETIONS).map(|_| random.next() as u16).collect();
+            let mut line: Vec<u16> = (0..LINE).map(|_| random.next() as u16).collect();
+            let (old_deletions, old_line) = (deletions.clone(), line.clone());
+            match any_call(&mut run, &mut random, &mut deletions, &mut line) {
+                Some(number) => {
+                    assert_eq!(run, before);
+                    assert_eq!(deletions, old_deletions);
+                    assert_eq!(line, old_line);
+                    met[number as usize] += 1;
+                }
+                None => {
+                    assert_eq!(deletions[2 * n * n..], old_deletions[2 * n * n..]);
+                    assert_eq!(line[n..], old_line[n..]);
+                    common::assert_sound(&run);
+                    met[0] += 1;
+                }
+            }
+        }
+    }
+    for number in [0, 3, 4, 5, 6, 7, 8] {
+        assert!(met[number] > 100, "{number} was met {} times", met[number]);
+    }
+    assert_eq!(met[2], 0);
+}
