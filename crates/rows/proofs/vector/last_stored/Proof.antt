@@ -1,0 +1,20 @@
+-- `rows::vector::last_stored` meets its contract: where the own entry is 0, so is the difference.
+-- Assumes nothing.
+use Prim.Native.Nat.{ℕ}
+use mathlib.Core.Path.{ap}
+use native.Mathlib.Omega.{arith}
+use borrow.Author.Needs.{needs}
+use Rattle.rows.proofs.vector.last_stored.Statement.{statement}
+use Rattle.rows.proofs.vector.last_stored.Tie as tie
+
+sub-t4 : tie.Need-sub-t4
+sub-t4 c = search needs
+
+returns : tie.Need-returns
+returns c = ap (λ (n : ℕ). record { 0 = n }) (omega arith)
+
+returns-2 : tie.Need-returns-2
+returns-2 c = search needs
+
+pub last-stored-spec : {M : Type 1} → statement M
+last-stored-spec = tie.close (tie.spec sub-t4 returns returns-2)

@@ -1,0 +1,76 @@
+-- `rows::vector::take_in` meets its contract. The loop's invariant: the entries passed so far are taken in, the others are as they were.
+-- Assumes nothing.
+use Prim.Native.Nat.{_≤_, _-_}
+use mathlib.Core.Path.{_≡_, _∙_}
+use native.Mathlib.Omega.{arith}
+use borrow.Author.Needs.{needs}
+use Rattle.laws.specs.Loops.{setBelow, below-none, below-all, turn-set}
+use Rattle.model.specs.Steps.{takenEntry, takenVector}
+use Rattle.rows.proofs.vector.take_in.Statement.{statement}
+use Rattle.rows.proofs.vector.take_in.Tie as tie
+
+abbrev Inv-loop : tie.InvT-loop
+Inv-loop own carried taken₀ f₀ taken f = (f ≤ 16) × (taken ≡ setBelow f (takenEntry own carried) taken₀)
+
+abbrev μ-loop : tie.MeasureT-loop
+μ-loop own carried taken₀ f₀ taken f = 16 - f
+
+loop-holds : tie.Need-loop-holds Inv-loop μ-loop
+loop-holds c = (search needs, below-none _ _)
+
+mul-x : tie.Need-mul-x Inv-loop μ-loop
+mul-x c = search needs
+
+array-copy-out-x : tie.Need-array-copy-out-x Inv-loop μ-loop
+array-copy-out-x c = search needs
+
+mul-y : tie.Need-mul-y Inv-loop μ-loop
+mul-y c = search needs
+
+array-copy-out-y : tie.Need-array-copy-out-y Inv-loop μ-loop
+array-copy-out-y c = search needs
+
+greater-requires : tie.Need-greater-requires Inv-loop μ-loop
+greater-requires c κs = search needs
+
+mul-taken : tie.Need-mul-taken Inv-loop μ-loop
+mul-taken c = search needs
+
+array-set-from-taken : tie.Need-array-set-from-taken Inv-loop μ-loop
+array-set-from-taken c = search needs
+
+add-f : tie.Need-add-f Inv-loop μ-loop
+add-f c = search needs
+
+loop-less : tie.Need-loop-less Inv-loop μ-loop
+loop-less c = search needs
+
+loop-again : tie.Need-loop-again Inv-loop μ-loop
+unfolding takenEntry
+loop-again c =
+    let b = c .before .before .before .before in
+    let a = b .before .args in
+    (search needs, turn-set (takenEntry (a .t1) (a .t2)) _ _ _ (b .loop .inv .1) _ (c .greater .ensures))
+
+returns : tie.Need-returns Inv-loop μ-loop
+unfolding takenVector
+returns c = let e : c .before .loop .f ≡ 16 = omega arith in rw e at (c .before .loop .inv .1) ∙ below-all _ _ 16 (search needs)
+
+pub take-in-spec : {M : Type 1} → statement M
+take-in-spec =
+    tie.close
+    (tie.spec
+    Inv-loop
+    μ-loop
+    loop-holds
+    mul-x
+    array-copy-out-x
+    mul-y
+    array-copy-out-y
+    greater-requires
+    mul-taken
+    array-set-from-taken
+    add-f
+    loop-less
+    loop-again
+    returns)

@@ -1,0 +1,143 @@
+-- Recover on the rows of one process: what a rollback to the line's member leaves of its vector, pins and kept checkpoints, where the own entries after
+-- the recovery are given as a row. Below the definitions stands that they say what Steps says of the whole state.
+-- Assumes nothing.
+use mathlib.Core.Path.{_≡_, refl, ap, sym, _∙_}
+use mathlib.Core.Bool.{Bool, true, false, not, _&&_}
+use mathlib.Core.List.{List, [], _∷_}
+use Prim.Native.Nat.{ℕ, _+_, _-_, _<_, _≤_}
+use native.Mathlib.Nat.{min-le-left}
+use native.Mathlib.Omega.{arith}
+use borrow.Author.Tests.{eq-eqb, eqb-true, ltb-true, ltb-false, le-leb, lt-leb, le-ltb}
+use lib.Dec.{eqb, leb, ltb}
+use lib.ListN.{length, getD, take, length-take}
+use Rattle.laws.specs.Choice.{pick, by-bool}
+use Rattle.laws.specs.Elements.{every-append, every-single}
+use Rattle.laws.specs.Lists.{select, lastOf, table}
+use Rattle.laws.specs.Prefixes.{select-yes, select-no, every-select, every-last}
+use Rattle.laws.specs.Select.{select-length, lastOf-snoc}
+use Rattle.laws.specs.Tables.{table-same}
+use Rattle.laws.specs.Tests.{every}
+use Rattle.model.specs.declared.Interval.{Interval}
+use Rattle.model.specs.declared.CheckpointIndex.{CheckpointIndex}
+use Rattle.model.specs.declared.Pin.{Pin}
+use Rattle.model.specs.declared.Pin.the-variants.{Nothing, At}
+use Rattle.model.specs.declared.Checkpoint.{Checkpoint}
+use Rattle.model.specs.declared.Run.{Run}
+use Rattle.model.specs.Words.{places, entry, below, liveIndex, lastStored, named, Process, process, live, own}
+use Rattle.model.specs.Steps.{listed, advanced, allowed, states, latestAllowed, latestPin, member, rolledBack, vectorAfter, notLost, ownAfter, movedPin, pinAfter, pinsAfter, recovered, deletedAt}
+
+-- a member with this index is stored, and not the live state
+unfoldable pub isStored : CheckpointIndex → Interval → Bool
+isStored a own = ltb (a .0) (liveIndex own .0)
+
+-- "takes that vector with 1 added to its own entry", where it rolls back
+unfoldable pub vectorThen : Bool → ℕ → List Interval → List Interval → List Interval
+vectorThen rolled p stored current = pick rolled (advanced p stored) current
+
+-- the checkpoints that are not later than one with this index
+unfoldable pub notLater : CheckpointIndex → List Checkpoint → List Checkpoint
+notLater last l = select (λ c. leb (c .index .0) (last .0)) l
+
+pub not-later-most : (last : CheckpointIndex) (n : ℕ) (l : List Checkpoint) → n ≤ 16 → length (notLater last (take n l)) ≤ 16
+unfolding notLater
+not-later-most last n l h = omega (arith, select-length (λ c. leb (c .index .0) (last .0)) (take n l), length-take n l, min-le-left n (length l))
+
+-- "names the latest checkpoint with entry f below own(f)" among these, "none if there is none"
+unfoldable pub movedTo : Interval → ℕ → List Checkpoint → Pin
+movedTo own f l = latestPin (lastOf (select (λ c. below (entry (c .vector) f) own) l))
+
+-- the pin for f
+unfoldable pub pinThen : Bool → List Interval → List Interval → List Checkpoint → List Pin → ℕ → Pin
+pinThen rolled v owns l pins f = pick (eqb (entry v f .0) (entry owns f .0)) (pick rolled (movedTo (entry owns f) f l) (getD pins f Nothing)) Nothing
+
+unfoldable pub pinsThen : Bool → List Interval → List Interval → List Checkpoint → List Pin → List Pin
+pinsThen rolled v owns l pins = table places (pinThen rolled v owns l pins)
+
+-- neither lost nor without a pin
+unfoldable pub stays : CheckpointIndex → List Pin → Checkpoint → Bool
+stays last pins c = leb (c .index .0) (last .0) && named pins c
+
+module _ (s : Run) (F p : ℕ) where
+  pub stored-in-state : isStored (member s F p .index) (own s p) ≡ rolledBack s F p
+  unfolding isStored rolledBack
+  stored-in-state = refl
+
+  pub vector-in-state : vectorThen (rolledBack s F p) p (member s F p .vector) (process s p .vector) ≡ vectorAfter s F p
+  unfolding vectorThen vectorAfter
+  vector-in-state = refl
+
+  pub not-later-in-state : notLater (member s F p .index) (process s p .kept) ≡ notLost s F p
+  unfolding notLater notLost
+  not-later-in-state = refl
+
+  -- a row of the own entries after the recovery: own(f) at every place f
+  pub pins-in-state : (owns : List Interval) → ((f : ℕ) → f < 16 → entry owns f ≡ ownAfter s F f)
+      → pinsThen (rolledBack s F p) (vectorAfter s F p) owns (notLost s F p) (process s p .pins) ≡ pinsAfter s F p
+  unfolding pinsThen pinThen movedTo pinsAfter pinAfter movedPin
+  pins-in-state owns h = table-same 16 _ _ (λ f lt. rw (h f lt))
+
+  pub kept-in-state : select (named (pinsAfter s F p)) (notLost s F p) ≡ recovered s F p .kept
+  unfolding recovered
+  kept-in-state = refl
+
+  pub deleted-in-state : listed p (select (λ c. not (stays (member s F p .index) (pinsAfter s F p) c)) (process s p .kept)) ≡ deletedAt s F p
+  unfolding stays deletedAt
+  deleted-in-state = refl
+
+-- A stored checkpoint is at most the last stored one.
+pub stored-up-to-last : (a : CheckpointIndex) (own : Interval) → 0 < own .0 → leb (a .0) (lastStored own .0) ≡ isStored a own
+unfolding isStored
+stored-up-to-last a own h = by-bool (ltb (a .0) (own .0))
+    (λ e. le-leb (a .0) (own .0 - 1) (omega (arith, ltb-true (a .0) (own .0) e)) ∙ sym e)
+    (λ e. lt-leb (a .0) (own .0 - 1) (omega (arith, ltb-false (a .0) (own .0) e)) ∙ sym e)
+
+-- Nothing is stored where the own entry is 0.
+pub stored-none : (a : CheckpointIndex) (own : Interval) → own .0 ≡ 0 → false ≡ isStored a own
+unfolding isStored
+stored-none a own h = sym (le-ltb (a .0) (own .0) (omega arith))
+
+-- A search through a row for the pin: one entry more, or it changes nothing.
+module _ (own : Interval) (f : ℕ) (row : List Checkpoint) (k : ℕ) (d : Checkpoint) (h : k < length row) where
+  pub moved-yes : below (entry (getD row k d .vector) f) own ≡ true → At (getD row k d .index) ≡ movedTo own f (take (k + 1) row)
+  unfolding movedTo latestPin
+  moved-yes e = rw (select-yes (λ c. below (entry (c .vector) f) own) row k d h e, lastOf-snoc)
+
+  pub moved-no : below (entry (getD row k d .vector) f) own ≡ false → movedTo own f (take k row) ≡ movedTo own f (take (k + 1) row)
+  unfolding movedTo
+  moved-no e = rw (select-no (λ c. below (entry (c .vector) f) own) row k d h e)
+
+pub moved-none : (own : Interval) (f : ℕ) → Nothing ≡ movedTo own f []
+unfolding movedTo latestPin select lastOf
+moved-none own f = refl
+
+-- "each one's own entry equal to its index", and the live state's too
+abbrev pub ownIsIndex : ℕ → Checkpoint → Bool
+ownIsIndex p c = eqb (entry (c .vector) p .0) (c .index .0)
+
+live-own : (p : ℕ) (P : Process) → ownIsIndex p (live p P) ≡ true
+unfolding live
+live-own p P = eq-eqb (entry (P .vector) p .0) (entry (P .vector) p .0) refl
+
+-- What a caller owes to these functions, on a sound state.
+module _ (s : Run) (F p : ℕ) where
+  -- a process whose own entry is 0, one at the count or above, does not roll back, and its own entry stays 0
+  pub unused-vector : own s p .0 ≡ 0 → vectorAfter s F p ≡ process s p .vector
+  unfolding vectorAfter rolledBack
+  unused-vector h = rw (le-ltb (member s F p .index .0) (own s p .0) (omega arith))
+
+  pub unused-own : own s p .0 ≡ 0 → ownAfter s F p ≡ own s p
+  unfolding ownAfter own
+  unused-own h = ap (λ (v : List Interval). entry v p) (unused-vector h)
+
+  -- a member's own entry is its index, where that holds of the kept ones
+  pub member-own : every (ownIsIndex p) (process s p .kept) ≡ true → entry (member s F p .vector) p .0 ≡ member s F p .index .0
+  unfolding member latestAllowed states
+  member-own h =
+      let now : ownIsIndex p (live p (process s p)) ≡ true = live-own p (process s p) in
+      let all = every-append (ownIsIndex p) (process s p .kept) (live p (process s p) ∷ []) h (every-single (ownIsIndex p) (live p (process s p)) now) in
+      eqb-true _ _ (every-last (ownIsIndex p) _ (live p (process s p)) (every-select (ownIsIndex p) (allowed s F) _ all) now)
+
+  -- so where a process rolls back, there is room for 1 more
+  pub member-room : every (ownIsIndex p) (process s p .kept) ≡ true → own s p .0 ≤ 65535 → rolledBack s F p ≡ true → entry (member s F p .vector) p .0 < 65535
+  unfolding rolledBack
+  member-room h b r = omega (arith, member-own h, ltb-true (member s F p .index .0) (own s p .0) r)

@@ -1,0 +1,131 @@
+-- A checkpoint is stored behind the kept ones after the own pin has moved to it: it stays, nothing else changes by its being there, and one of the 16
+-- places of the row is free for it. So a function may collect the kept ones first and store the new one then.
+-- Assumes nothing.
+use mathlib.Core.Path.{_≡_, refl, ap, _∙_}
+use mathlib.Core.Bool.{true, not}
+use mathlib.Core.List.{List, [], _∷_, _++_, append-nil, map}
+use Prim.Native.Nat.{ℕ, zero, suc, _<_, _≤_}
+use native.Mathlib.Omega.{arith}
+use borrow.Author.Tests.{eq-eqb, ne-eqb, eqb-true, leb-true}
+use lib.Dec.{eqb, leb}
+use lib.ListN.{length, getD, set}
+use lib.Seq.{getD-set-same}
+use Rattle.laws.specs.Choice.{pick-same, by-bool}
+use Rattle.laws.specs.Lists.{select, lastOf, orElse}
+use Rattle.laws.specs.Prefixes.{select-none, select-or}
+use Rattle.laws.specs.Rows.{some-at}
+use Rattle.laws.specs.Select.{select-append}
+use Rattle.laws.specs.Tables.{getD-table, length-table}
+use Rattle.laws.specs.Tests.{some-of}
+use Rattle.laws.specs.Truth.{and-left, and-right}
+use Rattle.model.specs.declared.Interval.{Interval}
+use Rattle.model.specs.declared.CheckpointIndex.{CheckpointIndex}
+use Rattle.model.specs.declared.Pin.{Pin}
+use Rattle.model.specs.declared.Pin.the-variants.{Nothing, At}
+use Rattle.model.specs.declared.Checkpoint.{Checkpoint}
+use Rattle.model.specs.Words.{entry, below, names, named}
+use Rattle.model.specs.Steps.{takenPin, takenPins}
+use Rattle.model.specs.Sound.{ascending}
+
+-- the kept ones that a pin names
+abbrev pub namedBy : Pin → List Checkpoint → List Checkpoint
+namedBy pin l = select (λ c. names pin (c .index)) l
+
+abbrev pub indexes : List Checkpoint → List ℕ
+indexes l = map (λ c. c .index .0) l
+
+-- Where indexes ascend from above a pin's, the pin names none.
+pub ascending-none : (low : ℕ) (a : CheckpointIndex) (l : List Checkpoint) → ascending low (indexes l) ≡ true → a .0 < low → namedBy (At a) l ≡ []
+unfolding select ascending
+ascending-none low a [] h b = refl
+ascending-none low a (c ∷ l) h b =
+    let up = leb-true low (c .index .0) (and-left _ _ h) in
+    let other : a .0 ≡ c .index .0 → ⊥ = λ e. omega arith in
+    rw (ne-eqb (a .0) (c .index .0) other) (ascending-none (suc (c .index .0)) a l (and-right (leb low (c .index .0)) _ h) (omega arith))
+
+-- Where indexes ascend, a pin names at most one.
+pub ascending-one : (low : ℕ) (pin : Pin) (l : List Checkpoint) → ascending low (indexes l) ≡ true → length (namedBy pin l) ≤ 1
+unfolding select ascending
+ascending-one low pin [] h = omega arith
+ascending-one low Nothing (c ∷ l) h = ascending-one (suc (c .index .0)) Nothing l (and-right (leb low (c .index .0)) _ h)
+ascending-one low (At a) (c ∷ l) h = by-bool (eqb (a .0) (c .index .0))
+    (λ e.
+    let same = eqb-true (a .0) (c .index .0) e in
+    rw (e, ascending-none (suc (c .index .0)) a l (and-right (leb low (c .index .0)) _ h) (omega arith)) (omega arith))
+    (λ e. rw e (ascending-one (suc (c .index .0)) (At a) l (and-right (leb low (c .index .0)) _ h)))
+
+-- Where indexes ascend, the last is the greatest.
+pub ascending-last : (low : ℕ) (d : Checkpoint) (l : List Checkpoint) → ascending low (indexes l) ≡ true → d .index .0 < low
+    → d .index .0 ≤ orElse (lastOf l) d .index .0
+unfolding lastOf ascending
+ascending-last low d [] h b = omega arith
+ascending-last low d (c ∷ l) h b =
+    omega (
+      arith,
+      leb-true low (c .index .0) (and-left _ _ h),
+      ascending-last (suc (c .index .0)) c l (and-right (leb low (c .index .0)) _ h) (omega arith),
+    )
+
+-- So a pin above the last names none.
+pub ascending-above : (low : ℕ) (d : Checkpoint) (a : CheckpointIndex) (l : List Checkpoint) → ascending low (indexes l) ≡ true
+    → orElse (lastOf l) d .index .0 < a .0 → namedBy (At a) l ≡ []
+unfolding select lastOf ascending
+ascending-above low d a [] h b = refl
+ascending-above low d a (c ∷ l) h b =
+    let rest = and-right (leb low (c .index .0)) _ h in
+    let most = ascending-last (suc (c .index .0)) c l rest (omega arith) in
+    let other : a .0 ≡ c .index .0 → ⊥ = λ e. omega arith in
+    rw (ne-eqb (a .0) (c .index .0) other) (ascending-above (suc (c .index .0)) c a l rest b)
+
+-- Where each pin names at most one, no more are named than there are pins.
+module _ (l : List Checkpoint) (one : (pin : Pin) → length (namedBy pin l) ≤ 1) where
+  pub named-most : (pins : List Pin) → length (select (named pins) l) ≤ length pins
+  unfolding named some-of
+  named-most [] = omega (arith, ap length (select-none (λ c. some-of (λ q. names q (c .index)) []) l (λ c. refl)))
+  named-most (pin ∷ pins) =
+      omega (arith, select-or (λ c. names pin (c .index)) (λ c. some-of (λ q. names q (c .index)) pins) l, one pin, named-most pins)
+
+  -- and where one of them names none, there are fewer
+  pub named-fewer : (pins : List Pin) (i : ℕ) → i < length pins → namedBy (getD pins i Nothing) l ≡ [] → length (select (named pins) l) < length pins
+  unfolding named some-of
+  named-fewer [] i h e = absurd (omega arith)
+  named-fewer (pin ∷ pins) zero h e =
+      omega (arith, select-or (λ c. names pin (c .index)) (λ c. some-of (λ q. names q (c .index)) pins) l, ap length e, named-most pins)
+  named-fewer (pin ∷ pins) (suc i) h e =
+      omega (arith, select-or (λ c. names pin (c .index)) (λ c. some-of (λ q. names q (c .index)) pins) l, one pin, named-fewer pins i (omega arith) e)
+
+-- The own pin, at place i, names checkpoint c, which is put behind others.
+module _ (pins : List Pin) (i : ℕ) (c : Checkpoint) (h : i < length pins) (own-pin : getD pins i Nothing ≡ At (c .index)) where
+  pub own-named : named pins c ≡ true
+  unfolding named
+  own-named = some-at (λ pin. names pin (c .index)) pins i Nothing h (rw own-pin (eq-eqb (c .index .0) (c .index .0) refl))
+
+  -- it stays behind those that stay
+  pub stays-behind : (l : List Checkpoint) → select (named pins) (l ++ (c ∷ [])) ≡ select (named pins) l ++ (c ∷ [])
+  unfolding select
+  stays-behind l = rw (select-append, own-named)
+
+  -- it is not deleted
+  pub deleted-before : (l : List Checkpoint) → select (λ x. not (named pins x)) (l ++ (c ∷ [])) ≡ select (λ x. not (named pins x)) l
+  unfolding select
+  deleted-before l = rw (select-append, own-named, append-nil)
+
+  -- and there is room for it
+  pub room-behind : (low : ℕ) (d : Checkpoint) (l : List Checkpoint) → ascending low (indexes l) ≡ true → orElse (lastOf l) d .index .0 < c .index .0
+      → length (select (named pins) l) < length pins
+  room-behind low d l up last =
+      named-fewer l (λ pin. ascending-one low pin l up) pins i h (rw own-pin (ascending-above low d (c .index) l up last))
+
+-- The own pin after it was moved.
+pub moved-own : (pins : List Pin) (i : ℕ) (a : CheckpointIndex) → i < length pins → getD (set pins i (At a)) i Nothing ≡ At a
+moved-own pins i a h = getD-set-same pins i (At a) Nothing h
+
+-- Taking a carried vector in leaves the own pin.
+pub taken-own : (i : ℕ) (own carried : List Interval) (pins : List Pin) → i < 16 → getD (takenPins i own carried pins) i Nothing ≡ getD pins i Nothing
+unfolding takenPins takenPin
+taken-own i own carried pins h =
+    getD-table 16 (takenPin i own carried pins) i Nothing h ∙ pick-same (below (entry own i) (entry carried i)) (getD pins i Nothing)
+
+pub taken-length : (i : ℕ) (own carried : List Interval) (pins : List Pin) → length (takenPins i own carried pins) ≡ 16
+unfolding takenPins
+taken-length i own carried pins = length-table 16 (takenPin i own carried pins)

@@ -1,0 +1,120 @@
+// The line rule on the rows of one process: which of its states a failed set allows, and the latest of them.
+use model::Checkpoint;
+use model::Interval;
+ghost use mathlib.Core.Path.{_≡_};
+ghost use mathlib.Core.Bool.{not, _||_};
+ghost use mathlib.Core.List.{[], _∷_, _++_};
+ghost use Prim.Native.Nat.{_≤_};
+ghost use lib.Dec.{eqb};
+ghost use lib.ListN.{take};
+ghost use Rattle.laws.specs.Choice.{pick};
+ghost use Rattle.model.specs.Words.{below};
+ghost use Rattle.rows.specs.Line.{ownRow, allowedBy, latestBy, latestIs};
+
+// The latest state that a search found, and whether it found one. Where it did not, the state holds zero.
+pub struct Latest {
+    pub found: bool,
+    pub state: Checkpoint,
+}
+
+// The own entry of each process, of the rows of the vectors.
+pub fn own_entries(rows: [[Interval; 16]; 16]) -> [Interval; 16]
+    ensures { λ r. ⌜ r ≡ ownRow rows ⌝ }
+{
+    let zero = Interval(0);
+    let mut owns = [zero; 16];
+    for f in 0..16 {
+        let own = rows[f][f];
+        owns[f] = own;
+    }
+    owns
+}
+
+// A process whose bit is not set puts no limit on a state; one whose bit is set wants the state's entry for it below its own entry.
+fn passes(bit: u16, known: Interval, own: Interval) -> bool
+    ensures { λ r. ⌜ r ≡ (not (eqb bit 1) || below known own) ⌝ }
+{
+    if bit == 1 { known.0 < own.0 } else { true }
+}
+
+// A state with this vector is allowed: its entry for every failed process among the first n is below that one's own entry. Bit f of `failed` stands for
+// process f. A run has at most 16 processes.
+pub fn is_allowed(vector: [Interval; 16], owns: [Interval; 16], failed: u16, n: usize) -> bool
+    requires { ⌜ n ≤ 16 ⌝ }
+    ensures { λ r. ⌜ r ≡ allowedBy n owns failed vector ⌝ }
+{
+    let mut all = true;
+    let mut left = failed;
+    for f in 0..n {
+        let known = vector[f];
+        let own = owns[f];
+        let ok = passes(left % 2, known, own);
+        if !ok {
+            all = false;
+        }
+        left = left / 2;
+    }
+    all
+}
+
+// The latest allowed one of the first `held` checkpoints of a row, which has no more than 16.
+pub fn latest_kept(
+    row: [Checkpoint; 16],
+    held: usize,
+    owns: [Interval; 16],
+    failed: u16,
+    n: usize,
+) -> Latest
+    requires { ⌜ (held ≤ 16) × (n ≤ 16) ⌝ }
+    ensures { λ r. ⌜ r ≡ latestIs (latestBy n owns failed (take held row)) ⌝ }
+{
+    let none = super::kept::no_checkpoint();
+    let mut latest = Latest {
+        found: false,
+        state: none,
+    };
+    for k in 0..held {
+        let c = row[k];
+        let vector = c.vector;
+        let ok = is_allowed(vector, owns, failed, n);
+        if ok {
+            latest = Latest {
+                found: true,
+                state: c,
+            };
+        }
+    }
+    latest
+}
+
+// The latest allowed one of these checkpoints and the live state, which is later than all of them.
+pub fn latest_allowed(
+    row: [Checkpoint; 16],
+    held: usize,
+    live: Checkpoint,
+    owns: [Interval; 16],
+    failed: u16,
+    n: usize,
+) -> Latest
+    requires { ⌜ (held ≤ 16) × (n ≤ 16) ⌝ }
+    ensures { λ r. ⌜ r ≡ latestIs (latestBy n owns failed (take held row ++ (live ∷ []))) ⌝ }
+{
+    let vector = live.vector;
+    let ok = is_allowed(vector, owns, failed, n);
+    if ok {
+        Latest {
+            found: true,
+            state: live,
+        }
+    } else {
+        latest_kept(row, held, owns, failed, n)
+    }
+}
+
+// The line's member of a process: the latest allowed state. Where there is none the call is refused, and the live state stands in.
+pub fn member_of(latest: Latest, live: Checkpoint) -> Checkpoint
+    ensures { λ r. ⌜ r ≡ pick (latest .found) (latest .state) live ⌝ }
+{
+    let found = latest.found;
+    if found { latest.state } else { live }
+}

@@ -1,0 +1,55 @@
+// The rows of a process at the start of a run, and rows that nobody uses.
+use model::CheckpointIndex;
+use model::Interval;
+use model::Pin;
+ghost use mathlib.Core.Path.{_≡_};
+ghost use Prim.Native.Nat.{_<_};
+ghost use Rattle.model.specs.Words.{zeroVector, noPins};
+ghost use Rattle.model.specs.Steps.{started};
+ghost use Rattle.rows.specs.Kept.{keptRow};
+
+pub fn zero_vector() -> [Interval; 16]
+    ensures { λ r. ⌜ r ≡ zeroVector ⌝ }
+{
+    let zero = Interval(0);
+    [zero; 16]
+}
+
+pub fn no_pins() -> [Pin; 16]
+    ensures { λ r. ⌜ r ≡ noPins ⌝ }
+{
+    let none = Pin::Nothing;
+    [none; 16]
+}
+
+// The vector of process p, one of 16: its own entry is 1, the others are 0.
+pub fn first_vector(p: usize) -> [Interval; 16]
+    requires { ⌜ p < 16 ⌝ }
+    ensures { λ r. ⌜ r ≡ started p .vector ⌝ }
+{
+    let mut v = zero_vector();
+    v[p] = Interval(1);
+    v
+}
+
+// The pins of process p, one of 16: its own pin is at checkpoint 0, the others are nothing.
+pub fn first_pins(p: usize) -> [Pin; 16]
+    requires { ⌜ p < 16 ⌝ }
+    ensures { λ r. ⌜ r ≡ started p .pins ⌝ }
+{
+    let mut row = no_pins();
+    let pin = Pin::At(CheckpointIndex(0));
+    row[p] = pin;
+    row
+}
+
+// The checkpoints that a process keeps: checkpoint 0, with a vector of zeros.
+pub fn first_kept(p: usize) -> super::kept::KeptRow
+    ensures { λ r. ⌜ r ≡ keptRow (started p .kept) ⌝ }
+{
+    let c = super::kept::no_checkpoint();
+    super::kept::KeptRow {
+        row: [c; 16],
+        held: 1,
+    }
+}

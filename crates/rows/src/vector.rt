@@ -1,0 +1,83 @@
+// Dependency vectors: what a checkpoint and a receipt do to one, and which checkpoint is the last one stored.
+use model::CheckpointIndex;
+use model::Interval;
+ghost use mathlib.Core.Path.{_≡_};
+ghost use mathlib.Core.Bool.{_&&_};
+ghost use Prim.Native.Nat.{_<_, _≤_};
+ghost use Rattle.laws.specs.Choice.{pick};
+ghost use Rattle.model.specs.Words.{entry, below, lastStored, liveIndex};
+ghost use Rattle.model.specs.Steps.{advanced, newer, takenVector};
+
+// The last stored checkpoint of a process whose own entry is `own`. This is the one place where an interval's number becomes a checkpoint's index.
+pub fn last_stored(own: Interval) -> CheckpointIndex
+    ensures { λ r. ⌜ r ≡ lastStored own ⌝ }
+{
+    if own.0 == 0 {
+        CheckpointIndex(0)
+    } else {
+        CheckpointIndex(own.0 - 1)
+    }
+}
+
+// The index under which a checkpoint is stored now, which is also the live state's: one above the last stored one. Own entries are at least 1 from
+// the start on.
+pub fn live_index(own: Interval) -> CheckpointIndex
+    requires { ⌜ 1 ≤ own .0 ⌝ }
+    ensures { λ r. ⌜ r ≡ liveIndex own ⌝ }
+{
+    let last = last_stored(own);
+    CheckpointIndex(last.0 + 1)
+}
+
+// v with 1 added to entry i. The caller has refused a checkpoint at 65,535.
+pub fn advanced(v: [Interval; 16], i: usize) -> [Interval; 16]
+    requires { ⌜ (i < 16) × (entry v i .0 < 65535) ⌝ }
+    ensures { λ r. ⌜ r ≡ advanced i v ⌝ }
+{
+    let own = v[i];
+    let mut w = v;
+    w[i] = Interval(own.0 + 1);
+    w
+}
+
+// Some carried entry is greater than the own one.
+pub fn is_newer(own: [Interval; 16], carried: [Interval; 16]) -> bool
+    ensures { λ r. ⌜ r ≡ newer own carried ⌝ }
+{
+    let mut any = false;
+    for f in 0..16 {
+        if own[f].0 < carried[f].0 {
+            any = true;
+        }
+    }
+    any
+}
+
+// A delivery of this vector forces a checkpoint: the process has sent since its last one, and something carried is newer.
+pub fn is_forced(mark: bool, own: [Interval; 16], carried: [Interval; 16]) -> bool
+    ensures { λ r. ⌜ r ≡ (mark && newer own carried) ⌝ }
+{
+    if mark { is_newer(own, carried) } else { false }
+}
+
+// The greater of an own entry and the carried one.
+fn greater(own: Interval, carried: Interval) -> Interval
+    ensures { λ r. ⌜ r ≡ pick (below own carried) carried own ⌝ }
+{
+    if own.0 < carried.0 { carried } else { own }
+}
+
+// own, with each entry that is smaller than the carried one replaced by it. Every turn stores its entry, changed or not: such a loop takes several
+// entries at a time.
+pub fn take_in(own: [Interval; 16], carried: [Interval; 16]) -> [Interval; 16]
+    ensures { λ r. ⌜ r ≡ takenVector own carried ⌝ }
+{
+    let mut taken = own;
+    for f in 0..16 {
+        let x = own[f];
+        let y = carried[f];
+        let z = greater(x, y);
+        taken[f] = z;
+    }
+    taken
+}
