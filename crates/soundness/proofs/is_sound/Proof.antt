@@ -1,0 +1,85 @@
+-- `soundness::is_sound` meets its contract: what its callees ensure, put together, is the verdict of Whole. Assumes nothing.
+use borrow.Author.Needs.{needs}
+use Rattle.soundness.proofs.Whole.{owns-zero, verdict, none-run, many-run}
+use Rattle.soundness.proofs.is_sound.Statement.{statement}
+use Rattle.soundness.proofs.is_sound.Tie as tie
+
+returns : tie.Need-returns
+returns c = none-run (c .before .args .s) (c .if1 .taken)
+
+returns-2 : tie.Need-returns-2
+returns-2 c = many-run (c .before .before .args .s) (c .if2 .taken)
+
+vector-rows-requires : tie.Need-vector-rows-requires
+vector-rows-requires c κs = search needs
+
+pin-rows-requires : tie.Need-pin-rows-requires
+pin-rows-requires c κs = search needs
+
+kept-rows-requires : tie.Need-kept-rows-requires
+kept-rows-requires c κs = search needs
+
+own-entries-requires : tie.Need-own-entries-requires
+own-entries-requires c κs = search needs
+
+are-current-sound-requires : tie.Need-are-current-sound-requires
+are-current-sound-requires c κs = (search needs, rw (c .own-entries .ensures, c .before .before .before .before .before .before .vector-rows .ensures) (owns-zero (c .before .before .before .before .before .before .before .before .before .args .s) (search needs)))
+
+are-processes-sound-requires : tie.Need-are-processes-sound-requires
+are-processes-sound-requires c κs = (search needs, rw (c .before .own-entries .ensures, c .before .before .before .before .before .before .before .vector-rows .ensures) (owns-zero (c .before .before .before .before .before .before .before .before .before .before .args .s) (search needs)))
+
+zero-rows-from-requires : tie.Need-zero-rows-from-requires
+zero-rows-from-requires c κs = search needs
+
+unmarked-from-requires : tie.Need-unmarked-from-requires
+unmarked-from-requires c κs = search needs
+
+none-held-from-requires : tie.Need-none-held-from-requires
+none-held-from-requires c κs = search needs
+
+nothing-rows-from-requires : tie.Need-nothing-rows-from-requires
+nothing-rows-from-requires c κs = search needs
+
+unused-rows-from-requires : tie.Need-unused-rows-from-requires
+unused-rows-from-requires c κs = search needs
+
+are-messages-sound-requires : tie.Need-are-messages-sound-requires
+are-messages-sound-requires c κs = (search needs, rw (c .before .before .before .before .before .before .before .own-entries .ensures, c .before .before .before .before .before .before .before .before .before .before .before .before .before .vector-rows .ensures) (owns-zero (c .before .before .before .before .before .before .before .before .before .before .before .before .before .before .before .before .args .s) (search needs)))
+
+returns-3 : tie.Need-returns-3
+returns-3 c =
+    rw (
+      c .are-messages-sound .ensures,
+      c .before .unused-rows-from .ensures,
+      c .before .before .nothing-rows-from .ensures,
+      c .before .before .before .none-held-from .ensures,
+      c .before .before .before .before .unmarked-from .ensures,
+      c .before .before .before .before .before .zero-rows-from .ensures,
+      c .before .before .before .before .before .before .are-processes-sound .ensures,
+      c .before .before .before .before .before .before .before .are-current-sound .ensures,
+      c .before .before .before .before .before .before .before .before .own-entries .ensures,
+      c .before .before .before .before .before .before .before .before .before .before .before .before .kept-rows .ensures,
+      c .before .before .before .before .before .before .before .before .before .before .before .before .before .pin-rows .ensures,
+      c .before .before .before .before .before .before .before .before .before .before .before .before .before .before .vector-rows .ensures,
+    )
+    (verdict (c .before .before .before .before .before .before .before .before .before .before .before .before .before .before .before .before .before .args .s) (search needs) (search needs))
+
+pub is-sound-spec : {M : Type 1} → statement M
+is-sound-spec =
+    tie.close
+    (tie.spec
+    returns
+    returns-2
+    vector-rows-requires
+    pin-rows-requires
+    kept-rows-requires
+    own-entries-requires
+    are-current-sound-requires
+    are-processes-sound-requires
+    zero-rows-from-requires
+    unmarked-from-requires
+    none-held-from-requires
+    nothing-rows-from-requires
+    unused-rows-from-requires
+    are-messages-sound-requires
+    returns-3)

@@ -1,0 +1,60 @@
+-- `soundness::pins::nothing_from` meets its contract: the mark so far and the test of the pins that are left are the test of the whole. Assumes nothing.
+use mathlib.Core.Bool.{_&&_}
+use mathlib.Core.Path.{_≡_, refl}
+use Prim.Native.Nat.{_-_}
+use lib.ListN.{drop}
+use borrow.Author.Needs.{needs}
+use Rattle.laws.specs.Rows.{every-turn, every-end}
+use Rattle.laws.specs.Tests.{every}
+use Rattle.model.specs.declared.Pin.the-variants.{Nothing}
+use Rattle.model.specs.Sound.{isNothing, nothingFrom}
+use Rattle.soundness.proofs.pins.nothing_from.Statement.{statement}
+use Rattle.soundness.proofs.pins.nothing_from.Tie as tie
+
+abbrev Inv-loop : tie.InvT-loop
+Inv-loop from pins ok₀ j₀ ok j = (ok && every isNothing (drop j pins)) ≡ every isNothing (drop from pins)
+
+abbrev μ-loop : tie.MeasureT-loop
+μ-loop from pins ok₀ j₀ ok j = 16 - j
+
+loop-holds : tie.Need-loop-holds Inv-loop μ-loop
+loop-holds c = refl
+
+mul-pin : tie.Need-mul-pin Inv-loop μ-loop
+mul-pin c = search needs
+
+array-copy-out-pin : tie.Need-array-copy-out-pin Inv-loop μ-loop
+array-copy-out-pin c = search needs
+
+is-nothing-requires : tie.Need-is-nothing-requires Inv-loop μ-loop
+is-nothing-requires c κs = search needs
+
+add-j : tie.Need-add-j Inv-loop μ-loop
+add-j c = search needs
+
+loop-less : tie.Need-loop-less Inv-loop μ-loop
+loop-less c = search needs
+
+loop-again : tie.Need-loop-again Inv-loop μ-loop
+loop-again c =
+    let b = c .before .before .before in
+    rw (c .is-nothing .ensures) (every-turn isNothing (b .before .args .t1) (b .loop .j) Nothing (search needs) (b .loop .ok) _ (b .loop .inv))
+
+returns : tie.Need-returns Inv-loop μ-loop
+unfolding nothingFrom
+returns c = let b = c .before in every-end isNothing (b .before .args .t1) (b .loop .j) (search needs) (b .loop .ok) _ (b .loop .inv)
+
+pub nothing-from-spec : {M : Type 1} → statement M
+nothing-from-spec =
+    tie.close
+    (tie.spec
+    Inv-loop
+    μ-loop
+    loop-holds
+    mul-pin
+    array-copy-out-pin
+    is-nothing-requires
+    add-j
+    loop-less
+    loop-again
+    returns)

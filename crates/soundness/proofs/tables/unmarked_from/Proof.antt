@@ -1,0 +1,41 @@
+-- `soundness::tables::unmarked_from` meets its contract: the mark so far and the test of what is left are the test of the whole. Assumes nothing.
+use mathlib.Core.Bool.{not, false, _&&_}
+use mathlib.Core.Path.{_≡_, refl}
+use Prim.Native.Nat.{_-_}
+use lib.ListN.{drop}
+use borrow.Author.Needs.{needs}
+use Rattle.laws.specs.Rows.{every-turn, every-end}
+use Rattle.laws.specs.Tests.{every}
+use Rattle.soundness.proofs.tables.unmarked_from.Statement.{statement}
+use Rattle.soundness.proofs.tables.unmarked_from.Tie as tie
+
+abbrev Inv-loop : tie.InvT-loop
+Inv-loop from sent ok₀ p₀ ok p = (ok && every not (drop p sent)) ≡ every not (drop from sent)
+
+abbrev μ-loop : tie.MeasureT-loop
+μ-loop from sent ok₀ p₀ ok p = 16 - p
+
+loop-holds : tie.Need-loop-holds Inv-loop μ-loop
+loop-holds c = refl
+
+array-read-mark : tie.Need-array-read-mark Inv-loop μ-loop
+array-read-mark c = search needs
+
+add-p : tie.Need-add-p Inv-loop μ-loop
+add-p c = search needs
+
+loop-less : tie.Need-loop-less Inv-loop μ-loop
+loop-less c = search needs
+
+loop-again : tie.Need-loop-again Inv-loop μ-loop
+loop-again c =
+    let b = c .before in
+    every-turn not (b .before .args .t1) (b .loop .p) false (search needs) (b .loop .ok) _ (b .loop .inv)
+
+returns : tie.Need-returns Inv-loop μ-loop
+returns c = let b = c .before in every-end not (b .before .args .t1) (b .loop .p) (search needs) (b .loop .ok) _ (b .loop .inv)
+
+pub unmarked-from-spec : {M : Type 1} → statement M
+unmarked-from-spec =
+    tie.close
+    (tie.spec Inv-loop μ-loop loop-holds array-read-mark add-p loop-less loop-again returns)

@@ -1,0 +1,65 @@
+-- `soundness::tables::unused_rows_from` meets its contract: as long as all so far pass, what is left decides. Assumes nothing.
+use mathlib.Core.List.{[]}
+use mathlib.Core.Path.{_≡_, _∙_, sym, refl}
+use Prim.Native.Nat.{_-_}
+use lib.ListN.{drop}
+use borrow.Author.Tests.{not-true, not-false}
+use borrow.Author.Needs.{needs}
+use Rattle.laws.specs.Rows.{every-pass, every-stop, every-done}
+use Rattle.laws.specs.Tests.{every}
+use Rattle.model.specs.Sound.{unusedCheckpoint}
+use Rattle.soundness.proofs.tables.unused_rows_from.Statement.{statement}
+use Rattle.soundness.proofs.tables.unused_rows_from.Tie as tie
+
+abbrev Inv-loop : tie.InvT-loop
+Inv-loop from kept p₀ p = every (every unusedCheckpoint) (drop p kept) ≡ every (every unusedCheckpoint) (drop from kept)
+
+abbrev μ-loop : tie.MeasureT-loop
+μ-loop from kept p₀ p = 16 - p
+
+loop-holds : tie.Need-loop-holds Inv-loop μ-loop
+loop-holds c = refl
+
+mul-row : tie.Need-mul-row Inv-loop μ-loop
+mul-row c = search needs
+
+array-copy-out-row : tie.Need-array-copy-out-row Inv-loop μ-loop
+array-copy-out-row c = search needs
+
+unused-from-requires : tie.Need-unused-from-requires Inv-loop μ-loop
+unused-from-requires c κs = search needs
+
+returns : tie.Need-returns Inv-loop μ-loop
+returns c =
+    let b = c .before .before .before .before in
+    every-stop (every unusedCheckpoint) (b .before .args .t1) (b .loop .p) [] (search needs) _ (b .loop .inv) (sym (c .before .unused-from .ensures) ∙ not-true _ (c .if1 .taken))
+
+add-p : tie.Need-add-p Inv-loop μ-loop
+add-p c = search needs
+
+loop-less : tie.Need-loop-less Inv-loop μ-loop
+loop-less c = search needs
+
+loop-again : tie.Need-loop-again Inv-loop μ-loop
+loop-again c =
+    let b = c .before .before .before .before in
+    every-pass (every unusedCheckpoint) (b .before .args .t1) (b .loop .p) [] (search needs) _ (b .loop .inv) (sym (c .before .unused-from .ensures) ∙ not-false _ (c .if1 .left))
+
+returns-2 : tie.Need-returns-2 Inv-loop μ-loop
+returns-2 c = let b = c .before in sym (every-done (every unusedCheckpoint) (b .before .args .t1) (b .loop .p) (search needs)) ∙ b .loop .inv
+
+pub unused-rows-from-spec : {M : Type 1} → statement M
+unused-rows-from-spec =
+    tie.close
+    (tie.spec
+    Inv-loop
+    μ-loop
+    loop-holds
+    mul-row
+    array-copy-out-row
+    unused-from-requires
+    returns
+    add-p
+    loop-less
+    loop-again
+    returns-2)

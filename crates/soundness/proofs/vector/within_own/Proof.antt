@@ -1,0 +1,65 @@
+-- `soundness::vector::within_own` meets its contract: the mark is the test of the entries so far. Assumes nothing.
+use mathlib.Core.Path.{_≡_, _∙_}
+use Prim.Native.Nat.{_≤_, _-_}
+use native.Mathlib.Omega.{arith}
+use lib.Dec.{leb}
+use borrow.Author.Needs.{needs}
+use Rattle.laws.specs.Search.{allBelow}
+use Rattle.laws.specs.Rows.{all-turn}
+use Rattle.laws.specs.Loops.{all-zero}
+use Rattle.model.specs.Words.{entry}
+use Rattle.soundness.proofs.Vectors.{within-all}
+use Rattle.soundness.proofs.vector.within_own.Statement.{statement}
+use Rattle.soundness.proofs.vector.within_own.Tie as tie
+
+abbrev Inv-loop : tie.InvT-loop
+Inv-loop vector own ok₀ f₀ ok f = (f ≤ 16) × (ok ≡ allBelow f (λ k. leb (entry vector k .0) (entry own k .0)))
+
+abbrev μ-loop : tie.MeasureT-loop
+μ-loop vector own ok₀ f₀ ok f = 16 - f
+
+loop-holds : tie.Need-loop-holds Inv-loop μ-loop
+loop-holds c = (search needs, all-zero _)
+
+mul-x : tie.Need-mul-x Inv-loop μ-loop
+mul-x c = search needs
+
+array-copy-out-x : tie.Need-array-copy-out-x Inv-loop μ-loop
+array-copy-out-x c = search needs
+
+mul-y : tie.Need-mul-y Inv-loop μ-loop
+mul-y c = search needs
+
+array-copy-out-y : tie.Need-array-copy-out-y Inv-loop μ-loop
+array-copy-out-y c = search needs
+
+add-f : tie.Need-add-f Inv-loop μ-loop
+add-f c = search needs
+
+loop-less : tie.Need-loop-less Inv-loop μ-loop
+loop-less c = search needs
+
+loop-again : tie.Need-loop-again Inv-loop μ-loop
+loop-again c = let b = c .before .before .before .before .before in (search needs, all-turn (λ k. leb (entry (b .before .args .t1) k .0) (entry (b .before .args .t2) k .0)) (b .loop .f) _ (b .loop .inv .1))
+
+returns : tie.Need-returns Inv-loop μ-loop
+returns c =
+    let b = c .before in
+    let e : b .loop .f ≡ 16 = omega arith in
+    λ n h z. rw e at (b .loop .inv .1) ∙ within-all (b .before .args .t2) (b .before .args .t1) n (search needs) (search needs) h z
+
+pub within-own-spec : {M : Type 1} → statement M
+within-own-spec =
+    tie.close
+    (tie.spec
+    Inv-loop
+    μ-loop
+    loop-holds
+    mul-x
+    array-copy-out-x
+    mul-y
+    array-copy-out-y
+    add-f
+    loop-less
+    loop-again
+    returns)

@@ -1,0 +1,131 @@
+use crate::kept;
+use crate::pins;
+use crate::vector;
+use model::Checkpoint;
+use model::Interval;
+use model::Pin;
+ghost use mathlib.Core.Path.{_≡_};
+ghost use mathlib.Core.Bool.{true, not};
+ghost use mathlib.Core.List.{[]};
+ghost use Prim.Native.Nat.{_≤_};
+ghost use lib.Dec.{eqb};
+ghost use lib.ListN.{getD, drop};
+ghost use Rattle.laws.specs.Search.{allBelow};
+ghost use Rattle.laws.specs.Tests.{every};
+ghost use Rattle.model.specs.Sound.{zeroFrom, nothingFrom, unusedCheckpoint};
+ghost use Rattle.soundness.specs.Judged.{ownEntries, currentSound, processSound};
+
+// The own entries of the n processes, zero at n and above.
+pub fn own_entries(vectors: [[Interval; 16]; 16], n: usize) -> [Interval; 16]
+    requires { ⌜ n ≤ 16 ⌝ }
+    ensures { λ r. ⌜ r ≡ ownEntries n vectors ⌝ }
+{
+    let zero = Interval(0);
+    let mut own = [zero; 16];
+    for f in 0..n {
+        let x = vectors[f][f];
+        own[f] = x;
+    }
+    own
+}
+
+// The current vectors: each own entry is at least 1, and each vector is within the own entries.
+pub fn are_current_sound(vectors: [[Interval; 16]; 16], own: [Interval; 16], n: usize) -> bool
+    requires { ⌜ (n ≤ 16) × (zeroFrom n own ≡ true) ⌝ }
+    ensures { λ r. ⌜ r ≡ allBelow n (λ p. currentSound n own p (getD vectors p [])) ⌝ }
+{
+    for p in 0..n {
+        let row = vectors[p];
+        let x = own[p];
+        let within = vector::within_own(row, own);
+        let ok = (1 <= x.0) & within;
+        if !ok {
+            return false;
+        }
+    }
+    true
+}
+
+pub fn zero_rows_from(vectors: [[Interval; 16]; 16], from: usize) -> bool
+    ensures { λ r. ⌜ r ≡ every (zeroFrom 0) (drop from vectors) ⌝ }
+{
+    for p in from..16 {
+        let row = vectors[p];
+        let zero = vector::is_zero(row);
+        if !zero {
+            return false;
+        }
+    }
+    true
+}
+
+pub fn nothing_rows_from(pins: [[Pin; 16]; 16], from: usize) -> bool
+    ensures { λ r. ⌜ r ≡ every (nothingFrom 0) (drop from pins) ⌝ }
+{
+    for p in from..16 {
+        let row = pins[p];
+        let nothing = pins::nothing_from(row, 0);
+        if !nothing {
+            return false;
+        }
+    }
+    true
+}
+
+pub fn unused_rows_from(kept: [[Checkpoint; 16]; 16], from: usize) -> bool
+    ensures { λ r. ⌜ r ≡ every (every unusedCheckpoint) (drop from kept) ⌝ }
+{
+    for p in from..16 {
+        let row = kept[p];
+        let unused = kept::unused_from(row, 0);
+        if !unused {
+            return false;
+        }
+    }
+    true
+}
+
+// The pins and the kept checkpoints of the n processes.
+pub fn are_processes_sound(
+    kept: [[Checkpoint; 16]; 16],
+    pins: [[Pin; 16]; 16],
+    own: [Interval; 16],
+    held: [usize; 16],
+    n: usize,
+) -> bool
+    requires { ⌜ (n ≤ 16) × (zeroFrom n own ≡ true) ⌝ }
+    ensures { λ r. ⌜ r ≡ allBelow n (λ p. processSound n own p (getD kept p []) (getD pins p []) (getD held p 0)) ⌝ }
+{
+    for p in 0..n {
+        let row = kept[p];
+        let pinned = pins[p];
+        let count = held[p];
+        let ok = kept::is_process_sound(row, pinned, own, count, n, p);
+        if !ok {
+            return false;
+        }
+    }
+    true
+}
+
+pub fn unmarked_from(sent: [bool; 16], from: usize) -> bool
+    ensures { λ r. ⌜ r ≡ every not (drop from sent) ⌝ }
+{
+    let mut ok = true;
+    for p in from..16 {
+        let mark = sent[p];
+        ok = ok & !mark;
+    }
+    ok
+}
+
+pub fn none_held_from(held: [usize; 16], from: usize) -> bool
+    ensures { λ r. ⌜ r ≡ every (eqb 0) (drop from held) ⌝ }
+{
+    let mut ok = true;
+    for p in from..16 {
+        let count = held[p];
+        ok = ok & (0 == count);
+    }
+    ok
+}
