@@ -1,0 +1,3 @@
+pub mod Bounds
+mod Digits
+pub mod Texts

@@ -1,0 +1,98 @@
+-- `listing::write_deletions` meets its contract. The loop's invariant: the first k deletions are printed. The measure is what is left of the count.
+-- Assumes nothing.
+use mathlib.Core.Path.{_≡_, refl, _∙_}
+use Prim.Native.Nat.{_+_, _-_, _*_, _≤_}
+use native.Mathlib.Numerals.{add-one}
+use native.Mathlib.Omega.{arith}
+use lib.ListN.{length, getD}
+use denote.Ref.{now}
+use borrow.Author.Needs.{needs}
+use Rattle.model.specs.Listing.{deletionsText}
+use Rattle.listing.specs.Lines.{pairText}
+use Rattle.listing.specs.Printed.{Printed}
+use Rattle.listing.proofs.Texts.{then, nothing, room-rest, one-more, room-for-one-more}
+use Rattle.listing.proofs.write_deletions.Statement.{statement}
+use Rattle.listing.proofs.write_deletions.Tie as tie
+
+abbrev Inv-loop : tie.InvT-loop
+Inv-loop out₀ at deleted count place₀ k₀ out place k = (k ≤ count) × (length out ≡ length out₀) × Printed out₀ at (deletionsText k deleted) out place
+
+abbrev μ-loop : tie.MeasureT-loop
+μ-loop out₀ at deleted count place₀ k₀ out place k = count - k
+
+loop-holds : tie.Need-loop-holds Inv-loop μ-loop
+unfolding deletionsText
+loop-holds c = (search needs, refl, nothing (now (c .before .before .args .out)) (c .before .before .args .at))
+
+mul-process : tie.Need-mul-process Inv-loop μ-loop
+mul-process c = search needs
+
+mul-process-2 : tie.Need-mul-process-2 Inv-loop μ-loop
+mul-process-2 c = search needs
+
+shared-slice-read-process : tie.Need-shared-slice-read-process Inv-loop μ-loop
+shared-slice-read-process c = search needs
+
+mul-index : tie.Need-mul-index Inv-loop μ-loop
+mul-index c = search needs
+
+add-index : tie.Need-add-index Inv-loop μ-loop
+add-index c = search needs
+
+mul-index-2 : tie.Need-mul-index-2 Inv-loop μ-loop
+mul-index-2 c = search needs
+
+shared-slice-read-index : tie.Need-shared-slice-read-index Inv-loop μ-loop
+shared-slice-read-index c = search needs
+
+write-pair-requires : tie.Need-write-pair-requires Inv-loop μ-loop
+write-pair-requires c κs =
+    let l = c .before .before .before .before .loop in
+    let start = c .before .before .before .before .before .before .before in
+    let d = now (start .args .deleted) in
+    room-rest (pairText (getD d (2 * l .k) 0) (getD d (2 * l .k + 1) 0)) (l .inv .2)
+    (room-for-one-more (now (start .args .out)) (start .args .at) (l .k) (start .args .count) d (c .before .before .before .loop-test .taken) (start .pre .0) (start .pre .1))
+
+add-k : tie.Need-add-k Inv-loop μ-loop
+add-k c = search needs
+
+loop-less : tie.Need-loop-less Inv-loop μ-loop
+loop-less c = search needs
+
+loop-again : tie.Need-loop-again Inv-loop μ-loop
+loop-again c =
+    let printed = c .before .before .write-pair in
+    let l = c .before .before .before .before .before .before .before .loop in
+    let start = c .before .before .before .before .before .before .before .before .before .before in
+    let d = now (start .args .deleted) in
+    (search needs, printed .kept .0 ∙ l .inv .1, rw (add-one, one-more (l .k) d (omega arith)) (then (l .inv .2) (printed .ensures)))
+
+same-length : tie.Need-same-length Inv-loop μ-loop
+same-length c = search needs
+
+returns : tie.Need-returns Inv-loop μ-loop
+returns c =
+    let l = c .before .loop in
+    let e : l .k ≡ c .before .before .before .before .args .count = omega arith in
+    rw e at (l .inv .2)
+
+pub write-deletions-spec : {M : Type 1} → statement M
+write-deletions-spec =
+    tie.close
+    (tie.spec
+    Inv-loop
+    μ-loop
+    loop-holds
+    mul-process
+    mul-process-2
+    shared-slice-read-process
+    mul-index
+    add-index
+    mul-index-2
+    shared-slice-read-index
+    write-pair-requires
+    add-k
+    loop-less
+    loop-again
+    same-length
+    returns)

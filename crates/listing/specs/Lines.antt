@@ -1,0 +1,27 @@
+-- What a line says, as the model has it: a summary of a reply, and the text of one deletion.
+-- Assumes nothing.
+use mathlib.Core.List.{List, [], _∷_, _++_}
+use mathlib.Core.Option.{Option, none, some}
+use Prim.Native.Nat.{ℕ}
+use Rattle.model.specs.Calls.{Reply}
+use Rattle.model.specs.Listing.{decimal, space, colon}
+use Rattle.listing.specs.declared.Value.{Value}
+use Rattle.listing.specs.declared.Value.the-variants.{Hyphen, Number}
+use Rattle.listing.specs.declared.Summary.{Summary}
+
+unfoldable pub valueOf : Value → Option ℕ
+valueOf Hyphen = none
+valueOf (Number v) = some v
+
+-- The reply that a summary and a deletion list make. A line prints nothing of a line list.
+unfoldable pub replyOf : Summary → List ℕ → Reply
+replyOf s deleted = record { report = record { refused = s .refused; value = valueOf (s .value); deletions = s .deletions }; deleted = deleted; line = [] }
+
+-- "each as process:index", behind a space
+unfoldable pub pairText : ℕ → ℕ → List ℕ
+pairText p i = space ∷ (decimal p ++ (colon ∷ decimal i))
+
+-- No line is longer: 10 digits of the record number, 3 of the refusal number, 10 of the value, 3 of the count, 12 bytes for each of 256
+-- deletions, three spaces and the line feed.
+abbrev pub longestLine : ℕ
+longestLine = 3102

@@ -1,0 +1,132 @@
+// A record's line of text, printed into a lent buffer. Every function that writes prints one text of the model's specs/Listing from a place
+// on, asks for room for that text and no more, and hands back the place behind it. proofs/Bounds says how long a line can be.
+ghost use mathlib.Core.Path.{_≡_};
+ghost use mathlib.Core.List.{[], _∷_};
+ghost use Prim.Native.Nat.{_*_, _≤_};
+ghost use lib.ListN.{length};
+ghost use Rattle.model.specs.Listing.{decimal, valueText, deletionsText, acceptedText, lineText};
+ghost use Rattle.listing.specs.Lines.{valueOf, replyOf, pairText};
+ghost use Rattle.listing.specs.Printed.{Room, Printed};
+
+// The value of a line: a hyphen where there is none.
+pub enum Value {
+    Hyphen,
+    Number(u64),
+}
+
+// What a line says behind its record number: 0 or the refusal number, the value, and the count of deletions.
+pub struct Summary {
+    pub refused: u8,
+    pub value: Value,
+    pub deletions: usize,
+}
+
+// How many decimal digits a number has. The limit is ten to the power of the width; 20 digits are the most that 64 bits have.
+fn width(x: u64) -> usize
+    ensures { λ r. ⌜ r ≡ length (decimal x) ⌝ }
+{
+    let mut digits = 1;
+    let mut limit: u64 = 10;
+    while limit <= x {
+        digits += 1;
+        if digits == 20 {
+            return digits;
+        }
+        limit *= 10;
+    }
+    digits
+}
+
+// The digits go straight to their places, the last one first.
+fn write_number(out: &mut [u8], at: usize, x: u64) -> usize
+    requires { ⌜ Room (now out) at (decimal x) ⌝ }
+    ensures { λ r. ⌜ Printed (now (out .entry)) at (decimal x) (now (out .exit)) r ⌝ }
+{
+    let end = at + width(x);
+    let mut place = end;
+    let mut rest = x;
+    while 10 <= rest {
+        place -= 1;
+        out[place] = (48 + rest % 10) as u8;
+        rest /= 10;
+    }
+    out[at] = (48 + rest) as u8;
+    end
+}
+
+fn write_byte(out: &mut [u8], at: usize, byte: u8) -> usize
+    requires { ⌜ Room (now out) at (byte ∷ []) ⌝ }
+    ensures { λ r. ⌜ Printed (now (out .entry)) at (byte ∷ []) (now (out .exit)) r ⌝ }
+{
+    out[at] = byte;
+    at + 1
+}
+
+fn write_value(out: &mut [u8], at: usize, value: Value) -> usize
+    requires { ⌜ Room (now out) at (valueText (valueOf value)) ⌝ }
+    ensures { λ r. ⌜ Printed (now (out .entry)) at (valueText (valueOf value)) (now (out .exit)) r ⌝ }
+{
+    match value {
+        Value::Hyphen => write_byte(out, at, b'-'),
+        Value::Number(v) => write_number(out, at, v),
+    }
+}
+
+// One deletion, as process:index behind a space.
+fn write_pair(out: &mut [u8], at: usize, process: u16, index: u16) -> usize
+    requires { ⌜ Room (now out) at (pairText process index) ⌝ }
+    ensures { λ r. ⌜ Printed (now (out .entry)) at (pairText process index) (now (out .exit)) r ⌝ }
+{
+    let spaced = write_byte(out, at, b' ');
+    let named = write_number(out, spaced, process as u64);
+    let parted = write_byte(out, named, b':');
+    write_number(out, parted, index as u64)
+}
+
+// `count` deletions from the front of the deletion list.
+fn write_deletions(out: &mut [u8], at: usize, deleted: &[u16], count: usize) -> usize
+    requires { ⌜ (2 * count ≤ length (now deleted)) × Room (now out) at (deletionsText count (now deleted)) ⌝ }
+    ensures { λ r. ⌜ Printed (now (out .entry)) at (deletionsText count (now (deleted .entry))) (now (out .exit)) r ⌝ }
+{
+    let mut place = at;
+    let mut k = 0;
+    while k < count {
+        let process = deleted[2 * k];
+        let index = deleted[2 * k + 1];
+        let next = write_pair(out, place, process, index);
+        place = next;
+        k += 1;
+    }
+    place
+}
+
+// What follows the 0 of an accepted record.
+fn write_accepted(out: &mut [u8], at: usize, said: Summary, deleted: &[u16]) -> usize
+    requires { ⌜ (2 * said .deletions ≤ length (now deleted)) × Room (now out) at (acceptedText (replyOf said (now deleted))) ⌝ }
+    ensures { λ r. ⌜ Printed (now (out .entry)) at (acceptedText (replyOf said (now (deleted .entry)))) (now (out .exit)) r ⌝ }
+{
+    let value = said.value;
+    let count = said.deletions;
+    let spaced = write_byte(out, at, b' ');
+    let valued = write_value(out, spaced, value);
+    let parted = write_byte(out, valued, b' ');
+    let counted = write_number(out, parted, count as u64);
+    write_deletions(out, counted, deleted, count)
+}
+
+// The line of a record.
+pub fn write_line(out: &mut [u8], at: usize, number: u64, said: Summary, deleted: &[u16]) -> usize
+    requires { ⌜ (2 * said .deletions ≤ length (now deleted)) × Room (now out) at (lineText number (replyOf said (now deleted))) ⌝ }
+    ensures { λ r. ⌜ Printed (now (out .entry)) at (lineText number (replyOf said (now (deleted .entry)))) (now (out .exit)) r ⌝ }
+{
+    let refused = said.refused;
+    let numbered = write_number(out, at, number);
+    let spaced = write_byte(out, numbered, b' ');
+    let told = write_number(out, spaced, refused as u64);
+    if refused == 0 {
+        let whole = write_accepted(out, told, said, deleted);
+        write_byte(out, whole, b'\n')
+    } else {
+        write_byte(out, told, b'\n')
+    }
+}

@@ -1,0 +1,66 @@
+-- `trace::event_of` meets its contract: the arm of the `match` says which case of `eventOf` holds.
+-- Assumes nothing.
+use borrow.Author.Tests.{ne-eqb}
+use borrow.Author.Needs.{needs}
+use Rattle.model.specs.Trace.{eventOf}
+use Rattle.trace.specs.Answers.{answered}
+use Rattle.trace.proofs.event_of.Statement.{statement}
+use Rattle.trace.proofs.event_of.Tie as tie
+
+cast-if-zero : tie.Need-cast-if-zero
+cast-if-zero c = search needs
+
+if-zero-requires : tie.Need-if-zero-requires
+if-zero-requires c κs = search needs
+
+if-zero-requires-2 : tie.Need-if-zero-requires-2
+if-zero-requires-2 c κs = search needs
+
+if-zero-requires-3 : tie.Need-if-zero-requires-3
+if-zero-requires-3 c κs = search needs
+
+if-zero-requires-4 : tie.Need-if-zero-requires-4
+if-zero-requires-4 c κs = search needs
+
+returns : tie.Need-returns
+unfolding eventOf
+returns c = rw (c .before .match .keys1) (c .if-zero .ensures)
+
+returns-2 : tie.Need-returns-2
+unfolding eventOf answered
+returns-2 c = rw (c .match .keys2)
+
+returns-3 : tie.Need-returns-3
+unfolding eventOf
+returns-3 c = rw (c .before .match .keys3) (c .if-zero2 .ensures)
+
+returns-4 : tie.Need-returns-4
+unfolding eventOf
+returns-4 c = rw (c .before .match .keys4) (c .if-zero3 .ensures)
+
+returns-5 : tie.Need-returns-5
+unfolding eventOf
+returns-5 c = rw (c .before .match .keys5) (c .if-zero4 .ensures)
+
+returns-6 : tie.Need-returns-6
+unfolding eventOf answered
+returns-6 c =
+    let kind = c .before .args .r .kind in
+    let others = c .match .rest in
+    rw (ne-eqb kind 0 (others .0 .0 .0 .0 .1), ne-eqb kind 1 (others .0 .0 .0 .1), ne-eqb kind 2 (others .0 .0 .1), ne-eqb kind 3 (others .0 .1), ne-eqb kind 4 (others .1))
+
+pub event-of-spec : {M : Type 1} → statement M
+event-of-spec =
+    tie.close
+    (tie.spec
+    cast-if-zero
+    if-zero-requires
+    if-zero-requires-2
+    if-zero-requires-3
+    if-zero-requires-4
+    returns
+    returns-2
+    returns-3
+    returns-4
+    returns-5
+    returns-6)

@@ -1,0 +1,26 @@
+-- `trace::if_zero` meets its contract: the test says which case of `ifZero` holds.
+-- Assumes nothing.
+use mathlib.Core.Path.{_≡_, refl, sym}
+use mathlib.Core.Option.{none}
+use Prim.Native.Nat.{ℕ, zero, suc}
+use Rattle.model.specs.declared.Event.{Event}
+use Rattle.model.specs.Trace.{ifZero}
+use Rattle.trace.specs.Answers.{answered}
+use Rattle.trace.proofs.if_zero.Statement.{statement}
+use Rattle.trace.proofs.if_zero.Tie as tie
+
+not-zero : (n : ℕ) (e : Event) → (n ≡ 0 → ⊥) → ifZero n e ≡ none
+unfolding ifZero
+not-zero zero e h = absurd (h refl)
+not-zero (suc n) e h = refl
+
+returns : tie.Need-returns
+unfolding answered ifZero
+returns c = rw (c .if1 .taken)
+
+returns-2 : tie.Need-returns-2
+unfolding answered
+returns-2 c = sym (not-zero _ _ (c .if1 .left))
+
+pub if-zero-spec : {M : Type 1} → statement M
+if-zero-spec = tie.close (tie.spec returns returns-2)

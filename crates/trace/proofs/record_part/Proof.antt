@@ -1,0 +1,68 @@
+-- `trace::record_part` meets its contract: at each `return` the tests that led there say whether four bytes are left.
+-- Assumes nothing.
+use mathlib.Core.Path.{ap}
+use native.Mathlib.Omega.{arith}
+use native.Mathlib.Nat.{add-sub-cancel-left}
+use Prim.Native.Nat.{ℕ, _+_}
+use lib.ListN.{length, take, drop}
+use borrow.Author.Tests.{le-leb, lt-leb}
+use borrow.Author.Needs.{needs}
+use denote.Ref.{now}
+use Rattle.trace.specs.Answers.{recordAt}
+use Rattle.trace.proofs.record_part.Statement.{statement}
+use Rattle.trace.proofs.record_part.Tie as tie
+
+sub-if2 : tie.Need-sub-if2
+sub-if2 c = search needs
+
+add-result : tie.Need-add-result
+add-result c = search needs
+
+sub-result : tie.Need-sub-result
+sub-result c = search needs
+
+part-result-start : tie.Need-part-result-start
+part-result-start c = search needs
+
+part-result-end : tie.Need-part-result-end
+part-result-end c = search needs
+
+slice-aggregate-result : tie.Need-slice-aggregate-result
+slice-aggregate-result c = search needs
+
+slice-aggregate-result-2 : tie.Need-slice-aggregate-result-2
+slice-aggregate-result-2 c = search needs
+
+returns : tie.Need-returns
+unfolding recordAt
+returns c =
+    let a = c .before .before .before .args in
+    rw (le-leb (a .at + 4) (length (now (a .trace))) (omega arith))
+    (ap (λ (k : ℕ). take k (drop (a .at) (now (a .trace)))) (add-sub-cancel-left (a .at) 4))
+
+returns-2 : tie.Need-returns-2
+unfolding recordAt
+returns-2 c =
+    let a = c .before .before .before .args in
+    rw (lt-leb (a .at + 4) (length (now (a .trace))) (omega arith))
+
+returns-3 : tie.Need-returns-3
+unfolding recordAt
+returns-3 c =
+    let a = c .before .before .args in
+    rw (lt-leb (a .at + 4) (length (now (a .trace))) (omega arith))
+
+pub record-part-spec : {M : Type 1} → statement M
+record-part-spec =
+    tie.close
+    (tie.spec
+    sub-if2
+    add-result
+    sub-result
+    part-result-start
+    part-result-end
+    slice-aggregate-result
+    slice-aggregate-result-2
+    returns
+    returns-2
+    returns-3)

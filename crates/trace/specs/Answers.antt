@@ -1,0 +1,32 @@
+-- What the functions of this crate answer, in the words of the model: the part of a trace that a record is, the event that a part stands
+-- for, and the record of an event.
+-- Assumes nothing.
+use mathlib.Core.List.{List, []}
+use mathlib.Core.Option.{Option, none, some}
+use Prim.Native.Nat.{ℕ, _+_}
+use lib.Dec.{eqb, leb}
+use lib.ListN.{length, take, drop, replicate}
+use Rattle.laws.specs.Choice.{pick}
+use Rattle.laws.specs.Lists.{orElse}
+use Rattle.model.specs.declared.Event.{Event}
+use Rattle.model.specs.Trace.{decoded, fits, encoded}
+use Rattle.trace.specs.declared.Decoded.{Decoded}
+use Rattle.trace.specs.declared.Decoded.the-variants.{Malformed, StandsFor}
+use Rattle.trace.specs.declared.Encoded.{Encoded}
+
+-- The four bytes of a trace from a place on; nothing if fewer are left.
+unfoldable pub recordAt : List ℕ → ℕ → List ℕ
+recordAt trace at = pick (leb (at + 4) (length trace)) (take 4 (drop at trace)) []
+
+-- The event that a part of a trace stands for; none unless it has four bytes.
+unfoldable pub eventIn : List ℕ → Option Event
+eventIn part = pick (eqb (length part) 4) (decoded part) none
+
+-- The answer of `decode` as the model has it.
+unfoldable pub answered : Decoded → Option Event
+answered Malformed = none
+answered (StandsFor e) = some e
+
+-- The record of an event: zeros where the event does not fit the fields.
+unfoldable pub recordOf : Event → Encoded
+recordOf e = record { fits = fits e; bytes = orElse (encoded e) (replicate 4 0) }
