@@ -1,0 +1,100 @@
+-- A sound state is full up to what it holds: behind the messages under way and behind the kept checkpoints of a process, each place is the unused one.
+-- So a table of the state is its own used front laid into a table, and one process's part put back into the state changes nothing.
+-- Assumes nothing.
+use mathlib.Core.Path.{_≡_, refl, ap, _∙_}
+use mathlib.Core.Bool.{Bool, true}
+use mathlib.Core.List.{List, [], _∷_}
+use Prim.Native.Nat.{ℕ, zero, suc, _-_, _<_}
+use native.Mathlib.Nat.{min-eq-left}
+use native.Mathlib.Omega.{arith}
+use borrow.Author.Tests.{eqb-true}
+use lib.Dec.{eqb}
+use lib.ListN.{length, getD, take, drop, replicate, length-take}
+use Rattle.laws.specs.Lists.{placed}
+use Rattle.laws.specs.Tests.{every}
+use Rattle.laws.specs.Truth.{and-left, and-right}
+use Rattle.model.specs.declared.Interval.{Interval}
+use Rattle.model.specs.declared.Checkpoint.{Checkpoint}
+use Rattle.model.specs.declared.Message.{Message}
+use Rattle.model.specs.declared.Run.{Run}
+use Rattle.model.specs.Words.{places, mostUnderWay, zeroVector, noCheckpoint, noMessage, process, underWay}
+use Rattle.model.specs.Sound.{zeroFrom, unusedCheckpoint, unusedMessage, sound}
+use Rattle.steps.specs.Sized.{Sized}
+use Rattle.steps.specs.Facts.{four, count-most, held-places, underway-most, row-unused, messages-unused}
+
+-- A list whose entries from place k on pass a test, where an entry that passes is x: it is its first k entries, filled up with x.
+module _ {A : Type 0} (t : A → Bool) (x : A) where
+  pub filled : (k : ℕ) (l : List A) → every t (drop k l) ≡ true → ((j : ℕ) → j < length l → t (getD l j x) ≡ true → getD l j x ≡ x)
+      → l ≡ placed (length l) x (take k l)
+  unfolding placed every
+  filled zero [] e h = refl
+  filled (suc k) [] e h = refl
+  filled zero (y ∷ l) e h =
+      let one : y ≡ x = h 0 (omega arith) (and-left (t y) (every t l) e) in
+      let rest = filled zero l (and-right (t y) (every t l) e) (λ j lt. h (suc j) (omega arith)) in
+      let size : suc (length l) - 0 ≡ suc (length l - 0) = omega arith in
+      rw size (ap (λ (z : A). z ∷ l) one ∙ ap (λ (r : List A). x ∷ r) rest)
+  filled (suc k) (y ∷ l) e h =
+      let rest = filled k l e (λ j lt. h (suc j) (omega arith)) in
+      let size : suc (length l) - suc (length (take k l)) ≡ length l - length (take k l) = omega arith in
+      rw size (ap (λ (r : List A). y ∷ r) rest)
+
+-- An unused vector is the vector of zeros, where it has 16 entries,
+pub zero-vector : (v : List Interval) → zeroFrom 0 v ≡ true → length v ≡ places → v ≡ zeroVector
+unfolding zeroFrom placed
+zero-vector v e n =
+    filled (λ x. eqb (x .0) 0) (record { 0 = 0 }) 0 v e (λ j lt q. ap (λ (k : ℕ). record { 0 = k }) (eqb-true (getD v j (record { 0 = 0 }) .0) 0 q))
+    ∙ ap (λ (k : ℕ). replicate k zero-entry) size
+  where
+    zero-entry : Interval
+    zero-entry = record { 0 = 0 }
+
+    size : length v - 0 ≡ places
+    size = omega (arith, n)
+
+-- and so are an unused checkpoint and an unused message.
+pub zero-checkpoint : (c : Checkpoint) → unusedCheckpoint c ≡ true → length (c .vector) ≡ places → c ≡ noCheckpoint
+unfolding unusedCheckpoint
+zero-checkpoint c e n =
+    let index = eqb-true (c .index .0) 0 (and-left (eqb (c .index .0) 0) (zeroFrom 0 (c .vector)) e) in
+    let vector = zero-vector (c .vector) (and-right (eqb (c .index .0) 0) (zeroFrom 0 (c .vector)) e) n in
+    ap (λ (k : ℕ). record { index = record { 0 = k }; vector = c .vector }) index
+    ∙ ap (λ (v : List Interval). record { index = record { 0 = 0 }; vector = v }) vector
+
+pub zero-message : (x : Message) → unusedMessage x ≡ true → length (x .vector) ≡ places → x ≡ noMessage
+unfolding unusedMessage
+zero-message x e n =
+    let q = four (eqb (x .number) 0) (eqb (x .sender) 0) (eqb (x .receiver) 0) (zeroFrom 0 (x .vector)) e in
+    ap (λ (k : ℕ). record { number = k; sender = x .sender; receiver = x .receiver; vector = x .vector }) (eqb-true (x .number) 0 (q .0))
+    ∙ ap (λ (k : ℕ). record { number = 0; sender = k; receiver = x .receiver; vector = x .vector }) (eqb-true (x .sender) 0 (q .1))
+    ∙ ap (λ (k : ℕ). record { number = 0; sender = 0; receiver = k; vector = x .vector }) (eqb-true (x .receiver) 0 (q .2))
+    ∙ ap (λ (v : List Interval). record { number = 0; sender = 0; receiver = 0; vector = v }) (zero-vector (x .vector) (q .3) n)
+
+module _ (s : Run) (size : Sized s) (h : sound s ≡ true) where
+  -- the table of messages
+  pub messages-filled : s .messages ≡ placed mostUnderWay noMessage (underWay s)
+  unfolding underWay
+  messages-filled =
+      filled unusedMessage noMessage (s .underway) (s .messages) (messages-unused s h)
+      (λ j lt e. zero-message (getD (s .messages) j noMessage) e (size .carried j (omega (arith, size .messages))))
+      ∙ ap (λ (n : ℕ). placed n noMessage (take (s .underway) (s .messages))) (size .messages)
+
+  pub messages-many : length (underWay s) ≡ s .underway
+  unfolding underWay
+  messages-many = rw length-take (min-eq-left (omega (arith, underway-most s h, size .messages)))
+
+  -- the row of the kept checkpoints of a process, and how many they are
+  module _ (p : ℕ) (lt : p < s .count) where
+    pub row-filled : getD (s .kept .0) p [] ≡ placed places noCheckpoint (process s p .kept)
+    unfolding process
+    row-filled =
+        let place : p < 16 = omega (arith, count-most s h) in
+        filled unusedCheckpoint noCheckpoint (getD (s .held) p 0) (getD (s .kept .0) p []) (row-unused s h p lt)
+        (λ j less e. zero-checkpoint (getD (getD (s .kept .0) p []) j noCheckpoint) e (size .stored p j place (omega (arith, size .kept-row p place))))
+        ∙ ap (λ (n : ℕ). placed n noCheckpoint (take (getD (s .held) p 0) (getD (s .kept .0) p []))) (size .kept-row p place)
+
+    pub row-many : length (process s p .kept) ≡ getD (s .held) p 0
+    unfolding process
+    row-many =
+        let place : p < 16 = omega (arith, count-most s h) in
+        rw length-take (min-eq-left (omega (arith, held-places s h p lt, size .kept-row p place)))

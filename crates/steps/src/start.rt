@@ -1,0 +1,79 @@
+// Start: each process stores checkpoint 0 with a vector of zeros, its own entry is then 1, and its own pin names checkpoint 0.
+use crate::messages;
+use crate::parts;
+use model::Refusal;
+use model::Run;
+use model::StartAnswer;
+ghost use mathlib.Core.Path.{_≡_};
+ghost use Prim.Native.Nat.{_≤_};
+ghost use Rattle.model.specs.Words.{blank};
+ghost use Rattle.model.specs.Steps.{startState};
+ghost use Rattle.model.specs.Outcomes.{startOutcome};
+
+pub struct StartOutcome {
+    pub run: Run,
+    pub answer: StartAnswer,
+}
+
+// A state of zeros with every pin none, and this count.
+fn blank(n: usize) -> Run
+    ensures { λ r. ⌜ r ≡ blank n ⌝ }
+{
+    let vector = rows::start::zero_vector();
+    let no_pins = rows::start::no_pins();
+    let no_checkpoint = rows::kept::no_checkpoint();
+    let no_message = messages::no_message();
+    let row = [no_checkpoint; 16];
+    let vectors = rows::squares::vectors_from([vector; 16]);
+    let pins = rows::squares::pins_from([no_pins; 16]);
+    let kept = rows::squares::kept_from([row; 16]);
+    Run {
+        count: n,
+        vectors,
+        pins,
+        sent: [false; 16],
+        kept,
+        held: [0usize; 16],
+        messages: [no_message; 64],
+        underway: 0,
+        last: 0,
+    }
+}
+
+// The first state of a run of n processes. There are places for 16.
+fn started(n: usize) -> Run
+    requires { ⌜ n ≤ 16 ⌝ }
+    ensures { λ r. ⌜ r ≡ startState n ⌝ }
+{
+    let mut s = blank(n);
+    for p in 0..n {
+        let vector = rows::start::first_vector(p);
+        let pins = rows::start::first_pins(p);
+        let kept = rows::start::first_kept(p);
+        s = parts::put(s, p, vector, pins, false, kept);
+    }
+    s
+}
+
+// A refused start returns a state of zeros.
+fn refuse() -> StartOutcome
+    ensures { λ r. ⌜ r ≡ record { run = blank 0; answer = StartAnswer.Refused Refusal.CountOutsideRange } ⌝ }
+{
+    let run = blank(0);
+    let answer = StartAnswer::Refused(Refusal::CountOutsideRange);
+    StartOutcome { run, answer }
+}
+
+pub fn start(n: usize) -> StartOutcome
+    ensures { λ r. ⌜ (r .run ≡ startOutcome n .run) × (r .answer ≡ startOutcome n .answer) ⌝ }
+{
+    if n < 1 {
+        return refuse();
+    }
+    if 16 < n {
+        return refuse();
+    }
+    let run = started(n);
+    let answer = StartAnswer::Started;
+    StartOutcome { run, answer }
+}
