@@ -1,0 +1,63 @@
+-- A state that is not sound is refused with 2 by every call, before any other number: the state, the answer and the lent lists then.
+-- Assumes nothing.
+use mathlib.Core.Path.{_≡_, refl, sym, _∙_}
+use mathlib.Core.Bool.{Bool, true, false, not}
+use mathlib.Core.List.{List}
+use mathlib.Core.Option.{some}
+use Prim.Native.Nat.{ℕ}
+use Rattle.model.specs.declared.Run.{Run}
+use Rattle.model.specs.declared.Refusal.the-variants.{UnsoundState}
+use Rattle.model.specs.declared.CheckpointAnswer.the-variants as checkpoint-answer
+use Rattle.model.specs.declared.SendAnswer.the-variants as send-answer
+use Rattle.model.specs.declared.DeliverAnswer.the-variants as deliver-answer
+use Rattle.model.specs.declared.LoseAnswer.the-variants as lose-answer
+use Rattle.model.specs.declared.LineAnswer.the-variants as line-answer
+use Rattle.model.specs.declared.RecoverAnswer.the-variants as recover-answer
+use Rattle.model.specs.Sound.{sound}
+use Rattle.model.specs.Refusals.{firstOf, checkpointRefusal, sendRefusal, deliverRefusal, loseRefusal, lineRefusal, recoverRefusal}
+use Rattle.model.specs.Outcomes.{checkpointOutcome, sendOutcome, deliverOutcome, loseOutcome, lineOutcome, recoverOutcome}
+
+-- What a test of soundness and the branch that was taken say of the state.
+negated : (b : Bool) → not b ≡ true → b ≡ false
+negated true e = sym e
+negated false e = refl
+
+affirmed : (b : Bool) → not b ≡ false → b ≡ true
+affirmed true e = refl
+affirmed false e = sym e
+
+pub is-unsound : (s : Run) {verdict : Bool} → verdict ≡ sound s → not verdict ≡ true → sound s ≡ false
+is-unsound s {verdict} e t = sym e ∙ negated verdict t
+
+pub is-sound : (s : Run) {verdict : Bool} → verdict ≡ sound s → not verdict ≡ false → sound s ≡ true
+is-sound s {verdict} e t = sym e ∙ affirmed verdict t
+
+module _ (s : Run) (h : sound s ≡ false) where
+  pub checkpoint-unsound : (i : ℕ) (deleted : List ℕ) → (s ≡ checkpointOutcome s i deleted .run)
+      × ((checkpoint-answer.Refused UnsoundState ≡ checkpointOutcome s i deleted .answer) × (deleted ≡ checkpointOutcome s i deleted .deleted))
+  unfolding checkpointOutcome checkpointRefusal firstOf
+  checkpoint-unsound i deleted = rw h (refl, (refl, refl))
+
+  pub send-unsound : (i j : ℕ) → (s ≡ sendOutcome s i j .run) × (send-answer.Refused UnsoundState ≡ sendOutcome s i j .answer)
+  unfolding sendOutcome sendRefusal firstOf
+  send-unsound i j = rw h (refl, refl)
+
+  pub deliver-unsound : (m : ℕ) (deleted : List ℕ) → (s ≡ deliverOutcome s m deleted .run)
+      × ((deliver-answer.Refused UnsoundState ≡ deliverOutcome s m deleted .answer) × (deleted ≡ deliverOutcome s m deleted .deleted))
+  unfolding deliverOutcome deliverRefusal firstOf
+  deliver-unsound m deleted = rw h (refl, (refl, refl))
+
+  pub lose-unsound : (m : ℕ) → (s ≡ loseOutcome s m .run) × (lose-answer.Refused UnsoundState ≡ loseOutcome s m .answer)
+  unfolding loseOutcome loseRefusal firstOf
+  lose-unsound m = rw h (refl, refl)
+
+  pub line-unsound : (F : ℕ) (lent : List ℕ) → (s ≡ lineOutcome s F lent .run)
+      × ((line-answer.Refused UnsoundState ≡ lineOutcome s F lent .answer) × (lent ≡ lineOutcome s F lent .line))
+  unfolding lineOutcome lineRefusal firstOf
+  line-unsound F lent = rw h (refl, (refl, refl))
+
+  pub recover-unsound : (F : ℕ) (deleted lent : List ℕ) → (s ≡ recoverOutcome s F deleted lent .run)
+      × ((recover-answer.Refused UnsoundState ≡ recoverOutcome s F deleted lent .answer)
+      × ((deleted ≡ recoverOutcome s F deleted lent .deleted) × (lent ≡ recoverOutcome s F deleted lent .line)))
+  unfolding recoverOutcome recoverRefusal firstOf
+  recover-unsound F deleted lent = rw h (refl, (refl, (refl, refl)))

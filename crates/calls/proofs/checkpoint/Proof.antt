@@ -1,0 +1,28 @@
+-- `calls::checkpoint` meets its contract: an unsound state is refused with 2, on a sound one the step does it.
+-- Assumes nothing.
+use borrow.Author.Needs.{needs}
+use Rattle.calls.proofs.Unsound.{is-sound, is-unsound, checkpoint-unsound}
+use Rattle.calls.proofs.checkpoint.Statement.{statement}
+use Rattle.calls.proofs.checkpoint.Tie as tie
+
+is-sound-requires : tie.Need-is-sound-requires
+is-sound-requires c κs = search needs
+
+returns : tie.Need-returns
+returns c =
+    let a = c .before .before .before .args in
+    checkpoint-unsound (a .s) (is-unsound (a .s) (c .before .is-sound .ensures) (c .if1 .taken)) (a .i) (a .deleted .now)
+
+checkpoint-requires : tie.Need-checkpoint-requires
+checkpoint-requires c κs =
+    let d = c .before in
+    is-sound (d .before .before .before .args .s) (d .before .is-sound .ensures) (d .if1 .left)
+
+same-length : tie.Need-same-length
+same-length c = search needs
+
+returns-2 : tie.Need-returns-2
+returns-2 c = let g = c .before .before .checkpoint .ensures in (g .0 .0, (g .0 .1, g .1))
+
+pub checkpoint-spec : {M : Type 1} → statement M
+checkpoint-spec = tie.close (tie.spec is-sound-requires returns checkpoint-requires same-length returns-2)

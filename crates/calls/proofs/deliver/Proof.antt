@@ -1,0 +1,28 @@
+-- `calls::deliver` meets its contract: an unsound state is refused with 2, on a sound one the step does it.
+-- Assumes nothing.
+use borrow.Author.Needs.{needs}
+use Rattle.calls.proofs.Unsound.{is-sound, is-unsound, deliver-unsound}
+use Rattle.calls.proofs.deliver.Statement.{statement}
+use Rattle.calls.proofs.deliver.Tie as tie
+
+is-sound-requires : tie.Need-is-sound-requires
+is-sound-requires c κs = search needs
+
+returns : tie.Need-returns
+returns c =
+    let a = c .before .before .before .args in
+    deliver-unsound (a .s) (is-unsound (a .s) (c .before .is-sound .ensures) (c .if1 .taken)) (a .m) (a .deleted .now)
+
+deliver-requires : tie.Need-deliver-requires
+deliver-requires c κs =
+    let d = c .before in
+    is-sound (d .before .before .before .args .s) (d .before .is-sound .ensures) (d .if1 .left)
+
+same-length : tie.Need-same-length
+same-length c = search needs
+
+returns-2 : tie.Need-returns-2
+returns-2 c = c .before .before .deliver .ensures
+
+pub deliver-spec : {M : Type 1} → statement M
+deliver-spec = tie.close (tie.spec is-sound-requires returns deliver-requires same-length returns-2)

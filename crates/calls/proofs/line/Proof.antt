@@ -1,0 +1,34 @@
+-- `calls::line` meets its contract: an unsound state is refused with 2, on a sound one the step does it. Demand 3 is the model's theorem.
+-- Assumes nothing.
+use borrow.Author.Needs.{needs}
+use Rattle.model.proofs.WholeRuns.{line-promise}
+use Rattle.calls.proofs.Unsound.{is-sound, is-unsound, line-unsound}
+use Rattle.calls.proofs.line.Statement.{statement}
+use Rattle.calls.proofs.line.Tie as tie
+
+is-sound-requires : tie.Need-is-sound-requires
+is-sound-requires c κs = search needs
+
+returns : tie.Need-returns
+returns c =
+    let a = c .before .before .before .args in
+    let g = line-unsound (a .s) (is-unsound (a .s) (c .before .is-sound .ensures) (c .if1 .taken)) (a .failed) (a .line .now) in
+    (g .0, (g .1 .0, (g .1 .1, line-promise (a .s) (a .failed))))
+
+line-requires : tie.Need-line-requires
+line-requires c κs =
+    let d = c .before in
+    is-sound (d .before .before .before .args .s) (d .before .is-sound .ensures) (d .if1 .left)
+
+same-length : tie.Need-same-length
+same-length c = search needs
+
+returns-2 : tie.Need-returns-2
+returns-2 c =
+    let w = c .before .before in
+    let g = w .line .ensures in
+    let a = w .before .before .before .before .before .args in
+    (g .0, (g .1 .0, (g .1 .1, line-promise (a .s) (a .failed))))
+
+pub line-spec : {M : Type 1} → statement M
+line-spec = tie.close (tie.spec is-sound-requires returns line-requires same-length returns-2)

@@ -1,0 +1,23 @@
+-- `calls::lose` meets its contract: an unsound state is refused with 2, on a sound one the step does it.
+-- Assumes nothing.
+use borrow.Author.Needs.{needs}
+use Rattle.calls.proofs.Unsound.{is-sound, is-unsound, lose-unsound}
+use Rattle.calls.proofs.lose.Statement.{statement}
+use Rattle.calls.proofs.lose.Tie as tie
+
+is-sound-requires : tie.Need-is-sound-requires
+is-sound-requires c κs = search needs
+
+returns : tie.Need-returns
+returns c =
+    let a = c .before .before .args in
+    lose-unsound (a .s) (is-unsound (a .s) (c .before .is-sound .ensures) (c .if1 .taken)) (a .m)
+
+lose-requires : tie.Need-lose-requires
+lose-requires c κs = is-sound (c .before .before .args .s) (c .before .is-sound .ensures) (c .if1 .left)
+
+returns-2 : tie.Need-returns-2
+returns-2 c = c .lose .ensures
+
+pub lose-spec : {M : Type 1} → statement M
+lose-spec = tie.close (tie.spec is-sound-requires returns lose-requires returns-2)

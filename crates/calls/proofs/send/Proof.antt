@@ -1,0 +1,23 @@
+-- `calls::send` meets its contract: an unsound state is refused with 2, on a sound one the step does it.
+-- Assumes nothing.
+use borrow.Author.Needs.{needs}
+use Rattle.calls.proofs.Unsound.{is-sound, is-unsound, send-unsound}
+use Rattle.calls.proofs.send.Statement.{statement}
+use Rattle.calls.proofs.send.Tie as tie
+
+is-sound-requires : tie.Need-is-sound-requires
+is-sound-requires c κs = search needs
+
+returns : tie.Need-returns
+returns c =
+    let a = c .before .before .args in
+    send-unsound (a .s) (is-unsound (a .s) (c .before .is-sound .ensures) (c .if1 .taken)) (a .i) (a .j)
+
+send-requires : tie.Need-send-requires
+send-requires c κs = is-sound (c .before .before .args .s) (c .before .is-sound .ensures) (c .if1 .left)
+
+returns-2 : tie.Need-returns-2
+returns-2 c = c .send .ensures
+
+pub send-spec : {M : Type 1} → statement M
+send-spec = tie.close (tie.spec is-sound-requires returns send-requires returns-2)
