@@ -1,0 +1,5 @@
+pub mod Endings
+pub mod Events
+pub mod Lines
+pub mod Moves
+pub mod Turns

@@ -1,0 +1,19 @@
+-- The first byte of a trace: the run starts and the rest of the trace is its records, or one line is all that is printed.
+-- Assumes nothing.
+use mathlib.Core.Path.{_≡_}
+use mathlib.Core.Bool.{Bool, true, false}
+use mathlib.Core.List.{List, _∷_}
+use Prim.Native.Nat.{ℕ}
+use Rattle.model.specs.declared.Run.{Run}
+use Rattle.model.specs.Listing.{records, listing}
+use Rattle.model.specs.WholeRuns.{Reachable}
+use Rattle.listing.specs.Printed.{Printed}
+
+-- A run that starts prints nothing for its first byte; its state is reachable, and what the whole trace prints is what its records print from there.
+pub record Starts (n : ℕ) (run : Run) : Type 0 where
+  pub reached : Reachable run
+  pub rest : (l : List ℕ) → listing (n ∷ l) ≡ records 0 run l
+
+unfoldable pub Begins : ℕ → Bool → Run → List ℕ → List ℕ → ℕ → Type 0
+Begins n true run out now-out written = Starts n run
+Begins n false run out now-out written = (l : List ℕ) → Printed out 0 (listing (n ∷ l)) now-out written

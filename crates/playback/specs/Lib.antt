@@ -1,0 +1,3 @@
+pub mod Blocks
+pub mod Ends
+pub mod Said
