@@ -1,7 +1,7 @@
 //! The two programs as they are run.
 
 use std::io::{Read, Write};
-use std::process::{Command, Output, Stdio};
+use std::process::{Child, Command, Output, Stdio};
 use std::thread;
 
 fn generate(arguments: &[&str]) -> Vec<u8> {
@@ -13,13 +13,18 @@ fn generate(arguments: &[&str]) -> Vec<u8> {
     output.stdout
 }
 
-fn oracle(trace: &[u8]) -> Output {
-    let mut program = Command::new(env!("CARGO_BIN_EXE_oracle"))
+/// The program with its input, output and messages at hand.
+fn running_oracle() -> Child {
+    Command::new(env!("CARGO_BIN_EXE_oracle"))
         .stdin(Stdio::piped())
         .stdout(Stdio::piped())
         .stderr(Stdio::piped())
         .spawn()
-        .unwrap();
+        .unwrap()
+}
+
+fn oracle(trace: &[u8]) -> Output {
+    let mut program = running_oracle();
     let mut input = program.stdin.take().unwrap();
     thread::scope(|scope| {
         scope.spawn(move || {
@@ -75,12 +80,7 @@ fn no_input_at_all() {
 
 #[test]
 fn a_reader_that_goes_away_ends_it_quietly() {
-    let mut program = Command::new(env!("CARGO_BIN_EXE_oracle"))
-        .stdin(Stdio::piped())
-        .stdout(Stdio::piped())
-        .stderr(Stdio::piped())
-        .spawn()
-        .unwrap();
+    let mut program = running_oracle();
     drop(program.stdout.take());
     let mut input = program.stdin.take().unwrap();
     let mut trace = vec![1];
