@@ -12,3 +12,9 @@ pub mod record;
 
 // block.rt: a block of records
 pub mod block;
+
+// ends.rt: the first byte, left-over bytes, a trace of no bytes
+pub mod ends;
+
+// buffer.rt: the buffer that blocks are read into
+pub mod buffer;

@@ -13,14 +13,14 @@ ghost use Rattle.listing.specs.Printed.{Printed};
 ghost use Rattle.playback.specs.Ends.{Begins};
 
 // Whether the run has started, its first state, and how many bytes of lines were written: none, or the line of the refusal.
-pub struct First {
+pub struct Beginning {
     pub started: bool,
     pub run: Run,
     pub written: usize,
 }
 
 // "A bad first byte prints record number 0 and the refusal and ends".
-pub fn first(n: u8, out: &mut [u8]) -> First
+pub fn first(n: u8, out: &mut [u8]) -> Beginning
     requires { ⌜ longestLine ≤ length (now out) ⌝ }
     ensures { λ r. ⌜ Begins n (r .started) (r .run) (now (out .entry)) (now (out .exit)) (r .written) × (r .written ≤ length (now (out .entry))) ⌝ }
 {
@@ -30,13 +30,13 @@ pub fn first(n: u8, out: &mut [u8]) -> First
     match answer {
         StartAnswer::Refused(why) => {
             let written = record::refuse(0, why, out);
-            First {
+            Beginning {
                 started: false,
                 run,
                 written,
             }
         }
-        StartAnswer::Started => First {
+        StartAnswer::Started => Beginning {
             started: true,
             run,
             written: 0,
