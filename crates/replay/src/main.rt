@@ -1,45 +1,46 @@
 // Replays the trace on standard input: a line on standard output for each record. It only moves bytes between the two; what they mean is said and
 // proved in `playback`. Memory does not grow with the trace. What was replayed is written before more is read, so that no line that is due is lost
-// when the input fails or stops.
+// when the input fails or stalls. An error of the system is said on standard error, and ends the replay.
 use libc::STDIN_FILENO;
 use libc::STDOUT_FILENO;
 use model::Run;
-ghost use Prim.Native.Nat.{_+_, _≤_, _<_};
-ghost use mathlib.Core.Path.{_≡_};
-ghost use mathlib.Core.Bool.{true};
-ghost use mathlib.Core.Logic.{_⊎_};
+ghost use Prim.Native.Nat.{_-_, _*_, _≤_, _<_};
 ghost use lib.ListN.{length};
 ghost use Rattle.model.specs.WholeRuns.{Reachable};
 ghost use Rattle.listing.specs.Lines.{longestLine};
+ghost use Rattle.replay.specs.Shows.{Shows, Finished};
 
+// Whether all of these lines are written.
 fn put(lines: &[u8]) -> bool {
     let is_written = io::write_all(STDOUT_FILENO, lines);
     if !is_written {
-        os::fail(&[b'w', b'r', b'i', b't', b'e']);
+        os::fail(b"replay: standard output");
     }
     is_written
 }
 
-// The state and the count of records behind a block, how many of its bytes are used, and whether all of their lines are written.
+// The state and the count of records behind a block, how many of its bytes are used, and whether their lines could not be written.
 struct Shown {
     run: Run,
     done: u64,
     used: usize,
-    whole: bool,
+    failed: bool,
 }
 
 // Every whole record of a block, up to the last that a replay takes.
 fn show(s: Run, done: u64, block: &[u8], out: &mut [u8]) -> Shown
     requires { ⌜ Reachable s × (done ≤ 1000000000) × (longestLine ≤ length (now out)) ⌝ }
-    ensures { λ r. ⌜ Reachable (r .run) × (r .done ≤ 1000000000) × (r .used ≤ length (now (block .entry))) ⌝ }
-    ensures { λ r. ⌜ r .whole ≡ true → (r .done ≡ 1000000000) ⊎ (length (now (block .entry)) < r .used + 4) ⌝ }
+    ensures { λ r. ⌜ Shows s done (now (block .entry)) (r .run) (r .done) (r .used) ⌝ }
+    ensures { λ r. ⌜ Reachable (r .run) × (r .done ≤ 1000000000) ⌝ }
+    ensures { λ r. ⌜ Finished (r .failed) (r .done) (length (now (block .entry))) (r .used) ⌝ }
 {
     let mut run = s;
     let mut count = done;
     let mut used = 0;
     while count < 1000000000 && 4 <= block.len() - used {
         let p = playback::block::replay(run, count, &block[used..], out);
-        let is_put = put(&out[..p.written]);
+        let written = p.written;
+        let is_put = put(&out[..written]);
         run = p.run;
         count = p.done;
         used += p.used;
@@ -48,7 +49,7 @@ fn show(s: Run, done: u64, block: &[u8], out: &mut [u8]) -> Shown
                 run,
                 done: count,
                 used,
-                whole: false,
+                failed: true,
             };
         }
     }
@@ -56,7 +57,27 @@ fn show(s: Run, done: u64, block: &[u8], out: &mut [u8]) -> Shown
         run,
         done: count,
         used,
-        whole: true,
+        failed: false,
+    }
+}
+
+// What a read answered, and how many bytes the buffer then holds.
+struct Filled {
+    got: isize,
+    held: usize,
+}
+
+// One read behind the bytes held, and not past the last record that a replay takes.
+fn fill(done: u64, held: usize, input: &mut [u8]) -> Filled
+    requires { ⌜ (done < 1000000000) × (held < 4) × (longestLine ≤ length (now input)) ⌝ }
+    ensures { λ r. ⌜ (r .held ≤ length (now (input .entry))) × (r .held ≤ 4 * (1000000000 - done)) ⌝ }
+{
+    let to = playback::buffer::fill_to(done, input.len());
+    let got = libc::read(STDIN_FILENO, &mut input[held..to]);
+    let more = io::count(got, &input[held..to]);
+    Filled {
+        got,
+        held: held + more,
     }
 }
 
@@ -70,35 +91,36 @@ fn replay(s: Run, input: &mut [u8], out: &mut [u8])
     // Each turn reads a byte or more, and a replay reads 4,000,000,000 of them at most.
     let mut turns: u64 = 4000000000;
     while 0 < turns && done < 1000000000 {
-        let to = playback::block::fill_to(done, input.len());
-        let got = libc::read(STDIN_FILENO, &mut input[held..to]);
-        if got < 0 {
-            os::fail(&[b'r', b'e', b'a', b'd']);
+        let filled = fill(done, held, input);
+        if filled.got < 0 {
+            os::fail(b"replay: standard input");
             return;
         }
-        if got == 0 {
+        if filled.got == 0 {
             let size = playback::ends::end(done, &input[..held], out);
             put(&out[..size]);
             return;
         }
-        held += io::count(got, &input[held..to]);
-        let shown = show(run, done, &input[..held], out);
-        if !shown.whole {
+        let size = filled.held;
+        let shown = show(run, done, &input[..size], out);
+        if shown.failed {
             return;
         }
         run = shown.run;
         done = shown.done;
-        held = playback::block::keep(input, shown.used, held);
+        held = playback::buffer::keep(input, shown.used, size);
         turns -= 1;
     }
 }
 
+// The first byte, and what follows from it.
 fn start(input: &mut [u8], out: &mut [u8])
     requires { ⌜ (longestLine ≤ length (now input)) × (longestLine ≤ length (now out)) ⌝ }
 {
-    let got = libc::read(STDIN_FILENO, &mut input[..1]);
+    let mut byte = [0u8; 1];
+    let got = libc::read(STDIN_FILENO, &mut byte);
     if got < 0 {
-        os::fail(&[b'r', b'e', b'a', b'd']);
+        os::fail(b"replay: standard input");
         return;
     }
     if got == 0 {
@@ -106,17 +128,20 @@ fn start(input: &mut [u8], out: &mut [u8])
         put(&out[..size]);
         return;
     }
-    let first = playback::ends::first(input[0], out);
+    let first = playback::ends::first(byte[0], out);
     let run = first.run;
     if first.started {
         replay(run, input, out);
         return;
     }
-    put(&out[..first.written]);
+    let written = first.written;
+    put(&out[..written]);
 }
 
 fn main() {
-    let mut input = io::large_buffer();
-    let mut out = io::large_buffer();
-    start(&mut input, &mut out);
+    let mut block = io::large_buffer();
+    let mut lines = io::large_buffer();
+    let input: &mut [u8] = &mut block;
+    let out: &mut [u8] = &mut lines;
+    start(input, out);
 }
