@@ -19,8 +19,7 @@ unfolding recordLeft
 add-result c =
     let a = c .before .before .before .args in
     let left = leb-true (1 + 4 * a .taken + 4) (length (now (a .trace))) (sym (c .before .left-behind .ensures) ∙ c .if1 .taken) in
-    let g = c .before .before .before .good in
-    record { fits = omega (arith, left, g .0) }
+    record { fits = omega (arith, left, c .before .before .before .good .0) }
 
 returns : tie.Need-returns
 unfolding takenAfter
