@@ -1,0 +1,19 @@
+-- Whether a record has room in a trace of n bytes behind the first byte and k records: told without a product that could wrap.
+-- Assumes nothing.
+use mathlib.Core.Path.{_≡_, sym, _∙_}
+use mathlib.Core.Bool.{false}
+use Prim.Native.Nat.{ℕ, _+_, _-_, _*_, _/_, _<_, _≤_}
+use native.Mathlib.Omega.{arith}
+use lib.Dec.{leb}
+use borrow.Author.Tests.{le-leb, lt-leb, leb-true, leb-false}
+use Rattle.laws.specs.Choice.{by-bool}
+
+-- The bytes behind k records and the first byte's place among them.
+pub room-counted : (n k : ℕ) → k < n / 4 → leb 5 (n - 4 * k) ≡ leb (1 + 4 * k + 4) n
+room-counted n k h =
+    by-bool (leb (1 + 4 * k + 4) n)
+    (λ e. le-leb 5 (n - 4 * k) (omega (arith, leb-true (1 + 4 * k + 4) n e)) ∙ sym e)
+    (λ e. lt-leb 5 (n - 4 * k) (omega (arith, leb-false (1 + 4 * k + 4) n e)) ∙ sym e)
+
+pub no-room : (n k : ℕ) → n / 4 ≤ k → leb (1 + 4 * k + 4) n ≡ false
+no-room n k h = lt-leb (1 + 4 * k + 4) n (omega arith)

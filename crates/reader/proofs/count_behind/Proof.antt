@@ -1,0 +1,33 @@
+-- `reader::count_behind` meets its contract: the callee's answer is the definition's test.
+-- Assumes nothing.
+use mathlib.Core.Path.{sym, _∙_}
+use Prim.Native.Nat.{_+_, _*_}
+use native.Mathlib.Omega.{arith}
+use lib.ListN.{length}
+use borrow.Author.Tests.{leb-true}
+use borrow.Author.Needs.{needs}
+use denote.Ref.{now}
+use Rattle.reader.specs.Reading.{recordLeft, takenAfter}
+use Rattle.reader.proofs.count_behind.Statement.{statement}
+use Rattle.reader.proofs.count_behind.Tie as tie
+
+left-behind-requires : tie.Need-left-behind-requires
+left-behind-requires c κs = search needs
+
+add-result : tie.Need-add-result
+unfolding recordLeft
+add-result c =
+    let a = c .before .before .before .args in
+    let left = leb-true (1 + 4 * a .taken + 4) (length (now (a .trace))) (sym (c .before .left-behind .ensures) ∙ c .if1 .taken) in
+    record { fits = omega (arith, left, c .before .before .before .good .0) }
+
+returns : tie.Need-returns
+unfolding takenAfter
+returns c = rw (sym (c .before .left-behind .ensures), c .if1 .taken)
+
+returns-2 : tie.Need-returns-2
+unfolding takenAfter
+returns-2 c = rw (sym (c .before .left-behind .ensures), c .if1 .left)
+
+pub count-behind-spec : {M : Type 1} → statement M
+count-behind-spec = tie.close (tie.spec left-behind-requires add-result returns returns-2)

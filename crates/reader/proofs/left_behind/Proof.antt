@@ -1,0 +1,28 @@
+-- `reader::left_behind` meets its contract: below a fourth of the length the bytes behind the records taken are counted; from there on a whole
+-- record and the first byte have no room.
+-- Assumes nothing.
+use mathlib.Core.Path.{sym}
+use lib.ListN.{length}
+use borrow.Author.Needs.{needs}
+use denote.Ref.{now}
+use Rattle.reader.specs.Reading.{recordLeft}
+use Rattle.reader.proofs.Room.{room-counted, no-room}
+use Rattle.reader.proofs.left_behind.Statement.{statement}
+use Rattle.reader.proofs.left_behind.Tie as tie
+
+mul-result : tie.Need-mul-result
+mul-result c = search needs
+
+sub-result : tie.Need-sub-result
+sub-result c = search needs
+
+returns : tie.Need-returns
+unfolding recordLeft
+returns c = let a = c .before .args in room-counted (length (now (a .trace))) (a .taken) (c .if1 .taken)
+
+returns-2 : tie.Need-returns-2
+unfolding recordLeft
+returns-2 c = let a = c .before .args in sym (no-room (length (now (a .trace))) (a .taken) (c .if1 .left))
+
+pub left-behind-spec : {M : Type 1} → statement M
+left-behind-spec = tie.close (tie.spec mul-result sub-result returns returns-2)

@@ -1,0 +1,78 @@
+-- A whole trace taken record by record: which records a reader hands on, how far it comes, and what this is in the words of the model.
+-- Assumes nothing.
+use mathlib.Core.Bool.{true}
+use mathlib.Core.List.{List, [], _∷_, _++_}
+use mathlib.Core.Path.{_≡_}
+use Prim.Native.Nat.{ℕ, zero, suc, _+_, _*_, _≤_, _<_}
+use lib.Dec.{eqb, ltb}
+use lib.ListN.{length, drop}
+use denote.Ref.{RefT, now}
+use Rattle.laws.specs.Choice.{pick}
+use Rattle.laws.specs.Tests.{every}
+use Rattle.model.specs.declared.Run.{Run}
+use Rattle.model.specs.declared.Refusal.the-variants.{LeftOverBytes}
+use Rattle.model.specs.Trace.{decoded}
+use Rattle.model.specs.Listing.{perform, lineText, refusalText, mostRecords, records, stateAfterRecords}
+use Rattle.reader.specs.declared.Reader.{Reader}
+use Rattle.reader.specs.Reading.{recordAfter, recordLeft, opened, advanced}
+
+-- What a reader hands on in k turns, each of which takes a record if one is left; and the reader behind them.
+unfoldable pub handedOn : ℕ → Reader → List (List ℕ)
+handedOn zero r = []
+handedOn (suc k) r = pick (recordLeft (now (r .trace)) (r .taken)) (recordAfter (now (r .trace)) (r .taken) ∷ handedOn k (advanced r)) []
+
+unfoldable pub turned : ℕ → Reader → Reader
+turned zero r = r
+turned (suc k) r = turned k (advanced r)
+
+-- The four-byte parts of the bytes behind the first one, in their order, and the one to three bytes left over.
+unfoldable pub parts : List ℕ → List (List ℕ)
+parts [] = []
+parts (a ∷ []) = []
+parts (a ∷ b ∷ []) = []
+parts (a ∷ b ∷ c ∷ []) = []
+parts (a ∷ b ∷ c ∷ d ∷ l) = (a ∷ b ∷ c ∷ d ∷ []) ∷ parts l
+
+unfoldable pub leftOver : List ℕ → List ℕ
+leftOver [] = []
+leftOver (a ∷ []) = a ∷ []
+leftOver (a ∷ b ∷ []) = a ∷ b ∷ []
+leftOver (a ∷ b ∷ c ∷ []) = a ∷ b ∷ c ∷ []
+leftOver (a ∷ b ∷ c ∷ d ∷ l) = leftOver l
+
+unfoldable pub joined : List (List ℕ) → List ℕ
+joined [] = []
+joined (p ∷ ps) = p ++ joined ps
+
+-- The replay of parts one by one: the lines, where `done` records were taken before, and the state.
+unfoldable pub linesOf : ℕ → Run → List (List ℕ) → List ℕ → List ℕ
+linesOf done s [] [] = []
+linesOf done s [] (b ∷ over) = pick (ltb done mostRecords) (refusalText (done + 1) LeftOverBytes) []
+linesOf done s (p ∷ ps) over =
+    let o = perform s (decoded p) in
+    pick (ltb done mostRecords) (lineText (done + 1) (o .reply) ++ linesOf (done + 1) (o .run) ps over) []
+
+unfoldable pub stateOf : Run → List (List ℕ) → Run
+stateOf s [] = s
+stateOf s (p ∷ ps) = stateOf (perform s (decoded p) .run) ps
+
+-- The parts and the left-over bytes are the bytes, each once and in their order, and what the model says of the bytes is what is said of them.
+pub record Partition (l : List ℕ) : Type 0 where
+  pub nothing-lost : joined (parts l) ++ leftOver l ≡ l
+  pub four-bytes : every (λ p. eqb (length p) 4) (parts l) ≡ true
+  pub fewer-than-four : length (leftOver l) < 4
+  pub same-lines : (done : ℕ) (s : Run) → records done s l ≡ linesOf done s (parts l) (leftOver l)
+  pub same-state : (s : Run) → stateAfterRecords s l ≡ stateOf s (parts l)
+
+-- A reader opened on a trace, after as many turns as the trace has records or more.
+pub record ReadsWhole (trace : RefT (List ℕ)) (k : ℕ) : Type 0 where
+  -- it has handed on the parts of the trace and nothing else
+  pub all-parts : handedOn k (opened trace) ≡ parts (drop 1 (now trace))
+  -- its count is how many they are
+  pub counted : turned k (opened trace) .taken ≡ length (parts (drop 1 (now trace)))
+  -- behind it are the left-over bytes
+  pub left-behind : drop (1 + 4 * turned k (opened trace) .taken) (now trace) ≡ leftOver (drop 1 (now trace))
+
+-- "It hands a record on as the part of the trace with its four bytes": for every trace.
+abbrev pub RecordByRecord : Type 0
+RecordByRecord = (trace : RefT (List ℕ)) → Partition (drop 1 (now trace)) × ((k : ℕ) → length (parts (drop 1 (now trace))) ≤ k → ReadsWhole trace k)
