@@ -1,22 +1,41 @@
-// What is printed of a state: vector, pins and kept checkpoints of each process, and the line for every failed set that the run has. Rows have 16
-// places; those at the count and above are not in use and not printed.
+// What is printed of a state: vector, pins and kept checkpoints of each process, and the line for every failed set that the run has; and of a
+// recovery. Nothing is assumed of a state but that its rows have 16 places.
 use crate::say;
 use model::Checkpoint;
 use model::Interval;
+use model::Kept;
 use model::LineAnswer;
 use model::Pin;
+use model::Pins;
 use model::RecoverAnswer;
 use model::Run;
-ghost use Prim.Native.Nat.{_<_};
+use model::Vectors;
+ghost use Prim.Native.Nat.{_<_, _≤_};
 
-fn vector(row: [Interval; 16], n: usize) {
-    for f in 0..16 {
-        if f < n {
-            let e = row[f];
-            say::value(e.0 as u64);
-        }
+// How many of 16 places are printed.
+fn places(count: usize) -> usize
+    ensures { λ r. ⌜ r ≤ 16 ⌝ }
+{
+    if count < 16 { count } else { 16 }
+}
+
+fn entries(row: [Interval; 16], n: usize)
+    requires { ⌜ n ≤ 16 ⌝ }
+{
+    for f in 0..n {
+        let e = row[f];
+        say::value(e.0 as u64);
     }
     say::end();
+}
+
+fn vector(all: Vectors, p: usize, n: usize)
+    requires { ⌜ p < 16 ⌝ }
+    requires { ⌜ n ≤ 16 ⌝ }
+{
+    let rows = rows::squares::vector_rows(all);
+    say::heading(b"vector", p as u64);
+    entries(rows[p], n);
 }
 
 fn pin(at: Pin) {
@@ -26,50 +45,60 @@ fn pin(at: Pin) {
     }
 }
 
-fn pins(row: [Pin; 16], n: usize) {
-    for f in 0..16 {
-        if f < n {
-            let at = row[f];
-            pin(at);
-        }
+fn named(row: [Pin; 16], n: usize)
+    requires { ⌜ n ≤ 16 ⌝ }
+{
+    for f in 0..n {
+        let at = row[f];
+        pin(at);
     }
     say::end();
 }
 
-fn kept(row: [Checkpoint; 16], held: usize) {
-    for k in 0..16 {
-        if k < held {
-            let c = row[k];
-            let index = c.index;
-            say::value(index.0 as u64);
-        }
+fn pins(all: Pins, p: usize, n: usize)
+    requires { ⌜ p < 16 ⌝ }
+    requires { ⌜ n ≤ 16 ⌝ }
+{
+    let rows = rows::squares::pin_rows(all);
+    say::heading(b"pins", p as u64);
+    named(rows[p], n);
+}
+
+fn stored(row: [Checkpoint; 16], held: usize)
+    requires { ⌜ held ≤ 16 ⌝ }
+{
+    for k in 0..held {
+        let c = row[k];
+        let index = c.index;
+        say::value(index.0 as u64);
     }
     say::end();
+}
+
+fn kept(all: Kept, p: usize, held: usize)
+    requires { ⌜ p < 16 ⌝ }
+    requires { ⌜ held ≤ 16 ⌝ }
+{
+    let rows = rows::squares::kept_rows(all);
+    say::heading(b"kept", p as u64);
+    stored(rows[p], held);
 }
 
 // The three lines of process p.
 fn process(s: Run, p: usize)
     requires { ⌜ p < 16 ⌝ }
 {
-    let n = s.count;
-    let vectors = rows::squares::vector_rows(s.vectors);
-    let all_pins = rows::squares::pin_rows(s.pins);
-    let all_kept = rows::squares::kept_rows(s.kept);
+    let n = places(s.count);
     let held = s.held;
-    say::heading(b"vector", p as u64);
-    vector(vectors[p], n);
-    say::heading(b"pins", p as u64);
-    pins(all_pins[p], n);
-    say::heading(b"kept", p as u64);
-    kept(all_kept[p], held[p]);
+    vector(s.vectors, p, n);
+    pins(s.pins, p, n);
+    kept(s.kept, p, places(held[p]));
 }
 
 fn processes(s: Run) {
-    let n = s.count;
-    for p in 0..16 {
-        if p < n {
-            process(s, p);
-        }
+    let n = places(s.count);
+    for p in 0..n {
+        process(s, p);
     }
 }
 
@@ -78,26 +107,26 @@ fn wide(x: u16) -> u64 {
 }
 
 // The indexes of a line, as a line or recover call wrote them.
-fn indexes(line: &[u16; 16], n: usize) {
-    for p in 0..16 {
-        if p < n {
-            say::value(wide(line[p]));
-        }
+fn indexes(words: &[u8], failed: u16, line: &[u16; 16], n: usize)
+    requires { ⌜ n ≤ 16 ⌝ }
+{
+    say::heading(words, failed as u64);
+    for p in 0..n {
+        say::value(wide(line[p]));
     }
     say::end();
 }
 
 // The line for one failed set, and whether the run has this set.
 fn line(s: Run, failed: u16) -> bool {
-    let n = s.count;
+    let n = places(s.count);
     let mut line = [0u16; 16];
     let outcome = calls::line(s, failed, &mut line);
     let answer = outcome.answer;
     match answer {
         LineAnswer::Refused(_) => false,
         LineAnswer::Written => {
-            say::heading(b"line", failed as u64);
-            indexes(&line, n);
+            indexes(b"line", failed, &line, n);
             true
         }
     }
@@ -129,27 +158,30 @@ fn pairs(deleted: &[u16; 512], count: usize) {
             pair(deleted[2 * k], deleted[2 * k + 1]);
         }
     }
-    say::end();
 }
 
-// A recovery, the line that it wrote, how many processes rolled back and what it deleted; and the state behind it.
-pub fn recover(s: Run, failed: u16) -> Run {
-    let n = s.count;
-    let mut deleted = [0u16; 512];
-    let mut line = [0u16; 16];
-    let outcome = calls::recover(s, failed, &mut deleted, &mut line);
-    let run = outcome.run;
-    let answer = outcome.answer;
-    say::heading(b"written", failed as u64);
-    indexes(&line, n);
+// How many processes rolled back, how many deletions there were, and each of them.
+fn recovery(failed: u16, answer: RecoverAnswer, deleted: &[u16; 512]) {
     say::heading(b"recover", failed as u64);
     match answer {
-        RecoverAnswer::Refused(why) => say::value(playback::say::number_of(why) as u64),
+        RecoverAnswer::Refused(_) => {}
         RecoverAnswer::Recovered(rolled, count) => {
             say::value(rolled as u64);
             say::value(count as u64);
-            pairs(&deleted, count);
+            pairs(deleted, count);
         }
     }
-    run
+    say::end();
+}
+
+// A recovery with what it wrote and answered, and the state behind it.
+pub fn recover(s: Run, failed: u16) -> Run {
+    let n = places(s.count);
+    let mut deleted = [0u16; 512];
+    let mut line = [0u16; 16];
+    let outcome = calls::recover(s, failed, &mut deleted, &mut line);
+    let answer = outcome.answer;
+    indexes(b"written", failed, &line, n);
+    recovery(failed, answer, &deleted);
+    outcome.run
 }

@@ -5,10 +5,13 @@ use Rattle.exam.proofs.facts.indexes.Statement.{statement}
 use Rattle.exam.proofs.facts.indexes.Tie as tie
 
 abbrev Inv-loop : tie.InvT-loop
-Inv-loop line n p₀ p = Unit
+Inv-loop words failed line n p₀ p = Unit
 
 abbrev μ-loop : tie.MeasureT-loop
-μ-loop line n p₀ p = 16 - p
+μ-loop words failed line n p₀ p = n - p
+
+heading-requires : tie.Need-heading-requires Inv-loop μ-loop
+heading-requires c κs = search needs
 
 loop-holds : tie.Need-loop-holds Inv-loop μ-loop
 loop-holds c = search needs
@@ -46,6 +49,7 @@ indexes-spec =
     (tie.spec
     Inv-loop
     μ-loop
+    heading-requires
     loop-holds
     mul-wide
     element-copy-out-wide

@@ -1,14 +1,17 @@
 -- `exam::facts::processes` meets its contract. Assumes nothing.
-use Prim.Native.Nat.{_-_}
+use Prim.Native.Nat.{_-_, _≤_}
 use borrow.Author.Needs.{needs}
 use Rattle.exam.proofs.facts.processes.Statement.{statement}
 use Rattle.exam.proofs.facts.processes.Tie as tie
 
 abbrev Inv-loop : tie.InvT-loop
-Inv-loop s n p₀ p = Unit
+Inv-loop s n p₀ p = n ≤ 16
 
 abbrev μ-loop : tie.MeasureT-loop
-μ-loop s n p₀ p = 16 - p
+μ-loop s n p₀ p = n - p
+
+places-requires : tie.Need-places-requires Inv-loop μ-loop
+places-requires c κs = search needs
 
 loop-holds : tie.Need-loop-holds Inv-loop μ-loop
 loop-holds c = search needs
@@ -31,4 +34,4 @@ returns c = search needs
 pub processes-spec : {M : Type 1} → statement M
 processes-spec =
     tie.close
-    (tie.spec Inv-loop μ-loop loop-holds process-requires add-p loop-less loop-again returns)
+    (tie.spec Inv-loop μ-loop places-requires loop-holds process-requires add-p loop-less loop-again returns)

@@ -1,29 +1,26 @@
--- `exam::facts::vector` meets its contract. Assumes nothing.
+-- `exam::facts::named` meets its contract. Assumes nothing.
 use Prim.Native.Nat.{_-_}
 use borrow.Author.Needs.{needs}
-use Rattle.exam.proofs.facts.vector.Statement.{statement}
-use Rattle.exam.proofs.facts.vector.Tie as tie
+use Rattle.exam.proofs.facts.named.Statement.{statement}
+use Rattle.exam.proofs.facts.named.Tie as tie
 
 abbrev Inv-loop : tie.InvT-loop
 Inv-loop n row f₀ f = Unit
 
 abbrev μ-loop : tie.MeasureT-loop
-μ-loop n row f₀ f = 16 - f
+μ-loop n row f₀ f = n - f
 
 loop-holds : tie.Need-loop-holds Inv-loop μ-loop
 loop-holds c = search needs
 
-mul-e : tie.Need-mul-e Inv-loop μ-loop
-mul-e c = search needs
+mul-at : tie.Need-mul-at Inv-loop μ-loop
+mul-at c = search needs
 
-array-copy-out-e : tie.Need-array-copy-out-e Inv-loop μ-loop
-array-copy-out-e c = search needs
+array-copy-out-at : tie.Need-array-copy-out-at Inv-loop μ-loop
+array-copy-out-at c = search needs
 
-cast-value : tie.Need-cast-value Inv-loop μ-loop
-cast-value c = search needs
-
-value-requires : tie.Need-value-requires Inv-loop μ-loop
-value-requires c κs = search needs
+pin-requires : tie.Need-pin-requires Inv-loop μ-loop
+pin-requires c κs = search needs
 
 add-f : tie.Need-add-f Inv-loop μ-loop
 add-f c = search needs
@@ -40,17 +37,16 @@ end-requires c κs = search needs
 returns : tie.Need-returns Inv-loop μ-loop
 returns c = search needs
 
-pub vector-spec : {M : Type 1} → statement M
-vector-spec =
+pub named-spec : {M : Type 1} → statement M
+named-spec =
     tie.close
     (tie.spec
     Inv-loop
     μ-loop
     loop-holds
-    mul-e
-    array-copy-out-e
-    cast-value
-    value-requires
+    mul-at
+    array-copy-out-at
+    pin-requires
     add-f
     loop-less
     loop-again

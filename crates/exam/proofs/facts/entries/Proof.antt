@@ -1,23 +1,23 @@
--- `exam::facts::kept` meets its contract. Assumes nothing.
+-- `exam::facts::entries` meets its contract. Assumes nothing.
 use Prim.Native.Nat.{_-_}
 use borrow.Author.Needs.{needs}
-use Rattle.exam.proofs.facts.kept.Statement.{statement}
-use Rattle.exam.proofs.facts.kept.Tie as tie
+use Rattle.exam.proofs.facts.entries.Statement.{statement}
+use Rattle.exam.proofs.facts.entries.Tie as tie
 
 abbrev Inv-loop : tie.InvT-loop
-Inv-loop held row k₀ k = Unit
+Inv-loop n row f₀ f = Unit
 
 abbrev μ-loop : tie.MeasureT-loop
-μ-loop held row k₀ k = 16 - k
+μ-loop n row f₀ f = n - f
 
 loop-holds : tie.Need-loop-holds Inv-loop μ-loop
 loop-holds c = search needs
 
-mul-c : tie.Need-mul-c Inv-loop μ-loop
-mul-c c = search needs
+mul-e : tie.Need-mul-e Inv-loop μ-loop
+mul-e c = search needs
 
-array-copy-out-c : tie.Need-array-copy-out-c Inv-loop μ-loop
-array-copy-out-c c = search needs
+array-copy-out-e : tie.Need-array-copy-out-e Inv-loop μ-loop
+array-copy-out-e c = search needs
 
 cast-value : tie.Need-cast-value Inv-loop μ-loop
 cast-value c = search needs
@@ -25,8 +25,8 @@ cast-value c = search needs
 value-requires : tie.Need-value-requires Inv-loop μ-loop
 value-requires c κs = search needs
 
-add-k : tie.Need-add-k Inv-loop μ-loop
-add-k c = search needs
+add-f : tie.Need-add-f Inv-loop μ-loop
+add-f c = search needs
 
 loop-less : tie.Need-loop-less Inv-loop μ-loop
 loop-less c = search needs
@@ -40,18 +40,18 @@ end-requires c κs = search needs
 returns : tie.Need-returns Inv-loop μ-loop
 returns c = search needs
 
-pub kept-spec : {M : Type 1} → statement M
-kept-spec =
+pub entries-spec : {M : Type 1} → statement M
+entries-spec =
     tie.close
     (tie.spec
     Inv-loop
     μ-loop
     loop-holds
-    mul-c
-    array-copy-out-c
+    mul-e
+    array-copy-out-e
     cast-value
     value-requires
-    add-k
+    add-f
     loop-less
     loop-again
     end-requires
