@@ -1,17 +1,16 @@
-// Each call of the library with lists of a given length that hold zeros, and the number of its answer: 0 if it is accepted, else the refusal number.
-// A list of 512 entries, or a line of 16, does for every run.
-use model::LineAnswer;
+// Each call of the library on the state behind the call before it, with lists of a given length that hold zeros. What comes back is the state and
+// the number of the answer: 0 if the call is accepted, else the refusal number. A deletion list of 512 entries and a line list of 16 do for every run.
 use model::Run;
 use model::StartAnswer;
 ghost use Prim.Native.Nat.{_≤_};
 
-// The state that a call hands back, and the number of its answer.
-pub struct Done {
+// The state behind a call, and the number of its answer.
+pub struct After {
     pub run: Run,
     pub refused: u8,
 }
 
-pub fn start(n: usize) -> Done {
+pub fn start(n: usize) -> After {
     let outcome = calls::start(n);
     let run = outcome.run;
     let answer = outcome.answer;
@@ -19,94 +18,57 @@ pub fn start(n: usize) -> Done {
         StartAnswer::Refused(why) => playback::say::number_of(why),
         StartAnswer::Started => 0,
     };
-    Done { run, refused }
+    After { run, refused }
 }
 
-pub fn checkpoint(s: Run, i: usize, length: usize) -> Done
+pub fn checkpoint(before: After, i: usize, length: usize) -> After
     requires { ⌜ length ≤ 512 ⌝ }
 {
     let mut deleted = [0u16; 512];
-    let outcome = calls::checkpoint(s, i, &mut deleted[..length]);
+    let outcome = calls::checkpoint(before.run, i, &mut deleted[..length]);
     let run = outcome.run;
     let answer = outcome.answer;
     let said = playback::say::of_checkpoint(answer);
     let refused = said.refused;
-    Done { run, refused }
+    After { run, refused }
 }
 
-pub fn send(s: Run, i: usize, j: usize) -> Done {
-    let outcome = calls::send(s, i, j);
+pub fn send(before: After, i: usize, j: usize) -> After {
+    let outcome = calls::send(before.run, i, j);
     let run = outcome.run;
     let answer = outcome.answer;
     let said = playback::say::of_send(answer);
     let refused = said.refused;
-    Done { run, refused }
+    After { run, refused }
 }
 
-pub fn deliver(s: Run, m: u32, length: usize) -> Done
+pub fn deliver(before: After, m: u32, length: usize) -> After
     requires { ⌜ length ≤ 512 ⌝ }
 {
     let mut deleted = [0u16; 512];
-    let outcome = calls::deliver(s, m, &mut deleted[..length]);
+    let outcome = calls::deliver(before.run, m, &mut deleted[..length]);
     let run = outcome.run;
     let answer = outcome.answer;
     let said = playback::say::of_deliver(answer);
     let refused = said.refused;
-    Done { run, refused }
+    After { run, refused }
 }
 
-pub fn line_number(answer: LineAnswer) -> u8 {
-    match answer {
-        LineAnswer::Refused(why) => playback::say::number_of(why),
-        LineAnswer::Written => 0,
-    }
-}
-
-pub fn line(s: Run, failed: u16, length: usize) -> u8
-    requires { ⌜ length ≤ 16 ⌝ }
-{
-    let mut line = [0u16; 16];
-    let outcome = calls::line(s, failed, &mut line[..length]);
-    let answer = outcome.answer;
-    line_number(answer)
-}
-
-pub fn recover(s: Run, failed: u16, length: usize, members: usize) -> Done
+pub fn recover(before: After, failed: u16, length: usize, members: usize) -> After
     requires { ⌜ length ≤ 512 ⌝ }
     requires { ⌜ members ≤ 16 ⌝ }
 {
     let mut deleted = [0u16; 512];
     let mut line = [0u16; 16];
-    let outcome = calls::recover(s, failed, &mut deleted[..length], &mut line[..members]);
+    let outcome = calls::recover(
+        before.run,
+        failed,
+        &mut deleted[..length],
+        &mut line[..members],
+    );
     let run = outcome.run;
     let answer = outcome.answer;
     let said = playback::say::of_recover(answer);
     let refused = said.refused;
-    Done { run, refused }
-}
-
-// The same for calls of which only the state matters.
-pub fn started(n: usize) -> Run {
-    let done = start(n);
-    done.run
-}
-
-pub fn stored(s: Run, i: usize) -> Run {
-    let done = checkpoint(s, i, 512);
-    done.run
-}
-
-pub fn sent(s: Run, i: usize, j: usize) -> Run {
-    let done = send(s, i, j);
-    done.run
-}
-
-pub fn delivered(s: Run, m: u32) -> Run {
-    let done = deliver(s, m, 512);
-    done.run
-}
-
-pub fn recovered(s: Run, failed: u16) -> Run {
-    let done = recover(s, failed, 512, 16);
-    done.run
+    After { run, refused }
 }

@@ -1,5 +1,6 @@
 // What is printed of a state: vector, pins and kept checkpoints of each process, and the line for every failed set that the run has; and of a
 // recovery. Nothing is assumed of a state but that its rows have 16 places.
+use crate::act::After;
 use crate::say;
 use model::Checkpoint;
 use model::Interval;
@@ -12,11 +13,11 @@ use model::Run;
 use model::Vectors;
 ghost use Prim.Native.Nat.{_<_, _≤_};
 
-// How many of 16 places are printed.
-fn places(count: usize) -> usize
-    ensures { λ r. ⌜ r ≤ 16 ⌝ }
+// A count, where there are places for so many: nothing is printed past them.
+fn within(places: usize, count: usize) -> usize
+    ensures { λ r. ⌜ r ≤ places ⌝ }
 {
-    if count < 16 { count } else { 16 }
+    if count < places { count } else { places }
 }
 
 fn entries(row: [Interval; 16], n: usize)
@@ -88,15 +89,15 @@ fn kept(all: Kept, p: usize, held: usize)
 fn process(s: Run, p: usize)
     requires { ⌜ p < 16 ⌝ }
 {
-    let n = places(s.count);
+    let n = within(16, s.count);
     let held = s.held;
     vector(s.vectors, p, n);
     pins(s.pins, p, n);
-    kept(s.kept, p, places(held[p]));
+    kept(s.kept, p, within(16, held[p]));
 }
 
 fn processes(s: Run) {
-    let n = places(s.count);
+    let n = within(16, s.count);
     for p in 0..n {
         process(s, p);
     }
@@ -119,7 +120,7 @@ fn indexes(words: &[u8], failed: u16, line: &[u16; 16], n: usize)
 
 // The line for one failed set, and whether the run has this set.
 fn line(s: Run, failed: u16) -> bool {
-    let n = places(s.count);
+    let n = within(16, s.count);
     let mut line = [0u16; 16];
     let outcome = calls::line(s, failed, &mut line);
     let answer = outcome.answer;
@@ -140,9 +141,9 @@ fn lines(s: Run) {
     }
 }
 
-pub fn state(s: Run) {
-    processes(s);
-    lines(s);
+pub fn state(after: After) {
+    processes(after.run);
+    lines(after.run);
 }
 
 // A deletion, as process:index.
@@ -152,11 +153,11 @@ fn pair(process: u16, index: u16) {
     say::number(index as u64);
 }
 
-fn pairs(deleted: &[u16; 512], count: usize) {
-    for k in 0..256 {
-        if k < count {
-            pair(deleted[2 * k], deleted[2 * k + 1]);
-        }
+fn pairs(deleted: &[u16; 512], count: usize)
+    requires { ⌜ count ≤ 256 ⌝ }
+{
+    for k in 0..count {
+        pair(deleted[2 * k], deleted[2 * k + 1]);
     }
 }
 
@@ -168,20 +169,24 @@ fn recovery(failed: u16, answer: RecoverAnswer, deleted: &[u16; 512]) {
         RecoverAnswer::Recovered(rolled, count) => {
             say::value(rolled as u64);
             say::value(count as u64);
-            pairs(deleted, count);
+            pairs(deleted, within(256, count));
         }
     }
     say::end();
 }
 
 // A recovery with what it wrote and answered, and the state behind it.
-pub fn recover(s: Run, failed: u16) -> Run {
-    let n = places(s.count);
+pub fn recover(before: After, failed: u16) -> After {
+    let s = before.run;
+    let n = within(16, s.count);
     let mut deleted = [0u16; 512];
     let mut line = [0u16; 16];
     let outcome = calls::recover(s, failed, &mut deleted, &mut line);
+    let run = outcome.run;
     let answer = outcome.answer;
     indexes(b"written", failed, &line, n);
     recovery(failed, answer, &deleted);
-    outcome.run
+    let said = playback::say::of_recover(answer);
+    let refused = said.refused;
+    After { run, refused }
 }

@@ -1,7 +1,8 @@
 // Case 10: the limits of counts, lists, messages under way and intervals. Each line says 0 where the call is accepted, else the refusal number.
 use crate::act;
+use crate::act::After;
 use crate::say;
-use model::Run;
+use model::LineAnswer;
 ghost use Prim.Native.Nat.{_≤_};
 
 // "Count 0 and 17: 1. Count 1 and 16: accepted."
@@ -25,41 +26,47 @@ fn with_list(call: &[u8], n: usize, length: usize, refused: u8) {
 fn checkpoint(n: usize, length: usize)
     requires { ⌜ length ≤ 512 ⌝ }
 {
-    let s = act::started(n);
-    let done = act::checkpoint(s, 0, length);
+    let start = act::start(n);
+    let done = act::checkpoint(start, 0, length);
     with_list(b"checkpoint", n, length, done.refused);
 }
 
 fn deliver(n: usize, length: usize)
     requires { ⌜ length ≤ 512 ⌝ }
 {
-    let start = act::started(n);
-    let s = act::sent(start, 0, 1);
-    let done = act::deliver(s, 1, length);
+    let start = act::start(n);
+    let sent = act::send(start, 0, 1);
+    let done = act::deliver(sent, 1, length);
     with_list(b"deliver", n, length, done.refused);
 }
 
 fn recover(n: usize, length: usize)
     requires { ⌜ length ≤ 512 ⌝ }
 {
-    let s = act::started(n);
-    let done = act::recover(s, 1, length, 16);
+    let start = act::start(n);
+    let done = act::recover(start, 1, length, 16);
     with_list(b"recover", n, length, done.refused);
 }
 
 fn line(n: usize, length: usize)
     requires { ⌜ length ≤ 16 ⌝ }
 {
-    let s = act::started(n);
-    let refused = act::line(s, 1, length);
+    let start = act::start(n);
+    let mut line = [0u16; 16];
+    let outcome = calls::line(start.run, 1, &mut line[..length]);
+    let answer = outcome.answer;
+    let refused = match answer {
+        LineAnswer::Refused(why) => playback::say::number_of(why),
+        LineAnswer::Written => 0,
+    };
     with_list(b"line", n, length, refused);
 }
 
 fn recover_line(n: usize, length: usize)
     requires { ⌜ length ≤ 16 ⌝ }
 {
-    let s = act::started(n);
-    let done = act::recover(s, 1, 512, length);
+    let start = act::start(n);
+    let done = act::recover(start, 1, 512, length);
     with_list(b"recoverline", n, length, done.refused);
 }
 
@@ -101,63 +108,59 @@ fn lists_of_16() {
     recover_line(16, 15);
 }
 
-fn sends(s: Run, i: usize, j: usize, times: usize) -> Run {
-    let mut run = s;
+fn sends(before: After, i: usize, j: usize, times: usize) -> After {
+    let mut s = before;
     for k in 0..times {
-        run = act::sent(run, i, j);
+        s = act::send(s, i, j);
     }
-    run
+    s
 }
 
-fn checkpoints(s: Run, i: usize, times: usize) -> Run {
-    let mut run = s;
+fn checkpoints(before: After, i: usize, times: usize) -> After {
+    let mut s = before;
     for k in 0..times {
-        run = act::stored(run, i);
+        s = act::checkpoint(s, i, 512);
     }
-    run
+    s
 }
 
 // "The 64th message under way is accepted, the 65th gives 9."
 fn messages() {
-    let start = act::started(2);
-    let s = sends(start, 0, 1, 63);
-    let last = act::send(s, 0, 1);
+    let start = act::start(2);
+    let last = sends(start, 0, 1, 64);
     say::answer(b"send 64", last.refused);
-    let full = last.run;
-    let more = act::send(full, 0, 1);
+    let more = act::send(last, 0, 1);
     say::answer(b"send 65", more.refused);
 }
 
-// "Own entry 65,534 may store, 65,535 may not." After k checkpoints an own entry is k + 1.
+// "Own entry 65,534 may store, 65,535 may not." After k checkpoints an own entry is k + 1, so the last of 65,534 is stored at 65,534.
 fn own_entries() {
-    let start = act::started(1);
-    let s = checkpoints(start, 0, 65533);
-    let last = act::checkpoint(s, 0, 512);
+    let start = act::start(1);
+    let last = checkpoints(start, 0, 65534);
     say::answer(b"own 65534", last.refused);
-    let full = last.run;
-    let more = act::checkpoint(full, 0, 512);
+    let more = act::checkpoint(last, 0, 512);
     say::answer(b"own 65535", more.refused);
 }
 
 // A delivery that forces a checkpoint, behind so many others.
 fn forced(times: usize) -> u8 {
-    let start = act::started(2);
+    let start = act::start(2);
     let high = checkpoints(start, 1, times);
-    let marked = act::sent(high, 1, 0);
-    let s = act::sent(marked, 0, 1);
-    let done = act::deliver(s, 2, 512);
+    let marked = act::send(high, 1, 0);
+    let sent = act::send(marked, 0, 1);
+    let done = act::deliver(sent, 2, 512);
     done.refused
 }
 
 // A delivery at own entry 65,535 that forces none: the sent mark is set, nothing carried is newer.
 fn quiet() -> u8 {
-    let start = act::started(2);
-    let first = act::sent(start, 0, 1);
-    let second = act::sent(first, 0, 1);
-    let known = act::delivered(second, 1);
+    let start = act::start(2);
+    let first = act::send(start, 0, 1);
+    let second = act::send(first, 0, 1);
+    let known = act::deliver(second, 1, 512);
     let high = checkpoints(known, 1, 65534);
-    let s = act::sent(high, 1, 0);
-    let done = act::deliver(s, 2, 512);
+    let marked = act::send(high, 1, 0);
+    let done = act::deliver(marked, 2, 512);
     done.refused
 }
 

@@ -1,6 +1,6 @@
 // The exam sheet of document 01 by real calls: every case makes its calls through the crate `calls` and prints what they answered and left, one fact
 // a line. The independent oracle prints the same text (`oracle --cases`, laid out above `print` in its cases.rs); the tests compare the two.
-use model::Run;
+use crate::act::After;
 
 // say.rt: text on standard output
 mod say;
@@ -14,77 +14,68 @@ mod facts;
 // limits.rt: case 10
 mod limits;
 
-// The calls of the ten-record example, by record. The tenth is refused and stands in case 9.
-fn record(s: Run, k: usize) -> Run {
-    match k {
-        1 => act::sent(s, 0, 1),
-        2 => act::delivered(s, 1),
-        3 => act::stored(s, 1),
-        4 => act::stored(s, 0),
-        5 => act::sent(s, 1, 0),
-        6 => act::delivered(s, 2),
-        7 => act::sent(s, 0, 1),
-        8 => act::delivered(s, 3),
-        9 => act::recovered(s, 1),
-        _ => s,
-    }
-}
-
-// The state after the first records of the example.
-fn example(records: usize) -> Run {
-    let mut s = act::started(2);
-    for k in 0..records {
-        s = record(s, k + 1);
-    }
-    s
-}
-
-// Cases 1 to 6: the state after some records of the example.
-fn case_after(case: u64, records: usize) {
-    say::case(case);
-    let s = example(records);
+// What a case says of the state that it reaches.
+fn case(number: u64, s: After) {
+    say::case(number);
     facts::state(s);
+}
+
+// Cases 1 to 6 stand along the ten-record example, each behind the records that its line of the sheet names. Record 4 is handed on.
+fn cases_1_to_3() -> After {
+    let start = act::start(2);
+    let first = act::send(start, 0, 1);
+    let second = act::deliver(first, 1, 512);
+    case(1, second);
+    let third = act::checkpoint(second, 1, 512);
+    case(2, third);
+    let fourth = act::checkpoint(third, 0, 512);
+    case(3, fourth);
+    fourth
+}
+
+fn cases_4_to_6(fourth: After) {
+    let fifth = act::send(fourth, 1, 0);
+    let sixth = act::deliver(fifth, 2, 512);
+    case(4, sixth);
+    let seventh = act::send(sixth, 0, 1);
+    let eighth = act::deliver(seventh, 3, 512);
+    case(5, eighth);
+    let ninth = act::recover(eighth, 1, 512, 16);
+    case(6, ninth);
 }
 
 // "After 4, recover {1} instead"
-fn case_7() {
+fn case_7(fourth: After) {
     say::case(7);
-    let before = example(4);
-    let s = facts::recover(before, 2);
-    facts::state(s);
+    let recovered = facts::recover(fourth, 2);
+    facts::state(recovered);
 }
 
 // "Three processes, 0 to 1 sent and delivered, then 1 to 2 sent and delivered"
 fn case_8() {
-    say::case(8);
-    let start = act::started(3);
-    let first = act::sent(start, 0, 1);
-    let second = act::delivered(first, 1);
-    let third = act::sent(second, 1, 2);
-    let s = act::delivered(third, 2);
-    facts::state(s);
+    let start = act::start(3);
+    let first = act::send(start, 0, 1);
+    let second = act::deliver(first, 1, 512);
+    let third = act::send(second, 1, 2);
+    let fourth = act::deliver(third, 2, 512);
+    case(8, fourth);
 }
 
 // "Two processes, send 0 to 1, recover {1}: line (1,0); deliver 1 is refused with 8"
 fn case_9() {
     say::case(9);
-    let start = act::started(2);
-    let sent = act::sent(start, 0, 1);
+    let start = act::start(2);
+    let sent = act::send(start, 0, 1);
     let recovered = facts::recover(sent, 2);
-    let delivery = act::deliver(recovered, 1, 512);
-    let s = delivery.run;
-    say::answer(b"deliver 1", delivery.refused);
-    facts::state(s);
+    let delivered = act::deliver(recovered, 1, 512);
+    say::answer(b"deliver 1", delivered.refused);
+    facts::state(delivered);
 }
 
 fn main() {
-    case_after(1, 2);
-    case_after(2, 3);
-    case_after(3, 4);
-    case_after(4, 6);
-    case_after(5, 8);
-    case_after(6, 9);
-    case_7();
+    let fourth = cases_1_to_3();
+    cases_4_to_6(fourth);
+    case_7(fourth);
     case_8();
     case_9();
     limits::case_10();

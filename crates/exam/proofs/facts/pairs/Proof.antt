@@ -8,7 +8,7 @@ abbrev Inv-loop : tie.InvT-loop
 Inv-loop deleted count k₀ k = Unit
 
 abbrev μ-loop : tie.MeasureT-loop
-μ-loop deleted count k₀ k = 256 - k
+μ-loop deleted count k₀ k = count - k
 
 loop-holds : tie.Need-loop-holds Inv-loop μ-loop
 loop-holds c = search needs

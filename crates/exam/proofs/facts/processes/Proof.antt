@@ -10,8 +10,8 @@ Inv-loop s n p₀ p = n ≤ 16
 abbrev μ-loop : tie.MeasureT-loop
 μ-loop s n p₀ p = n - p
 
-places-requires : tie.Need-places-requires Inv-loop μ-loop
-places-requires c κs = search needs
+within-requires : tie.Need-within-requires Inv-loop μ-loop
+within-requires c κs = search needs
 
 loop-holds : tie.Need-loop-holds Inv-loop μ-loop
 loop-holds c = search needs
@@ -34,4 +34,13 @@ returns c = search needs
 pub processes-spec : {M : Type 1} → statement M
 processes-spec =
     tie.close
-    (tie.spec Inv-loop μ-loop places-requires loop-holds process-requires add-p loop-less loop-again returns)
+    (tie.spec
+    Inv-loop
+    μ-loop
+    within-requires
+    loop-holds
+    process-requires
+    add-p
+    loop-less
+    loop-again
+    returns)

@@ -5,16 +5,16 @@ use Rattle.exam.proofs.limits.checkpoints.Statement.{statement}
 use Rattle.exam.proofs.limits.checkpoints.Tie as tie
 
 abbrev Inv-loop : tie.InvT-loop
-Inv-loop i times run₀ k₀ run k = Unit
+Inv-loop i times s₀ k₀ s k = Unit
 
 abbrev μ-loop : tie.MeasureT-loop
-μ-loop i times run₀ k₀ run k = times - k
+μ-loop i times s₀ k₀ s k = times - k
 
 loop-holds : tie.Need-loop-holds Inv-loop μ-loop
 loop-holds c = search needs
 
-stored-requires : tie.Need-stored-requires Inv-loop μ-loop
-stored-requires c κs = search needs
+checkpoint-requires : tie.Need-checkpoint-requires Inv-loop μ-loop
+checkpoint-requires c κs = search needs
 
 add-k : tie.Need-add-k Inv-loop μ-loop
 add-k c = search needs
@@ -31,4 +31,4 @@ returns c = search needs
 pub checkpoints-spec : {M : Type 1} → statement M
 checkpoints-spec =
     tie.close
-    (tie.spec Inv-loop μ-loop loop-holds stored-requires add-k loop-less loop-again returns)
+    (tie.spec Inv-loop μ-loop loop-holds checkpoint-requires add-k loop-less loop-again returns)

@@ -5,16 +5,16 @@ use Rattle.exam.proofs.limits.sends.Statement.{statement}
 use Rattle.exam.proofs.limits.sends.Tie as tie
 
 abbrev Inv-loop : tie.InvT-loop
-Inv-loop i j times run₀ k₀ run k = Unit
+Inv-loop i j times s₀ k₀ s k = Unit
 
 abbrev μ-loop : tie.MeasureT-loop
-μ-loop i j times run₀ k₀ run k = times - k
+μ-loop i j times s₀ k₀ s k = times - k
 
 loop-holds : tie.Need-loop-holds Inv-loop μ-loop
 loop-holds c = search needs
 
-sent-requires : tie.Need-sent-requires Inv-loop μ-loop
-sent-requires c κs = search needs
+send-requires : tie.Need-send-requires Inv-loop μ-loop
+send-requires c κs = search needs
 
 add-k : tie.Need-add-k Inv-loop μ-loop
 add-k c = search needs
@@ -31,4 +31,4 @@ returns c = search needs
 pub sends-spec : {M : Type 1} → statement M
 sends-spec =
     tie.close
-    (tie.spec Inv-loop μ-loop loop-holds sent-requires add-k loop-less loop-again returns)
+    (tie.spec Inv-loop μ-loop loop-holds send-requires add-k loop-less loop-again returns)
