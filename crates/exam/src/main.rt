@@ -20,7 +20,8 @@ fn case(number: u64, s: After) {
     facts::state(s);
 }
 
-// Cases 1 to 6 stand along the ten-record example, each behind the records that its line of the sheet names. Record 4 is handed on.
+// Cases 1 to 6 stand along the ten-record example, each after the records that its line of the sheet names. The state after
+// record 4 is handed on: case 7 goes on from it too.
 fn cases_1_to_3() -> After {
     let start = act::start(2);
     let first = act::send(start, 0, 1);
