@@ -1,0 +1,32 @@
+-- `exam::act::checkpoint` meets its contract. Assumes nothing.
+use mathlib.Core.Path.{sym}
+use lib.Seq.{length-take-le}
+use lib.ListN.{replicate}
+use borrow.Author.Needs.{needs}
+use Rattle.exam.proofs.act.checkpoint.Statement.{statement}
+use Rattle.exam.proofs.act.checkpoint.Tie as tie
+
+array-borrow-prefix-deleted : tie.Need-array-borrow-prefix-deleted
+array-borrow-prefix-deleted c = search needs
+
+slice-aggregate-checkpoint : tie.Need-slice-aggregate-checkpoint
+slice-aggregate-checkpoint c = sym (length-take-le (c .before .args .length) (replicate 512 0) (c .before .pre))
+
+checkpoint-requires : tie.Need-checkpoint-requires
+checkpoint-requires c κs = search needs
+
+of-checkpoint-requires : tie.Need-of-checkpoint-requires
+of-checkpoint-requires c κs = search needs
+
+returns : tie.Need-returns
+returns c = search needs
+
+pub checkpoint-spec : {M : Type 1} → statement M
+checkpoint-spec =
+    tie.close
+    (tie.spec
+    array-borrow-prefix-deleted
+    slice-aggregate-checkpoint
+    checkpoint-requires
+    of-checkpoint-requires
+    returns)

@@ -1,0 +1,192 @@
+// What is printed of a state: vector, pins and kept checkpoints of each process, and the line for every failed set that the run has; and of a
+// recovery. Nothing is assumed of a state but that its rows have 16 places.
+use crate::act::After;
+use crate::say;
+use model::Checkpoint;
+use model::Interval;
+use model::Kept;
+use model::LineAnswer;
+use model::Pin;
+use model::Pins;
+use model::RecoverAnswer;
+use model::Run;
+use model::Vectors;
+ghost use Prim.Native.Nat.{_<_, _≤_};
+
+// A count, where there are places for so many: nothing is printed past them.
+fn within(places: usize, count: usize) -> usize
+    ensures { λ r. ⌜ r ≤ places ⌝ }
+{
+    if count < places { count } else { places }
+}
+
+fn entries(row: [Interval; 16], n: usize)
+    requires { ⌜ n ≤ 16 ⌝ }
+{
+    for f in 0..n {
+        let e = row[f];
+        say::value(e.0 as u64);
+    }
+    say::end();
+}
+
+fn vector(all: Vectors, p: usize, n: usize)
+    requires { ⌜ p < 16 ⌝ }
+    requires { ⌜ n ≤ 16 ⌝ }
+{
+    let rows = rows::squares::vector_rows(all);
+    say::heading(b"vector", p as u64);
+    entries(rows[p], n);
+}
+
+fn pin(at: Pin) {
+    match at {
+        Pin::Nothing => say::text(b" -"),
+        Pin::At(index) => say::value(index.0 as u64),
+    }
+}
+
+fn named(row: [Pin; 16], n: usize)
+    requires { ⌜ n ≤ 16 ⌝ }
+{
+    for f in 0..n {
+        let at = row[f];
+        pin(at);
+    }
+    say::end();
+}
+
+fn pins(all: Pins, p: usize, n: usize)
+    requires { ⌜ p < 16 ⌝ }
+    requires { ⌜ n ≤ 16 ⌝ }
+{
+    let rows = rows::squares::pin_rows(all);
+    say::heading(b"pins", p as u64);
+    named(rows[p], n);
+}
+
+fn stored(row: [Checkpoint; 16], held: usize)
+    requires { ⌜ held ≤ 16 ⌝ }
+{
+    for k in 0..held {
+        let c = row[k];
+        let index = c.index;
+        say::value(index.0 as u64);
+    }
+    say::end();
+}
+
+fn kept(all: Kept, p: usize, held: usize)
+    requires { ⌜ p < 16 ⌝ }
+    requires { ⌜ held ≤ 16 ⌝ }
+{
+    let rows = rows::squares::kept_rows(all);
+    say::heading(b"kept", p as u64);
+    stored(rows[p], held);
+}
+
+// The three lines of process p.
+fn process(s: Run, p: usize)
+    requires { ⌜ p < 16 ⌝ }
+{
+    let n = within(16, s.count);
+    let held = s.held;
+    vector(s.vectors, p, n);
+    pins(s.pins, p, n);
+    kept(s.kept, p, within(16, held[p]));
+}
+
+fn processes(s: Run) {
+    let n = within(16, s.count);
+    for p in 0..n {
+        process(s, p);
+    }
+}
+
+fn wide(x: u16) -> u64 {
+    x as u64
+}
+
+// The indexes of a line, as a line or recover call wrote them.
+fn indexes(words: &[u8], failed: u16, line: &[u16; 16], n: usize)
+    requires { ⌜ n ≤ 16 ⌝ }
+{
+    say::heading(words, failed as u64);
+    for p in 0..n {
+        say::value(wide(line[p]));
+    }
+    say::end();
+}
+
+// The line for one failed set, and whether the run has this set.
+fn line(s: Run, failed: u16) -> bool {
+    let n = within(16, s.count);
+    let mut line = [0u16; 16];
+    let outcome = calls::line(s, failed, &mut line);
+    let answer = outcome.answer;
+    match answer {
+        LineAnswer::Refused(_) => false,
+        LineAnswer::Written => {
+            indexes(b"line", failed, &line, n);
+            true
+        }
+    }
+}
+
+// The failed sets of a run are the numbers from 1 up to the first that is refused, for a bit at the count or above.
+fn lines(s: Run) {
+    let mut failed: u16 = 1;
+    while failed < 65535 && line(s, failed) {
+        failed += 1;
+    }
+}
+
+pub fn state(after: After) {
+    processes(after.run);
+    lines(after.run);
+}
+
+// A deletion, as process:index.
+fn pair(process: u16, index: u16) {
+    say::value(process as u64);
+    say::text(b":");
+    say::number(index as u64);
+}
+
+fn pairs(deleted: &[u16; 512], count: usize)
+    requires { ⌜ count ≤ 256 ⌝ }
+{
+    for k in 0..count {
+        pair(deleted[2 * k], deleted[2 * k + 1]);
+    }
+}
+
+// How many processes rolled back, how many deletions there were, and each of them.
+fn recovery(failed: u16, answer: RecoverAnswer, deleted: &[u16; 512]) {
+    say::heading(b"recover", failed as u64);
+    match answer {
+        RecoverAnswer::Refused(_) => {}
+        RecoverAnswer::Recovered(rolled, count) => {
+            say::value(rolled as u64);
+            say::value(count as u64);
+            pairs(deleted, within(256, count));
+        }
+    }
+    say::end();
+}
+
+// A recovery with what it wrote and answered, and the state behind it.
+pub fn recover(before: After, failed: u16) -> After {
+    let s = before.run;
+    let n = within(16, s.count);
+    let mut deleted = [0u16; 512];
+    let mut line = [0u16; 16];
+    let outcome = calls::recover(s, failed, &mut deleted, &mut line);
+    let run = outcome.run;
+    let answer = outcome.answer;
+    indexes(b"written", failed, &line, n);
+    recovery(failed, answer, &deleted);
+    let said = playback::say::of_recover(answer);
+    let refused = said.refused;
+    After { run, refused }
+}

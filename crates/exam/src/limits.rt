@@ -1,0 +1,181 @@
+// Case 10: the limits of counts, lists, messages under way and intervals. Each line says 0 where the call is accepted, else the refusal number.
+use crate::act;
+use crate::act::After;
+use crate::say;
+use model::LineAnswer;
+ghost use Prim.Native.Nat.{_≤_};
+
+// "Count 0 and 17: 1. Count 1 and 16: accepted."
+fn start(n: usize) {
+    let done = act::start(n);
+    say::heading(b"start", n as u64);
+    say::value(done.refused as u64);
+    say::end();
+}
+
+// The answer of a call on a run of n processes that is lent a list of some length.
+fn with_list(call: &[u8], n: usize, length: usize, refused: u8) {
+    say::text(call);
+    say::value(n as u64);
+    say::value(length as u64);
+    say::text(b":");
+    say::value(refused as u64);
+    say::end();
+}
+
+fn checkpoint(n: usize, length: usize)
+    requires { ⌜ length ≤ 512 ⌝ }
+{
+    let start = act::start(n);
+    let done = act::checkpoint(start, 0, length);
+    with_list(b"checkpoint", n, length, done.refused);
+}
+
+fn deliver(n: usize, length: usize)
+    requires { ⌜ length ≤ 512 ⌝ }
+{
+    let start = act::start(n);
+    let sent = act::send(start, 0, 1);
+    let done = act::deliver(sent, 1, length);
+    with_list(b"deliver", n, length, done.refused);
+}
+
+fn recover(n: usize, length: usize)
+    requires { ⌜ length ≤ 512 ⌝ }
+{
+    let start = act::start(n);
+    let done = act::recover(start, 1, length, 16);
+    with_list(b"recover", n, length, done.refused);
+}
+
+fn line(n: usize, length: usize)
+    requires { ⌜ length ≤ 16 ⌝ }
+{
+    let start = act::start(n);
+    let mut line = [0u16; 16];
+    let outcome = calls::line(start.run, 1, &mut line[..length]);
+    let answer = outcome.answer;
+    let refused = match answer {
+        LineAnswer::Refused(why) => playback::say::number_of(why),
+        LineAnswer::Written => 0,
+    };
+    with_list(b"line", n, length, refused);
+}
+
+fn recover_line(n: usize, length: usize)
+    requires { ⌜ length ≤ 16 ⌝ }
+{
+    let start = act::start(n);
+    let done = act::recover(start, 1, 512, length);
+    with_list(b"recoverline", n, length, done.refused);
+}
+
+// "Lists of 2 × n × n entries do, one less gives 3", and line lists of n entries.
+fn lists_of_1() {
+    checkpoint(1, 2);
+    checkpoint(1, 1);
+    recover(1, 2);
+    recover(1, 1);
+    line(1, 1);
+    line(1, 0);
+    recover_line(1, 1);
+    recover_line(1, 0);
+}
+
+fn lists_of_2() {
+    checkpoint(2, 8);
+    checkpoint(2, 7);
+    deliver(2, 8);
+    deliver(2, 7);
+    recover(2, 8);
+    recover(2, 7);
+    line(2, 2);
+    line(2, 1);
+    recover_line(2, 2);
+    recover_line(2, 1);
+}
+
+fn lists_of_16() {
+    checkpoint(16, 512);
+    checkpoint(16, 511);
+    deliver(16, 512);
+    deliver(16, 511);
+    recover(16, 512);
+    recover(16, 511);
+    line(16, 16);
+    line(16, 15);
+    recover_line(16, 16);
+    recover_line(16, 15);
+}
+
+fn sends(before: After, i: usize, j: usize, times: usize) -> After {
+    let mut s = before;
+    for k in 0..times {
+        s = act::send(s, i, j);
+    }
+    s
+}
+
+fn checkpoints(before: After, i: usize, times: usize) -> After {
+    let mut s = before;
+    for k in 0..times {
+        s = act::checkpoint(s, i, 512);
+    }
+    s
+}
+
+// "The 64th message under way is accepted, the 65th gives 9."
+fn messages() {
+    let start = act::start(2);
+    let last = sends(start, 0, 1, 64);
+    say::answer(b"send 64", last.refused);
+    let more = act::send(last, 0, 1);
+    say::answer(b"send 65", more.refused);
+}
+
+// "Own entry 65,534 may store, 65,535 may not." After k checkpoints an own entry is k + 1, so the last of 65,534 is stored at 65,534.
+fn own_entries() {
+    let start = act::start(1);
+    let last = checkpoints(start, 0, 65534);
+    say::answer(b"own 65534", last.refused);
+    let more = act::checkpoint(last, 0, 512);
+    say::answer(b"own 65535", more.refused);
+}
+
+// A delivery that forces a checkpoint, behind so many others.
+fn forced(times: usize) -> u8 {
+    let start = act::start(2);
+    let high = checkpoints(start, 1, times);
+    let marked = act::send(high, 1, 0);
+    let sent = act::send(marked, 0, 1);
+    let done = act::deliver(sent, 2, 512);
+    done.refused
+}
+
+// A delivery at own entry 65,535 that forces none: the sent mark is set, nothing carried is newer.
+fn quiet() -> u8 {
+    let start = act::start(2);
+    let first = act::send(start, 0, 1);
+    let second = act::send(first, 0, 1);
+    let known = act::deliver(second, 1, 512);
+    let high = checkpoints(known, 1, 65534);
+    let marked = act::send(high, 1, 0);
+    let done = act::deliver(marked, 2, 512);
+    done.refused
+}
+
+pub fn case_10() {
+    say::case(10);
+    start(0);
+    start(1);
+    start(16);
+    start(17);
+    lists_of_1();
+    lists_of_2();
+    lists_of_16();
+    messages();
+    own_entries();
+    say::answer(b"forced 65534", forced(65533));
+    say::answer(b"forced 65535", forced(65534));
+    say::answer(b"quiet 65535", quiet());
+}

@@ -1,0 +1,83 @@
+// The exam sheet of document 01 by real calls: every case makes its calls through the crate `calls` and prints what they answered and left, one fact
+// a line. The independent oracle prints the same text (`oracle --cases`, laid out above `print` in its cases.rs); the tests compare the two.
+use crate::act::After;
+
+// say.rt: text on standard output
+mod say;
+
+// act.rt: each call with the lists that it is lent, and the refusal number of its answer
+mod act;
+
+// facts.rt: what is printed of a state and of a recovery
+mod facts;
+
+// limits.rt: case 10
+mod limits;
+
+// What a case says of the state that it reaches.
+fn case(number: u64, s: After) {
+    say::case(number);
+    facts::state(s);
+}
+
+// Cases 1 to 6 stand along the ten-record example, each after the records that its line of the sheet names. The state after
+// record 4 is handed on: case 7 goes on from it too.
+fn cases_1_to_3() -> After {
+    let start = act::start(2);
+    let first = act::send(start, 0, 1);
+    let second = act::deliver(first, 1, 512);
+    case(1, second);
+    let third = act::checkpoint(second, 1, 512);
+    case(2, third);
+    let fourth = act::checkpoint(third, 0, 512);
+    case(3, fourth);
+    fourth
+}
+
+fn cases_4_to_6(fourth: After) {
+    let fifth = act::send(fourth, 1, 0);
+    let sixth = act::deliver(fifth, 2, 512);
+    case(4, sixth);
+    let seventh = act::send(sixth, 0, 1);
+    let eighth = act::deliver(seventh, 3, 512);
+    case(5, eighth);
+    let ninth = act::recover(eighth, 1, 512, 16);
+    case(6, ninth);
+}
+
+// "After 4, recover {1} instead"
+fn case_7(fourth: After) {
+    say::case(7);
+    let recovered = facts::recover(fourth, 2);
+    facts::state(recovered);
+}
+
+// "Three processes, 0 to 1 sent and delivered, then 1 to 2 sent and delivered"
+fn case_8() {
+    let start = act::start(3);
+    let first = act::send(start, 0, 1);
+    let second = act::deliver(first, 1, 512);
+    let third = act::send(second, 1, 2);
+    let fourth = act::deliver(third, 2, 512);
+    case(8, fourth);
+}
+
+// "Two processes, send 0 to 1, recover {1}: line (1,0); deliver 1 is refused with 8"
+fn case_9() {
+    say::case(9);
+    let start = act::start(2);
+    let sent = act::send(start, 0, 1);
+    let recovered = facts::recover(sent, 2);
+    let delivered = act::deliver(recovered, 1, 512);
+    say::answer(b"deliver 1", delivered.refused);
+    facts::state(delivered);
+}
+
+fn main() {
+    let fourth = cases_1_to_3();
+    cases_4_to_6(fourth);
+    case_7(fourth);
+    case_8();
+    case_9();
+    limits::case_10();
+}
