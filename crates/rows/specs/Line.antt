@@ -1,14 +1,16 @@
 -- The line rule on rows: the states that a failed set allows, where the own entries of all processes are given as a row. Below the definitions stands
 -- that they say what Steps says of the whole state.
 -- Assumes nothing.
-use mathlib.Core.Path.{_≡_, refl, ap}
+use mathlib.Core.Path.{_≡_, refl, ap, _∙_}
 use mathlib.Core.Bool.{Bool, true, false, not, _||_}
 use mathlib.Core.List.{List, [], _∷_, _++_, append-nil}
 use mathlib.Core.Option.{Option, none, some}
-use Prim.Native.Nat.{ℕ, _+_, _<_}
-use lib.ListN.{length, getD, take}
-use Rattle.laws.specs.Choice.{pick}
+use Prim.Native.Nat.{ℕ, zero, suc, _+_, _<_, _≤_}
+use native.Mathlib.Omega.{arith}
+use lib.ListN.{length, getD, take, replicate, length-replicate, getD-replicate}
+use Rattle.laws.specs.Choice.{pick, by-eq}
 use Rattle.laws.specs.Lists.{select, lastOf, orElse, table}
+use Rattle.laws.specs.Loops.{setBelow, below-at, below-above}
 use Rattle.laws.specs.Prefixes.{select-same, select-yes, select-no}
 use Rattle.laws.specs.Ranges.{all-same}
 use Rattle.laws.specs.Search.{allBelow}
@@ -26,17 +28,21 @@ use Rattle.rows.specs.declared.line.Latest.{Latest}
 unfoldable pub ownRow : List (List Interval) → List Interval
 ownRow rows = table places (λ f. entry (getD rows f []) f)
 
+-- which of the first n processes have failed
+unfoldable pub failedRow : ℕ → ℕ → List Bool
+failedRow n F = setBelow n (failed F) (replicate places false)
+
 -- f has not failed, or the entry for f is less than f's own one
-unfoldable pub allowedAt : List Interval → ℕ → List Interval → ℕ → Bool
-allowedAt owns F v f = not (failed F f) || below (entry v f) (entry owns f)
+unfoldable pub allowedAt : List Bool → List Interval → List Interval → ℕ → Bool
+allowedAt marks owns v f = not (getD marks f false) || below (entry v f) (entry owns f)
 
 -- a state with vector v is allowed, for every failed f
-unfoldable pub allowedBy : ℕ → List Interval → ℕ → List Interval → Bool
-allowedBy n owns F v = allBelow n (allowedAt owns F v)
+unfoldable pub allowedBy : List Bool → List Interval → List Interval → Bool
+allowedBy marks owns v = allBelow places (allowedAt marks owns v)
 
 -- the latest of these that is allowed, if there is one
-unfoldable pub latestBy : ℕ → List Interval → ℕ → List Checkpoint → Option Checkpoint
-latestBy n owns F l = lastOf (select (λ c. allowedBy n owns F (c .vector)) l)
+unfoldable pub latestBy : List Bool → List Interval → List Checkpoint → Option Checkpoint
+latestBy marks owns l = lastOf (select (λ c. allowedBy marks owns (c .vector)) l)
 
 -- an answer that there may not be, as a struct: with none, the state is that of an unused place
 unfoldable pub latestIs : Option Checkpoint → Latest
@@ -48,16 +54,39 @@ pub own-row-at : (s : Run) (f : ℕ) → f < 16 → entry (ownRow (s .vectors .0
 unfolding ownRow own process
 own-row-at s f h = getD-table 16 (λ f. entry (getD (s .vectors .0) f []) f) f (record { 0 = 0 }) h
 
-module _ (s : Run) (owns : List Interval) (F : ℕ) (h : (f : ℕ) → f < s .count → entry owns f ≡ own s f) where
+-- Numbers from n on that pass do not count.
+all-wider : (n m : ℕ) (t : ℕ → Bool) → n ≤ m → ((k : ℕ) → n ≤ k → k < m → t k ≡ true) → allBelow m t ≡ allBelow n t
+unfolding allBelow
+all-wider n zero t le h = rw (zero-of n le)
+  where
+    zero-of : (n : ℕ) → n ≤ 0 → n ≡ 0
+    zero-of n h = omega arith
+all-wider n (suc m) t le h = by-eq n (suc m)
+    (λ e. rw e)
+    (λ ne. rw (h m (omega arith) (omega arith)) (all-wider n m t (omega arith) (λ k a b. h k a (omega arith))))
+
+-- The row of marks: the failed ones below n, and none above.
+module _ (n F : ℕ) (few : n ≤ 16) where
+  mark-below : (f : ℕ) → f < n → getD (failedRow n F) f false ≡ failed F f
+  unfolding failedRow
+  mark-below f lt = let size = length-replicate 16 false in below-at (failed F) (replicate 16 false) n f false lt (omega (arith, size))
+
+  mark-above : (f : ℕ) → n ≤ f → f < 16 → getD (failedRow n F) f false ≡ false
+  unfolding failedRow
+  mark-above f past lt = below-above (failed F) (replicate 16 false) n f false past ∙ getD-replicate 16 f false false lt
+
+module _ (s : Run) (owns : List Interval) (F : ℕ) (few : s .count ≤ 16) (h : (f : ℕ) → f < s .count → entry owns f ≡ own s f) where
   -- allowed by a row of the state's own entries: allowed in the state
-  pub allowed-by-row : (c : Checkpoint) → allowedBy (s .count) owns F (c .vector) ≡ allowed s F c
+  pub allowed-by-row : (c : Checkpoint) → allowedBy (failedRow (s .count) F) owns (c .vector) ≡ allowed s F c
   unfolding allowedBy allowedAt allowed
-  allowed-by-row c = all-same (s .count) _ _ (λ f lt. rw (h f lt))
+  allowed-by-row c =
+      all-wider (s .count) 16 _ few (λ f past lt. rw (mark-above (s .count) F few f past lt))
+      ∙ all-same (s .count) _ _ (λ f lt. rw (mark-below (s .count) F few f lt, h f lt))
 
   -- and the latest allowed one is the same
-  pub latest-by-row : (p : ℕ) → latestBy (s .count) owns F (process s p .kept ++ (live p (process s p) ∷ [])) ≡ latestAllowed s F p
+  pub latest-by-row : (p : ℕ) → latestBy (failedRow (s .count) F) owns (process s p .kept ++ (live p (process s p) ∷ [])) ≡ latestAllowed s F p
   unfolding latestBy latestAllowed states
-  latest-by-row p = ap lastOf (select-same (λ c. allowedBy (s .count) owns F (c .vector)) (allowed s F) _ allowed-by-row)
+  latest-by-row p = ap lastOf (select-same (λ c. allowedBy (failedRow (s .count) F) owns (c .vector)) (allowed s F) _ allowed-by-row)
 
 -- Whether there is one, and the one itself, or the live state where there is none.
 pub latest-found : (o : Option Checkpoint) → latestIs o .found ≡ not (missing o)
@@ -71,28 +100,28 @@ latest-or none c = refl
 latest-or (some d) c = refl
 
 -- A search before its first entry.
-pub latest-none : (n : ℕ) (owns : List Interval) (F : ℕ) → record { found = false; state = noCheckpoint } ≡ latestIs (latestBy n owns F [])
+pub latest-none : (marks : List Bool) (owns : List Interval) → record { found = false; state = noCheckpoint } ≡ latestIs (latestBy marks owns [])
 unfolding latestBy latestIs select lastOf
-latest-none n owns F = refl
+latest-none marks owns = refl
 
 -- A search through a row: one entry more is the latest allowed one, or it changes nothing.
-module _ (n : ℕ) (owns : List Interval) (F : ℕ) (row : List Checkpoint) (k : ℕ) (d : Checkpoint) (h : k < length row) where
-  pub latest-yes : allowedBy n owns F (getD row k d .vector) ≡ true
-      → record { found = true; state = getD row k d } ≡ latestIs (latestBy n owns F (take (k + 1) row))
+module _ (marks : List Bool) (owns : List Interval) (row : List Checkpoint) (k : ℕ) (d : Checkpoint) (h : k < length row) where
+  pub latest-yes : allowedBy marks owns (getD row k d .vector) ≡ true
+      → record { found = true; state = getD row k d } ≡ latestIs (latestBy marks owns (take (k + 1) row))
   unfolding latestBy latestIs
-  latest-yes e = rw (select-yes (λ c. allowedBy n owns F (c .vector)) row k d h e, lastOf-snoc)
+  latest-yes e = rw (select-yes (λ c. allowedBy marks owns (c .vector)) row k d h e, lastOf-snoc)
 
-  pub latest-no : allowedBy n owns F (getD row k d .vector) ≡ false
-      → latestIs (latestBy n owns F (take k row)) ≡ latestIs (latestBy n owns F (take (k + 1) row))
+  pub latest-no : allowedBy marks owns (getD row k d .vector) ≡ false
+      → latestIs (latestBy marks owns (take k row)) ≡ latestIs (latestBy marks owns (take (k + 1) row))
   unfolding latestBy
-  latest-no e = rw (select-no (λ c. allowedBy n owns F (c .vector)) row k d h e)
+  latest-no e = rw (select-no (λ c. allowedBy marks owns (c .vector)) row k d h e)
 
 -- The same behind a whole list.
-module _ (n : ℕ) (owns : List Interval) (F : ℕ) (l : List Checkpoint) (c : Checkpoint) where
-  pub latest-is-last : allowedBy n owns F (c .vector) ≡ true → record { found = true; state = c } ≡ latestIs (latestBy n owns F (l ++ (c ∷ [])))
+module _ (marks : List Bool) (owns : List Interval) (l : List Checkpoint) (c : Checkpoint) where
+  pub latest-is-last : allowedBy marks owns (c .vector) ≡ true → record { found = true; state = c } ≡ latestIs (latestBy marks owns (l ++ (c ∷ [])))
   unfolding latestBy latestIs select
   latest-is-last e = rw (select-append, e, lastOf-snoc)
 
-  pub latest-not-last : allowedBy n owns F (c .vector) ≡ false → latestIs (latestBy n owns F l) ≡ latestIs (latestBy n owns F (l ++ (c ∷ [])))
+  pub latest-not-last : allowedBy marks owns (c .vector) ≡ false → latestIs (latestBy marks owns l) ≡ latestIs (latestBy marks owns (l ++ (c ∷ [])))
   unfolding latestBy select
   latest-not-last e = rw (select-append, e, append-nil)

@@ -2,21 +2,22 @@
 -- the recovery are given as a row. Below the definitions stands that they say what Steps says of the whole state.
 -- Assumes nothing.
 use mathlib.Core.Path.{_≡_, refl, ap, sym, _∙_}
-use mathlib.Core.Bool.{Bool, true, false, not, _&&_}
-use mathlib.Core.List.{List, [], _∷_}
+use mathlib.Core.Bool.{Bool, true, false, not, _&&_, _||_}
+use mathlib.Core.List.{List, [], _∷_, _++_, append-nil}
 use Prim.Native.Nat.{ℕ, _+_, _-_, _<_, _≤_}
-use native.Mathlib.Nat.{min-le-left}
 use native.Mathlib.Omega.{arith}
 use borrow.Author.Tests.{eq-eqb, eqb-true, ltb-true, ltb-false, le-leb, lt-leb, le-ltb}
 use lib.Dec.{eqb, leb, ltb}
-use lib.ListN.{length, getD, take, length-take}
+use lib.ListN.{length, getD, take, replicate}
 use Rattle.laws.specs.Choice.{pick, by-bool}
 use Rattle.laws.specs.Elements.{every-append, every-single}
 use Rattle.laws.specs.Lists.{select, lastOf, table}
 use Rattle.laws.specs.Prefixes.{select-yes, select-no, every-select, every-last}
-use Rattle.laws.specs.Select.{select-length, lastOf-snoc}
-use Rattle.laws.specs.Tables.{table-same}
+use Rattle.laws.specs.Rows.{or-false}
+use Rattle.laws.specs.Select.{select-append, lastOf-snoc}
+use Rattle.laws.specs.Tables.{getD-table, table-same, table-replicate}
 use Rattle.laws.specs.Tests.{every}
+use Rattle.laws.specs.Truth.{or-in-right}
 use Rattle.model.specs.declared.Interval.{Interval}
 use Rattle.model.specs.declared.CheckpointIndex.{CheckpointIndex}
 use Rattle.model.specs.declared.Pin.{Pin}
@@ -25,6 +26,7 @@ use Rattle.model.specs.declared.Checkpoint.{Checkpoint}
 use Rattle.model.specs.declared.Run.{Run}
 use Rattle.model.specs.Words.{places, entry, below, liveIndex, lastStored, named, Process, process, live, own}
 use Rattle.model.specs.Steps.{listed, advanced, allowed, states, latestAllowed, latestPin, member, rolledBack, vectorAfter, notLost, ownAfter, movedPin, pinAfter, pinsAfter, recovered, deletedAt}
+use Rattle.rows.specs.declared.recovery.Found.{Found}
 
 -- a member with this index is stored, and not the live state
 unfoldable pub isStored : CheckpointIndex → Interval → Bool
@@ -37,10 +39,6 @@ vectorThen rolled p stored current = pick rolled (advanced p stored) current
 -- the checkpoints that are not later than one with this index
 unfoldable pub notLater : CheckpointIndex → List Checkpoint → List Checkpoint
 notLater last l = select (λ c. leb (c .index .0) (last .0)) l
-
-pub not-later-most : (last : CheckpointIndex) (n : ℕ) (l : List Checkpoint) → n ≤ 16 → length (notLater last (take n l)) ≤ 16
-unfolding notLater
-not-later-most last n l h = omega (arith, select-length (λ c. leb (c .index .0) (last .0)) (take n l), length-take n l, min-le-left n (length l))
 
 -- "names the latest checkpoint with entry f below own(f)" among these, "none if there is none"
 unfoldable pub movedTo : Interval → ℕ → List Checkpoint → Pin
@@ -96,19 +94,104 @@ pub stored-none : (a : CheckpointIndex) (own : Interval) → own .0 ≡ 0 → fa
 unfolding isStored
 stored-none a own h = sym (le-ltb (a .0) (own .0) (omega arith))
 
--- A search through a row for the pin: one entry more, or it changes nothing.
-module _ (own : Interval) (f : ℕ) (row : List Checkpoint) (k : ℕ) (d : Checkpoint) (h : k < length row) where
-  pub moved-yes : below (entry (getD row k d .vector) f) own ≡ true → At (getD row k d .index) ≡ movedTo own f (take (k + 1) row)
-  unfolding movedTo latestPin
-  moved-yes e = rw (select-yes (λ c. below (entry (c .vector) f) own) row k d h e, lastOf-snoc)
+-- A pin as a mark and an index, and back.
+unfoldable pub isAt : Pin → Bool
+isAt Nothing = false
+isAt (At a) = true
 
-  pub moved-no : below (entry (getD row k d .vector) f) own ≡ false → movedTo own f (take k row) ≡ movedTo own f (take (k + 1) row)
-  unfolding movedTo
-  moved-no e = rw (select-no (λ c. below (entry (c .vector) f) own) row k d h e)
+unfoldable pub indexOf : Pin → ℕ
+indexOf Nothing = 0
+indexOf (At a) = a .0
 
-pub moved-none : (own : Interval) (f : ℕ) → Nothing ≡ movedTo own f []
-unfolding movedTo latestPin select lastOf
-moved-none own f = refl
+unfoldable pub pinFrom : Bool → ℕ → Pin
+pinFrom mark index = pick mark (At (record { 0 = index })) Nothing
+
+pub pin-from : (pin : Pin) → pinFrom (isAt pin) (indexOf pin) ≡ pin
+unfolding isAt indexOf pinFrom
+pin-from Nothing = refl
+pin-from (At a) = refl
+
+-- for each f, the latest of these with entry f below own(f)
+unfoldable pub foundIn : List Interval → List Checkpoint → Found
+foundIn owns l = record {
+  marks = table places (λ f. isAt (movedTo (entry owns f) f l));
+  indexes = table places (λ f. indexOf (movedTo (entry owns f) f l));
+}
+
+-- A search for these through a row: before its first entry,
+pub found-none : (owns : List Interval) (last : CheckpointIndex) → foundIn owns (notLater last []) ≡ record { marks = replicate 16 false; indexes = replicate 16 0 }
+unfolding foundIn notLater movedTo latestPin select lastOf isAt indexOf
+found-none owns last = let none : ℕ = 0 in rw (table-replicate 16 false, table-replicate 16 none)
+
+-- one entry more that is lost,
+pub found-lost : (owns : List Interval) (last : CheckpointIndex) (row : List Checkpoint) (k : ℕ) (d : Checkpoint) → k < length row
+    → last .0 < getD row k d .index .0 → foundIn owns (notLater last (take k row)) ≡ foundIn owns (notLater last (take (k + 1) row))
+unfolding notLater
+found-lost owns last row k d h lt =
+    ap (foundIn owns) (sym (select-no (λ c. leb (c .index .0) (last .0)) row k d h (lt-leb (getD row k d .index .0) (last .0) lt)))
+
+-- or one that is not lost, with what it is found for.
+moved-snoc : (own : Interval) (f : ℕ) (l : List Checkpoint) (c : Checkpoint)
+    → movedTo own f (l ++ (c ∷ [])) ≡ pick (below (entry (c .vector) f) own) (At (c .index)) (movedTo own f l)
+unfolding movedTo latestPin select
+moved-snoc own f l c = by-bool (below (entry (c .vector) f) own)
+    (λ e. rw (select-append, e, lastOf-snoc))
+    (λ e. rw (select-append, e, append-nil))
+
+mark-snoc : (own : Interval) (f : ℕ) (l : List Checkpoint) (c : Checkpoint)
+    → (isAt (movedTo own f l) || below (entry (c .vector) f) own) ≡ isAt (movedTo own f (l ++ (c ∷ [])))
+unfolding isAt
+mark-snoc own f l c = rw (moved-snoc own f l c) (by-bool (below (entry (c .vector) f) own)
+    (λ e. rw e (or-in-right (isAt (movedTo own f l)) true refl))
+    (λ e. rw e (or-false (isAt (movedTo own f l)))))
+
+index-snoc : (own : Interval) (f : ℕ) (l : List Checkpoint) (c : Checkpoint)
+    → pick (below (entry (c .vector) f) own) (c .index .0) (indexOf (movedTo own f l)) ≡ indexOf (movedTo own f (l ++ (c ∷ [])))
+unfolding indexOf
+index-snoc own f l c = rw (moved-snoc own f l c) (by-bool (below (entry (c .vector) f) own) (λ e. rw e) (λ e. rw e))
+
+module _ (owns : List Interval) (last : CheckpointIndex) (row : List Checkpoint) (k : ℕ) (d : Checkpoint) (h : k < length row)
+    (stored : getD row k d .index .0 ≤ last .0) where
+  one-more : notLater last (take (k + 1) row) ≡ notLater last (take k row) ++ (getD row k d ∷ [])
+  unfolding notLater
+  one-more = select-yes (λ c. leb (c .index .0) (last .0)) row k d h (le-leb (getD row k d .index .0) (last .0) stored)
+
+  pub found-marks : (marks more : List Bool) → marks ≡ foundIn owns (notLater last (take k row)) .marks
+      → more ≡ table 16 (λ f. getD marks f false || below (entry (getD row k d .vector) f) (entry owns f)) → more ≡ foundIn owns (notLater last (take (k + 1) row)) .marks
+  unfolding foundIn
+  found-marks marks more e m = m ∙ rw (one-more, e) (table-same 16 _ _ (λ f lt.
+      rw (getD-table 16 (λ f. isAt (movedTo (entry owns f) f (notLater last (take k row)))) f false lt)
+      (mark-snoc (entry owns f) f (notLater last (take k row)) (getD row k d))))
+
+  pub found-indexes : (indexes more : List ℕ) → indexes ≡ foundIn owns (notLater last (take k row)) .indexes
+      → more ≡ table 16 (λ f. pick (below (entry (getD row k d .vector) f) (entry owns f)) (getD row k d .index .0) (getD indexes f 0))
+      → more ≡ foundIn owns (notLater last (take (k + 1) row)) .indexes
+  unfolding foundIn
+  found-indexes indexes more e m = m ∙ rw (one-more, e) (table-same 16 _ _ (λ f lt.
+      rw (getD-table 16 (λ f. indexOf (movedTo (entry owns f) f (notLater last (take k row)))) f 0 lt)
+      (index-snoc (entry owns f) f (notLater last (take k row)) (getD row k d))))
+
+pub found-both : (x : Found) (m : List Bool) (i : List ℕ) → m ≡ x .marks → i ≡ x .indexes → _≡_ {A = Found} (record { marks = m; indexes = i }) x
+found-both x m i e f = rw (e, f)
+
+-- The pins at what was found are the moved ones.
+pub found-pins : (owns : List Interval) (l : List Checkpoint)
+    → table 16 (λ f. pinFrom (getD (foundIn owns l .marks) f false) (getD (foundIn owns l .indexes) f 0)) ≡ table 16 (λ f. movedTo (entry owns f) f l)
+unfolding foundIn
+found-pins owns l = table-same 16 _ _ (λ f lt.
+    rw (getD-table 16 (λ f. isAt (movedTo (entry owns f) f l)) f false lt, getD-table 16 (λ f. indexOf (movedTo (entry owns f) f l)) f 0 lt)
+    (pin-from (movedTo (entry owns f) f l)))
+
+-- The pins of a rolled-back process, and of another.
+pub pins-rolled : (v owns : List Interval) (l : List Checkpoint) (pins moved : List Pin) → moved ≡ table 16 (λ f. movedTo (entry owns f) f l)
+    → table 16 (λ f. pick (eqb (entry v f .0) (entry owns f .0)) (getD moved f Nothing) Nothing) ≡ pinsThen true v owns l pins
+unfolding pinsThen pinThen
+pins-rolled v owns l pins moved e = rw e (table-same 16 _ _ (λ f lt. rw (getD-table 16 (λ f. movedTo (entry owns f) f l) f Nothing lt)))
+
+pub pins-live : (v owns : List Interval) (l : List Checkpoint) (pins : List Pin)
+    → table 16 (λ f. pick (eqb (entry v f .0) (entry owns f .0)) (getD pins f Nothing) Nothing) ≡ pinsThen false v owns l pins
+unfolding pinsThen pinThen
+pins-live v owns l pins = refl
 
 -- "each one's own entry equal to its index", and the live state's too
 abbrev pub ownIsIndex : ℕ → Checkpoint → Bool

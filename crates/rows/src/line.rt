@@ -2,14 +2,11 @@
 use model::Checkpoint;
 use model::Interval;
 ghost use mathlib.Core.Path.{_≡_};
-ghost use mathlib.Core.Bool.{not, _||_};
 ghost use mathlib.Core.List.{[], _∷_, _++_};
 ghost use Prim.Native.Nat.{_≤_};
-ghost use lib.Dec.{eqb};
 ghost use lib.ListN.{take};
 ghost use Rattle.laws.specs.Choice.{pick};
-ghost use Rattle.model.specs.Words.{below};
-ghost use Rattle.rows.specs.Line.{ownRow, allowedBy, latestBy, latestIs};
+ghost use Rattle.rows.specs.Line.{ownRow, failedRow, allowedBy, latestBy, latestIs};
 
 // The latest state that a search found, and whether it found one. Where it did not, the state holds zero.
 pub struct Latest {
@@ -30,29 +27,33 @@ pub fn own_entries(rows: [[Interval; 16]; 16]) -> [Interval; 16]
     owns
 }
 
-// A process whose bit is not set puts no limit on a state; one whose bit is set wants the state's entry for it below its own entry.
-fn passes(bit: u16, known: Interval, own: Interval) -> bool
-    ensures { λ r. ⌜ r ≡ (not (eqb bit 1) || below known own) ⌝ }
-{
-    if bit == 1 { known.0 < own.0 } else { true }
-}
-
-// A state with this vector is allowed: its entry for every failed process among the first n is below that one's own entry. Bit f of `failed` stands for
-// process f. A run has at most 16 processes.
-pub fn is_allowed(vector: [Interval; 16], owns: [Interval; 16], failed: u16, n: usize) -> bool
+// Which of the first n processes have failed: bit f of `failed` stands for process f. A run has at most 16 processes.
+pub fn failed_marks(failed: u16, n: usize) -> [bool; 16]
     requires { ⌜ n ≤ 16 ⌝ }
-    ensures { λ r. ⌜ r ≡ allowedBy n owns failed vector ⌝ }
+    ensures { λ r. ⌜ r ≡ failedRow n failed ⌝ }
 {
-    let mut all = true;
+    let mut marks = [false; 16];
     let mut left = failed;
     for f in 0..n {
+        let bit = left % 2;
+        marks[f] = bit == 1;
+        left = left / 2;
+    }
+    marks
+}
+
+// A state with this vector is allowed: its entry for every failed process is below that one's own entry. A process without a mark puts no limit on it.
+pub fn is_allowed(vector: [Interval; 16], owns: [Interval; 16], marks: [bool; 16]) -> bool
+    ensures { λ r. ⌜ r ≡ allowedBy marks owns vector ⌝ }
+{
+    let mut all = true;
+    for f in 0..16 {
         let known = vector[f];
         let own = owns[f];
-        let ok = passes(left % 2, known, own);
-        if !ok {
-            all = false;
-        }
-        left = left / 2;
+        let mark = marks[f];
+        let low = known.0 < own.0;
+        let ok = !mark | low;
+        all = all & ok;
     }
     all
 }
@@ -62,11 +63,10 @@ pub fn latest_kept(
     row: [Checkpoint; 16],
     held: usize,
     owns: [Interval; 16],
-    failed: u16,
-    n: usize,
+    marks: [bool; 16],
 ) -> Latest
-    requires { ⌜ (held ≤ 16) × (n ≤ 16) ⌝ }
-    ensures { λ r. ⌜ r ≡ latestIs (latestBy n owns failed (take held row)) ⌝ }
+    requires { ⌜ held ≤ 16 ⌝ }
+    ensures { λ r. ⌜ r ≡ latestIs (latestBy marks owns (take held row)) ⌝ }
 {
     let none = super::kept::no_checkpoint();
     let mut latest = Latest {
@@ -76,7 +76,7 @@ pub fn latest_kept(
     for k in 0..held {
         let c = row[k];
         let vector = c.vector;
-        let ok = is_allowed(vector, owns, failed, n);
+        let ok = is_allowed(vector, owns, marks);
         if ok {
             latest = Latest {
                 found: true,
@@ -93,21 +93,20 @@ pub fn latest_allowed(
     held: usize,
     live: Checkpoint,
     owns: [Interval; 16],
-    failed: u16,
-    n: usize,
+    marks: [bool; 16],
 ) -> Latest
-    requires { ⌜ (held ≤ 16) × (n ≤ 16) ⌝ }
-    ensures { λ r. ⌜ r ≡ latestIs (latestBy n owns failed (take held row ++ (live ∷ []))) ⌝ }
+    requires { ⌜ held ≤ 16 ⌝ }
+    ensures { λ r. ⌜ r ≡ latestIs (latestBy marks owns (take held row ++ (live ∷ []))) ⌝ }
 {
     let vector = live.vector;
-    let ok = is_allowed(vector, owns, failed, n);
+    let ok = is_allowed(vector, owns, marks);
     if ok {
         Latest {
             found: true,
             state: live,
         }
     } else {
-        latest_kept(row, held, owns, failed, n)
+        latest_kept(row, held, owns, marks)
     }
 }
 

@@ -4,19 +4,19 @@ use model::CheckpointIndex;
 use model::Interval;
 use model::Pin;
 ghost use mathlib.Core.Path.{_≡_};
-ghost use mathlib.Core.Bool.{true, not, _&&_};
+ghost use mathlib.Core.Bool.{true, false, not, _&&_, _||_};
 ghost use Prim.Native.Nat.{_+_, _*_, _<_, _≤_};
 ghost use lib.Dec.{eqb, leb};
-ghost use lib.ListN.{length, take};
+ghost use lib.ListN.{length, getD, take};
 ghost use lib.Seq.{sets};
 ghost use Rattle.laws.specs.Choice.{pick};
-ghost use Rattle.laws.specs.Lists.{select};
+ghost use Rattle.laws.specs.Lists.{select, table};
 ghost use Rattle.laws.specs.Tests.{some-of};
-ghost use Rattle.model.specs.Words.{entry, named, names};
+ghost use Rattle.model.specs.Words.{entry, below, names};
 ghost use Rattle.model.specs.Steps.{listed};
 ghost use Rattle.model.specs.Outcomes.{pairs};
 ghost use Rattle.rows.specs.Kept.{keptRow};
-ghost use Rattle.rows.specs.Recovery.{isStored, vectorThen, notLater, movedTo, pinsThen, stays};
+ghost use Rattle.rows.specs.Recovery.{isStored, vectorThen, notLater, foundIn, pinFrom, pinsThen, stays};
 
 // The line's member with this index is a stored checkpoint of the process with this own entry, and so the process rolls back. The live state's index
 // is above the last stored one. A process whose own entry is 0 has stored nothing.
@@ -49,112 +49,161 @@ pub fn vector_after(
     }
 }
 
-// Of the first `held` checkpoints of the row, those that are not later than `last`: the ones that are not lost. A row has no more than 16.
-pub fn drop_later(row: [Checkpoint; 16], held: usize, last: CheckpointIndex) -> super::kept::KeptRow
-    requires { ⌜ held ≤ 16 ⌝ }
-    ensures { λ r. ⌜ r ≡ keptRow (notLater last (take held row)) ⌝ }
-{
-    let unused = super::kept::no_checkpoint();
-    let mut left = [unused; 16];
-    let mut count = 0;
-    for k in 0..held {
-        let c = row[k];
-        let index = c.index;
-        if index.0 <= last.0 {
-            left[count] = c;
-            count += 1;
-        }
-    }
-    super::kept::KeptRow {
-        row: left,
-        held: count,
-    }
+// Of each process, whether a checkpoint was found for it, and the index of the latest one, 0 where none was. Two rows of plain values: a loop that carries
+// them from checkpoint to checkpoint takes several entries at a time, which it does not with a row of pins.
+pub struct Found {
+    pub marks: [bool; 16],
+    pub indexes: [u16; 16],
 }
 
-// The pin for f that a rolled-back process gets: at the latest of these checkpoints whose entry f is below f's own entry.
-pub fn moved_pin(row: [Checkpoint; 16], held: usize, f: usize, own: Interval) -> Pin
-    requires { ⌜ (held ≤ 16) × (f < 16) ⌝ }
-    ensures { λ r. ⌜ r ≡ movedTo own f (take held row) ⌝ }
+// The marks with one checkpoint more, that with this vector: it is found for f where its entry f is below f's own entry.
+fn mark_found(marks: [bool; 16], vector: [Interval; 16], owns: [Interval; 16]) -> [bool; 16]
+    ensures { λ r. ⌜ r ≡ table 16 (λ f. getD marks f false || below (entry vector f) (entry owns f)) ⌝ }
 {
-    let mut pin = Pin::Nothing;
+    let mut found = marks;
+    for f in 0..16 {
+        let known = vector[f];
+        let own = owns[f];
+        let old = marks[f];
+        let more = known.0 < own.0;
+        found[f] = old | more;
+    }
+    found
+}
+
+// The index of the latest one with one checkpoint more.
+fn later_of(known: Interval, own: Interval, old: u16, index: u16) -> u16
+    ensures { λ r. ⌜ r ≡ pick (below known own) index old ⌝ }
+{
+    if known.0 < own.0 { index } else { old }
+}
+
+// The indexes with one checkpoint more, that with this vector and index, later than all before it.
+fn index_found(
+    indexes: [u16; 16],
+    vector: [Interval; 16],
+    owns: [Interval; 16],
+    index: u16,
+) -> [u16; 16]
+    ensures { λ r. ⌜ r ≡ table 16 (λ f. pick (below (entry vector f) (entry owns f)) index (getD indexes f 0)) ⌝ }
+{
+    let mut found = indexes;
+    for f in 0..16 {
+        let known = vector[f];
+        let own = owns[f];
+        let old = indexes[f];
+        let later = later_of(known, own, old, index);
+        found[f] = later;
+    }
+    found
+}
+
+// Of the first `held` checkpoints of the row, of those that are not later than `last`: for each f the latest whose entry f is below f's own entry.
+fn find_latest(
+    row: [Checkpoint; 16],
+    held: usize,
+    last: CheckpointIndex,
+    owns: [Interval; 16],
+) -> Found
+    requires { ⌜ held ≤ 16 ⌝ }
+    ensures { λ r. ⌜ r ≡ foundIn owns (notLater last (take held row)) ⌝ }
+{
+    let no_marks = [false; 16];
+    let no_indexes = [0u16; 16];
+    let mut found = Found {
+        marks: no_marks,
+        indexes: no_indexes,
+    };
     for k in 0..held {
         let c = row[k];
         let index = c.index;
         let vector = c.vector;
-        let known = vector[f];
-        if known.0 < own.0 {
-            pin = Pin::At(index);
+        if index.0 <= last.0 {
+            let old_marks = found.marks;
+            let old_indexes = found.indexes;
+            let marks = mark_found(old_marks, vector, owns);
+            let indexes = index_found(old_indexes, vector, owns, index.0);
+            found = Found { marks, indexes };
         }
     }
-    pin
+    found
 }
 
-// The pin for f after the recovery: none where the process does not know f's last interval, else moved in a rolled-back process and as it was in others.
-pub fn pin_after(
-    rolled: bool,
-    known: Interval,
-    own: Interval,
-    row: [Checkpoint; 16],
-    held: usize,
-    f: usize,
-    pin: Pin,
-) -> Pin
-    requires { ⌜ (held ≤ 16) × (f < 16) ⌝ }
-    ensures { λ r. ⌜ r ≡ pick (eqb (known .0) (own .0)) (pick rolled (movedTo own f (take held row)) pin) Pin.Nothing ⌝ }
+// The pin at what was found, if anything.
+fn pin_at(mark: bool, index: u16) -> Pin
+    ensures { λ r. ⌜ r ≡ pinFrom mark index ⌝ }
 {
-    if known.0 == own.0 {
-        if rolled {
-            moved_pin(row, held, f, own)
-        } else {
-            pin
-        }
+    if mark {
+        Pin::At(CheckpointIndex(index))
     } else {
         Pin::Nothing
     }
 }
 
-// The pins of a process after the recovery: `vector` and `owns` are its vector and all own entries after it, `row` has the checkpoints that are not lost.
+// The pins at what was found.
+fn pins_at(found: Found) -> [Pin; 16]
+    ensures { λ r. ⌜ r ≡ table 16 (λ f. pinFrom (getD (found .marks) f false) (getD (found .indexes) f 0)) ⌝ }
+{
+    let marks = found.marks;
+    let indexes = found.indexes;
+    let mut pins = [Pin::Nothing; 16];
+    for f in 0..16 {
+        let mark = marks[f];
+        let index = indexes[f];
+        let pin = pin_at(mark, index);
+        pins[f] = pin;
+    }
+    pins
+}
+
+// The pin for f, where the process knows f's last interval, else none.
+fn known_pin(known: Interval, own: Interval, pin: Pin) -> Pin
+    ensures { λ r. ⌜ r ≡ pick (eqb (known .0) (own .0)) pin Pin.Nothing ⌝ }
+{
+    if known.0 == own.0 { pin } else { Pin::Nothing }
+}
+
+// The same of all pins.
+fn known_pins(vector: [Interval; 16], owns: [Interval; 16], pins: [Pin; 16]) -> [Pin; 16]
+    ensures { λ r. ⌜ r ≡ table 16 (λ f. pick (eqb (entry vector f .0) (entry owns f .0)) (getD pins f Pin.Nothing) Pin.Nothing) ⌝ }
+{
+    let mut known_ones = pins;
+    for f in 0..16 {
+        let known = vector[f];
+        let own = owns[f];
+        let old = pins[f];
+        let pin = known_pin(known, own, old);
+        known_ones[f] = pin;
+    }
+    known_ones
+}
+
+// The pins of a process after the recovery: `vector` and `owns` are its vector and all own entries after it, `row` and `held` what it kept before it, and
+// `last` is the line's member.
 pub fn pins_after(
     rolled: bool,
     vector: [Interval; 16],
     owns: [Interval; 16],
     row: [Checkpoint; 16],
     held: usize,
+    last: CheckpointIndex,
     pins: [Pin; 16],
 ) -> [Pin; 16]
     requires { ⌜ held ≤ 16 ⌝ }
-    ensures { λ r. ⌜ r ≡ pinsThen rolled vector owns (take held row) pins ⌝ }
+    ensures { λ r. ⌜ r ≡ pinsThen rolled vector owns (notLater last (take held row)) pins ⌝ }
 {
-    let mut moved = pins;
-    for f in 0..16 {
-        let known = vector[f];
-        let own = owns[f];
-        let old = pins[f];
-        let pin = pin_after(rolled, known, own, row, held, f, old);
-        moved[f] = pin;
+    if rolled {
+        let found = find_latest(row, held, last, owns);
+        let moved = pins_at(found);
+        known_pins(vector, owns, moved)
+    } else {
+        known_pins(vector, owns, pins)
     }
-    moved
 }
 
-// The checkpoints that a process keeps after the recovery: of those that are not lost, the ones that a pin names.
-pub fn kept_after(
-    row: [Checkpoint; 16],
-    held: usize,
-    last: CheckpointIndex,
-    pins: [Pin; 16],
-) -> super::kept::KeptRow
-    requires { ⌜ held ≤ 16 ⌝ }
-    ensures { λ r. ⌜ r ≡ keptRow (select (named pins) (notLater last (take held row))) ⌝ }
-{
-    let left = drop_later(row, held, last);
-    let left_row = left.row;
-    let left_held = left.held;
-    super::kept::collect(left_row, left_held, pins)
-}
-
-// Of the first `held` checkpoints of process p, the lost ones, later than `last`, and those that no pin names are deleted: each one's pair p, index goes
-// into the lent list, from place `at` on. The result says how many there are. The lent list has room for two numbers for each process and place.
-pub fn write_losses(
+// Of the first `held` checkpoints of process p, those that are not later than `last` and that a pin names stay, and they are the result. The others are
+// deleted: each one's pair p, index goes into the lent list, from place `at` on. It has room for two numbers for each place of a row.
+pub fn part(
     deleted: &mut [u16],
     at: usize,
     p: usize,
@@ -162,26 +211,34 @@ pub fn write_losses(
     held: usize,
     pins: [Pin; 16],
     last: CheckpointIndex,
-) -> usize
+) -> super::kept::KeptRow
     requires { ⌜ (at + 2 * held ≤ length (now deleted)) × (held ≤ 16) × (p < 16) ⌝ }
-    ensures { λ r. ⌜ r ≡ length (select (λ c. not (stays last pins c)) (take held row)) ⌝ }
+    ensures { λ r. ⌜ r ≡ keptRow (select (stays last pins) (take held row)) ⌝ }
+    ensures { λ r. ⌜ r .held + length (select (λ c. not (stays last pins c)) (take held row)) ≡ held ⌝ }
     ensures { λ r. ⌜ now (deleted .exit) ≡ sets (now (deleted .entry)) at (pairs (listed p (select (λ c. not (stays last pins c)) (take held row)))) ⌝ }
 {
     let process = p as u16;
+    let unused = super::kept::no_checkpoint();
+    let mut left = [unused; 16];
     let mut count = 0;
     let mut next = at;
     for k in 0..held {
         let c = row[k];
         let index = c.index;
         let stays = does_stay(index, last, pins);
-        if !stays {
+        if stays {
+            left[count] = c;
+            count += 1;
+        } else {
             deleted[next] = process;
             deleted[next + 1] = index.0;
             next += 2;
-            count += 1;
         }
     }
-    count
+    super::kept::KeptRow {
+        row: left,
+        held: count,
+    }
 }
 
 // A checkpoint with this index is not lost, and a pin names it.

@@ -21,7 +21,7 @@ use Rattle.model.specs.declared.Run.{Run}
 use Rattle.model.specs.Words.{places, entry, liveIndex, noCheckpoint, live, process}
 use Rattle.model.specs.Steps.{latestAllowed, member, lineOf}
 use Rattle.model.specs.Refusals.{missing, noMember}
-use Rattle.rows.specs.Line.{ownRow, latestBy, latestIs, own-row-at, latest-by-row, latest-found, latest-or}
+use Rattle.rows.specs.Line.{ownRow, failedRow, latestBy, latestIs, own-row-at, latest-by-row, latest-found, latest-or}
 use Rattle.rows.specs.declared.line.Latest.{Latest}
 use Rattle.steps.specs.declared.line.Members.{Members}
 
@@ -31,7 +31,7 @@ liveOf p v = record { index = liveIndex (entry v p); vector = v }
 
 -- the latest allowed state of process p, if there is one
 unfoldable pub latestAt : ℕ → List Interval → ℕ → List (List Interval) → List (List Checkpoint) → List ℕ → ℕ → Option Checkpoint
-latestAt n owns F vectors kept held p = latestBy n owns F (take (getD held p 0) (getD kept p []) ++ (liveOf p (getD vectors p []) ∷ []))
+latestAt n owns F vectors kept held p = latestBy (failedRow n F) owns (take (getD held p 0) (getD kept p []) ++ (liveOf p (getD vectors p []) ∷ []))
 
 -- the line's member at p; the live state where there is none
 unfoldable pub memberAt : ℕ → List Interval → ℕ → List (List Interval) → List (List Checkpoint) → List ℕ → ℕ → Checkpoint
@@ -89,11 +89,14 @@ below-written (suc n) f l = let place : 0 + n ≡ n = omega arith in rw (below-w
 
 -- One process more: what the latest allowed state says of its member, and of there being one.
 module _ (n : ℕ) (owns : List Interval) (F : ℕ) (vectors : List (List Interval)) (kept : List (List Checkpoint)) (held : List ℕ) (p : ℕ)
-    (now : Checkpoint) (latest : Latest) (is-live : now ≡ liveOf p (getD vectors p []))
-    (is-latest : latest ≡ latestIs (latestBy n owns F (take (getD held p 0) (getD kept p []) ++ (now ∷ [])))) where
+    (marks : List Bool) (now : Checkpoint) (latest : Latest) (is-marks : marks ≡ failedRow n F) (is-live : now ≡ liveOf p (getD vectors p []))
+    (is-latest : latest ≡ latestIs (latestBy marks owns (take (getD held p 0) (getD kept p []) ++ (now ∷ [])))) where
   same-latest : latest ≡ latestIs (latestAt n owns F vectors kept held p)
   unfolding latestAt
-  same-latest = is-latest ∙ ap (λ (c : Checkpoint). latestIs (latestBy n owns F (take (getD held p 0) (getD kept p []) ++ (c ∷ [])))) is-live
+  same-latest =
+      is-latest
+      ∙ ap (λ (m : List Bool). latestIs (latestBy m owns (take (getD held p 0) (getD kept p []) ++ (now ∷ [])))) is-marks
+      ∙ ap (λ (c : Checkpoint). latestIs (latestBy (failedRow n F) owns (take (getD held p 0) (getD kept p []) ++ (c ∷ [])))) is-live
 
   pub member-turn : (m : Checkpoint) → m ≡ pick (latest .found) (latest .state) now → m ≡ memberAt n owns F vectors kept held p
   unfolding memberAt
@@ -110,7 +113,7 @@ all-and t i mark x inv e = rw e (all-turn t i mark inv)
 module _ (s : Run) (few : s .count ≤ 16) (F : ℕ) where
   pub latest-in-state : (p : ℕ) → latestAt (s .count) (ownRow (s .vectors .0)) F (s .vectors .0) (s .kept .0) (s .held) p ≡ latestAllowed s F p
   unfolding latestAt liveOf live process
-  latest-in-state p = latest-by-row s (ownRow (s .vectors .0)) F (λ f lt. own-row-at s f (omega arith)) p
+  latest-in-state p = latest-by-row s (ownRow (s .vectors .0)) F few (λ f lt. own-row-at s f (omega arith)) p
 
   pub member-in-state : (p : ℕ) → memberAt (s .count) (ownRow (s .vectors .0)) F (s .vectors .0) (s .kept .0) (s .held) p ≡ member s F p
   unfolding memberAt member liveOf live process

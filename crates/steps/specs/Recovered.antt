@@ -5,27 +5,27 @@ use mathlib.Core.Bool.{Bool, true, false}
 use mathlib.Core.List.{List, []}
 use Prim.Native.Nat.{ℕ, zero, suc, _<_}
 use native.Mathlib.Omega.{arith}
-use lib.Dec.{ltb}
+use lib.Dec.{leb, ltb}
 use lib.ListN.{length, getD, replicate, length-replicate}
 use Rattle.laws.specs.Lists.{placed}
 use Rattle.laws.specs.Loops.{setBelow, below-at, below-above}
 use Rattle.laws.specs.Prefixes.{placed-none}
 use Rattle.laws.specs.Rows.{by-lt}
+use Rattle.laws.specs.Select.{select-select}
 use Rattle.laws.specs.Tables.{getD-table, gather-same}
 use Rattle.laws.specs.Tests.{countBelow}
 use Rattle.model.specs.declared.Interval.{Interval}
-use Rattle.model.specs.declared.Pin.{Pin}
 use Rattle.model.specs.declared.Checkpoint.{Checkpoint}
 use Rattle.model.specs.declared.Run.{Run}
-use Rattle.model.specs.Words.{places, mostUnderWay, entry, below, noCheckpoint, noMessage, Process, process, own, withProcess, withMessages}
+use Rattle.model.specs.Words.{places, mostUnderWay, entry, below, noCheckpoint, noMessage, named, Process, process, own, withProcess, withMessages}
 use Rattle.model.specs.Steps.{withProcesses, member, rolledBack, vectorAfter, notLost, ownAfter, pinsAfter, recovered, stillUnderWay, recoverState, deletedAt, recoverDeletions, rolledBackCount}
 use Rattle.model.specs.Sound.{sound}
 use Rattle.rows.specs.Line.{ownRow, own-row-at}
-use Rattle.rows.specs.Recovery.{notLater, stored-in-state, vector-in-state, pins-in-state, deleted-in-state, unused-own, member-own}
+use Rattle.rows.specs.Recovery.{notLater, stays, stored-in-state, vector-in-state, pins-in-state, deleted-in-state, unused-own, member-own}
 use Rattle.steps.specs.Members.{noState, membersIn, state-at, below-same}
 use Rattle.steps.specs.Facts.{count-most, kept-own}
-use Rattle.steps.specs.SoundFacts.{vector-there, pins-there, own-unused}
-use Rattle.steps.specs.After.{rolledAt, rolledOf, rolledIn, vectorAt, markAt, leftAt, pinsAt, keptAt, keptOf, lossesAt, lossesOf, lossesIn, vectorsOf, pinsOf, runAfter}
+use Rattle.steps.specs.SoundFacts.{vector-there, own-unused}
+use Rattle.steps.specs.After.{rolledAt, rolledOf, rolledIn, vectorAt, markAt, leftAt, pinsAt, keptAt, goneAt, lossesAt, lossesOf, lossesAfter, lossesIn, keptBelow, heldBelow, vectorsOf, pinsIn, runAfter}
 
 -- Two tests that agree below n count the same.
 count-same : (n : ℕ) (t u : ℕ → Bool) → ((k : ℕ) → k < n → t k ≡ u k) → countBelow n t ≡ countBelow n u
@@ -59,9 +59,6 @@ module _ (s : Run) (h : sound s ≡ true) (F : ℕ) where
 
   abbrev vectors : List (List Interval)
   vectors = setBelow (s .count) (vectorAfter s F) (s .vectors .0)
-
-  abbrev pins : List (List Pin)
-  pins = setBelow (s .count) (pinsAfter s F) (s .pins .0)
 
   at-member : (p : ℕ) → p < s .count → getD members p noState ≡ member s F p
   at-member p lt = state-at s F (count-most s h) p lt
@@ -113,25 +110,26 @@ module _ (s : Run) (h : sound s ≡ true) (F : ℕ) where
   unfolding pinsAt leftAt notLater notLost process
   pins-at p lt = rw (mark-at p lt, vector-row p lt, at-member p lt) (pins-in-state s F p (ownRow vectors) own-at)
 
-  pins-are : pinsOf s members marks ≡ pins
-  unfolding pinsOf
-  pins-are = rw vectors-are (below-same (s .count) _ _ (s .pins .0) pins-at)
+  pins-row : (p : ℕ) → p < s .count → pinsIn s members marks p ≡ pinsAfter s F p
+  unfolding pinsIn
+  pins-row p lt =
+      ap (λ (v : List (List Interval)). pinsAt (s .pins .0) v (ownRow v) marks (s .kept .0) (s .held) members p) vectors-are ∙ pins-at p lt
 
-  pins-row : (p : ℕ) → p < s .count → getD pins p [] ≡ pinsAfter s F p
-  pins-row p lt = below-at (pinsAfter s F) (s .pins .0) (s .count) p [] lt (pins-there s h p lt)
+  pins-are : setBelow (s .count) (pinsIn s members marks) (s .pins .0) ≡ setBelow (s .count) (pinsAfter s F) (s .pins .0)
+  pins-are = below-same (s .count) _ _ (s .pins .0) pins-row
 
   -- what is kept, and what is deleted
-  kept-at : (p : ℕ) → p < s .count → keptAt (s .kept .0) (s .held) members pins p ≡ recovered s F p .kept
-  unfolding keptAt leftAt notLater recovered notLost process
-  kept-at p lt = rw (pins-row p lt, at-member p lt)
+  kept-at : (p : ℕ) → p < s .count → keptAt (s .kept .0) (s .held) members (pinsIn s members marks) p ≡ recovered s F p .kept
+  unfolding keptAt stays recovered notLost process
+  kept-at p lt = rw (pins-row p lt, at-member p lt) (sym (select-select (named (pinsAfter s F p)) (λ c. leb (c .index .0) (member s F p .index .0)) _))
 
-  losses-at : (p : ℕ) → p < s .count → lossesAt (s .kept .0) (s .held) members pins p ≡ deletedAt s F p
-  unfolding lossesAt process
+  losses-at : (p : ℕ) → p < s .count → lossesAt (s .kept .0) (s .held) members (pinsIn s members marks) p ≡ deletedAt s F p
+  unfolding lossesAt goneAt process
   losses-at p lt = rw (pins-row p lt, at-member p lt) (deleted-in-state s F p)
 
   pub losses-in-state : lossesIn s members ≡ recoverDeletions s F
-  unfolding lossesOf recoverDeletions
-  losses-in-state = rw pins-are (gather-same (s .count) _ _ losses-at)
+  unfolding lossesAfter lossesOf recoverDeletions
+  losses-in-state = gather-same (s .count) _ _ losses-at
 
   -- the sent marks
   sent-at : (p : ℕ) → p < s .count → markAt (s .sent) marks p ≡ recovered s F p .mark
@@ -141,15 +139,17 @@ module _ (s : Run) (h : sound s ≡ true) (F : ℕ) where
   sent-are : setBelow (s .count) (markAt (s .sent) marks) (s .sent) ≡ setBelow (s .count) (λ p. recovered s F p .mark) (s .sent)
   sent-are = below-same (s .count) _ _ (s .sent) sent-at
 
-  rows-are : setBelow (s .count) (λ p. placed places noCheckpoint (keptAt (s .kept .0) (s .held) members pins p)) (s .kept .0)
+  rows-are : keptBelow (s .count) (s .kept .0) (s .held) members (pinsIn s members marks)
       ≡ setBelow (s .count) (λ p. placed places noCheckpoint (recovered s F p .kept)) (s .kept .0)
+  unfolding keptBelow
   rows-are = below-same (s .count) _ _ (s .kept .0) (λ p lt. ap (placed places noCheckpoint) (kept-at p lt))
 
-  held-are : setBelow (s .count) (λ p. length (keptAt (s .kept .0) (s .held) members pins p)) (s .held)
+  held-are : heldBelow (s .count) (s .kept .0) (s .held) members (pinsIn s members marks)
       ≡ setBelow (s .count) (λ p. length (recovered s F p .kept)) (s .held)
+  unfolding heldBelow
   held-are = below-same (s .count) _ _ (s .held) (λ p lt. ap (λ (l : List Checkpoint). length l) (kept-at p lt))
 
   -- the state
   pub run-in-state : runAfter s members marks ≡ recoverState s F
-  unfolding runAfter keptOf recoverState withMessages stillUnderWay recovered
+  unfolding runAfter recoverState withMessages stillUnderWay recovered
   run-in-state = rw (processes-rows (s .count) (recovered s F) s, vectors-are, pins-are, sent-are, rows-are, held-are, ← placed-none mostUnderWay noMessage)

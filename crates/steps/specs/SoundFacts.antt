@@ -1,23 +1,21 @@
 -- What a sound state says, clause by clause, in the form in which functions over its rows want it.
 -- Assumes nothing.
-use mathlib.Core.Path.{_≡_, refl, ap}
-use mathlib.Core.Bool.{Bool, true, false, _&&_}
-use mathlib.Core.List.{List, [], _∷_, map}
+use mathlib.Core.Path.{_≡_, ap}
+use mathlib.Core.Bool.{Bool, true, _&&_}
+use mathlib.Core.List.{List, [], _∷_}
 use Prim.Native.Nat.{ℕ, zero, suc, _<_, _≤_}
 use native.Mathlib.Omega.{arith}
-use lib.Dec.{eqb, leb}
+use lib.Dec.{eqb}
 use lib.ListN.{length, getD, drop, List·getD-eq-default}
 use borrow.Author.Tests.{eqb-true}
-use Rattle.laws.specs.Lists.{orElse, lastOf}
 use Rattle.laws.specs.Rows.{every-at, by-lt}
-use Rattle.laws.specs.Search.{allBelow, all-out}
+use Rattle.laws.specs.Search.{allBelow}
 use Rattle.laws.specs.Tests.{every}
-use Rattle.laws.specs.Truth.{never-both, and-left, and-right}
+use Rattle.laws.specs.Truth.{and-left, and-right}
 use Rattle.model.specs.declared.Interval.{Interval}
-use Rattle.model.specs.declared.Pin.the-variants.{Nothing}
 use Rattle.model.specs.declared.Run.{Run}
-use Rattle.model.specs.Words.{entry, lastStored, names, noCheckpoint, process, own}
-use Rattle.model.specs.Sound.{sound, countSound, ownSound, vectorsSound, keptSound, pinsSound, messagesSound, ascending, rowUnused, unusedSound, zeroFrom}
+use Rattle.model.specs.Words.{entry, process, own}
+use Rattle.model.specs.Sound.{sound, countSound, ownSound, vectorsSound, keptSound, pinsSound, messagesSound, rowUnused, unusedSound, zeroFrom}
 use Rattle.steps.specs.Facts.{six, own-some}
 
 -- Every element behind a place passes: by index.
@@ -45,24 +43,6 @@ module _ (s : Run) (h : sound s ≡ true) where
   vector-there p lt = by-lt p (length (s .vectors .0))
       (λ here. here)
       (λ past. absurd (omega (arith, own-least p lt, ap (λ (v : List Interval). entry v p .0) (List·getD-eq-default (s .vectors .0) [] past))))
-
-  -- and the pins too, since the own pin names a checkpoint
-  abbrev before : ℕ → Bool
-  before p =
-      leb 1 (getD (s .held) p 0) && leb (getD (s .held) p 0) (s .count)
-      && ascending 0 (map (λ c. c .index .0) (process s p .kept))
-      && every (λ c. eqb (entry (c .vector) p .0) (c .index .0)) (process s p .kept)
-      && eqb (orElse (lastOf (process s p .kept)) noCheckpoint .index .0) (lastStored (own s p) .0)
-
-  pub pins-there : (p : ℕ) → p < s .count → p < length (s .pins .0)
-  unfolding keptSound process
-  pins-there p lt = by-lt p (length (s .pins .0))
-      (λ here. here)
-      (λ past.
-      let all = six (countSound s) (ownSound s) (vectorsSound s) (allBelow (s .count) (λ p. keptSound s p && pinsSound s p)) (messagesSound s) (unusedSound s) (open-sound s h) in
-      let kept = and-left (keptSound s p) (pinsSound s p) (all-out (s .count) (λ p. keptSound s p && pinsSound s p) (all .3) p lt) in
-      let named = and-right (before p) (names (getD (getD (s .pins .0) p []) p Nothing) (lastStored (own s p))) kept in
-      never-both false (rw (List·getD-eq-default (s .pins .0) [] past) at named) refl)
 
   -- "Unused places hold zero": the own entries of processes that are not in the run
   pub own-unused : (p : ℕ) → s .count ≤ p → own s p .0 ≡ 0

@@ -65,12 +65,13 @@ pub fn find_members(
     let none = rows::kept::no_checkpoint();
     let mut states = [none; 16];
     let mut all = true;
+    let marks = rows::line::failed_marks(failed, n);
     for p in 0..n {
         let vector = vectors[p];
         let row = kept[p];
         let count = held[p];
         let live = live_of(vector, p);
-        let latest = rows::line::latest_allowed(row, count, live, owns, failed, n);
+        let latest = rows::line::latest_allowed(row, count, live, owns, marks);
         let member = rows::line::member_of(latest, live);
         states[p] = member;
         let found = latest.found;

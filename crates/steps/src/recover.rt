@@ -3,6 +3,7 @@ use model::Checkpoint;
 use model::Interval;
 use model::Kept;
 use model::Pin;
+use model::Pins;
 use model::RecoverAnswer;
 use model::Refusal;
 use model::Run;
@@ -17,7 +18,7 @@ ghost use Rattle.laws.specs.Loops.{setBelow};
 ghost use Rattle.model.specs.Sound.{sound};
 ghost use Rattle.model.specs.Outcomes.{pairs, recoverOutcome};
 ghost use Rattle.steps.specs.Members.{noState, HeldAtMost};
-ghost use Rattle.steps.specs.After.{rolledOf, vectorAt, markAt, pinsAt, keptOf, lossesOf, runAfter, rolledIn, lossesIn};
+ghost use Rattle.steps.specs.After.{rolledOf, vectorAt, markAt, pinsAt, rowsOf, lossesOf, runAfter, lossesAfter, rolledIn, lossesIn};
 
 // What a recover call returns beside the lent lists.
 pub struct RecoverOutcome {
@@ -31,10 +32,12 @@ pub struct RolledBack {
     pub count: usize,
 }
 
-// What the processes keep, and how many checkpoints each.
-pub struct KeptAll {
+// The pins of all processes after a recovery, what they keep, how many checkpoints each, and how many were deleted.
+pub struct RowsAfter {
+    pub pins: Pins,
     pub kept: Kept,
     pub held: [usize; 16],
+    pub deleted: usize,
 }
 
 // A process whose member is stored rolls back. There are places for 16 processes.
@@ -95,8 +98,11 @@ pub fn sent_after(sent: [bool; 16], marks: [bool; 16], n: usize) -> [bool; 16]
     after
 }
 
-// The pins after the recovery; `vectors` and `owns` are the vectors and the own entries after it.
-pub fn pins_after(
+// The pins after the recovery and what the processes keep; `vectors` and `owns` are the vectors and the own entries after it, `pins`, `kept` and `held`
+// are as they were before it. The pairs of the deleted checkpoints of all processes go to the front of the lent list, ascending. Each process keeps at
+// most n, so 2 × n × n entries do. Each row is read where it is then written: a table that is not read again costs no copy.
+pub fn rows_after(
+    deleted: &mut [u16],
     pins: [[Pin; 16]; 16],
     vectors: [[Interval; 16]; 16],
     owns: [Interval; 16],
@@ -105,95 +111,59 @@ pub fn pins_after(
     held: [usize; 16],
     states: [Checkpoint; 16],
     n: usize,
-) -> [[Pin; 16]; 16]
-    requires { ⌜ (n ≤ 16) × HeldAtMost n held ⌝ }
-    ensures { λ r. ⌜ r ≡ setBelow n (pinsAt pins vectors owns marks kept held states) pins ⌝ }
-{
-    let mut after = pins;
-    for p in 0..n {
-        let rolled = marks[p];
-        let vector = vectors[p];
-        let row = kept[p];
-        let count = held[p];
-        let old = pins[p];
-        let c = states[p];
-        let last = c.index;
-        let left = rows::recovery::drop_later(row, count, last);
-        let left_row = left.row;
-        let left_held = left.held;
-        let new = rows::recovery::pins_after(rolled, vector, owns, left_row, left_held, old);
-        after[p] = new;
-    }
-    after
-}
-
-// What the processes keep after the recovery; `pins` are the pins after it.
-pub fn kept_after(
-    kept: [[Checkpoint; 16]; 16],
-    held: [usize; 16],
-    states: [Checkpoint; 16],
-    pins: [[Pin; 16]; 16],
-    n: usize,
-) -> KeptAll
-    requires { ⌜ (n ≤ 16) × HeldAtMost n held ⌝ }
-    ensures { λ r. ⌜ r ≡ keptOf n kept held states pins ⌝ }
-{
-    let mut after = kept;
-    let mut counts = held;
-    for p in 0..n {
-        let row = kept[p];
-        let count = held[p];
-        let pinned = pins[p];
-        let c = states[p];
-        let last = c.index;
-        let left = rows::recovery::kept_after(row, count, last, pinned);
-        let left_row = left.row;
-        let left_held = left.held;
-        after[p] = left_row;
-        counts[p] = left_held;
-    }
-    let all = rows::squares::kept_from(after);
-    KeptAll {
-        kept: all,
-        held: counts,
-    }
-}
-
-// The pairs of the deleted checkpoints of all processes, ascending, to the front of the lent list; how many there are. `kept` and `held` are what was
-// kept before the recovery, `pins` the pins after it. Each process keeps at most n, so 2 × n × n entries do.
-pub fn write_all_losses(
-    deleted: &mut [u16],
-    kept: [[Checkpoint; 16]; 16],
-    held: [usize; 16],
-    states: [Checkpoint; 16],
-    pins: [[Pin; 16]; 16],
-    n: usize,
-) -> usize
+) -> RowsAfter
     requires { ⌜ (n ≤ 16) × (2 * n * n ≤ length (now deleted)) × HeldAtMost n held ⌝ }
-    ensures { λ r. ⌜ r ≡ length (lossesOf n kept held states pins) ⌝ }
-    ensures { λ r. ⌜ now (deleted .exit) ≡ sets (now (deleted .entry)) 0 (pairs (lossesOf n kept held states pins)) ⌝ }
+    ensures { λ r. ⌜ r ≡ rowsOf n pins vectors owns marks kept held states ⌝ }
+    ensures { λ r. ⌜ now (deleted .exit) ≡ sets (now (deleted .entry)) 0 (pairs (lossesOf n kept held states (pinsAt pins vectors owns marks kept held states))) ⌝ }
 {
+    let mut pins_left = pins;
+    let mut kept_left = kept;
+    let mut held_left = held;
     let mut total = 0;
     let mut at = 0;
     for p in 0..n {
-        let row = kept[p];
-        let count = held[p];
-        let pinned = pins[p];
+        let rolled = marks[p];
+        let vector = vectors[p];
+        let row = kept_left[p];
+        let count = held_left[p];
+        let old = pins_left[p];
         let c = states[p];
         let last = c.index;
-        let more = rows::recovery::write_losses(deleted, at, p, row, count, pinned, last);
-        total += more;
-        at += 2 * more;
+        let pinned = rows::recovery::pins_after(rolled, vector, owns, row, count, last, old);
+        let left = rows::recovery::part(deleted, at, p, row, count, pinned, last);
+        let left_row = left.row;
+        let left_held = left.held;
+        pins_left[p] = pinned;
+        kept_left[p] = left_row;
+        held_left[p] = left_held;
+        let gone = count - left_held;
+        total += gone;
+        at += 2 * gone;
     }
-    total
+    let all_pins = rows::squares::pins_from(pins_left);
+    let all_kept = rows::squares::kept_from(kept_left);
+    RowsAfter {
+        pins: all_pins,
+        kept: all_kept,
+        held: held_left,
+        deleted: total,
+    }
 }
 
-// The state after the recovery to these members: `marks` says who rolls back. Every message under way is lost.
-pub fn run_after(s: Run, states: [Checkpoint; 16], marks: [bool; 16]) -> Run
-    requires { ⌜ sound s ≡ true ⌝ }
-    ensures { λ r. ⌜ r ≡ runAfter s states marks ⌝ }
+// A recovery that is accepted, to these members, where `rolled` says who rolls back. Every message under way is lost.
+fn run_after(
+    s: Run,
+    states: [Checkpoint; 16],
+    rolled: RolledBack,
+    deleted: &mut [u16],
+) -> RecoverOutcome
+    requires { ⌜ (sound s ≡ true) × (2 * s .count * s .count ≤ length (now deleted)) ⌝ }
+    ensures { λ r. ⌜ r ≡ record { run = runAfter s states (rolled .marks); answer = RecoverAnswer.Recovered (rolled .count) (length (lossesAfter s states (rolled .marks))) } ⌝ }
+    ensures { λ r. ⌜ now (deleted .exit) ≡ sets (now (deleted .entry)) 0 (pairs (lossesAfter s states (rolled .marks))) ⌝ }
 {
     let n = s.count;
+    let marks = rolled.marks;
+    let back = rolled.count;
     let old_vectors = rows::squares::vector_rows(s.vectors);
     let old_pins = rows::squares::pin_rows(s.pins);
     let old_kept = rows::squares::kept_rows(s.kept);
@@ -201,7 +171,9 @@ pub fn run_after(s: Run, states: [Checkpoint; 16], marks: [bool; 16]) -> Run
     let old_sent = s.sent;
     let vector_rows = vectors_after(old_vectors, states, n);
     let owns = rows::line::own_entries(vector_rows);
-    let pin_rows = pins_after(
+    let sent = sent_after(old_sent, marks, n);
+    let all = rows_after(
+        deleted,
         old_pins,
         vector_rows,
         owns,
@@ -211,15 +183,14 @@ pub fn run_after(s: Run, states: [Checkpoint; 16], marks: [bool; 16]) -> Run
         states,
         n,
     );
-    let all = kept_after(old_kept, old_held, states, pin_rows, n);
-    let sent = sent_after(old_sent, marks, n);
     let vectors = rows::squares::vectors_from(vector_rows);
-    let pins = rows::squares::pins_from(pin_rows);
+    let pins = all.pins;
     let kept = all.kept;
     let held = all.held;
+    let gone = all.deleted;
     let unused = super::messages::no_message();
     let messages = [unused; 64];
-    Run {
+    let run = Run {
         count: n,
         vectors,
         pins,
@@ -229,10 +200,14 @@ pub fn run_after(s: Run, states: [Checkpoint; 16], marks: [bool; 16]) -> Run
         messages,
         underway: 0,
         last: s.last,
+    };
+    RecoverOutcome {
+        run,
+        answer: RecoverAnswer::Recovered(back, gone),
     }
 }
 
-// A recovery that is accepted, to these members.
+// The same, with the line written.
 fn recover_to(
     s: Run,
     states: [Checkpoint; 16],
@@ -248,18 +223,8 @@ fn recover_to(
     let vectors = rows::squares::vector_rows(s.vectors);
     let owns = rows::line::own_entries(vectors);
     let rolled = roll_back(states, owns, n);
-    let marks = rolled.marks;
-    let back = rolled.count;
-    let run = run_after(s, states, marks);
-    let pins = rows::squares::pin_rows(run.pins);
-    let kept = rows::squares::kept_rows(s.kept);
-    let held = s.held;
-    let count = write_all_losses(deleted, kept, held, states, pins, n);
     super::line::write_line(line, states, n);
-    RecoverOutcome {
-        run,
-        answer: RecoverAnswer::Recovered(back, count),
-    }
+    run_after(s, states, rolled, deleted)
 }
 
 // A refusal returns the state as it came.

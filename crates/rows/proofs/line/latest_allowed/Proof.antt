@@ -16,14 +16,14 @@ latest-kept-requires c κs = search needs
 returns : tie.Need-returns
 returns c =
     let a = c .before .before .before .args in
-    latest-is-last (a .n) (a .owns) (a .failed) (take (a .held) (a .row)) (a .live)
+    latest-is-last (a .marks) (a .owns) (take (a .held) (a .row)) (a .live)
     (sym (c .before .is-allowed .ensures) ∙ c .if1 .taken)
 
 returns-2 : tie.Need-returns-2
 returns-2 c =
     let a = c .before .before .before .before .args in
     rw (c .latest-kept .ensures)
-    (latest-not-last (a .n) (a .owns) (a .failed) (take (a .held) (a .row)) (a .live)
+    (latest-not-last (a .marks) (a .owns) (take (a .held) (a .row)) (a .live)
     (sym (c .before .before .is-allowed .ensures) ∙ c .before .if1 .left))
 
 pub latest-allowed-spec : {M : Type 1} → statement M

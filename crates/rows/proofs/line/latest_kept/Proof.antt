@@ -14,16 +14,16 @@ use Rattle.rows.proofs.line.latest_kept.Statement.{statement}
 use Rattle.rows.proofs.line.latest_kept.Tie as tie
 
 abbrev Inv-loop : tie.InvT-loop
-Inv-loop held owns failed n row latest₀ k₀ latest k = (k ≤ held) × (latest ≡ latestIs (latestBy n owns failed (take k row)))
+Inv-loop held owns marks row latest₀ k₀ latest k = (k ≤ held) × (latest ≡ latestIs (latestBy marks owns (take k row)))
 
 abbrev μ-loop : tie.MeasureT-loop
-μ-loop held owns failed n row latest₀ k₀ latest k = held - k
+μ-loop held owns marks row latest₀ k₀ latest k = held - k
 
 no-checkpoint-requires : tie.Need-no-checkpoint-requires Inv-loop μ-loop
 no-checkpoint-requires c κs = search needs
 
 loop-holds : tie.Need-loop-holds Inv-loop μ-loop
-loop-holds c = (search needs, ap (λ (x : Checkpoint). record { found = false; state = x }) (c .no-checkpoint .ensures) ∙ latest-none _ _ _)
+loop-holds c = (search needs, ap (λ (x : Checkpoint). record { found = false; state = x }) (c .no-checkpoint .ensures) ∙ latest-none _ _)
 
 mul-c : tie.Need-mul-c Inv-loop μ-loop
 mul-c c = search needs
@@ -48,8 +48,8 @@ loop-again c =
     let z : Checkpoint = record { index = record { 0 = 0 }; vector = [] } in (
       search needs,
       either (c .if1 .came)
-          (λ w. w .1 ∙ latest-yes (a .n) (a .owns) (a .failed) (a .t1) (l .k) z (search needs) (sym (c .before .is-allowed .ensures) ∙ w .0 .taken))
-          (λ w. w .1 ∙ l .inv .1 ∙ latest-no (a .n) (a .owns) (a .failed) (a .t1) (l .k) z (search needs) (sym (c .before .is-allowed .ensures) ∙ w .0 .left)),
+          (λ w. w .1 ∙ latest-yes (a .marks) (a .owns) (a .t1) (l .k) z (search needs) (sym (c .before .is-allowed .ensures) ∙ w .0 .taken))
+          (λ w. w .1 ∙ l .inv .1 ∙ latest-no (a .marks) (a .owns) (a .t1) (l .k) z (search needs) (sym (c .before .is-allowed .ensures) ∙ w .0 .left)),
     )
 
 returns : tie.Need-returns Inv-loop μ-loop

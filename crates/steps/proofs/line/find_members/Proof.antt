@@ -16,19 +16,22 @@ use Rattle.steps.proofs.line.find_members.Statement.{statement}
 use Rattle.steps.proofs.line.find_members.Tie as tie
 
 abbrev Inv-loop : tie.InvT-loop
-Inv-loop owns failed n vectors kept held states₀ all₀ p₀ states all p =
+Inv-loop owns failed n vectors kept held marks states₀ all₀ p₀ states all p =
     (p ≤ n)
     × (states ≡ setBelow p (memberAt n owns failed vectors kept held) unusedRow)
     × (all ≡ allBelow p (λ q. not (missing (latestAt n owns failed vectors kept held q))))
 
 abbrev μ-loop : tie.MeasureT-loop
-μ-loop owns failed n vectors kept held states₀ all₀ p₀ states all p = n - p
+μ-loop owns failed n vectors kept held marks states₀ all₀ p₀ states all p = n - p
 
 no-checkpoint-requires : tie.Need-no-checkpoint-requires Inv-loop μ-loop
 no-checkpoint-requires c κs = search needs
 
+failed-marks-requires : tie.Need-failed-marks-requires Inv-loop μ-loop
+failed-marks-requires c κs = search needs
+
 loop-holds : tie.Need-loop-holds Inv-loop μ-loop
-loop-holds c = (search needs, ap (λ (x : Checkpoint). replicate 16 x) (c .no-checkpoint .ensures) ∙ below-none _ _, all-zero _)
+loop-holds c = (search needs, ap (λ (x : Checkpoint). replicate 16 x) (c .before .no-checkpoint .ensures) ∙ below-none _ _, all-zero _)
 
 mul-vector : tie.Need-mul-vector Inv-loop μ-loop
 mul-vector c = search needs
@@ -49,10 +52,10 @@ array-read-count : tie.Need-array-read-count Inv-loop μ-loop
 array-read-count c = search needs
 
 live-of-requires : tie.Need-live-of-requires Inv-loop μ-loop
-live-of-requires c κs = let b = c .before .before .before in (search needs, b .before .before .pre .1 (b .loop .p) (c .before .before .loop-test .taken))
+live-of-requires c κs = let b = c .before .before .before in (search needs, b .before .before .before .pre .1 (b .loop .p) (c .before .before .loop-test .taken))
 
 latest-allowed-requires : tie.Need-latest-allowed-requires Inv-loop μ-loop
-latest-allowed-requires c κs = let b = c .before .before .before .before in (omega (arith, b .before .before .pre .2 (b .loop .p) (c .before .before .before .loop-test .taken)), search needs)
+latest-allowed-requires c κs = let b = c .before .before .before .before in omega (arith, b .before .before .before .pre .0, b .before .before .before .pre .2 (b .loop .p) (c .before .before .before .loop-test .taken))
 
 member-of-requires : tie.Need-member-of-requires Inv-loop μ-loop
 member-of-requires c κs = search needs
@@ -72,22 +75,23 @@ loop-less c = search needs
 loop-again : tie.Need-loop-again Inv-loop μ-loop
 loop-again c =
     let b = c .before .before .before .before .before .before in
-    let a = b .before .before .args in
+    let a = b .before .before .before .args in
     let l = b .loop in
+    let marks = b .before .failed-marks .ensures in
     let live = c .before .before .live-of .ensures in
     let latest = c .before .latest-allowed .ensures in (
       search needs,
       turn-set (memberAt (a .n) (a .owns) (a .failed) (a .t1) (a .t2) (a .t3)) unusedRow (l .states) (l .p) (l .inv .1) _
-          (member-turn (a .n) (a .owns) (a .failed) (a .t1) (a .t2) (a .t3) (l .p) _ _ live latest _ (c .member-of .ensures)),
+          (member-turn (a .n) (a .owns) (a .failed) (a .t1) (a .t2) (a .t3) (l .p) _ _ _ marks live latest _ (c .member-of .ensures)),
       all-and (λ q. not (missing (latestAt (a .n) (a .owns) (a .failed) (a .t1) (a .t2) (a .t3) q))) (l .p) (l .all) _ (l .inv .2)
-          (found-turn (a .n) (a .owns) (a .failed) (a .t1) (a .t2) (a .t3) (l .p) _ _ live latest),
+          (found-turn (a .n) (a .owns) (a .failed) (a .t1) (a .t2) (a .t3) (l .p) _ _ _ marks live latest),
     )
 
 returns : tie.Need-returns Inv-loop μ-loop
 unfolding membersOf
 returns c =
     let l = c .before .loop in
-    let e : l .p ≡ c .before .before .before .args .n = omega arith in
+    let e : l .p ≡ c .before .before .before .before .args .n = omega arith in
     let states = rw e at (l .inv .1) in
     let all = rw e at (l .inv .2) in
     rw (states, all)
@@ -99,6 +103,7 @@ find-members-spec =
     Inv-loop
     μ-loop
     no-checkpoint-requires
+    failed-marks-requires
     loop-holds
     mul-vector
     array-copy-out-vector

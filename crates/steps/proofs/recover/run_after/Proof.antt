@@ -16,44 +16,40 @@ kept-rows-requires : tie.Need-kept-rows-requires
 kept-rows-requires c κs = search needs
 
 vectors-after-requires : tie.Need-vectors-after-requires
-vectors-after-requires c κs = count-most (c .before .before .before .before .before .args .s) (c .before .before .before .before .before .pre)
+vectors-after-requires c κs = let st = c .before .before .before .before .before .before .before in count-most (st .args .s) (st .pre .0)
 
 own-entries-requires : tie.Need-own-entries-requires
 own-entries-requires c κs = search needs
 
-pins-after-requires : tie.Need-pins-after-requires
-pins-after-requires c κs = (count-most (c .before .before .before .before .before .before .before .args .s) (c .before .before .before .before .before .before .before .pre), held-most (c .before .before .before .before .before .before .before .args .s) (c .before .before .before .before .before .before .before .pre))
-
-kept-after-requires : tie.Need-kept-after-requires
-kept-after-requires c κs = (count-most (c .before .before .before .before .before .before .before .before .args .s) (c .before .before .before .before .before .before .before .before .pre), held-most (c .before .before .before .before .before .before .before .before .args .s) (c .before .before .before .before .before .before .before .before .pre))
-
 sent-after-requires : tie.Need-sent-after-requires
-sent-after-requires c κs = count-most (c .before .before .before .before .before .before .before .before .before .args .s) (c .before .before .before .before .before .before .before .before .before .pre)
+sent-after-requires c κs = let st = c .before .before .before .before .before .before .before .before .before in count-most (st .args .s) (st .pre .0)
+
+rows-after-requires : tie.Need-rows-after-requires
+rows-after-requires c κs = let st = c .before .before .before .before .before .before .before .before .before .before .before in (count-most (st .args .s) (st .pre .0), st .pre .1, held-most (st .args .s) (st .pre .0))
 
 vectors-from-requires : tie.Need-vectors-from-requires
 vectors-from-requires c κs = search needs
 
-pins-from-requires : tie.Need-pins-from-requires
-pins-from-requires c κs = search needs
-
 no-message-requires : tie.Need-no-message-requires
 no-message-requires c κs = search needs
 
+same-length : tie.Need-same-length
+same-length c = search needs
+
 returns : tie.Need-returns
 returns c =
-    let a = c .before .before .before .before .before .before .before .before .before .before .before .before .before .before .before .args in
-    run-done (a .s) (a .states) (a .marks) _ _ _ _ _ _ _ _ _ _ _
-    (c .before .before .before .before .before .before .before .before .before .before .before .before .before .before .vector-rows .ensures)
-    (c .before .before .before .before .before .before .before .before .before .before .before .before .before .pin-rows .ensures)
-    (c .before .before .before .before .before .before .before .before .before .before .before .before .kept-rows .ensures)
-    (c .before .before .before .before .before .before .before .before .before .vectors-after .ensures)
-    (c .before .before .before .before .before .before .before .before .own-entries .ensures)
-    (c .before .before .before .before .before .before .before .pins-after .ensures)
-    (c .before .before .before .before .before .before .kept-after .ensures)
-    (c .before .before .before .before .before .sent-after .ensures)
+    let a = c .before .before .before .before .before .before .before .before .before .before .before .before .before .before .before .before .before .before .before .args in
+    run-done (a .s) (a .states) (a .rolled) _ _ _ _ _ _ _ _ _ (a .deleted .now) _
+    (c .before .before .before .before .before .before .before .before .before .before .before .before .before .before .before .before .vector-rows .ensures)
+    (c .before .before .before .before .before .before .before .before .before .before .before .before .before .before .before .pin-rows .ensures)
+    (c .before .before .before .before .before .before .before .before .before .before .before .before .before .before .kept-rows .ensures)
+    (c .before .before .before .before .before .before .before .before .before .before .before .vectors-after .ensures)
+    (c .before .before .before .before .before .before .before .before .before .before .own-entries .ensures)
+    (c .before .before .before .before .before .before .before .before .before .sent-after .ensures)
+    (c .before .before .before .before .before .before .before .rows-after .ensures .0)
+    (c .before .before .before .before .before .before .before .rows-after .ensures .1)
     (c .before .before .before .before .vectors-from .ensures)
-    (c .before .before .before .pins-from .ensures)
     (c .no-message .ensures)
 
 pub run-after-spec : {M : Type 1} → statement M
-run-after-spec = tie.close (tie.spec vector-rows-requires pin-rows-requires kept-rows-requires vectors-after-requires own-entries-requires pins-after-requires kept-after-requires sent-after-requires vectors-from-requires pins-from-requires no-message-requires returns)
+run-after-spec = tie.close (tie.spec vector-rows-requires pin-rows-requires kept-rows-requires vectors-after-requires own-entries-requires sent-after-requires rows-after-requires vectors-from-requires no-message-requires same-length returns)
