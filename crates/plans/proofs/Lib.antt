@@ -1,0 +1,20 @@
+-- Laws that belong to no one function.
+pub mod Chosen
+pub mod Deleted
+pub mod Found
+pub mod Fulfilled
+pub mod Halving
+pub mod InPlace
+pub mod Recoveries
+pub mod Restored
+pub mod Search
+pub mod Shift
+pub mod Sizes
+pub mod Still
+pub mod Turn
+pub mod TurnCheckpoint
+pub mod TurnDeliver
+pub mod TurnLose
+pub mod TurnRefused
+pub mod TurnSend
+pub mod Without

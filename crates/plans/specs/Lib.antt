@@ -1,0 +1,5 @@
+pub mod Carried
+pub mod Moved
+pub mod Planned
+pub mod Restored
+pub mod Restores
