@@ -15,7 +15,7 @@ pub fn start(n: usize) -> After {
     let run = outcome.run;
     let answer = outcome.answer;
     let refused = match answer {
-        StartAnswer::Refused(why) => playback::say::number_of(why),
+        StartAnswer::Refused(why) => lines::say::number_of(why),
         StartAnswer::Started => 0,
     };
     After { run, refused }
@@ -28,7 +28,7 @@ pub fn checkpoint(before: After, i: usize, length: usize) -> After
     let outcome = calls::checkpoint(before.run, i, &mut deleted[..length]);
     let run = outcome.run;
     let answer = outcome.answer;
-    let said = playback::say::of_checkpoint(answer);
+    let said = lines::say::of_checkpoint(answer);
     let refused = said.refused;
     After { run, refused }
 }
@@ -37,7 +37,7 @@ pub fn send(before: After, i: usize, j: usize) -> After {
     let outcome = calls::send(before.run, i, j);
     let run = outcome.run;
     let answer = outcome.answer;
-    let said = playback::say::of_send(answer);
+    let said = lines::say::of_send(answer);
     let refused = said.refused;
     After { run, refused }
 }
@@ -49,7 +49,7 @@ pub fn deliver(before: After, m: u32, length: usize) -> After
     let outcome = calls::deliver(before.run, m, &mut deleted[..length]);
     let run = outcome.run;
     let answer = outcome.answer;
-    let said = playback::say::of_deliver(answer);
+    let said = lines::say::of_deliver(answer);
     let refused = said.refused;
     After { run, refused }
 }
@@ -68,7 +68,7 @@ pub fn recover(before: After, failed: u16, length: usize, members: usize) -> Aft
     );
     let run = outcome.run;
     let answer = outcome.answer;
-    let said = playback::say::of_recover(answer);
+    let said = lines::say::of_recover(answer);
     let refused = said.refused;
     After { run, refused }
 }

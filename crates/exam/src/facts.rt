@@ -186,7 +186,7 @@ pub fn recover(before: After, failed: u16) -> After {
     let answer = outcome.answer;
     indexes(b"written", failed, &line, n);
     recovery(failed, answer, &deleted);
-    let said = playback::say::of_recover(answer);
+    let said = lines::say::of_recover(answer);
     let refused = said.refused;
     After { run, refused }
 }

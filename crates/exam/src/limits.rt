@@ -56,7 +56,7 @@ fn line(n: usize, length: usize)
     let outcome = calls::line(start.run, 1, &mut line[..length]);
     let answer = outcome.answer;
     let refused = match answer {
-        LineAnswer::Refused(why) => playback::say::number_of(why),
+        LineAnswer::Refused(why) => lines::say::number_of(why),
         LineAnswer::Written => 0,
     };
     with_list(b"line", n, length, refused);

@@ -1,17 +1,24 @@
 -- The turns of the loop over a block: nothing taken yet, and one record more.
 -- Assumes nothing.
 use mathlib.Core.Path.{_≡_, refl, sym, _∙_, ap}
-use mathlib.Core.List.{List, [], _++_}
-use Prim.Native.Nat.{ℕ, zero, suc, _+_, _-_, _*_, _≤_, _<_}
+use mathlib.Core.List.{List}
+use Prim.Native.Nat.{ℕ, _+_, _-_, _*_, _≤_, _<_}
 use native.Mathlib.Omega.{arith}
 use lib.ListN.{length, take, drop}
+use mathlib.Core.Option.{Option}
 use Rattle.model.specs.declared.Run.{Run}
+use Rattle.model.specs.declared.Event.{Event}
+use Rattle.model.specs.WholeRuns.{Reachable}
 use Rattle.model.specs.Trace.{decoded}
 use Rattle.model.specs.Listing.{lineText, perform, mostRecords, records, stateAfterRecords}
-use Rattle.model.proofs.Blocks.{next-length, next-line, next-state}
+use Rattle.model.proofs.Blocks.{next-length, next-line, next-state, reachable-record}
+use Rattle.model.proofs.Sizes.{Small}
+use Rattle.listing.specs.declared.Summary.{Summary}
+use Rattle.listing.specs.Said.{reported, Says, Performs, says-line}
+use Rattle.playback.proofs.Lines.{performed-small, performed-deletions}
 use Rattle.listing.specs.Printed.{Printed}
 use Rattle.listing.proofs.Texts.{then, nothing}
-use Rattle.listing.specs.Lines.{longestLine}
+use Rattle.listing.specs.Lines.{longestLine, replyOf}
 use Rattle.trace.specs.Answers.{recordAt}
 use borrow.Author.Tests.{le-leb}
 use mathlib.Core.Logic.{inl, inr}
@@ -71,3 +78,22 @@ no-record count block used out written h g = inr (inl (omega arith))
 pub no-room : (count block used out written : ℕ) → written ≤ out → out - written < longestLine → Stops count block used out written
 unfolding Stops
 no-room count block used out written h g = inr (inr (omega arith))
+
+-- What is said of a record is small.
+pub said-fits : (s : Run) (e : Option Event) (said : Summary) (deleted : List ℕ) → Says said deleted (perform s e .reply) → Small (reported said) × (said .deletions ≤ 256)
+said-fits s e said deleted h =
+    let whole : Performs s e (perform s e .run) said deleted = record { state = refl; says = h } in
+    (performed-small s e (perform s e .run) said deleted whole, performed-deletions s e (perform s e .run) said deleted whole)
+
+-- One record more, where the state t after it and the words said of it are the model's and its line is printed.
+pub one-said : (s : Run) (before : ℕ) (block out : List ℕ) (run : Run) (count used : ℕ) (now-out : List ℕ) (written : ℕ) → Replays s before block out run count used now-out written
+    → used + 4 ≤ length block → count < mostRecords → Reachable run → (e : Option Event) → e ≡ decoded (take 4 (drop used block)) → (t : Run) → perform run e .run ≡ t
+    → (said : Summary) (deleted : List ℕ) → Says said deleted (perform run e .reply)
+    → (next-out : List ℕ) (next : ℕ) → Printed now-out written (lineText (count + 1) (replyOf said deleted)) next-out next
+    → Replays s before block out t (count + 1) (used + 4) next-out next × Reachable t
+one-said s before block out run count used now-out written so-far more few reach e read t after said deleted says next-out next printed = (
+  one-taken s before block out run count used now-out written so-far more few t next-out next
+      (sym after ∙ ap (λ (o : Option Event). perform run o .run) read)
+      (rw (says-line said deleted (perform run e .reply) says (count + 1) ∙ ap (λ (o : Option Event). lineText (count + 1) (perform run o .reply)) read) at printed),
+  rw (sym after) (reachable-record run reach e),
+)

@@ -1,3 +1,1 @@
 pub mod Blocks
-pub mod Ends
-pub mod Said

@@ -1,6 +1,9 @@
 // A block of a trace: its whole records replayed one after the other, their lines printed into a lent buffer.
-use crate::record;
+use listing::Summary;
+use listing::Value;
 use model::Run;
+use plans::InTransit;
+ghost use mathlib.Core.Path.{_≡_};
 ghost use Prim.Native.Nat.{_≤_};
 ghost use lib.ListN.{length};
 ghost use Rattle.model.specs.WholeRuns.{Reachable};
@@ -14,29 +17,169 @@ pub struct Progress {
     pub written: usize,
 }
 
-// It stops where no whole record is left, where the longest line might not fit, and behind record 1,000,000,000.
-pub fn replay(s: Run, done: u64, block: &[u8], out: &mut [u8]) -> Progress
-    requires { ⌜ Reachable s × (done ≤ 1000000000) ⌝ }
+// It stops where no whole record is left, where the longest line might not fit, and behind record 1,000,000,000. The state is kept in place: a record
+// stores single elements, rows and messages, and only a recovery goes over all of it.
+fn replay_beside(s: Run, done: u64, block: &[u8], out: &mut [u8], deleted: &mut [u16]) -> Progress
+    requires { ⌜ Reachable s × (done ≤ 1000000000) × (length (now deleted) ≡ 512) ⌝ }
     ensures { λ r. ⌜ Replays s done (now (block .entry)) (now (out .entry)) (r .run) (r .done) (r .used) (now (out .exit)) (r .written) ⌝ }
     ensures { λ r. ⌜ Reachable (r .run) × (r .done ≤ 1000000000) × (r .written ≤ length (now (out .entry))) ⌝ }
     ensures { λ r. ⌜ Stops (r .done) (length (now (block .entry))) (r .used) (length (now (out .entry))) (r .written) ⌝ }
 {
-    let mut run = s;
+    let n = s.count;
+    let mut vectors = rows::squares::vector_rows(s.vectors);
+    let mut pins = rows::squares::pin_rows(s.pins);
+    let mut kept = rows::squares::kept_rows(s.kept);
+    let mut sent = s.sent;
+    let mut held = s.held;
+    let mut messages = s.messages;
+    let mut underway = s.underway;
+    let mut last = s.last;
+    let unused = steps::messages::no_message();
     let mut count = done;
     let mut used = 0;
     let mut written = 0;
     while count < 1000000000 && 4 <= block.len() - used && 3102 <= out.len() - written {
         let part = trace::record_part(block, used);
-        let played = record::play(run, part, count + 1, out, written);
-        run = played.run;
-        written = played.next;
-        count += 1;
-        used += 4;
+        let d = trace::decode(part);
+        let failed = plans::recovery_of(d, n);
+        if failed == 0 {
+            let m = plans::sought(d);
+            let mut low = 0;
+            let mut high = plans::search_end(m, underway);
+            while low < high {
+                let middle = (low + high) / 2;
+                if messages[middle].number < m {
+                    low = middle + 1;
+                } else {
+                    high = middle;
+                }
+            }
+            let place = plans::place_of(low);
+            let message = messages[place];
+            let found = plans::is_found(low, underway, message.number, m);
+            let i = plans::process_of(d, message.receiver);
+            let vector = vectors[i];
+            let mark = sent[i];
+            let own = vector[i];
+            let t = InTransit {
+                found,
+                place,
+                message,
+                underway,
+                last,
+            };
+            let p = plans::plan_of(d, n, vector, own, mark, t);
+            sent[i] = p.mark;
+            let mut k = p.from;
+            while k + 1 < underway {
+                let next = messages[k + 1];
+                messages[k] = next;
+                k += 1;
+            }
+            let put = p.message;
+            let at = p.place;
+            messages[at] = put;
+            underway = p.underway;
+            last = p.last;
+            let value = p.value;
+            if p.moves {
+                let row = kept[i];
+                let before = held[i];
+                let old = pins[i];
+                let carried = p.carried;
+                let moved = plans::pins_after(p.stores, own, vector, carried, old, i);
+                let left = plans::rows_after(
+                    deleted,
+                    p.stores,
+                    own,
+                    vector,
+                    carried,
+                    moved,
+                    row,
+                    before,
+                    i,
+                );
+                let taken = left.vector;
+                let left_row = left.row;
+                vectors[i] = taken;
+                pins[i] = moved;
+                kept[i] = left_row;
+                held[i] = left.held;
+                let said = Summary {
+                    refused: p.refused,
+                    value,
+                    deletions: left.gone,
+                };
+                written = lines::line::print(said, deleted, count + 1, out, written);
+                count += 1;
+                used += 4;
+            } else {
+                let said = Summary {
+                    refused: p.refused,
+                    value,
+                    deletions: 0,
+                };
+                written = lines::line::print(said, deleted, count + 1, out, written);
+                count += 1;
+                used += 4;
+            }
+        } else {
+            let after = plans::recovery::recovered(
+                n,
+                failed,
+                vectors,
+                pins,
+                sent,
+                kept,
+                held,
+                deleted,
+            );
+            vectors = rows::squares::vector_rows(after.vectors);
+            pins = rows::squares::pin_rows(after.pins);
+            kept = rows::squares::kept_rows(after.kept);
+            sent = after.sent;
+            held = after.held;
+            messages = [unused; 64];
+            underway = 0;
+            let said = Summary {
+                refused: 0,
+                value: Value::Number(after.rolled as u64),
+                deletions: after.gone,
+            };
+            written = lines::line::print(said, deleted, count + 1, out, written);
+            count += 1;
+            used += 4;
+        }
     }
+    let all_vectors = rows::squares::vectors_from(vectors);
+    let all_pins = rows::squares::pins_from(pins);
+    let all_kept = rows::squares::kept_from(kept);
+    let run = Run {
+        count: n,
+        vectors: all_vectors,
+        pins: all_pins,
+        sent,
+        kept: all_kept,
+        held,
+        messages,
+        underway,
+        last,
+    };
     Progress {
         run,
         done: count,
         used,
         written,
     }
+}
+
+pub fn replay(s: Run, done: u64, block: &[u8], out: &mut [u8]) -> Progress
+    requires { ⌜ Reachable s × (done ≤ 1000000000) ⌝ }
+    ensures { λ r. ⌜ Replays s done (now (block .entry)) (now (out .entry)) (r .run) (r .done) (r .used) (now (out .exit)) (r .written) ⌝ }
+    ensures { λ r. ⌜ Reachable (r .run) × (r .done ≤ 1000000000) × (r .written ≤ length (now (out .entry))) ⌝ }
+    ensures { λ r. ⌜ Stops (r .done) (length (now (block .entry))) (r .used) (length (now (out .entry))) (r .written) ⌝ }
+{
+    let mut list = [0u16; 512];
+    let deleted: &mut [u16] = &mut list;
+    replay_beside(s, done, block, out, deleted)
 }

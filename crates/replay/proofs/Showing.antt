@@ -15,7 +15,7 @@ use Rattle.model.proofs.Blocks.{states-by-block}
 use Rattle.listing.specs.Lines.{longestLine}
 use Rattle.model.specs.WholeRuns.{Reachable}
 use Rattle.playback.specs.Blocks.{Replays, Stops}
-use Rattle.playback.specs.Ends.{Begins}
+use Rattle.lines.specs.Ends.{Begins}
 use Rattle.playback.proofs.Onward.{onward}
 use Rattle.replay.specs.Shows.{Shows, Finished}
 

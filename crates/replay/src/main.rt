@@ -72,7 +72,7 @@ fn fill(done: u64, held: usize, input: &mut [u8]) -> Filled
     requires { ⌜ (done < 1000000000) × (held < 4) × (longestLine ≤ length (now input)) ⌝ }
     ensures { λ r. ⌜ (r .held ≤ length (now (input .entry))) × (r .held ≤ 4 * (1000000000 - done)) ⌝ }
 {
-    let to = playback::buffer::fill_to(done, input.len());
+    let to = lines::buffer::fill_to(done, input.len());
     let got = libc::read(STDIN_FILENO, &mut input[held..to]);
     let more = io::count(got, &input[held..to]);
     Filled {
@@ -97,7 +97,7 @@ fn replay(s: Run, input: &mut [u8], out: &mut [u8])
             return;
         }
         if filled.got == 0 {
-            let size = playback::ends::end(done, &input[..held], out);
+            let size = lines::ends::end(done, &input[..held], out);
             put(&out[..size]);
             return;
         }
@@ -108,7 +108,7 @@ fn replay(s: Run, input: &mut [u8], out: &mut [u8])
         }
         run = shown.run;
         done = shown.done;
-        held = playback::buffer::keep(input, shown.used, size);
+        held = lines::buffer::keep(input, shown.used, size);
         turns -= 1;
     }
 }
@@ -124,11 +124,11 @@ fn start(input: &mut [u8], out: &mut [u8])
         return;
     }
     if got == 0 {
-        let size = playback::ends::empty(out);
+        let size = lines::ends::empty(out);
         put(&out[..size]);
         return;
     }
-    let first = playback::ends::first(byte[0], out);
+    let first = lines::ends::first(byte[0], out);
     let run = first.run;
     if first.started {
         replay(run, input, out);

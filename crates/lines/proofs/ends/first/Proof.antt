@@ -1,0 +1,45 @@
+-- `lines::ends::first` meets its contract: by the answer, the run starts or the line of its refusal is all.
+-- Assumes nothing.
+use borrow.Author.Needs.{needs}
+use mathlib.Core.Path.{sym, _∙_}
+use native.Mathlib.Omega.{arith}
+use Rattle.lines.specs.Ends.{Begins}
+use Rattle.lines.proofs.Endings.{start-refuses, start-starts}
+use Rattle.lines.proofs.ends.first.Statement.{statement}
+use Rattle.lines.proofs.ends.first.Tie as tie
+
+start-requires : tie.Need-start-requires
+start-requires c κs = search needs
+
+enum-known-answer : tie.Need-enum-known-answer
+enum-known-answer c = search needs
+
+refuse-requires : tie.Need-refuse-requires
+refuse-requires c κs = search needs
+
+enum-told : tie.Need-enum-told
+enum-told c = search needs
+
+same-length : tie.Need-same-length
+same-length c = search needs
+
+returns : tie.Need-returns
+unfolding Begins
+returns c =
+    let called = c .before .before .refuse in
+    let known = c .before .before .before .before .before .answer in
+    let asked = c .before .before .before .before .before .before .before .before .start in
+    let start = c .before .before .before .before .before .before .before .before .before .before in
+    (λ l. rw (start-refuses (start .args .n) (known .given .0 .0) (sym (known .given .1) ∙ asked .ensures .1) l) (called .ensures .0), called .ensures .1)
+
+returns-2 : tie.Need-returns-2
+unfolding Begins
+returns-2 c =
+    let asked = c .before .before .before .start in
+    let start = c .before .before .before .before .before in
+    (start-starts (start .args .n) (asked .result .run) (asked .ensures .0) (search needs ∙ asked .ensures .1), omega arith)
+
+pub first-spec : {M : Type 1} → statement M
+first-spec =
+    tie.close
+    (tie.spec start-requires enum-known-answer refuse-requires enum-told same-length returns returns-2)
