@@ -9,11 +9,11 @@ use model::RecoverAnswer;
 use model::Refusal;
 use model::Run;
 use model::SendAnswer;
+use rollback::line::LineOutcome;
+use rollback::recover::RecoverOutcome;
 use steps::checkpoint::CheckpointOutcome;
 use steps::deliver::DeliverOutcome;
-use steps::line::LineOutcome;
 use steps::lose::LoseOutcome;
-use steps::recover::RecoverOutcome;
 use steps::send::SendOutcome;
 use steps::start::StartOutcome;
 ghost use mathlib.Core.Path.{_≡_};
@@ -95,7 +95,7 @@ pub fn line(s: Run, failed: u16, line: &mut [u16]) -> LineOutcome
         let answer = LineAnswer::Refused(Refusal::UnsoundState);
         return LineOutcome { run: s, answer };
     }
-    steps::line::line(s, failed, line)
+    rollback::line::line(s, failed, line)
 }
 
 // Everyone goes back to the line for a failed set: its indexes go to the front of the one lent list, what is deleted to the front of the other.
@@ -112,5 +112,5 @@ pub fn recover(s: Run, failed: u16, deleted: &mut [u16], line: &mut [u16]) -> Re
         let answer = RecoverAnswer::Refused(Refusal::UnsoundState);
         return RecoverOutcome { run: s, answer };
     }
-    steps::recover::recover(s, failed, deleted, line)
+    rollback::recover::recover(s, failed, deleted, line)
 }

@@ -1,14 +1,9 @@
-pub mod After
 pub mod DeliverCall
 pub mod Delivery
 pub mod Facts
 pub mod Filled
-pub mod LineCall
-pub mod Members
 pub mod Messages
 pub mod Parts
-pub mod RecoverCall
-pub mod Recovered
 pub mod Refused
 pub mod Sending
 pub mod Sized

@@ -1,4 +1,4 @@
-// Each call on a sound state, whatever its outcome. Soundness is not judged here: the exported calls judge it first and then call these, and a replay
+// Each call that touches one process or the messages, on a sound state, whatever its outcome; `rollback` has the two that go over all processes. Soundness is not judged here: the exported calls judge it first and then call these, and a replay
 // calls these on the states that it reached itself, all of which are sound.
 
 // parts.rt: the rows of one process, put back into a state
@@ -21,9 +21,3 @@ pub mod deliver;
 
 // lose.rt: a message is lost
 pub mod lose;
-
-// line.rt: the line for a failed set
-pub mod line;
-
-// recover.rt: the recovery of a failed set
-pub mod recover;

@@ -1,0 +1,5 @@
+pub mod After
+pub mod LineCall
+pub mod Members
+pub mod RecoverCall
+pub mod Recovered

@@ -1,0 +1,147 @@
+// The line for a failed set: the member of every process, and the call that writes their indexes.
+use model::Checkpoint;
+use model::Interval;
+use model::LineAnswer;
+use model::Refusal;
+use model::Run;
+ghost use mathlib.Core.Path.{_≡_};
+ghost use mathlib.Core.Bool.{true};
+ghost use Prim.Native.Nat.{ℕ, _<_, _≤_, _^_};
+ghost use lib.Dec.{leb};
+ghost use lib.ListN.{length, getD};
+ghost use lib.Seq.{sets};
+ghost use Rattle.laws.specs.Lists.{table};
+ghost use Rattle.model.specs.Words.{entry};
+ghost use Rattle.model.specs.Sound.{sound};
+ghost use Rattle.model.specs.Outcomes.{lineOutcome};
+ghost use Rattle.rollback.specs.Members.{liveOf, membersOf, membersIn, noState, OwnAtLeastOne, HeldAtMost};
+
+// What a line call returns beside the lent list.
+pub struct LineOutcome {
+    pub run: Run,
+    pub answer: LineAnswer,
+}
+
+// The line's member of every process, an unused checkpoint at n and above, and whether the line rule accepts a state of each process. Where it accepts
+// none, the live state stands in.
+pub struct Members {
+    pub all: bool,
+    pub states: [Checkpoint; 16],
+}
+
+// The failed set has a bit at n or above: something is left of it once its lowest n bits are gone.
+pub fn is_outside(failed: u16, n: usize) -> bool
+    ensures { λ r. ⌜ r ≡ leb (2 ^ n) failed ⌝ }
+{
+    let mut left = failed;
+    for k in 0..n {
+        left = left / 2;
+    }
+    1 <= left
+}
+
+// The live state of process p as a checkpoint, from its current vector.
+fn live_of(vector: [Interval; 16], p: usize) -> Checkpoint
+    requires { ⌜ (p < 16) × (1 ≤ entry vector p .0) ⌝ }
+    ensures { λ r. ⌜ r ≡ liveOf p vector ⌝ }
+{
+    let own = vector[p];
+    let index = rows::vector::live_index(own);
+    Checkpoint { index, vector }
+}
+
+// The members of n processes, from the rows of all of them.
+pub fn find_members(
+    vectors: [[Interval; 16]; 16],
+    kept: [[Checkpoint; 16]; 16],
+    held: [usize; 16],
+    owns: [Interval; 16],
+    failed: u16,
+    n: usize,
+) -> Members
+    requires { ⌜ (n ≤ 16) × OwnAtLeastOne n vectors × HeldAtMost n held ⌝ }
+    ensures { λ r. ⌜ r ≡ membersOf n owns failed vectors kept held ⌝ }
+{
+    let none = rows::kept::no_checkpoint();
+    let mut states = [none; 16];
+    let mut all = true;
+    let marks = rows::line::failed_marks(failed, n);
+    for p in 0..n {
+        let vector = vectors[p];
+        let row = kept[p];
+        let count = held[p];
+        let live = live_of(vector, p);
+        let latest = rows::line::latest_allowed(row, count, live, owns, marks);
+        let member = rows::line::member_of(latest, live);
+        states[p] = member;
+        let found = latest.found;
+        all = all & found;
+    }
+    Members { all, states }
+}
+
+// The same from a whole state.
+pub fn members_of(s: Run, failed: u16) -> Members
+    requires { ⌜ sound s ≡ true ⌝ }
+    ensures { λ r. ⌜ r ≡ membersIn s failed ⌝ }
+{
+    let vectors = rows::squares::vector_rows(s.vectors);
+    let kept = rows::squares::kept_rows(s.kept);
+    let held = s.held;
+    let n = s.count;
+    let owns = rows::line::own_entries(vectors);
+    find_members(vectors, kept, held, owns, failed, n)
+}
+
+// The indexes of the first n states go to the front of the lent list.
+pub fn write_line(line: &mut [u16], states: [Checkpoint; 16], n: usize)
+    requires { ⌜ (n ≤ 16) × (n ≤ length (now line)) ⌝ }
+    ensures { λ r. ⌜ now (line .exit) ≡ sets (now (line .entry)) 0 (table n (λ p. getD states p noState .index .0)) ⌝ }
+{
+    for p in 0..n {
+        let c = states[p];
+        let index = c.index;
+        line[p] = index.0;
+    }
+}
+
+// A refusal returns the state as it came.
+fn refuse(s: Run, why: Refusal) -> LineOutcome
+    ensures { λ r. ⌜ r ≡ record { run = s; answer = LineAnswer.Refused why } ⌝ }
+{
+    LineOutcome {
+        run: s,
+        answer: LineAnswer::Refused(why),
+    }
+}
+
+// The line for a failed set, bit p of which stands for process p. It changes nothing but the lent list.
+pub fn line(s: Run, failed: u16, line: &mut [u16]) -> LineOutcome
+    requires { ⌜ sound s ≡ true ⌝ }
+    ensures { λ r. ⌜ r .run ≡ lineOutcome s failed (now (line .entry)) .run ⌝ }
+    ensures { λ r. ⌜ r .answer ≡ lineOutcome s failed (now (line .entry)) .answer ⌝ }
+    ensures { λ r. ⌜ now (line .exit) ≡ lineOutcome s failed (now (line .entry)) .line ⌝ }
+{
+    let n = s.count;
+    if line.len() < n {
+        return refuse(s, Refusal::ListTooShort);
+    }
+    if failed == 0 {
+        return refuse(s, Refusal::NobodyFailed);
+    }
+    let outside = is_outside(failed, n);
+    if outside {
+        return refuse(s, Refusal::NoSuchFailedProcess);
+    }
+    let members = members_of(s, failed);
+    let all = members.all;
+    if !all {
+        return refuse(s, Refusal::UnsoundState);
+    }
+    let states = members.states;
+    write_line(line, states, n);
+    LineOutcome {
+        run: s,
+        answer: LineAnswer::Written,
+    }
+}
