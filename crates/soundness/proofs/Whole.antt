@@ -11,7 +11,7 @@ use borrow.Author.Tests.{le-leb, lt-leb}
 use Rattle.laws.specs.Lists.{orElse, lastOf}
 use Rattle.laws.specs.Loops.{below-at, below-above, below-length}
 use Rattle.laws.specs.Ranges.{all-same}
-use Rattle.laws.specs.Rows.{every-same, every-both, all-both}
+use Rattle.laws.specs.Rows.{every-same, every-both, all-both, and-true}
 use Rattle.laws.specs.Search.{allBelow}
 use Rattle.laws.specs.Tests.{every}
 use Rattle.laws.specs.Truth.{and-no-right}
@@ -24,7 +24,7 @@ use Rattle.soundness.specs.Judged.{vectorSound, indexOf, checkpointSound
 use Rattle.soundness.proofs.Vectors.{zero-by}
 
 -- A conjunction of which the second half is false.
-and-no : (a : Bool) → (a && false) ≡ false
+pub and-no : (a : Bool) → (a && false) ≡ false
 and-no a = and-no-right a false refl
 
 -- The tests of one process, in the order of the code and in the order of document 01.
@@ -70,6 +70,13 @@ all-order true true true true true true true true true true true true true true 
 all-order true true true true true true true true true true true true true true true true false um = refl
 all-order true true true true true true true true true true true true true true true true true false = refl
 all-order true true true true true true true true true true true true true true true true true true = refl
+
+-- The unused rows of kept checkpoints, judged beside the used ones.
+kept-last : (c j k z s h p m : Bool) → (c && (j && k) && z && s && h && p && m) ≡ (c && j && z && s && h && p && k && m)
+kept-last false j k z s h p m = refl
+kept-last true false k z s h p m = refl
+kept-last true true true z s h p m = rw (and-true (z && s && h && p))
+kept-last true true false z s h p m = rw (and-no (z && s && h && p))
 
 module _ (s : Run) (high : s .count ≤ 16) where
   abbrev n : ℕ
@@ -194,15 +201,24 @@ module _ (s : Run) (high : s .count ≤ 16) where
 
   pub verdict : 1 ≤ n
       → (allBelow n (λ p. currentSound n owns p (getD (s .vectors .0) p []))
-      && allBelow n (λ p. processSound n owns p (getD (s .kept .0) p []) (getD (s .pins .0) p []) (getD (s .held) p 0))
+      && (allBelow n (λ p. processSound n owns p (getD (s .kept .0) p []) (getD (s .pins .0) p []) (getD (s .held) p 0))
+      && every (every unusedCheckpoint) (drop n (s .kept .0)))
       && every (zeroFrom 0) (drop n (s .vectors .0))
       && every not (drop n (s .sent))
       && every (eqb 0) (drop n (s .held))
       && every (nothingFrom 0) (drop n (s .pins .0))
-      && every (every unusedCheckpoint) (drop n (s .kept .0))
       && messagesJudged n owns (s .messages) (s .underway) (s .last))
       ≡ sound s
-  verdict low = counted low ∙ whole
+  verdict low = kept-last
+      (allBelow n (λ p. currentSound n owns p (getD (s .vectors .0) p [])))
+      (allBelow n (λ p. processSound n owns p (getD (s .kept .0) p []) (getD (s .pins .0) p []) (getD (s .held) p 0)))
+      (every (every unusedCheckpoint) (drop n (s .kept .0)))
+      (every (zeroFrom 0) (drop n (s .vectors .0)))
+      (every not (drop n (s .sent)))
+      (every (eqb 0) (drop n (s .held)))
+      (every (nothingFrom 0) (drop n (s .pins .0)))
+      (messagesJudged n owns (s .messages) (s .underway) (s .last))
+      ∙ counted low ∙ whole
 
 -- A count outside its range.
 pub none-run : (s : Run) → s .count < 1 → false ≡ sound s

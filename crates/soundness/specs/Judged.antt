@@ -1,12 +1,12 @@
 -- Document 01, "A sound state", as the code judges it: the clauses about one vector, one process and one message, over the rows themselves.
 -- proofs/Whole has the lemma that these together are `sound`.
 -- Assumes nothing.
-use mathlib.Core.Bool.{Bool, _&&_, not}
+use mathlib.Core.Bool.{Bool, false, _&&_, _||_, not}
 use mathlib.Core.List.{List, [], map}
-use Prim.Native.Nat.{ℕ}
+use Prim.Native.Nat.{ℕ, _-_}
 use lib.Dec.{eqb, ltb, leb}
 use lib.ListN.{getD, take, drop}
-use Rattle.laws.specs.Lists.{placed, orElse, lastOf}
+use Rattle.laws.specs.Lists.{orElse, lastOf}
 use Rattle.laws.specs.Loops.{setBelow}
 use Rattle.laws.specs.Search.{allBelow}
 use Rattle.laws.specs.Tests.{every, some-of}
@@ -29,12 +29,9 @@ unfoldable pub pinOr : CheckpointIndex → Pin → CheckpointIndex
 pinOr last Nothing = last
 pinOr last (At a) = a
 
--- The indexes that the pins name, and those of the kept checkpoints, each laid into a row of 16 places with the last stored one where there is nothing.
+-- The indexes that the pins name, with the last stored one for every pin that names none.
 unfoldable pub pinnedIndexes : CheckpointIndex → List Pin → List CheckpointIndex
 pinnedIndexes last pins = map (pinOr last) pins
-
-unfoldable pub keptIndexes : CheckpointIndex → ℕ → List Checkpoint → List CheckpointIndex
-keptIndexes last held row = placed places last (map (λ c. c .index) (take held row))
 
 unfoldable pub among : List CheckpointIndex → CheckpointIndex → Bool
 among indexes a = some-of (λ x. eqb (a .0) (x .0)) indexes
@@ -45,6 +42,26 @@ keepsIt kept a = some-of (λ c. eqb (a .0) (c .index .0)) kept
 
 abbrev pub indexOf : Checkpoint → ℕ
 indexOf c = c .index .0
+
+-- Which indexes of a row have been met, once one more is.
+unfoldable pub metBy : List Bool → List CheckpointIndex → CheckpointIndex → List Bool
+metBy met pinned a = setBelow places (λ j. getD met j false || eqb (getD pinned j (record { 0 = 0 }) .0) (a .0)) met
+
+-- What an array of checkpoints has past its end.
+abbrev pub empty : Checkpoint
+empty = record { index = record { 0 = 0 }; vector = [] }
+
+-- A kept checkpoint of process p, but for its vector's other entries: "each one's own entry equal to its index", and it is pinned.
+unfoldable pub placeSound : List CheckpointIndex → ℕ → Checkpoint → Bool
+placeSound pinned p c = eqb (entry (c .vector) p .0) (indexOf c) && among pinned (c .index)
+
+-- The kept checkpoints of process p beside the indexes that its pins name, and the places behind them.
+unfoldable pub rowSound : ℕ → List Interval → ℕ → CheckpointIndex → List CheckpointIndex → List Checkpoint → ℕ → Bool
+rowSound n own p last pinned row held =
+    eqb (indexOf (getD row (held - 1) empty)) (last .0)
+    && ((ascending 0 (map indexOf (take held row)) && every (placeSound pinned p) (take held row))
+    && every unusedCheckpoint (drop held row)
+    && (every (λ c. vectorSound n own (c .vector)) (take held row) && every (keepsIt (take held row)) pinned))
 
 -- A kept checkpoint of process p by itself: "each one's own entry equal to its index", and its vector.
 unfoldable pub checkpointSound : ℕ → List Interval → ℕ → Checkpoint → Bool

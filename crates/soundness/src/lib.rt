@@ -44,7 +44,6 @@ pub fn is_sound(s: Run) -> bool
     let unmarked = tables::unmarked_from(sent, n);
     let none = tables::none_held_from(held, n);
     let nothing = tables::nothing_rows_from(pins, n);
-    let unused = tables::unused_rows_from(kept, n);
     let carried = messages::are_messages_sound(messages, own, n, s.underway, s.last);
-    current & processes & zero & unmarked & none & nothing & unused & carried
+    current & processes & zero & unmarked & none & nothing & carried
 }

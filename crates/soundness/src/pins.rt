@@ -1,14 +1,9 @@
-use model::Checkpoint;
 use model::CheckpointIndex;
 use model::Pin;
 ghost use mathlib.Core.Path.{_≡_};
-ghost use mathlib.Core.Bool.{true, _&&_};
-ghost use Prim.Native.Nat.{_≤_};
-ghost use lib.ListN.{take};
-ghost use Rattle.laws.specs.Tests.{every, some-of};
-ghost use Rattle.model.specs.Words.{names, named};
-ghost use Rattle.model.specs.Sound.{isNothing, nothingFrom, pinSound};
-ghost use Rattle.soundness.specs.Judged.{pinOr, pinnedIndexes, keptIndexes, among, keepsIt};
+ghost use Rattle.laws.specs.Tests.{every};
+ghost use Rattle.model.specs.Sound.{isNothing, nothingFrom};
+ghost use Rattle.soundness.specs.Judged.{pinOr, pinnedIndexes, among, metBy};
 
 fn is_nothing(pin: Pin) -> bool
     ensures { λ r. ⌜ r ≡ isNothing pin ⌝ }
@@ -43,7 +38,7 @@ fn pin_or(pin: Pin, last: CheckpointIndex) -> CheckpointIndex
 }
 
 // The indexes that the pins of a row name, with the last stored one for every pin that names none.
-fn pinned_indexes(pins: [Pin; 16], last: CheckpointIndex) -> [CheckpointIndex; 16]
+pub fn pinned_indexes(pins: [Pin; 16], last: CheckpointIndex) -> [CheckpointIndex; 16]
     ensures { λ r. ⌜ r ≡ pinnedIndexes last pins ⌝ }
 {
     let mut indexes = [last; 16];
@@ -55,21 +50,7 @@ fn pinned_indexes(pins: [Pin; 16], last: CheckpointIndex) -> [CheckpointIndex; 1
     indexes
 }
 
-// The indexes of the kept checkpoints, with the last stored one in the places behind them.
-fn kept_indexes(row: [Checkpoint; 16], held: usize, last: CheckpointIndex) -> [CheckpointIndex; 16]
-    requires { ⌜ held ≤ 16 ⌝ }
-    ensures { λ r. ⌜ r ≡ keptIndexes last held row ⌝ }
-{
-    let mut indexes = [last; 16];
-    for k in 0..held {
-        let c = row[k];
-        let index = c.index;
-        indexes[k] = index;
-    }
-    indexes
-}
-
-fn is_among(index: CheckpointIndex, indexes: [CheckpointIndex; 16]) -> bool
+pub fn is_among(index: CheckpointIndex, indexes: [CheckpointIndex; 16]) -> bool
     ensures { λ r. ⌜ r ≡ among indexes index ⌝ }
 {
     let mut any = false;
@@ -80,32 +61,26 @@ fn is_among(index: CheckpointIndex, indexes: [CheckpointIndex; 16]) -> bool
     any
 }
 
-fn all_among(some: [CheckpointIndex; 16], indexes: [CheckpointIndex; 16]) -> bool
-    ensures { λ r. ⌜ r ≡ every (among indexes) some ⌝ }
+// Which indexes of a row have been met, once one more is.
+pub fn met_by(met: [bool; 16], pinned: [CheckpointIndex; 16], index: CheckpointIndex) -> [bool; 16]
+    ensures { λ r. ⌜ r ≡ metBy met pinned index ⌝ }
+{
+    let mut now = met;
+    for j in 0..16 {
+        let before = met[j];
+        let x = pinned[j];
+        now[j] = before | (x.0 == index.0);
+    }
+    now
+}
+
+pub fn is_each_met(met: [bool; 16]) -> bool
+    ensures { λ r. ⌜ r ≡ every (λ b. b) met ⌝ }
 {
     let mut ok = true;
-    for k in 0..16 {
-        let index = some[k];
-        let one = is_among(index, indexes);
+    for j in 0..16 {
+        let one = met[j];
         ok = ok & one;
     }
     ok
-}
-
-// "Every pin is none or names a kept one; every kept one is pinned." The last stored checkpoint is kept and pinned, so it can stand for "none" on
-// both sides: then each of 16 indexes is to be found among 16 others, and no pin is looked at for what it is.
-pub fn pins_agree(
-    pins: [Pin; 16],
-    row: [Checkpoint; 16],
-    held: usize,
-    last: CheckpointIndex,
-) -> bool
-    requires { ⌜ (held ≤ 16) × (keepsIt (take held row) last ≡ true) × (some-of (λ pin. names pin last) pins ≡ true) ⌝ }
-    ensures { λ r. ⌜ r ≡ (every (pinSound (take held row)) pins && every (named pins) (take held row)) ⌝ }
-{
-    let pinned = pinned_indexes(pins, last);
-    let kept = kept_indexes(row, held, last);
-    let a = all_among(pinned, kept);
-    let b = all_among(kept, pinned);
-    a & b
 }

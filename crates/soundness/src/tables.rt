@@ -5,7 +5,7 @@ use model::Checkpoint;
 use model::Interval;
 use model::Pin;
 ghost use mathlib.Core.Path.{_≡_};
-ghost use mathlib.Core.Bool.{true, not};
+ghost use mathlib.Core.Bool.{true, not, _&&_};
 ghost use mathlib.Core.List.{[]};
 ghost use Prim.Native.Nat.{_≤_};
 ghost use lib.Dec.{eqb};
@@ -72,20 +72,8 @@ pub fn nothing_rows_from(pins: [[Pin; 16]; 16], from: usize) -> bool
     true
 }
 
-pub fn unused_rows_from(kept: [[Checkpoint; 16]; 16], from: usize) -> bool
-    ensures { λ r. ⌜ r ≡ every (every unusedCheckpoint) (drop from kept) ⌝ }
-{
-    for p in from..16 {
-        let row = kept[p];
-        let unused = kept::unused_from(row, 0);
-        if !unused {
-            return false;
-        }
-    }
-    true
-}
-
-// The pins and the kept checkpoints of the n processes.
+// The pins and the kept checkpoints of the n processes, and the rows of kept checkpoints behind them. The kept checkpoints are most of a state: one
+// function has them, so that they are handed on once.
 pub fn are_processes_sound(
     kept: [[Checkpoint; 16]; 16],
     pins: [[Pin; 16]; 16],
@@ -94,7 +82,8 @@ pub fn are_processes_sound(
     n: usize,
 ) -> bool
     requires { ⌜ (n ≤ 16) × (zeroFrom n own ≡ true) ⌝ }
-    ensures { λ r. ⌜ r ≡ allBelow n (λ p. processSound n own p (getD kept p []) (getD pins p []) (getD held p 0)) ⌝ }
+    ensures { λ r. ⌜ r ≡ (allBelow n (λ p. processSound n own p (getD kept p []) (getD pins p []) (getD held p 0))
+        && every (every unusedCheckpoint) (drop n kept)) ⌝ }
 {
     for p in 0..n {
         let row = kept[p];
@@ -102,6 +91,13 @@ pub fn are_processes_sound(
         let count = held[p];
         let ok = kept::is_process_sound(row, pinned, own, count, n, p);
         if !ok {
+            return false;
+        }
+    }
+    for p in n..16 {
+        let row = kept[p];
+        let unused = kept::unused_from(row, 0);
+        if !unused {
             return false;
         }
     }

@@ -1,7 +1,10 @@
 use model::Interval;
 ghost use mathlib.Core.Path.{_≡_};
-ghost use mathlib.Core.Bool.{true};
+ghost use mathlib.Core.Bool.{true, _&&_};
+ghost use mathlib.Core.List.{List};
 ghost use Prim.Native.Nat.{ℕ, _≤_};
+ghost use lib.ListN.{length};
+ghost use Rattle.model.specs.declared.Interval.{Interval};
 ghost use Rattle.model.specs.Sound.{zeroFrom};
 ghost use Rattle.soundness.specs.Judged.{vectorSound};
 
@@ -29,4 +32,12 @@ pub fn is_zero(vector: [Interval; 16]) -> bool
         ok = ok & (x.0 == 0);
     }
     ok
+}
+
+// The greater entry of two vectors at each place: it is within own entries where both vectors are.
+pub fn joined(a: [Interval; 16], b: [Interval; 16]) -> [Interval; 16]
+    ensures { λ r. ⌜ ((n : ℕ) (own : List Interval) → length own ≡ 16 → n ≤ 16 → zeroFrom n own ≡ true
+        → vectorSound n own r ≡ (vectorSound n own a && vectorSound n own b)) ⌝ }
+{
+    rows::vector::take_in(a, b)
 }

@@ -40,29 +40,25 @@ none-held-from-requires c κs = search needs
 nothing-rows-from-requires : tie.Need-nothing-rows-from-requires
 nothing-rows-from-requires c κs = search needs
 
-unused-rows-from-requires : tie.Need-unused-rows-from-requires
-unused-rows-from-requires c κs = search needs
-
 are-messages-sound-requires : tie.Need-are-messages-sound-requires
-are-messages-sound-requires c κs = (search needs, rw (c .before .before .before .before .before .before .before .own-entries .ensures, c .before .before .before .before .before .before .before .before .before .before .before .before .before .vector-rows .ensures) (owns-zero (c .before .before .before .before .before .before .before .before .before .before .before .before .before .before .before .before .args .s) (search needs)))
+are-messages-sound-requires c κs = (search needs, rw (c .before .before .before .before .before .before .own-entries .ensures, c .before .before .before .before .before .before .before .before .before .before .before .before .vector-rows .ensures) (owns-zero (c .before .before .before .before .before .before .before .before .before .before .before .before .before .before .before .args .s) (search needs)))
 
 returns-3 : tie.Need-returns-3
 returns-3 c =
     rw (
       c .are-messages-sound .ensures,
-      c .before .unused-rows-from .ensures,
-      c .before .before .nothing-rows-from .ensures,
-      c .before .before .before .none-held-from .ensures,
-      c .before .before .before .before .unmarked-from .ensures,
-      c .before .before .before .before .before .zero-rows-from .ensures,
-      c .before .before .before .before .before .before .are-processes-sound .ensures,
-      c .before .before .before .before .before .before .before .are-current-sound .ensures,
-      c .before .before .before .before .before .before .before .before .own-entries .ensures,
-      c .before .before .before .before .before .before .before .before .before .before .before .before .kept-rows .ensures,
-      c .before .before .before .before .before .before .before .before .before .before .before .before .before .pin-rows .ensures,
-      c .before .before .before .before .before .before .before .before .before .before .before .before .before .before .vector-rows .ensures,
+      c .before .nothing-rows-from .ensures,
+      c .before .before .none-held-from .ensures,
+      c .before .before .before .unmarked-from .ensures,
+      c .before .before .before .before .zero-rows-from .ensures,
+      c .before .before .before .before .before .are-processes-sound .ensures,
+      c .before .before .before .before .before .before .are-current-sound .ensures,
+      c .before .before .before .before .before .before .before .own-entries .ensures,
+      c .before .before .before .before .before .before .before .before .before .before .before .kept-rows .ensures,
+      c .before .before .before .before .before .before .before .before .before .before .before .before .pin-rows .ensures,
+      c .before .before .before .before .before .before .before .before .before .before .before .before .before .vector-rows .ensures,
     )
-    (verdict (c .before .before .before .before .before .before .before .before .before .before .before .before .before .before .before .before .before .args .s) (search needs) (search needs))
+    (verdict (c .before .before .before .before .before .before .before .before .before .before .before .before .before .before .before .before .args .s) (search needs) (search needs))
 
 pub is-sound-spec : {M : Type 1} → statement M
 is-sound-spec =
@@ -80,6 +76,5 @@ is-sound-spec =
     unmarked-from-requires
     none-held-from-requires
     nothing-rows-from-requires
-    unused-rows-from-requires
     are-messages-sound-requires
     returns-3)
