@@ -6,6 +6,7 @@ pub mod Fulfilled
 pub mod Halving
 pub mod InPlace
 pub mod Recoveries
+pub mod Recovering
 pub mod Restored
 pub mod Search
 pub mod Shift

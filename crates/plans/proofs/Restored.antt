@@ -33,48 +33,20 @@ use Rattle.model.proofs.simulation.Reads.{count-is}
 use Rattle.listing.specs.declared.Value.the-variants.{Number}
 use Rattle.listing.specs.Lines.{valueOf}
 use Rattle.rows.specs.Line.{ownRow}
-use Rattle.steps.specs.declared.line.Members.{Members}
-use Rattle.steps.specs.declared.recover.RolledBack.{RolledBack}
-use Rattle.steps.specs.declared.recover.RowsAfter.{RowsAfter}
+use Rattle.rollback.specs.declared.line.Members.{Members}
+use Rattle.rollback.specs.declared.recover.RolledBack.{RolledBack}
+use Rattle.rollback.specs.declared.recover.RowsAfter.{RowsAfter}
 use Rattle.steps.specs.Facts.{count-most, held-most}
-use Rattle.steps.specs.Members.{membersOf, membersIn, members-in-state}
-use Rattle.steps.specs.After.{rolledOf, rolledIn, vectorAt, markAt, pinsAt, rowsOf, lossesOf, lossesAfter, lossesIn, vectorsOf, pinsIn, runAfter}
-use Rattle.steps.specs.RecoverCall.{twice-square}
-use Rattle.steps.specs.Recovered.{rolled-in-state, losses-in-state, run-in-state}
+use Rattle.rollback.specs.Members.{membersOf, membersIn, members-in-state}
+use Rattle.rollback.specs.After.{rolledOf, rolledIn, vectorAt, markAt, pinsAt, rowsOf, lossesOf, lossesAfter, lossesIn, vectorsOf, pinsIn, runAfter}
+use Rattle.rollback.specs.RecoverCall.{twice-square}
+use Rattle.rollback.specs.Recovered.{rolled-in-state, losses-in-state, run-in-state}
 use Rattle.plans.specs.declared.recovery.Restored.{Restored}
 use Rattle.plans.specs.Restored.{statesOf, restoredBy, lossesBy, restoredOf, restoredLosses}
 use Rattle.plans.specs.Restores.{restored, Restores}
 use Rattle.listing.specs.Said.{reported}
 use Rattle.plans.proofs.Deleted.{deleted-text}
 use Rattle.plans.proofs.Fulfilled.{lent}
-
--- What the function hands back, by the equation of each function that it calls.
-pub restored-done : (n F : ℕ) (vectors : List (List Interval)) (pins : List (List Pin)) (sent : List Bool) (kept : List (List Checkpoint)) (held : List ℕ)
-    (owns : List Interval) (members : Members) (back : RolledBack) (after : List (List Interval)) (owns-after : List Interval) (sent-after : List Bool)
-    (all : RowsAfter) (all-vectors : Vectors) (l₀ l₁ : List ℕ)
-    → owns ≡ ownRow vectors
-    → members ≡ membersOf n owns F vectors kept held
-    → back ≡ rolledOf n (members .states) owns
-    → after ≡ setBelow n (vectorAt vectors (members .states)) vectors
-    → owns-after ≡ ownRow after
-    → sent-after ≡ setBelow n (markAt sent (back .marks)) sent
-    → all ≡ rowsOf n pins after owns-after (back .marks) kept held (members .states)
-    → l₁ ≡ sets l₀ 0 (pairs (lossesOf n kept held (members .states) (pinsAt pins after owns-after (back .marks) kept held (members .states))))
-    → all-vectors ≡ record { 0 = after }
-    → (_≡_ {A = Restored} (record {
-      vectors = all-vectors;
-      pins = all .pins;
-      sent = sent-after;
-      kept = all .kept;
-      held = all .held;
-      rolled = back .count;
-      gone = all .deleted;
-    })
-    (restoredOf n F vectors pins sent kept held))
-    × (l₁ ≡ sets l₀ 0 (pairs (restoredLosses n F vectors pins kept held)))
-unfolding restoredOf restoredLosses restoredBy lossesBy
-restored-done n F vectors pins sent kept held owns members back after owns-after sent-after all all-vectors l₀ l₁ a b c d e f g h i =
-    rw (i, h, g, f, e, d, c, b, a) (refl, refl)
 
 -- A call is lent a list that has room for its deletions.
 take-most : {A : Type 0} (k : ℕ) (l : List A) → length (take k l) ≤ k

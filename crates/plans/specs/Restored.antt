@@ -9,10 +9,10 @@ use Rattle.model.specs.declared.Pin.{Pin}
 use Rattle.model.specs.declared.Checkpoint.{Checkpoint}
 use Rattle.model.specs.Steps.{Deletion}
 use Rattle.rows.specs.Line.{ownRow}
-use Rattle.steps.specs.declared.recover.RolledBack.{RolledBack}
-use Rattle.steps.specs.declared.recover.RowsAfter.{RowsAfter}
-use Rattle.steps.specs.Members.{membersOf}
-use Rattle.steps.specs.After.{rolledOf, vectorAt, markAt, pinsAt, rowsOf, lossesOf}
+use Rattle.rollback.specs.declared.recover.RolledBack.{RolledBack}
+use Rattle.rollback.specs.declared.recover.RowsAfter.{RowsAfter}
+use Rattle.rollback.specs.Members.{membersOf}
+use Rattle.rollback.specs.After.{rolledOf, vectorAt, markAt, pinsAt, rowsOf, lossesOf}
 use Rattle.plans.specs.declared.recovery.Restored.{Restored}
 
 -- the members of the line

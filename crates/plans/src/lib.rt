@@ -123,7 +123,7 @@ fn is_accepted(failed: u32, n: usize) -> bool
         return false;
     }
     if failed < 65536 {
-        let outside = steps::line::is_outside(failed as u16, n);
+        let outside = rollback::line::is_outside(failed as u16, n);
         return !outside;
     }
     false

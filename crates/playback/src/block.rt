@@ -35,6 +35,7 @@ fn replay_beside(s: Run, done: u64, block: &[u8], out: &mut [u8], deleted: &mut 
     let mut underway = s.underway;
     let mut last = s.last;
     let unused = steps::messages::no_message();
+    let cleared = [unused; 64];
     let mut count = done;
     let mut used = 0;
     let mut written = 0;
@@ -124,27 +125,58 @@ fn replay_beside(s: Run, done: u64, block: &[u8], out: &mut [u8], deleted: &mut 
                 used += 4;
             }
         } else {
-            let after = plans::recovery::recovered(
-                n,
-                failed,
-                vectors,
-                pins,
-                sent,
-                kept,
-                held,
-                deleted,
-            );
-            vectors = rows::squares::vector_rows(after.vectors);
-            pins = rows::squares::pin_rows(after.pins);
-            kept = rows::squares::kept_rows(after.kept);
-            sent = after.sent;
-            held = after.held;
-            messages = [unused; 64];
+            let start = plans::recovery::begin(n, failed, vectors);
+            let owns = start.owns;
+            let marks = start.marks;
+            let mut states = start.states;
+            let mut f = 0;
+            while f < n {
+                let now_known = vectors[f];
+                let row_now = kept[f];
+                let held_now = held[f];
+                let state = plans::recovery::member(now_known, f, row_now, held_now, owns, marks);
+                states[f] = state;
+                f += 1;
+            }
+            let back = plans::recovery::go_back(n, states, vectors, sent, owns);
+            vectors = rows::squares::vector_rows(back.vectors);
+            sent = back.sent;
+            let owns_then = back.owns;
+            let rolled = back.marks;
+            let mut gone = 0;
+            let mut q = 0;
+            while q < n {
+                let has_rolled = rolled[q];
+                let known = vectors[q];
+                let stored = kept[q];
+                let many = held[q];
+                let pinned = pins[q];
+                let state = states[q];
+                let latest = state.index;
+                let moved = rows::recovery::pins_after(
+                    has_rolled,
+                    known,
+                    owns_then,
+                    stored,
+                    many,
+                    latest,
+                    pinned,
+                );
+                let left = rows::recovery::part(deleted, 2 * gone, q, stored, many, moved, latest);
+                let left_row = left.row;
+                let left_held = left.held;
+                pins[q] = moved;
+                kept[q] = left_row;
+                held[q] = left_held;
+                gone += many - left_held;
+                q += 1;
+            }
+            messages = cleared;
             underway = 0;
             let said = Summary {
                 refused: 0,
-                value: Value::Number(after.rolled as u64),
-                deletions: after.gone,
+                value: Value::Number(back.rolled as u64),
+                deletions: gone,
             };
             written = lines::line::print(said, deleted, count + 1, out, written);
             count += 1;

@@ -25,6 +25,8 @@ use Rattle.trace.specs.Answers.{answered, eventIn}
 use Rattle.steps.specs.Sized.{Sized}
 use Rattle.steps.specs.Facts.{count-most, underway-most, held-most}
 use Rattle.steps.specs.SoundFacts.{own-least}
+use Rattle.rollback.specs.Members.{memberAt, unusedRow}
+use Rattle.laws.specs.Loops.{setBelow}
 use Rattle.playback.specs.Blocks.{Replays, Stops}
 use Rattle.plans.specs.Planned.{sought, placeOf, setOf}
 use Rattle.plans.specs.Carried.{shifted}
@@ -33,7 +35,7 @@ use Rattle.plans.proofs.Shift.{shift-none, shift-more}
 use Rattle.plans.proofs.Sizes.{reachable-sized}
 use Rattle.plans.proofs.Halving.{Between, all-between, upper, lower, ended, any-default, middle-from, middle-to}
 use Rattle.plans.proofs.InPlace.{stateOf, shift-ended, next-moved, place-most, row-there, some-there, from-most, place-there, calm-state, calm-says, moving-own, moving-room, moving-held, moving-places, moving-state, moving-says, recovery-asked, cold-state, cold-says}
-use Rattle.plans.proofs.Restored.{restored-from}
+use Rattle.plans.proofs.Recovering.{Recovering, members-begin, member-next, none-done, row-most, row-room, gone-few, one-done, in-place-restores}
 use Rattle.playback.proofs.Lines.{four-read}
 use Rattle.playback.proofs.Turns.{none-taken, four-bytes, record-there, one-said, said-fits, at-limit, no-record, no-room}
 use Rattle.playback.proofs.block.replay_beside.Statement.{statement}
@@ -41,22 +43,38 @@ use Rattle.playback.proofs.block.replay_beside.Tie as tie
 
 -- The search: nothing before `low` has the number, nothing from `high` on is before it.
 abbrev Inv-loop2 : tie.InvT-loop2
-Inv-loop2 done block out deleted n vectors pins kept sent held messages underway last unused count used written d failed m low₀ high₀ low high =
+Inv-loop2 done block out deleted n vectors pins kept sent held messages underway last cleared count used written d failed m low₀ high₀ low high =
     Between (stateOf n vectors pins kept sent held messages underway last) m low high
 
 abbrev μ-loop2 : tie.MeasureT-loop2
-μ-loop2 done block out deleted n vectors pins kept sent held messages underway last unused count used written d failed m low₀ high₀ low high = high - low
+μ-loop2 done block out deleted n vectors pins kept sent held messages underway last cleared count used written d failed m low₀ high₀ low high = high - low
 
 -- The messages behind the one that goes: those up to place k have moved.
 abbrev Inv-loop3 : tie.InvT-loop3
-Inv-loop3 done block out deleted n vectors pins kept sent held messages₀ underway last unused count used written failed m low high place found i vector mark own p k₀ messages k =
+Inv-loop3 done block out deleted n vectors pins kept sent held messages₀ underway last cleared count used written failed m low high place found i vector mark own p k₀ messages k =
     (messages ≡ shifted k₀ (k + 1) messages₀) × (k₀ ≤ k) × (k ≤ 64) × ((k + 1 ≤ underway) ⊎ (k ≡ k₀))
 
 abbrev μ-loop3 : tie.MeasureT-loop3
-μ-loop3 done block out deleted n vectors pins kept sent held messages₀ underway last unused count used written failed m low high place found i vector mark own p k₀ messages k = underway - k
+μ-loop3 done block out deleted n vectors pins kept sent held messages₀ underway last cleared count used written failed m low high place found i vector mark own p k₀ messages k = underway - k
+
+-- The members of the line: those of the first f processes are found.
+abbrev Inv-loop4 : tie.InvT-loop4
+Inv-loop4 done block out deleted n vectors pins kept sent held underway last cleared count used written failed owns marks states₀ f₀ states f =
+    (f ≤ n) × (states ≡ setBelow f (memberAt n owns failed vectors kept held) unusedRow)
+
+abbrev μ-loop4 : tie.MeasureT-loop4
+μ-loop4 done block out deleted n vectors pins kept sent held underway last cleared count used written failed owns marks states₀ f₀ states f = n - f
+
+-- The rows of the first q processes are as they are after the recovery.
+abbrev Inv-loop5 : tie.InvT-loop5
+Inv-loop5 done block out deleted₀ n vectors pins₀ kept₀ sent held₀ underway last cleared count used written failed states f back owns-then rolled gone₀ q₀ deleted pins kept held gone q =
+    Recovering n vectors owns-then rolled states pins₀ kept₀ held₀ deleted₀ pins kept held deleted gone q
+
+abbrev μ-loop5 : tie.MeasureT-loop5
+μ-loop5 done block out deleted₀ n vectors pins₀ kept₀ sent held₀ underway last cleared count used written failed states f back owns-then rolled gone₀ q₀ deleted pins kept held gone q = n - q
 
 abbrev Inv-loop : tie.InvT-loop
-Inv-loop done block out₀ deleted₀ n vectors₀ pins₀ kept₀ sent₀ held₀ messages₀ underway₀ last₀ unused count₀ used₀ written₀ out deleted vectors pins kept sent held messages underway last count used written =
+Inv-loop done block out₀ deleted₀ n vectors₀ pins₀ kept₀ sent₀ held₀ messages₀ underway₀ last₀ cleared count₀ used₀ written₀ out deleted vectors pins kept sent held messages underway last count used written =
     Replays (stateOf n vectors₀ pins₀ kept₀ sent₀ held₀ messages₀ underway₀ last₀) count₀ block out₀ (stateOf n vectors pins kept sent held messages underway last) count used out written
     × Reachable (stateOf n vectors pins kept sent held messages underway last)
     × (count ≤ 1000000000)
@@ -65,135 +83,135 @@ Inv-loop done block out₀ deleted₀ n vectors₀ pins₀ kept₀ sent₀ held�
     × (length deleted ≡ 512)
 
 abbrev μ-loop : tie.MeasureT-loop
-μ-loop done block out₀ deleted₀ n vectors₀ pins₀ kept₀ sent₀ held₀ messages₀ underway₀ last₀ unused count₀ used₀ written₀ out deleted vectors pins kept sent held messages underway last count used written = length block - used
+μ-loop done block out₀ deleted₀ n vectors₀ pins₀ kept₀ sent₀ held₀ messages₀ underway₀ last₀ cleared count₀ used₀ written₀ out deleted vectors pins kept sent held messages underway last count used written = length block - used
 
 -- The length of a block is a number of 64 bits.
-block-fits : (c : tie.After-shared-slice-known Inv-loop2 μ-loop2 Inv-loop3 μ-loop3 Inv-loop μ-loop) → length (now (c .before .args .block)) < 18446744073709551616
+block-fits : (c : tie.After-shared-slice-known Inv-loop2 μ-loop2 Inv-loop3 μ-loop3 Inv-loop4 μ-loop4 Inv-loop5 μ-loop5 Inv-loop μ-loop) → length (now (c .before .args .block)) < 18446744073709551616
 block-fits c = search needs
 
 -- The state that the parts are at the start of a turn, and what is known of it.
-abbrev whole : tie.At-loop Inv-loop2 μ-loop2 Inv-loop3 μ-loop3 Inv-loop μ-loop → Run
+abbrev whole : tie.At-loop Inv-loop2 μ-loop2 Inv-loop3 μ-loop3 Inv-loop4 μ-loop4 Inv-loop5 μ-loop5 Inv-loop μ-loop → Run
 whole c = stateOf (c .before .before .before .before .before .before .before .before .before .before .before .args .s .count) (c .loop .vectors) (c .loop .pins) (c .loop .kept) (c .loop .sent) (c .loop .held) (c .loop .messages) (c .loop .underway) (c .loop .last)
 
-reach : (c : tie.At-loop Inv-loop2 μ-loop2 Inv-loop3 μ-loop3 Inv-loop μ-loop) → Reachable (whole c)
+reach : (c : tie.At-loop Inv-loop2 μ-loop2 Inv-loop3 μ-loop3 Inv-loop4 μ-loop4 Inv-loop5 μ-loop5 Inv-loop μ-loop) → Reachable (whole c)
 reach c = c .loop .inv .1
 
-fine : (c : tie.At-loop Inv-loop2 μ-loop2 Inv-loop3 μ-loop3 Inv-loop μ-loop) → sound (whole c) ≡ true
+fine : (c : tie.At-loop Inv-loop2 μ-loop2 Inv-loop3 μ-loop3 Inv-loop4 μ-loop4 Inv-loop5 μ-loop5 Inv-loop μ-loop) → sound (whole c) ≡ true
 fine c = reachable-sound (whole c) (reach c)
 
-sized : (c : tie.At-loop Inv-loop2 μ-loop2 Inv-loop3 μ-loop3 Inv-loop μ-loop) → Sized (whole c)
+sized : (c : tie.At-loop Inv-loop2 μ-loop2 Inv-loop3 μ-loop3 Inv-loop4 μ-loop4 Inv-loop5 μ-loop5 Inv-loop μ-loop) → Sized (whole c)
 sized c = reachable-sized (whole c) (reach c)
 
 -- A whole record is left, and there is room for its line.
-more : (c : tie.Then2 Inv-loop2 μ-loop2 Inv-loop3 μ-loop3 Inv-loop μ-loop) → c .before .before .before .loop .used + 4 ≤ length (now (c .before .before .before .before .before .before .before .before .before .before .before .before .before .before .args .block))
+more : (c : tie.Then2 Inv-loop2 μ-loop2 Inv-loop3 μ-loop3 Inv-loop4 μ-loop4 Inv-loop5 μ-loop5 Inv-loop μ-loop) → c .before .before .before .loop .used + 4 ≤ length (now (c .before .before .before .before .before .before .before .before .before .before .before .before .before .before .args .block))
 more c =
     let l = c .before .before .before .loop in
     omega (arith, l .inv .0 .within, leb-true 4 (length (now (c .before .before .before .before .before .before .before .before .before .before .before .before .before .before .args .block)) - l .used) (c .before .if1 .taken))
 
-room : (c : tie.Then2 Inv-loop2 μ-loop2 Inv-loop3 μ-loop3 Inv-loop μ-loop) → c .before .before .before .loop .written + longestLine ≤ length (c .before .before .before .loop .out)
+room : (c : tie.Then2 Inv-loop2 μ-loop2 Inv-loop3 μ-loop3 Inv-loop4 μ-loop4 Inv-loop5 μ-loop5 Inv-loop μ-loop) → c .before .before .before .loop .written + longestLine ≤ length (c .before .before .before .loop .out)
 room c =
     let l = c .before .before .before .loop in
     omega (arith, l .inv .3, l .inv .4, leb-true longestLine (length (l .out) - l .written) (c .if2 .taken))
 
-few : (c : tie.Then2 Inv-loop2 μ-loop2 Inv-loop3 μ-loop3 Inv-loop μ-loop) → c .before .before .before .loop .count < 1000000000
+few : (c : tie.Then2 Inv-loop2 μ-loop2 Inv-loop3 μ-loop3 Inv-loop4 μ-loop4 Inv-loop5 μ-loop5 Inv-loop μ-loop) → c .before .before .before .loop .count < 1000000000
 few c = c .before .before .loop-test .taken
 
 -- The part that was handed on is the record behind the bytes used, and its event is that of the record.
-there : (c : tie.After-record-part Inv-loop2 μ-loop2 Inv-loop3 μ-loop3 Inv-loop μ-loop) → now (c .record-part .result) ≡ take 4 (drop (c .before .before .before .before .loop .used) (now (c .before .before .before .before .before .before .before .before .before .before .before .before .before .before .before .args .block)))
+there : (c : tie.After-record-part Inv-loop2 μ-loop2 Inv-loop3 μ-loop3 Inv-loop4 μ-loop4 Inv-loop5 μ-loop5 Inv-loop μ-loop) → now (c .record-part .result) ≡ take 4 (drop (c .before .before .before .before .loop .used) (now (c .before .before .before .before .before .before .before .before .before .before .before .before .before .before .before .args .block)))
 there c = c .record-part .ensures ∙ record-there (now (c .before .before .before .before .before .before .before .before .before .before .before .before .before .before .before .args .block)) (c .before .before .before .before .loop .used) (more (c .before))
 
-long : (c : tie.After-record-part Inv-loop2 μ-loop2 Inv-loop3 μ-loop3 Inv-loop μ-loop) → length (now (c .record-part .result)) ≡ 4
+long : (c : tie.After-record-part Inv-loop2 μ-loop2 Inv-loop3 μ-loop3 Inv-loop4 μ-loop4 Inv-loop5 μ-loop5 Inv-loop μ-loop) → length (now (c .record-part .result)) ≡ 4
 long c =
     let l = c .before .before .before .before .loop in
     ap length (there c) ∙ four-bytes _ _ (now (c .before .before .before .before .before .before .before .before .before .before .before .before .before .before .before .args .block)) _ _ (l .count) (l .used) (l .out) (l .written) (l .inv .0) (more (c .before))
 
-abbrev event : tie.After-decode Inv-loop2 μ-loop2 Inv-loop3 μ-loop3 Inv-loop μ-loop → Option Event
+abbrev event : tie.After-decode Inv-loop2 μ-loop2 Inv-loop3 μ-loop3 Inv-loop4 μ-loop4 Inv-loop5 μ-loop5 Inv-loop μ-loop → Option Event
 event c = answered (c .decode .result)
 
-is-event : (c : tie.After-decode Inv-loop2 μ-loop2 Inv-loop3 μ-loop3 Inv-loop μ-loop) → event c ≡ decoded (take 4 (drop (c .before .before .before .before .before .loop .used) (now (c .before .before .before .before .before .before .before .before .before .before .before .before .before .before .before .before .args .block))))
+is-event : (c : tie.After-decode Inv-loop2 μ-loop2 Inv-loop3 μ-loop3 Inv-loop4 μ-loop4 Inv-loop5 μ-loop5 Inv-loop μ-loop) → event c ≡ decoded (take 4 (drop (c .before .before .before .before .before .loop .used) (now (c .before .before .before .before .before .before .before .before .before .before .before .before .before .before .before .before .args .block))))
 is-event c = c .decode .ensures ∙ four-read (now (c .before .record-part .result)) (long (c .before)) ∙ ap decoded (there (c .before))
 
 -- A record that asks for no recovery, or for one that is refused.
-hot : (c : tie.Then3 Inv-loop2 μ-loop2 Inv-loop3 μ-loop3 Inv-loop μ-loop) → setOf (c .before .before .before .before .before .before .before .before .before .before .before .before .before .before .before .before .before .before .args .s .count) (event (c .before .before)) ≡ 0
+hot : (c : tie.Then3 Inv-loop2 μ-loop2 Inv-loop3 μ-loop3 Inv-loop4 μ-loop4 Inv-loop5 μ-loop5 Inv-loop μ-loop) → setOf (c .before .before .before .before .before .before .before .before .before .before .before .before .before .before .before .before .before .before .args .s .count) (event (c .before .before)) ≡ 0
 hot c = sym (c .before .recovery-of .ensures) ∙ c .if3 .taken
 
 -- The search has ended.
-over : (c : tie.After-loop2 Inv-loop2 μ-loop2 Inv-loop3 μ-loop3 Inv-loop μ-loop) → Ended (whole (c .before .before .before .before .before .before .before .before .before .before .before)) (sought (event (c .before .before .before .before .before .before))) (c .before .loop2 .low)
+over : (c : tie.After-loop2 Inv-loop2 μ-loop2 Inv-loop3 μ-loop3 Inv-loop4 μ-loop4 Inv-loop5 μ-loop5 Inv-loop μ-loop) → Ended (whole (c .before .before .before .before .before .before .before .before .before .before .before)) (sought (event (c .before .before .before .before .before .before))) (c .before .loop2 .low)
 over c =
     let at = c .before .before .before .before .before .before .before .before .before .before .before in
     rw (← (c .before .before .before .sought .ensures)) (ended (whole at) (fine at) (sized at) (c .before .before .before .sought .result) (c .before .loop2 .low) (c .before .loop2 .high) (c .before .loop2 .inv) (c .loop2-test .left))
 
 -- The message in the place where it ended.
-in-table : (c : tie.After-place-of Inv-loop2 μ-loop2 Inv-loop3 μ-loop3 Inv-loop μ-loop) → c .place-of .result < length (c .before .before .before .before .before .before .before .before .before .before .before .before .loop .messages)
+in-table : (c : tie.After-place-of Inv-loop2 μ-loop2 Inv-loop3 μ-loop3 Inv-loop4 μ-loop4 Inv-loop5 μ-loop5 Inv-loop μ-loop) → c .place-of .result < length (c .before .before .before .before .before .before .before .before .before .before .before .before .loop .messages)
 in-table c = let e = sized (c .before .before .before .before .before .before .before .before .before .before .before .before) .messages in let p = place-most (c .before .before .loop2 .low) in omega (arith, c .place-of .ensures)
 
 -- The process that the record may change has a row.
-in-rows : (q : tie.After-process-of Inv-loop2 μ-loop2 Inv-loop3 μ-loop3 Inv-loop μ-loop) → q .process-of .result < 16
+in-rows : (q : tie.After-process-of Inv-loop2 μ-loop2 Inv-loop3 μ-loop3 Inv-loop4 μ-loop4 Inv-loop5 μ-loop5 Inv-loop μ-loop) → q .process-of .result < 16
 in-rows q =
     let at = q .before .before .before .before .before .before .before .before .before .before .before .before .before .before .before in
     row-there (at .before .before .before .before .before .before .before .before .before .before .before .args .s .count) (at .loop .vectors) (at .loop .pins) (at .loop .kept) (at .loop .sent) (at .loop .held) (at .loop .messages) (at .loop .underway) (at .loop .last) (reach at) (event (q .before .before .before .before .before .before .before .before .before .before)) (hot (q .before .before .before .before .before .before .before .before)) (q .before .before .before .before .before .loop2 .low) (over (q .before .before .before .before))
     (q .before .before .before .before .before .before .before .sought .ensures) (q .before .before .before .place-of .ensures) (any-default (at .loop .messages) (q .before .before .before .place-of .result) _ noMessage (in-table (q .before .before .before))) (q .before .is-found .ensures) (q .process-of .ensures)
 
-vector-rows-requires : tie.Need-vector-rows-requires Inv-loop2 μ-loop2 Inv-loop3 μ-loop3 Inv-loop μ-loop
+vector-rows-requires : tie.Need-vector-rows-requires Inv-loop2 μ-loop2 Inv-loop3 μ-loop3 Inv-loop4 μ-loop4 Inv-loop5 μ-loop5 Inv-loop μ-loop
 vector-rows-requires c κs = search needs
 
-pin-rows-requires : tie.Need-pin-rows-requires Inv-loop2 μ-loop2 Inv-loop3 μ-loop3 Inv-loop μ-loop
+pin-rows-requires : tie.Need-pin-rows-requires Inv-loop2 μ-loop2 Inv-loop3 μ-loop3 Inv-loop4 μ-loop4 Inv-loop5 μ-loop5 Inv-loop μ-loop
 pin-rows-requires c κs = search needs
 
-kept-rows-requires : tie.Need-kept-rows-requires Inv-loop2 μ-loop2 Inv-loop3 μ-loop3 Inv-loop μ-loop
+kept-rows-requires : tie.Need-kept-rows-requires Inv-loop2 μ-loop2 Inv-loop3 μ-loop3 Inv-loop4 μ-loop4 Inv-loop5 μ-loop5 Inv-loop μ-loop
 kept-rows-requires c κs = search needs
 
-no-message-requires : tie.Need-no-message-requires Inv-loop2 μ-loop2 Inv-loop3 μ-loop3 Inv-loop μ-loop
+no-message-requires : tie.Need-no-message-requires Inv-loop2 μ-loop2 Inv-loop3 μ-loop3 Inv-loop4 μ-loop4 Inv-loop5 μ-loop5 Inv-loop μ-loop
 no-message-requires c κs = search needs
 
-loop-holds : tie.Need-loop-holds Inv-loop2 μ-loop2 Inv-loop3 μ-loop3 Inv-loop μ-loop
+loop-holds : tie.Need-loop-holds Inv-loop2 μ-loop2 Inv-loop3 μ-loop3 Inv-loop4 μ-loop4 Inv-loop5 μ-loop5 Inv-loop μ-loop
 loop-holds c =
     let start = c .before .before .before .before .before .before .before .before .before .before in
     rw (c .before .before .before .before .before .before .vector-rows .ensures, c .before .before .before .before .before .pin-rows .ensures, c .before .before .before .before .kept-rows .ensures)
     (none-taken (start .args .s) (start .args .done) (now (start .args .block)) (now (start .args .out)), start .pre .0, start .pre .1, omega arith, refl, start .pre .2)
 
-sub-if1 : tie.Need-sub-if1 Inv-loop2 μ-loop2 Inv-loop3 μ-loop3 Inv-loop μ-loop
+sub-if1 : tie.Need-sub-if1 Inv-loop2 μ-loop2 Inv-loop3 μ-loop3 Inv-loop4 μ-loop4 Inv-loop5 μ-loop5 Inv-loop μ-loop
 sub-if1 c = omega (arith, c .before .loop .inv .0 .within)
 
-sub-if2 : tie.Need-sub-if2 Inv-loop2 μ-loop2 Inv-loop3 μ-loop3 Inv-loop μ-loop
+sub-if2 : tie.Need-sub-if2 Inv-loop2 μ-loop2 Inv-loop3 μ-loop3 Inv-loop4 μ-loop4 Inv-loop5 μ-loop5 Inv-loop μ-loop
 sub-if2 c = omega (arith, c .before .before .loop .inv .3, c .before .before .loop .inv .4)
 
-record-part-requires : tie.Need-record-part-requires Inv-loop2 μ-loop2 Inv-loop3 μ-loop3 Inv-loop μ-loop
+record-part-requires : tie.Need-record-part-requires Inv-loop2 μ-loop2 Inv-loop3 μ-loop3 Inv-loop4 μ-loop4 Inv-loop5 μ-loop5 Inv-loop μ-loop
 record-part-requires c κs = search needs
 
-decode-requires : tie.Need-decode-requires Inv-loop2 μ-loop2 Inv-loop3 μ-loop3 Inv-loop μ-loop
+decode-requires : tie.Need-decode-requires Inv-loop2 μ-loop2 Inv-loop3 μ-loop3 Inv-loop4 μ-loop4 Inv-loop5 μ-loop5 Inv-loop μ-loop
 decode-requires c κs = search needs
 
-recovery-of-requires : tie.Need-recovery-of-requires Inv-loop2 μ-loop2 Inv-loop3 μ-loop3 Inv-loop μ-loop
+recovery-of-requires : tie.Need-recovery-of-requires Inv-loop2 μ-loop2 Inv-loop3 μ-loop3 Inv-loop4 μ-loop4 Inv-loop5 μ-loop5 Inv-loop μ-loop
 recovery-of-requires c κs = count-most (whole (c .before .before .before .before .before)) (fine (c .before .before .before .before .before))
 
-sought-requires : tie.Need-sought-requires Inv-loop2 μ-loop2 Inv-loop3 μ-loop3 Inv-loop μ-loop
+sought-requires : tie.Need-sought-requires Inv-loop2 μ-loop2 Inv-loop3 μ-loop3 Inv-loop4 μ-loop4 Inv-loop5 μ-loop5 Inv-loop μ-loop
 sought-requires c κs = search needs
 
-search-end-requires : tie.Need-search-end-requires Inv-loop2 μ-loop2 Inv-loop3 μ-loop3 Inv-loop μ-loop
+search-end-requires : tie.Need-search-end-requires Inv-loop2 μ-loop2 Inv-loop3 μ-loop3 Inv-loop4 μ-loop4 Inv-loop5 μ-loop5 Inv-loop μ-loop
 search-end-requires c κs = search needs
 
-loop2-holds : tie.Need-loop2-holds Inv-loop2 μ-loop2 Inv-loop3 μ-loop3 Inv-loop μ-loop
+loop2-holds : tie.Need-loop2-holds Inv-loop2 μ-loop2 Inv-loop3 μ-loop3 Inv-loop4 μ-loop4 Inv-loop5 μ-loop5 Inv-loop μ-loop
 loop2-holds c =
     let at = c .before .before .before .before .before .before .before .before .before in
     all-between (whole at) (fine at) (sized at) (c .before .sought .result) (c .search-end .result) (c .search-end .ensures)
 
-add-middle : tie.Need-add-middle Inv-loop2 μ-loop2 Inv-loop3 μ-loop3 Inv-loop μ-loop
+add-middle : tie.Need-add-middle Inv-loop2 μ-loop2 Inv-loop3 μ-loop3 Inv-loop4 μ-loop4 Inv-loop5 μ-loop5 Inv-loop μ-loop
 add-middle c = omega (arith, c .before .loop2 .inv .within, underway-most (whole (c .before .before .before .before .before .before .before .before .before .before .before)) (fine (c .before .before .before .before .before .before .before .before .before .before .before)), c .loop2-test .taken)
 
-mul-if4 : tie.Need-mul-if4 Inv-loop2 μ-loop2 Inv-loop3 μ-loop3 Inv-loop μ-loop
+mul-if4 : tie.Need-mul-if4 Inv-loop2 μ-loop2 Inv-loop3 μ-loop3 Inv-loop4 μ-loop4 Inv-loop5 μ-loop5 Inv-loop μ-loop
 mul-if4 c = omega (arith, c .before .loop2 .inv .within, underway-most (whole (c .before .before .before .before .before .before .before .before .before .before .before)) (fine (c .before .before .before .before .before .before .before .before .before .before .before)), middle-to (c .before .loop2 .low) (c .before .loop2 .high) (c .loop2-test .taken))
 
-element-copy-out-if4 : tie.Need-element-copy-out-if4 Inv-loop2 μ-loop2 Inv-loop3 μ-loop3 Inv-loop μ-loop
+element-copy-out-if4 : tie.Need-element-copy-out-if4 Inv-loop2 μ-loop2 Inv-loop3 μ-loop3 Inv-loop4 μ-loop4 Inv-loop5 μ-loop5 Inv-loop μ-loop
 element-copy-out-if4 c = omega (arith, c .before .loop2 .inv .within, underway-most (whole (c .before .before .before .before .before .before .before .before .before .before .before)) (fine (c .before .before .before .before .before .before .before .before .before .before .before)), middle-to (c .before .loop2 .low) (c .before .loop2 .high) (c .loop2-test .taken))
 
-add-low : tie.Need-add-low Inv-loop2 μ-loop2 Inv-loop3 μ-loop3 Inv-loop μ-loop
+add-low : tie.Need-add-low Inv-loop2 μ-loop2 Inv-loop3 μ-loop3 Inv-loop4 μ-loop4 Inv-loop5 μ-loop5 Inv-loop μ-loop
 add-low c = omega (arith, c .before .before .loop2 .inv .within, underway-most (whole (c .before .before .before .before .before .before .before .before .before .before .before .before)) (fine (c .before .before .before .before .before .before .before .before .before .before .before .before)), middle-to (c .before .before .loop2 .low) (c .before .before .loop2 .high) (c .before .loop2-test .taken))
 
-loop2-less : tie.Need-loop2-less Inv-loop2 μ-loop2 Inv-loop3 μ-loop3 Inv-loop μ-loop
+loop2-less : tie.Need-loop2-less Inv-loop2 μ-loop2 Inv-loop3 μ-loop3 Inv-loop4 μ-loop4 Inv-loop5 μ-loop5 Inv-loop μ-loop
 loop2-less c = omega (arith, middle-from (c .before .before .loop2 .low) (c .before .before .loop2 .high) (c .before .loop2-test .taken), middle-to (c .before .before .loop2 .low) (c .before .before .loop2 .high) (c .before .loop2-test .taken))
 
-loop2-again : tie.Need-loop2-again Inv-loop2 μ-loop2 Inv-loop3 μ-loop3 Inv-loop μ-loop
+loop2-again : tie.Need-loop2-again Inv-loop2 μ-loop2 Inv-loop3 μ-loop3 Inv-loop4 μ-loop4 Inv-loop5 μ-loop5 Inv-loop μ-loop
 loop2-again c =
     let at = c .before .before .before .before .before .before .before .before .before .before .before .before in
     let l = c .before .before .loop2 in
@@ -203,10 +221,10 @@ loop2-again c =
     upper (whole at) (fine at) (sized at) (c .before .before .before .before .sought .result) (l .low) (l .high) (l .inv) middle (middle-from (l .low) (l .high) (c .before .loop2-test .taken)) to
     (rw (any-default (at .loop .messages) middle _ noMessage inside) at (c .if4 .taken))
 
-loop2-less-2 : tie.Need-loop2-less-2 Inv-loop2 μ-loop2 Inv-loop3 μ-loop3 Inv-loop μ-loop
+loop2-less-2 : tie.Need-loop2-less-2 Inv-loop2 μ-loop2 Inv-loop3 μ-loop3 Inv-loop4 μ-loop4 Inv-loop5 μ-loop5 Inv-loop μ-loop
 loop2-less-2 c = omega (arith, middle-from (c .before .before .loop2 .low) (c .before .before .loop2 .high) (c .before .loop2-test .taken), middle-to (c .before .before .loop2 .low) (c .before .before .loop2 .high) (c .before .loop2-test .taken))
 
-loop2-again-2 : tie.Need-loop2-again-2 Inv-loop2 μ-loop2 Inv-loop3 μ-loop3 Inv-loop μ-loop
+loop2-again-2 : tie.Need-loop2-again-2 Inv-loop2 μ-loop2 Inv-loop3 μ-loop3 Inv-loop4 μ-loop4 Inv-loop5 μ-loop5 Inv-loop μ-loop
 loop2-again-2 c =
     let at = c .before .before .before .before .before .before .before .before .before .before .before .before in
     let l = c .before .before .loop2 in
@@ -216,47 +234,47 @@ loop2-again-2 c =
     lower (whole at) (fine at) (sized at) (c .before .before .before .before .sought .result) (l .low) (l .high) (l .inv) middle (middle-from (l .low) (l .high) (c .before .loop2-test .taken)) to
     (rw (any-default (at .loop .messages) middle _ noMessage inside) at (c .if4 .left))
 
-place-of-requires : tie.Need-place-of-requires Inv-loop2 μ-loop2 Inv-loop3 μ-loop3 Inv-loop μ-loop
+place-of-requires : tie.Need-place-of-requires Inv-loop2 μ-loop2 Inv-loop3 μ-loop3 Inv-loop4 μ-loop4 Inv-loop5 μ-loop5 Inv-loop μ-loop
 place-of-requires c κs = search needs
 
-mul-message : tie.Need-mul-message Inv-loop2 μ-loop2 Inv-loop3 μ-loop3 Inv-loop μ-loop
+mul-message : tie.Need-mul-message Inv-loop2 μ-loop2 Inv-loop3 μ-loop3 Inv-loop4 μ-loop4 Inv-loop5 μ-loop5 Inv-loop μ-loop
 mul-message c = let p = place-most (c .before .before .loop2 .low) in omega (arith, c .place-of .ensures)
 
-array-copy-out-message : tie.Need-array-copy-out-message Inv-loop2 μ-loop2 Inv-loop3 μ-loop3 Inv-loop μ-loop
+array-copy-out-message : tie.Need-array-copy-out-message Inv-loop2 μ-loop2 Inv-loop3 μ-loop3 Inv-loop4 μ-loop4 Inv-loop5 μ-loop5 Inv-loop μ-loop
 array-copy-out-message c = let p = place-most (c .before .before .loop2 .low) in omega (arith, c .place-of .ensures)
 
-is-found-requires : tie.Need-is-found-requires Inv-loop2 μ-loop2 Inv-loop3 μ-loop3 Inv-loop μ-loop
+is-found-requires : tie.Need-is-found-requires Inv-loop2 μ-loop2 Inv-loop3 μ-loop3 Inv-loop4 μ-loop4 Inv-loop5 μ-loop5 Inv-loop μ-loop
 is-found-requires c κs = search needs
 
-process-of-requires : tie.Need-process-of-requires Inv-loop2 μ-loop2 Inv-loop3 μ-loop3 Inv-loop μ-loop
+process-of-requires : tie.Need-process-of-requires Inv-loop2 μ-loop2 Inv-loop3 μ-loop3 Inv-loop4 μ-loop4 Inv-loop5 μ-loop5 Inv-loop μ-loop
 process-of-requires c κs = search needs
 
-mul-vector : tie.Need-mul-vector Inv-loop2 μ-loop2 Inv-loop3 μ-loop3 Inv-loop μ-loop
+mul-vector : tie.Need-mul-vector Inv-loop2 μ-loop2 Inv-loop3 μ-loop3 Inv-loop4 μ-loop4 Inv-loop5 μ-loop5 Inv-loop μ-loop
 mul-vector c = omega (arith, in-rows c)
 
-array-copy-out-vector : tie.Need-array-copy-out-vector Inv-loop2 μ-loop2 Inv-loop3 μ-loop3 Inv-loop μ-loop
+array-copy-out-vector : tie.Need-array-copy-out-vector Inv-loop2 μ-loop2 Inv-loop3 μ-loop3 Inv-loop4 μ-loop4 Inv-loop5 μ-loop5 Inv-loop μ-loop
 array-copy-out-vector c = in-rows c
 
-array-read-mark : tie.Need-array-read-mark Inv-loop2 μ-loop2 Inv-loop3 μ-loop3 Inv-loop μ-loop
+array-read-mark : tie.Need-array-read-mark Inv-loop2 μ-loop2 Inv-loop3 μ-loop3 Inv-loop4 μ-loop4 Inv-loop5 μ-loop5 Inv-loop μ-loop
 array-read-mark c = in-rows (c .before)
 
-mul-own : tie.Need-mul-own Inv-loop2 μ-loop2 Inv-loop3 μ-loop3 Inv-loop μ-loop
+mul-own : tie.Need-mul-own Inv-loop2 μ-loop2 Inv-loop3 μ-loop3 Inv-loop4 μ-loop4 Inv-loop5 μ-loop5 Inv-loop μ-loop
 mul-own c = omega (arith, in-rows (c .before))
 
-array-copy-out-own : tie.Need-array-copy-out-own Inv-loop2 μ-loop2 Inv-loop3 μ-loop3 Inv-loop μ-loop
+array-copy-out-own : tie.Need-array-copy-out-own Inv-loop2 μ-loop2 Inv-loop3 μ-loop3 Inv-loop4 μ-loop4 Inv-loop5 μ-loop5 Inv-loop μ-loop
 array-copy-out-own c = in-rows (c .before)
 
-plan-of-requires : tie.Need-plan-of-requires Inv-loop2 μ-loop2 Inv-loop3 μ-loop3 Inv-loop μ-loop
+plan-of-requires : tie.Need-plan-of-requires Inv-loop2 μ-loop2 Inv-loop3 μ-loop3 Inv-loop4 μ-loop4 Inv-loop5 μ-loop5 Inv-loop μ-loop
 plan-of-requires c κs =
     let q = c .before .before in
     let at = q .before .before .before .before .before .before .before .before .before .before .before .before .before .before .before in
     some-there (at .before .before .before .before .before .before .before .before .before .before .before .args .s .count) (at .loop .vectors) (at .loop .pins) (at .loop .kept) (at .loop .sent) (at .loop .held) (at .loop .messages) (at .loop .underway) (at .loop .last) (reach at) (event (q .before .before .before .before .before .before .before .before .before .before)) (hot (q .before .before .before .before .before .before .before .before)) (q .before .before .before .before .before .loop2 .low) (over (q .before .before .before .before))
     (q .before .before .before .before .before .before .before .sought .ensures) (q .before .before .before .place-of .ensures) (any-default (at .loop .messages) (q .before .before .before .place-of .result) _ noMessage (in-table (q .before .before .before))) (q .before .is-found .ensures) (q .process-of .ensures)
 
-array-write-sent : tie.Need-array-write-sent Inv-loop2 μ-loop2 Inv-loop3 μ-loop3 Inv-loop μ-loop
+array-write-sent : tie.Need-array-write-sent Inv-loop2 μ-loop2 Inv-loop3 μ-loop3 Inv-loop4 μ-loop4 Inv-loop5 μ-loop5 Inv-loop μ-loop
 array-write-sent c = in-rows (c .before .before .before)
 
-loop3-holds : tie.Need-loop3-holds Inv-loop2 μ-loop2 Inv-loop3 μ-loop3 Inv-loop μ-loop
+loop3-holds : tie.Need-loop3-holds Inv-loop2 μ-loop2 Inv-loop3 μ-loop3 Inv-loop4 μ-loop4 Inv-loop5 μ-loop5 Inv-loop μ-loop
 loop3-holds c =
     let q = c .before .before .before in
     let at = q .before .before .before .before .before .before .before .before .before .before .before .before .before .before .before in (
@@ -267,31 +285,31 @@ loop3-holds c =
       inr refl,
     )
 
-add-loop3 : tie.Need-add-loop3 Inv-loop2 μ-loop2 Inv-loop3 μ-loop3 Inv-loop μ-loop
+add-loop3 : tie.Need-add-loop3 Inv-loop2 μ-loop2 Inv-loop3 μ-loop3 Inv-loop4 μ-loop4 Inv-loop5 μ-loop5 Inv-loop μ-loop
 add-loop3 c = omega (arith, c .loop3 .inv .2)
 
-add-next : tie.Need-add-next Inv-loop2 μ-loop2 Inv-loop3 μ-loop3 Inv-loop μ-loop
+add-next : tie.Need-add-next Inv-loop2 μ-loop2 Inv-loop3 μ-loop3 Inv-loop4 μ-loop4 Inv-loop5 μ-loop5 Inv-loop μ-loop
 add-next c = omega (arith, c .before .loop3 .inv .2)
 
-mul-next : tie.Need-mul-next Inv-loop2 μ-loop2 Inv-loop3 μ-loop3 Inv-loop μ-loop
+mul-next : tie.Need-mul-next Inv-loop2 μ-loop2 Inv-loop3 μ-loop3 Inv-loop4 μ-loop4 Inv-loop5 μ-loop5 Inv-loop μ-loop
 mul-next c = omega (arith, c .loop3-test .taken, underway-most (whole (c .before .before .before .before .before .before .before .before .before .before .before .before .before .before .before .before .before .before .before .before)) (fine (c .before .before .before .before .before .before .before .before .before .before .before .before .before .before .before .before .before .before .before .before)))
 
-array-copy-out-next : tie.Need-array-copy-out-next Inv-loop2 μ-loop2 Inv-loop3 μ-loop3 Inv-loop μ-loop
+array-copy-out-next : tie.Need-array-copy-out-next Inv-loop2 μ-loop2 Inv-loop3 μ-loop3 Inv-loop4 μ-loop4 Inv-loop5 μ-loop5 Inv-loop μ-loop
 array-copy-out-next c = omega (arith, c .loop3-test .taken, underway-most (whole (c .before .before .before .before .before .before .before .before .before .before .before .before .before .before .before .before .before .before .before .before)) (fine (c .before .before .before .before .before .before .before .before .before .before .before .before .before .before .before .before .before .before .before .before)))
 
-mul-messages : tie.Need-mul-messages Inv-loop2 μ-loop2 Inv-loop3 μ-loop3 Inv-loop μ-loop
+mul-messages : tie.Need-mul-messages Inv-loop2 μ-loop2 Inv-loop3 μ-loop3 Inv-loop4 μ-loop4 Inv-loop5 μ-loop5 Inv-loop μ-loop
 mul-messages c = omega (arith, c .before .loop3-test .taken, underway-most (whole (c .before .before .before .before .before .before .before .before .before .before .before .before .before .before .before .before .before .before .before .before .before)) (fine (c .before .before .before .before .before .before .before .before .before .before .before .before .before .before .before .before .before .before .before .before .before)))
 
-array-set-from-messages : tie.Need-array-set-from-messages Inv-loop2 μ-loop2 Inv-loop3 μ-loop3 Inv-loop μ-loop
+array-set-from-messages : tie.Need-array-set-from-messages Inv-loop2 μ-loop2 Inv-loop3 μ-loop3 Inv-loop4 μ-loop4 Inv-loop5 μ-loop5 Inv-loop μ-loop
 array-set-from-messages c = omega (arith, c .before .loop3-test .taken, underway-most (whole (c .before .before .before .before .before .before .before .before .before .before .before .before .before .before .before .before .before .before .before .before .before)) (fine (c .before .before .before .before .before .before .before .before .before .before .before .before .before .before .before .before .before .before .before .before .before)))
 
-add-k : tie.Need-add-k Inv-loop2 μ-loop2 Inv-loop3 μ-loop3 Inv-loop μ-loop
+add-k : tie.Need-add-k Inv-loop2 μ-loop2 Inv-loop3 μ-loop3 Inv-loop4 μ-loop4 Inv-loop5 μ-loop5 Inv-loop μ-loop
 add-k c = omega (arith, c .before .before .loop3 .inv .2)
 
-loop3-less : tie.Need-loop3-less Inv-loop2 μ-loop2 Inv-loop3 μ-loop3 Inv-loop μ-loop
+loop3-less : tie.Need-loop3-less Inv-loop2 μ-loop2 Inv-loop3 μ-loop3 Inv-loop4 μ-loop4 Inv-loop5 μ-loop5 Inv-loop μ-loop
 loop3-less c = omega (arith, c .before .loop3-test .taken)
 
-loop3-again : tie.Need-loop3-again Inv-loop2 μ-loop2 Inv-loop3 μ-loop3 Inv-loop μ-loop
+loop3-again : tie.Need-loop3-again Inv-loop2 μ-loop2 Inv-loop3 μ-loop3 Inv-loop4 μ-loop4 Inv-loop5 μ-loop5 Inv-loop μ-loop
 loop3-again c =
     let at = c .before .before .before .before .before .before .before .before .before .before .before .before .before .before .before .before .before .before .before .before .before in
     let l = c .before .before .loop3 in
@@ -304,7 +322,7 @@ loop3-again c =
     )
 
 -- The place that the plan fills is one of the table.
-in-place : (c : tie.After-put Inv-loop2 μ-loop2 Inv-loop3 μ-loop3 Inv-loop μ-loop) → c .before .before .before .plan-of .result .place < 64
+in-place : (c : tie.After-put Inv-loop2 μ-loop2 Inv-loop3 μ-loop3 Inv-loop4 μ-loop4 Inv-loop5 μ-loop5 Inv-loop μ-loop) → c .before .before .before .plan-of .result .place < 64
 in-place c =
     let q = c .before .before .before .before .before .before in
     let at = q .before .before .before .before .before .before .before .before .before .before .before .before .before .before .before in
@@ -312,38 +330,38 @@ in-place c =
     (q .before .before .before .before .before .before .before .sought .ensures) (q .before .before .before .place-of .ensures) (any-default (at .loop .messages) (q .before .before .before .place-of .result) _ noMessage (in-table (q .before .before .before))) (q .before .is-found .ensures) (q .process-of .ensures) (c .before .before .before .plan-of .ensures)
 
 -- What has moved when the loop has ended.
-moved-all : (c : tie.After-put Inv-loop2 μ-loop2 Inv-loop3 μ-loop3 Inv-loop μ-loop) → c .before .before .loop3 .messages ≡ shifted (c .before .before .before .plan-of .result .from) (c .before .before .before .before .before .before .before .before .before .before .before .before .before .before .before .before .before .before .before .before .before .loop .underway) (c .before .before .before .before .before .before .before .before .before .before .before .before .before .before .before .before .before .before .before .before .before .loop .messages)
+moved-all : (c : tie.After-put Inv-loop2 μ-loop2 Inv-loop3 μ-loop3 Inv-loop4 μ-loop4 Inv-loop5 μ-loop5 Inv-loop μ-loop) → c .before .before .loop3 .messages ≡ shifted (c .before .before .before .plan-of .result .from) (c .before .before .before .before .before .before .before .before .before .before .before .before .before .before .before .before .before .before .before .before .before .loop .underway) (c .before .before .before .before .before .before .before .before .before .before .before .before .before .before .before .before .before .before .before .before .before .loop .messages)
 moved-all c =
     let l = c .before .before .loop3 in
     l .inv .0 ∙ shift-ended (c .before .before .before .before .before .before .before .before .before .before .before .before .before .before .before .before .before .before .before .before .before .loop .messages) (c .before .before .before .plan-of .result .from) (l .k) (c .before .before .before .before .before .before .before .before .before .before .before .before .before .before .before .before .before .before .before .before .before .loop .underway) (l .inv .3) (c .before .loop3-test .left)
 
-mul-messages-2 : tie.Need-mul-messages-2 Inv-loop2 μ-loop2 Inv-loop3 μ-loop3 Inv-loop μ-loop
+mul-messages-2 : tie.Need-mul-messages-2 Inv-loop2 μ-loop2 Inv-loop3 μ-loop3 Inv-loop4 μ-loop4 Inv-loop5 μ-loop5 Inv-loop μ-loop
 mul-messages-2 c =
     let less = in-place c in
     omega arith
 
-array-set-from-messages-2 : tie.Need-array-set-from-messages-2 Inv-loop2 μ-loop2 Inv-loop3 μ-loop3 Inv-loop μ-loop
+array-set-from-messages-2 : tie.Need-array-set-from-messages-2 Inv-loop2 μ-loop2 Inv-loop3 μ-loop3 Inv-loop4 μ-loop4 Inv-loop5 μ-loop5 Inv-loop μ-loop
 array-set-from-messages-2 c = in-place c
 
-mul-row : tie.Need-mul-row Inv-loop2 μ-loop2 Inv-loop3 μ-loop3 Inv-loop μ-loop
+mul-row : tie.Need-mul-row Inv-loop2 μ-loop2 Inv-loop3 μ-loop3 Inv-loop4 μ-loop4 Inv-loop5 μ-loop5 Inv-loop μ-loop
 mul-row c = omega (arith, in-rows (c .before .before .before .before .before .before .before))
 
-array-copy-out-row : tie.Need-array-copy-out-row Inv-loop2 μ-loop2 Inv-loop3 μ-loop3 Inv-loop μ-loop
+array-copy-out-row : tie.Need-array-copy-out-row Inv-loop2 μ-loop2 Inv-loop3 μ-loop3 Inv-loop4 μ-loop4 Inv-loop5 μ-loop5 Inv-loop μ-loop
 array-copy-out-row c = in-rows (c .before .before .before .before .before .before .before)
 
-mul-before : tie.Need-mul-before Inv-loop2 μ-loop2 Inv-loop3 μ-loop3 Inv-loop μ-loop
+mul-before : tie.Need-mul-before Inv-loop2 μ-loop2 Inv-loop3 μ-loop3 Inv-loop4 μ-loop4 Inv-loop5 μ-loop5 Inv-loop μ-loop
 mul-before c = omega (arith, in-rows (c .before .before .before .before .before .before .before .before))
 
-array-read-before : tie.Need-array-read-before Inv-loop2 μ-loop2 Inv-loop3 μ-loop3 Inv-loop μ-loop
+array-read-before : tie.Need-array-read-before Inv-loop2 μ-loop2 Inv-loop3 μ-loop3 Inv-loop4 μ-loop4 Inv-loop5 μ-loop5 Inv-loop μ-loop
 array-read-before c = in-rows (c .before .before .before .before .before .before .before .before)
 
-mul-old : tie.Need-mul-old Inv-loop2 μ-loop2 Inv-loop3 μ-loop3 Inv-loop μ-loop
+mul-old : tie.Need-mul-old Inv-loop2 μ-loop2 Inv-loop3 μ-loop3 Inv-loop4 μ-loop4 Inv-loop5 μ-loop5 Inv-loop μ-loop
 mul-old c = omega (arith, in-rows (c .before .before .before .before .before .before .before .before))
 
-array-copy-out-old : tie.Need-array-copy-out-old Inv-loop2 μ-loop2 Inv-loop3 μ-loop3 Inv-loop μ-loop
+array-copy-out-old : tie.Need-array-copy-out-old Inv-loop2 μ-loop2 Inv-loop3 μ-loop3 Inv-loop4 μ-loop4 Inv-loop5 μ-loop5 Inv-loop μ-loop
 array-copy-out-old c = in-rows (c .before .before .before .before .before .before .before .before)
 
-pins-after-requires : tie.Need-pins-after-requires Inv-loop2 μ-loop2 Inv-loop3 μ-loop3 Inv-loop μ-loop
+pins-after-requires : tie.Need-pins-after-requires Inv-loop2 μ-loop2 Inv-loop3 μ-loop3 Inv-loop4 μ-loop4 Inv-loop5 μ-loop5 Inv-loop μ-loop
 pins-after-requires c κs =
     let q = c .before .before .before .before .before .before .before .before .before .before in
     let at = q .before .before .before .before .before .before .before .before .before .before .before .before .before .before .before in (
@@ -354,7 +372,7 @@ pins-after-requires c κs =
           (q .before .before .before .before .before .before .before .sought .ensures) (q .before .before .before .place-of .ensures) (any-default (at .loop .messages) (q .before .before .before .place-of .result) _ noMessage (in-table (q .before .before .before))) (q .before .is-found .ensures) (q .process-of .ensures) (c .before .before .before .before .before .before .before .plan-of .ensures) (c .before .before .before .if5 .taken),
     )
 
-rows-after-requires : tie.Need-rows-after-requires Inv-loop2 μ-loop2 Inv-loop3 μ-loop3 Inv-loop μ-loop
+rows-after-requires : tie.Need-rows-after-requires Inv-loop2 μ-loop2 Inv-loop3 μ-loop3 Inv-loop4 μ-loop4 Inv-loop5 μ-loop5 Inv-loop μ-loop
 rows-after-requires c κs =
     let q = c .before .before .before .before .before .before .before .before .before .before .before .before in
     let at = q .before .before .before .before .before .before .before .before .before .before .before .before .before .before .before in
@@ -371,34 +389,34 @@ rows-after-requires c κs =
       omega (arith, held, at .loop .inv .5),
     )
 
-mul-vectors : tie.Need-mul-vectors Inv-loop2 μ-loop2 Inv-loop3 μ-loop3 Inv-loop μ-loop
+mul-vectors : tie.Need-mul-vectors Inv-loop2 μ-loop2 Inv-loop3 μ-loop3 Inv-loop4 μ-loop4 Inv-loop5 μ-loop5 Inv-loop μ-loop
 mul-vectors c = omega (arith, in-rows (c .before .before .before .before .before .before .before .before .before .before .before .before .before .before .before .before .before))
 
-array-set-from-vectors : tie.Need-array-set-from-vectors Inv-loop2 μ-loop2 Inv-loop3 μ-loop3 Inv-loop μ-loop
+array-set-from-vectors : tie.Need-array-set-from-vectors Inv-loop2 μ-loop2 Inv-loop3 μ-loop3 Inv-loop4 μ-loop4 Inv-loop5 μ-loop5 Inv-loop μ-loop
 array-set-from-vectors c = in-rows (c .before .before .before .before .before .before .before .before .before .before .before .before .before .before .before .before .before)
 
-mul-pins : tie.Need-mul-pins Inv-loop2 μ-loop2 Inv-loop3 μ-loop3 Inv-loop μ-loop
+mul-pins : tie.Need-mul-pins Inv-loop2 μ-loop2 Inv-loop3 μ-loop3 Inv-loop4 μ-loop4 Inv-loop5 μ-loop5 Inv-loop μ-loop
 mul-pins c = omega (arith, in-rows (c .before .before .before .before .before .before .before .before .before .before .before .before .before .before .before .before .before))
 
-array-set-from-pins : tie.Need-array-set-from-pins Inv-loop2 μ-loop2 Inv-loop3 μ-loop3 Inv-loop μ-loop
+array-set-from-pins : tie.Need-array-set-from-pins Inv-loop2 μ-loop2 Inv-loop3 μ-loop3 Inv-loop4 μ-loop4 Inv-loop5 μ-loop5 Inv-loop μ-loop
 array-set-from-pins c = in-rows (c .before .before .before .before .before .before .before .before .before .before .before .before .before .before .before .before .before)
 
-mul-kept : tie.Need-mul-kept Inv-loop2 μ-loop2 Inv-loop3 μ-loop3 Inv-loop μ-loop
+mul-kept : tie.Need-mul-kept Inv-loop2 μ-loop2 Inv-loop3 μ-loop3 Inv-loop4 μ-loop4 Inv-loop5 μ-loop5 Inv-loop μ-loop
 mul-kept c = omega (arith, in-rows (c .before .before .before .before .before .before .before .before .before .before .before .before .before .before .before .before .before))
 
-array-set-from-kept : tie.Need-array-set-from-kept Inv-loop2 μ-loop2 Inv-loop3 μ-loop3 Inv-loop μ-loop
+array-set-from-kept : tie.Need-array-set-from-kept Inv-loop2 μ-loop2 Inv-loop3 μ-loop3 Inv-loop4 μ-loop4 Inv-loop5 μ-loop5 Inv-loop μ-loop
 array-set-from-kept c = in-rows (c .before .before .before .before .before .before .before .before .before .before .before .before .before .before .before .before .before)
 
-mul-held : tie.Need-mul-held Inv-loop2 μ-loop2 Inv-loop3 μ-loop3 Inv-loop μ-loop
+mul-held : tie.Need-mul-held Inv-loop2 μ-loop2 Inv-loop3 μ-loop3 Inv-loop4 μ-loop4 Inv-loop5 μ-loop5 Inv-loop μ-loop
 mul-held c = omega (arith, in-rows (c .before .before .before .before .before .before .before .before .before .before .before .before .before .before .before .before .before))
 
-array-write-held : tie.Need-array-write-held Inv-loop2 μ-loop2 Inv-loop3 μ-loop3 Inv-loop μ-loop
+array-write-held : tie.Need-array-write-held Inv-loop2 μ-loop2 Inv-loop3 μ-loop3 Inv-loop4 μ-loop4 Inv-loop5 μ-loop5 Inv-loop μ-loop
 array-write-held c = in-rows (c .before .before .before .before .before .before .before .before .before .before .before .before .before .before .before .before .before)
 
-add-print : tie.Need-add-print Inv-loop2 μ-loop2 Inv-loop3 μ-loop3 Inv-loop μ-loop
+add-print : tie.Need-add-print Inv-loop2 μ-loop2 Inv-loop3 μ-loop3 Inv-loop4 μ-loop4 Inv-loop5 μ-loop5 Inv-loop μ-loop
 add-print c = omega (arith, few (c .before .before .before .before .before .before .before .before .before .before .before .before .before .before .before .before .before .before .before .before .before .before .before .before .before .before .before .before .before .before))
 
-print-requires : tie.Need-print-requires Inv-loop2 μ-loop2 Inv-loop3 μ-loop3 Inv-loop μ-loop
+print-requires : tie.Need-print-requires Inv-loop2 μ-loop2 Inv-loop3 μ-loop3 Inv-loop4 μ-loop4 Inv-loop5 μ-loop5 Inv-loop μ-loop
 print-requires c κs =
     let q = c .before .before .before .before .before .before .before .before .before .before .before .before .before .before .before .before .before .before .before in
     let at = q .before .before .before .before .before .before .before .before .before .before .before .before .before .before .before in
@@ -407,16 +425,16 @@ print-requires c κs =
     (q .before .before .before .before .before .before .before .sought .ensures) (q .before .before .before .place-of .ensures) (any-default (at .loop .messages) (q .before .before .before .place-of .result) _ noMessage (in-table (q .before .before .before))) (q .before .is-found .ensures) (q .process-of .ensures) (c .before .before .before .before .before .before .before .before .before .before .before .before .before .before .before .before .plan-of .ensures) (c .before .before .before .before .before .before .before .before .before .before .before .before .if5 .taken) (c .before .before .before .before .before .before .before .before .pins-after .ensures) (c .before .before .before .before .before .before .rows-after .ensures .0) (at .loop .deleted) (at .loop .inv .5) (c .before .before .before .before .before .before .rows-after .ensures .1)) in
     (fits .0, omega (arith, fits .1, at .loop .inv .5, c .before .before .before .before .before .before .rows-after .kept .0), omega (arith, few (q .before .before .before .before .before .before .before .before .before .before .before .before)), room (q .before .before .before .before .before .before .before .before .before .before .before .before))
 
-add-count : tie.Need-add-count Inv-loop2 μ-loop2 Inv-loop3 μ-loop3 Inv-loop μ-loop
+add-count : tie.Need-add-count Inv-loop2 μ-loop2 Inv-loop3 μ-loop3 Inv-loop4 μ-loop4 Inv-loop5 μ-loop5 Inv-loop μ-loop
 add-count c = omega (arith, few (c .before .before .before .before .before .before .before .before .before .before .before .before .before .before .before .before .before .before .before .before .before .before .before .before .before .before .before .before .before .before .before .before .before .before))
 
-add-used : tie.Need-add-used Inv-loop2 μ-loop2 Inv-loop3 μ-loop3 Inv-loop μ-loop
+add-used : tie.Need-add-used Inv-loop2 μ-loop2 Inv-loop3 μ-loop3 Inv-loop4 μ-loop4 Inv-loop5 μ-loop5 Inv-loop μ-loop
 add-used c = omega (arith, more (c .before .before .before .before .before .before .before .before .before .before .before .before .before .before .before .before .before .before .before .before .before .before .before .before .before .before .before .before .before .before .before .before .before .before), block-fits (c .before .before .before .before .before .before .before .before .before .before .before .before .before .before .before .before .before .before .before .before .before .before .before .before .before .before .before .before .before .before .before .before .before .before .before .before .before .before .before .before .before .before .before .before .before .before .before))
 
-loop-less : tie.Need-loop-less Inv-loop2 μ-loop2 Inv-loop3 μ-loop3 Inv-loop μ-loop
+loop-less : tie.Need-loop-less Inv-loop2 μ-loop2 Inv-loop3 μ-loop3 Inv-loop4 μ-loop4 Inv-loop5 μ-loop5 Inv-loop μ-loop
 loop-less c = omega (arith, more (c .before .before .before .before .before .before .before .before .before .before .before .before .before .before .before .before .before .before .before .before .before .before .before .before .before .before .before .before .before .before .before .before .before .before))
 
-loop-again : tie.Need-loop-again Inv-loop2 μ-loop2 Inv-loop3 μ-loop3 Inv-loop μ-loop
+loop-again : tie.Need-loop-again Inv-loop2 μ-loop2 Inv-loop3 μ-loop3 Inv-loop4 μ-loop4 Inv-loop5 μ-loop5 Inv-loop μ-loop
 loop-again c =
     let q = c .before .before .before .before .before .before .before .before .before .before .before .before .before .before .before .before .before .before .before .before .before .before in
     let at = q .before .before .before .before .before .before .before .before .before .before .before .before .before .before .before in
@@ -436,10 +454,10 @@ loop-again c =
       c .before .before .before .before .before .before .before .before .before .rows-after .kept .0 ∙ at .loop .inv .5,
     )
 
-add-print-2 : tie.Need-add-print-2 Inv-loop2 μ-loop2 Inv-loop3 μ-loop3 Inv-loop μ-loop
+add-print-2 : tie.Need-add-print-2 Inv-loop2 μ-loop2 Inv-loop3 μ-loop3 Inv-loop4 μ-loop4 Inv-loop5 μ-loop5 Inv-loop μ-loop
 add-print-2 c = omega (arith, few (c .before .before .before .before .before .before .before .before .before .before .before .before .before .before .before .before .before .before .before .before))
 
-print-requires-2 : tie.Need-print-requires-2 Inv-loop2 μ-loop2 Inv-loop3 μ-loop3 Inv-loop μ-loop
+print-requires-2 : tie.Need-print-requires-2 Inv-loop2 μ-loop2 Inv-loop3 μ-loop3 Inv-loop4 μ-loop4 Inv-loop5 μ-loop5 Inv-loop μ-loop
 print-requires-2 c κs =
     let q = c .before .before .before .before .before .before .before .before .before in
     let at = q .before .before .before .before .before .before .before .before .before .before .before .before .before .before .before in
@@ -448,16 +466,16 @@ print-requires-2 c κs =
     (q .before .before .before .before .before .before .before .sought .ensures) (q .before .before .before .place-of .ensures) (any-default (at .loop .messages) (q .before .before .before .place-of .result) _ noMessage (in-table (q .before .before .before))) (q .before .is-found .ensures) (q .process-of .ensures) (c .before .before .before .before .before .before .plan-of .ensures) (c .before .before .if5 .left) (at .loop .deleted)) in
     (fits .0, omega (arith, at .loop .inv .5), omega (arith, few (q .before .before .before .before .before .before .before .before .before .before .before .before)), room (q .before .before .before .before .before .before .before .before .before .before .before .before))
 
-add-count-2 : tie.Need-add-count-2 Inv-loop2 μ-loop2 Inv-loop3 μ-loop3 Inv-loop μ-loop
+add-count-2 : tie.Need-add-count-2 Inv-loop2 μ-loop2 Inv-loop3 μ-loop3 Inv-loop4 μ-loop4 Inv-loop5 μ-loop5 Inv-loop μ-loop
 add-count-2 c = omega (arith, few (c .before .before .before .before .before .before .before .before .before .before .before .before .before .before .before .before .before .before .before .before .before .before .before .before))
 
-add-used-2 : tie.Need-add-used-2 Inv-loop2 μ-loop2 Inv-loop3 μ-loop3 Inv-loop μ-loop
+add-used-2 : tie.Need-add-used-2 Inv-loop2 μ-loop2 Inv-loop3 μ-loop3 Inv-loop4 μ-loop4 Inv-loop5 μ-loop5 Inv-loop μ-loop
 add-used-2 c = omega (arith, more (c .before .before .before .before .before .before .before .before .before .before .before .before .before .before .before .before .before .before .before .before .before .before .before .before), block-fits (c .before .before .before .before .before .before .before .before .before .before .before .before .before .before .before .before .before .before .before .before .before .before .before .before .before .before .before .before .before .before .before .before .before .before .before .before .before))
 
-loop-less-2 : tie.Need-loop-less-2 Inv-loop2 μ-loop2 Inv-loop3 μ-loop3 Inv-loop μ-loop
+loop-less-2 : tie.Need-loop-less-2 Inv-loop2 μ-loop2 Inv-loop3 μ-loop3 Inv-loop4 μ-loop4 Inv-loop5 μ-loop5 Inv-loop μ-loop
 loop-less-2 c = omega (arith, more (c .before .before .before .before .before .before .before .before .before .before .before .before .before .before .before .before .before .before .before .before .before .before .before .before))
 
-loop-again-2 : tie.Need-loop-again-2 Inv-loop2 μ-loop2 Inv-loop3 μ-loop3 Inv-loop μ-loop
+loop-again-2 : tie.Need-loop-again-2 Inv-loop2 μ-loop2 Inv-loop3 μ-loop3 Inv-loop4 μ-loop4 Inv-loop5 μ-loop5 Inv-loop μ-loop
 loop-again-2 c =
     let q = c .before .before .before .before .before .before .before .before .before .before .before .before in
     let at = q .before .before .before .before .before .before .before .before .before .before .before .before .before .before .before in
@@ -477,68 +495,243 @@ loop-again-2 c =
       at .loop .inv .5,
     )
 
-recovered-requires : tie.Need-recovered-requires Inv-loop2 μ-loop2 Inv-loop3 μ-loop3 Inv-loop μ-loop
-recovered-requires c κs =
-    let at = c .before .before .before .before .before .before .before .before in
-    (count-most (whole at) (fine at), λ p lt. held-most (whole at) (fine at) p lt, λ p lt. own-least (whole at) (fine at) p lt, at .loop .inv .5)
+begin-requires : tie.Need-begin-requires Inv-loop2 μ-loop2 Inv-loop3 μ-loop3 Inv-loop4 μ-loop4 Inv-loop5 μ-loop5 Inv-loop μ-loop
+begin-requires c κs =
+    let at = c .before .before .before .before .before .before .before in
+    count-most (whole at) (fine at)
 
-vector-rows-requires-2 : tie.Need-vector-rows-requires-2 Inv-loop2 μ-loop2 Inv-loop3 μ-loop3 Inv-loop μ-loop
+loop4-holds : tie.Need-loop4-holds Inv-loop2 μ-loop2 Inv-loop3 μ-loop3 Inv-loop4 μ-loop4 Inv-loop5 μ-loop5 Inv-loop μ-loop
+loop4-holds c =
+    let at = c .before .before .before .before .before .before .before .before .before .before .before in
+    (omega arith, members-begin (at .before .before .before .before .before .before .before .before .before .before .before .args .s .count) (c .before .before .before .before .before .recovery-of .result) (at .loop .vectors) _ (c .before .before .before .begin .result) (c .before .before .before .begin .ensures))
+
+mul-now-known : tie.Need-mul-now-known Inv-loop2 μ-loop2 Inv-loop3 μ-loop3 Inv-loop4 μ-loop4 Inv-loop5 μ-loop5 Inv-loop μ-loop
+mul-now-known c =
+    let at = c .before .before .before .before .before .before .before .before .before .before .before .before .before in omega (arith, count-most (whole at) (fine at), c .loop4-test .taken)
+
+array-copy-out-now-known : tie.Need-array-copy-out-now-known Inv-loop2 μ-loop2 Inv-loop3 μ-loop3 Inv-loop4 μ-loop4 Inv-loop5 μ-loop5 Inv-loop μ-loop
+array-copy-out-now-known c =
+    let at = c .before .before .before .before .before .before .before .before .before .before .before .before .before in omega (arith, count-most (whole at) (fine at), c .loop4-test .taken)
+
+mul-row-now : tie.Need-mul-row-now Inv-loop2 μ-loop2 Inv-loop3 μ-loop3 Inv-loop4 μ-loop4 Inv-loop5 μ-loop5 Inv-loop μ-loop
+mul-row-now c =
+    let at = c .before .before .before .before .before .before .before .before .before .before .before .before .before .before in omega (arith, count-most (whole at) (fine at), c .before .loop4-test .taken)
+
+array-copy-out-row-now : tie.Need-array-copy-out-row-now Inv-loop2 μ-loop2 Inv-loop3 μ-loop3 Inv-loop4 μ-loop4 Inv-loop5 μ-loop5 Inv-loop μ-loop
+array-copy-out-row-now c =
+    let at = c .before .before .before .before .before .before .before .before .before .before .before .before .before .before in omega (arith, count-most (whole at) (fine at), c .before .loop4-test .taken)
+
+mul-held-now : tie.Need-mul-held-now Inv-loop2 μ-loop2 Inv-loop3 μ-loop3 Inv-loop4 μ-loop4 Inv-loop5 μ-loop5 Inv-loop μ-loop
+mul-held-now c =
+    let at = c .before .before .before .before .before .before .before .before .before .before .before .before .before .before .before in omega (arith, count-most (whole at) (fine at), c .before .before .loop4-test .taken)
+
+array-read-held-now : tie.Need-array-read-held-now Inv-loop2 μ-loop2 Inv-loop3 μ-loop3 Inv-loop4 μ-loop4 Inv-loop5 μ-loop5 Inv-loop μ-loop
+array-read-held-now c =
+    let at = c .before .before .before .before .before .before .before .before .before .before .before .before .before .before .before in omega (arith, count-most (whole at) (fine at), c .before .before .loop4-test .taken)
+
+member-requires : tie.Need-member-requires Inv-loop2 μ-loop2 Inv-loop3 μ-loop3 Inv-loop4 μ-loop4 Inv-loop5 μ-loop5 Inv-loop μ-loop
+member-requires c κs =
+    let at = c .before .before .before .before .before .before .before .before .before .before .before .before .before .before .before in
+    let lt = c .before .before .loop4-test .taken in
+    (omega (arith, count-most (whole at) (fine at), lt), own-least (whole at) (fine at) (c .before .before .before .loop4 .f) lt, omega (arith, count-most (whole at) (fine at), held-most (whole at) (fine at) (c .before .before .before .loop4 .f) lt))
+
+mul-states : tie.Need-mul-states Inv-loop2 μ-loop2 Inv-loop3 μ-loop3 Inv-loop4 μ-loop4 Inv-loop5 μ-loop5 Inv-loop μ-loop
+mul-states c =
+    let at = c .before .before .before .before .before .before .before .before .before .before .before .before .before .before .before .before in omega (arith, count-most (whole at) (fine at), c .before .before .before .loop4-test .taken)
+
+array-set-from-states : tie.Need-array-set-from-states Inv-loop2 μ-loop2 Inv-loop3 μ-loop3 Inv-loop4 μ-loop4 Inv-loop5 μ-loop5 Inv-loop μ-loop
+array-set-from-states c =
+    let at = c .before .before .before .before .before .before .before .before .before .before .before .before .before .before .before .before in omega (arith, count-most (whole at) (fine at), c .before .before .before .loop4-test .taken)
+
+add-f : tie.Need-add-f Inv-loop2 μ-loop2 Inv-loop3 μ-loop3 Inv-loop4 μ-loop4 Inv-loop5 μ-loop5 Inv-loop μ-loop
+add-f c =
+    let at = c .before .before .before .before .before .before .before .before .before .before .before .before .before .before .before .before in omega (arith, count-most (whole at) (fine at), c .before .before .before .loop4-test .taken)
+
+loop4-less : tie.Need-loop4-less Inv-loop2 μ-loop2 Inv-loop3 μ-loop3 Inv-loop4 μ-loop4 Inv-loop5 μ-loop5 Inv-loop μ-loop
+loop4-less c = omega (arith, c .before .before .before .loop4-test .taken)
+
+loop4-again : tie.Need-loop4-again Inv-loop2 μ-loop2 Inv-loop3 μ-loop3 Inv-loop4 μ-loop4 Inv-loop5 μ-loop5 Inv-loop μ-loop
+loop4-again c =
+    let at = c .before .before .before .before .before .before .before .before .before .before .before .before .before .before .before .before in
+    let l = c .before .before .before .before .loop4 in
+    (omega (arith, c .before .before .before .loop4-test .taken), member-next (at .before .before .before .before .before .before .before .before .before .before .before .args .s .count) (c .before .before .before .before .before .before .before .before .before .before .recovery-of .result) (at .loop .vectors) (at .loop .kept) (at .loop .held) (c .before .before .before .before .before .before .before .before .begin .result) (c .before .before .before .before .before .before .before .before .begin .ensures) (l .f) (l .states) (l .inv .1) _ (c .member .ensures))
+
+go-back-requires : tie.Need-go-back-requires Inv-loop2 μ-loop2 Inv-loop3 μ-loop3 Inv-loop4 μ-loop4 Inv-loop5 μ-loop5 Inv-loop μ-loop
+go-back-requires c κs =
+    let at = c .before .before .before .before .before .before .before .before .before .before .before .before .before in
+    count-most (whole at) (fine at)
+
+vector-rows-requires-2 : tie.Need-vector-rows-requires-2 Inv-loop2 μ-loop2 Inv-loop3 μ-loop3 Inv-loop4 μ-loop4 Inv-loop5 μ-loop5 Inv-loop μ-loop
 vector-rows-requires-2 c κs = search needs
 
-pin-rows-requires-2 : tie.Need-pin-rows-requires-2 Inv-loop2 μ-loop2 Inv-loop3 μ-loop3 Inv-loop μ-loop
-pin-rows-requires-2 c κs = search needs
+loop5-holds : tie.Need-loop5-holds Inv-loop2 μ-loop2 Inv-loop3 μ-loop3 Inv-loop4 μ-loop4 Inv-loop5 μ-loop5 Inv-loop μ-loop
+loop5-holds c = none-done
 
-kept-rows-requires-2 : tie.Need-kept-rows-requires-2 Inv-loop2 μ-loop2 Inv-loop3 μ-loop3 Inv-loop μ-loop
-kept-rows-requires-2 c κs = search needs
+array-read-has-rolled : tie.Need-array-read-has-rolled Inv-loop2 μ-loop2 Inv-loop3 μ-loop3 Inv-loop4 μ-loop4 Inv-loop5 μ-loop5 Inv-loop μ-loop
+array-read-has-rolled c =
+    let at = c .before .before .before .before .before .before .before .before .before .before .before .before .before .before .before .before .before .before .before .before in omega (arith, count-most (whole at) (fine at), c .loop5-test .taken)
 
-add-print-3 : tie.Need-add-print-3 Inv-loop2 μ-loop2 Inv-loop3 μ-loop3 Inv-loop μ-loop
-add-print-3 c = omega (arith, few (c .before .before .before .before .before .before .before .before .before .before .before .before .before .before))
+mul-known : tie.Need-mul-known Inv-loop2 μ-loop2 Inv-loop3 μ-loop3 Inv-loop4 μ-loop4 Inv-loop5 μ-loop5 Inv-loop μ-loop
+mul-known c =
+    let at = c .before .before .before .before .before .before .before .before .before .before .before .before .before .before .before .before .before .before .before .before in omega (arith, count-most (whole at) (fine at), c .loop5-test .taken)
 
-print-requires-3 : tie.Need-print-requires-3 Inv-loop2 μ-loop2 Inv-loop3 μ-loop3 Inv-loop μ-loop
+array-copy-out-known : tie.Need-array-copy-out-known Inv-loop2 μ-loop2 Inv-loop3 μ-loop3 Inv-loop4 μ-loop4 Inv-loop5 μ-loop5 Inv-loop μ-loop
+array-copy-out-known c =
+    let at = c .before .before .before .before .before .before .before .before .before .before .before .before .before .before .before .before .before .before .before .before in omega (arith, count-most (whole at) (fine at), c .loop5-test .taken)
+
+mul-stored : tie.Need-mul-stored Inv-loop2 μ-loop2 Inv-loop3 μ-loop3 Inv-loop4 μ-loop4 Inv-loop5 μ-loop5 Inv-loop μ-loop
+mul-stored c =
+    let at = c .before .before .before .before .before .before .before .before .before .before .before .before .before .before .before .before .before .before .before .before .before in omega (arith, count-most (whole at) (fine at), c .before .loop5-test .taken)
+
+array-copy-out-stored : tie.Need-array-copy-out-stored Inv-loop2 μ-loop2 Inv-loop3 μ-loop3 Inv-loop4 μ-loop4 Inv-loop5 μ-loop5 Inv-loop μ-loop
+array-copy-out-stored c =
+    let at = c .before .before .before .before .before .before .before .before .before .before .before .before .before .before .before .before .before .before .before .before .before in omega (arith, count-most (whole at) (fine at), c .before .loop5-test .taken)
+
+mul-many : tie.Need-mul-many Inv-loop2 μ-loop2 Inv-loop3 μ-loop3 Inv-loop4 μ-loop4 Inv-loop5 μ-loop5 Inv-loop μ-loop
+mul-many c =
+    let at = c .before .before .before .before .before .before .before .before .before .before .before .before .before .before .before .before .before .before .before .before .before .before in omega (arith, count-most (whole at) (fine at), c .before .before .loop5-test .taken)
+
+array-read-many : tie.Need-array-read-many Inv-loop2 μ-loop2 Inv-loop3 μ-loop3 Inv-loop4 μ-loop4 Inv-loop5 μ-loop5 Inv-loop μ-loop
+array-read-many c =
+    let at = c .before .before .before .before .before .before .before .before .before .before .before .before .before .before .before .before .before .before .before .before .before .before in omega (arith, count-most (whole at) (fine at), c .before .before .loop5-test .taken)
+
+mul-pinned : tie.Need-mul-pinned Inv-loop2 μ-loop2 Inv-loop3 μ-loop3 Inv-loop4 μ-loop4 Inv-loop5 μ-loop5 Inv-loop μ-loop
+mul-pinned c =
+    let at = c .before .before .before .before .before .before .before .before .before .before .before .before .before .before .before .before .before .before .before .before .before .before in omega (arith, count-most (whole at) (fine at), c .before .before .loop5-test .taken)
+
+array-copy-out-pinned : tie.Need-array-copy-out-pinned Inv-loop2 μ-loop2 Inv-loop3 μ-loop3 Inv-loop4 μ-loop4 Inv-loop5 μ-loop5 Inv-loop μ-loop
+array-copy-out-pinned c =
+    let at = c .before .before .before .before .before .before .before .before .before .before .before .before .before .before .before .before .before .before .before .before .before .before in omega (arith, count-most (whole at) (fine at), c .before .before .loop5-test .taken)
+
+mul-state : tie.Need-mul-state Inv-loop2 μ-loop2 Inv-loop3 μ-loop3 Inv-loop4 μ-loop4 Inv-loop5 μ-loop5 Inv-loop μ-loop
+mul-state c =
+    let at = c .before .before .before .before .before .before .before .before .before .before .before .before .before .before .before .before .before .before .before .before .before .before .before in omega (arith, count-most (whole at) (fine at), c .before .before .before .loop5-test .taken)
+
+array-copy-out-state : tie.Need-array-copy-out-state Inv-loop2 μ-loop2 Inv-loop3 μ-loop3 Inv-loop4 μ-loop4 Inv-loop5 μ-loop5 Inv-loop μ-loop
+array-copy-out-state c =
+    let at = c .before .before .before .before .before .before .before .before .before .before .before .before .before .before .before .before .before .before .before .before .before .before .before in omega (arith, count-most (whole at) (fine at), c .before .before .before .loop5-test .taken)
+
+pins-after-requires-2 : tie.Need-pins-after-requires-2 Inv-loop2 μ-loop2 Inv-loop3 μ-loop3 Inv-loop4 μ-loop4 Inv-loop5 μ-loop5 Inv-loop μ-loop
+pins-after-requires-2 c κs =
+    let at = c .before .before .before .before .before .before .before .before .before .before .before .before .before .before .before .before .before .before .before .before .before .before .before .before .before in
+    omega (arith, row-most (c .before .before .before .before .before .before .loop5 .inv) (count-most (whole at) (fine at)) (c .before .before .before .before .before .loop5-test .taken) (λ p lt. held-most (whole at) (fine at) p lt), count-most (whole at) (fine at))
+
+mul-part : tie.Need-mul-part Inv-loop2 μ-loop2 Inv-loop3 μ-loop3 Inv-loop4 μ-loop4 Inv-loop5 μ-loop5 Inv-loop μ-loop
+mul-part c =
+    let at = c .before .before .before .before .before .before .before .before .before .before .before .before .before .before .before .before .before .before .before .before .before .before .before .before .before .before .before in
+    omega (arith, gone-few (c .before .before .before .before .before .before .before .before .loop5 .inv) (count-most (whole at) (fine at)) (c .before .before .before .before .before .before .before .loop5-test .taken) (λ p lt. held-most (whole at) (fine at) p lt))
+
+part-requires : tie.Need-part-requires Inv-loop2 μ-loop2 Inv-loop3 μ-loop3 Inv-loop4 μ-loop4 Inv-loop5 μ-loop5 Inv-loop μ-loop
+part-requires c κs =
+    let at = c .before .before .before .before .before .before .before .before .before .before .before .before .before .before .before .before .before .before .before .before .before .before .before .before .before .before .before in
+    (row-room (c .before .before .before .before .before .before .before .before .loop5 .inv) (count-most (whole at) (fine at)) (c .before .before .before .before .before .before .before .loop5-test .taken) (λ p lt. held-most (whole at) (fine at) p lt) (at .loop .inv .5), omega (arith, row-most (c .before .before .before .before .before .before .before .before .loop5 .inv) (count-most (whole at) (fine at)) (c .before .before .before .before .before .before .before .loop5-test .taken) (λ p lt. held-most (whole at) (fine at) p lt), count-most (whole at) (fine at)), omega (arith, count-most (whole at) (fine at), c .before .before .before .before .before .before .before .loop5-test .taken))
+
+mul-pins-2 : tie.Need-mul-pins-2 Inv-loop2 μ-loop2 Inv-loop3 μ-loop3 Inv-loop4 μ-loop4 Inv-loop5 μ-loop5 Inv-loop μ-loop
+mul-pins-2 c =
+    let at = c .before .before .before .before .before .before .before .before .before .before .before .before .before .before .before .before .before .before .before .before .before .before .before .before .before .before .before .before .before .before .before in omega (arith, count-most (whole at) (fine at), c .before .before .before .before .before .before .before .before .before .before .before .loop5-test .taken)
+
+array-set-from-pins-2 : tie.Need-array-set-from-pins-2 Inv-loop2 μ-loop2 Inv-loop3 μ-loop3 Inv-loop4 μ-loop4 Inv-loop5 μ-loop5 Inv-loop μ-loop
+array-set-from-pins-2 c =
+    let at = c .before .before .before .before .before .before .before .before .before .before .before .before .before .before .before .before .before .before .before .before .before .before .before .before .before .before .before .before .before .before .before in omega (arith, count-most (whole at) (fine at), c .before .before .before .before .before .before .before .before .before .before .before .loop5-test .taken)
+
+mul-kept-2 : tie.Need-mul-kept-2 Inv-loop2 μ-loop2 Inv-loop3 μ-loop3 Inv-loop4 μ-loop4 Inv-loop5 μ-loop5 Inv-loop μ-loop
+mul-kept-2 c =
+    let at = c .before .before .before .before .before .before .before .before .before .before .before .before .before .before .before .before .before .before .before .before .before .before .before .before .before .before .before .before .before .before .before in omega (arith, count-most (whole at) (fine at), c .before .before .before .before .before .before .before .before .before .before .before .loop5-test .taken)
+
+array-set-from-kept-2 : tie.Need-array-set-from-kept-2 Inv-loop2 μ-loop2 Inv-loop3 μ-loop3 Inv-loop4 μ-loop4 Inv-loop5 μ-loop5 Inv-loop μ-loop
+array-set-from-kept-2 c =
+    let at = c .before .before .before .before .before .before .before .before .before .before .before .before .before .before .before .before .before .before .before .before .before .before .before .before .before .before .before .before .before .before .before in omega (arith, count-most (whole at) (fine at), c .before .before .before .before .before .before .before .before .before .before .before .loop5-test .taken)
+
+mul-held-2 : tie.Need-mul-held-2 Inv-loop2 μ-loop2 Inv-loop3 μ-loop3 Inv-loop4 μ-loop4 Inv-loop5 μ-loop5 Inv-loop μ-loop
+mul-held-2 c =
+    let at = c .before .before .before .before .before .before .before .before .before .before .before .before .before .before .before .before .before .before .before .before .before .before .before .before .before .before .before .before .before .before .before in omega (arith, count-most (whole at) (fine at), c .before .before .before .before .before .before .before .before .before .before .before .loop5-test .taken)
+
+array-write-held-2 : tie.Need-array-write-held-2 Inv-loop2 μ-loop2 Inv-loop3 μ-loop3 Inv-loop4 μ-loop4 Inv-loop5 μ-loop5 Inv-loop μ-loop
+array-write-held-2 c =
+    let at = c .before .before .before .before .before .before .before .before .before .before .before .before .before .before .before .before .before .before .before .before .before .before .before .before .before .before .before .before .before .before .before in omega (arith, count-most (whole at) (fine at), c .before .before .before .before .before .before .before .before .before .before .before .loop5-test .taken)
+
+sub-gone : tie.Need-sub-gone Inv-loop2 μ-loop2 Inv-loop3 μ-loop3 Inv-loop4 μ-loop4 Inv-loop5 μ-loop5 Inv-loop μ-loop
+sub-gone c = omega (arith, c .before .before .before .part .ensures .1 .0)
+
+add-gone : tie.Need-add-gone Inv-loop2 μ-loop2 Inv-loop3 μ-loop3 Inv-loop4 μ-loop4 Inv-loop5 μ-loop5 Inv-loop μ-loop
+add-gone c =
+    let at = c .before .before .before .before .before .before .before .before .before .before .before .before .before .before .before .before .before .before .before .before .before .before .before .before .before .before .before .before .before .before .before in
+    omega (arith, gone-few (c .before .before .before .before .before .before .before .before .before .before .before .before .loop5 .inv) (count-most (whole at) (fine at)) (c .before .before .before .before .before .before .before .before .before .before .before .loop5-test .taken) (λ p lt. held-most (whole at) (fine at) p lt), row-most (c .before .before .before .before .before .before .before .before .before .before .before .before .loop5 .inv) (count-most (whole at) (fine at)) (c .before .before .before .before .before .before .before .before .before .before .before .loop5-test .taken) (λ p lt. held-most (whole at) (fine at) p lt), count-most (whole at) (fine at))
+
+add-q : tie.Need-add-q Inv-loop2 μ-loop2 Inv-loop3 μ-loop3 Inv-loop4 μ-loop4 Inv-loop5 μ-loop5 Inv-loop μ-loop
+add-q c =
+    let at = c .before .before .before .before .before .before .before .before .before .before .before .before .before .before .before .before .before .before .before .before .before .before .before .before .before .before .before .before .before .before .before in omega (arith, count-most (whole at) (fine at), c .before .before .before .before .before .before .before .before .before .before .before .loop5-test .taken)
+
+loop5-less : tie.Need-loop5-less Inv-loop2 μ-loop2 Inv-loop3 μ-loop3 Inv-loop4 μ-loop4 Inv-loop5 μ-loop5 Inv-loop μ-loop
+loop5-less c = omega (arith, c .before .before .before .before .before .before .before .before .before .before .before .loop5-test .taken)
+
+loop5-again : tie.Need-loop5-again Inv-loop2 μ-loop2 Inv-loop3 μ-loop3 Inv-loop4 μ-loop4 Inv-loop5 μ-loop5 Inv-loop μ-loop
+loop5-again c =
+    let at = c .before .before .before .before .before .before .before .before .before .before .before .before .before .before .before .before .before .before .before .before .before .before .before .before .before .before .before .before .before .before .before in
+    let f = c .before .before .before .part in
+    one-done (c .before .before .before .before .before .before .before .before .before .before .before .before .loop5 .inv) (count-most (whole at) (fine at)) (c .before .before .before .before .before .before .before .before .before .before .before .loop5-test .taken) (λ p lt. held-most (whole at) (fine at) p lt) _ _ _
+    (c .before .before .before .before .before .pins-after2 .ensures) (f .ensures .0) (f .ensures .1 .0) (f .ensures .1 .1) (f .kept .0)
+
+add-print-3 : tie.Need-add-print-3 Inv-loop2 μ-loop2 Inv-loop3 μ-loop3 Inv-loop4 μ-loop4 Inv-loop5 μ-loop5 Inv-loop μ-loop
+add-print-3 c = omega (arith, few (c .before .before .before .before .before .before .before .before .before .before .before .before .before .before .before .before .before .before))
+
+print-requires-3 : tie.Need-print-requires-3 Inv-loop2 μ-loop2 Inv-loop3 μ-loop3 Inv-loop4 μ-loop4 Inv-loop5 μ-loop5 Inv-loop μ-loop
 print-requires-3 c κs =
-    let at = c .before .before .before .before .before .before .before .before .before .before .before .before .before .before .before .before .before .before in
-    let asked = recovery-asked (at .before .before .before .before .before .before .before .before .before .before .before .args .s .count) (event (c .before .before .before .before .before .before .before .before .before .before .before .before .before)) (c .before .before .before .before .before .before .before .before .before .before .before .before .recovery-of .result) (c .before .before .before .before .before .before .before .before .before .before .before .before .recovery-of .ensures) (c .before .before .before .before .before .before .before .before .before .before .before .if3 .left) in
-    let fits = said-fits (whole at) (event (c .before .before .before .before .before .before .before .before .before .before .before .before .before)) _ _ (cold-says (whole at) (event (c .before .before .before .before .before .before .before .before .before .before .before .before .before)) (c .before .before .before .before .before .before .before .before .before .before .before .before .recovery-of .result) (asked .0) (restored-from (whole at) (reach at) (at .before .before .before .before .before .before .before .before .before .before .before .args .s .count) (c .before .before .before .before .before .before .before .before .before .before .before .before .recovery-of .result) (at .loop .vectors) (at .loop .pins) (at .loop .sent) (at .loop .kept) (at .loop .held) (c .before .before .before .before .before .before .before .before .before .recovered .result) (at .loop .deleted) _ refl refl refl refl refl refl (asked .1) (asked .2) (at .loop .inv .5) (c .before .before .before .before .before .before .before .before .before .recovered .ensures .0) (c .before .before .before .before .before .before .before .before .before .recovered .ensures .1))) in
-    (fits .0, omega (arith, fits .1, at .loop .inv .5, c .before .before .before .before .before .before .before .before .before .recovered .kept .1 .1 .1 .1 .1 .1 .1 .0), omega (arith, few (c .before .before .before .before .before .before .before .before .before .before .before .before .before .before .before)), room (c .before .before .before .before .before .before .before .before .before .before .before .before .before .before .before))
+    let at = c .before .before .before .before .before .before .before .before .before .before .before .before .before .before .before .before .before .before .before .before .before .before in
+    let asked = recovery-asked (at .before .before .before .before .before .before .before .before .before .before .before .args .s .count) (event (c .before .before .before .before .before .before .before .before .before .before .before .before .before .before .before .before .before)) (c .before .before .before .before .before .before .before .before .before .before .before .before .before .before .before .before .recovery-of .result) (c .before .before .before .before .before .before .before .before .before .before .before .before .before .before .before .before .recovery-of .ensures) (c .before .before .before .before .before .before .before .before .before .before .before .before .before .before .before .if3 .left) in
+    let l = c .before .before .before .before .before .before .before .before .before .before .loop4 in
+    let r = c .before .before .before .loop5 in
+    let done = in-place-restores (whole at) (reach at) (at .before .before .before .before .before .before .before .before .before .before .before .args .s .count) (c .before .before .before .before .before .before .before .before .before .before .before .before .before .before .before .before .recovery-of .result) (at .loop .vectors) (at .loop .pins) (at .loop .sent) (at .loop .kept) (at .loop .held) (at .loop .deleted) (c .before .before .before .before .before .before .before .before .before .before .before .before .before .before .begin .result) (l .f) (l .states)
+    (c .before .before .before .before .before .before .before .before .go-back .result) (c .before .before .before .before .before .before .before .vector-rows2 .result) (r .q) (r .pins) (r .kept) (r .held) (r .deleted) (r .gone) refl refl refl refl refl refl (asked .1) (asked .2) (at .loop .inv .5)
+    (c .before .before .before .before .before .before .before .before .before .before .before .before .before .before .begin .ensures) (omega (arith, l .inv .0, c .before .before .before .before .before .before .before .before .before .loop4-test .left)) (l .inv .1) (c .before .before .before .before .before .before .before .before .go-back .ensures) (c .before .before .before .before .before .before .before .vector-rows2 .ensures)
+    (omega (arith, r .inv .within, c .before .before .loop5-test .left)) (r .inv) in
+    let fits = said-fits (whole at) (event (c .before .before .before .before .before .before .before .before .before .before .before .before .before .before .before .before .before)) _ _ (cold-says (whole at) (event (c .before .before .before .before .before .before .before .before .before .before .before .before .before .before .before .before .before)) (c .before .before .before .before .before .before .before .before .before .before .before .before .before .before .before .before .recovery-of .result) (asked .0) done) in
+    (fits .0, omega (arith, fits .1, at .loop .inv .5, r .inv .long), omega (arith, few (c .before .before .before .before .before .before .before .before .before .before .before .before .before .before .before .before .before .before .before)), room (c .before .before .before .before .before .before .before .before .before .before .before .before .before .before .before .before .before .before .before))
 
-add-count-3 : tie.Need-add-count-3 Inv-loop2 μ-loop2 Inv-loop3 μ-loop3 Inv-loop μ-loop
-add-count-3 c = omega (arith, few (c .before .before .before .before .before .before .before .before .before .before .before .before .before .before .before .before .before .before))
+add-count-3 : tie.Need-add-count-3 Inv-loop2 μ-loop2 Inv-loop3 μ-loop3 Inv-loop4 μ-loop4 Inv-loop5 μ-loop5 Inv-loop μ-loop
+add-count-3 c = omega (arith, few (c .before .before .before .before .before .before .before .before .before .before .before .before .before .before .before .before .before .before .before .before .before .before))
 
-add-used-3 : tie.Need-add-used-3 Inv-loop2 μ-loop2 Inv-loop3 μ-loop3 Inv-loop μ-loop
-add-used-3 c = omega (arith, more (c .before .before .before .before .before .before .before .before .before .before .before .before .before .before .before .before .before .before), block-fits (c .before .before .before .before .before .before .before .before .before .before .before .before .before .before .before .before .before .before .before .before .before .before .before .before .before .before .before .before .before .before .before))
+add-used-3 : tie.Need-add-used-3 Inv-loop2 μ-loop2 Inv-loop3 μ-loop3 Inv-loop4 μ-loop4 Inv-loop5 μ-loop5 Inv-loop μ-loop
+add-used-3 c = omega (arith, more (c .before .before .before .before .before .before .before .before .before .before .before .before .before .before .before .before .before .before .before .before .before .before), block-fits (c .before .before .before .before .before .before .before .before .before .before .before .before .before .before .before .before .before .before .before .before .before .before .before .before .before .before .before .before .before .before .before .before .before .before .before))
 
-loop-less-3 : tie.Need-loop-less-3 Inv-loop2 μ-loop2 Inv-loop3 μ-loop3 Inv-loop μ-loop
-loop-less-3 c = omega (arith, more (c .before .before .before .before .before .before .before .before .before .before .before .before .before .before .before .before .before .before))
+loop-less-3 : tie.Need-loop-less-3 Inv-loop2 μ-loop2 Inv-loop3 μ-loop3 Inv-loop4 μ-loop4 Inv-loop5 μ-loop5 Inv-loop μ-loop
+loop-less-3 c = omega (arith, more (c .before .before .before .before .before .before .before .before .before .before .before .before .before .before .before .before .before .before .before .before .before .before))
 
-loop-again-3 : tie.Need-loop-again-3 Inv-loop2 μ-loop2 Inv-loop3 μ-loop3 Inv-loop μ-loop
+loop-again-3 : tie.Need-loop-again-3 Inv-loop2 μ-loop2 Inv-loop3 μ-loop3 Inv-loop4 μ-loop4 Inv-loop5 μ-loop5 Inv-loop μ-loop
 loop-again-3 c =
-    let at = c .before .before .before .before .before .before .before .before .before .before .before .before .before .before .before .before .before .before .before .before .before in
+    let at = c .before .before .before .before .before .before .before .before .before .before .before .before .before .before .before .before .before .before .before .before .before .before .before .before .before in
     let start = at .before .before .before .before .before .before .before .before .before .before .before in
-    let asked = recovery-asked (at .before .before .before .before .before .before .before .before .before .before .before .args .s .count) (event (c .before .before .before .before .before .before .before .before .before .before .before .before .before .before .before .before)) (c .before .before .before .before .before .before .before .before .before .before .before .before .before .before .before .recovery-of .result) (c .before .before .before .before .before .before .before .before .before .before .before .before .before .before .before .recovery-of .ensures) (c .before .before .before .before .before .before .before .before .before .before .before .before .before .before .if3 .left) in
+    let asked = recovery-asked (at .before .before .before .before .before .before .before .before .before .before .before .args .s .count) (event (c .before .before .before .before .before .before .before .before .before .before .before .before .before .before .before .before .before .before .before .before)) (c .before .before .before .before .before .before .before .before .before .before .before .before .before .before .before .before .before .before .before .recovery-of .result) (c .before .before .before .before .before .before .before .before .before .before .before .before .before .before .before .before .before .before .before .recovery-of .ensures) (c .before .before .before .before .before .before .before .before .before .before .before .before .before .before .before .before .before .before .if3 .left) in
+    let l = c .before .before .before .before .before .before .before .before .before .before .before .before .before .loop4 in
+    let r = c .before .before .before .before .before .before .loop5 in
+    let done = in-place-restores (whole at) (reach at) (at .before .before .before .before .before .before .before .before .before .before .before .args .s .count) (c .before .before .before .before .before .before .before .before .before .before .before .before .before .before .before .before .before .before .before .recovery-of .result) (at .loop .vectors) (at .loop .pins) (at .loop .sent) (at .loop .kept) (at .loop .held) (at .loop .deleted) (c .before .before .before .before .before .before .before .before .before .before .before .before .before .before .before .before .before .begin .result) (l .f) (l .states)
+    (c .before .before .before .before .before .before .before .before .before .before .before .go-back .result) (c .before .before .before .before .before .before .before .before .before .before .vector-rows2 .result) (r .q) (r .pins) (r .kept) (r .held) (r .deleted) (r .gone) refl refl refl refl refl refl (asked .1) (asked .2) (at .loop .inv .5)
+    (c .before .before .before .before .before .before .before .before .before .before .before .before .before .before .before .before .before .begin .ensures) (omega (arith, l .inv .0, c .before .before .before .before .before .before .before .before .before .before .before .before .loop4-test .left)) (l .inv .1) (c .before .before .before .before .before .before .before .before .before .before .before .go-back .ensures) (c .before .before .before .before .before .before .before .before .before .before .vector-rows2 .ensures)
+    (omega (arith, r .inv .within, c .before .before .before .before .before .loop5-test .left)) (r .inv) in
     let printed = c .before .before .print3 in
-    let t = one-said _ _ (now (start .args .block)) _ (whole at) (at .loop .count) (at .loop .used) (at .loop .out) (at .loop .written) (at .loop .inv .0) (more (c .before .before .before .before .before .before .before .before .before .before .before .before .before .before .before .before .before .before)) (few (c .before .before .before .before .before .before .before .before .before .before .before .before .before .before .before .before .before .before)) (reach at)
-    (event (c .before .before .before .before .before .before .before .before .before .before .before .before .before .before .before .before)) (is-event (c .before .before .before .before .before .before .before .before .before .before .before .before .before .before .before .before)) _
-    (cold-state (whole at) (event (c .before .before .before .before .before .before .before .before .before .before .before .before .before .before .before .before)) (c .before .before .before .before .before .before .before .before .before .before .before .before .before .before .before .recovery-of .result) (asked .0) (restored-from (whole at) (reach at) (at .before .before .before .before .before .before .before .before .before .before .before .args .s .count) (c .before .before .before .before .before .before .before .before .before .before .before .before .before .before .before .recovery-of .result) (at .loop .vectors) (at .loop .pins) (at .loop .sent) (at .loop .kept) (at .loop .held) (c .before .before .before .before .before .before .before .before .before .before .before .before .recovered .result) (at .loop .deleted) _ refl refl refl refl refl refl (asked .1) (asked .2) (at .loop .inv .5) (c .before .before .before .before .before .before .before .before .before .before .before .before .recovered .ensures .0) (c .before .before .before .before .before .before .before .before .before .before .before .before .recovered .ensures .1)) (c .before .before .before .before .before .before .before .before .before .vector-rows2 .ensures) (c .before .before .before .before .before .before .before .before .pin-rows2 .ensures) (c .before .before .before .before .before .before .before .kept-rows2 .ensures) (at .before .no-message .ensures))
-    _ _ (cold-says (whole at) (event (c .before .before .before .before .before .before .before .before .before .before .before .before .before .before .before .before)) (c .before .before .before .before .before .before .before .before .before .before .before .before .before .before .before .recovery-of .result) (asked .0) (restored-from (whole at) (reach at) (at .before .before .before .before .before .before .before .before .before .before .before .args .s .count) (c .before .before .before .before .before .before .before .before .before .before .before .before .before .before .before .recovery-of .result) (at .loop .vectors) (at .loop .pins) (at .loop .sent) (at .loop .kept) (at .loop .held) (c .before .before .before .before .before .before .before .before .before .before .before .before .recovered .result) (at .loop .deleted) _ refl refl refl refl refl refl (asked .1) (asked .2) (at .loop .inv .5) (c .before .before .before .before .before .before .before .before .before .before .before .before .recovered .ensures .0) (c .before .before .before .before .before .before .before .before .before .before .before .before .recovered .ensures .1))) _ _ (printed .ensures .0) in (
+    let t = one-said _ _ (now (start .args .block)) _ (whole at) (at .loop .count) (at .loop .used) (at .loop .out) (at .loop .written) (at .loop .inv .0) (more (c .before .before .before .before .before .before .before .before .before .before .before .before .before .before .before .before .before .before .before .before .before .before)) (few (c .before .before .before .before .before .before .before .before .before .before .before .before .before .before .before .before .before .before .before .before .before .before)) (reach at)
+    (event (c .before .before .before .before .before .before .before .before .before .before .before .before .before .before .before .before .before .before .before .before)) (is-event (c .before .before .before .before .before .before .before .before .before .before .before .before .before .before .before .before .before .before .before .before)) _
+    (cold-state (whole at) (event (c .before .before .before .before .before .before .before .before .before .before .before .before .before .before .before .before .before .before .before .before)) (c .before .before .before .before .before .before .before .before .before .before .before .before .before .before .before .before .before .before .before .recovery-of .result) (asked .0) done refl refl refl (at .before .no-message .ensures))
+    _ _ (cold-says (whole at) (event (c .before .before .before .before .before .before .before .before .before .before .before .before .before .before .before .before .before .before .before .before)) (c .before .before .before .before .before .before .before .before .before .before .before .before .before .before .before .before .before .before .before .recovery-of .result) (asked .0) done) _ _ (printed .ensures .0) in (
       t .0,
       t .1,
-      omega (arith, few (c .before .before .before .before .before .before .before .before .before .before .before .before .before .before .before .before .before .before)),
+      omega (arith, few (c .before .before .before .before .before .before .before .before .before .before .before .before .before .before .before .before .before .before .before .before .before .before)),
       omega (arith, printed .ensures .1, at .loop .inv .4),
       printed .kept .1 .1 .1 .0 ∙ at .loop .inv .4,
-      c .before .before .before .before .before .before .before .before .before .before .before .before .recovered .kept .1 .1 .1 .1 .1 .1 .1 .0 ∙ at .loop .inv .5,
+      r .inv .long ∙ at .loop .inv .5,
     )
 
-vectors-from-requires : tie.Need-vectors-from-requires Inv-loop2 μ-loop2 Inv-loop3 μ-loop3 Inv-loop μ-loop
+vectors-from-requires : tie.Need-vectors-from-requires Inv-loop2 μ-loop2 Inv-loop3 μ-loop3 Inv-loop4 μ-loop4 Inv-loop5 μ-loop5 Inv-loop μ-loop
 vectors-from-requires c κs = search needs
 
-pins-from-requires : tie.Need-pins-from-requires Inv-loop2 μ-loop2 Inv-loop3 μ-loop3 Inv-loop μ-loop
+pins-from-requires : tie.Need-pins-from-requires Inv-loop2 μ-loop2 Inv-loop3 μ-loop3 Inv-loop4 μ-loop4 Inv-loop5 μ-loop5 Inv-loop μ-loop
 pins-from-requires c κs = search needs
 
-kept-from-requires : tie.Need-kept-from-requires Inv-loop2 μ-loop2 Inv-loop3 μ-loop3 Inv-loop μ-loop
+kept-from-requires : tie.Need-kept-from-requires Inv-loop2 μ-loop2 Inv-loop3 μ-loop3 Inv-loop4 μ-loop4 Inv-loop5 μ-loop5 Inv-loop μ-loop
 kept-from-requires c κs = search needs
 
 -- Why the loop has stopped.
-stops : (c : tie.Left-loop Inv-loop2 μ-loop2 Inv-loop3 μ-loop3 Inv-loop μ-loop) → Stops (c .before .loop .count) (length (now (c .before .before .before .before .before .before .before .before .before .before .before .before .args .block))) (c .before .loop .used) (length (now (c .before .before .before .before .before .before .before .before .before .before .before .before .args .out))) (c .before .loop .written)
+stops : (c : tie.Left-loop Inv-loop2 μ-loop2 Inv-loop3 μ-loop3 Inv-loop4 μ-loop4 Inv-loop5 μ-loop5 Inv-loop μ-loop) → Stops (c .before .loop .count) (length (now (c .before .before .before .before .before .before .before .before .before .before .before .before .args .block))) (c .before .loop .used) (length (now (c .before .before .before .before .before .before .before .before .before .before .before .before .args .out))) (c .before .loop .written)
 stops c =
     let l = c .before .loop in
     let start = c .before .before .before .before .before .before .before .before .before .before .before .before in
@@ -554,13 +747,13 @@ stops c =
     by-three (inr (inl b)) f g h = g b
     by-three (inr (inr d)) f g h = h d
 
-same-length : tie.Need-same-length Inv-loop2 μ-loop2 Inv-loop3 μ-loop3 Inv-loop μ-loop
+same-length : tie.Need-same-length Inv-loop2 μ-loop2 Inv-loop3 μ-loop3 Inv-loop4 μ-loop4 Inv-loop5 μ-loop5 Inv-loop μ-loop
 same-length c = search needs
 
-same-length-2 : tie.Need-same-length-2 Inv-loop2 μ-loop2 Inv-loop3 μ-loop3 Inv-loop μ-loop
+same-length-2 : tie.Need-same-length-2 Inv-loop2 μ-loop2 Inv-loop3 μ-loop3 Inv-loop4 μ-loop4 Inv-loop5 μ-loop5 Inv-loop μ-loop
 same-length-2 c = search needs
 
-returns : tie.Need-returns Inv-loop2 μ-loop2 Inv-loop3 μ-loop3 Inv-loop μ-loop
+returns : tie.Need-returns Inv-loop2 μ-loop2 Inv-loop3 μ-loop3 Inv-loop4 μ-loop4 Inv-loop5 μ-loop5 Inv-loop μ-loop
 returns c =
     let start = c .before .before .before .before .before .before .before .before .before .before .before .before .before .before .before in
     let l = c .before .before .before .before .loop in
@@ -575,6 +768,10 @@ replay-beside-spec =
     μ-loop2
     Inv-loop3
     μ-loop3
+    Inv-loop4
+    μ-loop4
+    Inv-loop5
+    μ-loop5
     Inv-loop
     μ-loop
     vector-rows-requires
@@ -650,10 +847,48 @@ replay-beside-spec =
     add-used-2
     loop-less-2
     loop-again-2
-    recovered-requires
+    begin-requires
+    loop4-holds
+    mul-now-known
+    array-copy-out-now-known
+    mul-row-now
+    array-copy-out-row-now
+    mul-held-now
+    array-read-held-now
+    member-requires
+    mul-states
+    array-set-from-states
+    add-f
+    loop4-less
+    loop4-again
+    go-back-requires
     vector-rows-requires-2
-    pin-rows-requires-2
-    kept-rows-requires-2
+    loop5-holds
+    array-read-has-rolled
+    mul-known
+    array-copy-out-known
+    mul-stored
+    array-copy-out-stored
+    mul-many
+    array-read-many
+    mul-pinned
+    array-copy-out-pinned
+    mul-state
+    array-copy-out-state
+    pins-after-requires-2
+    mul-part
+    part-requires
+    mul-pins-2
+    array-set-from-pins-2
+    mul-kept-2
+    array-set-from-kept-2
+    mul-held-2
+    array-write-held-2
+    sub-gone
+    add-gone
+    add-q
+    loop5-less
+    loop5-again
     add-print-3
     print-requires-3
     add-count-3
