@@ -13,6 +13,7 @@ use Rattle.model.specs.declared.Refusal.{Refusal}
 use Rattle.model.specs.declared.Refusal.the-variants.{LeftOverBytes}
 use Rattle.model.specs.declared.StartAnswer.{StartAnswer}
 use Rattle.model.specs.declared.StartAnswer.the-variants as start-answer
+use Rattle.model.specs.Words.{blank}
 use Rattle.model.specs.Refusals.{startRefusal}
 use Rattle.model.specs.Outcomes.{startOutcome}
 use Rattle.model.specs.Listing.{refusalText, mostRecords, records, started, listing}
@@ -58,11 +59,19 @@ start-refuses n w e l = by-refusal (startRefusal n)
     (λ h. started-not-refused w (sym (rw h at e)))
     (λ x h. rw h (ap (refusalText 0) (sym (refusal-same w x (rw h at e)))))
 
-pub start-starts : (n : ℕ) (run : Run) → run ≡ startOutcome n .run → start-answer.Started ≡ startOutcome n .answer → Starts n run
+pub start-refused : (n : ℕ) (w : Refusal) (run : Run) → run ≡ startOutcome n .run → start-answer.Refused w ≡ startOutcome n .answer → run ≡ blank 0
+unfolding startOutcome
+start-refused n w run a e = by-refusal (startRefusal n)
+    (λ h. started-not-refused w (sym (rw h at e)))
+    (λ x h. rw h at a)
+
+pub start-starts : (n : ℕ) (run : Run) (out : List ℕ) → run ≡ startOutcome n .run → start-answer.Started ≡ startOutcome n .answer → Starts n run out out 0
 unfolding startOutcome listing started
-start-starts n run a e = by-refusal (startRefusal n)
+start-starts n run out a e = by-refusal (startRefusal n)
     (λ h. record {
+      state = rw h at a;
       reached = rw a (reachable-start n (start-out n h .0) (start-out n h .1));
       rest = λ l. rw (a, h);
+      silent = nothing out 0;
     })
     (λ x h. started-not-refused x (rw h at e))

@@ -2,18 +2,28 @@
 -- Assumes nothing.
 use mathlib.Core.Path.{_≡_}
 use mathlib.Core.Bool.{Bool, true, false}
-use mathlib.Core.List.{List, _∷_}
+use mathlib.Core.List.{List, [], _∷_}
 use Prim.Native.Nat.{ℕ}
 use Rattle.model.specs.declared.Run.{Run}
+use Rattle.model.specs.Words.{blank}
+use Rattle.model.specs.Steps.{startState}
 use Rattle.model.specs.Listing.{records, listing}
 use Rattle.model.specs.WholeRuns.{Reachable}
 use Rattle.listing.specs.Printed.{Printed}
 
--- A run that starts prints nothing for its first byte; its state is reachable, and what the whole trace prints is what its records print from there.
-pub record Starts (n : ℕ) (run : Run) : Type 0 where
+-- A run that starts prints nothing for its first byte; its state is that of the start, reachable, and what the whole trace prints is what its records
+-- print from there.
+pub record Starts (n : ℕ) (run : Run) (out now-out : List ℕ) (written : ℕ) : Type 0 where
+  pub state : run ≡ startState n
   pub reached : Reachable run
   pub rest : (l : List ℕ) → listing (n ∷ l) ≡ records 0 run l
+  pub silent : Printed out 0 [] now-out written
+
+-- A run that is refused leaves a state of zeros, and one line is what every trace with this first byte prints.
+pub record Refused (n : ℕ) (run : Run) (out now-out : List ℕ) (written : ℕ) : Type 0 where
+  pub state : run ≡ blank 0
+  pub line : (l : List ℕ) → Printed out 0 (listing (n ∷ l)) now-out written
 
 unfoldable pub Begins : ℕ → Bool → Run → List ℕ → List ℕ → ℕ → Type 0
-Begins n true run out now-out written = Starts n run
-Begins n false run out now-out written = (l : List ℕ) → Printed out 0 (listing (n ∷ l)) now-out written
+Begins n true run out now-out written = Starts n run out now-out written
+Begins n false run out now-out written = Refused n run out now-out written

@@ -2,6 +2,7 @@
 ghost use mathlib.Core.Path.{_≡_};
 ghost use Prim.Native.Nat.{_-_, _*_, _≤_, min};
 ghost use lib.ListN.{length, take, drop};
+ghost use lib.Seq.{sets};
 
 // How far a buffer of `size` bytes may be filled where `done` records were taken: never past the last record that a replay takes.
 pub fn fill_to(done: u64, size: usize) -> usize
@@ -12,10 +13,10 @@ pub fn fill_to(done: u64, size: usize) -> usize
     if size < left { size } else { left }
 }
 
-// The bytes from `used` to `held` are put at the front of a buffer: the start of a record that is not whole yet.
+// The bytes from `used` to `held` are put at the front of a buffer, the rest of which is unchanged: the start of a record that is not whole yet.
 pub fn keep(buffer: &mut [u8], used: usize, held: usize) -> usize
     requires { ⌜ (used ≤ held) × (held ≤ length (now buffer)) ⌝ }
-    ensures { λ r. ⌜ (r ≡ held - used) × (take r (now (buffer .exit)) ≡ take r (drop used (now (buffer .entry)))) ⌝ }
+    ensures { λ r. ⌜ (r ≡ held - used) × (now (buffer .exit) ≡ sets (now (buffer .entry)) 0 (take (held - used) (drop used (now (buffer .entry))))) ⌝ }
 {
     let left = held - used;
     let mut k = 0;

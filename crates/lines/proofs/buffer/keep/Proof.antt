@@ -6,7 +6,7 @@ use Prim.Native.Nat.{ℕ, _-_, _≤_}
 use native.Mathlib.Omega.{arith}
 use denote.Ref.{now}
 use lib.ListN.{length, getD, take, drop, length-set}
-use Rattle.lines.proofs.Moves.{moved-one, rest-one}
+use Rattle.lines.proofs.Moves.{moved-one, rest-one, moved-all}
 use Rattle.lines.proofs.buffer.keep.Statement.{statement}
 use Rattle.lines.proofs.buffer.keep.Tie as tie
 
@@ -58,7 +58,8 @@ returns c =
     let l = c .before .loop in
     let start = c .before .before in
     let all : l .k ≡ start .args .held - start .args .used = omega (arith, l .inv .0, c .loop-test .left) in
-    (refl, rw all at (l .inv .1))
+    let moved = moved-all (now (start .args .buffer)) (l .buffer) (start .args .used) (l .k) (l .inv .1) (l .inv .2) (l .inv .3) (omega (arith, start .pre .0, start .pre .1, all)) in
+    (refl, rw all at moved)
 
 pub keep-spec : {M : Type 1} → statement M
 keep-spec = tie.close (tie.spec Inv-loop μ-loop sub-left loop-holds add-byte slice-read-byte slice-write-buffer add-k loop-less loop-again same-length returns)

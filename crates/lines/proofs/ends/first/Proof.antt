@@ -3,8 +3,9 @@
 use borrow.Author.Needs.{needs}
 use mathlib.Core.Path.{sym, _∙_}
 use native.Mathlib.Omega.{arith}
+use denote.Ref.{now}
 use Rattle.lines.specs.Ends.{Begins}
-use Rattle.lines.proofs.Endings.{start-refuses, start-starts}
+use Rattle.lines.proofs.Endings.{start-refuses, start-refused, start-starts}
 use Rattle.lines.proofs.ends.first.Statement.{statement}
 use Rattle.lines.proofs.ends.first.Tie as tie
 
@@ -30,14 +31,20 @@ returns c =
     let known = c .before .before .before .before .before .answer in
     let asked = c .before .before .before .before .before .before .before .before .start in
     let start = c .before .before .before .before .before .before .before .before .before .before in
-    (λ l. rw (start-refuses (start .args .n) (known .given .0 .0) (sym (known .given .1) ∙ asked .ensures .1) l) (called .ensures .0), called .ensures .1)
+    let refused = sym (known .given .1) ∙ asked .ensures .1 in (
+      record {
+        state = start-refused (start .args .n) (known .given .0 .0) (asked .result .run) (asked .ensures .0) refused;
+        line = λ l. rw (start-refuses (start .args .n) (known .given .0 .0) refused l) (called .ensures .0);
+      },
+      called .ensures .1,
+    )
 
 returns-2 : tie.Need-returns-2
 unfolding Begins
 returns-2 c =
     let asked = c .before .before .before .start in
     let start = c .before .before .before .before .before in
-    (start-starts (start .args .n) (asked .result .run) (asked .ensures .0) (search needs ∙ asked .ensures .1), omega arith)
+    (start-starts (start .args .n) (asked .result .run) (now (start .args .out)) (asked .ensures .0) (search needs ∙ asked .ensures .1), omega arith)
 
 pub first-spec : {M : Type 1} → statement M
 first-spec =
