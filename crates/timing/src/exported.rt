@@ -1,0 +1,117 @@
+// The exported calls, each made so many times on the same state. What comes back is the refusal number of the last, 0 if it was accepted, and 2 if it
+// left a state that is not sound. The state behind each call is copied out, so that none of it is left out of the work.
+use model::LineAnswer;
+use model::Run;
+use model::StartAnswer;
+
+pub fn of_line(answer: LineAnswer) -> u8 {
+    match answer {
+        LineAnswer::Refused(why) => lines::say::number_of(why),
+        LineAnswer::Written => 0,
+    }
+}
+
+fn of_start(answer: StartAnswer) -> u8 {
+    match answer {
+        StartAnswer::Refused(why) => lines::say::number_of(why),
+        StartAnswer::Started => 0,
+    }
+}
+
+pub fn left(s: Run, refused: u8) -> u8 {
+    if soundness::is_sound(s) { refused } else { 2 }
+}
+
+pub fn starts(s: Run, times: u32) -> u8 {
+    let mut last = s;
+    let mut refused: u8 = 0;
+    for k in 0..times {
+        let outcome = calls::start(16);
+        last = outcome.run;
+        let answer = outcome.answer;
+        refused = of_start(answer);
+    }
+    left(last, refused)
+}
+
+pub fn checkpoints(s: Run, times: u32) -> u8 {
+    let mut last = s;
+    let mut refused: u8 = 0;
+    for k in 0..times {
+        let mut deleted = [0u16; 512];
+        let outcome = calls::checkpoint(s, 3, &mut deleted);
+        last = outcome.run;
+        let answer = outcome.answer;
+        let said = lines::say::of_checkpoint(answer);
+        refused = said.refused;
+    }
+    left(last, refused)
+}
+
+pub fn sends(s: Run, times: u32) -> u8 {
+    let mut last = s;
+    let mut refused: u8 = 0;
+    for k in 0..times {
+        let outcome = calls::send(s, 3, 7);
+        last = outcome.run;
+        let answer = outcome.answer;
+        let said = lines::say::of_send(answer);
+        refused = said.refused;
+    }
+    left(last, refused)
+}
+
+pub fn delivers(s: Run, times: u32) -> u8 {
+    let mut last = s;
+    let mut refused: u8 = 0;
+    for k in 0..times {
+        let mut deleted = [0u16; 512];
+        let outcome = calls::deliver(s, 113, &mut deleted);
+        last = outcome.run;
+        let answer = outcome.answer;
+        let said = lines::say::of_deliver(answer);
+        refused = said.refused;
+    }
+    left(last, refused)
+}
+
+pub fn loses(s: Run, times: u32) -> u8 {
+    let mut last = s;
+    let mut refused: u8 = 0;
+    for k in 0..times {
+        let outcome = calls::lose(s, 113);
+        last = outcome.run;
+        let answer = outcome.answer;
+        let said = lines::say::of_lose(answer);
+        refused = said.refused;
+    }
+    left(last, refused)
+}
+
+pub fn lines(s: Run, times: u32) -> u8 {
+    let mut last = s;
+    let mut refused: u8 = 0;
+    for k in 0..times {
+        let mut line = [0u16; 16];
+        let outcome = calls::line(s, 8, &mut line);
+        last = outcome.run;
+        let answer = outcome.answer;
+        refused = of_line(answer);
+    }
+    left(last, refused)
+}
+
+pub fn recovers(s: Run, times: u32) -> u8 {
+    let mut last = s;
+    let mut refused: u8 = 0;
+    for k in 0..times {
+        let mut deleted = [0u16; 512];
+        let mut line = [0u16; 16];
+        let outcome = calls::recover(s, 8, &mut deleted, &mut line);
+        last = outcome.run;
+        let answer = outcome.answer;
+        let said = lines::say::of_recover(answer);
+        refused = said.refused;
+    }
+    left(last, refused)
+}

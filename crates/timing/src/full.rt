@@ -1,0 +1,72 @@
+// A full state of 16 processes: each keeps several checkpoints, and 63 messages are under way. It is reached by calls alone, so it is sound.
+use model::Run;
+ghost use Prim.Native.Nat.{_<_, _≤_};
+
+// Each process sends to the one that stands so far behind it, around the ring.
+fn sends(s: Run, far: usize) -> Run
+    requires { ⌜ far < 16 ⌝ }
+{
+    let mut run = s;
+    for p in 0..16 {
+        let outcome = calls::send(run, p, (p + far) % 16);
+        run = outcome.run;
+    }
+    run
+}
+
+fn checkpoint(s: Run, p: usize) -> Run {
+    let mut deleted = [0u16; 512];
+    let outcome = calls::checkpoint(s, p, &mut deleted);
+    outcome.run
+}
+
+fn deliver(s: Run, m: u32) -> Run {
+    let mut deleted = [0u16; 512];
+    let outcome = calls::deliver(s, m, &mut deleted);
+    outcome.run
+}
+
+// Every process takes a checkpoint.
+fn checkpoints(s: Run) -> Run {
+    let mut run = s;
+    for p in 0..16 {
+        run = checkpoint(run, p);
+    }
+    run
+}
+
+// The 16 messages from number `first` on are taken in.
+fn delivers(s: Run, first: u32) -> Run
+    requires { ⌜ first < 1000 ⌝ }
+{
+    let mut run = s;
+    for k in 0..16 {
+        run = deliver(run, first + k);
+    }
+    run
+}
+
+// A message to each process, and a checkpoint before it is taken in: the pins for what it brings name that checkpoint.
+fn round(s: Run, far: usize, first: u32) -> Run
+    requires { ⌜ (far < 16) × (first < 1000) ⌝ }
+{
+    let sent = sends(s, far);
+    let stored = checkpoints(sent);
+    delivers(stored, first)
+}
+
+// Five rounds leave each process with six checkpoints. Then 64 messages are sent, and the first of them is lost.
+pub fn state() -> Run {
+    let outcome = calls::start(16);
+    let first = round(outcome.run, 1, 1);
+    let second = round(first, 2, 17);
+    let third = round(second, 3, 33);
+    let fourth = round(third, 4, 49);
+    let fifth = round(fourth, 5, 65);
+    let one = sends(fifth, 1);
+    let two = sends(one, 2);
+    let three = sends(two, 3);
+    let four = sends(three, 4);
+    let lost = calls::lose(four, 81);
+    lost.run
+}
