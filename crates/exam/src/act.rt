@@ -1,8 +1,10 @@
 // Each call of the library on the state behind the call before it, with lists of a given length that hold zeros. What comes back is the state and
 // the number of the answer: 0 if the call is accepted, else the refusal number. A deletion list of 512 entries and a line list of 16 do for every run.
 use model::Run;
-use model::StartAnswer;
 ghost use Prim.Native.Nat.{_≤_};
+ghost use mathlib.Core.Path.{_≡_};
+ghost use lib.ListN.{replicate, take};
+ghost use Rattle.model.specs.Outcomes.{startOutcome, checkpointOutcome, sendOutcome, deliverOutcome, recoverOutcome, startReport, checkpointReport, sendReport, deliverReport, recoverReport};
 
 // The state behind a call, and the number of its answer.
 pub struct After {
@@ -10,19 +12,20 @@ pub struct After {
     pub refused: u8,
 }
 
-pub fn start(n: usize) -> After {
+pub(crate) fn start(n: usize) -> After
+    ensures { λ r. ⌜ (r .run ≡ startOutcome n .run) × (r .refused ≡ startReport (startOutcome n .answer) .refused) ⌝ }
+{
     let outcome = calls::start(n);
     let run = outcome.run;
     let answer = outcome.answer;
-    let refused = match answer {
-        StartAnswer::Refused(why) => lines::say::number_of(why),
-        StartAnswer::Started => 0,
-    };
+    let said = lines::say::of_start(answer);
+    let refused = said.refused;
     After { run, refused }
 }
 
-pub fn checkpoint(before: After, i: usize, length: usize) -> After
+pub(crate) fn checkpoint(before: After, i: usize, length: usize) -> After
     requires { ⌜ length ≤ 512 ⌝ }
+    ensures { λ r. ⌜ (r .run ≡ checkpointOutcome (before .run) i (take length (replicate 512 0)) .run) × (r .refused ≡ checkpointReport (checkpointOutcome (before .run) i (take length (replicate 512 0)) .answer) .refused) ⌝ }
 {
     let mut deleted = [0u16; 512];
     let outcome = calls::checkpoint(before.run, i, &mut deleted[..length]);
@@ -33,7 +36,9 @@ pub fn checkpoint(before: After, i: usize, length: usize) -> After
     After { run, refused }
 }
 
-pub fn send(before: After, i: usize, j: usize) -> After {
+pub(crate) fn send(before: After, i: usize, j: usize) -> After
+    ensures { λ r. ⌜ (r .run ≡ sendOutcome (before .run) i j .run) × (r .refused ≡ sendReport (sendOutcome (before .run) i j .answer) .refused) ⌝ }
+{
     let outcome = calls::send(before.run, i, j);
     let run = outcome.run;
     let answer = outcome.answer;
@@ -42,8 +47,9 @@ pub fn send(before: After, i: usize, j: usize) -> After {
     After { run, refused }
 }
 
-pub fn deliver(before: After, m: u32, length: usize) -> After
+pub(crate) fn deliver(before: After, m: u32, length: usize) -> After
     requires { ⌜ length ≤ 512 ⌝ }
+    ensures { λ r. ⌜ (r .run ≡ deliverOutcome (before .run) m (take length (replicate 512 0)) .run) × (r .refused ≡ deliverReport (deliverOutcome (before .run) m (take length (replicate 512 0)) .answer) .refused) ⌝ }
 {
     let mut deleted = [0u16; 512];
     let outcome = calls::deliver(before.run, m, &mut deleted[..length]);
@@ -54,9 +60,10 @@ pub fn deliver(before: After, m: u32, length: usize) -> After
     After { run, refused }
 }
 
-pub fn recover(before: After, failed: u16, length: usize, members: usize) -> After
+pub(crate) fn recover(before: After, failed: u16, length: usize, members: usize) -> After
     requires { ⌜ length ≤ 512 ⌝ }
     requires { ⌜ members ≤ 16 ⌝ }
+    ensures { λ r. ⌜ (r .run ≡ recoverOutcome (before .run) failed (take length (replicate 512 0)) (take members (replicate 16 0)) .run) × (r .refused ≡ recoverReport (recoverOutcome (before .run) failed (take length (replicate 512 0)) (take members (replicate 16 0)) .answer) .refused) ⌝ }
 {
     let mut deleted = [0u16; 512];
     let mut line = [0u16; 16];

@@ -141,7 +141,7 @@ fn lines(s: Run) {
     }
 }
 
-pub fn state(after: After) {
+pub(crate) fn state(after: After) {
     processes(after.run);
     lines(after.run);
 }
@@ -176,7 +176,7 @@ fn recovery(failed: u16, answer: RecoverAnswer, deleted: &[u16; 512]) {
 }
 
 // A recovery with what it wrote and answered, and the state behind it.
-pub fn recover(before: After, failed: u16) -> After {
+pub(crate) fn recover(before: After, failed: u16) -> After {
     let s = before.run;
     let n = within(16, s.count);
     let mut deleted = [0u16; 512];

@@ -2,7 +2,6 @@
 use crate::act;
 use crate::act::After;
 use crate::say;
-use model::LineAnswer;
 ghost use Prim.Native.Nat.{_≤_};
 
 // "Count 0 and 17: 1. Count 1 and 16: accepted."
@@ -55,11 +54,8 @@ fn line(n: usize, length: usize)
     let mut line = [0u16; 16];
     let outcome = calls::line(start.run, 1, &mut line[..length]);
     let answer = outcome.answer;
-    let refused = match answer {
-        LineAnswer::Refused(why) => lines::say::number_of(why),
-        LineAnswer::Written => 0,
-    };
-    with_list(b"line", n, length, refused);
+    let said = lines::say::of_line(answer);
+    with_list(b"line", n, length, said.refused);
 }
 
 fn recover_line(n: usize, length: usize)
@@ -164,7 +160,7 @@ fn quiet() -> u8 {
     done.refused
 }
 
-pub fn case_10() {
+pub(crate) fn case_10() {
     say::case(10);
     start(0);
     start(1);

@@ -2,39 +2,39 @@
 // here answers whether it wrote.
 use libc::STDOUT_FILENO;
 
-pub fn text(words: &[u8]) {
+pub(crate) fn text(words: &[u8]) {
     io::write_all(STDOUT_FILENO, words);
 }
 
-pub fn number(x: u64) {
+pub(crate) fn number(x: u64) {
     io::print_decimal(STDOUT_FILENO, x);
 }
 
 // A value behind a space.
-pub fn value(x: u64) {
+pub(crate) fn value(x: u64) {
     text(b" ");
     number(x);
 }
 
-pub fn end() {
+pub(crate) fn end() {
     text(b"\n");
 }
 
 // What a line's values are of, as `vector 0:`.
-pub fn heading(words: &[u8], x: u64) {
+pub(crate) fn heading(words: &[u8], x: u64) {
     text(words);
     value(x);
     text(b":");
 }
 
-pub fn case(number: u64) {
+pub(crate) fn case(number: u64) {
     text(b"case");
     value(number);
     end();
 }
 
 // The answer of a call: 0, or the refusal number.
-pub fn answer(call: &[u8], refused: u8) {
+pub(crate) fn answer(call: &[u8], refused: u8) {
     text(call);
     text(b":");
     value(refused as u64);

@@ -22,7 +22,7 @@ use Rattle.model.proofs.Blocks.{past-limit}
 use Rattle.model.proofs.simulation.Accepted.{start-out}
 use Rattle.listing.specs.Printed.{Printed}
 use Rattle.listing.proofs.Texts.{nothing}
-use Rattle.lines.specs.Ends.{Starts, Begins}
+use Rattle.lines.specs.Ends.{Starts, Refused}
 
 -- One to three bytes that are left over below the limit.
 pub left-over : (done : ℕ) (s : Run) (l : List ℕ) → 1 ≤ length l → length l < 4 → done < mostRecords → records done s l ≡ refusalText (done + 1) LeftOverBytes
@@ -53,17 +53,24 @@ started-not-refused w e = absurd (let z : _≡_ {A = ℕ} 0 1 = cc in omega arit
 refusal-same : (w x : Refusal) → start-answer.Refused w ≡ start-answer.Refused x → w ≡ x
 refusal-same w x e = cc
 
-pub start-refuses : (n : ℕ) (w : Refusal) → start-answer.Refused w ≡ startOutcome n .answer → (l : List ℕ) → listing (n ∷ l) ≡ refusalText 0 w
+start-refuses : (n : ℕ) (w : Refusal) → start-answer.Refused w ≡ startOutcome n .answer → (l : List ℕ) → listing (n ∷ l) ≡ refusalText 0 w
 unfolding startOutcome listing started
 start-refuses n w e l = by-refusal (startRefusal n)
     (λ h. started-not-refused w (sym (rw h at e)))
     (λ x h. rw h (ap (refusalText 0) (sym (refusal-same w x (rw h at e)))))
 
-pub start-refused : (n : ℕ) (w : Refusal) (run : Run) → run ≡ startOutcome n .run → start-answer.Refused w ≡ startOutcome n .answer → run ≡ blank 0
+start-blank : (n : ℕ) (w : Refusal) (run : Run) → run ≡ startOutcome n .run → start-answer.Refused w ≡ startOutcome n .answer → run ≡ blank 0
 unfolding startOutcome
-start-refused n w run a e = by-refusal (startRefusal n)
+start-blank n w run a e = by-refusal (startRefusal n)
     (λ h. started-not-refused w (sym (rw h at e)))
     (λ x h. rw h at a)
+
+pub start-refused : (n : ℕ) (w : Refusal) (run : Run) (out now-out : List ℕ) (written : ℕ) → run ≡ startOutcome n .run → start-answer.Refused w ≡ startOutcome n .answer
+    → Printed out 0 (refusalText 0 w) now-out written → Refused n run out now-out written
+start-refused n w run out now-out written a e printed = record {
+  state = start-blank n w run a e;
+  line = λ l. rw (start-refuses n w e l) printed;
+}
 
 pub start-starts : (n : ℕ) (run : Run) (out : List ℕ) → run ≡ startOutcome n .run → start-answer.Started ≡ startOutcome n .answer → Starts n run out out 0
 unfolding startOutcome listing started

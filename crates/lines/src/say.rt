@@ -3,13 +3,15 @@ use listing::Summary;
 use listing::Value;
 use model::CheckpointAnswer;
 use model::DeliverAnswer;
+use model::LineAnswer;
 use model::LoseAnswer;
 use model::RecoverAnswer;
 use model::Refusal;
 use model::SendAnswer;
+use model::StartAnswer;
 ghost use mathlib.Core.Path.{_≡_};
 ghost use Rattle.model.specs.Refusals.{number};
-ghost use Rattle.model.specs.Outcomes.{refusing, checkpointReport, sendReport, deliverReport, loseReport, recoverReport};
+ghost use Rattle.model.specs.Outcomes.{refusing, startReport, checkpointReport, sendReport, deliverReport, loseReport, lineReport, recoverReport};
 ghost use Rattle.listing.specs.Said.{reported};
 
 pub fn number_of(r: Refusal) -> u8
@@ -53,6 +55,15 @@ fn accepted(value: Value, deletions: usize) -> Summary
     }
 }
 
+pub fn of_start(a: StartAnswer) -> Summary
+    ensures { λ x. ⌜ reported x ≡ startReport a ⌝ }
+{
+    match a {
+        StartAnswer::Refused(r) => refused(r),
+        StartAnswer::Started => accepted(Value::Hyphen, 0),
+    }
+}
+
 pub fn of_checkpoint(a: CheckpointAnswer) -> Summary
     ensures { λ x. ⌜ reported x ≡ checkpointReport a ⌝ }
 {
@@ -87,6 +98,15 @@ pub fn of_lose(a: LoseAnswer) -> Summary
     match a {
         LoseAnswer::Refused(r) => refused(r),
         LoseAnswer::Lost => accepted(Value::Hyphen, 0),
+    }
+}
+
+pub fn of_line(a: LineAnswer) -> Summary
+    ensures { λ x. ⌜ reported x ≡ lineReport a ⌝ }
+{
+    match a {
+        LineAnswer::Refused(r) => refused(r),
+        LineAnswer::Written => accepted(Value::Hyphen, 0),
     }
 }
 

@@ -4,7 +4,6 @@ use mathlib.Core.Path.{_≡_, refl, sym, _∙_, ap}
 use mathlib.Core.List.{List}
 use mathlib.Core.Option.{Option}
 use Prim.Native.Nat.{ℕ}
-use lib.ListN.{replicate}
 use Rattle.model.specs.declared.Run.{Run}
 use Rattle.model.specs.declared.Event.{Event}
 use Rattle.model.specs.Outcomes.{Report}
@@ -12,10 +11,6 @@ use Rattle.model.specs.Calls.{Reply}
 use Rattle.model.specs.Listing.{deletionsText, acceptedText, lineText, perform}
 use Rattle.listing.specs.declared.Summary.{Summary}
 use Rattle.listing.specs.Lines.{valueOf, replyOf}
-
--- The deletion list that each record is lent: 512 entries are enough for 16 processes.
-unfoldable pub lentDeletions : List ℕ
-lentDeletions = replicate 512 0
 
 -- The report that a summary stands for.
 unfoldable pub reported : Summary → Report

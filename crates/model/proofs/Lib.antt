@@ -1,6 +1,5 @@
 pub mod Blocks
 pub mod Exam
-pub mod FailedSets
 pub mod Records
 pub mod Sizes
 pub mod WholeRuns

@@ -33,11 +33,12 @@ unfoldable pub optional : Option ℕ → List ℕ
 optional none = []
 optional (some v) = v ∷ []
 
--- What a call must answer: the refusal number or 0, its value if it has one, and the numbers that its deletion list holds in front.
+-- What a call must answer: the refusal number or 0, its value if it has one, the numbers that its deletion list holds in front, and its line list.
 pub record Expected : Type 0 where
   pub refused : ℕ
   pub value : List ℕ
   pub deleted : List ℕ
+  pub line : List ℕ
 
 -- A line for a failed set.
 pub record ExpectedLine : Type 0 where
@@ -66,7 +67,7 @@ deletionList n = replicate (2 * n * n) 9
 abbrev pub lineList : ℕ → List ℕ
 lineList n = replicate n 9
 
--- An answer is as expected; the deletion list past the pairs still holds what it held.
+-- An answer is as expected; the deletion list past the pairs still holds what it held. A line list of n entries is all written, or none of it.
 unfoldable pub answerRight : Reply → Expected → Bool
 answerRight r e =
     eqb (r .report .refused) (e .refused)
@@ -74,6 +75,7 @@ answerRight r e =
     && eqb (2 * r .report .deletions) (length (e .deleted))
     && same (take (length (e .deleted)) (r .deleted)) (e .deleted)
     && every (eqb 9) (drop (length (e .deleted)) (r .deleted))
+    && same (r .line) (e .line)
 
 unfoldable pub answersRight : List Exchange → List Expected → Bool
 answersRight [] [] = true
@@ -111,16 +113,16 @@ traceCalls =
 
 unfoldable pub traceAnswers : List Expected
 traceAnswers =
-    record { refused = 0; value = 1 ∷ []; deleted = [] }
-    ∷ record { refused = 0; value = []; deleted = [] }
-    ∷ record { refused = 0; value = 1 ∷ []; deleted = [] }
-    ∷ record { refused = 0; value = 1 ∷ []; deleted = 0 ∷ 0 ∷ [] }
-    ∷ record { refused = 0; value = 2 ∷ []; deleted = [] }
-    ∷ record { refused = 0; value = []; deleted = [] }
-    ∷ record { refused = 0; value = 3 ∷ []; deleted = [] }
-    ∷ record { refused = 0; value = 2 ∷ []; deleted = 1 ∷ 0 ∷ 1 ∷ 1 ∷ [] }
-    ∷ record { refused = 0; value = 2 ∷ []; deleted = [] }
-    ∷ record { refused = 8; value = []; deleted = [] }
+    record { refused = 0; value = 1 ∷ []; deleted = []; line = [] }
+    ∷ record { refused = 0; value = []; deleted = []; line = [] }
+    ∷ record { refused = 0; value = 1 ∷ []; deleted = []; line = [] }
+    ∷ record { refused = 0; value = 1 ∷ []; deleted = 0 ∷ 0 ∷ []; line = [] }
+    ∷ record { refused = 0; value = 2 ∷ []; deleted = []; line = [] }
+    ∷ record { refused = 0; value = []; deleted = []; line = [] }
+    ∷ record { refused = 0; value = 3 ∷ []; deleted = []; line = [] }
+    ∷ record { refused = 0; value = 2 ∷ []; deleted = 1 ∷ 0 ∷ 1 ∷ 1 ∷ []; line = [] }
+    ∷ record { refused = 0; value = 2 ∷ []; deleted = []; line = 1 ∷ 2 ∷ [] }
+    ∷ record { refused = 8; value = []; deleted = []; line = [] }
     ∷ []
 
 -- Cases 1 to 9, in the order of the exam sheet. Pins are written 0 for none and k + 1 for checkpoint k.
@@ -190,7 +192,7 @@ exam =
     ∷ record {
       count = 2;
       calls = take 4 traceCalls ++ (recover 2 (deletionList 2) (lineList 2) ∷ []);
-      answers = take 4 traceAnswers ++ (record { refused = 0; value = 1 ∷ []; deleted = 1 ∷ 0 ∷ [] } ∷ []);
+      answers = take 4 traceAnswers ++ (record { refused = 0; value = 1 ∷ []; deleted = 1 ∷ 0 ∷ []; line = 2 ∷ 1 ∷ [] } ∷ []);
       vectors = (2 ∷ 0 ∷ []) ∷ (1 ∷ 2 ∷ []) ∷ [];
       pins = (2 ∷ 0 ∷ []) ∷ (0 ∷ 2 ∷ []) ∷ [];
       kept = (1 ∷ []) ∷ (1 ∷ []) ∷ [];
@@ -201,10 +203,10 @@ exam =
       count = 3;
       calls = send 0 1 ∷ deliver 1 (deletionList 3) ∷ send 1 2 ∷ deliver 2 (deletionList 3) ∷ [];
       answers =
-          record { refused = 0; value = 1 ∷ []; deleted = [] }
-          ∷ record { refused = 0; value = []; deleted = [] }
-          ∷ record { refused = 0; value = 2 ∷ []; deleted = [] }
-          ∷ record { refused = 0; value = []; deleted = [] }
+          record { refused = 0; value = 1 ∷ []; deleted = []; line = [] }
+          ∷ record { refused = 0; value = []; deleted = []; line = [] }
+          ∷ record { refused = 0; value = 2 ∷ []; deleted = []; line = [] }
+          ∷ record { refused = 0; value = []; deleted = []; line = [] }
           ∷ [];
       vectors = (1 ∷ 0 ∷ 0 ∷ []) ∷ (1 ∷ 1 ∷ 0 ∷ []) ∷ (1 ∷ 1 ∷ 1 ∷ []) ∷ [];
       pins = (1 ∷ 0 ∷ 0 ∷ []) ∷ (1 ∷ 1 ∷ 0 ∷ []) ∷ (1 ∷ 1 ∷ 1 ∷ []) ∷ [];
@@ -220,9 +222,9 @@ exam =
       count = 2;
       calls = send 0 1 ∷ recover 2 (deletionList 2) (lineList 2) ∷ deliver 1 (deletionList 2) ∷ [];
       answers =
-          record { refused = 0; value = 1 ∷ []; deleted = [] }
-          ∷ record { refused = 0; value = 1 ∷ []; deleted = [] }
-          ∷ record { refused = 8; value = []; deleted = [] }
+          record { refused = 0; value = 1 ∷ []; deleted = []; line = [] }
+          ∷ record { refused = 0; value = 1 ∷ []; deleted = []; line = 1 ∷ 0 ∷ [] }
+          ∷ record { refused = 8; value = []; deleted = []; line = [] }
           ∷ [];
       vectors = (1 ∷ 0 ∷ []) ∷ (0 ∷ 1 ∷ []) ∷ [];
       pins = (1 ∷ 0 ∷ []) ∷ (0 ∷ 1 ∷ []) ∷ [];
@@ -234,11 +236,11 @@ exam =
       count = 2;
       calls = send 0 1 ∷ send 0 1 ∷ deliver 1 (deletionList 2) ∷ send 1 0 ∷ deliver 2 (deletionList 2) ∷ [];
       answers =
-          record { refused = 0; value = 1 ∷ []; deleted = [] }
-          ∷ record { refused = 0; value = 2 ∷ []; deleted = [] }
-          ∷ record { refused = 0; value = []; deleted = [] }
-          ∷ record { refused = 0; value = 3 ∷ []; deleted = [] }
-          ∷ record { refused = 0; value = []; deleted = [] }
+          record { refused = 0; value = 1 ∷ []; deleted = []; line = [] }
+          ∷ record { refused = 0; value = 2 ∷ []; deleted = []; line = [] }
+          ∷ record { refused = 0; value = []; deleted = []; line = [] }
+          ∷ record { refused = 0; value = 3 ∷ []; deleted = []; line = [] }
+          ∷ record { refused = 0; value = []; deleted = []; line = [] }
           ∷ [];
       vectors = (1 ∷ 0 ∷ []) ∷ (1 ∷ 1 ∷ []) ∷ [];
       pins = (1 ∷ 0 ∷ []) ∷ (1 ∷ 1 ∷ []) ∷ [];

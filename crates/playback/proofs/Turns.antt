@@ -20,6 +20,7 @@ use Rattle.listing.specs.Printed.{Printed}
 use Rattle.listing.proofs.Texts.{then, nothing}
 use Rattle.listing.specs.Lines.{longestLine, replyOf}
 use Rattle.trace.specs.Answers.{recordAt}
+use Rattle.laws.specs.Choice.{by-eq}
 use borrow.Author.Tests.{le-leb}
 use mathlib.Core.Logic.{inl, inr}
 use Rattle.playback.specs.Blocks.{Replays, Stops}
@@ -31,6 +32,7 @@ none-taken s before block out = record {
   bytes = omega arith;
   counted = omega arith;
   within = omega arith;
+  room = λ k lt. omega arith;
   state = refl;
   lines = nothing out 0;
 }
@@ -44,10 +46,10 @@ module _ (s : Run) (before : ℕ) (block out : List ℕ) (run : Run) (count used
   pub four-bytes : length (take 4 (drop used block)) ≡ 4
   four-bytes = rw (so-far .bytes) (next-length (so-far .taken) before s block at-record)
 
-  pub one-taken : count < mostRecords → (next-run : Run) (next-out : List ℕ) (next : ℕ) → next-run ≡ perform run (decoded (take 4 (drop used block))) .run
+  pub one-taken : written + longestLine ≤ length out → count < mostRecords → (next-run : Run) (next-out : List ℕ) (next : ℕ) → next-run ≡ perform run (decoded (take 4 (drop used block))) .run
       → Printed now-out written (lineText (count + 1) (perform run (decoded (take 4 (drop used block))) .reply)) next-out next
       → Replays s before block out next-run (count + 1) (used + 4) next-out next
-  one-taken few next-run next-out next e p =
+  one-taken space few next-run next-out next e p =
       let k = so-far .taken in
       let here : used ≡ 4 * k = so-far .bytes in
       let number : count ≡ before + k = so-far .counted in
@@ -57,6 +59,7 @@ module _ (s : Run) (before : ℕ) (block out : List ℕ) (run : Run) (count used
         bytes = omega arith;
         counted = omega arith;
         within = omega arith;
+        room = λ j lt. by-eq j k (λ q. rw (q, ← here) (omega (arith, so-far .lines .next-place))) (λ ne. so-far .room j (omega arith));
         state = e ∙ rw (before-run, here) (sym (next-state k before s block at-record));
         lines = rw (here, next-line k before s block at-record (omega arith)) (then (rw here at (so-far .lines)) (rw (before-run, here, number) at p));
       }
@@ -87,12 +90,12 @@ said-fits s e said deleted h =
 
 -- One record more, where the state t after it and the words said of it are the model's and its line is printed.
 pub one-said : (s : Run) (before : ℕ) (block out : List ℕ) (run : Run) (count used : ℕ) (now-out : List ℕ) (written : ℕ) → Replays s before block out run count used now-out written
-    → used + 4 ≤ length block → count < mostRecords → Reachable run → (e : Option Event) → e ≡ decoded (take 4 (drop used block)) → (t : Run) → perform run e .run ≡ t
+    → used + 4 ≤ length block → written + longestLine ≤ length out → count < mostRecords → Reachable run → (e : Option Event) → e ≡ decoded (take 4 (drop used block)) → (t : Run) → perform run e .run ≡ t
     → (said : Summary) (deleted : List ℕ) → Says said deleted (perform run e .reply)
     → (next-out : List ℕ) (next : ℕ) → Printed now-out written (lineText (count + 1) (replyOf said deleted)) next-out next
     → Replays s before block out t (count + 1) (used + 4) next-out next × Reachable t
-one-said s before block out run count used now-out written so-far more few reach e read t after said deleted says next-out next printed = (
-  one-taken s before block out run count used now-out written so-far more few t next-out next
+one-said s before block out run count used now-out written so-far more space few reach e read t after said deleted says next-out next printed = (
+  one-taken s before block out run count used now-out written so-far more space few t next-out next
       (sym after ∙ ap (λ (o : Option Event). perform run o .run) read)
       (rw (says-line said deleted (perform run e .reply) says (count + 1) ∙ ap (λ (o : Option Event). lineText (count + 1) (perform run o .reply)) read) at printed),
   rw (sym after) (reachable-record run reach e),

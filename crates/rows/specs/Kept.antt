@@ -4,11 +4,10 @@ use mathlib.Core.Path.{_≡_, ap, sym, _∙_}
 use mathlib.Core.Bool.{Bool, true}
 use mathlib.Core.List.{List, [], _∷_, _++_}
 use Prim.Native.Nat.{ℕ, _+_, _<_}
-use lib.ListN.{length, set, take, length-append}
+use lib.ListN.{length, set, length-append}
 use Rattle.laws.specs.Lists.{select, placed}
 use Rattle.laws.specs.Prefixes.{placed-more}
 use Rattle.laws.specs.Select.{select-append}
-use Rattle.laws.specs.Tables.{take-placed}
 use Rattle.model.specs.declared.Checkpoint.{Checkpoint}
 use Rattle.model.specs.Words.{places, noCheckpoint}
 use Rattle.rows.specs.declared.kept.KeptRow.{KeptRow}
@@ -16,10 +15,6 @@ use Rattle.rows.specs.declared.kept.KeptRow.{KeptRow}
 -- the row that holds these checkpoints
 abbrev pub keptRow : List Checkpoint → KeptRow
 keptRow l = record { row = placed places noCheckpoint l; held = length l }
-
--- What a row holds.
-pub kept-row-holds : (l : List Checkpoint) → take (keptRow l .held) (keptRow l .row) ≡ l
-kept-row-holds l = take-placed 16 noCheckpoint l
 
 -- the row with one checkpoint more in its next place
 abbrev pub withStored : KeptRow → Checkpoint → KeptRow

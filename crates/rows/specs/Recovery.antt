@@ -64,10 +64,6 @@ module _ (s : Run) (F p : ℕ) where
   unfolding vectorThen vectorAfter
   vector-in-state = refl
 
-  pub not-later-in-state : notLater (member s F p .index) (process s p .kept) ≡ notLost s F p
-  unfolding notLater notLost
-  not-later-in-state = refl
-
   -- a row of the own entries after the recovery: own(f) at every place f
   pub pins-in-state : (owns : List Interval) → ((f : ℕ) → f < 16 → entry owns f ≡ ownAfter s F f)
       → pinsThen (rolledBack s F p) (vectorAfter s F p) owns (notLost s F p) (process s p .pins) ≡ pinsAfter s F p
@@ -219,8 +215,3 @@ module _ (s : Run) (F p : ℕ) where
       let now : ownIsIndex p (live p (process s p)) ≡ true = live-own p (process s p) in
       let all = every-append (ownIsIndex p) (process s p .kept) (live p (process s p) ∷ []) h (every-single (ownIsIndex p) (live p (process s p)) now) in
       eqb-true _ _ (every-last (ownIsIndex p) _ (live p (process s p)) (every-select (ownIsIndex p) (allowed s F) _ all) now)
-
-  -- so where a process rolls back, there is room for 1 more
-  pub member-room : every (ownIsIndex p) (process s p .kept) ≡ true → own s p .0 ≤ 65535 → rolledBack s F p ≡ true → entry (member s F p .vector) p .0 < 65535
-  unfolding rolledBack
-  member-room h b r = omega (arith, member-own h, ltb-true (member s F p .index .0) (own s p .0) r)

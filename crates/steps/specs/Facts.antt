@@ -89,10 +89,7 @@ module _ (s : Run) (h : sound s ≡ true) where
         (names (getD (process s p .pins) p Nothing) (lastStored (own s p)))
         kept-clause
 
-    -- 1 to n checkpoints, so no more than there are places
-    pub held-some : 1 ≤ getD (s .held) p 0
-    held-some = leb-true 1 (getD (s .held) p 0) (kept-clauses .0)
-
+    -- at most n checkpoints, so no more than there are places
     pub held-most : getD (s .held) p 0 ≤ s .count
     held-most = leb-true (getD (s .held) p 0) (s .count) (kept-clauses .1)
 
@@ -135,9 +132,6 @@ module _ (s : Run) (h : sound s ≡ true) where
 
   pub messages-sound : every (messageSound s) (underWay s) ≡ true
   messages-sound = messages-clauses .2
-
-  pub last-most : s .last ≤ mostMessages
-  last-most = leb-true (s .last) mostMessages (messages-clauses .3)
 
   -- unused places hold zero: behind the kept checkpoints of a process, and behind the messages under way
   unused-clauses : (allBelow (s .count) (rowUnused s) ≡ true) × (every unusedMessage (drop (s .underway) (s .messages)) ≡ true)

@@ -1,10 +1,9 @@
 // The steps that the exported calls make once they have tested the state, each made so many times behind one test; and that test alone. What comes
 // back is as in exported.rt.
 use crate::exported::left;
-use crate::exported::of_line;
 use model::Run;
 
-pub fn checkpoints(s: Run, times: u32) -> u8 {
+pub(crate) fn checkpoints(s: Run, times: u32) -> u8 {
     if !soundness::is_sound(s) {
         return 2;
     }
@@ -21,7 +20,7 @@ pub fn checkpoints(s: Run, times: u32) -> u8 {
     left(last, refused)
 }
 
-pub fn sends(s: Run, times: u32) -> u8 {
+pub(crate) fn sends(s: Run, times: u32) -> u8 {
     if !soundness::is_sound(s) {
         return 2;
     }
@@ -37,7 +36,7 @@ pub fn sends(s: Run, times: u32) -> u8 {
     left(last, refused)
 }
 
-pub fn delivers(s: Run, times: u32) -> u8 {
+pub(crate) fn delivers(s: Run, times: u32) -> u8 {
     if !soundness::is_sound(s) {
         return 2;
     }
@@ -54,7 +53,7 @@ pub fn delivers(s: Run, times: u32) -> u8 {
     left(last, refused)
 }
 
-pub fn loses(s: Run, times: u32) -> u8 {
+pub(crate) fn loses(s: Run, times: u32) -> u8 {
     if !soundness::is_sound(s) {
         return 2;
     }
@@ -70,7 +69,7 @@ pub fn loses(s: Run, times: u32) -> u8 {
     left(last, refused)
 }
 
-pub fn lines(s: Run, times: u32) -> u8 {
+pub(crate) fn lines(s: Run, times: u32) -> u8 {
     if !soundness::is_sound(s) {
         return 2;
     }
@@ -81,12 +80,13 @@ pub fn lines(s: Run, times: u32) -> u8 {
         let outcome = rollback::line::line(s, 8, &mut line);
         last = outcome.run;
         let answer = outcome.answer;
-        refused = of_line(answer);
+        let said = lines::say::of_line(answer);
+        refused = said.refused;
     }
     left(last, refused)
 }
 
-pub fn recovers(s: Run, times: u32) -> u8 {
+pub(crate) fn recovers(s: Run, times: u32) -> u8 {
     if !soundness::is_sound(s) {
         return 2;
     }
@@ -104,7 +104,7 @@ pub fn recovers(s: Run, times: u32) -> u8 {
     left(last, refused)
 }
 
-pub fn tests(s: Run, times: u32) -> u8 {
+pub(crate) fn tests(s: Run, times: u32) -> u8 {
     let mut refused: u8 = 0;
     for k in 0..times {
         refused = left(s, 0);

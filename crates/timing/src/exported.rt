@@ -1,40 +1,25 @@
 // The exported calls, each made so many times on the same state. What comes back is the refusal number of the last, 0 if it was accepted, and 2 if it
 // left a state that is not sound. The state behind each call is copied out, so that none of it is left out of the work.
-use model::LineAnswer;
 use model::Run;
-use model::StartAnswer;
 
-pub fn of_line(answer: LineAnswer) -> u8 {
-    match answer {
-        LineAnswer::Refused(why) => lines::say::number_of(why),
-        LineAnswer::Written => 0,
-    }
-}
-
-fn of_start(answer: StartAnswer) -> u8 {
-    match answer {
-        StartAnswer::Refused(why) => lines::say::number_of(why),
-        StartAnswer::Started => 0,
-    }
-}
-
-pub fn left(s: Run, refused: u8) -> u8 {
+pub(crate) fn left(s: Run, refused: u8) -> u8 {
     if soundness::is_sound(s) { refused } else { 2 }
 }
 
-pub fn starts(s: Run, times: u32) -> u8 {
+pub(crate) fn starts(s: Run, times: u32) -> u8 {
     let mut last = s;
     let mut refused: u8 = 0;
     for k in 0..times {
         let outcome = calls::start(16);
         last = outcome.run;
         let answer = outcome.answer;
-        refused = of_start(answer);
+        let said = lines::say::of_start(answer);
+        refused = said.refused;
     }
     left(last, refused)
 }
 
-pub fn checkpoints(s: Run, times: u32) -> u8 {
+pub(crate) fn checkpoints(s: Run, times: u32) -> u8 {
     let mut last = s;
     let mut refused: u8 = 0;
     for k in 0..times {
@@ -48,7 +33,7 @@ pub fn checkpoints(s: Run, times: u32) -> u8 {
     left(last, refused)
 }
 
-pub fn sends(s: Run, times: u32) -> u8 {
+pub(crate) fn sends(s: Run, times: u32) -> u8 {
     let mut last = s;
     let mut refused: u8 = 0;
     for k in 0..times {
@@ -61,7 +46,7 @@ pub fn sends(s: Run, times: u32) -> u8 {
     left(last, refused)
 }
 
-pub fn delivers(s: Run, times: u32) -> u8 {
+pub(crate) fn delivers(s: Run, times: u32) -> u8 {
     let mut last = s;
     let mut refused: u8 = 0;
     for k in 0..times {
@@ -75,7 +60,7 @@ pub fn delivers(s: Run, times: u32) -> u8 {
     left(last, refused)
 }
 
-pub fn loses(s: Run, times: u32) -> u8 {
+pub(crate) fn loses(s: Run, times: u32) -> u8 {
     let mut last = s;
     let mut refused: u8 = 0;
     for k in 0..times {
@@ -88,7 +73,7 @@ pub fn loses(s: Run, times: u32) -> u8 {
     left(last, refused)
 }
 
-pub fn lines(s: Run, times: u32) -> u8 {
+pub(crate) fn lines(s: Run, times: u32) -> u8 {
     let mut last = s;
     let mut refused: u8 = 0;
     for k in 0..times {
@@ -96,12 +81,13 @@ pub fn lines(s: Run, times: u32) -> u8 {
         let outcome = calls::line(s, 8, &mut line);
         last = outcome.run;
         let answer = outcome.answer;
-        refused = of_line(answer);
+        let said = lines::say::of_line(answer);
+        refused = said.refused;
     }
     left(last, refused)
 }
 
-pub fn recovers(s: Run, times: u32) -> u8 {
+pub(crate) fn recovers(s: Run, times: u32) -> u8 {
     let mut last = s;
     let mut refused: u8 = 0;
     for k in 0..times {

@@ -2,17 +2,20 @@
 -- Assumes nothing.
 use mathlib.Core.Path.{_≡_, refl, sym, _∙_, ap}
 use mathlib.Core.Bool.{Bool, true, _&&_, not}
+use mathlib.Core.List.{List}
 use Prim.Native.Nat.{ℕ, suc, _≤_, _<_}
 use native.Mathlib.Omega.{arith}
 use lib.Dec.{ltb}
 use lib.ListN.{set}
 use borrow.Author.Tests.{lt-ltb, eq-eqb, ne-eqb}
 use Rattle.laws.specs.Choice.{pick, by-eq}
+use Rattle.laws.specs.Lists.{select}
 use Rattle.laws.specs.Tables.{table-same, table-set}
 use Rattle.laws.specs.Update.{upd, upd-same, upd-other, upds}
+use Rattle.model.specs.declared.Checkpoint.{Checkpoint}
 use Rattle.model.specs.declared.Pin.{Pin}
 use Rattle.model.specs.declared.Pin.the-variants.{Nothing, At}
-use Rattle.model.specs.Words.{places, live, process}
+use Rattle.model.specs.Words.{places, named, live, process}
 use Rattle.model.specs.Steps as steps
 use Rattle.model.specs.Steps.{settled, listed, deletions, checkpointState, checkpointDeletions}
 use Rattle.model.proofs.ideal.Run.{Ideal, keeps, checkpointed}
@@ -59,14 +62,23 @@ module _ (r : Ideal) (i : ℕ) (few : r .n ≤ places) (hi : i < r .n) (self : r
   few-after : checkpointed r i .n ≤ places
   few-after = rw (checkpointed-n r i) few
 
+  -- What a pin still names is what the run keeps.
+  checkpoint-settled : settled (steps.checkpointed i (processOf r i)) .kept ≡ keptOf (checkpointed r i) i
+  unfolding settled keptOf
+  checkpoint-settled =
+      ap (λ (pins : List Pin). select (named pins) (steps.checkpointed i (processOf r i) .kept)) checkpoint-pins
+      ∙ ap (λ (l : List Checkpoint). select (named (pinsOf (checkpointed r i) i)) l) checkpoint-kept
+      ∙ settled-kept (checkpointed r i) i (suc (r .own i)) (standing r i) few-after checkpoint-standing
+      ∙ ap (λ (k : ℕ). passing k (keeps (checkpointed r i) i) (checkpointOf (checkpointed r i) i)) (sym (checkpointed-own r i))
+
   -- The part of i after the checkpoint.
   checkpoint-process : settled (steps.checkpointed i (processOf r i)) ≡ processOf (checkpointed r i) i
-  unfolding settled processOf keptOf steps.checkpointed
+  unfolding settled processOf steps.checkpointed
   checkpoint-process = process-eq (settled (steps.checkpointed i (processOf r i))) (processOf (checkpointed r i) i)
       (rw (checkpointed-n r i) checkpoint-vector)
       checkpoint-pins
       (sym (checkpointed-mark r i))
-      (rw (checkpoint-pins, checkpoint-kept, checkpointed-own r i) (settled-kept (checkpointed r i) i (suc (r .own i)) (standing r i) few-after checkpoint-standing))
+      checkpoint-settled
 
   -- The other parts stay.
   checkpoint-others : (p : ℕ) → p < r .n → (p ≡ i → ⊥) → processOf (checkpointed r i) p ≡ processOf r p

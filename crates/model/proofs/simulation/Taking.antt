@@ -5,12 +5,14 @@ use mathlib.Core.Bool.{Bool, true, false, _&&_, not}
 use Prim.Native.Nat.{ℕ, suc, _≤_, _<_, max}
 use native.Mathlib.Omega.{arith}
 use lib.Dec.{ltb}
+use lib.ListN.{getD}
 use borrow.Author.Tests.{leb-true, leb-false}
 use Rattle.laws.specs.Choice.{pick, by-bool, pick-same}
 use Rattle.laws.specs.Ranges.{any-same, any-wider}
 use Rattle.laws.specs.Search.{anyBelow}
 use Rattle.laws.specs.Tables.{table-same}
 use Rattle.laws.specs.Update.{upds}
+use Rattle.model.specs.declared.Pin.{Pin}
 use Rattle.model.specs.declared.Pin.the-variants.{Nothing}
 use Rattle.model.specs.Words.{places, entry, below, Process}
 use Rattle.model.specs.Steps as steps
@@ -73,8 +75,11 @@ module _ (r : Ideal) (m : ℕ) (few : r .n ≤ places) (hi : r .receiver m < r .
   taken-pin : (f : ℕ) → takenPin i (vectorOf (r .n) v) (vectorOf (r .n) (r .carried m)) (pinsOf r i) f ≡ pick (ltb f (r .n)) (pinOf (takenIn r m .pin i f)) Nothing
   unfolding takenPin
   taken-pin f = by-bool (ltb f (r .n))
-      (λ e. let lt : f < r .n = leb-true (suc f) (r .n) e in rw (below-is (r .n) v (r .carried m) few f lt, pin-is r i i few hi, pin-is r i f few lt, e, pin-taken f)
-      (by-bool (ltb (v f) (r .carried m f)) (λ d. rw d) (λ d. rw d)))
+      (λ e. let lt : f < r .n = leb-true (suc f) (r .n) e in
+      ap (λ (up : Bool). pick up (getD (pinsOf r i) i Nothing) (getD (pinsOf r i) f Nothing)) (below-is (r .n) v (r .carried m) few f lt)
+      ∙ ap (λ (named : Pin). pick (ltb (v f) (r .carried m f)) named (getD (pinsOf r i) f Nothing)) (pin-is r i i few hi)
+      ∙ ap (λ (named : Pin). pick (ltb (v f) (r .carried m f)) (pinOf (r .pin i i)) named) (pin-is r i f few lt)
+      ∙ rw (e, pin-taken f) (by-bool (ltb (v f) (r .carried m f)) (λ d. rw d) (λ d. rw d)))
       (λ e. let le : r .n ≤ f = omega (arith, leb-false (suc f) (r .n) e) in rw (below-past (r .n) v (r .carried m) few f le, pin-past r i f le, e))
 
   pub taken-pins : takenPins i (vectorOf (r .n) v) (vectorOf (r .n) (r .carried m)) (pinsOf r i) ≡ pinsOf (takenIn r m) i

@@ -1,8 +1,11 @@
 -- `exam::act::checkpoint` meets its contract. Assumes nothing.
-use mathlib.Core.Path.{sym}
+use mathlib.Core.Path.{sym, ap, _∙_}
 use lib.Seq.{length-take-le}
 use lib.ListN.{replicate}
 use borrow.Author.Needs.{needs}
+use Rattle.model.specs.declared.CheckpointAnswer.{CheckpointAnswer}
+use Rattle.model.specs.Outcomes.{Report, checkpointReport}
+use Rattle.listing.specs.Said.{reported}
 use Rattle.exam.proofs.act.checkpoint.Statement.{statement}
 use Rattle.exam.proofs.act.checkpoint.Tie as tie
 
@@ -19,7 +22,13 @@ of-checkpoint-requires : tie.Need-of-checkpoint-requires
 of-checkpoint-requires c κs = search needs
 
 returns : tie.Need-returns
-returns c = search needs
+unfolding reported
+returns c =
+    let called = c .before .before .before .checkpoint .ensures in (
+      called .0,
+      ap (λ (r : Report). r .refused) (c .of-checkpoint .ensures)
+          ∙ ap (λ (a : CheckpointAnswer). checkpointReport a .refused) (called .1 .0),
+    )
 
 pub checkpoint-spec : {M : Type 1} → statement M
 checkpoint-spec =

@@ -1,8 +1,11 @@
 -- `exam::act::deliver` meets its contract. Assumes nothing.
-use mathlib.Core.Path.{sym}
+use mathlib.Core.Path.{sym, ap, _∙_}
 use lib.Seq.{length-take-le}
 use lib.ListN.{replicate}
 use borrow.Author.Needs.{needs}
+use Rattle.model.specs.declared.DeliverAnswer.{DeliverAnswer}
+use Rattle.model.specs.Outcomes.{Report, deliverReport}
+use Rattle.listing.specs.Said.{reported}
 use Rattle.exam.proofs.act.deliver.Statement.{statement}
 use Rattle.exam.proofs.act.deliver.Tie as tie
 
@@ -19,7 +22,13 @@ of-deliver-requires : tie.Need-of-deliver-requires
 of-deliver-requires c κs = search needs
 
 returns : tie.Need-returns
-returns c = search needs
+unfolding reported
+returns c =
+    let called = c .before .before .before .deliver .ensures in (
+      called .0,
+      ap (λ (r : Report). r .refused) (c .of-deliver .ensures)
+          ∙ ap (λ (a : DeliverAnswer). deliverReport a .refused) (called .1 .0),
+    )
 
 pub deliver-spec : {M : Type 1} → statement M
 deliver-spec =

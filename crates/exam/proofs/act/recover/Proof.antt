@@ -1,8 +1,11 @@
 -- `exam::act::recover` meets its contract. Assumes nothing.
-use mathlib.Core.Path.{sym}
+use mathlib.Core.Path.{sym, ap, _∙_}
 use lib.Seq.{length-take-le}
 use lib.ListN.{replicate}
 use borrow.Author.Needs.{needs}
+use Rattle.model.specs.declared.RecoverAnswer.{RecoverAnswer}
+use Rattle.model.specs.Outcomes.{Report, recoverReport}
+use Rattle.listing.specs.Said.{reported}
 use Rattle.exam.proofs.act.recover.Statement.{statement}
 use Rattle.exam.proofs.act.recover.Tie as tie
 
@@ -27,7 +30,13 @@ of-recover-requires : tie.Need-of-recover-requires
 of-recover-requires c κs = search needs
 
 returns : tie.Need-returns
-returns c = search needs
+unfolding reported
+returns c =
+    let called = c .before .before .before .before .recover .ensures in (
+      called .0,
+      ap (λ (r : Report). r .refused) (c .of-recover .ensures)
+          ∙ ap (λ (a : RecoverAnswer). recoverReport a .refused) (called .1 .0),
+    )
 
 pub recover-spec : {M : Type 1} → statement M
 recover-spec =

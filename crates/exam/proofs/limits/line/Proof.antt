@@ -18,14 +18,8 @@ slice-aggregate-line c = sym (length-take-le (c .before .before .args .length) (
 line-requires : tie.Need-line-requires
 line-requires c κs = search needs
 
-enum-known-answer : tie.Need-enum-known-answer
-enum-known-answer c = search needs
-
-number-of-requires : tie.Need-number-of-requires
-number-of-requires c κs = search needs
-
-enum-told : tie.Need-enum-told
-enum-told c = search needs
+of-line-requires : tie.Need-of-line-requires
+of-line-requires c κs = search needs
 
 slice-aggregate-with-list : tie.Need-slice-aggregate-with-list
 slice-aggregate-with-list c = search needs
@@ -44,9 +38,7 @@ line-spec =
     array-borrow-prefix-line
     slice-aggregate-line
     line-requires
-    enum-known-answer
-    number-of-requires
-    enum-told
+    of-line-requires
     slice-aggregate-with-list
     with-list-requires
     returns)

@@ -5,7 +5,7 @@ use mathlib.Core.Path.{sym, _∙_}
 use native.Mathlib.Omega.{arith}
 use denote.Ref.{now}
 use Rattle.lines.specs.Ends.{Begins}
-use Rattle.lines.proofs.Endings.{start-refuses, start-refused, start-starts}
+use Rattle.lines.proofs.Endings.{start-refused, start-starts}
 use Rattle.lines.proofs.ends.first.Statement.{statement}
 use Rattle.lines.proofs.ends.first.Tie as tie
 
@@ -32,10 +32,7 @@ returns c =
     let asked = c .before .before .before .before .before .before .before .before .start in
     let start = c .before .before .before .before .before .before .before .before .before .before in
     let refused = sym (known .given .1) ∙ asked .ensures .1 in (
-      record {
-        state = start-refused (start .args .n) (known .given .0 .0) (asked .result .run) (asked .ensures .0) refused;
-        line = λ l. rw (start-refuses (start .args .n) (known .given .0 .0) refused l) (called .ensures .0);
-      },
+      start-refused (start .args .n) (known .given .0 .0) (asked .result .run) (now (start .args .out)) _ (called .result) (asked .ensures .0) refused (called .ensures .0),
       called .ensures .1,
     )
 

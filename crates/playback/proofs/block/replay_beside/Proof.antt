@@ -440,7 +440,7 @@ loop-again c =
     let at = q .before .before .before .before .before .before .before .before .before .before .before .before .before .before .before in
     let start = at .before .before .before .before .before .before .before .before .before .before .before in
     let printed = c .before .before .print in
-    let t = one-said _ _ (now (start .args .block)) _ (whole at) (at .loop .count) (at .loop .used) (at .loop .out) (at .loop .written) (at .loop .inv .0) (more (q .before .before .before .before .before .before .before .before .before .before .before .before)) (few (q .before .before .before .before .before .before .before .before .before .before .before .before)) (reach at)
+    let t = one-said _ _ (now (start .args .block)) _ (whole at) (at .loop .count) (at .loop .used) (at .loop .out) (at .loop .written) (at .loop .inv .0) (more (q .before .before .before .before .before .before .before .before .before .before .before .before)) (omega (arith, room (q .before .before .before .before .before .before .before .before .before .before .before .before), at .loop .inv .4)) (few (q .before .before .before .before .before .before .before .before .before .before .before .before)) (reach at)
     (event (q .before .before .before .before .before .before .before .before .before .before)) (is-event (q .before .before .before .before .before .before .before .before .before .before)) _
     (rw (← moved-all (c .before .before .before .before .before .before .before .before .before .before .before .before .before .before .before .before)) at (moving-state (at .before .before .before .before .before .before .before .before .before .before .before .args .s .count) (at .loop .vectors) (at .loop .pins) (at .loop .kept) (at .loop .sent) (at .loop .held) (at .loop .messages) (at .loop .underway) (at .loop .last) (reach at) (event (q .before .before .before .before .before .before .before .before .before .before)) (hot (q .before .before .before .before .before .before .before .before)) (q .before .before .before .before .before .loop2 .low) (over (q .before .before .before .before))
     (q .before .before .before .before .before .before .before .sought .ensures) (q .before .before .before .place-of .ensures) (any-default (at .loop .messages) (q .before .before .before .place-of .result) _ noMessage (in-table (q .before .before .before))) (q .before .is-found .ensures) (q .process-of .ensures) (c .before .before .before .before .before .before .before .before .before .before .before .before .before .before .before .before .before .before .before .plan-of .ensures) (c .before .before .before .before .before .before .before .before .before .before .before .before .before .before .before .if5 .taken) (c .before .before .before .before .before .before .before .before .before .before .before .pins-after .ensures) (c .before .before .before .before .before .before .before .before .before .rows-after .ensures .0)))
@@ -481,7 +481,7 @@ loop-again-2 c =
     let at = q .before .before .before .before .before .before .before .before .before .before .before .before .before .before .before in
     let start = at .before .before .before .before .before .before .before .before .before .before .before in
     let printed = c .before .before .print2 in
-    let t = one-said _ _ (now (start .args .block)) _ (whole at) (at .loop .count) (at .loop .used) (at .loop .out) (at .loop .written) (at .loop .inv .0) (more (q .before .before .before .before .before .before .before .before .before .before .before .before)) (few (q .before .before .before .before .before .before .before .before .before .before .before .before)) (reach at)
+    let t = one-said _ _ (now (start .args .block)) _ (whole at) (at .loop .count) (at .loop .used) (at .loop .out) (at .loop .written) (at .loop .inv .0) (more (q .before .before .before .before .before .before .before .before .before .before .before .before)) (omega (arith, room (q .before .before .before .before .before .before .before .before .before .before .before .before), at .loop .inv .4)) (few (q .before .before .before .before .before .before .before .before .before .before .before .before)) (reach at)
     (event (q .before .before .before .before .before .before .before .before .before .before)) (is-event (q .before .before .before .before .before .before .before .before .before .before)) _
     (rw (← moved-all (c .before .before .before .before .before .before)) at (calm-state (at .before .before .before .before .before .before .before .before .before .before .before .args .s .count) (at .loop .vectors) (at .loop .pins) (at .loop .kept) (at .loop .sent) (at .loop .held) (at .loop .messages) (at .loop .underway) (at .loop .last) (reach at) (event (q .before .before .before .before .before .before .before .before .before .before)) (hot (q .before .before .before .before .before .before .before .before)) (q .before .before .before .before .before .loop2 .low) (over (q .before .before .before .before))
     (q .before .before .before .before .before .before .before .sought .ensures) (q .before .before .before .place-of .ensures) (any-default (at .loop .messages) (q .before .before .before .place-of .result) _ noMessage (in-table (q .before .before .before))) (q .before .is-found .ensures) (q .process-of .ensures) (c .before .before .before .before .before .before .before .before .before .plan-of .ensures) (c .before .before .before .before .before .if5 .left)))
@@ -709,7 +709,7 @@ loop-again-3 c =
     (c .before .before .before .before .before .before .before .before .before .before .before .before .before .before .before .before .before .begin .ensures) (omega (arith, l .inv .0, c .before .before .before .before .before .before .before .before .before .before .before .before .loop4-test .left)) (l .inv .1) (c .before .before .before .before .before .before .before .before .before .before .before .go-back .ensures) (c .before .before .before .before .before .before .before .before .before .before .vector-rows2 .ensures)
     (omega (arith, r .inv .within, c .before .before .before .before .before .loop5-test .left)) (r .inv) in
     let printed = c .before .before .print3 in
-    let t = one-said _ _ (now (start .args .block)) _ (whole at) (at .loop .count) (at .loop .used) (at .loop .out) (at .loop .written) (at .loop .inv .0) (more (c .before .before .before .before .before .before .before .before .before .before .before .before .before .before .before .before .before .before .before .before .before .before)) (few (c .before .before .before .before .before .before .before .before .before .before .before .before .before .before .before .before .before .before .before .before .before .before)) (reach at)
+    let t = one-said _ _ (now (start .args .block)) _ (whole at) (at .loop .count) (at .loop .used) (at .loop .out) (at .loop .written) (at .loop .inv .0) (more (c .before .before .before .before .before .before .before .before .before .before .before .before .before .before .before .before .before .before .before .before .before .before)) (omega (arith, room (c .before .before .before .before .before .before .before .before .before .before .before .before .before .before .before .before .before .before .before .before .before .before), at .loop .inv .4)) (few (c .before .before .before .before .before .before .before .before .before .before .before .before .before .before .before .before .before .before .before .before .before .before)) (reach at)
     (event (c .before .before .before .before .before .before .before .before .before .before .before .before .before .before .before .before .before .before .before .before)) (is-event (c .before .before .before .before .before .before .before .before .before .before .before .before .before .before .before .before .before .before .before .before)) _
     (cold-state (whole at) (event (c .before .before .before .before .before .before .before .before .before .before .before .before .before .before .before .before .before .before .before .before)) (c .before .before .before .before .before .before .before .before .before .before .before .before .before .before .before .before .before .before .before .recovery-of .result) (asked .0) done refl refl refl (at .before .no-message .ensures))
     _ _ (cold-says (whole at) (event (c .before .before .before .before .before .before .before .before .before .before .before .before .before .before .before .before .before .before .before .before)) (c .before .before .before .before .before .before .before .before .before .before .before .before .before .before .before .before .before .before .before .recovery-of .result) (asked .0) done) _ _ (printed .ensures .0) in (

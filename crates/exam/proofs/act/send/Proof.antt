@@ -1,0 +1,26 @@
+-- `exam::act::send` meets its contract. Assumes nothing.
+use mathlib.Core.Path.{ap, _∙_}
+use borrow.Author.Needs.{needs}
+use Rattle.model.specs.declared.SendAnswer.{SendAnswer}
+use Rattle.model.specs.Outcomes.{Report, sendReport}
+use Rattle.listing.specs.Said.{reported}
+use Rattle.exam.proofs.act.send.Statement.{statement}
+use Rattle.exam.proofs.act.send.Tie as tie
+
+send-requires : tie.Need-send-requires
+send-requires c κs = search needs
+
+of-send-requires : tie.Need-of-send-requires
+of-send-requires c κs = search needs
+
+returns : tie.Need-returns
+unfolding reported
+returns c =
+    let called = c .before .before .send .ensures in (
+      called .0,
+      ap (λ (r : Report). r .refused) (c .of-send .ensures)
+          ∙ ap (λ (a : SendAnswer). sendReport a .refused) (called .1),
+    )
+
+pub send-spec : {M : Type 1} → statement M
+send-spec = tie.close (tie.spec send-requires of-send-requires returns)

@@ -1,0 +1,26 @@
+-- `exam::act::start` meets its contract. Assumes nothing.
+use mathlib.Core.Path.{ap, _∙_}
+use borrow.Author.Needs.{needs}
+use Rattle.model.specs.declared.StartAnswer.{StartAnswer}
+use Rattle.model.specs.Outcomes.{Report, startReport}
+use Rattle.listing.specs.Said.{reported}
+use Rattle.exam.proofs.act.start.Statement.{statement}
+use Rattle.exam.proofs.act.start.Tie as tie
+
+start-requires : tie.Need-start-requires
+start-requires c κs = search needs
+
+of-start-requires : tie.Need-of-start-requires
+of-start-requires c κs = search needs
+
+returns : tie.Need-returns
+unfolding reported
+returns c =
+    let called = c .before .before .start .ensures in (
+      called .0,
+      ap (λ (r : Report). r .refused) (c .of-start .ensures)
+          ∙ ap (λ (a : StartAnswer). startReport a .refused) (called .1),
+    )
+
+pub start-spec : {M : Type 1} → statement M
+start-spec = tie.close (tie.spec start-requires of-start-requires returns)
