@@ -8,7 +8,7 @@ use mathlib.Core.Option.{Option, none, some}
 use Prim.Native.Nat.{ℕ, zero, suc, _+_, _<_, _≤_}
 use native.Mathlib.Omega.{arith}
 use lib.ListN.{length, getD, take, replicate, length-replicate, getD-replicate}
-use Rattle.laws.specs.Choice.{pick, by-eq}
+use Rattle.laws.specs.Choice.{pick, by-bool, by-eq}
 use Rattle.laws.specs.Lists.{select, lastOf, orElse, table}
 use Rattle.laws.specs.Loops.{setBelow, below-at, below-above}
 use Rattle.laws.specs.Prefixes.{select-same, select-yes, select-no}
@@ -106,15 +106,22 @@ latest-none marks owns = refl
 
 -- A search through a row: one entry more is the latest allowed one, or it changes nothing.
 module _ (marks : List Bool) (owns : List Interval) (row : List Checkpoint) (k : ℕ) (d : Checkpoint) (h : k < length row) where
-  pub latest-yes : allowedBy marks owns (getD row k d .vector) ≡ true
+  latest-yes : allowedBy marks owns (getD row k d .vector) ≡ true
       → record { found = true; state = getD row k d } ≡ latestIs (latestBy marks owns (take (k + 1) row))
   unfolding latestBy latestIs
   latest-yes e = rw (select-yes (λ c. allowedBy marks owns (c .vector)) row k d h e, lastOf-snoc)
 
-  pub latest-no : allowedBy marks owns (getD row k d .vector) ≡ false
+  latest-no : allowedBy marks owns (getD row k d .vector) ≡ false
       → latestIs (latestBy marks owns (take k row)) ≡ latestIs (latestBy marks owns (take (k + 1) row))
   unfolding latestBy
   latest-no e = rw (select-no (λ c. allowedBy marks owns (c .vector)) row k d h e)
+
+  pub latest-more : (latest more : Latest) → latest ≡ latestIs (latestBy marks owns (take k row))
+      → more ≡ pick (allowedBy marks owns (getD row k d .vector)) (record { found = true; state = getD row k d }) latest
+      → more ≡ latestIs (latestBy marks owns (take (k + 1) row))
+  latest-more latest more e m = by-bool (allowedBy marks owns (getD row k d .vector))
+      (λ yes. rw yes at m ∙ latest-yes yes)
+      (λ no. rw no at m ∙ e ∙ latest-no no)
 
 -- The same behind a whole list.
 module _ (marks : List Bool) (owns : List Interval) (l : List Checkpoint) (c : Checkpoint) where

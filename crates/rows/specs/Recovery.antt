@@ -4,7 +4,7 @@
 use mathlib.Core.Path.{_≡_, refl, ap, sym, _∙_}
 use mathlib.Core.Bool.{Bool, true, false, not, _&&_, _||_}
 use mathlib.Core.List.{List, [], _∷_, _++_, append-nil}
-use Prim.Native.Nat.{ℕ, _+_, _-_, _<_, _≤_}
+use Prim.Native.Nat.{ℕ, _+_, _-_, _<_}
 use native.Mathlib.Omega.{arith}
 use borrow.Author.Tests.{eq-eqb, eqb-true, ltb-true, ltb-false, le-leb, lt-leb, le-ltb}
 use lib.Dec.{eqb, leb, ltb}
@@ -114,19 +114,21 @@ foundIn owns l = record {
   indexes = table places (λ f. indexOf (movedTo (entry owns f) f l));
 }
 
+-- what is found with one checkpoint more, later than all before it: one that is lost changes nothing
+unfoldable pub foundWith : List Interval → CheckpointIndex → Found → Checkpoint → Found
+foundWith owns last found c = pick (leb (c .index .0) (last .0))
+    (record {
+      marks = table places (λ f. getD (found .marks) f false || below (entry (c .vector) f) (entry owns f));
+      indexes = table places (λ f. pick (below (entry (c .vector) f) (entry owns f)) (c .index .0) (getD (found .indexes) f 0));
+    })
+    found
+
 -- A search for these through a row: before its first entry,
 pub found-none : (owns : List Interval) (last : CheckpointIndex) → foundIn owns (notLater last []) ≡ record { marks = replicate 16 false; indexes = replicate 16 0 }
 unfolding foundIn notLater movedTo latestPin select lastOf isAt indexOf
 found-none owns last = let none : ℕ = 0 in rw (table-replicate 16 false, table-replicate 16 none)
 
--- one entry more that is lost,
-pub found-lost : (owns : List Interval) (last : CheckpointIndex) (row : List Checkpoint) (k : ℕ) (d : Checkpoint) → k < length row
-    → last .0 < getD row k d .index .0 → foundIn owns (notLater last (take k row)) ≡ foundIn owns (notLater last (take (k + 1) row))
-unfolding notLater
-found-lost owns last row k d h lt =
-    ap (foundIn owns) (sym (select-no (λ c. leb (c .index .0) (last .0)) row k d h (lt-leb (getD row k d .index .0) (last .0) lt)))
-
--- or one that is not lost, with what it is found for.
+-- and with one entry more. First each process's part of it, with one that is not lost,
 moved-snoc : (own : Interval) (f : ℕ) (l : List Checkpoint) (c : Checkpoint)
     → movedTo own f (l ++ (c ∷ [])) ≡ pick (below (entry (c .vector) f) own) (At (c .index)) (movedTo own f l)
 unfolding movedTo latestPin select
@@ -146,29 +148,30 @@ index-snoc : (own : Interval) (f : ℕ) (l : List Checkpoint) (c : Checkpoint)
 unfolding indexOf
 index-snoc own f l c = rw (moved-snoc own f l c) (by-bool (below (entry (c .vector) f) own) (λ e. rw e) (λ e. rw e))
 
-module _ (owns : List Interval) (last : CheckpointIndex) (row : List Checkpoint) (k : ℕ) (d : Checkpoint) (h : k < length row)
-    (stored : getD row k d .index .0 ≤ last .0) where
-  one-more : notLater last (take (k + 1) row) ≡ notLater last (take k row) ++ (getD row k d ∷ [])
-  unfolding notLater
-  one-more = select-yes (λ c. leb (c .index .0) (last .0)) row k d h (le-leb (getD row k d .index .0) (last .0) stored)
-
-  pub found-marks : (marks more : List Bool) → marks ≡ foundIn owns (notLater last (take k row)) .marks
-      → more ≡ table 16 (λ f. getD marks f false || below (entry (getD row k d .vector) f) (entry owns f)) → more ≡ foundIn owns (notLater last (take (k + 1) row)) .marks
-  unfolding foundIn
-  found-marks marks more e m = m ∙ rw (one-more, e) (table-same 16 _ _ (λ f lt.
-      rw (getD-table 16 (λ f. isAt (movedTo (entry owns f) f (notLater last (take k row)))) f false lt)
-      (mark-snoc (entry owns f) f (notLater last (take k row)) (getD row k d))))
-
-  pub found-indexes : (indexes more : List ℕ) → indexes ≡ foundIn owns (notLater last (take k row)) .indexes
-      → more ≡ table 16 (λ f. pick (below (entry (getD row k d .vector) f) (entry owns f)) (getD row k d .index .0) (getD indexes f 0))
-      → more ≡ foundIn owns (notLater last (take (k + 1) row)) .indexes
-  unfolding foundIn
-  found-indexes indexes more e m = m ∙ rw (one-more, e) (table-same 16 _ _ (λ f lt.
-      rw (getD-table 16 (λ f. indexOf (movedTo (entry owns f) f (notLater last (take k row)))) f 0 lt)
-      (index-snoc (entry owns f) f (notLater last (take k row)) (getD row k d))))
-
-pub found-both : (x : Found) (m : List Bool) (i : List ℕ) → m ≡ x .marks → i ≡ x .indexes → _≡_ {A = Found} (record { marks = m; indexes = i }) x
+found-both : (x : Found) (m : List Bool) (i : List ℕ) → m ≡ x .marks → i ≡ x .indexes → _≡_ {A = Found} (record { marks = m; indexes = i }) x
 found-both x m i e f = rw (e, f)
+
+-- then all of it, with one that is not lost,
+found-snoc : (owns : List Interval) (last : CheckpointIndex) (l : List Checkpoint) (c : Checkpoint) → leb (c .index .0) (last .0) ≡ true
+    → foundWith owns last (foundIn owns l) c ≡ foundIn owns (l ++ (c ∷ []))
+unfolding foundWith foundIn
+found-snoc owns last l c e = rw e (found-both (foundIn owns (l ++ (c ∷ []))) _ _
+    (table-same 16 _ _ (λ f lt. rw (getD-table 16 (λ f. isAt (movedTo (entry owns f) f l)) f false lt) (mark-snoc (entry owns f) f l c)))
+    (table-same 16 _ _ (λ f lt. rw (getD-table 16 (λ f. indexOf (movedTo (entry owns f) f l)) f 0 lt) (index-snoc (entry owns f) f l c))))
+
+-- with one that is,
+found-lost : (owns : List Interval) (last : CheckpointIndex) (found : Found) (c : Checkpoint) → leb (c .index .0) (last .0) ≡ false → foundWith owns last found c ≡ found
+unfolding foundWith
+found-lost owns last found c e = rw e
+
+-- and with either.
+pub found-more : (owns : List Interval) (last : CheckpointIndex) (row : List Checkpoint) (k : ℕ) (d : Checkpoint) → k < length row
+    → (found more : Found) → found ≡ foundIn owns (notLater last (take k row)) → more ≡ foundWith owns last found (getD row k d)
+    → more ≡ foundIn owns (notLater last (take (k + 1) row))
+unfolding notLater
+found-more owns last row k d h found more e m = by-bool (leb (getD row k d .index .0) (last .0))
+    (λ yes. m ∙ rw (e, select-yes (λ c. leb (c .index .0) (last .0)) row k d h yes) (found-snoc owns last _ (getD row k d) yes))
+    (λ no. m ∙ found-lost owns last found (getD row k d) no ∙ e ∙ rw (select-no (λ c. leb (c .index .0) (last .0)) row k d h no))
 
 -- The pins at what was found are the moved ones.
 pub found-pins : (owns : List Interval) (l : List Checkpoint)

@@ -2,10 +2,12 @@
 use model::Checkpoint;
 use model::Interval;
 ghost use mathlib.Core.Path.{_≡_};
+ghost use mathlib.Core.Bool.{true, false};
 ghost use mathlib.Core.List.{[], _∷_, _++_};
 ghost use Prim.Native.Nat.{_≤_};
 ghost use lib.ListN.{take};
 ghost use Rattle.laws.specs.Choice.{pick};
+ghost use Rattle.model.specs.Words.{noCheckpoint};
 ghost use Rattle.rows.specs.Line.{ownRow, failedRow, allowedBy, latestBy, latestIs};
 
 // The latest state that a search found, and whether it found one. Where it did not, the state holds zero.
@@ -58,6 +60,33 @@ pub fn is_allowed(vector: [Interval; 16], owns: [Interval; 16], marks: [bool; 16
     all
 }
 
+// What a search finds before its first checkpoint.
+pub fn none_allowed() -> Latest
+    ensures { λ r. ⌜ r ≡ record { found = false; state = noCheckpoint } ⌝ }
+{
+    let none = super::kept::no_checkpoint();
+    Latest {
+        found: false,
+        state: none,
+    }
+}
+
+// The latest one with one checkpoint more, later than all before it. A search that reads its checkpoints one at a time calls this for each.
+pub fn latest_with(latest: Latest, c: Checkpoint, owns: [Interval; 16], marks: [bool; 16]) -> Latest
+    ensures { λ r. ⌜ r ≡ pick (allowedBy marks owns (c .vector)) (record { found = true; state = c }) latest ⌝ }
+{
+    let vector = c.vector;
+    let ok = is_allowed(vector, owns, marks);
+    if ok {
+        Latest {
+            found: true,
+            state: c,
+        }
+    } else {
+        latest
+    }
+}
+
 // The latest allowed one of the first `held` checkpoints of a row, which has no more than 16.
 pub fn latest_kept(
     row: [Checkpoint; 16],
@@ -68,21 +97,10 @@ pub fn latest_kept(
     requires { ⌜ held ≤ 16 ⌝ }
     ensures { λ r. ⌜ r ≡ latestIs (latestBy marks owns (take held row)) ⌝ }
 {
-    let none = super::kept::no_checkpoint();
-    let mut latest = Latest {
-        found: false,
-        state: none,
-    };
+    let mut latest = none_allowed();
     for k in 0..held {
         let c = row[k];
-        let vector = c.vector;
-        let ok = is_allowed(vector, owns, marks);
-        if ok {
-            latest = Latest {
-                found: true,
-                state: c,
-            };
-        }
+        latest = latest_with(latest, c, owns, marks);
     }
     latest
 }

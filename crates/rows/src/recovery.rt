@@ -5,9 +5,10 @@ use model::Interval;
 use model::Pin;
 ghost use mathlib.Core.Path.{_≡_};
 ghost use mathlib.Core.Bool.{true, false, not, _&&_, _||_};
+ghost use mathlib.Core.List.{List};
 ghost use Prim.Native.Nat.{_+_, _*_, _<_, _≤_};
 ghost use lib.Dec.{eqb, leb};
-ghost use lib.ListN.{length, getD, take};
+ghost use lib.ListN.{length, getD, take, replicate};
 ghost use lib.Seq.{sets};
 ghost use Rattle.laws.specs.Choice.{pick};
 ghost use Rattle.laws.specs.Lists.{select, table};
@@ -16,7 +17,7 @@ ghost use Rattle.model.specs.Words.{entry, below, names};
 ghost use Rattle.model.specs.Steps.{listed};
 ghost use Rattle.model.specs.Outcomes.{pairs};
 ghost use Rattle.rows.specs.Kept.{keptRow};
-ghost use Rattle.rows.specs.Recovery.{isStored, vectorThen, notLater, foundIn, pinFrom, pinsThen, stays};
+ghost use Rattle.rows.specs.Recovery.{isStored, vectorThen, notLater, foundIn, foundWith, pinFrom, pinsThen, stays};
 
 // The line's member with this index is a stored checkpoint of the process with this own entry, and so the process rolls back. The live state's index
 // is above the last stored one. A process whose own entry is 0 has stored nothing.
@@ -98,6 +99,33 @@ fn index_found(
     found
 }
 
+// What is found before the first checkpoint.
+pub fn nothing_found() -> Found
+    ensures { λ r. ⌜ r ≡ record { marks = replicate 16 false; indexes = replicate 16 0 } ⌝ }
+{
+    let marks = [false; 16];
+    let indexes = [0u16; 16];
+    Found { marks, indexes }
+}
+
+// What is found with one checkpoint more, later than all before it; one later than `last` is lost, and changes nothing. A search that reads its
+// checkpoints one at a time calls this for each.
+pub fn found_with(found: Found, c: Checkpoint, last: CheckpointIndex, owns: [Interval; 16]) -> Found
+    ensures { λ r. ⌜ r ≡ foundWith owns last found c ⌝ }
+{
+    let index = c.index;
+    if index.0 <= last.0 {
+        let vector = c.vector;
+        let old_marks = found.marks;
+        let old_indexes = found.indexes;
+        let marks = mark_found(old_marks, vector, owns);
+        let indexes = index_found(old_indexes, vector, owns, index.0);
+        Found { marks, indexes }
+    } else {
+        found
+    }
+}
+
 // Of the first `held` checkpoints of the row, of those that are not later than `last`: for each f the latest whose entry f is below f's own entry.
 fn find_latest(
     row: [Checkpoint; 16],
@@ -108,23 +136,10 @@ fn find_latest(
     requires { ⌜ held ≤ 16 ⌝ }
     ensures { λ r. ⌜ r ≡ foundIn owns (notLater last (take held row)) ⌝ }
 {
-    let no_marks = [false; 16];
-    let no_indexes = [0u16; 16];
-    let mut found = Found {
-        marks: no_marks,
-        indexes: no_indexes,
-    };
+    let mut found = nothing_found();
     for k in 0..held {
         let c = row[k];
-        let index = c.index;
-        let vector = c.vector;
-        if index.0 <= last.0 {
-            let old_marks = found.marks;
-            let old_indexes = found.indexes;
-            let marks = mark_found(old_marks, vector, owns);
-            let indexes = index_found(old_indexes, vector, owns, index.0);
-            found = Found { marks, indexes };
-        }
+        found = found_with(found, c, last, owns);
     }
     found
 }
@@ -178,8 +193,27 @@ fn known_pins(vector: [Interval; 16], owns: [Interval; 16], pins: [Pin; 16]) -> 
     known_ones
 }
 
-// The pins of a process after the recovery: `vector` and `owns` are its vector and all own entries after it, `row` and `held` what it kept before it, and
-// `last` is the line's member.
+// The pins of a process after the recovery: `vector` and `owns` are its vector and all own entries after it, and `found` is what was found for a process
+// that rolls back. For another one it may be anything.
+pub fn pins_found(
+    rolled: bool,
+    vector: [Interval; 16],
+    owns: [Interval; 16],
+    found: Found,
+    pins: [Pin; 16],
+) -> [Pin; 16]
+    ensures { λ r. ⌜ ((l : List Checkpoint) → (rolled ≡ true → found ≡ foundIn owns l) → r ≡ pinsThen rolled vector owns l pins) ⌝ }
+{
+    if rolled {
+        let moved = pins_at(found);
+        known_pins(vector, owns, moved)
+    } else {
+        known_pins(vector, owns, pins)
+    }
+}
+
+// The same where the process kept the first `held` checkpoints of `row` before the recovery, and `last` is the line's member. One that does not roll back
+// needs no search.
 pub fn pins_after(
     rolled: bool,
     vector: [Interval; 16],
@@ -192,13 +226,9 @@ pub fn pins_after(
     requires { ⌜ held ≤ 16 ⌝ }
     ensures { λ r. ⌜ r ≡ pinsThen rolled vector owns (notLater last (take held row)) pins ⌝ }
 {
-    if rolled {
-        let found = find_latest(row, held, last, owns);
-        let moved = pins_at(found);
-        known_pins(vector, owns, moved)
-    } else {
-        known_pins(vector, owns, pins)
-    }
+    let upto = if rolled { held } else { 0 };
+    let found = find_latest(row, upto, last, owns);
+    pins_found(rolled, vector, owns, found, pins)
 }
 
 // Of the first `held` checkpoints of process p, those that are not later than `last` and that a pin names stay, and they are the result. The others are
@@ -242,7 +272,7 @@ pub fn part(
 }
 
 // A checkpoint with this index is not lost, and a pin names it.
-fn does_stay(index: CheckpointIndex, last: CheckpointIndex, pins: [Pin; 16]) -> bool
+pub fn does_stay(index: CheckpointIndex, last: CheckpointIndex, pins: [Pin; 16]) -> bool
     ensures { λ r. ⌜ r ≡ (leb (index .0) (last .0) && some-of (λ pin. names pin index) pins) ⌝ }
 {
     if index.0 <= last.0 {

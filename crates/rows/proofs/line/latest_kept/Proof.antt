@@ -1,15 +1,13 @@
 -- `rows::line::latest_kept` meets its contract. The loop's invariant: the answer so far is the latest allowed one of the checkpoints passed.
 -- Assumes nothing.
 use Prim.Native.Nat.{_≤_, _-_}
-use mathlib.Core.Bool.{false}
 use mathlib.Core.List.{[]}
-use mathlib.Core.Path.{_≡_, ap, sym, _∙_}
+use mathlib.Core.Path.{_≡_, _∙_}
 use native.Mathlib.Omega.{arith}
 use borrow.Author.Needs.{needs}
 use lib.ListN.{take}
-use Rattle.laws.specs.Loops.{either}
 use Rattle.model.specs.declared.Checkpoint.{Checkpoint}
-use Rattle.rows.specs.Line.{latestBy, latestIs, latest-none, latest-yes, latest-no}
+use Rattle.rows.specs.Line.{latestBy, latestIs, latest-none, latest-more}
 use Rattle.rows.proofs.line.latest_kept.Statement.{statement}
 use Rattle.rows.proofs.line.latest_kept.Tie as tie
 
@@ -19,11 +17,11 @@ Inv-loop held owns marks row latest₀ k₀ latest k = (k ≤ held) × (latest �
 abbrev μ-loop : tie.MeasureT-loop
 μ-loop held owns marks row latest₀ k₀ latest k = held - k
 
-no-checkpoint-requires : tie.Need-no-checkpoint-requires Inv-loop μ-loop
-no-checkpoint-requires c κs = search needs
+none-allowed-requires : tie.Need-none-allowed-requires Inv-loop μ-loop
+none-allowed-requires c κs = search needs
 
 loop-holds : tie.Need-loop-holds Inv-loop μ-loop
-loop-holds c = (search needs, ap (λ (x : Checkpoint). record { found = false; state = x }) (c .no-checkpoint .ensures) ∙ latest-none _ _)
+loop-holds c = (search needs, c .none-allowed .ensures ∙ latest-none _ _)
 
 mul-c : tie.Need-mul-c Inv-loop μ-loop
 mul-c c = search needs
@@ -31,8 +29,8 @@ mul-c c = search needs
 array-copy-out-c : tie.Need-array-copy-out-c Inv-loop μ-loop
 array-copy-out-c c = search needs
 
-is-allowed-requires : tie.Need-is-allowed-requires Inv-loop μ-loop
-is-allowed-requires c κs = search needs
+latest-with-requires : tie.Need-latest-with-requires Inv-loop μ-loop
+latest-with-requires c κs = search needs
 
 add-k : tie.Need-add-k Inv-loop μ-loop
 add-k c = search needs
@@ -42,15 +40,10 @@ loop-less c = search needs
 
 loop-again : tie.Need-loop-again Inv-loop μ-loop
 loop-again c =
-    let b = c .before .before .before .before .before in
+    let b = c .before .before .before in
     let a = b .before .before .args in
-    let l = b .loop in
-    let z : Checkpoint = record { index = record { 0 = 0 }; vector = [] } in (
-      search needs,
-      either (c .if1 .came)
-          (λ w. w .1 ∙ latest-yes (a .marks) (a .owns) (a .t1) (l .k) z (search needs) (sym (c .before .is-allowed .ensures) ∙ w .0 .taken))
-          (λ w. w .1 ∙ l .inv .1 ∙ latest-no (a .marks) (a .owns) (a .t1) (l .k) z (search needs) (sym (c .before .is-allowed .ensures) ∙ w .0 .left)),
-    )
+    let z : Checkpoint = record { index = record { 0 = 0 }; vector = [] } in
+    (search needs, latest-more (a .marks) (a .owns) (a .t1) (b .loop .k) z (search needs) _ _ (b .loop .inv .1) (c .latest-with .ensures))
 
 returns : tie.Need-returns Inv-loop μ-loop
 returns c =
@@ -63,11 +56,11 @@ latest-kept-spec =
     (tie.spec
     Inv-loop
     μ-loop
-    no-checkpoint-requires
+    none-allowed-requires
     loop-holds
     mul-c
     array-copy-out-c
-    is-allowed-requires
+    latest-with-requires
     add-k
     loop-less
     loop-again
