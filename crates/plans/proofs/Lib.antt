@@ -1,6 +1,7 @@
 -- Laws that belong to no one function.
 pub mod Chosen
 pub mod Deleted
+pub mod Filled
 pub mod Found
 pub mod Fulfilled
 pub mod Halving
@@ -8,6 +9,7 @@ pub mod InPlace
 pub mod Recoveries
 pub mod Recovering
 pub mod Restored
+pub mod Returning
 pub mod Search
 pub mod Shift
 pub mod Sizes

@@ -1,77 +1,47 @@
--- A recovery that goes over the rows of one process after the other: what is left of all rows when the first q are done, and that the parts at the end are
--- those of the recovery.
+-- A recovery in place goes over the rows of one process after the other: what is left of all rows when the first q are done, and that the parts at the end
+-- are those of the recovery.
 -- Assumes nothing.
 use mathlib.Core.Path.{_≡_, refl, sym, _∙_, ap}
 use mathlib.Core.Bool.{Bool, true, false, not}
-use mathlib.Core.List.{List, [], _∷_, _++_}
+use mathlib.Core.List.{List, []}
 use Prim.Native.Nat.{ℕ, _+_, _-_, _*_, _^_, _≤_, _<_}
 use native.Mathlib.Omega.{arith}
 use lib.ListN.{length, getD, take, set}
-use lib.Seq.{sets}
+use lib.Seq.{sets, set-getD}
 use Rattle.laws.specs.Choice.{pick}
 use Rattle.laws.specs.Lists.{select, gather, placed}
 use Rattle.laws.specs.Loops.{setBelow, below-none, turn-old, turn-set}
+use Rattle.laws.specs.Tests.{every}
 use Rattle.model.specs.declared.Interval.{Interval}
 use Rattle.model.specs.declared.CheckpointIndex.{CheckpointIndex}
 use Rattle.model.specs.declared.Pin.{Pin}
 use Rattle.model.specs.declared.Checkpoint.{Checkpoint}
-use Rattle.model.specs.declared.Vectors.{Vectors}
 use Rattle.model.specs.declared.Run.{Run}
-use Rattle.model.specs.Words.{noCheckpoint, entry, liveIndex}
+use Rattle.model.specs.Words.{noCheckpoint}
 use Rattle.model.specs.Steps.{listed}
 use Rattle.model.specs.Outcomes.{pairs}
 use Rattle.model.specs.WholeRuns.{Reachable}
 use Rattle.rows.specs.declared.kept.KeptRow.{KeptRow}
-use Rattle.rows.specs.declared.line.Latest.{Latest}
 use Rattle.rows.specs.Kept.{keptRow}
-use Rattle.rows.specs.Line.{ownRow, failedRow, latestBy, latestIs, latest-or}
+use Rattle.rows.specs.Line.{ownRow}
 use Rattle.rows.specs.Recovery.{notLater, pinsThen, stays}
-use Rattle.rollback.specs.declared.recover.RolledBack.{RolledBack}
-use Rattle.rollback.specs.Members.{liveOf, latestAt, memberAt, membersOf, noState, unusedRow, HeldAtMost}
+use Rattle.rollback.specs.Members.{noState, HeldAtMost}
 use Rattle.rollback.specs.RecoverCall.{twice-square}
-use Rattle.rollback.specs.After.{rolledOf, vectorAt, markAt, pinsAt, keptAt, lossesAt, lossesOf, keptBelow, heldBelow, rowsOf, pins-turn, kept-turn, held-turn, losses-count, losses-written, losses-room, losses-more}
-use Rattle.plans.specs.declared.recovery.Begun.{Begun}
-use Rattle.plans.specs.declared.recovery.Returned.{Returned}
+use Rattle.rollback.specs.After.{rolledOf, pinsAt, keptAt, lossesAt, lossesOf, keptBelow, heldBelow, rowsOf, pins-turn, kept-turn, held-turn, losses-count, losses-written, losses-room, losses-more}
 use Rattle.plans.specs.declared.recovery.Restored.{Restored}
-use Rattle.plans.specs.Recovering.{begunOf, memberBy, returnedOf}
-use Rattle.plans.specs.Restored.{restoredOf, restoredLosses, restoredBy, lossesBy}
+use Rattle.plans.specs.Restored.{statesOf, restoredOf, restoredLosses, restoredBy, lossesBy}
 use Rattle.plans.specs.Restores.{Restores}
 use Rattle.plans.proofs.Restored.{restored-from}
+use Rattle.plans.proofs.Returning.{Returning}
+use Rattle.plans.proofs.Still.{all-chosen, none-chosen}
 
--- The member of a process, by the equation of each function.
-pub member-found : (marks : List Bool) (owns : List Interval) (p : ℕ) (vector : List Interval) (held : ℕ) (row : List Checkpoint) (index : CheckpointIndex) (latest : Latest) (m : Checkpoint)
-    → index ≡ liveIndex (entry vector p)
-    → latest ≡ latestIs (latestBy marks owns (take held row ++ (record { index = index; vector = vector } ∷ [])))
-    → m ≡ pick (latest .found) (latest .state) (record { index = index; vector = vector })
-    → m ≡ memberBy marks owns p vector held row
-unfolding memberBy liveOf
-member-found marks owns p vector held row index latest m i l e = e ∙ rw (l, i) (latest-or (latestBy marks owns (take held row ++ (liveOf p vector ∷ []))) (liveOf p vector))
+-- A process that deletes nothing writes nothing.
+none-written : (q : ℕ) (list : List ℕ) (at : ℕ) → sets list at (pairs (listed q [])) ≡ list
+unfolding listed pairs
+none-written q list at = refl
 
--- The small parts, likewise.
-pub returned-done : (n : ℕ) (states : List Checkpoint) (vectors : List (List Interval)) (sent : List Bool) (owns : List Interval) (back : RolledBack) (after : List (List Interval))
-    (owns-then : List Interval) (sent-then : List Bool) (all : Vectors)
-    → back ≡ rolledOf n states owns
-    → after ≡ setBelow n (vectorAt vectors states) vectors
-    → owns-then ≡ ownRow after
-    → sent-then ≡ setBelow n (markAt sent (back .marks)) sent
-    → all ≡ record { 0 = after }
-    → _≡_ {A = Returned} (record { vectors = all; sent = sent-then; owns = owns-then; marks = back .marks; rolled = back .count }) (returnedOf n states vectors sent owns)
-unfolding returnedOf
-returned-done n states vectors sent owns back after owns-then sent-then all a b c d e = rw (e, d, c, b, a)
-
--- One process more has its member.
-pub member-next : (n : ℕ) (F : ℕ) (vectors : List (List Interval)) (kept : List (List Checkpoint)) (held : List ℕ) (start : Begun) → start ≡ begunOf n F vectors
-    → (p : ℕ) (states : List Checkpoint) → states ≡ setBelow p (memberAt n (start .owns) F vectors kept held) unusedRow
-    → (m : Checkpoint) → m ≡ memberBy (start .marks) (start .owns) p (getD vectors p []) (getD held p 0) (getD kept p [])
-    → set states p m ≡ setBelow (p + 1) (memberAt n (start .owns) F vectors kept held) unusedRow
-unfolding begunOf memberBy memberAt latestAt
-member-next n F vectors kept held start b p states inv m e =
-    turn-set (memberAt n (start .owns) F vectors kept held) unusedRow states p inv m
-    (e ∙ ap (λ (k : List Bool). memberBy k (start .owns) p (getD vectors p []) (getD held p 0) (getD kept p [])) (ap (λ (x : Begun). x .marks) b))
-
-pub members-begin : (n : ℕ) (F : ℕ) (vectors : List (List Interval)) (f : ℕ → Checkpoint) (start : Begun) → start ≡ begunOf n F vectors → start .states ≡ setBelow 0 f unusedRow
-unfolding begunOf
-members-begin n F vectors f start b = ap (λ (x : Begun). x .states) b ∙ below-none f unusedRow
+zero-more : (h : ℕ) → h + 0 ≡ h
+zero-more h = omega arith
 
 -- The rows of the first q processes are as they are after the recovery, the others as they were, and the list has the pairs of what was deleted.
 pub record Recovering (n : ℕ) (vectors : List (List Interval)) (owns : List Interval) (marks : List Bool) (states : List Checkpoint)
@@ -128,7 +98,7 @@ module _ {n : ℕ} {vectors : List (List Interval)} {owns : List Interval} {mark
     pub gone-few : gone ≤ 256
     gone-few = omega (arith, so-far .few, most, lt)
 
-    -- one process more
+    -- one process more, by the index of its member
     module _ (new : List Pin) (left : KeptRow) (list₁ : List ℕ)
         (is-new : new ≡ pinsThen (getD marks q false) (getD vectors q []) owns (notLater (getD states q noState .index) (take (getD held q 0) (getD kept q []))) (getD pins q []))
         (is-left : left ≡ keptRow (select (stays (getD states q noState .index) new) (take (getD held q 0) (getD kept q []))))
@@ -138,8 +108,8 @@ module _ {n : ℕ} {vectors : List (List Interval)} {owns : List Interval} {mark
       then : new ≡ rows q
       then = pins-turn pins₀ vectors owns marks kept₀ held₀ states q (getD kept q []) (getD held q 0) (getD pins q []) new same-row same-held same-pins is-new
 
-      pub one-done : Recovering n vectors owns marks states pins₀ kept₀ held₀ list₀ (set pins q new) (set kept q (left .row)) (set held q (left .held)) list₁ (gone + (getD held q 0 - left .held)) (q + 1)
-      one-done = record {
+      state-done : Recovering n vectors owns marks states pins₀ kept₀ held₀ list₀ (set pins q new) (set kept q (left .row)) (set held q (left .held)) list₁ (gone + (getD held q 0 - left .held)) (q + 1)
+      state-done = record {
         within = omega arith;
         few = omega (arith, so-far .few, row-most, most);
         fits = losses-more n q gone (getD held q 0 - left .held) (so-far .fits) (omega (arith, row-most));
@@ -153,31 +123,67 @@ module _ {n : ℕ} {vectors : List (List Interval)} {owns : List Interval} {mark
         in-list = losses-written kept₀ held₀ states rows q (getD kept q []) (getD held q 0) new left same-row same-held then is-left told gone (so-far .many) list₀ list list₁ (2 * gone) refl (so-far .in-list) is-list;
       }
 
--- All processes are done: these are the parts after the recovery, and its list.
-all-done : (n F : ℕ) (vectors : List (List Interval)) (pins₀ : List (List Pin)) (sent : List Bool) (kept₀ : List (List Checkpoint)) (held₀ : List ℕ) (list₀ : List ℕ)
-    (start : Begun) (states : List Checkpoint) (back : Returned) (after : List (List Interval)) (pins : List (List Pin)) (kept : List (List Checkpoint)) (held : List ℕ) (list : List ℕ) (gone : ℕ)
-    → start ≡ begunOf n F vectors
-    → states ≡ setBelow n (memberAt n (start .owns) F vectors kept₀ held₀) unusedRow
-    → back ≡ returnedOf n states vectors sent (start .owns)
-    → after ≡ back .vectors .0
-    → Recovering n after (back .owns) (back .marks) states pins₀ kept₀ held₀ list₀ pins kept held list gone n
-    → (_≡_ {A = Restored} (record { vectors = record { 0 = after }; pins = record { 0 = pins }; sent = back .sent; kept = record { 0 = kept }; held = held; rolled = back .rolled; gone = gone })
-    (restoredOf n F vectors pins₀ sent kept₀ held₀))
-    × (list ≡ sets list₀ 0 (pairs (restoredLosses n F vectors pins₀ kept₀ held₀)))
-unfolding restoredOf restoredLosses restoredBy lossesBy rowsOf lossesOf keptBelow heldBelow membersOf begunOf returnedOf
-all-done n F vectors pins₀ sent kept₀ held₀ list₀ start states back after pins kept held list gone a b c d r =
-    rw (r .in-list, r .in-held, r .in-kept, r .in-pins, r .many, d, c, b, a) (refl, refl)
+    -- the same, where the code has that index as `latest`
+    pub one-done : (new : List Pin) (left : KeptRow) (list₁ : List ℕ) (latest : CheckpointIndex)
+        → latest ≡ getD states q noState .index
+        → new ≡ pinsThen (getD marks q false) (getD vectors q []) owns (notLater latest (take (getD held q 0) (getD kept q []))) (getD pins q [])
+        → left ≡ keptRow (select (stays latest new) (take (getD held q 0) (getD kept q [])))
+        → left .held + length (select (λ c. not (stays latest new c)) (take (getD held q 0) (getD kept q []))) ≡ getD held q 0
+        → list₁ ≡ sets list (2 * gone) (pairs (listed q (select (λ c. not (stays latest new c)) (take (getD held q 0) (getD kept q [])))))
+        → length list₁ ≡ length list
+        → Recovering n vectors owns marks states pins₀ kept₀ held₀ list₀ (set pins q new) (set kept q (left .row)) (set held q (left .held)) list₁ (gone + (getD held q 0 - left .held)) (q + 1)
+    one-done new left list₁ latest is-latest is-new is-left told is-list same =
+        state-done new left list₁ (rw is-latest at is-new) (rw is-latest at is-left) (rw is-latest at told) (rw is-latest at is-list) same
 
-pub in-place-restores : (s : Run) → Reachable s → (n F : ℕ) (vectors : List (List Interval)) (pins₀ : List (List Pin)) (sent : List Bool) (kept₀ : List (List Checkpoint)) (held₀ : List ℕ) (list₀ : List ℕ)
-    (start : Begun) (p : ℕ) (states : List Checkpoint) (back : Returned) (after : List (List Interval)) (q : ℕ) (pins : List (List Pin)) (kept : List (List Checkpoint)) (held : List ℕ) (list : List ℕ) (gone : ℕ)
-    → s .count ≡ n → s .vectors .0 ≡ vectors → s .pins .0 ≡ pins₀ → s .sent ≡ sent → s .kept .0 ≡ kept₀ → s .held ≡ held₀
+    -- and where all of its checkpoints stay: the row is left alone
+    pub one-same : (new : List Pin) (latest : CheckpointIndex)
+        → latest ≡ getD states q noState .index
+        → new ≡ pinsThen (getD marks q false) (getD vectors q []) owns (notLater latest (take (getD held q 0) (getD kept q []))) (getD pins q [])
+        → every (stays latest new) (take (getD held q 0) (getD kept q [])) ≡ true
+        → getD kept q [] ≡ placed 16 noCheckpoint (take (getD held q 0) (getD kept q []))
+        → length (take (getD held q 0) (getD kept q [])) ≡ getD held q 0
+        → Recovering n vectors owns marks states pins₀ kept₀ held₀ list₀ (set pins q new) kept held list gone (q + 1)
+    one-same new latest is-latest is-new stay row-placed row-held =
+        let row = take (getD held q 0) (getD kept q []) in
+        let none-gone : gone + (getD held q 0 - getD held q 0) ≡ gone = omega arith in
+        let whole : keptRow row ≡ record { row = getD kept q []; held = getD held q 0 } =
+            ap (λ (l : List Checkpoint). record { row = l; held = length row }) (sym row-placed)
+            ∙ ap (λ (h : ℕ). record { row = getD kept q []; held = h }) row-held in
+        let none = none-chosen (stays latest new) row stay in
+        rw (set-getD kept q [], set-getD held q 0, none-gone) at
+        (one-done new (record { row = getD kept q []; held = getD held q 0 }) list latest is-latest is-new
+        (sym whole ∙ ap keptRow (sym (all-chosen (stays latest new) row stay)))
+        (ap (λ (l : List Checkpoint). getD held q 0 + length l) none ∙ zero-more (getD held q 0))
+        (sym (ap (λ (l : List Checkpoint). sets list (2 * gone) (pairs (listed q l))) none ∙ none-written q list (2 * gone)))
+        refl)
+
+-- A loop that looks at so many checkpoints for the pins looks at all of them where the process rolls back.
+pub pins-searched : (rolled : Bool) (many upto : ℕ) → upto ≡ pick rolled many 0 → rolled ≡ true → upto ≡ many
+pins-searched rolled many upto e has-rolled = e ∙ ap (λ (b : Bool). pick b many 0) has-rolled
+
+-- All processes are back and all rows are done: these are the parts after the recovery, and its list.
+all-done : (n F : ℕ) (vectors : List (List Interval)) (pins₀ : List (List Pin)) (sent₀ : List Bool) (kept₀ : List (List Checkpoint)) (held₀ : List ℕ) (list₀ : List ℕ)
+    (after : List (List Interval)) (sent rolled : List Bool) (members : List CheckpointIndex) (back : ℕ) (owns-then : List Interval)
+    (pins : List (List Pin)) (kept : List (List Checkpoint)) (held : List ℕ) (list : List ℕ) (gone : ℕ)
+    → Returning n F vectors sent₀ kept₀ held₀ after sent rolled members back n
+    → owns-then ≡ ownRow after
+    → Recovering n after owns-then rolled (statesOf n F vectors kept₀ held₀) pins₀ kept₀ held₀ list₀ pins kept held list gone n
+    → (_≡_ {A = Restored} (record { vectors = record { 0 = after }; pins = record { 0 = pins }; sent = sent; kept = record { 0 = kept }; held = held; rolled = back; gone = gone })
+    (restoredOf n F vectors pins₀ sent₀ kept₀ held₀))
+    × (list ≡ sets list₀ 0 (pairs (restoredLosses n F vectors pins₀ kept₀ held₀)))
+unfolding restoredOf restoredLosses restoredBy lossesBy rowsOf lossesOf keptBelow heldBelow rolledOf
+all-done n F vectors pins₀ sent₀ kept₀ held₀ list₀ after sent rolled members back owns-then pins kept held list gone t o r =
+    rw (r .in-list, r .in-held, r .in-kept, r .in-pins, r .many, o, t .in-rolled, t .in-sent, t .in-count, t .in-vectors) (refl, refl)
+
+pub in-place-restores : (s : Run) → Reachable s → (n F : ℕ) (vectors : List (List Interval)) (pins₀ : List (List Pin)) (sent₀ : List Bool) (kept₀ : List (List Checkpoint)) (held₀ : List ℕ) (list₀ : List ℕ)
+    (f : ℕ) (after : List (List Interval)) (sent rolled : List Bool) (members : List CheckpointIndex) (back : ℕ) (owns-then : List Interval)
+    (q : ℕ) (pins : List (List Pin)) (kept : List (List Checkpoint)) (held : List ℕ) (list : List ℕ) (gone : ℕ)
+    → s .count ≡ n → s .vectors .0 ≡ vectors → s .pins .0 ≡ pins₀ → s .sent ≡ sent₀ → s .kept .0 ≡ kept₀ → s .held ≡ held₀
     → 1 ≤ F → F < 2 ^ n → length list₀ ≡ 512
-    → start ≡ begunOf n F vectors
-    → p ≡ n → states ≡ setBelow p (memberAt n (start .owns) F vectors kept₀ held₀) unusedRow
-    → back ≡ returnedOf n states vectors sent (start .owns)
-    → after ≡ back .vectors .0
-    → q ≡ n → Recovering n after (back .owns) (back .marks) states pins₀ kept₀ held₀ list₀ pins kept held list gone q
-    → Restores s F (record { vectors = record { 0 = after }; pins = record { 0 = pins }; sent = back .sent; kept = record { 0 = kept }; held = held; rolled = back .rolled; gone = gone }) list
-in-place-restores s v n F vectors pins₀ sent kept₀ held₀ list₀ start p states back after q pins kept held list gone e1 e2 e3 e4 e5 e6 some-failed inside size a is-p b c d is-q r =
-    let done = all-done n F vectors pins₀ sent kept₀ held₀ list₀ start states back after pins kept held list gone a (rw is-p at b) c d (rw is-q at r) in
-    restored-from s v n F vectors pins₀ sent kept₀ held₀ _ list₀ list e1 e2 e3 e4 e5 e6 some-failed inside size (done .0) (done .1)
+    → f ≡ n → Returning n F vectors sent₀ kept₀ held₀ after sent rolled members back f
+    → owns-then ≡ ownRow after
+    → q ≡ n → Recovering n after owns-then rolled (statesOf n F vectors kept₀ held₀) pins₀ kept₀ held₀ list₀ pins kept held list gone q
+    → Restores s F (record { vectors = record { 0 = after }; pins = record { 0 = pins }; sent = sent; kept = record { 0 = kept }; held = held; rolled = back; gone = gone }) list
+in-place-restores s v n F vectors pins₀ sent₀ kept₀ held₀ list₀ f after sent rolled members back owns-then q pins kept held list gone e1 e2 e3 e4 e5 e6 some-failed inside size is-f ret o is-q rec =
+    let done = all-done n F vectors pins₀ sent₀ kept₀ held₀ list₀ after sent rolled members back owns-then pins kept held list gone (rw is-f at ret) o (rw is-q at rec) in
+    restored-from s v n F vectors pins₀ sent₀ kept₀ held₀ _ list₀ list e1 e2 e3 e4 e5 e6 some-failed inside size (done .0) (done .1)

@@ -52,12 +52,12 @@ module _ (own carried : List Interval) (still : NoneBelow own carried) where
       (λ f lt. sym (ap (λ (b : Bool). pick b (getD pins i Nothing) (getD pins f Nothing)) (still f lt))))
 
 -- Where every element passes, all are chosen, and none by the opposite test.
-all-chosen : {A : Type 0} (t : A → Bool) (l : List A) → every t l ≡ true → select t l ≡ l
+pub all-chosen : {A : Type 0} (t : A → Bool) (l : List A) → every t l ≡ true → select t l ≡ l
 unfolding every select
 all-chosen t [] e = refl
 all-chosen t (x ∷ l) e = rw (and-left (t x) (every t l) e, all-chosen t l (and-right (t x) (every t l) e))
 
-none-chosen : {A : Type 0} (t : A → Bool) (l : List A) → every t l ≡ true → select (λ x. not (t x)) l ≡ []
+pub none-chosen : {A : Type 0} (t : A → Bool) (l : List A) → every t l ≡ true → select (λ x. not (t x)) l ≡ []
 unfolding every select
 none-chosen t [] e = refl
 none-chosen t (x ∷ l) e = rw (and-left (t x) (every t l) e) (none-chosen t l (and-right (t x) (every t l) e))

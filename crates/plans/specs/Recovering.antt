@@ -1,33 +1,35 @@
--- The steps of a recovery that goes over the rows of one process after the other.
+-- The steps of a recovery in place that take one process after the other back to its member of the line.
 -- Assumes nothing.
-use mathlib.Core.Bool.{Bool}
+use mathlib.Core.Bool.{Bool, _&&_, not}
 use mathlib.Core.List.{List, [], _∷_, _++_}
-use Prim.Native.Nat.{ℕ}
+use Prim.Native.Nat.{ℕ, _+_}
 use lib.ListN.{take}
+use Rattle.laws.specs.Choice.{pick}
 use Rattle.laws.specs.Lists.{orElse}
-use Rattle.laws.specs.Loops.{setBelow}
 use Rattle.model.specs.declared.Interval.{Interval}
 use Rattle.model.specs.declared.Checkpoint.{Checkpoint}
-use Rattle.rows.specs.Line.{ownRow, failedRow, latestBy}
-use Rattle.rollback.specs.Members.{liveOf, unusedRow}
-use Rattle.rollback.specs.After.{rolledOf, vectorAt, markAt}
-use Rattle.plans.specs.declared.recovery.Begun.{Begun}
-use Rattle.plans.specs.declared.recovery.Returned.{Returned}
-
--- what it starts from
-unfoldable pub begunOf : ℕ → ℕ → List (List Interval) → Begun
-begunOf n F vectors = record { owns = ownRow vectors; marks = failedRow n F; states = unusedRow }
+use Rattle.model.specs.Words.{entry, below}
+use Rattle.rows.specs.declared.line.Latest.{Latest}
+use Rattle.rows.specs.Line.{allowedBy, latestBy}
+use Rattle.rows.specs.Recovery.{isStored, vectorThen}
+use Rattle.rollback.specs.Members.{liveOf}
+use Rattle.plans.specs.declared.recovery.Stepped.{Stepped}
 
 -- the line's member of process p, from its vector and from what it keeps
 unfoldable pub memberBy : List Bool → List Interval → ℕ → List Interval → ℕ → List Checkpoint → Checkpoint
 memberBy marks owns p vector held row = orElse (latestBy marks owns (take held row ++ (liveOf p vector ∷ []))) (liveOf p vector)
 
--- the small parts after it, given the members
-unfoldable pub returnedOf : ℕ → List Checkpoint → List (List Interval) → List Bool → List Interval → Returned
-returnedOf n states vectors sent owns = record {
-  vectors = record { 0 = setBelow n (vectorAt vectors states) vectors };
-  sent = setBelow n (markAt sent (rolledOf n states owns .marks)) sent;
-  owns = ownRow (setBelow n (vectorAt vectors states) vectors);
-  marks = rolledOf n states owns .marks;
-  rolled = rolledOf n states owns .count;
+-- the same from the latest allowed one of what it keeps, which counts only where the live state is not allowed
+unfoldable pub memberFrom : List Bool → List Interval → ℕ → List Interval → Latest → Checkpoint
+memberFrom marks owns p vector latest =
+    pick (allowedBy marks owns vector) (liveOf p vector) (pick (latest .found) (latest .state) (liveOf p vector))
+
+-- what process p is left with, given its member, and how many have rolled back with it
+unfoldable pub steppedOf : Checkpoint → List Interval → Bool → ℕ → ℕ → Stepped
+steppedOf member current sent p back = record {
+  vector = vectorThen (below (entry (member .vector) p) (entry current p)) p (member .vector) current;
+  sent = sent && not (isStored (member .index) (entry current p));
+  rolled = isStored (member .index) (entry current p);
+  index = member .index;
+  back = pick (isStored (member .index) (entry current p)) (back + 1) back;
 }

@@ -1,14 +1,19 @@
-// The recovery of a failed set that is not refused, in steps over the rows of one process after the other. specs/Restored has the whole as a definition,
-// proofs/Restored says that it does what the model does, proofs/Recovering that the steps, one behind the other, do it.
+// The recovery of a failed set that is not refused, in place: a caller goes over the processes twice, first to take each one back to its member of the line,
+// then to move its pins and to part what it keeps. Here are the steps of the first time; rows::recovery has those of the second. specs/Restored has the whole
+// as a definition, proofs/Restored says that it does what the model does, proofs/Returning and proofs/Recovering that the steps, one behind the other, do it.
 use model::Checkpoint;
+use model::CheckpointIndex;
 use model::Interval;
 use model::Kept;
 use model::Pins;
 use model::Vectors;
+use rows::line::Latest;
 ghost use mathlib.Core.Path.{_≡_};
 ghost use Prim.Native.Nat.{_<_, _≤_};
+ghost use Rattle.laws.specs.Choice.{pick};
 ghost use Rattle.model.specs.Words.{entry};
-ghost use Rattle.plans.specs.Recovering.{begunOf, memberBy, returnedOf};
+ghost use Rattle.rows.specs.Line.{allowedBy};
+ghost use Rattle.plans.specs.Recovering.{memberFrom, steppedOf};
 
 // What the steps leave together: the parts of a state after a recovery, how many processes rolled back, and how many checkpoints were deleted.
 pub struct Restored {
@@ -21,78 +26,85 @@ pub struct Restored {
     pub gone: usize,
 }
 
-// What a recovery in place starts from: the own entries, who has failed, and a row of unused checkpoints for the members of the line.
-pub struct Begun {
-    pub owns: [Interval; 16],
-    pub marks: [bool; 16],
-    pub states: [Checkpoint; 16],
-}
-
-pub fn begin(n: usize, failed: u16, vectors: [[Interval; 16]; 16]) -> Begun
-    requires { ⌜ n ≤ 16 ⌝ }
-    ensures { λ r. ⌜ r ≡ begunOf n failed vectors ⌝ }
+// How many kept checkpoints are looked at for the member of a process with this vector: none where its live state is allowed.
+pub fn to_search(
+    vector: [Interval; 16],
+    owns: [Interval; 16],
+    marks: [bool; 16],
+    held: usize,
+) -> usize
+    ensures { λ r. ⌜ r ≡ pick (allowedBy marks owns vector) 0 held ⌝ }
 {
-    let owns = rows::line::own_entries(vectors);
-    let marks = rows::line::failed_marks(failed, n);
-    let none = rows::kept::no_checkpoint();
-    let states = [none; 16];
-    Begun {
-        owns,
-        marks,
-        states,
-    }
+    let ok = rows::line::is_allowed(vector, owns, marks);
+    if ok { 0 } else { held }
 }
 
-// The line's member of process p, from its own rows: the latest state that the failed ones allow, the live one where there is none.
+// The line's member of process p: its live state where that is allowed, else the latest allowed one that it keeps, which `latest` is.
 pub fn member(
     vector: [Interval; 16],
     p: usize,
-    row: [Checkpoint; 16],
-    held: usize,
+    latest: Latest,
     owns: [Interval; 16],
     marks: [bool; 16],
 ) -> Checkpoint
-    requires { ⌜ (p < 16) × (1 ≤ entry vector p .0) × (held ≤ 16) ⌝ }
-    ensures { λ r. ⌜ r ≡ memberBy marks owns p vector held row ⌝ }
+    requires { ⌜ (p < 16) × (1 ≤ entry vector p .0) ⌝ }
+    ensures { λ r. ⌜ r ≡ memberFrom marks owns p vector latest ⌝ }
 {
     let own = vector[p];
     let index = rows::vector::live_index(own);
     let live = Checkpoint { index, vector };
-    let latest = rows::line::latest_allowed(row, held, live, owns, marks);
-    rows::line::member_of(latest, live)
-}
-
-// What a recovery to these members leaves of the small parts of a state, who rolls back, how many, and the own entries after it.
-pub struct Returned {
-    pub vectors: Vectors,
-    pub sent: [bool; 16],
-    pub owns: [Interval; 16],
-    pub marks: [bool; 16],
-    pub rolled: usize,
-}
-
-pub fn go_back(
-    n: usize,
-    states: [Checkpoint; 16],
-    vectors: [[Interval; 16]; 16],
-    sent: [bool; 16],
-    owns: [Interval; 16],
-) -> Returned
-    requires { ⌜ n ≤ 16 ⌝ }
-    ensures { λ r. ⌜ r ≡ returnedOf n states vectors sent owns ⌝ }
-{
-    let back = rollback::recover::roll_back(states, owns, n);
-    let marks = back.marks;
-    let rolled = back.count;
-    let after = rollback::recover::vectors_after(vectors, states, n);
-    let owns_then = rows::line::own_entries(after);
-    let sent_then = rollback::recover::sent_after(sent, marks, n);
-    let all_vectors = rows::squares::vectors_from(after);
-    Returned {
-        vectors: all_vectors,
-        sent: sent_then,
-        owns: owns_then,
-        marks,
-        rolled,
+    let ok = rows::line::is_allowed(vector, owns, marks);
+    if ok {
+        live
+    } else {
+        rows::line::member_of(latest, live)
     }
+}
+
+// What a process is left with when it goes back to its member, and that member's index; `back` counts the processes that roll back, with this one.
+pub struct Stepped {
+    pub vector: [Interval; 16],
+    pub sent: bool,
+    pub rolled: bool,
+    pub index: CheckpointIndex,
+    pub back: usize,
+}
+
+// A member's vector is taken where its own entry is below the current one, so there is room for 1 more.
+pub fn step_back(
+    member: Checkpoint,
+    current: [Interval; 16],
+    sent: bool,
+    p: usize,
+    back: usize,
+) -> Stepped
+    requires { ⌜ (p < 16) × (back ≤ 16) ⌝ }
+    ensures { λ r. ⌜ r ≡ steppedOf member current sent p back ⌝ }
+{
+    let index = member.index;
+    let stored = member.vector;
+    let own = current[p];
+    let known = stored[p];
+    let below = known.0 < own.0;
+    let vector = rows::recovery::vector_after(below, stored, current, p);
+    let rolled = rows::recovery::is_stored(index, own);
+    let mark = sent & !rolled;
+    let mut count = back;
+    if rolled {
+        count += 1;
+    }
+    Stepped {
+        vector,
+        sent: mark,
+        rolled,
+        index,
+        back: count,
+    }
+}
+
+// How many kept checkpoints are looked at for the pins of a process: none where it does not roll back, for then no pin is moved.
+pub fn to_find(rolled: bool, held: usize) -> usize
+    ensures { λ r. ⌜ r ≡ pick rolled held 0 ⌝ }
+{
+    if rolled { held } else { 0 }
 }

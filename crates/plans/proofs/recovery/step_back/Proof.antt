@@ -1,0 +1,82 @@
+-- `plans::recovery::step_back` meets its contract, by whether the process rolls back.
+-- Assumes nothing.
+use mathlib.Core.Bool.{Bool, not, _&&_}
+use mathlib.Core.List.{List}
+use mathlib.Core.Path.{_≡_, sym, ap}
+use Prim.Native.Nat.{ℕ, _+_}
+use native.Mathlib.Omega.{arith}
+use borrow.Author.Needs.{needs}
+use borrow.Author.Tests.{ltb-true}
+use Rattle.laws.specs.Choice.{pick}
+use Rattle.model.specs.declared.Interval.{Interval}
+use Rattle.model.specs.declared.Checkpoint.{Checkpoint}
+use Rattle.model.specs.Words.{entry, below}
+use Rattle.rows.specs.Recovery.{isStored, vectorThen}
+use Rattle.plans.specs.declared.recovery.Stepped.{Stepped}
+use Rattle.plans.specs.Recovering.{steppedOf}
+use Rattle.plans.proofs.recovery.step_back.Statement.{statement}
+use Rattle.plans.proofs.recovery.step_back.Tie as tie
+
+-- The parts, by the equation of each.
+step-done : (m : Checkpoint) (current : List Interval) (sent : Bool) (p back : ℕ) (vector : List Interval) (rolled : Bool) (count : ℕ)
+    → vector ≡ vectorThen (below (entry (m .vector) p) (entry current p)) p (m .vector) current
+    → rolled ≡ isStored (m .index) (entry current p)
+    → count ≡ pick rolled (back + 1) back
+    → _≡_ {A = Stepped} (record { vector = vector; sent = sent && not rolled; rolled = rolled; index = m .index; back = count }) (steppedOf m current sent p back)
+unfolding steppedOf
+step-done m current sent p back vector rolled count is-vector is-rolled is-count = rw (is-count, is-vector, is-rolled)
+
+mul-own : tie.Need-mul-own
+mul-own c = search needs
+
+array-copy-out-own : tie.Need-array-copy-out-own
+array-copy-out-own c = search needs
+
+mul-known : tie.Need-mul-known
+mul-known c = search needs
+
+array-copy-out-known : tie.Need-array-copy-out-known
+array-copy-out-known c = search needs
+
+vector-after-requires : tie.Need-vector-after-requires
+vector-after-requires c κs =
+    let a = c .before .before .before .before .before .before .args in (
+      search needs,
+      λ e. let lt = ltb-true (entry (a .member .vector) (a .p) .0) (entry (a .t2) (a .p) .0) e in omega arith,
+    )
+
+is-stored-requires : tie.Need-is-stored-requires
+is-stored-requires c κs = search needs
+
+add-count : tie.Need-add-count
+add-count c = search needs
+
+returns : tie.Need-returns
+returns c =
+    let i = c .before in
+    let v = i .before in
+    let a = v .before .before .before .before .before .before .before .args in
+    step-done (a .member) (a .t2) (a .sent) (a .p) (a .back) _ _ _ (v .vector-after .ensures) (i .is-stored .ensures)
+    (sym (ap (λ (b : Bool). pick b (a .back + 1) (a .back)) (c .if1 .taken)))
+
+returns-2 : tie.Need-returns-2
+returns-2 c =
+    let i = c .before in
+    let v = i .before in
+    let a = v .before .before .before .before .before .before .before .args in
+    step-done (a .member) (a .t2) (a .sent) (a .p) (a .back) _ _ _ (v .vector-after .ensures) (i .is-stored .ensures)
+    (sym (ap (λ (b : Bool). pick b (a .back + 1) (a .back)) (c .if1 .left)))
+
+pub step-back-spec : {M : Type 1} → statement M
+step-back-spec =
+    tie.close
+    (tie.spec
+    mul-own
+    array-copy-out-own
+    mul-known
+    array-copy-out-known
+    vector-after-requires
+    is-stored-requires
+    add-count
+    returns
+    returns-2)
