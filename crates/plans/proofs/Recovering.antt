@@ -40,8 +40,11 @@ none-written : (q : ℕ) (list : List ℕ) (at : ℕ) → sets list at (pairs (l
 unfolding listed pairs
 none-written q list at = refl
 
-zero-more : (h : ℕ) → h + 0 ≡ h
-zero-more h = omega arith
+-- A row that is what the process keeps, laid into 16 places.
+row-whole : (row l : List Checkpoint) (h : ℕ) → row ≡ placed 16 noCheckpoint l → length l ≡ h → record { row = row; held = h } ≡ keptRow l
+row-whole row l h is-row is-held =
+    ap (λ (r : List Checkpoint). record { row = r; held = h }) is-row
+    ∙ ap (λ (k : ℕ). record { row = placed 16 noCheckpoint l; held = k }) (sym is-held)
 
 -- The rows of the first q processes are as they are after the recovery, the others as they were, and the list has the pairs of what was deleted.
 pub record Recovering (n : ℕ) (vectors : List (List Interval)) (owns : List Interval) (marks : List Bool) (states : List Checkpoint)
@@ -78,10 +81,11 @@ module _ {n : ℕ} {vectors : List (List Interval)} {owns : List Interval} {mark
     abbrev rows : ℕ → List Pin
     rows = pinsAt pins₀ vectors owns marks kept₀ held₀ states
 
-    same-held : getD held q 0 ≡ getD held₀ q 0
+    -- the row of the next process is as it was
+    pub same-held : getD held q 0 ≡ getD held₀ q 0
     same-held = turn-old (λ p. length (keptAt kept₀ held₀ states rows p)) held₀ held q (so-far .in-held) 0
 
-    same-row : getD kept q [] ≡ getD kept₀ q []
+    pub same-row : getD kept q [] ≡ getD kept₀ q []
     same-row = turn-old (λ p. placed 16 noCheckpoint (keptAt kept₀ held₀ states rows p)) kept₀ kept q (so-far .in-kept) []
 
     same-pins : getD pins q [] ≡ getD pins₀ q []
@@ -145,15 +149,13 @@ module _ {n : ℕ} {vectors : List (List Interval)} {owns : List Interval} {mark
         → Recovering n vectors owns marks states pins₀ kept₀ held₀ list₀ (set pins q new) kept held list gone (q + 1)
     one-same new latest is-latest is-new stay row-placed row-held =
         let row = take (getD held q 0) (getD kept q []) in
-        let none-gone : gone + (getD held q 0 - getD held q 0) ≡ gone = omega arith in
-        let whole : keptRow row ≡ record { row = getD kept q []; held = getD held q 0 } =
-            ap (λ (l : List Checkpoint). record { row = l; held = length row }) (sym row-placed)
-            ∙ ap (λ (h : ℕ). record { row = getD kept q []; held = h }) row-held in
         let none = none-chosen (stays latest new) row stay in
+        let no-more : getD held q 0 + 0 ≡ getD held q 0 = omega arith in
+        let none-gone : gone + (getD held q 0 - getD held q 0) ≡ gone = omega arith in
         rw (set-getD kept q [], set-getD held q 0, none-gone) at
         (one-done new (record { row = getD kept q []; held = getD held q 0 }) list latest is-latest is-new
-        (sym whole ∙ ap keptRow (sym (all-chosen (stays latest new) row stay)))
-        (ap (λ (l : List Checkpoint). getD held q 0 + length l) none ∙ zero-more (getD held q 0))
+        (row-whole (getD kept q []) row (getD held q 0) row-placed row-held ∙ ap keptRow (sym (all-chosen (stays latest new) row stay)))
+        (ap (λ (l : List Checkpoint). getD held q 0 + length l) none ∙ no-more)
         (sym (ap (λ (l : List Checkpoint). sets list (2 * gone) (pairs (listed q l))) none ∙ none-written q list (2 * gone)))
         refl)
 

@@ -162,7 +162,7 @@ module _ {n F : ℕ} {vectors₀ : List (List Interval)} {sent₀ : List Bool} {
     }
 
   -- the indexes of the members, when all are back
-  pub member-index : f ≡ n → n ≤ 16 → (q : ℕ) → q < n → getD members q (record { 0 = 0 }) ≡ getD states q noState .index
+  pub member-index : f ≡ n → n ≤ 16 → (q : ℕ) → q < n → getD members q (record { 0 = 0 }) ≡ getD (statesOf n F vectors₀ kept held) q noState .index
   member-index all most q lt =
       let none : CheckpointIndex = record { 0 = 0 } in
       let size : length (replicate 16 none) ≡ 16 = length-replicate 16 none in

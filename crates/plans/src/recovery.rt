@@ -1,6 +1,6 @@
-// The recovery of a failed set that is not refused, in place: a caller goes over the processes twice, first to take each one back to its member of the line,
-// then to move its pins and to part what it keeps. Here are the steps of the first time; rows::recovery has those of the second. specs/Restored has the whole
-// as a definition, proofs/Restored says that it does what the model does, proofs/Returning and proofs/Recovering that the steps, one behind the other, do it.
+// The recovery of a failed set that is not refused, in place: a caller goes over the processes twice. First each one goes back to its member of the line, then
+// its pins are moved and what it keeps is parted, by rows::recovery, unless all of it stays. specs/Restored has the whole as a definition, proofs/Restored says
+// that it does what the model does, proofs/Returning and proofs/Recovering that the steps, one behind the other, do it.
 use model::Checkpoint;
 use model::CheckpointIndex;
 use model::Interval;
