@@ -213,9 +213,10 @@ recovery-asked n (some (Recover G)) F h some-failed = by-bool (isRecovery n G)
 
 -- The state and the words after a recovery.
 module _ (s : Run) (e : Option Event) (F : ℕ) (asked : e ≡ some (Recover F)) {r : Restored} {deleted : List ℕ} (done : Restores s F r deleted) where
-  pub cold-state : {vectors : List (List Interval)} {pins : List (List Pin)} {kept : List (List Checkpoint)} {unused : Message} → vectors ≡ r .vectors .0 → pins ≡ r .pins .0 → kept ≡ r .kept .0 → unused ≡ noMessage
-      → perform s e .run ≡ stateOf (s .count) vectors pins kept (r .sent) (r .held) (replicate 64 unused) 0 (s .last)
-  cold-state ev eq ek eu = rw (ev, eq, ek, eu, asked) (done .state)
+  pub cold-state : {vectors : List (List Interval)} {pins : List (List Pin)} {kept : List (List Checkpoint)} {messages : List Message} → vectors ≡ r .vectors .0 → pins ≡ r .pins .0 → kept ≡ r .kept .0
+      → messages ≡ replicate 64 noMessage
+      → perform s e .run ≡ stateOf (s .count) vectors pins kept (r .sent) (r .held) messages 0 (s .last)
+  cold-state ev eq ek em = rw (ev, eq, ek, em, asked) (done .state)
 
   pub cold-says : Says (record { refused = 0; value = Number (r .rolled); deletions = r .gone }) deleted (perform s e .reply)
   cold-says = rw asked (done .says)

@@ -8,7 +8,6 @@ use Prim.Native.Nat.{ℕ, _+_, _-_, _*_, _^_, _≤_, _<_}
 use native.Mathlib.Omega.{arith}
 use lib.ListN.{length, getD, take, set}
 use lib.Seq.{sets, set-getD}
-use Rattle.laws.specs.Choice.{pick}
 use Rattle.laws.specs.Lists.{select, gather, placed}
 use Rattle.laws.specs.Loops.{setBelow, below-none, turn-old, turn-set}
 use Rattle.laws.specs.Tests.{every}
@@ -158,10 +157,6 @@ module _ {n : ℕ} {vectors : List (List Interval)} {owns : List Interval} {mark
         (ap (λ (l : List Checkpoint). getD held q 0 + length l) none ∙ no-more)
         (sym (ap (λ (l : List Checkpoint). sets list (2 * gone) (pairs (listed q l))) none ∙ none-written q list (2 * gone)))
         refl)
-
--- A loop that looks at so many checkpoints for the pins looks at all of them where the process rolls back.
-pub pins-searched : (rolled : Bool) (many upto : ℕ) → upto ≡ pick rolled many 0 → rolled ≡ true → upto ≡ many
-pins-searched rolled many upto e has-rolled = e ∙ ap (λ (b : Bool). pick b many 0) has-rolled
 
 -- All processes are back and all rows are done: these are the parts after the recovery, and its list.
 all-done : (n F : ℕ) (vectors : List (List Interval)) (pins₀ : List (List Pin)) (sent₀ : List Bool) (kept₀ : List (List Checkpoint)) (held₀ : List ℕ) (list₀ : List ℕ)

@@ -1,3 +1,4 @@
 pub mod Lines
 pub mod Onward
+pub mod Searches
 pub mod Turns

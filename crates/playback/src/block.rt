@@ -1,6 +1,7 @@
 // A block of a trace: its whole records replayed one after the other, their lines printed into a lent buffer.
 use listing::Summary;
 use listing::Value;
+use model::CheckpointIndex;
 use model::Run;
 use plans::InTransit;
 ghost use mathlib.Core.Path.{_≡_};
@@ -18,7 +19,8 @@ pub struct Progress {
 }
 
 // It stops where no whole record is left, where the longest line might not fit, and behind record 1,000,000,000. The state is kept in place: a record
-// stores single elements, rows and messages, and only a recovery goes over all of it.
+// stores single elements, rows and messages. A recovery goes over all processes, and looks at the checkpoints that they keep one at a time: a row is
+// copied only where something in it is deleted. So these loops stand here, where the table is, and what they do in a turn stands in rows and plans.
 fn replay_beside(s: Run, done: u64, block: &[u8], out: &mut [u8], deleted: &mut [u16]) -> Progress
     requires { ⌜ Reachable s × (done ≤ 1000000000) × (length (now deleted) ≡ 512) ⌝ }
     ensures { λ r. ⌜ Replays s done (now (block .entry)) (now (out .entry)) (r .run) (r .done) (r .used) (now (out .exit)) (r .written) ⌝ }
@@ -35,7 +37,6 @@ fn replay_beside(s: Run, done: u64, block: &[u8], out: &mut [u8], deleted: &mut 
     let mut underway = s.underway;
     let mut last = s.last;
     let unused = steps::messages::no_message();
-    let cleared = [unused; 64];
     let mut count = done;
     let mut used = 0;
     let mut written = 0;
@@ -125,57 +126,95 @@ fn replay_beside(s: Run, done: u64, block: &[u8], out: &mut [u8], deleted: &mut 
                 used += 4;
             }
         } else {
-            let start = plans::recovery::begin(n, failed, vectors);
-            let owns = start.owns;
-            let marks = start.marks;
-            let mut states = start.states;
+            // each process goes back to its member of the line
+            let owns = rows::line::own_entries(vectors);
+            let marks = rows::line::failed_marks(failed, n);
+            let mut rolled = [false; 16];
+            let mut members = [CheckpointIndex(0); 16];
+            let mut back = 0;
             let mut f = 0;
             while f < n {
-                let now_known = vectors[f];
-                let row_now = kept[f];
+                let current = vectors[f];
                 let held_now = held[f];
-                let state = plans::recovery::member(now_known, f, row_now, held_now, owns, marks);
-                states[f] = state;
+                let searched = plans::recovery::to_search(current, owns, marks, held_now);
+                let mut latest = rows::line::none_allowed();
+                let mut a = 0;
+                while a < searched {
+                    let c = kept[f][a];
+                    latest = rows::line::latest_with(latest, c, owns, marks);
+                    a += 1;
+                }
+                let state = plans::recovery::member(current, f, latest, owns, marks);
+                let mark = sent[f];
+                let step = plans::recovery::step_back(state, current, mark, f, back);
+                let row = step.vector;
+                vectors[f] = row;
+                sent[f] = step.sent;
+                rolled[f] = step.rolled;
+                let index = step.index;
+                members[f] = index;
+                back = step.back;
                 f += 1;
             }
-            let back = plans::recovery::go_back(n, states, vectors, sent, owns);
-            vectors = rows::squares::vector_rows(back.vectors);
-            sent = back.sent;
-            let owns_then = back.owns;
-            let rolled = back.marks;
+            // then its pins are moved; a row of which all stays is left alone
+            let owns_then = rows::line::own_entries(vectors);
             let mut gone = 0;
             let mut q = 0;
             while q < n {
                 let has_rolled = rolled[q];
                 let known = vectors[q];
-                let stored = kept[q];
                 let many = held[q];
                 let pinned = pins[q];
-                let state = states[q];
-                let latest = state.index;
-                let moved = rows::recovery::pins_after(
-                    has_rolled,
-                    known,
-                    owns_then,
-                    stored,
-                    many,
-                    latest,
-                    pinned,
-                );
-                let left = rows::recovery::part(deleted, 2 * gone, q, stored, many, moved, latest);
-                let left_row = left.row;
-                let left_held = left.held;
+                let last_kept = members[q];
+                let to_find = plans::recovery::to_find(has_rolled, many);
+                let mut found = rows::recovery::nothing_found();
+                let mut b = 0;
+                while b < to_find {
+                    let c = kept[q][b];
+                    found = rows::recovery::found_with(found, c, last_kept, owns_then);
+                    b += 1;
+                }
+                let moved = rows::recovery::pins_found(has_rolled, known, owns_then, found, pinned);
+                let mut all = true;
+                let mut j = 0;
+                while j < many {
+                    let c = kept[q][j];
+                    let stays = rows::recovery::does_stay(c.index, last_kept, moved);
+                    all = all & stays;
+                    j += 1;
+                }
                 pins[q] = moved;
-                kept[q] = left_row;
-                held[q] = left_held;
-                gone += many - left_held;
-                q += 1;
+                if all {
+                    q += 1;
+                } else {
+                    let stored = kept[q];
+                    let left = rows::recovery::part(
+                        deleted,
+                        2 * gone,
+                        q,
+                        stored,
+                        many,
+                        moved,
+                        last_kept,
+                    );
+                    let left_row = left.row;
+                    let left_held = left.held;
+                    kept[q] = left_row;
+                    held[q] = left_held;
+                    gone += many - left_held;
+                    q += 1;
+                }
             }
-            messages = cleared;
+            // and no message is under way
+            let mut z = 0;
+            while z < underway {
+                messages[z] = unused;
+                z += 1;
+            }
             underway = 0;
             let said = Summary {
                 refused: 0,
-                value: Value::Number(back.rolled as u64),
+                value: Value::Number(back as u64),
                 deletions: gone,
             };
             written = lines::line::print(said, deleted, count + 1, out, written);
@@ -205,6 +244,7 @@ fn replay_beside(s: Run, done: u64, block: &[u8], out: &mut [u8], deleted: &mut 
     }
 }
 
+// The same with a deletion list of its own.
 pub fn replay(s: Run, done: u64, block: &[u8], out: &mut [u8]) -> Progress
     requires { ⌜ Reachable s × (done ≤ 1000000000) ⌝ }
     ensures { λ r. ⌜ Replays s done (now (block .entry)) (now (out .entry)) (r .run) (r .done) (r .used) (now (out .exit)) (r .written) ⌝ }
