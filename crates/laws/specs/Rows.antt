@@ -157,11 +157,6 @@ unfolding every
 every-map t f [] = refl
 every-map t f (x ∷ l) = rw (every-map t f l)
 
-pub some-map : {A B : Type 0} (t : B → Bool) (f : A → B) (l : List A) → some-of t (map f l) ≡ some-of (λ x. t (f x)) l
-unfolding some-of
-some-map t f [] = refl
-some-map t f (x ∷ l) = rw (some-map t f l)
-
 -- Two tests that agree everywhere agree on a list.
 pub every-same : {A : Type 0} (t u : A → Bool) (l : List A) → ((x : A) → t x ≡ u x) → every t l ≡ every u l
 unfolding every

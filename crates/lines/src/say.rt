@@ -14,7 +14,7 @@ ghost use Rattle.model.specs.Refusals.{number};
 ghost use Rattle.model.specs.Outcomes.{refusing, startReport, checkpointReport, sendReport, deliverReport, loseReport, lineReport, recoverReport};
 ghost use Rattle.listing.specs.Said.{reported};
 
-pub fn number_of(r: Refusal) -> u8
+fn number_of(r: Refusal) -> u8
     ensures { λ n. ⌜ n ≡ number r ⌝ }
 {
     match r {
@@ -35,7 +35,7 @@ pub fn number_of(r: Refusal) -> u8
     }
 }
 
-pub fn refused(r: Refusal) -> Summary
+pub(crate) fn refused(r: Refusal) -> Summary
     ensures { λ x. ⌜ reported x ≡ refusing r ⌝ }
 {
     Summary {

@@ -37,7 +37,7 @@ use Rattle.plans.specs.declared.Moved.{Moved}
 use Rattle.plans.specs.Planned.{sought, placeOf, receivedBy, isRecovery, setOf, unchanged, checkpointPlan, sendPlan, withoutIt, receiptPlan, deliverPlan, losePlan, recoverPlan, eventPlan, planOf}
 use Rattle.plans.specs.Carried.{shifted, tableAfter, carriedOut}
 use Rattle.plans.specs.Moved.{movedRows}
-use Rattle.plans.specs.declared.recovery.Restored.{Restored}
+use Rattle.plans.specs.Restored.{Restored}
 use Rattle.plans.specs.Restores.{Restores}
 use Rattle.listing.specs.Said.{Says}
 use Rattle.listing.specs.declared.Value.the-variants.{Number}

@@ -27,8 +27,7 @@ use Rattle.rows.specs.Recovery.{notLater, pinsThen, stays}
 use Rattle.rollback.specs.Members.{noState, HeldAtMost}
 use Rattle.rollback.specs.RecoverCall.{twice-square}
 use Rattle.rollback.specs.After.{rolledOf, pinsAt, keptAt, lossesAt, lossesOf, keptBelow, heldBelow, rowsOf, pins-turn, kept-turn, held-turn, losses-count, losses-written, losses-room, losses-more}
-use Rattle.plans.specs.declared.recovery.Restored.{Restored}
-use Rattle.plans.specs.Restored.{statesOf, restoredOf, restoredLosses, restoredBy, lossesBy}
+use Rattle.plans.specs.Restored.{Restored, statesOf, restoredOf, restoredLosses, restoredBy, lossesBy}
 use Rattle.plans.specs.Restores.{Restores}
 use Rattle.plans.proofs.Restored.{restored-from}
 use Rattle.plans.proofs.Returning.{Returning}

@@ -41,8 +41,7 @@ use Rattle.rollback.specs.Members.{membersOf, membersIn, members-in-state}
 use Rattle.rollback.specs.After.{rolledOf, rolledIn, vectorAt, markAt, pinsAt, rowsOf, lossesOf, lossesAfter, lossesIn, vectorsOf, pinsIn, runAfter}
 use Rattle.rollback.specs.RecoverCall.{twice-square}
 use Rattle.rollback.specs.Recovered.{rolled-in-state, losses-in-state, run-in-state}
-use Rattle.plans.specs.declared.recovery.Restored.{Restored}
-use Rattle.plans.specs.Restored.{statesOf, restoredBy, lossesBy, restoredOf, restoredLosses}
+use Rattle.plans.specs.Restored.{Restored, statesOf, restoredBy, lossesBy, restoredOf, restoredLosses}
 use Rattle.plans.specs.Restores.{restored, Restores}
 use Rattle.listing.specs.Said.{reported}
 use Rattle.plans.proofs.Deleted.{deleted-text}

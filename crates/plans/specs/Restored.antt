@@ -7,13 +7,25 @@ use Rattle.laws.specs.Loops.{setBelow}
 use Rattle.model.specs.declared.Interval.{Interval}
 use Rattle.model.specs.declared.Pin.{Pin}
 use Rattle.model.specs.declared.Checkpoint.{Checkpoint}
+use Rattle.model.specs.declared.Kept.{Kept}
+use Rattle.model.specs.declared.Pins.{Pins}
+use Rattle.model.specs.declared.Vectors.{Vectors}
 use Rattle.model.specs.Steps.{Deletion}
 use Rattle.rows.specs.Line.{ownRow}
 use Rattle.rollback.specs.declared.recover.RolledBack.{RolledBack}
 use Rattle.rollback.specs.declared.recover.RowsAfter.{RowsAfter}
 use Rattle.rollback.specs.Members.{membersOf}
 use Rattle.rollback.specs.After.{rolledOf, vectorAt, markAt, pinsAt, rowsOf, lossesOf}
-use Rattle.plans.specs.declared.recovery.Restored.{Restored}
+
+-- What the steps leave together: the parts of a state after a recovery, how many processes rolled back, and how many checkpoints were deleted.
+pub record Restored : Type 0 where
+  pub vectors : Vectors
+  pub pins : Pins
+  pub sent : List Bool
+  pub kept : Kept
+  pub held : List ℕ
+  pub rolled : ℕ
+  pub gone : ℕ
 
 -- the members of the line
 abbrev pub statesOf : ℕ → ℕ → List (List Interval) → List (List Checkpoint) → List ℕ → List Checkpoint

@@ -10,7 +10,7 @@ use Rattle.model.specs.declared.Event.the-variants.{Recover}
 use Rattle.model.specs.Words.{mostUnderWay, noMessage}
 use Rattle.model.specs.Listing.{perform}
 use Rattle.listing.specs.declared.Value.the-variants.{Number}
-use Rattle.plans.specs.declared.recovery.Restored.{Restored}
+use Rattle.plans.specs.Restored.{Restored}
 use Rattle.listing.specs.Said.{Says}
 
 -- The state after the recovery: nothing is in transit.

@@ -1,12 +1,9 @@
-// The recovery of a failed set that is not refused, in place: a caller goes over the processes twice. First each one goes back to its member of the line, then
-// its pins are moved and what it keeps is parted, by rows::recovery, unless all of it stays. specs/Restored has the whole as a definition, proofs/Restored says
-// that it does what the model does, proofs/Returning and proofs/Recovering that the steps, one behind the other, do it.
+// The recovery of a failed set that is not refused, in place: a caller goes over the processes twice. First each one goes back to its member of the
+// line, then its pins are moved and what it keeps is parted, by rows::recovery, unless all of it stays. specs/Restored has the whole as a definition,
+// proofs/Restored says that it does what the model does, proofs/Returning and proofs/Recovering that the steps, one behind the other, do it.
 use model::Checkpoint;
 use model::CheckpointIndex;
 use model::Interval;
-use model::Kept;
-use model::Pins;
-use model::Vectors;
 use rows::line::Latest;
 ghost use mathlib.Core.Path.{_≡_};
 ghost use Prim.Native.Nat.{_<_, _≤_};
@@ -14,17 +11,6 @@ ghost use Rattle.laws.specs.Choice.{pick};
 ghost use Rattle.model.specs.Words.{entry};
 ghost use Rattle.rows.specs.Line.{allowedBy};
 ghost use Rattle.plans.specs.Recovering.{memberFrom, steppedOf};
-
-// What the steps leave together: the parts of a state after a recovery, how many processes rolled back, and how many checkpoints were deleted.
-pub struct Restored {
-    pub vectors: Vectors,
-    pub pins: Pins,
-    pub sent: [bool; 16],
-    pub kept: Kept,
-    pub held: [usize; 16],
-    pub rolled: usize,
-    pub gone: usize,
-}
 
 // How many kept checkpoints are looked at for the member of a process with this vector: none where its live state is allowed.
 pub fn to_search(

@@ -51,7 +51,7 @@ fn live_of(vector: [Interval; 16], p: usize) -> Checkpoint
 }
 
 // The members of n processes, from the rows of all of them.
-pub fn find_members(
+fn find_members(
     vectors: [[Interval; 16]; 16],
     kept: [[Checkpoint; 16]; 16],
     held: [usize; 16],
@@ -81,7 +81,7 @@ pub fn find_members(
 }
 
 // The same from a whole state.
-pub fn members_of(s: Run, failed: u16) -> Members
+pub(crate) fn members_of(s: Run, failed: u16) -> Members
     requires { ⌜ sound s ≡ true ⌝ }
     ensures { λ r. ⌜ r ≡ membersIn s failed ⌝ }
 {
@@ -94,7 +94,7 @@ pub fn members_of(s: Run, failed: u16) -> Members
 }
 
 // The indexes of the first n states go to the front of the lent list.
-pub fn write_line(line: &mut [u16], states: [Checkpoint; 16], n: usize)
+pub(crate) fn write_line(line: &mut [u16], states: [Checkpoint; 16], n: usize)
     requires { ⌜ (n ≤ 16) × (n ≤ length (now line)) ⌝ }
     ensures { λ r. ⌜ now (line .exit) ≡ sets (now (line .entry)) 0 (table n (λ p. getD states p noState .index .0)) ⌝ }
 {

@@ -41,7 +41,7 @@ pub struct RowsAfter {
 }
 
 // A process whose member is stored rolls back. There are places for 16 processes.
-pub fn roll_back(states: [Checkpoint; 16], owns: [Interval; 16], n: usize) -> RolledBack
+fn roll_back(states: [Checkpoint; 16], owns: [Interval; 16], n: usize) -> RolledBack
     requires { ⌜ n ≤ 16 ⌝ }
     ensures { λ r. ⌜ r ≡ rolledOf n states owns ⌝ }
 {
@@ -62,7 +62,7 @@ pub fn roll_back(states: [Checkpoint; 16], owns: [Interval; 16], n: usize) -> Ro
 
 // The vectors after the recovery. A member's own entry is its index, so it is below the current one where the member is stored, and then there is room
 // for 1 more.
-pub fn vectors_after(
+fn vectors_after(
     vectors: [[Interval; 16]; 16],
     states: [Checkpoint; 16],
     n: usize,
@@ -85,7 +85,7 @@ pub fn vectors_after(
 }
 
 // A rolled-back process loses its sent mark.
-pub fn sent_after(sent: [bool; 16], marks: [bool; 16], n: usize) -> [bool; 16]
+fn sent_after(sent: [bool; 16], marks: [bool; 16], n: usize) -> [bool; 16]
     requires { ⌜ n ≤ 16 ⌝ }
     ensures { λ r. ⌜ r ≡ setBelow n (markAt sent marks) sent ⌝ }
 {
@@ -101,7 +101,7 @@ pub fn sent_after(sent: [bool; 16], marks: [bool; 16], n: usize) -> [bool; 16]
 // The pins after the recovery and what the processes keep; `vectors` and `owns` are the vectors and the own entries after it, `pins`, `kept` and `held`
 // are as they were before it. The pairs of the deleted checkpoints of all processes go to the front of the lent list, ascending. Each process keeps at
 // most n, so 2 × n × n entries do. Each row is read where it is then written: a table that is not read again costs no copy.
-pub fn rows_after(
+fn rows_after(
     deleted: &mut [u16],
     pins: [[Pin; 16]; 16],
     vectors: [[Interval; 16]; 16],

@@ -81,8 +81,7 @@ pub fn settle(row: [Checkpoint; 16], held: usize, pins: [Pin; 16], c: Checkpoint
 }
 
 // Of the first `held` checkpoints of process p, those that no pin names are deleted: each one's pair p, index goes into the lent list, from place `at`
-// on. The result says how many there are. The
-// lent list has room for two numbers for each place of every row.
+// on. The result says how many there are. The lent list has room for two numbers for each checkpoint of the row.
 pub fn write_deletions(
     deleted: &mut [u16],
     at: usize,

@@ -88,7 +88,7 @@ pub fn latest_with(latest: Latest, c: Checkpoint, owns: [Interval; 16], marks: [
 }
 
 // The latest allowed one of the first `held` checkpoints of a row, which has no more than 16.
-pub fn latest_kept(
+fn latest_kept(
     row: [Checkpoint; 16],
     held: usize,
     owns: [Interval; 16],

@@ -9,7 +9,8 @@ use lib.Dec.{eqb}
 use lib.ListN.{length, getD}
 use borrow.Author.Tests.{eqb-true, eq-eqb}
 use Rattle.laws.specs.Elements.{same-test}
-use Rattle.laws.specs.Rows.{every-map, some-map, every-same, some-at, some-where}
+use Rattle.laws.specs.Rows.{every-map, every-same, some-at, some-where}
+use Rattle.laws.specs.Select.{some-map}
 use Rattle.laws.specs.Tests.{every, some-of}
 use Rattle.laws.specs.Truth.{never-both}
 use Rattle.model.specs.declared.CheckpointIndex.{CheckpointIndex}

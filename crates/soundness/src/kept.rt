@@ -1,3 +1,4 @@
+// The pins and the kept checkpoints of one process, each row looked at once.
 use crate::pins;
 use crate::vector;
 use model::Checkpoint;

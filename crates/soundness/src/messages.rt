@@ -1,3 +1,4 @@
+// The messages under way, and the unused places behind them.
 use crate::vector;
 use model::Interval;
 use model::Message;

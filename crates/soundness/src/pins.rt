@@ -1,3 +1,4 @@
+// The pins of one process: those that name nothing, and the checkpoints that the others name.
 use model::CheckpointIndex;
 use model::Pin;
 ghost use mathlib.Core.Path.{_≡_};

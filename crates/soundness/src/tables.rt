@@ -1,3 +1,4 @@
+// The tables of a state, row by row: the vectors, the pins and kept checkpoints, and what stands at the count and above.
 use crate::kept;
 use crate::pins;
 use crate::vector;

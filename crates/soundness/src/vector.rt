@@ -1,3 +1,4 @@
+// One vector against the own entries of all processes.
 use model::Interval;
 ghost use mathlib.Core.Path.{_≡_};
 ghost use mathlib.Core.Bool.{true, _&&_};

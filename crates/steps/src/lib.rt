@@ -1,5 +1,6 @@
-// Each call that touches one process or the messages, on a sound state, whatever its outcome; `rollback` has the two that go over all processes. Soundness is not judged here: the exported calls judge it first and then call these, and a replay
-// calls these on the states that it reached itself, all of which are sound.
+// Each call that touches one process or the messages, on a sound state, whatever its outcome; `rollback` has the two that go over all processes.
+// Soundness is not judged here: the exported calls judge it first and then call these. The replay shares the functions on rows with them, on states
+// that it reached itself, all of which are sound.
 
 // parts.rt: the rows of one process, put back into a state
 pub mod parts;

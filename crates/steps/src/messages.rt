@@ -39,7 +39,7 @@ pub fn no_message() -> Message
 
 // The message with this number among the first `underway` ones. The table has no more than 64. Numbers ascend, so there is at most one; the loop has no
 // exit on the way, for a message of any number.
-pub fn find(messages: [Message; 64], underway: usize, number: u32) -> Found
+pub(crate) fn find(messages: [Message; 64], underway: usize, number: u32) -> Found
     requires { ⌜ underway ≤ 64 ⌝ }
     ensures { λ r. ⌜ r ≡ foundIs (foundIn (take underway messages) number) ⌝ }
 {
@@ -61,7 +61,7 @@ pub fn find(messages: [Message; 64], underway: usize, number: u32) -> Found
 }
 
 // The first `underway` messages without the one with this number. The table has no more than 64.
-pub fn remove(messages: [Message; 64], underway: usize, number: u32) -> UnderWay
+pub(crate) fn remove(messages: [Message; 64], underway: usize, number: u32) -> UnderWay
     requires { ⌜ underway ≤ 64 ⌝ }
     ensures { λ r. ⌜ r ≡ laid (select (λ x. not (eqb (x .number) number)) (take underway messages)) ⌝ }
 {
@@ -82,7 +82,7 @@ pub fn remove(messages: [Message; 64], underway: usize, number: u32) -> UnderWay
 }
 
 // The table with x behind the first `underway` messages. The caller has refused a send with 64 under way.
-pub fn add(messages: [Message; 64], underway: usize, x: Message) -> UnderWay
+pub(crate) fn add(messages: [Message; 64], underway: usize, x: Message) -> UnderWay
     requires { ⌜ underway < 64 ⌝ }
     ensures { λ r. ⌜ r ≡ withAdded messages underway x ⌝ }
 {
@@ -95,7 +95,7 @@ pub fn add(messages: [Message; 64], underway: usize, x: Message) -> UnderWay
 }
 
 // The state with these messages under way and this last used number.
-pub fn with_messages(s: Run, all: UnderWay, last: u32) -> Run
+pub(crate) fn with_messages(s: Run, all: UnderWay, last: u32) -> Run
     ensures { λ r. ⌜ r ≡ withTable s all last ⌝ }
 {
     let messages = all.messages;

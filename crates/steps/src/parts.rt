@@ -8,7 +8,7 @@ ghost use Prim.Native.Nat.{_<_};
 ghost use Rattle.steps.specs.Parts.{withRows};
 
 // The state with these rows for process i. There are places for 16 processes.
-pub fn put(
+pub(crate) fn put(
     s: Run,
     i: usize,
     vector: [Interval; 16],
