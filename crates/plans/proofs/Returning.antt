@@ -26,13 +26,14 @@ use Rattle.plans.specs.Recovering.{memberBy, memberFrom, steppedOf}
 use Rattle.plans.specs.Restored.{statesOf}
 
 -- The member from what was found is the member: where the live state is allowed it is the latest, else what is kept is searched.
-pub member-from : (marks : List Bool) (owns : List Interval) (p : ℕ) (vector : List Interval) (held : ℕ) (row : List Checkpoint) (latest : Latest)
-    → (allowedBy marks owns vector ≡ false → latest ≡ latestIs (latestBy marks owns (take held row)))
-    → memberFrom marks owns p vector latest ≡ memberBy marks owns p vector held row
+pub member-from : (marks : List Bool) (owns : List Interval) (p : ℕ) (vector : List Interval) (held : ℕ) (row : List Checkpoint) (latest : Latest) (allowed : Bool)
+    → allowed ≡ allowedBy marks owns vector
+    → (allowed ≡ false → latest ≡ latestIs (latestBy marks owns (take held row)))
+    → memberFrom allowed p vector latest ≡ memberBy marks owns p vector held row
 unfolding memberFrom memberBy liveOf
-member-from marks owns p vector held row latest found = by-bool (allowedBy marks owns vector)
-    (λ e. rw e (with-live _ (latest-is-last marks owns (take held row) (liveOf p vector) e)))
-    (λ e. rw e (with-live latest (found e ∙ latest-not-last marks owns (take held row) (liveOf p vector) e)))
+member-from marks owns p vector held row latest allowed same found = by-bool allowed
+    (λ e. rw e (with-live _ (latest-is-last marks owns (take held row) (liveOf p vector) (sym same ∙ e))))
+    (λ e. rw e (with-live latest (found e ∙ latest-not-last marks owns (take held row) (liveOf p vector) (sym same ∙ e))))
   where
     with-live : (l : Latest) → l ≡ latestIs (latestBy marks owns (take held row ++ (liveOf p vector ∷ [])))
         → pick (l .found) (l .state) (liveOf p vector) ≡ memberBy marks owns p vector held row

@@ -10,7 +10,7 @@ use Rattle.model.specs.declared.Interval.{Interval}
 use Rattle.model.specs.declared.Checkpoint.{Checkpoint}
 use Rattle.model.specs.Words.{entry, below}
 use Rattle.rows.specs.declared.line.Latest.{Latest}
-use Rattle.rows.specs.Line.{allowedBy, latestBy}
+use Rattle.rows.specs.Line.{latestBy}
 use Rattle.rows.specs.Recovery.{isStored, vectorThen}
 use Rattle.rollback.specs.Members.{liveOf}
 use Rattle.plans.specs.declared.recovery.Stepped.{Stepped}
@@ -19,10 +19,9 @@ use Rattle.plans.specs.declared.recovery.Stepped.{Stepped}
 unfoldable pub memberBy : List Bool → List Interval → ℕ → List Interval → ℕ → List Checkpoint → Checkpoint
 memberBy marks owns p vector held row = orElse (latestBy marks owns (take held row ++ (liveOf p vector ∷ []))) (liveOf p vector)
 
--- the same from the latest allowed one of what it keeps, which counts only where the live state is not allowed
-unfoldable pub memberFrom : List Bool → List Interval → ℕ → List Interval → Latest → Checkpoint
-memberFrom marks owns p vector latest =
-    pick (allowedBy marks owns vector) (liveOf p vector) (pick (latest .found) (latest .state) (liveOf p vector))
+-- the same from whether the live state is allowed, and the latest allowed one of what it keeps, which counts only where it is not
+unfoldable pub memberFrom : Bool → ℕ → List Interval → Latest → Checkpoint
+memberFrom allowed p vector latest = pick allowed (liveOf p vector) (pick (latest .found) (latest .state) (liveOf p vector))
 
 -- what process p is left with, given its member, and how many have rolled back with it
 unfoldable pub steppedOf : Checkpoint → List Interval → Bool → ℕ → ℕ → Stepped

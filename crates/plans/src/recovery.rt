@@ -9,38 +9,24 @@ ghost use mathlib.Core.Path.{_≡_};
 ghost use Prim.Native.Nat.{_<_, _≤_};
 ghost use Rattle.laws.specs.Choice.{pick};
 ghost use Rattle.model.specs.Words.{entry};
-ghost use Rattle.rows.specs.Line.{allowedBy};
 ghost use Rattle.plans.specs.Recovering.{memberFrom, steppedOf};
 
-// How many kept checkpoints are looked at for the member of a process with this vector: none where its live state is allowed.
-pub fn to_search(
-    vector: [Interval; 16],
-    owns: [Interval; 16],
-    marks: [bool; 16],
-    held: usize,
-) -> usize
-    ensures { λ r. ⌜ r ≡ pick (allowedBy marks owns vector) 0 held ⌝ }
+// How many of the checkpoints that a process keeps are searched: all where something is wanted of them, else none.
+pub fn to_search(wanted: bool, held: usize) -> usize
+    ensures { λ r. ⌜ r ≡ pick wanted held 0 ⌝ }
 {
-    let ok = rows::line::is_allowed(vector, owns, marks);
-    if ok { 0 } else { held }
+    if wanted { held } else { 0 }
 }
 
 // The line's member of process p: its live state where that is allowed, else the latest allowed one that it keeps, which `latest` is.
-pub fn member(
-    vector: [Interval; 16],
-    p: usize,
-    latest: Latest,
-    owns: [Interval; 16],
-    marks: [bool; 16],
-) -> Checkpoint
+pub fn member(vector: [Interval; 16], p: usize, latest: Latest, allowed: bool) -> Checkpoint
     requires { ⌜ (p < 16) × (1 ≤ entry vector p .0) ⌝ }
-    ensures { λ r. ⌜ r ≡ memberFrom marks owns p vector latest ⌝ }
+    ensures { λ r. ⌜ r ≡ memberFrom allowed p vector latest ⌝ }
 {
     let own = vector[p];
     let index = rows::vector::live_index(own);
     let live = Checkpoint { index, vector };
-    let ok = rows::line::is_allowed(vector, owns, marks);
-    if ok {
+    if allowed {
         live
     } else {
         rows::line::member_of(latest, live)
@@ -86,11 +72,4 @@ pub fn step_back(
         index,
         back: count,
     }
-}
-
-// How many kept checkpoints are looked at for the pins of a process: none where it does not roll back, for then no pin is moved.
-pub fn to_find(rolled: bool, held: usize) -> usize
-    ensures { λ r. ⌜ r ≡ pick rolled held 0 ⌝ }
-{
-    if rolled { held } else { 0 }
 }

@@ -1,7 +1,7 @@
 -- What the searches of a recovery through the kept checkpoints of one process end with.
 -- Assumes nothing.
 use mathlib.Core.Path.{_≡_, refl, sym, _∙_, ap}
-use mathlib.Core.Bool.{Bool, true, false, _&&_}
+use mathlib.Core.Bool.{Bool, true, false, not, _&&_}
 use mathlib.Core.List.{List, [], _∷_, _++_}
 use Prim.Native.Nat.{ℕ, _+_, _≤_, _<_}
 use native.Mathlib.Omega.{arith}
@@ -22,21 +22,17 @@ use Rattle.plans.specs.Recovering.{memberBy, memberFrom}
 use Rattle.plans.proofs.Returning.{member-from}
 
 -- None are searched, or as many as there are.
-pub search-most : (b : Bool) (held upto : ℕ) → upto ≡ pick b 0 held → upto ≤ held
+pub search-most : (wanted : Bool) (held upto : ℕ) → upto ≡ pick wanted held 0 → upto ≤ held
 search-most true held upto e = omega (arith, e)
 search-most false held upto e = omega (arith, e)
 
-pub find-most : (b : Bool) (held upto : ℕ) → upto ≡ pick b held 0 → upto ≤ held
-find-most true held upto e = omega (arith, e)
-find-most false held upto e = omega (arith, e)
-
 -- The search for a member is over: it is the line's member.
-pub member-searched : (marks : List Bool) (owns : List Interval) (p : ℕ) (vector : List Interval) (held upto a : ℕ) (row : List Checkpoint) (latest : Latest) (m : Checkpoint)
-    → upto ≡ pick (allowedBy marks owns vector) 0 held → a ≡ upto → latest ≡ latestIs (latestBy marks owns (take a row)) → m ≡ memberFrom marks owns p vector latest
+pub member-searched : (marks : List Bool) (owns : List Interval) (p : ℕ) (vector : List Interval) (held upto a : ℕ) (row : List Checkpoint) (latest : Latest) (m : Checkpoint) (allowed : Bool)
+    → allowed ≡ allowedBy marks owns vector → upto ≡ pick (not allowed) held 0 → a ≡ upto → latest ≡ latestIs (latestBy marks owns (take a row)) → m ≡ memberFrom allowed p vector latest
     → (marks₁ : List Bool) (owns₁ : List Interval) → marks ≡ marks₁ → owns ≡ owns₁ → m ≡ memberBy marks₁ owns₁ p vector held row
-member-searched marks owns p vector held upto a row latest m e over found is-m marks₁ owns₁ x y =
+member-searched marks owns p vector held upto a row latest m allowed same e over found is-m marks₁ owns₁ x y =
     is-m
-    ∙ member-from marks owns p vector held row latest (λ no. found ∙ ap (λ (k : ℕ). latestIs (latestBy marks owns (take k row))) (over ∙ e ∙ ap (λ (b : Bool). pick b 0 held) no))
+    ∙ member-from marks owns p vector held row latest allowed same (λ no. found ∙ ap (λ (k : ℕ). latestIs (latestBy marks owns (take k row))) (over ∙ e ∙ ap (λ (b : Bool). pick (not b) held 0) no))
     ∙ ap (λ (l : List Bool). memberBy l owns p vector held row) x
     ∙ ap (λ (l : List Interval). memberBy marks₁ l p vector held row) y
 

@@ -136,7 +136,8 @@ fn replay_beside(s: Run, done: u64, block: &[u8], out: &mut [u8], deleted: &mut 
             while f < n {
                 let current = vectors[f];
                 let held_now = held[f];
-                let searched = plans::recovery::to_search(current, owns, marks, held_now);
+                let allowed = rows::line::is_allowed(current, owns, marks);
+                let searched = plans::recovery::to_search(!allowed, held_now);
                 let mut latest = rows::line::none_allowed();
                 let mut a = 0;
                 while a < searched {
@@ -144,7 +145,7 @@ fn replay_beside(s: Run, done: u64, block: &[u8], out: &mut [u8], deleted: &mut 
                     latest = rows::line::latest_with(latest, c, owns, marks);
                     a += 1;
                 }
-                let state = plans::recovery::member(current, f, latest, owns, marks);
+                let state = plans::recovery::member(current, f, latest, allowed);
                 let mark = sent[f];
                 let step = plans::recovery::step_back(state, current, mark, f, back);
                 let row = step.vector;
@@ -166,7 +167,7 @@ fn replay_beside(s: Run, done: u64, block: &[u8], out: &mut [u8], deleted: &mut 
                 let many = held[q];
                 let pinned = pins[q];
                 let last_kept = members[q];
-                let to_find = plans::recovery::to_find(has_rolled, many);
+                let to_find = plans::recovery::to_search(has_rolled, many);
                 let mut found = rows::recovery::nothing_found();
                 let mut b = 0;
                 while b < to_find {

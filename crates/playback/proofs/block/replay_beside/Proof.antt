@@ -4,7 +4,7 @@
 use borrow.Author.Needs.{needs}
 use mathlib.Core.Path.{_≡_, refl, sym, _∙_, ap}
 use mathlib.Core.List.{List, []}
-use mathlib.Core.Bool.{true, false}
+use mathlib.Core.Bool.{true, false, not}
 use mathlib.Core.Logic.{_⊎_, inl, inr, ⊎-elim}
 use mathlib.Core.Option.{Option, some}
 use Prim.Native.Nat.{ℕ, _+_, _-_, _*_, _/_, _^_, _≤_, _<_}
@@ -32,13 +32,13 @@ use Rattle.rollback.specs.Members.{noState, HeldAtMost}
 use Rattle.laws.specs.Elements.{every-nil}
 use Rattle.laws.specs.Loops.{setBelow, below-none, turn-set}
 use Rattle.laws.specs.Tests.{every}
-use Rattle.rows.specs.Line.{allowedBy, latestBy, latestIs, latest-none, latest-more}
+use Rattle.rows.specs.Line.{latestBy, latestIs, latest-none, latest-more}
 use Rattle.rows.specs.Recovery.{notLater, foundIn, found-none, found-more, pinsThen, stays}
 use Rattle.plans.specs.Restored.{statesOf}
 use Rattle.plans.specs.Restores.{Restores}
 use Rattle.plans.proofs.Filled.{kept-placed, messages-cleared}
 use Rattle.plans.proofs.Returning.{Returning, none-returned, back-few, same-vector, one-returned, member-index}
-use Rattle.playback.proofs.Searches.{search-most, find-most, member-searched, pins-searched, every-next}
+use Rattle.playback.proofs.Searches.{search-most, member-searched, pins-searched, every-next}
 use Rattle.playback.specs.Blocks.{Replays, Stops}
 use Rattle.plans.specs.Planned.{sought, placeOf, setOf}
 use Rattle.plans.specs.Carried.{shifted}
@@ -71,11 +71,11 @@ abbrev μ-loop3 : tie.MeasureT-loop3
 
 -- The member of process f: the latest allowed one of the first a that it keeps.
 abbrev Inv-loop5 : tie.InvT-loop5
-Inv-loop5 done block out deleted n vectors pins kept sent held messages underway last unused count used written failed owns marks rolled members back f current held-now searched latest₀ a₀ latest a =
+Inv-loop5 done block out deleted n vectors pins kept sent held messages underway last unused count used written failed owns marks rolled members back f current held-now allowed searched latest₀ a₀ latest a =
     (a ≤ searched) × (latest ≡ latestIs (latestBy marks owns (take a (getD kept f []))))
 
 abbrev μ-loop5 : tie.MeasureT-loop5
-μ-loop5 done block out deleted n vectors pins kept sent held messages underway last unused count used written failed owns marks rolled members back f current held-now searched latest₀ a₀ latest a = searched - a
+μ-loop5 done block out deleted n vectors pins kept sent held messages underway last unused count used written failed owns marks rolled members back f current held-now allowed searched latest₀ a₀ latest a = searched - a
 
 -- The first f processes have gone back to their members.
 abbrev Inv-loop4 : tie.InvT-loop4
@@ -549,9 +549,9 @@ below4 c = omega (arith, most (c .before .before .before .before .before .before
 
 searched-most : (c : tie.After-to-search Inv-loop2 μ-loop2 Inv-loop3 μ-loop3 Inv-loop5 μ-loop5 Inv-loop4 μ-loop4 Inv-loop7 μ-loop7 Inv-loop8 μ-loop8 Inv-loop6 μ-loop6 Inv-loop9 μ-loop9 Inv-loop μ-loop) → c .to-search .result ≤ 16
 searched-most c =
-    let at = c .before .before .before .before .before .before .before .before .before .before .before .before .before in
-    let f = c .before .before .before .loop4 .f in
-    omega (arith, most at, held-most (whole at) (fine at) f (c .before .before .loop4-test .taken), search-most (allowedBy (c .before .before .before .before .failed-marks .result) (c .before .before .before .before .before .own-entries .result) (getD (c .before .before .before .loop4 .vectors) f [])) (getD (at .loop .held) f 0) (c .to-search .result) (c .to-search .ensures))
+    let at = c .before .before .before .before .before .before .before .before .before .before .before .before .before .before in
+    let f = c .before .before .before .before .loop4 .f in
+    omega (arith, most at, held-most (whole at) (fine at) f (c .before .before .before .loop4-test .taken), search-most (not (c .before .is-allowed .result)) (getD (at .loop .held) f 0) (c .to-search .result) (c .to-search .ensures))
 
 below6 : (c : tie.In-loop6 Inv-loop2 μ-loop2 Inv-loop3 μ-loop3 Inv-loop5 μ-loop5 Inv-loop4 μ-loop4 Inv-loop7 μ-loop7 Inv-loop8 μ-loop8 Inv-loop6 μ-loop6 Inv-loop9 μ-loop9 Inv-loop μ-loop) → c .before .loop6 .q < 16
 below6 c = omega (arith, most (c .before .before .before .before .before .before .before .before .before .before .before .before .before .before), c .loop6-test .taken)
@@ -579,8 +579,8 @@ row-long c =
     let done = c .before .loop6 .inv (members-of (c .before .before .before)) (agree (c .before .before .before)) in
     ap length (same-row done (most (c .before .before .before .before .before .before .before .before .before .before .before .before .before .before)) (c .loop6-test .taken) (held-all (c .before .before .before .before .before .before .before .before .before .before .before .before .before .before))) ∙ sized (c .before .before .before .before .before .before .before .before .before .before .before .before .before .before) .kept-row (c .before .loop6 .q) (below6 c)
 
-find-few : (c : tie.After-to-find Inv-loop2 μ-loop2 Inv-loop3 μ-loop3 Inv-loop5 μ-loop5 Inv-loop4 μ-loop4 Inv-loop7 μ-loop7 Inv-loop8 μ-loop8 Inv-loop6 μ-loop6 Inv-loop9 μ-loop9 Inv-loop μ-loop) → c .to-find .result ≤ 16
-find-few c = omega (arith, many-most (c .before .before .before .before), find-most (getD (c .before .before .before .before .before .before .before .before .loop4 .rolled) (c .before .before .before .before .before .loop6 .q) false) (getD (c .before .before .before .before .before .loop6 .held) (c .before .before .before .before .before .loop6 .q) 0) (c .to-find .result) (c .to-find .ensures))
+find-few : (c : tie.After-to-search2 Inv-loop2 μ-loop2 Inv-loop3 μ-loop3 Inv-loop5 μ-loop5 Inv-loop4 μ-loop4 Inv-loop7 μ-loop7 Inv-loop8 μ-loop8 Inv-loop6 μ-loop6 Inv-loop9 μ-loop9 Inv-loop μ-loop) → c .to-search2 .result ≤ 16
+find-few c = omega (arith, many-most (c .before .before .before .before), search-most (getD (c .before .before .before .before .before .before .before .before .loop4 .rolled) (c .before .before .before .before .before .loop6 .q) false) (getD (c .before .before .before .before .before .loop6 .held) (c .before .before .before .before .before .loop6 .q) 0) (c .to-search2 .result) (c .to-search2 .ensures))
 
 -- The pins of process q after the recovery.
 new-pins : (c : tie.After-pins-found Inv-loop2 μ-loop2 Inv-loop3 μ-loop3 Inv-loop5 μ-loop5 Inv-loop4 μ-loop4 Inv-loop7 μ-loop7 Inv-loop8 μ-loop8 Inv-loop6 μ-loop6 Inv-loop9 μ-loop9 Inv-loop μ-loop) → c .pins-found .result
@@ -589,7 +589,7 @@ new-pins : (c : tie.After-pins-found Inv-loop2 μ-loop2 Inv-loop3 μ-loop3 Inv-l
     (getD (c .before .before .before .before .before .before .before .before .before .loop6 .pins) (c .before .before .before .before .before .before .before .before .before .loop6 .q) [])
 new-pins c =
     let l = c .before .before .loop7 in
-    c .pins-found .ensures _ (pins-searched _ _ _ (l .b) _ _ _ (l .found) (c .before .before .before .before .to-find .ensures) (omega (arith, l .inv .0, c .before .loop7-test .left)) (l .inv .1))
+    c .pins-found .ensures _ (pins-searched _ _ _ (l .b) _ _ _ (l .found) (c .before .before .before .before .to-search2 .ensures) (omega (arith, l .inv .0, c .before .loop7-test .left)) (l .inv .1))
 
 own-entries-requires : tie.Need-own-entries-requires Inv-loop2 μ-loop2 Inv-loop3 μ-loop3 Inv-loop5 μ-loop5 Inv-loop4 μ-loop4 Inv-loop7 μ-loop7 Inv-loop8 μ-loop8 Inv-loop6 μ-loop6 Inv-loop9 μ-loop9 Inv-loop μ-loop
 own-entries-requires c κs = search needs
@@ -612,6 +612,9 @@ mul-held-now c = omega (arith, below4 (c .before))
 array-read-held-now : tie.Need-array-read-held-now Inv-loop2 μ-loop2 Inv-loop3 μ-loop3 Inv-loop5 μ-loop5 Inv-loop4 μ-loop4 Inv-loop7 μ-loop7 Inv-loop8 μ-loop8 Inv-loop6 μ-loop6 Inv-loop9 μ-loop9 Inv-loop μ-loop
 array-read-held-now c = below4 (c .before)
 
+is-allowed-requires : tie.Need-is-allowed-requires Inv-loop2 μ-loop2 Inv-loop3 μ-loop3 Inv-loop5 μ-loop5 Inv-loop4 μ-loop4 Inv-loop7 μ-loop7 Inv-loop8 μ-loop8 Inv-loop6 μ-loop6 Inv-loop9 μ-loop9 Inv-loop μ-loop
+is-allowed-requires c κs = search needs
+
 to-search-requires : tie.Need-to-search-requires Inv-loop2 μ-loop2 Inv-loop3 μ-loop3 Inv-loop5 μ-loop5 Inv-loop4 μ-loop4 Inv-loop7 μ-loop7 Inv-loop8 μ-loop8 Inv-loop6 μ-loop6 Inv-loop9 μ-loop9 Inv-loop μ-loop
 to-search-requires c κs = search needs
 
@@ -622,16 +625,16 @@ loop5-holds : tie.Need-loop5-holds Inv-loop2 μ-loop2 Inv-loop3 μ-loop3 Inv-loo
 loop5-holds c = (omega arith, c .none-allowed .ensures ∙ latest-none _ _)
 
 mul-c : tie.Need-mul-c Inv-loop2 μ-loop2 Inv-loop3 μ-loop3 Inv-loop5 μ-loop5 Inv-loop4 μ-loop4 Inv-loop7 μ-loop7 Inv-loop8 μ-loop8 Inv-loop6 μ-loop6 Inv-loop9 μ-loop9 Inv-loop μ-loop
-mul-c c = omega (arith, below4 (c .before .before .before .before .before), c .loop5-test .taken, searched-most (c .before .before .before))
+mul-c c = omega (arith, below4 (c .before .before .before .before .before .before), c .loop5-test .taken, searched-most (c .before .before .before))
 
 mul-c-2 : tie.Need-mul-c-2 Inv-loop2 μ-loop2 Inv-loop3 μ-loop3 Inv-loop5 μ-loop5 Inv-loop4 μ-loop4 Inv-loop7 μ-loop7 Inv-loop8 μ-loop8 Inv-loop6 μ-loop6 Inv-loop9 μ-loop9 Inv-loop μ-loop
-mul-c-2 c = omega (arith, below4 (c .before .before .before .before .before), c .loop5-test .taken, searched-most (c .before .before .before))
+mul-c-2 c = omega (arith, below4 (c .before .before .before .before .before .before), c .loop5-test .taken, searched-most (c .before .before .before))
 
 index-1-c : tie.Need-index-1-c Inv-loop2 μ-loop2 Inv-loop3 μ-loop3 Inv-loop5 μ-loop5 Inv-loop4 μ-loop4 Inv-loop7 μ-loop7 Inv-loop8 μ-loop8 Inv-loop6 μ-loop6 Inv-loop9 μ-loop9 Inv-loop μ-loop
-index-1-c c = omega (arith, below4 (c .before .before .before .before .before), c .loop5-test .taken, searched-most (c .before .before .before))
+index-1-c c = omega (arith, below4 (c .before .before .before .before .before .before), c .loop5-test .taken, searched-most (c .before .before .before))
 
 index-2-c : tie.Need-index-2-c Inv-loop2 μ-loop2 Inv-loop3 μ-loop3 Inv-loop5 μ-loop5 Inv-loop4 μ-loop4 Inv-loop7 μ-loop7 Inv-loop8 μ-loop8 Inv-loop6 μ-loop6 Inv-loop9 μ-loop9 Inv-loop μ-loop
-index-2-c c = omega (arith, below4 (c .before .before .before .before .before), c .loop5-test .taken, searched-most (c .before .before .before))
+index-2-c c = omega (arith, below4 (c .before .before .before .before .before .before), c .loop5-test .taken, searched-most (c .before .before .before))
 
 latest-with-requires : tie.Need-latest-with-requires Inv-loop2 μ-loop2 Inv-loop3 μ-loop3 Inv-loop5 μ-loop5 Inv-loop4 μ-loop4 Inv-loop7 μ-loop7 Inv-loop8 μ-loop8 Inv-loop6 μ-loop6 Inv-loop9 μ-loop9 Inv-loop μ-loop
 latest-with-requires c κs = search needs
@@ -646,52 +649,52 @@ loop5-again : tie.Need-loop5-again Inv-loop2 μ-loop2 Inv-loop3 μ-loop3 Inv-loo
 loop5-again c =
     let l = c .before .before .before .loop5 in
     let lt = c .before .before .loop5-test .taken in
-    let f = c .before .before .before .before .before .before .before .before .loop4 .f in (
+    let f = c .before .before .before .before .before .before .before .before .before .loop4 .f in (
       omega (arith, lt),
-      latest-more _ _ (getD (c .before .before .before .before .before .before .before .before .before .before .before .before .before .before .before .before .before .before .loop .kept) f []) (l .a) _ (omega (arith, lt, searched-most (c .before .before .before .before .before), sized (c .before .before .before .before .before .before .before .before .before .before .before .before .before .before .before .before .before .before) .kept-row f (below4 (c .before .before .before .before .before .before .before)))) _ _ (l .inv .1) (c .latest-with .ensures),
+      latest-more _ _ (getD (c .before .before .before .before .before .before .before .before .before .before .before .before .before .before .before .before .before .before .before .loop .kept) f []) (l .a) _ (omega (arith, lt, searched-most (c .before .before .before .before .before), sized (c .before .before .before .before .before .before .before .before .before .before .before .before .before .before .before .before .before .before .before) .kept-row f (below4 (c .before .before .before .before .before .before .before .before)))) _ _ (l .inv .1) (c .latest-with .ensures),
     )
 
 member-requires : tie.Need-member-requires Inv-loop2 μ-loop2 Inv-loop3 μ-loop3 Inv-loop5 μ-loop5 Inv-loop4 μ-loop4 Inv-loop7 μ-loop7 Inv-loop8 μ-loop8 Inv-loop6 μ-loop6 Inv-loop9 μ-loop9 Inv-loop μ-loop
 member-requires c κs =
-    let at = c .before .before .before .before .before .before .before .before .before .before .before .before .before .before .before .before in
-    let lt = c .before .before .before .before .before .loop4-test .taken in
-    (below4 (c .before .before .before .before .before), rw (same-vector (c .before .before .before .before .before .before .loop4 .inv)) (own-least (whole at) (fine at) (c .before .before .before .before .before .before .loop4 .f) lt))
+    let at = c .before .before .before .before .before .before .before .before .before .before .before .before .before .before .before .before .before in
+    let lt = c .before .before .before .before .before .before .loop4-test .taken in
+    (below4 (c .before .before .before .before .before .before), rw (same-vector (c .before .before .before .before .before .before .before .loop4 .inv)) (own-least (whole at) (fine at) (c .before .before .before .before .before .before .before .loop4 .f) lt))
 
 array-read-mark-2 : tie.Need-array-read-mark-2 Inv-loop2 μ-loop2 Inv-loop3 μ-loop3 Inv-loop5 μ-loop5 Inv-loop4 μ-loop4 Inv-loop7 μ-loop7 Inv-loop8 μ-loop8 Inv-loop6 μ-loop6 Inv-loop9 μ-loop9 Inv-loop μ-loop
-array-read-mark-2 c = below4 (c .before .before .before .before .before .before)
+array-read-mark-2 c = below4 (c .before .before .before .before .before .before .before)
 
 step-back-requires : tie.Need-step-back-requires Inv-loop2 μ-loop2 Inv-loop3 μ-loop3 Inv-loop5 μ-loop5 Inv-loop4 μ-loop4 Inv-loop7 μ-loop7 Inv-loop8 μ-loop8 Inv-loop6 μ-loop6 Inv-loop9 μ-loop9 Inv-loop μ-loop
-step-back-requires c κs = (below4 (c .before .before .before .before .before .before), omega (arith, back-few (c .before .before .before .before .before .before .before .loop4 .inv), below4 (c .before .before .before .before .before .before)))
+step-back-requires c κs = (below4 (c .before .before .before .before .before .before .before), omega (arith, back-few (c .before .before .before .before .before .before .before .before .loop4 .inv), below4 (c .before .before .before .before .before .before .before)))
 
 mul-vectors-2 : tie.Need-mul-vectors-2 Inv-loop2 μ-loop2 Inv-loop3 μ-loop3 Inv-loop5 μ-loop5 Inv-loop4 μ-loop4 Inv-loop7 μ-loop7 Inv-loop8 μ-loop8 Inv-loop6 μ-loop6 Inv-loop9 μ-loop9 Inv-loop μ-loop
-mul-vectors-2 c = omega (arith, below4 (c .before .before .before .before .before .before .before .before))
+mul-vectors-2 c = omega (arith, below4 (c .before .before .before .before .before .before .before .before .before))
 
 array-set-from-vectors-2 : tie.Need-array-set-from-vectors-2 Inv-loop2 μ-loop2 Inv-loop3 μ-loop3 Inv-loop5 μ-loop5 Inv-loop4 μ-loop4 Inv-loop7 μ-loop7 Inv-loop8 μ-loop8 Inv-loop6 μ-loop6 Inv-loop9 μ-loop9 Inv-loop μ-loop
-array-set-from-vectors-2 c = below4 (c .before .before .before .before .before .before .before .before)
+array-set-from-vectors-2 c = below4 (c .before .before .before .before .before .before .before .before .before)
 
 array-write-sent-2 : tie.Need-array-write-sent-2 Inv-loop2 μ-loop2 Inv-loop3 μ-loop3 Inv-loop5 μ-loop5 Inv-loop4 μ-loop4 Inv-loop7 μ-loop7 Inv-loop8 μ-loop8 Inv-loop6 μ-loop6 Inv-loop9 μ-loop9 Inv-loop μ-loop
-array-write-sent-2 c = below4 (c .before .before .before .before .before .before .before .before)
+array-write-sent-2 c = below4 (c .before .before .before .before .before .before .before .before .before)
 
 array-write-rolled : tie.Need-array-write-rolled Inv-loop2 μ-loop2 Inv-loop3 μ-loop3 Inv-loop5 μ-loop5 Inv-loop4 μ-loop4 Inv-loop7 μ-loop7 Inv-loop8 μ-loop8 Inv-loop6 μ-loop6 Inv-loop9 μ-loop9 Inv-loop μ-loop
-array-write-rolled c = below4 (c .before .before .before .before .before .before .before .before)
+array-write-rolled c = below4 (c .before .before .before .before .before .before .before .before .before)
 
 mul-members : tie.Need-mul-members Inv-loop2 μ-loop2 Inv-loop3 μ-loop3 Inv-loop5 μ-loop5 Inv-loop4 μ-loop4 Inv-loop7 μ-loop7 Inv-loop8 μ-loop8 Inv-loop6 μ-loop6 Inv-loop9 μ-loop9 Inv-loop μ-loop
-mul-members c = omega (arith, below4 (c .before .before .before .before .before .before .before .before .before))
+mul-members c = omega (arith, below4 (c .before .before .before .before .before .before .before .before .before .before))
 
 array-set-from-members : tie.Need-array-set-from-members Inv-loop2 μ-loop2 Inv-loop3 μ-loop3 Inv-loop5 μ-loop5 Inv-loop4 μ-loop4 Inv-loop7 μ-loop7 Inv-loop8 μ-loop8 Inv-loop6 μ-loop6 Inv-loop9 μ-loop9 Inv-loop μ-loop
-array-set-from-members c = below4 (c .before .before .before .before .before .before .before .before .before)
+array-set-from-members c = below4 (c .before .before .before .before .before .before .before .before .before .before)
 
 add-f : tie.Need-add-f Inv-loop2 μ-loop2 Inv-loop3 μ-loop3 Inv-loop5 μ-loop5 Inv-loop4 μ-loop4 Inv-loop7 μ-loop7 Inv-loop8 μ-loop8 Inv-loop6 μ-loop6 Inv-loop9 μ-loop9 Inv-loop μ-loop
-add-f c = omega (arith, below4 (c .before .before .before .before .before .before .before .before .before))
+add-f c = omega (arith, below4 (c .before .before .before .before .before .before .before .before .before .before))
 
 loop4-less : tie.Need-loop4-less Inv-loop2 μ-loop2 Inv-loop3 μ-loop3 Inv-loop5 μ-loop5 Inv-loop4 μ-loop4 Inv-loop7 μ-loop7 Inv-loop8 μ-loop8 Inv-loop6 μ-loop6 Inv-loop9 μ-loop9 Inv-loop μ-loop
-loop4-less c = omega (arith, c .before .before .before .before .before .before .before .before .before .loop4-test .taken)
+loop4-less c = omega (arith, c .before .before .before .before .before .before .before .before .before .before .loop4-test .taken)
 
 loop4-again : tie.Need-loop4-again Inv-loop2 μ-loop2 Inv-loop3 μ-loop3 Inv-loop5 μ-loop5 Inv-loop4 μ-loop4 Inv-loop7 μ-loop7 Inv-loop8 μ-loop8 Inv-loop6 μ-loop6 Inv-loop9 μ-loop9 Inv-loop μ-loop
 loop4-again c =
     let l = c .before .before .before .before .before .loop5 in
-    one-returned (c .before .before .before .before .before .before .before .before .before .before .loop4 .inv) (most (c .before .before .before .before .before .before .before .before .before .before .before .before .before .before .before .before .before .before .before .before)) (c .before .before .before .before .before .before .before .before .before .loop4-test .taken) _
-    (member-searched _ _ _ _ _ _ (l .a) _ (l .latest) _ (c .before .before .before .before .before .before .before .to-search .ensures) (omega (arith, l .inv .0, c .before .before .before .before .loop5-test .left)) (l .inv .1) (c .before .before .before .member .ensures) _ _ (c .before .before .before .before .before .before .before .before .before .before .before .failed-marks .ensures) (c .before .before .before .before .before .before .before .before .before .before .before .before .own-entries .ensures))
+    one-returned (c .before .before .before .before .before .before .before .before .before .before .before .loop4 .inv) (most (c .before .before .before .before .before .before .before .before .before .before .before .before .before .before .before .before .before .before .before .before .before)) (c .before .before .before .before .before .before .before .before .before .before .loop4-test .taken) _
+    (member-searched _ _ _ _ _ _ (l .a) _ (l .latest) _ _ (c .before .before .before .before .before .before .before .before .is-allowed .ensures) (c .before .before .before .before .before .before .before .to-search .ensures) (omega (arith, l .inv .0, c .before .before .before .before .loop5-test .left)) (l .inv .1) (c .before .before .before .member .ensures) _ _ (c .before .before .before .before .before .before .before .before .before .before .before .before .failed-marks .ensures) (c .before .before .before .before .before .before .before .before .before .before .before .before .before .own-entries .ensures))
     _ (c .before .before .step-back .ensures)
 
 own-entries-requires-2 : tie.Need-own-entries-requires-2 Inv-loop2 μ-loop2 Inv-loop3 μ-loop3 Inv-loop5 μ-loop5 Inv-loop4 μ-loop4 Inv-loop7 μ-loop7 Inv-loop8 μ-loop8 Inv-loop6 μ-loop6 Inv-loop9 μ-loop9 Inv-loop μ-loop
@@ -727,8 +730,8 @@ mul-last-kept c = omega (arith, below6 (c .before .before))
 array-copy-out-last-kept : tie.Need-array-copy-out-last-kept Inv-loop2 μ-loop2 Inv-loop3 μ-loop3 Inv-loop5 μ-loop5 Inv-loop4 μ-loop4 Inv-loop7 μ-loop7 Inv-loop8 μ-loop8 Inv-loop6 μ-loop6 Inv-loop9 μ-loop9 Inv-loop μ-loop
 array-copy-out-last-kept c = below6 (c .before .before)
 
-to-find-requires : tie.Need-to-find-requires Inv-loop2 μ-loop2 Inv-loop3 μ-loop3 Inv-loop5 μ-loop5 Inv-loop4 μ-loop4 Inv-loop7 μ-loop7 Inv-loop8 μ-loop8 Inv-loop6 μ-loop6 Inv-loop9 μ-loop9 Inv-loop μ-loop
-to-find-requires c κs = search needs
+to-search-requires-2 : tie.Need-to-search-requires-2 Inv-loop2 μ-loop2 Inv-loop3 μ-loop3 Inv-loop5 μ-loop5 Inv-loop4 μ-loop4 Inv-loop7 μ-loop7 Inv-loop8 μ-loop8 Inv-loop6 μ-loop6 Inv-loop9 μ-loop9 Inv-loop μ-loop
+to-search-requires-2 c κs = search needs
 
 nothing-found-requires : tie.Need-nothing-found-requires Inv-loop2 μ-loop2 Inv-loop3 μ-loop3 Inv-loop5 μ-loop5 Inv-loop4 μ-loop4 Inv-loop7 μ-loop7 Inv-loop8 μ-loop8 Inv-loop6 μ-loop6 Inv-loop9 μ-loop9 Inv-loop μ-loop
 nothing-found-requires c κs = search needs
@@ -1103,6 +1106,7 @@ replay-beside-spec =
     array-copy-out-current
     mul-held-now
     array-read-held-now
+    is-allowed-requires
     to-search-requires
     none-allowed-requires
     loop5-holds
@@ -1137,7 +1141,7 @@ replay-beside-spec =
     array-copy-out-pinned
     mul-last-kept
     array-copy-out-last-kept
-    to-find-requires
+    to-search-requires-2
     nothing-found-requires
     loop7-holds
     mul-c-3
