@@ -23,8 +23,7 @@ use Rattle.model.specs.Refusals.{missing, noMember}
 use Rattle.model.specs.Outcomes.{startOutcome}
 use Rattle.model.specs.Calls.{Call, checkpoint, send, deliver, lose, recover, line, call, stateAfter, transcript}
 use Rattle.model.specs.Survival.{Surviving, beginning, after, survivingFrom, surviving}
-use Rattle.model.specs.WholeRuns.{LineIsRight, KeptIsRight, RightOverWholeRuns, Reachable}
-use Rattle.model.specs.WholeRuns.{LineIsRight, KeptIsRight, RightOverWholeRuns, LinePromise}
+use Rattle.model.specs.WholeRuns.{LineIsRight, KeptIsRight, RightOverWholeRuns, Reachable, LinePromise}
 use Rattle.model.proofs.ideal.Run.{Ideal, begin, keeps}
 use Rattle.model.proofs.ideal.Invariant.{Inv}
 use Rattle.model.proofs.ideal.Begin.{begin-inv, begin-n, begin-pin-own, begin-pin-other}
@@ -43,6 +42,7 @@ use Rattle.model.proofs.whole.Answers.{answers-right}
 use Rattle.model.proofs.whole.LineRight.{line-right}
 use Rattle.model.proofs.whole.Reached.{Reached, exchange, refusal, refused-reached}
 use Rattle.model.proofs.whole.Recovers.{recover-step}
+use Rattle.model.proofs.whole.Runs.{stepped, unlessRefused, runAfter}
 use Rattle.model.proofs.whole.Steps.{checkpoint-step, send-step, deliver-step, lose-step, line-step}
 
 -- The history of the start agrees with the run as functions at its start.
@@ -69,10 +69,9 @@ started-answer : (n : ℕ) → 1 ≤ n → n ≤ 16 → startOutcome n .answer �
 unfolding startOutcome
 started-answer n pos few = rw (start-in n pos few)
 
-pub start-reached : (n : ℕ) → 1 ≤ n → n ≤ 16 → Reached n (startOutcome n .run) beginning
+pub start-reached : (n : ℕ) → 1 ≤ n → n ≤ 16 → Reached n (startOutcome n .run) beginning (begin n)
 unfolding begin
 start-reached n pos few = record {
-  run = begin n;
   inv = begin-inv n;
   limits = limits-begin n pos few;
   size = refl;
@@ -91,25 +90,34 @@ step n h r v fit size g (recover F deleted lent) e = recover-step n h r v fit si
 step n h r v fit size g (line F lent) e = line-step n h r v fit size g F lent e
 
 -- A call, refused or accepted, takes a reached state to a reached state.
-by-refusal : {P : Type 0} (o : Option Refusal) → (o ≡ none → P) → ((x : Refusal) → o ≡ some x → P) → P
+pub by-refusal : {P : Type 0} (o : Option Refusal) → (o ≡ none → P) → ((x : Refusal) → o ≡ some x → P) → P
 by-refusal none a b = a refl
 by-refusal (some x) a b = b x refl
 
 -- What stands for s may be put for it.
-on-state : (n : ℕ) (s : Run) (h : Surviving) (c : Call) (r : Ideal) → s ≡ stateOf r → Reached n (call (stateOf r) c .run) (after n h (exchange (stateOf r) c))
-    → Reached n (call s c .run) (after n h (exchange s c))
-on-state n s h c r e v = rw e v
+on-state : (n : ℕ) (s : Run) (h : Surviving) (c : Call) (r r′ : Ideal) → s ≡ stateOf r → Reached n (call (stateOf r) c .run) (after n h (exchange (stateOf r) c)) r′
+    → Reached n (call s c .run) (after n h (exchange s c)) r′
+on-state n s h c r r′ e v = rw e v
 
-pub call-reached : (n : ℕ) (s : Run) (h : Surviving) → Reached n s h → (c : Call) → Reached n (call s c .run) (after n h (exchange s c))
-call-reached n s h v c = by-refusal (refusal s c)
-    (λ e. on-state n s h c (v .run) (v .state)
-    (step-reached n (v .run) h c (v .inv) (v .size) (v .agrees) (rw (v .state) at e) (step n h (v .run) (v .inv) (v .limits) (v .size) (v .agrees) c (rw (v .state) at e))))
-    (λ x e. refused-reached n s h c x e v)
+-- An accepted call reaches its step, a refused one what was reached before.
+pub accepted-reached : (n : ℕ) (s : Run) (h : Surviving) (r : Ideal) → Reached n s h r → (c : Call) → refusal (stateOf r) c ≡ none
+    → Reached n (call s c .run) (after n h (exchange s c)) (stepped r c)
+accepted-reached n s h r v c e = on-state n s h c r (stepped r c) (v .state)
+    (step-reached n r h c (v .inv) (v .size) (v .agrees) e (step n h r (v .inv) (v .limits) (v .size) (v .agrees) c e))
 
-pub calls-reached : (n : ℕ) (s : Run) (h : Surviving) → Reached n s h → (calls : List Call) → Reached n (stateAfter s calls) (survivingFrom n h (transcript s calls))
-unfolding stateAfter survivingFrom transcript
-calls-reached n s h v [] = v
-calls-reached n s h v (c ∷ calls) = calls-reached n (call s c .run) (after n h (exchange s c)) (call-reached n s h v c) calls
+pub call-reached : (n : ℕ) (s : Run) (h : Surviving) (r : Ideal) → Reached n s h r → (c : Call)
+    → Reached n (call s c .run) (after n h (exchange s c)) (unlessRefused (refusal (stateOf r) c) r (stepped r c))
+unfolding unlessRefused
+call-reached n s h r v c = by-refusal (refusal (stateOf r) c)
+    (λ e. rw e (accepted-reached n s h r v c e))
+    (λ x e. rw e (refused-reached n s h r c x (rw (v .state) e) v))
+
+pub calls-reached : (n : ℕ) (s : Run) (h : Surviving) (r : Ideal) → Reached n s h r → (calls : List Call)
+    → Reached n (stateAfter s calls) (survivingFrom n h (transcript s calls)) (runAfter r calls)
+unfolding stateAfter survivingFrom transcript runAfter
+calls-reached n s h r v [] = v
+calls-reached n s h r v (c ∷ calls) =
+    calls-reached n (call s c .run) (after n h (exchange s c)) (unlessRefused (refusal (stateOf r) c) r (stepped r c)) (call-reached n s h r v c) calls
 
 -- The line of a reached state is right, for every non-empty failed set.
 members-found : (r : Ideal) → Inv r → Limits r → (F : ℕ) → noMember (stateOf r) F ≡ false
@@ -120,16 +128,15 @@ members-found r v fit F = none-missing (stateOf r .count) (λ p. missing (latest
     none-missing : (n : ℕ) (t : ℕ → Bool) → ((p : ℕ) → p < n → t p ≡ false) → anyBelow n t ≡ false
     none-missing n t h = by-bool (anyBelow n t) (λ e. let w = any-out n t e in never-both (t (w .0)) (w .2) (h (w .0) (w .1))) (λ e. e)
 
-pub reached-line : (n : ℕ) (s : Run) (h : Surviving) → Reached n s h → (F : ℕ) → 1 ≤ F → F < 2 ^ n → LineIsRight n s h F
-reached-line n s h v F pos less = rw (← v .size, v .state)
-    (line-right (v .run) (v .inv) (stateOf (v .run)) h (v .agrees) F (count-is (v .run)) (state-sound (v .run) (v .inv) (v .limits))
-    (line-is (v .run) (v .inv) (v .limits .few-processes) F) (members-found (v .run) (v .inv) (v .limits) F) pos (rw (v .size) less))
+pub reached-line : (n : ℕ) (s : Run) (h : Surviving) (r : Ideal) → Reached n s h r → (F : ℕ) → 1 ≤ F → F < 2 ^ n → LineIsRight n s h F
+reached-line n s h r v F pos less = rw (← v .size, v .state)
+    (line-right r (v .inv) (stateOf r) h (v .agrees) F (count-is r) (state-sound r (v .inv) (v .limits))
+    (line-is r (v .inv) (v .limits .few-processes) F) (members-found r (v .inv) (v .limits) F) pos (rw (v .size) less))
 
 -- What a reached state keeps is right.
-pub reached-kept : (n : ℕ) (s : Run) (h : Surviving) → Reached n s h → KeptIsRight n s h
+pub reached-kept : (n : ℕ) (s : Run) (h : Surviving) (r : Ideal) → Reached n s h r → KeptIsRight n s h
 unfolding processOf
-reached-kept n s h v =
-    let r = v .run in
+reached-kept n s h r v =
     let few = v .limits .few-processes in
     rw (← v .size, v .state) (record {
       kept-in-state = λ p k hp. rw (process-is r p few hp) (kept-holds r (v .inv) p k ∙ sym (v .agrees .kept p k hp));
@@ -138,18 +145,19 @@ reached-kept n s h v =
     })
 
 -- A reached state is sound.
-pub reached-sound : (n : ℕ) (s : Run) (h : Surviving) → Reached n s h → sound s ≡ true
-reached-sound n s h v = rw (v .state) (state-sound (v .run) (v .inv) (v .limits))
+pub reached-sound : (n : ℕ) (s : Run) (h : Surviving) (r : Ideal) → Reached n s h r → sound s ≡ true
+reached-sound n s h r v = rw (v .state) (state-sound r (v .inv) (v .limits))
 
 -- Demand 3.
 pub right-over-whole-runs : RightOverWholeRuns
 unfolding RightOverWholeRuns surviving
 right-over-whole-runs n pos few calls =
-    let v = calls-reached n (startOutcome n .run) beginning (start-reached n pos few) calls in (
+    let r = runAfter (begin n) calls in
+    let v = calls-reached n (startOutcome n .run) beginning (begin n) (start-reached n pos few) calls in (
       started-answer n pos few,
       answers-right (startOutcome n .run) calls,
-      reached-kept n (stateAfter (startOutcome n .run) calls) (survivingFrom n beginning (transcript (startOutcome n .run) calls)) v,
-      reached-line n (stateAfter (startOutcome n .run) calls) (survivingFrom n beginning (transcript (startOutcome n .run) calls)) v,
+      reached-kept n (stateAfter (startOutcome n .run) calls) (survivingFrom n beginning (transcript (startOutcome n .run) calls)) r v,
+      reached-line n (stateAfter (startOutcome n .run) calls) (survivingFrom n beginning (transcript (startOutcome n .run) calls)) r v,
     )
 
 -- Reachable states: the start, what a call makes of one, and that each is sound.
@@ -170,8 +178,8 @@ pub reachable-sound : (s : Run) → Reachable s → sound s ≡ true
 unfolding Reachable
 reachable-sound s v =
     ap sound (v .4)
-    ∙ reached-sound (v .0) (stateAfter (startOutcome (v .0) .run) (v .3)) (survivingFrom (v .0) beginning (transcript (startOutcome (v .0) .run) (v .3)))
-    (calls-reached (v .0) (startOutcome (v .0) .run) beginning (start-reached (v .0) (v .1) (v .2)) (v .3))
+    ∙ reached-sound (v .0) (stateAfter (startOutcome (v .0) .run) (v .3)) (survivingFrom (v .0) beginning (transcript (startOutcome (v .0) .run) (v .3))) (runAfter (begin (v .0)) (v .3))
+    (calls-reached (v .0) (startOutcome (v .0) .run) beginning (begin (v .0)) (start-reached (v .0) (v .1) (v .2)) (v .3))
 
 -- Demand 3 as a line or recover call says it of its state.
 pub line-promise : (s : Run) (F : ℕ) → LinePromise s F

@@ -5,4 +5,5 @@ pub mod LineRight
 pub mod Listed
 pub mod Reached
 pub mod Recovers
+pub mod Runs
 pub mod Steps

@@ -28,6 +28,8 @@ use Rattle.model.specs.Calls.{Answered, answered, call}
 use Rattle.model.specs.Listing.{callOf, perform, deletionsText}
 use Rattle.model.specs.Survival.{beginning}
 use Rattle.model.specs.WholeRuns.{Reachable, LinePromise}
+use Rattle.model.proofs.ideal.Run.{begin}
+use Rattle.model.proofs.whole.Runs.{runAfter}
 use Rattle.model.proofs.WholeRuns.{start-reached, calls-reached, reachable-sound, line-promise}
 use Rattle.model.proofs.simulation.Reads.{count-is}
 use Rattle.listing.specs.declared.Value.the-variants.{Number}
@@ -136,8 +138,8 @@ lentLine = replicate 16 0
 accepted : (s : Run) → Reachable s → (F : ℕ) → 1 ≤ F → F < 2 ^ s .count → recoverRefusal s F lent lentLine ≡ none
 unfolding Reachable LinePromise
 accepted s v F some-failed inside =
-    let r = calls-reached (v .0) (startOutcome (v .0) .run) beginning (start-reached (v .0) (v .1) (v .2)) (v .3) in
-    let same : s .count ≡ v .0 = ap (λ (t : Run). t .count) (v .4 ∙ r .state) ∙ count-is (r .run) ∙ r .size in
+    let r = calls-reached (v .0) (startOutcome (v .0) .run) beginning (begin (v .0)) (start-reached (v .0) (v .1) (v .2)) (v .3) in
+    let same : s .count ≡ v .0 = ap (λ (t : Run). t .count) (v .4 ∙ r .state) ∙ count-is (runAfter (begin (v .0)) (v .3)) ∙ r .size in
     line-promise s F (v .0) (v .1) (v .2) (v .3) (v .4) some-failed (rw (← same) inside) .recover-accepted lent lentLine
     (omega (arith, twice-square (v .0) (v .2), length-replicate {A = ℕ} 512 0))
     (omega (arith, v .2, length-replicate {A = ℕ} 16 0))

@@ -26,7 +26,8 @@ use Rattle.model.specs.Outcomes.{startOutcome}
 use Rattle.model.specs.Survival.{beginning}
 use Rattle.model.specs.WholeRuns.{Reachable}
 use Rattle.model.proofs.WholeRuns.{start-reached, calls-reached}
-use Rattle.model.proofs.ideal.Run.{Ideal}
+use Rattle.model.proofs.ideal.Run.{Ideal, begin}
+use Rattle.model.proofs.whole.Runs.{runAfter}
 use Rattle.model.proofs.simulation.View.{vectorOf, pinsOf, checkpointOf, processOf, messageOf, messagesOf, stateOf, Limits}
 use Rattle.model.proofs.simulation.Kept.{kept-most, kept-every}
 use Rattle.model.proofs.simulation.SoundPassing.{passing-every}
@@ -146,5 +147,5 @@ module _ (r : Ideal) (fit : Limits r) where
 pub reachable-sized : (s : Run) → Reachable s → Sized s
 unfolding Reachable
 reachable-sized s v =
-    let reached = calls-reached (v .0) (startOutcome (v .0) .run) beginning (start-reached (v .0) (v .1) (v .2)) (v .3) in
-    subst Sized (sym (v .4 ∙ reached .state)) (sized-state (reached .run) (reached .limits))
+    let reached = calls-reached (v .0) (startOutcome (v .0) .run) beginning (begin (v .0)) (start-reached (v .0) (v .1) (v .2)) (v .3) in
+    subst Sized (sym (v .4 ∙ reached .state)) (sized-state (runAfter (begin (v .0)) (v .3)) (reached .limits))

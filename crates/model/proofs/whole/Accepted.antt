@@ -17,6 +17,7 @@ use Rattle.model.proofs.ideal.Keeping.{Moved}
 use Rattle.model.proofs.simulation.View.{stateOf, Limits}
 use Rattle.model.proofs.whole.Agreement.{Agrees, HandsOut, kept-agrees}
 use Rattle.model.proofs.whole.Reached.{Reached, exchange, refusal}
+use Rattle.model.proofs.whole.Runs.{stepped}
 
 -- An accepted delivery reports the number 0, whether it forces or not.
 delivery-report : (s : Run) (x : Message) → deliverReport (deliverAnswer s x) .refused ≡ 0
@@ -24,7 +25,7 @@ unfolding deliverReport deliverAnswer
 delivery-report s x = by-bool (forces (process s (x .receiver)) (x .vector)) (λ e. rw e) (λ e. rw e)
 
 -- An accepted call reports the number 0.
-accepted-report : (s : Run) (c : Call) → refusal s c ≡ none → call s c .reply .report .refused ≡ 0
+pub accepted-report : (s : Run) (c : Call) → refusal s c ≡ none → call s c .reply .report .refused ≡ 0
 unfolding refusal call answered checkpointOutcome sendOutcome deliverOutcome loseOutcome lineOutcome recoverOutcome checkpointReport sendReport loseReport lineReport recoverReport
 accepted-report s (checkpoint i deleted) e = rw e
 accepted-report s (send i j) e = rw e
@@ -38,23 +39,21 @@ accepted-history : (n : ℕ) (s : Run) (h : Surviving) (c : Call) → refusal s 
 unfolding after
 accepted-history n s h c e = rw (accepted-report s c e)
 
--- What an accepted call on the state of a run does, as a step r′ of the run as functions.
+-- What an accepted call on the state of a run does, as the step of the run as functions.
 pub record Step (n : ℕ) (h : Surviving) (r : Ideal) (c : Call) : Type 0 where
-  pub run : Ideal
-  pub inv : Inv run
-  pub limits : Limits run
-  pub moved : Moved r run
-  pub state : call (stateOf r) c .run ≡ stateOf run
-  pub lists : listsAfter n h c (call (stateOf r) c .reply) ≡ run .events
-  pub sends : sendsAfter h c ≡ run .last
-  pub receiver : receiverAfter h c ≡ run .receiver
-  pub hands-out : HandsOut (call (stateOf r) c .reply) r run
+  pub inv : Inv (stepped r c)
+  pub limits : Limits (stepped r c)
+  pub moved : Moved r (stepped r c)
+  pub state : call (stateOf r) c .run ≡ stateOf (stepped r c)
+  pub lists : listsAfter n h c (call (stateOf r) c .reply) ≡ stepped r c .events
+  pub sends : sendsAfter h c ≡ stepped r c .last
+  pub receiver : receiverAfter h c ≡ stepped r c .receiver
+  pub hands-out : HandsOut (call (stateOf r) c .reply) r (stepped r c)
 
 pub step-reached : (n : ℕ) (r : Ideal) (h : Surviving) (c : Call) → Inv r → r .n ≡ n → Agrees h r → refusal (stateOf r) c ≡ none → Step n h r c
-    → Reached n (call (stateOf r) c .run) (after n h (exchange (stateOf r) c))
+    → Reached n (call (stateOf r) c .run) (after n h (exchange (stateOf r) c)) (stepped r c)
 unfolding accepted
 step-reached n r h c v size g e t = rw (accepted-history n (stateOf r) h c e) (record {
-  run = t .run;
   inv = t .inv;
   limits = t .limits;
   size = t .moved .size ∙ size;
@@ -63,6 +62,6 @@ step-reached n r h c v size g e t = rw (accepted-history n (stateOf r) h c e) (r
     lists = t .lists;
     sends = t .sends;
     receiver = t .receiver;
-    kept = λ p k hp. kept-agrees h r (t .run) v (t .inv) g (t .moved) (listsAfter n h c (call (stateOf r) c .reply)) (t .lists) (call (stateOf r) c .reply) (t .hands-out) p k (rw (t .moved .size) at hp);
+    kept = λ p k hp. kept-agrees h r (stepped r c) v (t .inv) g (t .moved) (listsAfter n h c (call (stateOf r) c .reply)) (t .lists) (call (stateOf r) c .reply) (t .hands-out) p k (rw (t .moved .size) at hp);
   };
 })

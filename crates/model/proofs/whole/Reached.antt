@@ -18,15 +18,14 @@ use Rattle.model.proofs.ideal.Invariant.{Inv}
 use Rattle.model.proofs.simulation.View.{stateOf, Limits}
 use Rattle.model.proofs.whole.Agreement.{Agrees}
 
-pub record Reached (n : ℕ) (s : Run) (h : Surviving) : Type 0 where
-  -- the run as functions, with all that the invariant says of it
-  pub run : Ideal
-  pub inv : Inv run
-  pub limits : Limits run
-  pub size : run .n ≡ n
+pub record Reached (n : ℕ) (s : Run) (h : Surviving) (r : Ideal) : Type 0 where
+  -- the run as functions has all that the invariant says
+  pub inv : Inv r
+  pub limits : Limits r
+  pub size : r .n ≡ n
   -- the state stands for it to the last unused place; the history agrees with it
-  pub state : s ≡ stateOf run
-  pub agrees : Agrees h run
+  pub state : s ≡ stateOf r
+  pub agrees : Agrees h r
 
 -- A call with its answer, and the history after it.
 abbrev pub exchange : Run → Call → Exchange
@@ -42,7 +41,7 @@ refusal s (recover F deleted lent) = recoverRefusal s F deleted lent
 refusal s (line F lent) = lineRefusal s F lent
 
 -- No refusal has the number 0.
-refused-number : (x : Refusal) → eqb (number x) 0 ≡ false
+pub refused-number : (x : Refusal) → eqb (number x) 0 ≡ false
 unfolding number
 refused-number CountOutsideRange = refl
 refused-number UnsoundState = refl
@@ -70,7 +69,7 @@ refused-state s (recover F deleted lent) x e = rw e
 refused-state s (line F lent) x e = rw e
 
 -- Its report gives the refusal's number.
-refused-report : (s : Run) (c : Call) (x : Refusal) → refusal s c ≡ some x → call s c .reply .report .refused ≡ number x
+pub refused-report : (s : Run) (c : Call) (x : Refusal) → refusal s c ≡ some x → call s c .reply .report .refused ≡ number x
 unfolding refusal call answered checkpointOutcome sendOutcome deliverOutcome loseOutcome lineOutcome recoverOutcome checkpointReport sendReport deliverReport loseReport lineReport recoverReport
 refused-report s (checkpoint i deleted) x e = rw e
 refused-report s (send i j) x e = rw e
@@ -84,5 +83,5 @@ pub refused-history : (n : ℕ) (s : Run) (h : Surviving) (c : Call) (x : Refusa
 unfolding after
 refused-history n s h c x e = rw (refused-report s c x e) (rw (refused-number x))
 
-pub refused-reached : (n : ℕ) (s : Run) (h : Surviving) (c : Call) (x : Refusal) → refusal s c ≡ some x → Reached n s h → Reached n (call s c .run) (after n h (exchange s c))
-refused-reached n s h c x e v = rw (refused-state s c x e) (rw (refused-history n s h c x e) v)
+pub refused-reached : (n : ℕ) (s : Run) (h : Surviving) (r : Ideal) (c : Call) (x : Refusal) → refusal s c ≡ some x → Reached n s h r → Reached n (call s c .run) (after n h (exchange s c)) r
+refused-reached n s h r c x e v = rw (refused-state s c x e) (rw (refused-history n s h c x e) v)

@@ -28,6 +28,7 @@ use Rattle.model.proofs.simulation.Lines.{line-is}
 use Rattle.model.proofs.simulation.Recover.{recover-is}
 use Rattle.model.proofs.whole.Agreement.{Agrees, HandsOut}
 use Rattle.model.proofs.whole.Accepted.{Step}
+use Rattle.model.proofs.whole.Runs.{stepped}
 use Rattle.model.proofs.whole.Listed.{recover-lists}
 
 module _ (n : ℕ) (h : Surviving) (r : Ideal) (v : Inv r) (fit : Limits r) (size : r .n ≡ n) (g : Agrees h r) (F : ℕ) (deleted lent : List ℕ) (e : recoverRefusal (stateOf r) F deleted lent ≡ none) where
@@ -73,8 +74,8 @@ module _ (n : ℕ) (h : Surviving) (r : Ideal) (v : Inv r) (fit : Limits r) (siz
   recover-same = (g .sends, g .receiver)
 
   pub recover-step : Step n h r (recover F deleted lent)
+  unfolding stepped
   recover-step = record {
-    run = recovered r (failed F);
     inv = recovered-inv r v (failed F);
     limits = limits-recover r (failed F) fit;
     moved = recovered-moved r v (failed F);

@@ -37,6 +37,7 @@ use Rattle.model.proofs.simulation.Handed.{checkpoint-handed, deliver-h
 use Rattle.model.proofs.simulation.Kept.{kept-most}
 use Rattle.model.proofs.whole.Agreement.{Agrees, HandsOut}
 use Rattle.model.proofs.whole.Accepted.{Step}
+use Rattle.model.proofs.whole.Runs.{stepped}
 use Rattle.model.proofs.whole.Listed.{checkpoint-lists, send-lists, send-sends, send-receiver, deliver-forced, deliver-plain}
 
 -- An answer without deletions hands out nothing, and nothing may be gone.
@@ -80,9 +81,8 @@ module _ (n : ℕ) (h : Surviving) (r : Ideal) (v : Inv r) (fit : Limits r) (siz
         checkpoint-handed r v few (call (stateOf r) (checkpoint i deleted) .reply) deleted (w .2) p k i (w .0) (kept-most r i) (record { deleted = checkpoint-list; counted = checkpoint-count })
 
     pub checkpoint-step : Step n h r (checkpoint i deleted)
-    unfolding sendsAfter
+    unfolding sendsAfter stepped
     checkpoint-step = record {
-      run = checkpointed r i;
       inv = checkpointed-inv r i v;
       limits = limits-checkpoint r i fit;
       moved = checkpointed-moved r i (checkpoint-run r v fit i deleted e .0);
@@ -104,11 +104,11 @@ module _ (n : ℕ) (h : Surviving) (r : Ideal) (v : Inv r) (fit : Limits r) (siz
     send-count = rw e
 
     pub send-step : Step n h r (send i j)
+    unfolding stepped
     send-step =
         let w = send-run r v fit i j e in
         let a = call (stateOf r) (send i j) .reply in
         record {
-          run = sending r i j;
           inv = sending-inv r i j v (w .0) (w .1) (w .2);
           limits = w .3;
           moved = sending-moved r i j;
@@ -134,8 +134,8 @@ module _ (n : ℕ) (h : Surviving) (r : Ideal) (v : Inv r) (fit : Limits r) (siz
     lose-same = (g .lists, g .sends, g .receiver)
 
     pub lose-step : Step n h r (lose m)
+    unfolding stepped
     lose-step = record {
-      run = lost r m;
       inv = lost-inv r m v;
       limits = limits-lose r m fit;
       moved = lost-moved r m;
@@ -161,8 +161,8 @@ module _ (n : ℕ) (h : Surviving) (r : Ideal) (v : Inv r) (fit : Limits r) (siz
     line-same = (g .lists, g .sends, g .receiver)
 
     pub line-step : Step n h r (line F lent)
+    unfolding stepped
     line-step = record {
-      run = r;
       inv = v;
       limits = fit;
       moved = record { size = refl; back = λ p k lt q. q; one = λ p. inl (omega arith) };
@@ -216,9 +216,8 @@ module _ (n : ℕ) (h : Surviving) (r : Ideal) (v : Inv r) (fit : Limits r) (siz
         (λ q. deliver-plain n h r g m deleted (call (stateOf r) (deliver m deleted) .reply) q (value-plain q))
 
     pub deliver-step : Step n h r (deliver m deleted)
-    unfolding sendsAfter receiverAfter
+    unfolding sendsAfter receiverAfter stepped
     deliver-step = record {
-      run = delivered r m;
       inv = delivered-inv r m v under;
       limits = limits-deliver r m fit;
       moved = delivered-moved r v m under;
