@@ -1,44 +1,43 @@
 -- Demand 3, proved: right over whole runs. And what later work cites of states that calls from a start reach.
 -- Assumes nothing.
 use mathlib.Core.Path.{_≡_, refl, sym, _∙_, ap}
-use mathlib.Core.Bool.{Bool, true, false}
+use mathlib.Core.Bool.{true}
 use mathlib.Core.List.{List, [], _∷_, _++_}
 use mathlib.Core.Option.{Option, none, some}
 use Prim.Native.Nat.{ℕ, _^_, _≤_, _<_}
 use native.Mathlib.Omega.{arith}
 use lib.Dec.{eqb}
 use borrow.Author.Tests.{eq-eqb, eqb-true}
-use Rattle.laws.specs.Choice.{by-bool, by-eq}
+use Rattle.laws.specs.Choice.{by-eq}
 use Rattle.laws.specs.Counting.{count-mono}
 use Rattle.laws.specs.Elements.{same-test}
-use Rattle.laws.specs.Search.{anyBelow, any-out}
-use Rattle.laws.specs.Truth.{never-both}
 use Rattle.model.specs.declared.Run.{Run}
-use Rattle.model.specs.declared.Refusal.{Refusal}
 use Rattle.model.specs.declared.StartAnswer.the-variants.{Started}
-use Rattle.model.specs.Steps.{startState, latestAllowed}
+use Rattle.model.specs.Steps.{startState}
 use Rattle.model.specs.Sound.{sound}
 use Rattle.model.specs.History.{checkpoints}
-use Rattle.model.specs.Refusals.{missing, noMember}
 use Rattle.model.specs.Outcomes.{startOutcome}
-use Rattle.model.specs.Calls.{Call, checkpoint, send, deliver, lose, recover, line, call, stateAfter, transcript}
+use Rattle.model.specs.Calls.{Call, checkpoint, send, deliver, lose, recover, line, Exchange, call, stateAfter, transcript}
 use Rattle.model.specs.Survival.{Surviving, beginning, after, survivingFrom, surviving}
+use Rattle.model.specs.Answers.{AnswerIsRight, AnswersAreRight}
 use Rattle.model.specs.WholeRuns.{LineIsRight, KeptIsRight, RightOverWholeRuns, Reachable, LinePromise}
 use Rattle.model.proofs.ideal.Run.{Ideal, begin, keeps}
 use Rattle.model.proofs.ideal.Invariant.{Inv}
 use Rattle.model.proofs.ideal.Begin.{begin-inv, begin-n, begin-pin-own, begin-pin-other}
+use Rattle.model.proofs.ideal.Memory.{Memory, begin-memory}
 use Rattle.model.proofs.ideal.Rule.{keeps-in, keeps-out, same-some}
 use Rattle.model.proofs.simulation.View.{stateOf, Limits, processOf}
 use Rattle.model.proofs.simulation.Reads.{count-is, process-is}
 use Rattle.model.proofs.simulation.Accepted.{start-in}
 use Rattle.model.proofs.simulation.Start.{start-is}
 use Rattle.model.proofs.simulation.Kept.{few-kept, pins-name, kept-holds}
-use Rattle.model.proofs.simulation.Lines.{line-is, latest-allowed}
+use Rattle.model.proofs.simulation.Lines.{line-is}
 use Rattle.model.proofs.simulation.Sound.{state-sound}
 use Rattle.model.proofs.simulation.SoundLimits.{limits-begin}
 use Rattle.model.proofs.whole.Agreement.{Agrees}
 use Rattle.model.proofs.whole.Accepted.{Step, step-reached}
-use Rattle.model.proofs.whole.Answers.{answers-right}
+use Rattle.model.proofs.whole.Answers.{answer-right}
+use Rattle.model.proofs.whole.Refused.{by-refusal, members-found}
 use Rattle.model.proofs.whole.LineRight.{line-right}
 use Rattle.model.proofs.whole.Reached.{Reached, exchange, refusal, refused-reached}
 use Rattle.model.proofs.whole.Recovers.{recover-step}
@@ -58,7 +57,7 @@ begin-keeps n p k hp = same-test (keeps (begin n) p k) (eqb k 0)
 
 begin-agrees : (n : ℕ) → Agrees beginning (begin n)
 unfolding beginning begin
-begin-agrees n = record { lists = refl; sends = refl; receiver = refl; kept = λ p k hp. sym (begin-keeps n p k hp) }
+begin-agrees n = record { lists = refl; sends = refl; receiver = refl; underway = refl; kept = λ p k hp. sym (begin-keeps n p k hp) }
 
 -- An accepted start reaches the state that it returns.
 started-state : (n : ℕ) → 1 ≤ n → n ≤ 16 → startOutcome n .run ≡ startState n
@@ -74,25 +73,21 @@ unfolding begin
 start-reached n pos few = record {
   inv = begin-inv n;
   limits = limits-begin n pos few;
+  memory = begin-memory n;
   size = refl;
   state = started-state n pos few ∙ start-is n;
   agrees = begin-agrees n;
 }
 
 -- Each accepted call is a step of the run as functions.
-step : (n : ℕ) (h : Surviving) (r : Ideal) → Inv r → Limits r → r .n ≡ n → Agrees h r → (c : Call) → refusal (stateOf r) c ≡ none → Step n h r c
+step : (n : ℕ) (h : Surviving) (r : Ideal) → Inv r → Limits r → Memory r → r .n ≡ n → Agrees h r → (c : Call) → refusal (stateOf r) c ≡ none → Step n h r c
 unfolding refusal
-step n h r v fit size g (checkpoint i deleted) e = checkpoint-step n h r v fit size g i deleted e
-step n h r v fit size g (send i j) e = send-step n h r v fit size g i j e
-step n h r v fit size g (deliver m deleted) e = deliver-step n h r v fit size g m deleted e
-step n h r v fit size g (lose m) e = lose-step n h r v fit size g m e
-step n h r v fit size g (recover F deleted lent) e = recover-step n h r v fit size g F deleted lent e
-step n h r v fit size g (line F lent) e = line-step n h r v fit size g F lent e
-
--- A call, refused or accepted, takes a reached state to a reached state.
-pub by-refusal : {P : Type 0} (o : Option Refusal) → (o ≡ none → P) → ((x : Refusal) → o ≡ some x → P) → P
-by-refusal none a b = a refl
-by-refusal (some x) a b = b x refl
+step n h r v fit memory size g (checkpoint i deleted) e = checkpoint-step n h r v fit memory size g i deleted e
+step n h r v fit memory size g (send i j) e = send-step n h r v fit memory size g i j e
+step n h r v fit memory size g (deliver m deleted) e = deliver-step n h r v fit memory size g m deleted e
+step n h r v fit memory size g (lose m) e = lose-step n h r v fit memory size g m e
+step n h r v fit memory size g (recover F deleted lent) e = recover-step n h r v fit memory size g F deleted lent e
+step n h r v fit memory size g (line F lent) e = line-step n h r v fit memory size g F lent e
 
 -- What stands for s may be put for it.
 on-state : (n : ℕ) (s : Run) (h : Surviving) (c : Call) (r r′ : Ideal) → s ≡ stateOf r → Reached n (call (stateOf r) c .run) (after n h (exchange (stateOf r) c)) r′
@@ -103,7 +98,7 @@ on-state n s h c r r′ e v = rw e v
 pub accepted-reached : (n : ℕ) (s : Run) (h : Surviving) (r : Ideal) → Reached n s h r → (c : Call) → refusal (stateOf r) c ≡ none
     → Reached n (call s c .run) (after n h (exchange s c)) (stepped r c)
 accepted-reached n s h r v c e = on-state n s h c r (stepped r c) (v .state)
-    (step-reached n r h c (v .inv) (v .size) (v .agrees) e (step n h r (v .inv) (v .limits) (v .size) (v .agrees) c e))
+    (step-reached n r h c (v .inv) (v .size) (v .agrees) e (step n h r (v .inv) (v .limits) (v .memory) (v .size) (v .agrees) c e))
 
 pub call-reached : (n : ℕ) (s : Run) (h : Surviving) (r : Ideal) → Reached n s h r → (c : Call)
     → Reached n (call s c .run) (after n h (exchange s c)) (unlessRefused (refusal (stateOf r) c) r (stepped r c))
@@ -120,14 +115,6 @@ calls-reached n s h r v (c ∷ calls) =
     calls-reached n (call s c .run) (after n h (exchange s c)) (unlessRefused (refusal (stateOf r) c) r (stepped r c)) (call-reached n s h r v c) calls
 
 -- The line of a reached state is right, for every non-empty failed set.
-members-found : (r : Ideal) → Inv r → Limits r → (F : ℕ) → noMember (stateOf r) F ≡ false
-unfolding noMember
-members-found r v fit F = none-missing (stateOf r .count) (λ p. missing (latestAllowed (stateOf r) F p))
-    (λ p hp. rw (latest-allowed r v (fit .few-processes) F p (rw (count-is r) at hp)))
-  where
-    none-missing : (n : ℕ) (t : ℕ → Bool) → ((p : ℕ) → p < n → t p ≡ false) → anyBelow n t ≡ false
-    none-missing n t h = by-bool (anyBelow n t) (λ e. let w = any-out n t e in never-both (t (w .0)) (w .2) (h (w .0) (w .1))) (λ e. e)
-
 pub reached-line : (n : ℕ) (s : Run) (h : Surviving) (r : Ideal) → Reached n s h r → (F : ℕ) → 1 ≤ F → F < 2 ^ n → LineIsRight n s h F
 reached-line n s h r v F pos less = rw (← v .size, v .state)
     (line-right r (v .inv) (stateOf r) h (v .agrees) F (count-is r) (state-sound r (v .inv) (v .limits))
@@ -148,6 +135,38 @@ reached-kept n s h r v =
 pub reached-sound : (n : ℕ) (s : Run) (h : Surviving) (r : Ideal) → Reached n s h r → sound s ≡ true
 reached-sound n s h r v = rw (v .state) (state-sound r (v .inv) (v .limits))
 
+-- Every answer that a call on a reached state gets is right.
+pub reached-answer : (n : ℕ) (s : Run) (h : Surviving) (r : Ideal) → Reached n s h r → (c : Call) → AnswerIsRight n h (exchange s c)
+reached-answer n s h r v c =
+    rw (← v .size, v .state) (answer-right h r (v .inv) (v .limits) (v .memory) (v .agrees)
+    (λ F pos less. line-right r (v .inv) (stateOf r) h (v .agrees) F (count-is r) (state-sound r (v .inv) (v .limits))
+    (line-is r (v .inv) (v .limits .few-processes) F) (members-found r (v .inv) (v .limits) F) pos less) c
+    (step (r .n) h r (v .inv) (v .limits) (v .memory) refl (v .agrees) c))
+
+-- Two transcripts that are the same have the same first exchange and the same rest.
+same-first : (a b : Exchange) (l k : List Exchange) → a ∷ l ≡ b ∷ k → (a ≡ b) × (l ≡ k)
+same-first a b l k e = (cc, cc)
+
+not-empty : (a : Exchange) (l k : List Exchange) → _≡_ {A = List Exchange} [] (k ++ (a ∷ l)) → ⊥
+not-empty a l [] e = let z : _≡_ {A = ℕ} 0 1 = cc in omega arith
+not-empty a l (b ∷ k) e = let z : _≡_ {A = ℕ} 0 1 = cc in omega arith
+
+-- So is every answer of a list of calls, wherever it stands in the transcript.
+answers-from : (n : ℕ) (calls : List Call) (s : Run) (h : Surviving) (r : Ideal) → Reached n s h r → (earlier later : List Exchange) (e : Exchange)
+    → transcript s calls ≡ earlier ++ (e ∷ later) → AnswerIsRight n (survivingFrom n h earlier) e
+unfolding transcript survivingFrom
+answers-from n [] s h r v earlier later e q = absurd (not-empty e later earlier q)
+answers-from n (c ∷ calls) s h r v [] later e q =
+    let w = same-first (exchange s c) e (transcript (call s c .run) calls) later q in
+    rw (← w .0) (reached-answer n s h r v c)
+answers-from n (c ∷ calls) s h r v (x ∷ earlier) later e q =
+    let w = same-first (exchange s c) x (transcript (call s c .run) calls) (earlier ++ (e ∷ later)) q in
+    rw (← w .0) (answers-from n calls (call s c .run) (after n h (exchange s c)) (unlessRefused (refusal (stateOf r) c) r (stepped r c)) (call-reached n s h r v c) earlier later e (w .1))
+
+pub answers-right : (n : ℕ) → 1 ≤ n → n ≤ 16 → (calls : List Call) → AnswersAreRight n (transcript (startOutcome n .run) calls)
+unfolding AnswersAreRight surviving
+answers-right n pos few calls = answers-from n calls (startOutcome n .run) beginning (begin n) (start-reached n pos few)
+
 -- Demand 3.
 pub right-over-whole-runs : RightOverWholeRuns
 unfolding RightOverWholeRuns surviving
@@ -155,7 +174,7 @@ right-over-whole-runs n pos few calls =
     let r = runAfter (begin n) calls in
     let v = calls-reached n (startOutcome n .run) beginning (begin n) (start-reached n pos few) calls in (
       started-answer n pos few,
-      answers-right (startOutcome n .run) calls,
+      answers-right n pos few calls,
       reached-kept n (stateAfter (startOutcome n .run) calls) (survivingFrom n beginning (transcript (startOutcome n .run) calls)) r v,
       reached-line n (stateAfter (startOutcome n .run) calls) (survivingFrom n beginning (transcript (startOutcome n .run) calls)) r v,
     )

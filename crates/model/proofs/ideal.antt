@@ -21,3 +21,8 @@ pub mod RecoveredViews
 pub mod RecoveredStates
 pub mod Recovered
 pub mod Keeping
+pub mod Marks
+pub mod Before
+pub mod Sources
+pub mod Memory
+pub mod Knowledge

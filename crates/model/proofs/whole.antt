@@ -1,9 +1,12 @@
 pub mod Agreement
 pub mod Accepted
 pub mod Answers
+pub mod Gone
 pub mod LineRight
 pub mod Listed
 pub mod Reached
 pub mod Recovers
+pub mod Refused
 pub mod Runs
 pub mod Steps
+pub mod Values

@@ -1,6 +1,6 @@
 -- Document 01, "The surviving history": "It is built from the calls and their answers, and from nothing in the state".
 -- Assumes nothing.
-use mathlib.Core.Bool.{Bool, _&&_, _||_, not}
+use mathlib.Core.Bool.{Bool, true, false, _&&_, _||_, not}
 use mathlib.Core.List.{List, [], _∷_, _++_}
 use mathlib.Core.Option.{Option, none, some}
 use Prim.Native.Nat.{ℕ, _+_, _*_}
@@ -12,16 +12,18 @@ use Rattle.laws.specs.Update.{upd}
 use Rattle.model.specs.History.{HistoryEvent, stored, sent, received, Lists, checkpoints, upTo}
 use Rattle.model.specs.Calls.{Call, checkpoint, send, deliver, lose, recover, line, Reply, Exchange}
 
--- The surviving history: the lists; how many sends were accepted; the receiver that each send named; which checkpoints are kept.
+-- The surviving history: the lists; how many sends were accepted; the receiver that each send named; which messages are under way: sent by an accepted
+-- send, neither delivered nor lost since by an accepted call; which checkpoints are kept.
 pub record Surviving : Type 0 where
   pub lists : Lists
   pub sends : ℕ
   pub receiver : ℕ → ℕ
+  pub underway : ℕ → Bool
   pub kept : ℕ → ℕ → Bool
 
 -- "After the start each list is checkpoint 0."
 unfoldable pub beginning : Surviving
-beginning = record { lists = λ p. stored ∷ []; sends = 0; receiver = λ m. 0; kept = λ p k. eqb k 0 }
+beginning = record { lists = λ p. stored ∷ []; sends = 0; receiver = λ m. 0; underway = λ m. false; kept = λ p k. eqb k 0 }
 
 -- An event at the end of a process's list.
 unfoldable pub added : Lists → ℕ → HistoryEvent → Lists
@@ -66,6 +68,15 @@ receiverAfter h (lose m) = h .receiver
 receiverAfter h (recover F deleted lent) = h .receiver
 receiverAfter h (line F lent) = h .receiver
 
+-- Which messages are under way. "Deliver: The message is no longer under way." "Lose: The message is no longer under way." "Recover: Every message under way is lost."
+unfoldable pub underwayAfter : Surviving → Call → ℕ → Bool
+underwayAfter h (checkpoint i deleted) = h .underway
+underwayAfter h (send i j) = upd (h .underway) (h .sends + 1) true
+underwayAfter h (deliver m deleted) = upd (h .underway) m false
+underwayAfter h (lose m) = upd (h .underway) m false
+underwayAfter h (recover F deleted lent) = λ m. false
+underwayAfter h (line F lent) = h .underway
+
 -- The answer hands out the pair p, k.
 unfoldable pub handedOut : Reply → ℕ → ℕ → Bool
 handedOut r p k = anyBelow (r .report .deletions) (λ d. eqb (getD (r .deleted) (2 * d) 0) p && eqb (getD (r .deleted) (2 * d + 1) 0) k)
@@ -79,6 +90,7 @@ accepted n h c r = record {
   lists = listsAfter n h c r;
   sends = sendsAfter h c;
   receiver = receiverAfter h c;
+  underway = underwayAfter h c;
   kept = keptAfter h (listsAfter n h c r) r;
 }
 

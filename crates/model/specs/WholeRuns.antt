@@ -1,8 +1,8 @@
 -- Demand 3, "Right over whole runs", as one type. Its proof is in proofs/.
 -- Assumes nothing.
 use mathlib.Core.Path.{_≡_}
-use mathlib.Core.Bool.{true, false}
-use mathlib.Core.List.{List, [], _∷_, _++_}
+use mathlib.Core.Bool.{true}
+use mathlib.Core.List.{List}
 use mathlib.Core.Logic.{_⊎_}
 use mathlib.Core.Option.{none, some}
 use Prim.Native.Nat.{ℕ, _*_, _^_, _<_, _≤_}
@@ -12,14 +12,15 @@ use Rattle.laws.specs.Tests.{countBelow, some-of}
 use Rattle.model.specs.declared.Run.{Run}
 use Rattle.model.specs.declared.Refusal.the-variants.{ListTooShort}
 use Rattle.model.specs.declared.StartAnswer.the-variants.{Started}
-use Rattle.model.specs.Words.{names, failed, process}
+use Rattle.model.specs.Words.{names, process}
 use Rattle.model.specs.Steps.{lineOf}
-use Rattle.model.specs.History.{Line, checkpoints, Consistent}
+use Rattle.model.specs.History.{Line, checkpoints}
 use Rattle.model.specs.Sound.{sound}
 use Rattle.model.specs.Refusals.{lineRefusal, recoverRefusal}
 use Rattle.model.specs.Outcomes.{startOutcome, lineOutcome, recoverOutcome}
-use Rattle.model.specs.Calls.{Call, call, stateAfter, transcript}
+use Rattle.model.specs.Calls.{Call, stateAfter, transcript}
 use Rattle.model.specs.Survival.{Surviving, surviving}
+use Rattle.model.specs.Answers.{RightLine, AnswersAreRight}
 
 -- "The reported line is the n indexes that a line or recover call for the failed set then writes"
 abbrev pub reported : Run → ℕ → Line
@@ -37,15 +38,8 @@ pub record LineIsRight (n : ℕ) (s : Run) (h : Surviving) (F : ℕ) : Type 0 wh
   pub line-writes : (lent : List ℕ) → n ≤ length lent → (p : ℕ) → p < n → getD (lineOutcome s F lent .line) p 0 ≡ reported s F p
   pub recover-writes : (deleted lent : List ℕ) → 2 * n * n ≤ length deleted → n ≤ length lent → (p : ℕ) → p < n
       → getD (recoverOutcome s F deleted lent .line) p 0 ≡ reported s F p
-  -- "the reported line is consistent by the messages of the surviving history alone"
-  pub consistent : Consistent n (h .lists) (reported s F)
-  -- "no other consistent line with the failed processes at stored checkpoints is later anywhere": of every line whose members are
-  -- checkpoints of the lists, deleted or not, or live states
-  pub maximal : (other : Line) → ((p : ℕ) → p < n → other p ≤ checkpoints (h .lists p)) → Consistent n (h .lists) other
-      → ((f : ℕ) → f < n → failed F f ≡ true → other f < checkpoints (h .lists f)) → (p : ℕ) → p < n → other p ≤ reported s F p
-  -- "each member is a live state of a process that has not failed, or a kept checkpoint", kept by the pairs handed out
-  pub members : (p : ℕ) → p < n → ((reported s F p ≡ checkpoints (h .lists p)) × (failed F p ≡ false))
-      ⊎ ((reported s F p < checkpoints (h .lists p)) × (h .kept p (reported s F p) ≡ true))
+  -- and it is right by the history
+  pub right : RightLine n h F (reported s F)
 
 -- What is promised of a state and its surviving history whoever fails: kept by the pairs handed out are exactly the checkpoints that the state keeps,
 -- "the pins name exactly the kept ones", and "no process keeps more than n".
@@ -54,18 +48,14 @@ pub record KeptIsRight (n : ℕ) (s : Run) (h : Surviving) : Type 0 where
   pub kept-by-pins : (p k : ℕ) → p < n → some-of (λ pin. names pin (record { 0 = k })) (process s p .pins) ≡ h .kept p k
   pub at-most-n : (p : ℕ) → p < n → countBelow (checkpoints (h .lists p)) (h .kept p) ≤ n
 
--- Each answer is the one that the outcome of its call fixes, on the state that the calls before it left.
-unfoldable pub AnswersAreRight : Run → List Call → Type 0
-AnswersAreRight s calls = (before rest : List Call) (c : Call) → calls ≡ before ++ (c ∷ rest)
-    → transcript s calls ≡ transcript s before ++ (record { made = c; reply = call (stateAfter s before) c .reply } ∷ transcript (stateAfter s (before ++ (c ∷ []))) rest)
-
--- Demand 3: for every n from 1 to 16, every list of calls from the state that an accepted start returned, and every non-empty failed set.
+-- Demand 3: for every n from 1 to 16, every list of calls from the state that an accepted start returned, and every non-empty failed set. What every
+-- answer is, by the surviving history before it, is in Answers.
 unfoldable pub RightOverWholeRuns : Type 0
 RightOverWholeRuns = (n : ℕ) → 1 ≤ n → n ≤ 16 → (calls : List Call) →
     let s₀ = startOutcome n .run in
     let s = stateAfter s₀ calls in
     let h = surviving n (transcript s₀ calls) in
-    (startOutcome n .answer ≡ Started) × (AnswersAreRight s₀ calls) × (KeptIsRight n s h) × ((F : ℕ) → 1 ≤ F → F < 2 ^ n → LineIsRight n s h F)
+    (startOutcome n .answer ≡ Started) × (AnswersAreRight n (transcript s₀ calls)) × (KeptIsRight n s h) × ((F : ℕ) → 1 ≤ F → F < 2 ^ n → LineIsRight n s h F)
 
 -- A state that calls from an accepted start reach. The replay of a trace has no other states.
 unfoldable pub Reachable : Run → Type 0

@@ -79,10 +79,10 @@ gather-length zero b f h = omega arith
 gather-length (suc n) b f h = rw (length-append (gather n f) (f n)) (omega (arith, gather-length n b f (λ p lt. h p (omega arith)), h n (omega arith)))
 
 -- A lent list of 2 × n × n entries has room for the pairs of one process that keeps at most n, and for those of all.
-room-one : (n l : ℕ) → 0 < n → l ≤ n → 2 * l ≤ 2 * n * n
+pub room-one : (n l : ℕ) → 0 < n → l ≤ n → 2 * l ≤ 2 * n * n
 room-one n l some few = omega (arith, le-mul-of-pos-right n some)
 
-abbrev gone : Ideal → Ideal → ℕ → List Deletion
+abbrev pub gone : Ideal → Ideal → ℕ → List Deletion
 gone r r′ i = listed i (passing (r .own i) (λ k. keeps r i k && not (keeps r′ i k)) (checkpointOf r i))
 
 module _ (r r′ : Ideal) (v : Inv r) where

@@ -26,7 +26,7 @@ abbrev none-deleted : Deletion
 none-deleted = record { process = 0; index = record { 0 = 0 } }
 
 -- The numbers of the pairs, by place.
-length-pairs : (ds : List Deletion) → length (pairs ds) ≡ 2 * length ds
+pub length-pairs : (ds : List Deletion) → length (pairs ds) ≡ 2 * length ds
 unfolding pairs
 length-pairs [] = refl
 length-pairs (d ∷ ds) = omega (arith, length-pairs ds)

@@ -10,12 +10,15 @@ use Rattle.model.specs.Words.{process}
 use Rattle.model.specs.Steps.{forces}
 use Rattle.model.specs.Outcomes.{checkpointOutcome, sendOutcome, deliverAnswer, deliverOutcome, message, loseOutcome, lineOutcome, recoverOutcome, checkpointReport, sendReport, deliverReport, loseReport, lineReport, recoverReport}
 use Rattle.model.specs.Calls.{Call, checkpoint, send, deliver, lose, recover, line, answered, call}
-use Rattle.model.specs.Survival.{Surviving, after, accepted, listsAfter, sendsAfter, receiverAfter}
+use Rattle.model.specs.Survival.{Surviving, after, accepted, listsAfter, sendsAfter, receiverAfter, underwayAfter}
+use Rattle.model.specs.Answers.{lentDeletions}
 use Rattle.model.proofs.ideal.Run.{Ideal}
 use Rattle.model.proofs.ideal.Invariant.{Inv}
 use Rattle.model.proofs.ideal.Keeping.{Moved}
+use Rattle.model.proofs.ideal.Memory.{Memory}
 use Rattle.model.proofs.simulation.View.{stateOf, Limits}
 use Rattle.model.proofs.whole.Agreement.{Agrees, HandsOut, kept-agrees}
+use Rattle.model.proofs.whole.Gone.{HandsOver}
 use Rattle.model.proofs.whole.Reached.{Reached, exchange, refusal}
 use Rattle.model.proofs.whole.Runs.{stepped}
 
@@ -35,7 +38,7 @@ accepted-report s (recover F deleted lent) e = rw e
 accepted-report s (line F lent) e = rw e
 
 -- So the history takes it in.
-accepted-history : (n : ℕ) (s : Run) (h : Surviving) (c : Call) → refusal s c ≡ none → after n h (exchange s c) ≡ accepted n h c (call s c .reply)
+pub accepted-history : (n : ℕ) (s : Run) (h : Surviving) (c : Call) → refusal s c ≡ none → after n h (exchange s c) ≡ accepted n h c (call s c .reply)
 unfolding after
 accepted-history n s h c e = rw (accepted-report s c e)
 
@@ -48,20 +51,30 @@ pub record Step (n : ℕ) (h : Surviving) (r : Ideal) (c : Call) : Type 0 where
   pub lists : listsAfter n h c (call (stateOf r) c .reply) ≡ stepped r c .events
   pub sends : sendsAfter h c ≡ stepped r c .last
   pub receiver : receiverAfter h c ≡ stepped r c .receiver
+  pub underway : underwayAfter h c ≡ stepped r c .transit
+  pub memory : Memory (stepped r c)
   pub hands-out : HandsOut (call (stateOf r) c .reply) r (stepped r c)
+  pub hands-over : HandsOver (call (stateOf r) c .reply) (lentDeletions c) r (stepped r c)
+
+-- The history after the call agrees with the run after the step.
+pub step-agrees : (n : ℕ) (r : Ideal) (h : Surviving) (c : Call) → Inv r → Agrees h r → refusal (stateOf r) c ≡ none → Step n h r c
+    → Agrees (after n h (exchange (stateOf r) c)) (stepped r c)
+unfolding accepted
+step-agrees n r h c v g e t = rw (accepted-history n (stateOf r) h c e) (record {
+  lists = t .lists;
+  sends = t .sends;
+  receiver = t .receiver;
+  underway = t .underway;
+  kept = λ p k hp. kept-agrees h r (stepped r c) v (t .inv) g (t .moved) (listsAfter n h c (call (stateOf r) c .reply)) (t .lists) (call (stateOf r) c .reply) (t .hands-out) p k (rw (t .moved .size) at hp);
+})
 
 pub step-reached : (n : ℕ) (r : Ideal) (h : Surviving) (c : Call) → Inv r → r .n ≡ n → Agrees h r → refusal (stateOf r) c ≡ none → Step n h r c
     → Reached n (call (stateOf r) c .run) (after n h (exchange (stateOf r) c)) (stepped r c)
-unfolding accepted
-step-reached n r h c v size g e t = rw (accepted-history n (stateOf r) h c e) (record {
+step-reached n r h c v size g e t = record {
   inv = t .inv;
   limits = t .limits;
+  memory = t .memory;
   size = t .moved .size ∙ size;
   state = t .state;
-  agrees = record {
-    lists = t .lists;
-    sends = t .sends;
-    receiver = t .receiver;
-    kept = λ p k hp. kept-agrees h r (stepped r c) v (t .inv) g (t .moved) (listsAfter n h c (call (stateOf r) c .reply)) (t .lists) (call (stateOf r) c .reply) (t .hands-out) p k (rw (t .moved .size) at hp);
-  };
-})
+  agrees = step-agrees n r h c v g e t;
+}

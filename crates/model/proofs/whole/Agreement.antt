@@ -19,6 +19,7 @@ pub record Agrees (h : Surviving) (r : Ideal) : Type 0 where
   pub lists : h .lists ≡ r .events
   pub sends : h .sends ≡ r .last
   pub receiver : h .receiver ≡ r .receiver
+  pub underway : h .underway ≡ r .transit
   pub kept : (p k : ℕ) → p < r .n → h .kept p k ≡ keeps r p k
 
 -- The answer hands out exactly the checkpoints that were pinned and no longer are.

@@ -1,19 +1,121 @@
--- Each answer in a transcript is the one that the outcome of its call fixes, on the state that the calls before it left.
+-- Each answer in a transcript is right, judged by the surviving history before it: the clauses of specs/Answers put together, for one call.
 -- Assumes nothing.
-use mathlib.Core.Path.{_≡_, refl, ap}
-use mathlib.Core.List.{List, [], _∷_, _++_}
-use Rattle.model.specs.declared.Run.{Run}
-use Rattle.model.specs.Calls.{Call, Exchange, call, stateAfter, transcript}
-use Rattle.model.specs.WholeRuns.{AnswersAreRight}
+use mathlib.Core.Path.{_≡_, sym, _∙_}
+use mathlib.Core.Bool.{true}
+use mathlib.Core.List.{List}
+use mathlib.Core.Option.{Option, none, some}
+use Prim.Native.Nat.{ℕ, _^_, _≤_, _<_}
+use native.Mathlib.Omega.{arith}
+use lib.ListN.{getD}
+use borrow.Author.Tests.{eqb-false}
+use Rattle.model.specs.declared.Refusal.{Refusal}
+use Rattle.model.specs.Refusals.{number}
+use Rattle.model.specs.Calls.{Call, checkpoint, send, deliver, lose, recover, line, answered, call}
+use Rattle.model.specs.Survival.{Surviving, after}
+use Rattle.model.specs.Answers.{lowest, reasons, failedSet, gonePairs, SentSince, BringsNews, Forces, RightLine, AnswerIsRight}
+use Rattle.model.specs.WholeRuns.{reported, LineIsRight}
+use Rattle.model.proofs.ideal.Run.{Ideal, forces}
+use Rattle.model.proofs.ideal.Invariant.{Inv}
+use Rattle.model.proofs.ideal.Memory.{Memory}
+use Rattle.model.proofs.ideal.Knowledge.{Since, News, forced-since, forced-news, news-forces}
+use Rattle.model.proofs.simulation.View.{stateOf, Limits}
+use Rattle.model.proofs.simulation.SoundCalls.{line-run, recover-run}
+use Rattle.model.proofs.whole.Agreement.{Agrees}
+use Rattle.model.proofs.whole.Accepted.{Step, accepted-report, step-agrees}
+use Rattle.model.proofs.whole.Gone.{goneAll, gone-agrees}
+use Rattle.model.proofs.whole.LineRight.{same-line}
+use Rattle.model.proofs.whole.Reached.{exchange, refusal, refused-number, refused-report}
+use Rattle.model.proofs.whole.Refused.{by-refusal, reports-number, forcingOf, number-right}
+use Rattle.model.proofs.whole.Runs.{stepped}
+use Rattle.model.proofs.whole.Values.{refused-reply, value-right, line-list-right}
 
--- A transcript, taken apart at a call.
-pub taken-apart : (s : Run) (before rest : List Call) (c : Call)
-    → transcript s (before ++ (c ∷ rest))
-    ≡ transcript s before ++ (record { made = c; reply = call (stateAfter s before) c .reply } ∷ transcript (stateAfter s (before ++ (c ∷ []))) rest)
-unfolding transcript stateAfter
-taken-apart s [] rest c = refl
-taken-apart s (b ∷ before) rest c = ap (λ (l : List Exchange). record { made = b; reply = call s b .reply } ∷ l) (taken-apart (call s b .run) before rest c)
+-- A refused call does not report the number 0.
+not-accepted : (x : Refusal) (k : ℕ) → k ≡ number x → k ≡ 0 → ⊥
+not-accepted x k e z = eqb-false (number x) 0 (refused-number x) (sym e ∙ z)
 
-pub answers-right : (s : Run) (calls : List Call) → AnswersAreRight s calls
-unfolding AnswersAreRight
-answers-right s calls before rest c e = rw e (taken-apart s before rest c)
+module _ (h : Surviving) (r : Ideal) (v : Inv r) (fit : Limits r) (memory : Memory r) (g : Agrees h r) where
+  -- Whether a delivery forces a checkpoint is what the history says.
+  forcing-is : (c : Call) (m : ℕ) (deleted : List ℕ) → c ≡ deliver m deleted → forcingOf r c ≡ forces r m
+  unfolding forcingOf
+  forcing-is c m deleted q = rw q
+
+  in-transit : (m : ℕ) → h .underway m ≡ true → r .transit m ≡ true
+  in-transit m under = rw (g .underway) at under
+
+  in-history : (m : ℕ) → Since r (r .receiver m) × News r m → Forces (r .n) h m
+  unfolding Forces SentSince BringsNews
+  in-history m d = rw (g .lists, g .receiver) d
+
+  from-history : (m : ℕ) → Forces (r .n) h m → Since r (r .receiver m) × News r m
+  unfolding Forces SentSince BringsNews
+  from-history m d = rw (← g .lists, ← g .receiver) d
+
+  module _ (c : Call) where
+    forces-if : (m : ℕ) (deleted : List ℕ) → c ≡ deliver m deleted → h .underway m ≡ true → Forces (r .n) h m → forcingOf r c ≡ true
+    forces-if m deleted q under d = let w = from-history m d in forcing-is c m deleted q ∙ news-forces r v memory m (in-transit m under) (w .0) (w .1)
+
+    only-if : (m : ℕ) (deleted : List ℕ) → c ≡ deliver m deleted → h .underway m ≡ true → forcingOf r c ≡ true → Forces (r .n) h m
+    only-if m deleted q under d =
+        let e : forces r m ≡ true = sym (forcing-is c m deleted q) ∙ d in
+        in-history m (forced-since r v memory m (in-transit m under) e, forced-news r v memory m (in-transit m under) e)
+
+    number-is : call (stateOf r) c .reply .report .refused ≡ lowest (reasons (r .n) h (forcingOf r c) c)
+    number-is = reports-number (stateOf r) c ∙ number-right h r v fit g c
+
+  -- The line that an accepted call wrote.
+  line-answer : ((F : ℕ) → 1 ≤ F → F < 2 ^ r .n → LineIsRight (r .n) (stateOf r) h F) → (c : Call) → refusal (stateOf r) c ≡ none → (F : ℕ) → failedSet c ≡ some F
+      → RightLine (r .n) h F (λ p. getD (call (stateOf r) c .reply .line) p 0)
+  unfolding refusal failedSet call answered
+  line-answer lines (checkpoint i deleted) e F q = absurd (let z : _≡_ {A = ℕ} 0 1 = cc in omega arith)
+  line-answer lines (send i j) e F q = absurd (let z : _≡_ {A = ℕ} 0 1 = cc in omega arith)
+  line-answer lines (deliver m deleted) e F q = absurd (let z : _≡_ {A = ℕ} 0 1 = cc in omega arith)
+  line-answer lines (lose m) e F q = absurd (let z : _≡_ {A = ℕ} 0 1 = cc in omega arith)
+  line-answer lines (recover G deleted lent) e F q =
+      let w = recover-run r v fit G deleted lent e in
+      let right = lines G (w .0 .0) (w .0 .1) in
+      rw (← same-set G F q) (same-line (r .n) h G (reported (stateOf r) G) _ (right .right) (right .recover-writes deleted lent (w .1) (w .2)))
+    where
+      same-set : (a b : ℕ) → _≡_ {A = Option ℕ} (some a) (some b) → a ≡ b
+      same-set a b q = cc
+  line-answer lines (line G lent) e F q =
+      let w = line-run r v fit G lent e in
+      let right = lines G (w .0 .0) (w .0 .1) in
+      rw (← same-set G F q) (same-line (r .n) h G (reported (stateOf r) G) _ (right .right) (right .line-writes lent (w .1)))
+    where
+      same-set : (a b : ℕ) → _≡_ {A = Option ℕ} (some a) (some b) → a ≡ b
+      same-set a b q = cc
+
+  pub answer-right : ((F : ℕ) → 1 ≤ F → F < 2 ^ r .n → LineIsRight (r .n) (stateOf r) h F) → (c : Call) → (refusal (stateOf r) c ≡ none → Step (r .n) h r c)
+      → AnswerIsRight (r .n) h (exchange (stateOf r) c)
+  answer-right lines c steps = by-refusal (refusal (stateOf r) c)
+      (λ e.
+      let t = steps e in
+      let zero-reported = accepted-report (stateOf r) c e in
+      let handed : gonePairs (r .n) h (after (r .n) h (exchange (stateOf r) c)) ≡ goneAll r (stepped r c)
+      = gone-agrees h (after (r .n) h (exchange (stateOf r) c)) r (stepped r c) v g (step-agrees (r .n) r h c v g e t) (t .moved .size) in
+      record {
+        forcing = forcingOf r c;
+        forces-if = forces-if c;
+        only-if = only-if c;
+        number = number-is c;
+        refused = λ no. absurd (no zero-reported);
+        value = λ z. value-right h r v fit memory g c e;
+        pairs = λ z. rw handed (t .hands-over .deleted);
+        count = λ z. rw handed (t .hands-over .counted);
+        line-list = λ z. line-list-right h r v fit memory g c e;
+        line-right = λ z F q. line-answer lines c e F q;
+      })
+      (λ x e.
+      let no = not-accepted x (call (stateOf r) c .reply .report .refused) (refused-report (stateOf r) c x e) in
+      record {
+        forcing = forcingOf r c;
+        forces-if = forces-if c;
+        only-if = only-if c;
+        number = number-is c;
+        refused = λ not-zero. refused-reply (stateOf r) c x e;
+        value = λ z. absurd (no z);
+        pairs = λ z. absurd (no z);
+        count = λ z. absurd (no z);
+        line-list = λ z. absurd (no z);
+        line-right = λ z F q. absurd (no z);
+      })

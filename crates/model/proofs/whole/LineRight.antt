@@ -25,6 +25,7 @@ use Rattle.model.specs.History.{Lists, Line, checkpoints, Consistent}
 use Rattle.model.specs.Refusals.{firstOf, shortDeletions, shortLine, noMember, lineRefusal, recoverRefusal}
 use Rattle.model.specs.Outcomes.{lineOutcome, recoverOutcome}
 use Rattle.model.specs.Survival.{Surviving}
+use Rattle.model.specs.Answers.{RightLine}
 use Rattle.model.specs.WholeRuns.{reported, LineIsRight}
 use Rattle.model.proofs.ideal.Run.{Ideal, line}
 use Rattle.model.proofs.ideal.Invariant.{Inv}
@@ -46,6 +47,15 @@ module _ (s : Run) (F : ℕ) (whole : sound s ≡ true) where
       short : (length deleted < 2 * s .count * s .count) ⊎ (length lent < s .count) → (shortDeletions s deleted || shortLine s lent) ≡ true
       short (inl d) = or-left (shortDeletions s deleted) (shortLine s lent) (lt-ltb (length deleted) (2 * s .count * s .count) d)
       short (inr l) = or-in-right (shortDeletions s deleted) (shortLine s lent) (lt-ltb (length lent) (s .count) l)
+
+-- Indexes that are those of a right line are a right line.
+pub same-line : (n : ℕ) (h : Surviving) (F : ℕ) (a b : Line) → RightLine n h F a → ((p : ℕ) → p < n → b p ≡ a p) → RightLine n h F b
+unfolding Consistent
+same-line n h F a b right e = record {
+  consistent = λ q p m hq hp. rw (e q hq, e p hp) (right .consistent q p m hq hp);
+  maximal = λ other is-line consistent back p hp. rw (e p hp) (right .maximal other is-line consistent back p hp);
+  members = λ p hp. rw (e p hp) (right .members p hp);
+}
 
 -- A run as functions for which the state stands, and whose history agrees; what the state's own line rule gives is its line.
 module _ (r : Ideal) (v : Inv r) (s : Run) (h : Surviving) (g : Agrees h r) (F : ℕ) (count : s .count ≡ r .n) (whole : sound s ≡ true)
@@ -80,23 +90,19 @@ module _ (r : Ideal) (v : Inv r) (s : Run) (h : Surviving) (g : Agrees h r) (F :
   writes-recover deleted lent pairs room p hp =
       rw (accepted-recover deleted lent pairs room) (getD-written lent (lineOf s F) (omega (arith, line-length)) p 0 (omega (arith, line-length)))
 
-  consistent-line : Consistent (r .n) (h .lists) (reported s F)
-  unfolding Consistent
-  consistent-line = rw (g .lists) (λ q p m hq hp. rw (reported-is q hq, reported-is p hp) (line-consistent r v (failed F) q p m hq hp))
-
-  maximal-line : (other : Line) → ((p : ℕ) → p < r .n → other p ≤ checkpoints (h .lists p)) → Consistent (r .n) (h .lists) other
-      → ((f : ℕ) → f < r .n → failed F f ≡ true → other f < checkpoints (h .lists f)) → (p : ℕ) → p < r .n → other p ≤ reported s F p
-  maximal-line = rw (g .lists) (λ other is-line consistent back p hp. rw (reported-is p hp) (line-maximal r v (failed F) other is-line consistent back p hp))
-
-  member-right : (p : ℕ) → p < r .n → ((reported s F p ≡ checkpoints (h .lists p)) × (failed F p ≡ false))
-      ⊎ ((reported s F p < checkpoints (h .lists p)) × (h .kept p (reported s F p) ≡ true))
-  member-right p hp = rw (reported-is p hp, own-is p) (by-bool (ltb (line r (failed F) p) (r .own p))
-      (λ e. let back : line r (failed F) p < r .own p = ltb-true _ _ e in inr (back, g .kept p (line r (failed F) p) hp ∙ below-kept r v (failed F) p back))
-      (λ e. let stays : r .own p ≤ line r (failed F) p = ltb-false _ _ e in
-      inl (
-        omega (arith, line-le r v (failed F) p),
-        by-bool (failed F p) (λ b. absurd (omega (arith, failed-back r v (failed F) p hp b))) (λ b. b),
-      )))
+  -- The line of the run as functions is right by the history.
+  ideal-right : RightLine (r .n) h F (line r (failed F))
+  ideal-right = record {
+    consistent = rw (g .lists) (line-consistent r v (failed F));
+    maximal = rw (g .lists) (line-maximal r v (failed F));
+    members = λ p hp. rw (own-is p) (by-bool (ltb (line r (failed F) p) (r .own p))
+        (λ e. let back : line r (failed F) p < r .own p = ltb-true _ _ e in inr (back, g .kept p (line r (failed F) p) hp ∙ below-kept r v (failed F) p back))
+        (λ e. let stays : r .own p ≤ line r (failed F) p = ltb-false _ _ e in
+        inl (
+          omega (arith, line-le r v (failed F) p),
+          by-bool (failed F p) (λ b. absurd (omega (arith, failed-back r v (failed F) p hp b))) (λ b. b),
+        )));
+  }
 
   pub line-right : LineIsRight (r .n) s h F
   line-right = record {
@@ -107,7 +113,5 @@ module _ (r : Ideal) (v : Inv r) (s : Run) (h : Surviving) (g : Agrees h r) (F :
     recover-short = λ deleted lent short. recover-short s F whole deleted lent (rw count short);
     line-writes = writes-line;
     recover-writes = writes-recover;
-    consistent = consistent-line;
-    maximal = maximal-line;
-    members = member-right;
+    right = same-line (r .n) h F (line r (failed F)) (reported s F) ideal-right reported-is;
   }

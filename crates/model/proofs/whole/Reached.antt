@@ -15,6 +15,7 @@ use Rattle.model.specs.Calls.{Call, checkpoint, send, deliver, lose, rec
 use Rattle.model.specs.Survival.{Surviving, after}
 use Rattle.model.proofs.ideal.Run.{Ideal}
 use Rattle.model.proofs.ideal.Invariant.{Inv}
+use Rattle.model.proofs.ideal.Memory.{Memory}
 use Rattle.model.proofs.simulation.View.{stateOf, Limits}
 use Rattle.model.proofs.whole.Agreement.{Agrees}
 
@@ -22,6 +23,7 @@ pub record Reached (n : ℕ) (s : Run) (h : Surviving) (r : Ideal) : Type 0 wher
   -- the run as functions has all that the invariant says
   pub inv : Inv r
   pub limits : Limits r
+  pub memory : Memory r
   pub size : r .n ≡ n
   -- the state stands for it to the last unused place; the history agrees with it
   pub state : s ≡ stateOf r

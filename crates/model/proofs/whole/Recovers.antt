@@ -1,6 +1,6 @@
 -- An accepted recover call, as a step of the run as functions.
 -- Assumes nothing.
-use mathlib.Core.Path.{_≡_, _∙_}
+use mathlib.Core.Path.{_≡_, refl, _∙_}
 use mathlib.Core.List.{List}
 use mathlib.Core.Option.{none}
 use Prim.Native.Nat.{ℕ, _≤_, _<_}
@@ -14,9 +14,11 @@ use Rattle.model.specs.Steps.{recoverDeletions, lineOf}
 use Rattle.model.specs.Outcomes.{pairs, written, recoverOutcome, recoverReport}
 use Rattle.model.specs.Calls.{recover, answered, call}
 use Rattle.model.specs.Refusals.{recoverRefusal}
-use Rattle.model.specs.Survival.{Surviving, listsAfter, sendsAfter, receiverAfter}
+use Rattle.model.specs.Survival.{Surviving, listsAfter, sendsAfter, receiverAfter, underwayAfter}
+use Rattle.model.specs.Answers.{lentDeletions}
 use Rattle.model.proofs.ideal.Run.{Ideal, line, recovered}
 use Rattle.model.proofs.ideal.Invariant.{Inv}
+use Rattle.model.proofs.ideal.Memory.{Memory, recovered-memory}
 use Rattle.model.proofs.ideal.Keeping.{recovered-moved}
 use Rattle.model.proofs.ideal.Recovered.{recovered-inv}
 use Rattle.model.proofs.simulation.View.{stateOf, Limits}
@@ -27,11 +29,12 @@ use Rattle.model.proofs.simulation.Kept.{kept-most}
 use Rattle.model.proofs.simulation.Lines.{line-is}
 use Rattle.model.proofs.simulation.Recover.{recover-is}
 use Rattle.model.proofs.whole.Agreement.{Agrees, HandsOut}
+use Rattle.model.proofs.whole.Gone.{HandsOver, recover-over}
 use Rattle.model.proofs.whole.Accepted.{Step}
 use Rattle.model.proofs.whole.Runs.{stepped}
 use Rattle.model.proofs.whole.Listed.{recover-lists}
 
-module _ (n : ℕ) (h : Surviving) (r : Ideal) (v : Inv r) (fit : Limits r) (size : r .n ≡ n) (g : Agrees h r) (F : ℕ) (deleted lent : List ℕ) (e : recoverRefusal (stateOf r) F deleted lent ≡ none) where
+module _ (n : ℕ) (h : Surviving) (r : Ideal) (v : Inv r) (fit : Limits r) (memory : Memory r) (size : r .n ≡ n) (g : Agrees h r) (F : ℕ) (deleted lent : List ℕ) (e : recoverRefusal (stateOf r) F deleted lent ≡ none) where
   few : r .n ≤ places
   few = fit .few-processes
 
@@ -47,12 +50,12 @@ module _ (n : ℕ) (h : Surviving) (r : Ideal) (v : Inv r) (fit : Limits r) (siz
   unfolding call answered recoverOutcome
   recover-list = rw e
 
-  recover-line : call (stateOf r) (recover F deleted lent) .reply .line ≡ written lent (lineOf (stateOf r) F)
+  pub recover-line : call (stateOf r) (recover F deleted lent) .reply .line ≡ written lent (lineOf (stateOf r) F)
   unfolding call answered recoverOutcome
   recover-line = rw e
 
   -- The indexes written are the line.
-  written-line : (p : ℕ) → p < r .n → getD (call (stateOf r) (recover F deleted lent) .reply .line) p 0 ≡ line r (failed F) p
+  pub written-line : (p : ℕ) → p < r .n → getD (call (stateOf r) (recover F deleted lent) .reply .line) p 0 ≡ line r (failed F) p
   written-line p hp =
       let room = recover-run r v fit F deleted lent e .2 in
       let long : length (table (r .n) (line r (failed F))) ≡ r .n = length-table (r .n) (line r (failed F)) in
@@ -65,13 +68,19 @@ module _ (n : ℕ) (h : Surviving) (r : Ideal) (v : Inv r) (fit : Limits r) (siz
       recover-handed r v few (call (stateOf r) (recover F deleted lent) .reply) deleted (recover-run r v fit F deleted lent e .1) p k F hp (λ q hq. kept-most r q)
       (record { deleted = recover-list; counted = recover-count })
 
+  recover-hands-over : HandsOver (call (stateOf r) (recover F deleted lent) .reply) (lentDeletions (recover F deleted lent)) r (recovered r (failed F))
+  unfolding lentDeletions
+  recover-hands-over =
+      recover-over r v few (call (stateOf r) (recover F deleted lent) .reply) deleted (recover-run r v fit F deleted lent e .1) F (record { deleted = recover-list; counted = recover-count })
+
   recover-cut : listsAfter n h (recover F deleted lent) (call (stateOf r) (recover F deleted lent) .reply) ≡ recovered r (failed F) .events
   unfolding listsAfter
   recover-cut = rw (← size, g .lists) (recover-lists r v (failed F) (call (stateOf r) (recover F deleted lent) .reply .line) written-line)
 
   recover-same : (sendsAfter h (recover F deleted lent) ≡ recovered r (failed F) .last) × (receiverAfter h (recover F deleted lent) ≡ recovered r (failed F) .receiver)
-  unfolding sendsAfter receiverAfter recovered
-  recover-same = (g .sends, g .receiver)
+      × (underwayAfter h (recover F deleted lent) ≡ recovered r (failed F) .transit)
+  unfolding sendsAfter receiverAfter underwayAfter recovered
+  recover-same = (g .sends, g .receiver, refl)
 
   pub recover-step : Step n h r (recover F deleted lent)
   unfolding stepped
@@ -83,5 +92,8 @@ module _ (n : ℕ) (h : Surviving) (r : Ideal) (v : Inv r) (fit : Limits r) (siz
     lists = recover-cut;
     sends = recover-same .0;
     receiver = recover-same .1;
+    underway = recover-same .2;
+    memory = recovered-memory r (failed F) memory;
     hands-out = recover-hands-out;
+    hands-over = recover-hands-over;
   }

@@ -2,7 +2,7 @@
 -- Assumes nothing.
 use mathlib.Core.Path.{_≡_, refl, sym, _∙_, fun-ext}
 use mathlib.Core.Bool.{Bool, true, false, _&&_, not}
-use mathlib.Core.List.{List}
+use mathlib.Core.List.{List, []}
 use mathlib.Core.Logic.{inl}
 use mathlib.Core.Option.{none, some}
 use Prim.Native.Nat.{ℕ, _≤_, _<_}
@@ -16,10 +16,12 @@ use Rattle.model.specs.Steps as steps
 use Rattle.model.specs.Outcomes.{pairs, written, checkpointOutcome, checkpointReport, sendOutcome, sendReport, message, deliverAnswer, deliverOutcome, deliverReport, loseOutcome, loseReport, lineOutcome, lineReport}
 use Rattle.model.specs.Calls.{checkpoint, send, deliver, lose, line, Reply, answered, call}
 use Rattle.model.specs.Refusals.{checkpointRefusal, sendRefusal, deliverRefusal, loseRefusal, lineRefusal}
-use Rattle.model.specs.Survival.{Surviving, handedOut, listsAfter, sendsAfter, receiverAfter}
+use Rattle.model.specs.Survival.{Surviving, handedOut, listsAfter, sendsAfter, receiverAfter, underwayAfter}
+use Rattle.model.specs.Answers.{lentDeletions}
 use Rattle.model.proofs.ideal.Run.{Ideal, keeps, checkpointed, sending, forces, delivered, lost}
 use Rattle.model.proofs.ideal.Invariant.{Inv}
 use Rattle.model.proofs.ideal.Messages.{underway-proper}
+use Rattle.model.proofs.ideal.Memory.{Memory, checkpointed-memory, sending-memory, lost-memory, delivered-memory}
 use Rattle.model.proofs.ideal.Keeping.{checkpointed-moved, sending-moved, lost-moved, delivered-moved}
 use Rattle.model.proofs.ideal.CheckpointedViews.{checkpointed-last}
 use Rattle.model.proofs.ideal.Checkpointed.{checkpointed-inv}
@@ -36,9 +38,10 @@ use Rattle.model.proofs.simulation.Deliver.{deliver-is, deliver-forces}
 use Rattle.model.proofs.simulation.Handed.{checkpoint-handed, deliver-handed}
 use Rattle.model.proofs.simulation.Kept.{kept-most}
 use Rattle.model.proofs.whole.Agreement.{Agrees, HandsOut}
+use Rattle.model.proofs.whole.Gone.{HandsOver, nothing-over, checkpoint-over, deliver-over}
 use Rattle.model.proofs.whole.Accepted.{Step}
 use Rattle.model.proofs.whole.Runs.{stepped}
-use Rattle.model.proofs.whole.Listed.{checkpoint-lists, send-lists, send-sends, send-receiver, deliver-forced, deliver-plain}
+use Rattle.model.proofs.whole.Listed.{checkpoint-lists, send-lists, send-sends, send-receiver, send-underway, deliver-underway, deliver-forced, deliver-plain}
 
 -- An answer without deletions hands out nothing, and nothing may be gone.
 no-change : (b : Bool) → (b && not b) ≡ false
@@ -49,7 +52,7 @@ hands-out-none : (a : Reply) (r r′ : Ideal) → a .report .deletions ≡ 0 →
 unfolding HandsOut handedOut anyBelow
 hands-out-none a r r′ count same p k hp = rw (count, same p k) (sym (no-change (keeps r p k)))
 
-module _ (n : ℕ) (h : Surviving) (r : Ideal) (v : Inv r) (fit : Limits r) (size : r .n ≡ n) (g : Agrees h r) where
+module _ (n : ℕ) (h : Surviving) (r : Ideal) (v : Inv r) (fit : Limits r) (memory : Memory r) (size : r .n ≡ n) (g : Agrees h r) where
   few : r .n ≤ places
   few = fit .few-processes
 
@@ -70,15 +73,21 @@ module _ (n : ℕ) (h : Surviving) (r : Ideal) (v : Inv r) (fit : Limits r) (siz
     unfolding call answered checkpointOutcome
     checkpoint-list = rw e
 
-    checkpoint-receiver : receiverAfter h (checkpoint i deleted) ≡ checkpointed r i .receiver
-    unfolding receiverAfter checkpointed
-    checkpoint-receiver = g .receiver
+    checkpoint-receiver : (receiverAfter h (checkpoint i deleted) ≡ checkpointed r i .receiver) × (underwayAfter h (checkpoint i deleted) ≡ checkpointed r i .transit)
+    unfolding receiverAfter underwayAfter checkpointed
+    checkpoint-receiver = (g .receiver, g .underway)
 
     checkpoint-hands-out : HandsOut (call (stateOf r) (checkpoint i deleted) .reply) r (checkpointed r i)
     unfolding HandsOut
     checkpoint-hands-out p k hp =
         let w = checkpoint-run r v fit i deleted e in
         checkpoint-handed r v few (call (stateOf r) (checkpoint i deleted) .reply) deleted (w .2) p k i (w .0) (kept-most r i) (record { deleted = checkpoint-list; counted = checkpoint-count })
+
+    checkpoint-hands-over : HandsOver (call (stateOf r) (checkpoint i deleted) .reply) (lentDeletions (checkpoint i deleted)) r (checkpointed r i)
+    unfolding lentDeletions
+    checkpoint-hands-over =
+        let w = checkpoint-run r v fit i deleted e in
+        checkpoint-over r v few (call (stateOf r) (checkpoint i deleted) .reply) deleted (w .2) i (w .0) (record { deleted = checkpoint-list; counted = checkpoint-count })
 
     pub checkpoint-step : Step n h r (checkpoint i deleted)
     unfolding sendsAfter stepped
@@ -89,8 +98,11 @@ module _ (n : ℕ) (h : Surviving) (r : Ideal) (v : Inv r) (fit : Limits r) (siz
       state = checkpoint-run-state;
       lists = checkpoint-lists n h r g i deleted (call (stateOf r) (checkpoint i deleted) .reply);
       sends = g .sends ∙ sym (checkpointed-last r i);
-      receiver = checkpoint-receiver;
+      receiver = checkpoint-receiver .0;
+      underway = checkpoint-receiver .1;
+      memory = checkpointed-memory r i memory;
       hands-out = checkpoint-hands-out;
+      hands-over = checkpoint-hands-over;
     }
 
   -- Send from i to j.
@@ -102,6 +114,14 @@ module _ (n : ℕ) (h : Surviving) (r : Ideal) (v : Inv r) (fit : Limits r) (siz
     send-count : call (stateOf r) (send i j) .reply .report .deletions ≡ 0
     unfolding call answered sendOutcome sendReport
     send-count = rw e
+
+    send-none : call (stateOf r) (send i j) .reply .deleted ≡ []
+    unfolding call answered sendOutcome
+    send-none = rw e
+
+    send-hands-over : HandsOver (call (stateOf r) (send i j) .reply) (lentDeletions (send i j)) r (sending r i j)
+    unfolding lentDeletions
+    send-hands-over = nothing-over r (sending r i j) (call (stateOf r) (send i j) .reply) send-none send-count (sending-keeps r i j)
 
     pub send-step : Step n h r (send i j)
     unfolding stepped
@@ -116,7 +136,10 @@ module _ (n : ℕ) (h : Surviving) (r : Ideal) (v : Inv r) (fit : Limits r) (siz
           lists = send-lists n h r g i j a;
           sends = send-sends n h r g i j;
           receiver = send-receiver n h r g i j;
+          underway = send-underway n h r g i j;
+          memory = sending-memory r i j v memory;
           hands-out = hands-out-none a r (sending r i j) send-count (sending-keeps r i j);
+          hands-over = send-hands-over;
         }
 
   -- Lose m.
@@ -129,9 +152,17 @@ module _ (n : ℕ) (h : Surviving) (r : Ideal) (v : Inv r) (fit : Limits r) (siz
     unfolding call answered loseOutcome loseReport
     lose-count = rw e
 
-    lose-same : (listsAfter n h (lose m) (call (stateOf r) (lose m) .reply) ≡ lost r m .events) × (sendsAfter h (lose m) ≡ lost r m .last) × (receiverAfter h (lose m) ≡ lost r m .receiver)
-    unfolding listsAfter sendsAfter receiverAfter lost
-    lose-same = (g .lists, g .sends, g .receiver)
+    lose-same : (listsAfter n h (lose m) (call (stateOf r) (lose m) .reply) ≡ lost r m .events) × (sendsAfter h (lose m) ≡ lost r m .last) × (receiverAfter h (lose m) ≡ lost r m .receiver) × (underwayAfter h (lose m) ≡ lost r m .transit)
+    unfolding listsAfter sendsAfter receiverAfter underwayAfter lost
+    lose-same = (g .lists, g .sends, g .receiver, rw (g .underway))
+
+    lose-none : call (stateOf r) (lose m) .reply .deleted ≡ []
+    unfolding call answered loseOutcome
+    lose-none = rw e
+
+    lose-hands-over : HandsOver (call (stateOf r) (lose m) .reply) (lentDeletions (lose m)) r (lost r m)
+    unfolding lentDeletions
+    lose-hands-over = nothing-over r (lost r m) (call (stateOf r) (lose m) .reply) lose-none lose-count (lost-keeps r m)
 
     pub lose-step : Step n h r (lose m)
     unfolding stepped
@@ -143,7 +174,10 @@ module _ (n : ℕ) (h : Surviving) (r : Ideal) (v : Inv r) (fit : Limits r) (siz
       lists = lose-same .0;
       sends = lose-same .1;
       receiver = lose-same .2;
+      underway = lose-same .3;
+      memory = lost-memory r m memory;
       hands-out = hands-out-none (call (stateOf r) (lose m) .reply) r (lost r m) lose-count (lost-keeps r m);
+      hands-over = lose-hands-over;
     }
 
   -- Line for F: nothing changes.
@@ -156,9 +190,17 @@ module _ (n : ℕ) (h : Surviving) (r : Ideal) (v : Inv r) (fit : Limits r) (siz
     unfolding call answered lineOutcome lineReport
     line-count = rw e
 
-    line-same : (listsAfter n h (line F lent) (call (stateOf r) (line F lent) .reply) ≡ r .events) × (sendsAfter h (line F lent) ≡ r .last) × (receiverAfter h (line F lent) ≡ r .receiver)
-    unfolding listsAfter sendsAfter receiverAfter
-    line-same = (g .lists, g .sends, g .receiver)
+    line-same : (listsAfter n h (line F lent) (call (stateOf r) (line F lent) .reply) ≡ r .events) × (sendsAfter h (line F lent) ≡ r .last) × (receiverAfter h (line F lent) ≡ r .receiver) × (underwayAfter h (line F lent) ≡ r .transit)
+    unfolding listsAfter sendsAfter receiverAfter underwayAfter
+    line-same = (g .lists, g .sends, g .receiver, g .underway)
+
+    line-none : call (stateOf r) (line F lent) .reply .deleted ≡ []
+    unfolding call answered lineOutcome
+    line-none = rw e
+
+    line-hands-over : HandsOver (call (stateOf r) (line F lent) .reply) (lentDeletions (line F lent)) r r
+    unfolding lentDeletions
+    line-hands-over = nothing-over r r (call (stateOf r) (line F lent) .reply) line-none line-count (λ p k. refl)
 
     pub line-step : Step n h r (line F lent)
     unfolding stepped
@@ -170,7 +212,10 @@ module _ (n : ℕ) (h : Surviving) (r : Ideal) (v : Inv r) (fit : Limits r) (siz
       lists = line-same .0;
       sends = line-same .1;
       receiver = line-same .2;
+      underway = line-same .3;
+      memory = memory;
       hands-out = hands-out-none (call (stateOf r) (line F lent) .reply) r r line-count (λ p k. refl);
+      hands-over = line-hands-over;
     }
 
   -- Deliver m.
@@ -196,11 +241,11 @@ module _ (n : ℕ) (h : Surviving) (r : Ideal) (v : Inv r) (fit : Limits r) (siz
     unfolding call answered deliverOutcome
     deliver-list = rw (e, the-message)
 
-    value-forced : forces r m ≡ true → call (stateOf r) (deliver m deleted) .reply .report .value ≡ some (live (r .receiver m) (process (stateOf r) (r .receiver m)) .index .0)
+    pub value-forced : forces r m ≡ true → call (stateOf r) (deliver m deleted) .reply .report .value ≡ some (live (r .receiver m) (process (stateOf r) (r .receiver m)) .index .0)
     unfolding call answered deliverOutcome deliverReport deliverAnswer messageOf
     value-forced q = rw (e, the-message) (rw (deliver-forces r m few receives (self (r .receiver m)) ∙ q))
 
-    value-plain : forces r m ≡ false → call (stateOf r) (deliver m deleted) .reply .report .value ≡ none
+    pub value-plain : forces r m ≡ false → call (stateOf r) (deliver m deleted) .reply .report .value ≡ none
     unfolding call answered deliverOutcome deliverReport deliverAnswer messageOf
     value-plain q = rw (e, the-message) (rw (deliver-forces r m few receives (self (r .receiver m)) ∙ q))
 
@@ -209,6 +254,11 @@ module _ (n : ℕ) (h : Surviving) (r : Ideal) (v : Inv r) (fit : Limits r) (siz
     deliver-hands-out p k hp =
         deliver-handed r v few (call (stateOf r) (deliver m deleted) .reply) deleted (deliver-run r v fit m deleted e .2) p k m receives (kept-most r (r .receiver m))
         (record { deleted = deliver-list; counted = deliver-count })
+
+    deliver-hands-over : HandsOver (call (stateOf r) (deliver m deleted) .reply) (lentDeletions (deliver m deleted)) r (delivered r m)
+    unfolding lentDeletions
+    deliver-hands-over =
+        deliver-over r v few (call (stateOf r) (deliver m deleted) .reply) deleted (deliver-run r v fit m deleted e .2) m receives (record { deleted = deliver-list; counted = deliver-count })
 
     deliver-lists : listsAfter n h (deliver m deleted) (call (stateOf r) (deliver m deleted) .reply) ≡ delivered r m .events
     deliver-lists = by-bool (forces r m)
@@ -225,5 +275,8 @@ module _ (n : ℕ) (h : Surviving) (r : Ideal) (v : Inv r) (fit : Limits r) (siz
       lists = deliver-lists;
       sends = g .sends ∙ sym (delivered-last r m);
       receiver = g .receiver ∙ sym (fun-ext (delivered-receiver r m));
+      underway = deliver-underway n h r g m deleted;
+      memory = delivered-memory r m memory;
       hands-out = deliver-hands-out;
+      hands-over = deliver-hands-over;
     }

@@ -1,0 +1,156 @@
+-- What a reply holds beside its number and its pairs: of a refused call nothing new; of an accepted one its value and its line list, by the
+-- surviving history.
+-- Assumes nothing.
+use mathlib.Core.Path.{_≡_, refl, sym, _∙_, ap}
+use mathlib.Core.Bool.{Bool}
+use mathlib.Core.List.{List, []}
+use mathlib.Core.Option.{none, some}
+use Prim.Native.Nat.{ℕ, zero, suc, _+_, _≤_, _<_}
+use native.Mathlib.Omega.{arith}
+use lib.Dec.{ltb}
+use lib.ListN.{length, getD}
+use Rattle.laws.specs.Choice.{by-bool}
+use Rattle.laws.specs.Front.{getD-written, written-front}
+use Rattle.laws.specs.Lists.{table}
+use Rattle.laws.specs.Tables.{length-table, getD-table, table-same}
+use Rattle.laws.specs.Tests.{countBelow}
+use Rattle.model.specs.declared.Run.{Run}
+use Rattle.model.specs.declared.Refusal.{Refusal}
+use Rattle.model.specs.Words.{places, failed, own}
+use Rattle.model.specs.Steps.{rolledBack, rolledBackCount}
+use Rattle.model.specs.History.{Line}
+use Rattle.model.specs.Refusals.{checkpointRefusal, sendRefusal, deliverRefusal, loseRefusal, lineRefusal, recoverRefusal}
+use Rattle.model.specs.Outcomes.{written, checkpointOutcome, sendOutcome, deliverOutcome, loseOutcome, lineOutcome, recoverOutcome, checkpointReport, sendReport, deliverReport, loseReport, lineReport, recoverReport}
+use Rattle.model.specs.Calls.{Call, checkpoint, send, deliver, lose, recover, line, answered, call}
+use Rattle.model.specs.Survival.{Surviving}
+use Rattle.model.specs.Answers.{valueOf, lentDeletions, lentLine, failedSet, atFront, indexesOf}
+use Rattle.model.proofs.ideal.Run as ideal
+use Rattle.model.proofs.ideal.Run.{Ideal, forces}
+use Rattle.model.proofs.ideal.Invariant.{Inv}
+use Rattle.model.proofs.ideal.Memory.{Memory}
+use Rattle.model.proofs.ideal.Messages.{underway-proper}
+use Rattle.model.proofs.simulation.View.{stateOf, Limits}
+use Rattle.model.proofs.simulation.Reads.{count-is, last-is, own-is}
+use Rattle.model.proofs.simulation.Checkpoint.{checkpoint-index}
+use Rattle.model.proofs.simulation.Deliver.{deliver-index}
+use Rattle.model.proofs.simulation.Lines.{member-index, line-is}
+use Rattle.model.proofs.simulation.SoundCalls.{checkpoint-run, deliver-run, line-run, recover-run}
+use Rattle.model.proofs.whole.Agreement.{Agrees}
+use Rattle.model.proofs.whole.Reached.{refusal}
+use Rattle.model.proofs.whole.Refused.{live-is, forcingOf}
+use Rattle.model.proofs.whole.Steps.{value-forced, value-plain}
+use Rattle.model.proofs.whole.Recovers.{written-line}
+
+-- A refused call reports no value and no deletion, and its lent lists keep every entry.
+pub refused-reply : (s : Run) (c : Call) (x : Refusal) → refusal s c ≡ some x
+    → (call s c .reply .report .value ≡ none) × (call s c .reply .report .deletions ≡ 0) × (call s c .reply .deleted ≡ lentDeletions c) × (call s c .reply .line ≡ lentLine c)
+unfolding refusal call answered checkpointOutcome sendOutcome deliverOutcome loseOutcome lineOutcome recoverOutcome checkpointReport sendReport deliverReport loseReport lineReport recoverReport lentDeletions lentLine
+refused-reply s (checkpoint i deleted) x e = (rw e, rw e, rw e, rw e)
+refused-reply s (send i j) x e = (rw e, rw e, rw e, rw e)
+refused-reply s (deliver m deleted) x e = (rw e, rw e, rw e, rw e)
+refused-reply s (lose m) x e = (rw e, rw e, rw e, rw e)
+refused-reply s (recover F deleted lent) x e = (rw e, rw e, rw e, rw e)
+refused-reply s (line F lent) x e = (rw e, rw e, rw e, rw e)
+
+-- Two tests that agree below a bound count the same.
+count-same : (n : ℕ) (t u : ℕ → Bool) → ((k : ℕ) → k < n → t k ≡ u k) → countBelow n t ≡ countBelow n u
+unfolding countBelow
+count-same zero t u h = refl
+count-same (suc n) t u h = rw (h n (omega arith), count-same n t u (λ k lt. h k (omega arith)))
+
+module _ (h : Surviving) (r : Ideal) (v : Inv r) (fit : Limits r) (memory : Memory r) (g : Agrees h r) where
+  few : r .n ≤ places
+  few = fit .few-processes
+
+  own-entry : (p : ℕ) → r .vector p (r .own p) p ≡ r .own p
+  own-entry p = v .self p (r .own p) (omega arith)
+
+  module _ (i : ℕ) (deleted : List ℕ) (e : checkpointRefusal (stateOf r) i deleted ≡ none) where
+    checkpoint-value : call (stateOf r) (checkpoint i deleted) .reply .report .value ≡ some (r .own i)
+    unfolding call answered checkpointOutcome checkpointReport
+    checkpoint-value = rw e (ap some (checkpoint-index r i few (checkpoint-run r v fit i deleted e .0) (own-entry i)))
+
+  module _ (i j : ℕ) (e : sendRefusal (stateOf r) i j ≡ none) where
+    send-value : call (stateOf r) (send i j) .reply .report .value ≡ some (r .last + 1)
+    unfolding call answered sendOutcome sendReport
+    send-value = rw e (ap (λ (k : ℕ). some (k + 1)) (last-is r))
+
+  module _ (m : ℕ) (e : loseRefusal (stateOf r) m ≡ none) where
+    lose-value : call (stateOf r) (lose m) .reply .report .value ≡ none
+    unfolding call answered loseOutcome loseReport
+    lose-value = rw e
+
+  module _ (F : ℕ) (lent : List ℕ) (e : lineRefusal (stateOf r) F lent ≡ none) where
+    line-value : call (stateOf r) (line F lent) .reply .report .value ≡ none
+    unfolding call answered lineOutcome lineReport
+    line-value = rw e
+
+    line-written : call (stateOf r) (line F lent) .reply .line ≡ written lent (table (r .n) (ideal.line r (failed F)))
+    unfolding call answered lineOutcome
+    line-written = rw e (ap (λ (l : List ℕ). written lent l) (line-is r v few F))
+
+  module _ (F : ℕ) (deleted lent : List ℕ) (e : recoverRefusal (stateOf r) F deleted lent ≡ none) where
+    recover-value : call (stateOf r) (recover F deleted lent) .reply .report .value ≡ some (rolledBackCount (stateOf r) F)
+    unfolding call answered recoverOutcome recoverReport
+    recover-value = rw e
+
+    recover-written : call (stateOf r) (recover F deleted lent) .reply .line ≡ written lent (table (r .n) (ideal.line r (failed F)))
+    unfolding call answered recoverOutcome
+    recover-written = rw e (ap (λ (l : List ℕ). written lent l) (line-is r v few F))
+
+    -- A process rolls back exactly if the index written for it is that of a checkpoint in its list.
+    rolled-written : (p : ℕ) → p < r .n → rolledBack (stateOf r) F p ≡ ltb (getD (call (stateOf r) (recover F deleted lent) .reply .line) p 0) (r .own p)
+    unfolding rolledBack
+    rolled-written p hp = rw (written-line (r .n) h r v fit memory refl g F deleted lent e p hp, member-index r v few F p hp, own-is r p few hp (own-entry p))
+
+    recover-count : rolledBackCount (stateOf r) F ≡ countBelow (r .n) (λ p. ltb (getD (call (stateOf r) (recover F deleted lent) .reply .line) p 0) (r .own p))
+    unfolding rolledBackCount
+    recover-count = ap (λ (c : ℕ). countBelow c (rolledBack (stateOf r) F)) (count-is r) ∙ count-same (r .n) _ _ rolled-written
+
+  deliver-value : (m : ℕ) (deleted : List ℕ) → deliverRefusal (stateOf r) m deleted ≡ none
+      → call (stateOf r) (deliver m deleted) .reply .report .value ≡ valueOf (r .n) h (forces r m) (deliver m deleted) (call (stateOf r) (deliver m deleted) .reply .line)
+  unfolding valueOf
+  deliver-value m deleted e =
+      let hi : r .receiver m < r .n = underway-proper r v m (deliver-run r v fit m deleted e .0) .to in
+      rw (live-is h r v fit g (h .receiver m), g .receiver) (by-bool (forces r m)
+      (λ q. rw q (value-forced (r .n) h r v fit memory refl g m deleted e q ∙ ap some (deliver-index r m few hi (own-entry (r .receiver m)))))
+      (λ q. rw q (value-plain (r .n) h r v fit memory refl g m deleted e q)))
+
+  -- The value of an accepted call.
+  pub value-right : (c : Call) → refusal (stateOf r) c ≡ none → call (stateOf r) c .reply .report .value ≡ valueOf (r .n) h (forcingOf r c) c (call (stateOf r) c .reply .line)
+  unfolding refusal forcingOf valueOf
+  value-right (checkpoint i deleted) e = rw (live-is h r v fit g i) (checkpoint-value i deleted e)
+  value-right (send i j) e = rw (g .sends) (send-value i j e)
+  value-right (deliver m deleted) e = deliver-value m deleted e
+  value-right (lose m) e = lose-value m e
+  value-right (recover F deleted lent) e = recover-value F deleted lent e ∙ ap some (recover-count F deleted lent e
+      ∙ count-same (r .n) _ _ (λ p hp. rw (live-is h r v fit g p)))
+  value-right (line F lent) e = line-value F lent e
+
+  -- A line list with n indexes written to its front.
+  front-line : (l lent : List ℕ) (w : Line) → r .n ≤ length lent → l ≡ written lent (table (r .n) w) → l ≡ atFront (table (r .n) (λ p. getD l p 0)) lent
+  front-line l lent w room e =
+      let long : length (table (r .n) w) ≡ r .n = length-table (r .n) w in
+      let same : table (r .n) (λ p. getD l p 0) ≡ table (r .n) w = table-same (r .n) (λ p. getD l p 0) w
+      (λ p hp. ap (λ (k : List ℕ). getD k p 0) e ∙ getD-written lent (table (r .n) w) (omega arith) p 0 (omega arith) ∙ getD-table (r .n) w p 0 hp) in
+      e ∙ written-front lent (table (r .n) w) (omega arith) ∙ ap (λ (k : List ℕ). atFront k lent) (sym same)
+
+  no-line : (c : Call) → refusal (stateOf r) c ≡ none → failedSet c ≡ none → call (stateOf r) c .reply .line ≡ []
+  unfolding refusal failedSet call answered checkpointOutcome sendOutcome deliverOutcome loseOutcome
+  no-line (checkpoint i deleted) e q = rw e
+  no-line (send i j) e q = rw e
+  no-line (deliver m deleted) e q = rw e
+  no-line (lose m) e q = rw e
+  no-line (recover F deleted lent) e q = absurd (let z : _≡_ {A = ℕ} 0 1 = cc in omega arith)
+  no-line (line F lent) e q = absurd (let z : _≡_ {A = ℕ} 0 1 = cc in omega arith)
+
+  -- The line list of an accepted call.
+  pub line-list-right : (c : Call) → refusal (stateOf r) c ≡ none → call (stateOf r) c .reply .line ≡ atFront (indexesOf (r .n) (failedSet c) (call (stateOf r) c .reply .line)) (lentLine c)
+  unfolding refusal failedSet indexesOf lentLine
+  line-list-right (checkpoint i deleted) e = no-line (checkpoint i deleted) e refl
+  line-list-right (send i j) e = no-line (send i j) e refl
+  line-list-right (deliver m deleted) e = no-line (deliver m deleted) e refl
+  line-list-right (lose m) e = no-line (lose m) e refl
+  line-list-right (recover F deleted lent) e =
+      front-line (call (stateOf r) (recover F deleted lent) .reply .line) lent (ideal.line r (failed F)) (recover-run r v fit F deleted lent e .2) (recover-written F deleted lent e)
+  line-list-right (line F lent) e = front-line (call (stateOf r) (line F lent) .reply .line) lent (ideal.line r (failed F)) (line-run r v fit F lent e .1) (line-written F lent e)

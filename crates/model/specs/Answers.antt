@@ -1,0 +1,184 @@
+-- What every answer of a list of calls is, by the surviving history before the call and the call's arguments, and by nothing in a state.
+-- Document 01: the surviving history "is built from the calls and their answers, and from nothing in the state".
+-- Assumes nothing.
+use mathlib.Core.Path.{_≡_}
+use mathlib.Core.Bool.{Bool, true, false, _&&_, _||_, not}
+use mathlib.Core.List.{List, [], _∷_, _++_, List·Memᴰ}
+use mathlib.Core.Logic.{_⊎_}
+use mathlib.Core.Option.{Option, none, some}
+use Prim.Native.Nat.{ℕ, suc, _+_, _-_, _*_, _^_, _≤_, _<_}
+use lib.Dec.{eqb, ltb, leb}
+use lib.ListN.{length, getD, drop}
+use Rattle.laws.specs.Choice.{pick}
+use Rattle.laws.specs.Lists.{table, gather}
+use Rattle.laws.specs.Tests.{countBelow}
+use Rattle.model.specs.Words.{failed}
+use Rattle.model.specs.History.{HistoryEvent, stored, sent, received, Lists, Line, checkpoints, behind, Consistent}
+use Rattle.model.specs.Calls.{Call, checkpoint, send, deliver, lose, recover, line, Exchange}
+use Rattle.model.specs.Survival.{Surviving, after, surviving}
+
+-- A reason to refuse a call, with its number.
+pub record Reason : Type 0 where
+  pub holds : Bool
+  pub number : ℕ
+
+-- "Where several hold, the lowest number is given. Each is given when its condition holds and at no other time." Each list below ascends by number;
+-- 0 where none holds: the call is accepted.
+unfoldable pub lowest : List Reason → ℕ
+lowest [] = 0
+lowest (x ∷ l) = pick (x .holds) (x .number) (lowest l)
+
+-- How many messages are under way. Numbers run from 1 to the number of accepted sends.
+unfoldable pub countUnderWay : Surviving → ℕ
+countUnderWay h = countBelow (suc (h .sends)) (h .underway)
+
+-- "its index is one above the last checkpoint there": the index of p's live state, which is the number of checkpoints in its list.
+abbrev pub liveOf : Surviving → ℕ → ℕ
+liveOf h p = checkpoints (h .lists p)
+
+-- "3: deletion list below 2 × n × n entries, or line list below n."
+abbrev pub tooShort : ℕ → List ℕ → Bool
+tooShort n deleted = ltb (length deleted) (2 * n * n)
+
+-- "4: process not below n. 5: sender is receiver. 6: failed set empty. 7: failed set has a bit at n or above." "8: message not under way.
+-- 9: send with 64 under way. 10: send with number 1,000,000 used. 11: a checkpoint, or a delivery that forces one, where the own entry is 65,535."
+-- Number 2 is never given on such a list of calls. `forcing` says whether the delivery would force a checkpoint.
+unfoldable pub reasons : ℕ → Surviving → Bool → Call → List Reason
+reasons n h forcing (checkpoint i deleted) =
+    record { holds = tooShort n deleted; number = 3 }
+    ∷ record { holds = leb n i; number = 4 }
+    ∷ record { holds = leb 65_535 (liveOf h i); number = 11 }
+    ∷ []
+reasons n h forcing (send i j) =
+    record { holds = leb n i || leb n j; number = 4 }
+    ∷ record { holds = eqb i j; number = 5 }
+    ∷ record { holds = leb 64 (countUnderWay h); number = 9 }
+    ∷ record { holds = leb 1_000_000 (h .sends); number = 10 }
+    ∷ []
+reasons n h forcing (deliver m deleted) =
+    record { holds = tooShort n deleted; number = 3 }
+    ∷ record { holds = not (h .underway m); number = 8 }
+    ∷ record { holds = forcing && leb 65_535 (liveOf h (h .receiver m)); number = 11 }
+    ∷ []
+reasons n h forcing (lose m) = record { holds = not (h .underway m); number = 8 } ∷ []
+reasons n h forcing (recover F deleted lent) =
+    record { holds = tooShort n deleted || ltb (length lent) n; number = 3 }
+    ∷ record { holds = eqb F 0; number = 6 }
+    ∷ record { holds = leb (2 ^ n) F; number = 7 }
+    ∷ []
+reasons n h forcing (line F lent) =
+    record { holds = ltb (length lent) n; number = 3 }
+    ∷ record { holds = eqb F 0; number = 6 }
+    ∷ record { holds = leb (2 ^ n) F; number = 7 }
+    ∷ []
+
+-- The value of an accepted call: "checkpoint: index; send: message number; deliver: forced index, if any; .. recover: how many rolled back".
+-- A process rolled back "where the index written for a process is that of a checkpoint in its list".
+unfoldable pub valueOf : ℕ → Surviving → Bool → Call → List ℕ → Option ℕ
+valueOf n h forcing (checkpoint i deleted) indexes = some (liveOf h i)
+valueOf n h forcing (send i j) indexes = some (h .sends + 1)
+valueOf n h forcing (deliver m deleted) indexes = pick forcing (some (liveOf h (h .receiver m))) none
+valueOf n h forcing (lose m) indexes = none
+valueOf n h forcing (recover F deleted lent) indexes = some (countBelow n (λ p. ltb (getD indexes p 0) (liveOf h p)))
+valueOf n h forcing (line F lent) indexes = none
+
+-- The deletion list and the line list that a call is lent; one that it is not lent is empty. The failed set of a call that writes a line.
+unfoldable pub lentDeletions : Call → List ℕ
+lentDeletions (checkpoint i deleted) = deleted
+lentDeletions (send i j) = []
+lentDeletions (deliver m deleted) = deleted
+lentDeletions (lose m) = []
+lentDeletions (recover F deleted lent) = deleted
+lentDeletions (line F lent) = []
+
+unfoldable pub lentLine : Call → List ℕ
+lentLine (checkpoint i deleted) = []
+lentLine (send i j) = []
+lentLine (deliver m deleted) = []
+lentLine (lose m) = []
+lentLine (recover F deleted lent) = lent
+lentLine (line F lent) = lent
+
+unfoldable pub failedSet : Call → Option ℕ
+failedSet (checkpoint i deleted) = none
+failedSet (send i j) = none
+failedSet (deliver m deleted) = none
+failedSet (lose m) = none
+failedSet (recover F deleted lent) = some F
+failedSet (line F lent) = some F
+
+-- "what lies past the pairs is unchanged", "the rest of it is unchanged": numbers at the front of a lent list, the rest as it was lent.
+abbrev pub atFront : List ℕ → List ℕ → List ℕ
+atFront numbers lent = numbers ++ drop (length numbers) lent
+
+-- "the deleted checkpoints .. as pairs process, index, by process, then index, ascending": those in the lists before that were kept before the call
+-- and are not kept after it, both by the pairs handed out. So a pair names a checkpoint that was kept, never one that this call stores; each is
+-- handed out once; and a kept checkpoint that a recovery takes from its list is among them.
+unfoldable pub gonePairs : ℕ → Surviving → Surviving → List ℕ
+gonePairs n old now = gather n (λ p. gather (liveOf old p) (λ k. pick (old .kept p k && not (now .kept p k)) (p ∷ k ∷ []) []))
+
+-- "Recover and line write n indexes"; the others write none.
+unfoldable pub indexesOf : ℕ → Option ℕ → List ℕ → List ℕ
+indexesOf n none list = []
+indexesOf n (some F) list = table n (λ p. getD list p 0)
+
+-- The part of a list before "sent m".
+unfoldable pub before : ℕ → List HistoryEvent → List HistoryEvent
+before m [] = []
+before m (stored ∷ l) = stored ∷ before m l
+before m (received k ∷ l) = received k ∷ before m l
+before m (sent k ∷ l) = pick (eqb k m) [] (sent k ∷ before m l)
+
+-- Checkpoint a of f comes causally before a place in p's list, by the messages alone; `past` is the part of the list before that place.
+-- p is f and has checkpoint a there; or p received there a message m, sent by q, and checkpoint a comes before the sending of m.
+pub data ComesBefore (lists : Lists) (f a : ℕ) : ℕ → List HistoryEvent → Type 0 where
+  within : {p : ℕ} {past : List HistoryEvent} → p ≡ f → a < checkpoints past → ComesBefore lists f a p past
+  message : {p : ℕ} {past : List HistoryEvent} (q m : ℕ) → List·Memᴰ (sent m) (lists q) → ComesBefore lists f a q (before m (lists q)) → List·Memᴰ (received m) past
+      → ComesBefore lists f a p past
+
+-- "If the sent mark is set": a send stands behind the last checkpoint of p's list.
+unfoldable pub SentSince : Surviving → ℕ → Type 0
+SentSince h p = (m : ℕ) × List·Memᴰ (sent m) (behind (liveOf h p - 1) (h .lists p))
+
+-- ".. and some carried entry is greater than i's": "Checkpoint a of f comes causally before a state exactly if a is less than that state's entry f".
+-- A checkpoint of some process f of the run comes before the sending of m, and not before the live state of m's receiver.
+unfoldable pub BringsNews : ℕ → Surviving → ℕ → Type 0
+BringsNews n h m = (f a q : ℕ) × (f < n) × List·Memᴰ (sent m) (h .lists q) × ComesBefore (h .lists) f a q (before m (h .lists q))
+    × (ComesBefore (h .lists) f a (h .receiver m) (h .lists (h .receiver m)) → ⊥)
+
+-- "first do a checkpoint at i (forced)"
+unfoldable pub Forces : ℕ → Surviving → ℕ → Type 0
+Forces n h m = SentSince h (h .receiver m) × BringsNews n h m
+
+-- What is promised of the n indexes that a line or recover call for the failed set F writes, judged by the history h before that call.
+pub record RightLine (n : ℕ) (h : Surviving) (F : ℕ) (written : Line) : Type 0 where
+  -- "the reported line is consistent by the messages of the surviving history alone"
+  pub consistent : Consistent n (h .lists) written
+  -- "no other consistent line with the failed processes at stored checkpoints is later anywhere": of every line whose members are
+  -- checkpoints of the lists, deleted or not, or live states
+  pub maximal : (other : Line) → ((p : ℕ) → p < n → other p ≤ liveOf h p) → Consistent n (h .lists) other
+      → ((f : ℕ) → f < n → failed F f ≡ true → other f < liveOf h f) → (p : ℕ) → p < n → other p ≤ written p
+  -- "each member is a live state of a process that has not failed, or a kept checkpoint", kept by the pairs handed out
+  pub members : (p : ℕ) → p < n → ((written p ≡ liveOf h p) × (failed F p ≡ false)) ⊎ ((written p < liveOf h p) × (h .kept p (written p) ≡ true))
+
+-- What is promised of an answer, where h is the surviving history before the call.
+pub record AnswerIsRight (n : ℕ) (h : Surviving) (e : Exchange) : Type 0 where
+  -- whether a delivery forces a checkpoint: of a message under way, exactly if the history says so
+  pub forcing : Bool
+  pub forces-if : (m : ℕ) (deleted : List ℕ) → e .made ≡ deliver m deleted → h .underway m ≡ true → Forces n h m → forcing ≡ true
+  pub only-if : (m : ℕ) (deleted : List ℕ) → e .made ≡ deliver m deleted → h .underway m ≡ true → forcing ≡ true → Forces n h m
+  -- the number, 0 if accepted
+  pub number : e .reply .report .refused ≡ lowest (reasons n h forcing (e .made))
+  -- "A refusal returns its number ..; lent lists and buffers keep every entry."
+  pub refused : (e .reply .report .refused ≡ 0 → ⊥)
+      → (e .reply .report .value ≡ none) × (e .reply .report .deletions ≡ 0) × (e .reply .deleted ≡ lentDeletions (e .made)) × (e .reply .line ≡ lentLine (e .made))
+  -- if accepted: the value; the pairs, their number and the rest of the list; the line and the rest of its list
+  pub value : e .reply .report .refused ≡ 0 → e .reply .report .value ≡ valueOf n h forcing (e .made) (e .reply .line)
+  pub pairs : e .reply .report .refused ≡ 0 → e .reply .deleted ≡ atFront (gonePairs n h (after n h e)) (lentDeletions (e .made))
+  pub count : e .reply .report .refused ≡ 0 → 2 * e .reply .report .deletions ≡ length (gonePairs n h (after n h e))
+  pub line-list : e .reply .report .refused ≡ 0 → e .reply .line ≡ atFront (indexesOf n (failedSet (e .made)) (e .reply .line)) (lentLine (e .made))
+  pub line-right : e .reply .report .refused ≡ 0 → (F : ℕ) → failedSet (e .made) ≡ some F → RightLine n h F (λ p. getD (e .reply .line) p 0)
+
+-- Every answer of a transcript is right, judged by the surviving history of the exchanges before it.
+unfoldable pub AnswersAreRight : ℕ → List Exchange → Type 0
+AnswersAreRight n whole = (earlier later : List Exchange) (e : Exchange) → whole ≡ earlier ++ (e ∷ later) → AnswerIsRight n (surviving n earlier) e
