@@ -16,6 +16,10 @@ pub and-right : (a b : Bool) → (a && b) ≡ true → b ≡ true
 and-right true b e = e
 and-right false b e = absurd (false≢true e)
 
+-- Both halves.
+pub and-out : (a b : Bool) → (a && b) ≡ true → (a ≡ true) × (b ≡ true)
+and-out a b e = (and-left a b e, and-right a b e)
+
 -- A conjunction of two tests that hold.
 pub and-both : (a b : Bool) → a ≡ true → b ≡ true → (a && b) ≡ true
 and-both a b p q = rw (p, q)

@@ -1,74 +1,47 @@
 -- How large the numbers of a reply can be, whatever the state: a call that is refused reports no value and no deletion, and one that is accepted
 -- found the state sound and the limits kept. The length of a printed line rests on this.
 -- Assumes nothing.
-use mathlib.Core.Path.{_≡_, refl, sym, _∙_, ap}
-use mathlib.Core.Bool.{Bool, true, false, _&&_, not}
-use mathlib.Core.List.{List, [], _∷_, _++_, map}
+use mathlib.Core.Path.{_≡_}
+use mathlib.Core.Bool.{Bool, true, _&&_, not}
+use mathlib.Core.List.{List, [], _∷_}
 use mathlib.Core.Option.{Option, none, some}
-use Prim.Native.Nat.{ℕ, zero, suc, _+_, _*_, _≤_, _<_, min}
+use Prim.Native.Nat.{ℕ, _+_, _≤_, _<_}
 use native.Mathlib.Omega.{arith}
-use lib.Dec.{leb, ltb, eqb}
-use lib.ListN.{length, getD, take, length-append, length-map, length-take}
-use borrow.Author.Tests.{leb-true, ltb-true}
-use Rattle.laws.specs.Choice.{pick, by-bool}
+use lib.Dec.{leb, eqb}
+use lib.ListN.{length, getD, length-append, length-map, length-take}
+use Rattle.laws.specs.Choice.{by-bool}
 use Rattle.laws.specs.Counting.{count-le}
-use Rattle.laws.specs.Lists.{select, orElse, lastOf, gather}
+use Rattle.laws.specs.Lists.{select, orElse, lastOf}
 use Rattle.laws.specs.Prefixes.{every-select, every-last}
-use Rattle.laws.specs.Search.{allBelow, all-out}
 use Rattle.laws.specs.Select.{select-length}
 use Rattle.laws.specs.Tests.{every}
-use Rattle.laws.specs.Truth.{and-left, and-right, and-both}
+use Rattle.laws.specs.Truth.{and-left, and-right}
 use Rattle.model.specs.declared.Interval.{Interval}
 use Rattle.model.specs.declared.Checkpoint.{Checkpoint}
 use Rattle.model.specs.declared.Message.{Message}
 use Rattle.model.specs.declared.Run.{Run}
 use Rattle.model.specs.declared.Event.{Event}
 use Rattle.model.specs.declared.Refusal.{Refusal}
-use Rattle.model.specs.declared.Refusal.the-variants.{CountOutsideRange, UnsoundState, ListTooShort, NoSuchProcess, SenderIsReceiver, NobodyFailed, NoSuchFailedProcess, NotUnderWay, TooManyUnderWay, MessageNumbersUsed, IntervalsUsed, NoFirstByte, LeftOverBytes, MalformedRecord}
-use Rattle.model.specs.Words.{places, mostUnderWay, mostMessages, named, Process, process, own, underWay, live}
+use Rattle.model.specs.declared.Refusal.the-variants.{MalformedRecord}
+use Rattle.model.specs.Words.{named, Process, process, own, underWay, live}
 use Rattle.model.specs.Steps.{Deletion, listed, deletions, checkpointed, checkpointDeletions, found, forces, takenIn, delivered, deliverDeletions, member, pinsAfter, deletedAt, recoverDeletions, rolledBack, rolledBackCount}
-use Rattle.model.specs.Sound.{countSound, ownSound, vectorsSound, ascending, keptSound, pinsSound, messageSound, messagesSound, unusedSound, sound}
+use Rattle.model.specs.Sound.{messageSound, sound}
 use Rattle.model.specs.Refusals.{number, checkpointRefusal, sendRefusal, deliverRefusal, loseRefusal, lineRefusal, recoverRefusal}
+use Rattle.model.specs.laws.Refusals.{by-refusal, number-range}
+use Rattle.model.specs.laws.Sound.{sound-state, sound-message}
 use Rattle.model.specs.Outcomes.{Report, refusing, accepting, message, deliverAnswer, checkpointOutcome, checkpointReport, sendOutcome, sendReport, deliverOutcome, deliverReport, loseOutcome, loseReport, lineOutcome, lineReport, recoverOutcome, recoverReport}
 use Rattle.model.specs.Calls.{Call, checkpoint, send, deliver, lose, recover, line, answered, call}
 use Rattle.model.specs.Listing.{callOf, perform}
 use Rattle.model.proofs.simulation.Accepted.{checkpoint-out, send-out, deliver-out, recover-out}
 use Rattle.model.proofs.simulation.Handed.{gather-length}
 
--- Parts of a conjunction of six tests, and of one of four.
-six : (a b c d e f : Bool) → (a && b && c && d && e && f) ≡ true → (a ≡ true) × (d ≡ true) × (e ≡ true)
-six a b c d e f h =
-    let five = and-left (a && b && c && d && e) f h in
-    let four = and-left (a && b && c && d) e five in
-    (and-left a b (and-left (a && b) c (and-left (a && b && c) d four)), and-right (a && b && c) d four, and-right (a && b && c && d) e five)
-
-third : (a b c d : Bool) → (a && b && c && d) ≡ true → c ≡ true
-third a b c d h = and-right (a && b) c (and-left (a && b && c) d h)
-
--- Parts of a sound state.
-module _ (s : Run) (h : sound s ≡ true) where
-  sound-parts : (countSound s ≡ true) × (allBelow (s .count) (λ p. keptSound s p && pinsSound s p) ≡ true) × (messagesSound s ≡ true)
-  unfolding sound
-  sound-parts = six (countSound s) (ownSound s) (vectorsSound s) (allBelow (s .count) (λ p. keptSound s p && pinsSound s p)) (messagesSound s) (unusedSound s) h
-
-  pub few-processes : s .count ≤ 16
-  unfolding countSound
-  few-processes = leb-true (s .count) 16 (and-right (leb 1 (s .count)) (leb (s .count) places) (sound-parts .0))
-
-  held-few : (p : ℕ) → keptSound s p ≡ true → getD (s .held) p 0 ≤ s .count
-  unfolding keptSound
-  held-few p k = leb-true (getD (s .held) p 0) (s .count) (second (leb 1 (getD (s .held) p 0)) (leb (getD (s .held) p 0) (s .count)) _ _ _ _ k)
-    where
-      second : (a b c d e f : Bool) → (a && b && c && d && e && f) ≡ true → b ≡ true
-      second a b c d e f h = and-right a b (and-left (a && b) c (and-left (a && b && c) d (and-left (a && b && c && d) e (and-left (a && b && c && d && e) f h))))
-
-  few-held : (p : ℕ) → p < s .count → getD (s .held) p 0 ≤ 16
-  few-held p lt =
-      omega (arith, few-processes, held-few p (and-left (keptSound s p) (pinsSound s p) (all-out (s .count) (λ q. keptSound s q && pinsSound s q) (sound-parts .1) p lt)))
+-- A sound state has at most 16 processes, and each keeps at most 16 checkpoints.
+pub few-processes : (s : Run) → sound s ≡ true → s .count ≤ 16
+few-processes s h = sound-state s h .count-most
 
 few-kept : (s : Run) → sound s ≡ true → (p : ℕ) → p < s .count → length (process s p .kept) ≤ 16
 unfolding process
-few-kept s h p lt = rw (length-take (getD (s .held) p 0) (getD (s .kept .0) p [])) (omega (arith, few-held s h p lt))
+few-kept s h p lt = rw (length-take (getD (s .held) p 0) (getD (s .kept .0) p [])) (omega (arith, few-processes s h, sound-state s h .processes p lt .held-most))
 
 -- The last element of a list passes a test that every element passes.
 last-passes : {A : Type 0} (u : A → Bool) (l : List A) (x : A) → every u l ≡ true → lastOf l ≡ some x → u x ≡ true
@@ -79,16 +52,11 @@ last-passes u (y ∷ l) x h e =
     rw (← same) (every-last u l y (and-right (u y) (every u l) h) (and-left (u y) (every u l) h))
 
 -- A message under way goes to a process of the run.
-all-messages : (s : Run) → messagesSound s ≡ true → every (messageSound s) (underWay s) ≡ true
-unfolding messagesSound
-all-messages s h = third (leb (s .underway) mostUnderWay) (ascending 1 (map (λ x. x .number) (underWay s))) (every (messageSound s) (underWay s)) (leb (s .last) mostMessages) h
-
 receiver-in : (s : Run) → sound s ≡ true → (m : ℕ) (x : Message) → found s m ≡ some x → x .receiver < s .count
-unfolding messageSound found
+unfolding found
 receiver-in s h m x e =
-    let all = all-messages s (sound-parts s h .2) in
-    let here = last-passes (messageSound s) (select (λ y. eqb (y .number) m) (underWay s)) x (every-select (messageSound s) (λ y. eqb (y .number) m) (underWay s) all) e in
-    ltb-true (x .receiver) (s .count) (third (leb (x .number) (s .last)) (ltb (x .sender) (s .count)) (ltb (x .receiver) (s .count)) (not (eqb (x .sender) (x .receiver))) here)
+    let all = every-select (messageSound s) (λ y. eqb (y .number) m) (underWay s) (sound-state s h .messages-sound) in
+    sound-message s x (last-passes (messageSound s) (select (λ y. eqb (y .number) m) (underWay s)) x all e) .to
 
 -- Deletions of one process are among the checkpoints that it keeps.
 listed-few : (p : ℕ) (t : Checkpoint → Bool) (l : List Checkpoint) → length (listed p (select t l)) ≤ length l
@@ -127,32 +95,9 @@ unfolding recoverDeletions
 recover-few s F h =
     omega (arith, few-processes s h, gather-length (s .count) 16 (deletedAt s F) (λ p lt. omega (arith, deleted-few s F p, few-kept s h p lt)))
 
--- The report of a call, by whether it is refused.
-by-refusal : {P : Type 0} (o : Option Refusal) → (o ≡ none → P) → ((x : Refusal) → o ≡ some x → P) → P
-by-refusal none a b = a refl
-by-refusal (some x) a b = b x refl
-
--- The highest number of the table is 14.
-number-small : (x : Refusal) → number x ≤ 14
-unfolding number
-number-small CountOutsideRange = omega arith
-number-small UnsoundState = omega arith
-number-small ListTooShort = omega arith
-number-small NoSuchProcess = omega arith
-number-small SenderIsReceiver = omega arith
-number-small NobodyFailed = omega arith
-number-small NoSuchFailedProcess = omega arith
-number-small NotUnderWay = omega arith
-number-small TooManyUnderWay = omega arith
-number-small MessageNumbersUsed = omega arith
-number-small IntervalsUsed = omega arith
-number-small NoFirstByte = omega arith
-number-small LeftOverBytes = omega arith
-number-small MalformedRecord = omega arith
-
 -- A report whose numbers are small: its refusal, its count of deletions, its value.
 pub record Small (r : Report) : Type 0 where
-  pub refused : r .refused ≤ 14
+  pub refused : r .refused ≤ 99
   pub deletions : r .deletions ≤ 256
   pub value : (v : ℕ) → r .value ≡ some v → v < 10000000000
 
@@ -160,7 +105,7 @@ no-value : (v : ℕ) {P : Type 0} → _≡_ {A = Option ℕ} none (some v) → P
 no-value v e = absurd (let z : _≡_ {A = ℕ} 0 1 = cc in omega arith)
 
 pub small-refused : (x : Refusal) → Small (refusing x)
-small-refused x = record { refused = number-small x; deletions = omega arith; value = λ v e. no-value v e }
+small-refused x = record { refused = number-range x .1; deletions = omega arith; value = λ v e. no-value v e }
 
 small-accepted : (v k : ℕ) → v < 10000000000 → k ≤ 256 → Small (accepting (some v) k)
 small-accepted v k a b = record { refused = omega arith; deletions = b; value = λ w e. let same : v ≡ w = cc in omega arith }

@@ -17,6 +17,7 @@ use Rattle.model.specs.Steps.{startState}
 use Rattle.model.specs.Sound.{sound}
 use Rattle.model.specs.History.{checkpoints}
 use Rattle.model.specs.Outcomes.{startOutcome}
+use Rattle.model.specs.laws.Refusals.{by-refusal}
 use Rattle.model.specs.Calls.{Call, checkpoint, send, deliver, lose, recover, line, Exchange, call, stateAfter, transcript}
 use Rattle.model.specs.Survival.{Surviving, beginning, after, survivingFrom, surviving}
 use Rattle.model.specs.Answers.{AnswerIsRight, AnswersAreRight}
@@ -37,7 +38,7 @@ use Rattle.model.proofs.simulation.SoundLimits.{limits-begin}
 use Rattle.model.proofs.whole.Agreement.{Agrees}
 use Rattle.model.proofs.whole.Accepted.{Step, step-reached}
 use Rattle.model.proofs.whole.Answers.{answer-right}
-use Rattle.model.proofs.whole.Refused.{by-refusal, members-found}
+use Rattle.model.proofs.whole.Refused.{members-found}
 use Rattle.model.proofs.whole.LineRight.{line-right}
 use Rattle.model.proofs.whole.Reached.{Reached, exchange, refusal, refused-reached}
 use Rattle.model.proofs.whole.Recovers.{recover-step}

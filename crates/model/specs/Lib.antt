@@ -11,3 +11,4 @@ pub mod Survival
 pub mod Trace
 pub mod WholeRuns
 pub mod Words
+pub mod laws

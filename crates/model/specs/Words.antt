@@ -81,6 +81,10 @@ noPins = replicate places Nothing
 abbrev pub noCheckpoint : Checkpoint
 noCheckpoint = record { index = record { 0 = 0 }; vector = zeroVector }
 
+-- What a read past the end of a list of checkpoints gives, in the declared types: no rule of document 01 speaks of it.
+abbrev pub pastEnd : Checkpoint
+pastEnd = record { index = record { 0 = 0 }; vector = [] }
+
 abbrev pub noMessage : Message
 noMessage = record { number = 0; sender = 0; receiver = 0; vector = zeroVector }
 

@@ -3,7 +3,7 @@
 -- Assumes nothing.
 use mathlib.Core.Path.{_≡_, refl}
 use mathlib.Core.Bool.{Bool, true, false, _||_, not}
-use mathlib.Core.List.{List, [], _∷_}
+use mathlib.Core.List.{List}
 use mathlib.Core.Option.{Option, none, some}
 use Prim.Native.Nat.{ℕ, _*_, _^_, _≤_, _<_}
 use native.Mathlib.Nat.{div-eq-of-lt, pow-le-pow-right}
@@ -15,31 +15,11 @@ use Rattle.laws.specs.Choice.{by-bool}
 use Rattle.laws.specs.Truth.{never-both, and-left, and-right, and-both}
 use Rattle.model.specs.declared.Message.{Message}
 use Rattle.model.specs.declared.Run.{Run}
-use Rattle.model.specs.declared.Refusal.{Refusal}
 use Rattle.model.specs.Words.{places, mostUnderWay, mostMessages, mostInterval, process, own, failed}
 use Rattle.model.specs.Steps.{found, forces}
 use Rattle.model.specs.Sound.{sound}
-use Rattle.model.specs.Refusals.{Rule, firstOf, startRefusal, shortDeletions, shortLine, absent, checkpointRefusal, sendRefusal, missing, forcesPast, deliverRefusal, loseRefusal, noMember, emptySet, outside, lineRefusal, recoverRefusal}
-
--- Where no rule applies, the first does not, and none of the others does.
-pub first-out : (t : Rule) (l : List Rule) → firstOf (t ∷ l) ≡ none → (t .holds ≡ false) × (firstOf l ≡ none)
-unfolding firstOf
-first-out t l e = by-bool (t .holds)
-    (λ q. absurd (clash (t .gives) (rw q at e)))
-    (λ q. (q, rw q at e))
-  where
-    clash : (g : Refusal) → some g ≡ none → ⊥
-    clash g d = let z : _≡_ {A = ℕ} 0 1 = cc in omega arith
-
--- Where the first does not apply, and none of the others does, no rule applies.
-pub first-in : (t : Rule) (l : List Rule) → t .holds ≡ false → firstOf l ≡ none → firstOf (t ∷ l) ≡ none
-unfolding firstOf
-first-in t l p q = rw (p, q)
-
--- Of no rules none applies.
-pub first-nil : firstOf [] ≡ none
-unfolding firstOf
-first-nil = refl
+use Rattle.model.specs.Refusals.{startRefusal, shortDeletions, shortLine, absent, checkpointRefusal, sendRefusal, missing, forcesPast, deliverRefusal, loseRefusal, noMember, emptySet, outside, lineRefusal, recoverRefusal}
+use Rattle.model.specs.laws.Refusals.{refusal-in, no-rule}
 
 -- A disjunction that fails.
 or-out : (a b : Bool) → (a || b) ≡ false → (a ≡ false) × (b ≡ false)
@@ -58,13 +38,13 @@ not-in a e = rw e
 pub start-out : (n : ℕ) → startRefusal n ≡ none → (1 ≤ n) × (n ≤ places)
 unfolding startRefusal
 start-out n e =
-    let h = not-false _ (first-out _ _ e .0) in
+    let h = not-false _ (no-rule _ e 0) in
     (leb-true 1 n (and-left (leb 1 n) (leb n places) h), leb-true n places (and-right (leb 1 n) (leb n places) h))
 
 -- A start with 1 to 16 processes is accepted.
 pub start-in : (n : ℕ) → 1 ≤ n → n ≤ places → startRefusal n ≡ none
 unfolding startRefusal
-start-in n a b = first-in _ [] (not-in _ (and-both _ _ (le-leb 1 n a) (le-leb n places b))) first-nil
+start-in n a b = refusal-in _ none (not-in _ (and-both _ _ (le-leb 1 n a) (le-leb n places b)), tt)
 
 -- A checkpoint that is accepted.
 pub record CheckpointFine (s : Run) (i : ℕ) (deleted : List ℕ) : Type 0 where
@@ -77,20 +57,23 @@ pub record CheckpointFine (s : Run) (i : ℕ) (deleted : List ℕ) : Type 0 wher
 pub checkpoint-out : (s : Run) (i : ℕ) (deleted : List ℕ) → checkpointRefusal s i deleted ≡ none → CheckpointFine s i deleted
 unfolding checkpointRefusal
 checkpoint-out s i deleted e =
-    let a = first-out _ _ e in
-    let b = first-out _ _ (a .1) in
-    let c = first-out _ _ (b .1) in
-    let d = first-out _ _ (c .1) in
-    record { whole = not-false _ (a .0); room = ltb-false _ _ (b .0); present = leb-false _ _ (c .0); early = leb-false _ _ (d .0) }
+    let fails = no-rule _ e in
+    record { whole = not-false _ (fails 0); room = ltb-false _ _ (fails 1); present = leb-false _ _ (fails 2); early = leb-false _ _ (fails 3) }
 
 -- and each of these is accepted.
 pub checkpoint-in : (s : Run) (i : ℕ) (deleted : List ℕ) → CheckpointFine s i deleted → checkpointRefusal s i deleted ≡ none
 unfolding checkpointRefusal
 checkpoint-in s i deleted h =
-    first-in _ _ (not-in _ (h .whole))
-    (first-in _ _ (le-ltb _ _ (h .room))
-    (first-in _ _ (lt-leb _ _ (h .present))
-    (first-in _ _ (lt-leb _ _ (h .early)) first-nil)))
+    refusal-in _ none (
+      not-in _ (h .whole),
+      (
+        le-ltb _ _ (h .room),
+        (
+          lt-leb _ _ (h .present),
+          (lt-leb _ _ (h .early), tt),
+        ),
+      ),
+    )
 
 -- A send that is accepted.
 pub record SendFine (s : Run) (i j : ℕ) : Type 0 where
@@ -105,30 +88,34 @@ pub record SendFine (s : Run) (i j : ℕ) : Type 0 where
 pub send-out : (s : Run) (i j : ℕ) → sendRefusal s i j ≡ none → SendFine s i j
 unfolding sendRefusal
 send-out s i j e =
-    let a = first-out _ _ e in
-    let b = first-out _ _ (a .1) in
-    let c = first-out _ _ (b .1) in
-    let d = first-out _ _ (c .1) in
-    let f = first-out _ _ (d .1) in
-    let g = or-out (absent s i) (absent s j) (b .0) in
+    let fails = no-rule _ e in
+    let g = or-out (absent s i) (absent s j) (fails 1) in
     record {
-      whole = not-false _ (a .0);
+      whole = not-false _ (fails 0);
       from = leb-false _ _ (g .0);
       to = leb-false _ _ (g .1);
-      apart = eqb-false _ _ (c .0);
-      room = leb-false _ _ (d .0);
-      numbers = leb-false _ _ (f .0);
+      apart = eqb-false _ _ (fails 2);
+      room = leb-false _ _ (fails 3);
+      numbers = leb-false _ _ (fails 4);
     }
 
 -- and each of these is accepted.
 pub send-in : (s : Run) (i j : ℕ) → SendFine s i j → sendRefusal s i j ≡ none
 unfolding sendRefusal
 send-in s i j h =
-    first-in _ _ (not-in _ (h .whole))
-    (first-in _ _ (or-in (absent s i) (absent s j) (lt-leb _ _ (h .from)) (lt-leb _ _ (h .to)))
-    (first-in _ _ (ne-eqb i j (h .apart))
-    (first-in _ _ (lt-leb _ _ (h .room))
-    (first-in _ _ (lt-leb _ _ (h .numbers)) first-nil))))
+    refusal-in _ none (
+      not-in _ (h .whole),
+      (
+        or-in (absent s i) (absent s j) (lt-leb _ _ (h .from)) (lt-leb _ _ (h .to)),
+        (
+          ne-eqb i j (h .apart),
+          (
+            lt-leb _ _ (h .room),
+            (lt-leb _ _ (h .numbers), tt),
+          ),
+        ),
+      ),
+    )
 
 -- A message that is not missing is there.
 there : (o : Option Message) → missing o ≡ false → (x : Message) × (o ≡ some x)
@@ -159,27 +146,30 @@ early-in s o x d h = rw d (by-bool (forces (process s (x .receiver)) (x .vector)
 pub deliver-out : (s : Run) (m : ℕ) (deleted : List ℕ) → deliverRefusal s m deleted ≡ none → DeliverFine s m deleted
 unfolding deliverRefusal
 deliver-out s m deleted e =
-    let a = first-out _ _ e in
-    let b = first-out _ _ (a .1) in
-    let c = first-out _ _ (b .1) in
-    let d = first-out _ _ (c .1) in
-    let w = there (found s m) (c .0) in
+    let fails = no-rule _ e in
+    let w = there (found s m) (fails 2) in
     record {
-      whole = not-false _ (a .0);
-      room = ltb-false _ _ (b .0);
+      whole = not-false _ (fails 0);
+      room = ltb-false _ _ (fails 1);
       message = w .0;
       here = w .1;
-      early = early-out s (found s m) (w .0) (d .0) (w .1);
+      early = early-out s (found s m) (w .0) (fails 3) (w .1);
     }
 
 -- and each of these is accepted.
 pub deliver-in : (s : Run) (m : ℕ) (deleted : List ℕ) → DeliverFine s m deleted → deliverRefusal s m deleted ≡ none
 unfolding deliverRefusal
 deliver-in s m deleted h =
-    first-in _ _ (not-in _ (h .whole))
-    (first-in _ _ (le-ltb _ _ (h .room))
-    (first-in _ _ (rw (h .here))
-    (first-in _ _ (early-in s (found s m) (h .message) (h .here) (h .early)) first-nil)))
+    refusal-in _ none (
+      not-in _ (h .whole),
+      (
+        le-ltb _ _ (h .room),
+        (
+          rw (h .here),
+          (early-in s (found s m) (h .message) (h .here) (h .early), tt),
+        ),
+      ),
+    )
 
 -- A loss that is accepted.
 pub record LoseFine (s : Run) (m : ℕ) : Type 0 where
@@ -191,15 +181,14 @@ pub record LoseFine (s : Run) (m : ℕ) : Type 0 where
 pub lose-out : (s : Run) (m : ℕ) → loseRefusal s m ≡ none → LoseFine s m
 unfolding loseRefusal
 lose-out s m e =
-    let a = first-out _ _ e in
-    let b = first-out _ _ (a .1) in
-    let w = there (found s m) (b .0) in
-    record { whole = not-false _ (a .0); message = w .0; here = w .1 }
+    let fails = no-rule _ e in
+    let w = there (found s m) (fails 1) in
+    record { whole = not-false _ (fails 0); message = w .0; here = w .1 }
 
 -- and each of these is accepted.
 pub lose-in : (s : Run) (m : ℕ) → LoseFine s m → loseRefusal s m ≡ none
 unfolding loseRefusal
-lose-in s m h = first-in _ _ (not-in _ (h .whole)) (first-in _ _ (rw (h .here)) first-nil)
+lose-in s m h = refusal-in _ none (not-in _ (h .whole), (rw (h .here), tt))
 
 -- A failed set that is neither empty nor has a bit at n or above.
 abbrev pub SetFine : ℕ → ℕ → Type 0
@@ -230,23 +219,27 @@ pub record LineFine (s : Run) (F : ℕ) (line : List ℕ) : Type 0 where
 pub line-out : (s : Run) (F : ℕ) (line : List ℕ) → lineRefusal s F line ≡ none → LineFine s F line
 unfolding lineRefusal
 line-out s F line e =
-    let a = first-out _ _ e in
-    let b = first-out _ _ (a .1) in
-    let c = first-out _ _ (b .1) in
-    let d = first-out _ _ (c .1) in
-    let f = first-out _ _ (d .1) in
-    let some-bit : F ≡ 0 → ⊥ = eqb-false F 0 (c .0) in
-    record { whole = not-false _ (a .0); room = ltb-false _ _ (b .0); set = (omega (arith, some-bit), leb-false _ _ (d .0)); members = f .0 }
+    let fails = no-rule _ e in
+    let some-bit : F ≡ 0 → ⊥ = eqb-false F 0 (fails 2) in
+    record { whole = not-false _ (fails 0); room = ltb-false _ _ (fails 1); set = (omega (arith, some-bit), leb-false _ _ (fails 3)); members = fails 4 }
 
 -- and each of these is accepted.
 pub line-in : (s : Run) (F : ℕ) (line : List ℕ) → LineFine s F line → lineRefusal s F line ≡ none
 unfolding lineRefusal
 line-in s F line h =
-    first-in _ _ (not-in _ (h .whole))
-    (first-in _ _ (le-ltb _ _ (h .room))
-    (first-in _ _ (set-some (s .count) F (h .set))
-    (first-in _ _ (set-inside s F (h .set))
-    (first-in _ _ (h .members) first-nil))))
+    refusal-in _ none (
+      not-in _ (h .whole),
+      (
+        le-ltb _ _ (h .room),
+        (
+          set-some (s .count) F (h .set),
+          (
+            set-inside s F (h .set),
+            (h .members, tt),
+          ),
+        ),
+      ),
+    )
 
 -- A recover call that is accepted.
 pub record RecoverFine (s : Run) (F : ℕ) (deleted line : List ℕ) : Type 0 where
@@ -260,27 +253,31 @@ pub record RecoverFine (s : Run) (F : ℕ) (deleted line : List ℕ) : Type 0 wh
 pub recover-out : (s : Run) (F : ℕ) (deleted line : List ℕ) → recoverRefusal s F deleted line ≡ none → RecoverFine s F deleted line
 unfolding recoverRefusal
 recover-out s F deleted line e =
-    let a = first-out _ _ e in
-    let b = first-out _ _ (a .1) in
-    let c = first-out _ _ (b .1) in
-    let d = first-out _ _ (c .1) in
-    let f = first-out _ _ (d .1) in
-    let g = or-out (shortDeletions s deleted) (shortLine s line) (b .0) in
-    let some-bit : F ≡ 0 → ⊥ = eqb-false F 0 (c .0) in
+    let fails = no-rule _ e in
+    let g = or-out (shortDeletions s deleted) (shortLine s line) (fails 1) in
+    let some-bit : F ≡ 0 → ⊥ = eqb-false F 0 (fails 2) in
     record {
-      whole = not-false _ (a .0);
+      whole = not-false _ (fails 0);
       room = ltb-false _ _ (g .0);
       line-room = ltb-false _ _ (g .1);
-      set = (omega (arith, some-bit), leb-false _ _ (d .0));
-      members = f .0;
+      set = (omega (arith, some-bit), leb-false _ _ (fails 3));
+      members = fails 4;
     }
 
 -- and each of these is accepted.
 pub recover-in : (s : Run) (F : ℕ) (deleted line : List ℕ) → RecoverFine s F deleted line → recoverRefusal s F deleted line ≡ none
 unfolding recoverRefusal
 recover-in s F deleted line h =
-    first-in _ _ (not-in _ (h .whole))
-    (first-in _ _ (or-in (shortDeletions s deleted) (shortLine s line) (le-ltb _ _ (h .room)) (le-ltb _ _ (h .line-room)))
-    (first-in _ _ (set-some (s .count) F (h .set))
-    (first-in _ _ (set-inside s F (h .set))
-    (first-in _ _ (h .members) first-nil))))
+    refusal-in _ none (
+      not-in _ (h .whole),
+      (
+        or-in (shortDeletions s deleted) (shortLine s line) (le-ltb _ _ (h .room)) (le-ltb _ _ (h .line-room)),
+        (
+          set-some (s .count) F (h .set),
+          (
+            set-inside s F (h .set),
+            (h .members, tt),
+          ),
+        ),
+      ),
+    )

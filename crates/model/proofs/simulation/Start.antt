@@ -57,7 +57,7 @@ module _ (n p : ℕ) (lt : p < n) where
 
   start-kept : noCheckpoint ∷ [] ≡ keptOf (begin n) p
   unfolding begin keptOf checkpointOf passing
-  start-kept = rw start-keeps (ap (λ (v : List Interval). record { index = record { 0 = 0 }; vector = v } ∷ []) (zeros n))
+  start-kept = rw (start-keeps, zeros n)
 
   start-mark : false ≡ begin n .mark p
   unfolding begin

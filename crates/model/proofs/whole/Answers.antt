@@ -10,6 +10,7 @@ use lib.ListN.{getD}
 use borrow.Author.Tests.{eqb-false}
 use Rattle.model.specs.declared.Refusal.{Refusal}
 use Rattle.model.specs.Refusals.{number}
+use Rattle.model.specs.laws.Refusals.{by-refusal}
 use Rattle.model.specs.Calls.{Call, checkpoint, send, deliver, lose, recover, line, answered, call}
 use Rattle.model.specs.Survival.{Surviving, after}
 use Rattle.model.specs.Answers.{lowest, reasons, failedSet, gonePairs, SentSince, BringsNews, Forces, RightLine, AnswerIsRight}
@@ -25,7 +26,7 @@ use Rattle.model.proofs.whole.Accepted.{Step, accepted-report, step-agr
 use Rattle.model.proofs.whole.Gone.{goneAll, gone-agrees}
 use Rattle.model.proofs.whole.LineRight.{same-line}
 use Rattle.model.proofs.whole.Reached.{exchange, refusal, refused-number, refused-report}
-use Rattle.model.proofs.whole.Refused.{by-refusal, reports-number, forcingOf, number-right}
+use Rattle.model.proofs.whole.Refused.{reports-number, forcingOf, number-right}
 use Rattle.model.proofs.whole.Runs.{stepped}
 use Rattle.model.proofs.whole.Values.{refused-reply, value-right, line-list-right}
 

@@ -1,7 +1,7 @@
 -- The reported line of a reached state is right: both calls are accepted and write it; it is consistent by the messages of the surviving history;
 -- nothing later is; its members are live and not failed, or kept.
 -- Assumes nothing.
-use mathlib.Core.Path.{_≡_, sym, _∙_, ap}
+use mathlib.Core.Path.{_≡_, refl, sym, _∙_, ap}
 use mathlib.Core.Bool.{true, false, _||_}
 use mathlib.Core.List.{List}
 use mathlib.Core.Logic.{_⊎_, inl, inr}
@@ -22,7 +22,8 @@ use Rattle.model.specs.Words.{failed}
 use Rattle.model.specs.Steps.{lineOf}
 use Rattle.model.specs.Sound.{sound}
 use Rattle.model.specs.History.{Lists, Line, checkpoints, Consistent}
-use Rattle.model.specs.Refusals.{firstOf, shortDeletions, shortLine, noMember, lineRefusal, recoverRefusal}
+use Rattle.model.specs.Refusals.{shortDeletions, shortLine, noMember, lineRefusal, recoverRefusal}
+use Rattle.model.specs.laws.Refusals.{refusal-in}
 use Rattle.model.specs.Outcomes.{lineOutcome, recoverOutcome}
 use Rattle.model.specs.Survival.{Surviving}
 use Rattle.model.specs.Answers.{RightLine}
@@ -37,12 +38,12 @@ use Rattle.model.proofs.whole.Agreement.{Agrees}
 -- A list that is too short is the first thing that is refused of a sound state.
 module _ (s : Run) (F : ℕ) (whole : sound s ≡ true) where
   line-short : (lent : List ℕ) → length lent < s .count → lineRefusal s F lent ≡ some ListTooShort
-  unfolding lineRefusal firstOf
-  line-short lent h = rw (whole, lt-ltb (length lent) (s .count) h)
+  unfolding lineRefusal
+  line-short lent h = refusal-in _ (some ListTooShort) (1, (rw whole, tt), lt-ltb (length lent) (s .count) h, refl)
 
   recover-short : (deleted lent : List ℕ) → (length deleted < 2 * s .count * s .count) ⊎ (length lent < s .count) → recoverRefusal s F deleted lent ≡ some ListTooShort
-  unfolding recoverRefusal firstOf
-  recover-short deleted lent h = rw (whole, short h)
+  unfolding recoverRefusal
+  recover-short deleted lent h = refusal-in _ (some ListTooShort) (1, (rw whole, tt), short h, refl)
     where
       short : (length deleted < 2 * s .count * s .count) ⊎ (length lent < s .count) → (shortDeletions s deleted || shortLine s lent) ≡ true
       short (inl d) = or-left (shortDeletions s deleted) (shortLine s lent) (lt-ltb (length deleted) (2 * s .count * s .count) d)

@@ -1,15 +1,17 @@
 -- A state and a surviving history that a list of calls from a start reaches: there is a run as functions for which the state stands and with which
 -- the history agrees. Here: the start, and that a refused call changes nothing.
 -- Assumes nothing.
-use mathlib.Core.Path.{_≡_, refl}
+use mathlib.Core.Path.{_≡_}
 use mathlib.Core.Bool.{false}
 use mathlib.Core.Option.{Option, some}
 use Prim.Native.Nat.{ℕ}
+use native.Mathlib.Omega.{arith}
 use lib.Dec.{eqb}
+use borrow.Author.Tests.{ne-eqb}
 use Rattle.model.specs.declared.Run.{Run}
 use Rattle.model.specs.declared.Refusal.{Refusal}
-use Rattle.model.specs.declared.Refusal.the-variants.{CountOutsideRange, UnsoundState, ListTooShort, NoSuchProcess, SenderIsReceiver, NobodyFailed, NoSuchFailedProcess, NotUnderWay, TooManyUnderWay, MessageNumbersUsed, IntervalsUsed, NoFirstByte, LeftOverBytes, MalformedRecord}
 use Rattle.model.specs.Refusals.{number, checkpointRefusal, sendRefusal, deliverRefusal, loseRefusal, lineRefusal, recoverRefusal}
+use Rattle.model.specs.laws.Refusals.{number-range}
 use Rattle.model.specs.Outcomes.{checkpointOutcome, sendOutcome, deliverOutcome, loseOutcome, lineOutcome, recoverOutcome, checkpointReport, sendReport, deliverReport, loseReport, lineReport, recoverReport}
 use Rattle.model.specs.Calls.{Call, checkpoint, send, deliver, lose, recover, line, Exchange, answered, call}
 use Rattle.model.specs.Survival.{Surviving, after}
@@ -44,21 +46,7 @@ refusal s (line F lent) = lineRefusal s F lent
 
 -- No refusal has the number 0.
 pub refused-number : (x : Refusal) → eqb (number x) 0 ≡ false
-unfolding number
-refused-number CountOutsideRange = refl
-refused-number UnsoundState = refl
-refused-number ListTooShort = refl
-refused-number NoSuchProcess = refl
-refused-number SenderIsReceiver = refl
-refused-number NobodyFailed = refl
-refused-number NoSuchFailedProcess = refl
-refused-number NotUnderWay = refl
-refused-number TooManyUnderWay = refl
-refused-number MessageNumbersUsed = refl
-refused-number IntervalsUsed = refl
-refused-number NoFirstByte = refl
-refused-number LeftOverBytes = refl
-refused-number MalformedRecord = refl
+refused-number x = ne-eqb (number x) 0 (omega (arith, number-range x .0))
 
 -- A refused call returns the state as it came.
 pub refused-state : (s : Run) (c : Call) (x : Refusal) → refusal s c ≡ some x → call s c .run ≡ s

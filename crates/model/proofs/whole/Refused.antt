@@ -1,26 +1,28 @@
 -- The number that a call on a reached state is refused with, by the surviving history and the call's arguments alone.
 -- Assumes nothing.
 use mathlib.Core.Path.{_≡_, refl, sym, _∙_, ap}
-use mathlib.Core.Bool.{Bool, true, false, _&&_, _||_}
-use mathlib.Core.List.{List}
+use mathlib.Core.Bool.{Bool, true, false, _&&_, not}
+use mathlib.Core.List.{List, [], _∷_}
 use mathlib.Core.Option.{Option, none, some}
 use Prim.Native.Nat.{ℕ, _*_, _^_, _<_}
 use native.Mathlib.Omega.{arith}
-use lib.Dec.{eqb, ltb, leb}
+use lib.Dec.{ltb, leb}
 use lib.ListN.{length}
-use borrow.Author.Tests.{leb-false}
+use borrow.Author.Tests.{leb-false, not-false}
 use Rattle.laws.specs.Choice.{by-bool}
 use Rattle.laws.specs.Search.{anyBelow, any-out}
 use Rattle.laws.specs.Truth.{never-both}
 use Rattle.model.specs.declared.Run.{Run}
 use Rattle.model.specs.declared.Refusal.{Refusal}
-use Rattle.model.specs.Words.{mostInterval, mostUnderWay, mostMessages, own}
-use Rattle.model.specs.Steps.{latestAllowed}
+use Rattle.model.specs.Words.{own}
+use Rattle.model.specs.Steps.{found, latestAllowed}
+use Rattle.model.specs.Sound.{sound}
 use Rattle.model.specs.History.{Lists, checkpoints}
-use Rattle.model.specs.Refusals.{number, firstOf, shortDeletions, absent, checkpointRefusal, sendRefusal, missing, forcesPast, deliverRefusal, loseRefusal, noMember, lineRefusal, recoverRefusal}
+use Rattle.model.specs.Refusals.{number, Rule, firstOf, shortDeletions, shortLine, absent, atLastInterval, outside, checkpointRefusal, sendRefusal, missing, forcesPast, deliverRefusal, loseRefusal, noMember, lineRefusal, recoverRefusal}
+use Rattle.model.specs.laws.Refusals.{by-refusal}
 use Rattle.model.specs.Calls.{Call, checkpoint, send, deliver, lose, recover, line, call}
 use Rattle.model.specs.Survival.{Surviving}
-use Rattle.model.specs.Answers.{lowest, countUnderWay, tooShort, reasons}
+use Rattle.model.specs.Answers.{Reason, lowest, countUnderWay, tooShort, reasons}
 use Rattle.model.proofs.ideal.Run.{Ideal, forces}
 use Rattle.model.proofs.ideal.Invariant.{Inv}
 use Rattle.model.proofs.ideal.Messages.{underway-proper}
@@ -39,11 +41,6 @@ use Rattle.model.proofs.whole.Reached.{refusal, refused-report}
 unfoldable pub numberOf : Option Refusal → ℕ
 numberOf none = 0
 numberOf (some x) = number x
-
--- A fact by whether there is a refusal.
-pub by-refusal : {P : Type 0} (o : Option Refusal) → (o ≡ none → P) → ((x : Refusal) → o ≡ some x → P) → P
-by-refusal none a b = a refl
-by-refusal (some x) a b = b x refl
 
 -- A reply reports that number.
 pub reports-number : (s : Run) (c : Call) → call s c .reply .report .refused ≡ numberOf (refusal s c)
@@ -70,6 +67,20 @@ forcingOf r (lose m) = false
 forcingOf r (recover F deleted lent) = false
 forcingOf r (line F lent) = false
 
+-- A rule that does not hold gives no number. A rule and a reason that hold alike and have the same number give the same, if those behind them do.
+never : (t : Rule) (l : List Rule) (k : ℕ) → t .holds ≡ false → numberOf (firstOf l) ≡ k → numberOf (firstOf (t ∷ l)) ≡ k
+unfolding numberOf firstOf
+never t l k e rest = rw e rest
+
+alike : (t : Rule) (l : List Rule) (x : Reason) (k : List Reason) → t .holds ≡ x .holds → number (t .gives) ≡ x .number
+    → (x .holds ≡ false → numberOf (firstOf l) ≡ lowest k) → numberOf (firstOf (t ∷ l)) ≡ lowest (x ∷ k)
+unfolding numberOf firstOf lowest
+alike t l x k e same rest = by-bool (x .holds) (λ d. rw (e ∙ d, d) same) (λ d. rw (e ∙ d, d) (rest d))
+
+no-more : numberOf (firstOf []) ≡ lowest []
+unfolding numberOf firstOf lowest
+no-more = refl
+
 module _ (h : Surviving) (r : Ideal) (v : Inv r) (fit : Limits r) (g : Agrees h r) where
   pub live-is : (p : ℕ) → checkpoints (h .lists p) ≡ r .own p
   live-is p = ap (λ (l : Lists). checkpoints (l p)) (g .lists) ∙ sym (v .counted p)
@@ -77,66 +88,90 @@ module _ (h : Surviving) (r : Ideal) (v : Inv r) (fit : Limits r) (g : Agrees h 
   self : (p : ℕ) → r .vector p (r .own p) p ≡ r .own p
   self p = v .self p (r .own p) (omega arith)
 
-  -- The tests of lengths and of processes.
+  -- The state is sound: its first rule never holds.
+  whole : not (sound (stateOf r)) ≡ false
+  whole = rw (state-sound r v fit)
+
+  -- The tests of lengths, of processes and of failed sets.
   short-same : (deleted : List ℕ) → shortDeletions (stateOf r) deleted ≡ tooShort (r .n) deleted
   short-same deleted = ap (λ (c : ℕ). ltb (length deleted) (2 * c * c)) (count-is r)
+
+  line-same : (lent : List ℕ) → shortLine (stateOf r) lent ≡ ltb (length lent) (r .n)
+  line-same lent = ap (λ (c : ℕ). ltb (length lent) c) (count-is r)
 
   absent-same : (i : ℕ) → absent (stateOf r) i ≡ leb (r .n) i
   absent-same i = ap (λ (c : ℕ). leb c i) (count-is r)
 
+  outside-same : (F : ℕ) → outside (stateOf r) F ≡ leb (2 ^ r .n) F
+  outside-same F = ap (λ (c : ℕ). leb (2 ^ c) F) (count-is r)
+
+  -- The test of the last interval, of a process of the run.
+  last-same : (i : ℕ) → i < r .n → atLastInterval (stateOf r) i ≡ leb 65_535 (checkpoints (h .lists i))
+  last-same i hi = rw (own-is r i (fit .few-processes) hi (self i), live-is i)
+
   checkpoint-number : (b : Bool) (i : ℕ) (deleted : List ℕ) → numberOf (checkpointRefusal (stateOf r) i deleted) ≡ lowest (reasons (r .n) h b (checkpoint i deleted))
-  unfolding numberOf checkpointRefusal firstOf lowest reasons number
-  checkpoint-number b i deleted = rw (state-sound r v fit, short-same deleted, absent-same i, live-is i) (by-bool (ltb (length deleted) (2 * r .n * r .n))
-      (λ e. rw e)
-      (λ e. rw e (by-bool (leb (r .n) i)
-      (λ d. rw d)
-      (λ d. rw (d, own-is r i (fit .few-processes) (leb-false (r .n) i d) (self i)) (by-bool (leb mostInterval (r .own i)) (λ q. rw q) (λ q. rw q))))))
+  unfolding checkpointRefusal reasons number
+  checkpoint-number b i deleted =
+      never _ _ _ whole
+      (alike _ _ _ _ (short-same deleted) refl (λ z.
+      alike _ _ _ _ (absent-same i) refl (λ present.
+      alike _ _ _ _ (last-same i (leb-false (r .n) i present)) refl (λ z. no-more))))
 
   under-way : countUnderWay h ≡ length (messagesOf r)
   unfolding countUnderWay
   under-way = rw (g .sends, g .underway) (sym (messages-count r))
 
   send-number : (b : Bool) (i j : ℕ) → numberOf (sendRefusal (stateOf r) i j) ≡ lowest (reasons (r .n) h b (send i j))
-  unfolding numberOf sendRefusal firstOf lowest reasons number
-  send-number b i j = rw (state-sound r v fit, count-is r, underway-is r, last-is r, under-way, g .sends) (by-bool (leb (r .n) i || leb (r .n) j)
-      (λ e. rw e)
-      (λ e. rw e (by-bool (eqb i j)
-      (λ d. rw d)
-      (λ d. rw d (by-bool (leb mostUnderWay (length (messagesOf r)))
-      (λ q. rw q)
-      (λ q. rw q (by-bool (leb mostMessages (r .last)) (λ z. rw z) (λ z. rw z))))))))
+  unfolding sendRefusal reasons number
+  send-number b i j =
+      never _ _ _ whole
+      (alike _ _ _ _ (rw (count-is r)) refl (λ z.
+      alike _ _ _ _ refl refl (λ z.
+      alike _ _ _ _ (rw (underway-is r, under-way)) refl (λ z.
+      alike _ _ _ _ (rw (last-is r, g .sends)) refl (λ z. no-more)))))
 
-  forces-past : (m : ℕ) → r .transit m ≡ true → forcesPast (stateOf r) (some (messageOf r m)) ≡ (forces r m && leb mostInterval (r .own (r .receiver m)))
-  unfolding forcesPast messageOf
-  forces-past m t =
-      let hi : r .receiver m < r .n = underway-proper r v m t .to in
-      rw (deliver-forces r m (fit .few-processes) hi (self (r .receiver m)), own-is r (r .receiver m) (fit .few-processes) hi (self (r .receiver m)))
-
-  deliver-number : (m : ℕ) (deleted : List ℕ) → numberOf (deliverRefusal (stateOf r) m deleted) ≡ lowest (reasons (r .n) h (forces r m) (deliver m deleted))
-  unfolding numberOf deliverRefusal firstOf lowest reasons number
-  deliver-number m deleted = rw (state-sound r v fit, short-same deleted, live-is (h .receiver m), g .receiver, g .underway) (by-bool (ltb (length deleted) (2 * r .n * r .n))
-      (λ e. rw e)
-      (λ e. rw e (by-bool (r .transit m)
-      (λ t. rw (t, found-is r m (used-number r v m t) t, forces-past m t) (by-bool (forces r m && leb mostInterval (r .own (r .receiver m))) (λ q. rw q) (λ q. rw q)))
-      (λ t. rw (t, found-none r m t)))))
-
-  lose-number : (b : Bool) (m : ℕ) → numberOf (loseRefusal (stateOf r) m) ≡ lowest (reasons (r .n) h b (lose m))
-  unfolding numberOf loseRefusal firstOf lowest reasons number
-  lose-number b m = rw (state-sound r v fit, g .underway) (by-bool (r .transit m)
+  -- The message is under way by the state exactly if it is by the history.
+  missing-same : (m : ℕ) → missing (found (stateOf r) m) ≡ not (h .underway m)
+  missing-same m = rw (g .underway) (by-bool (r .transit m)
       (λ t. rw (t, found-is r m (used-number r v m t) t))
       (λ t. rw (t, found-none r m t)))
 
+  forces-past : (m : ℕ) → not (h .underway m) ≡ false → forcesPast (stateOf r) (found (stateOf r) m) ≡ (forces r m && leb 65_535 (checkpoints (h .lists (h .receiver m))))
+  unfolding forcesPast messageOf
+  forces-past m e =
+      let t : r .transit m ≡ true = not-false _ (rw (g .underway) at e) in
+      let hi : r .receiver m < r .n = underway-proper r v m t .to in
+      rw (found-is r m (used-number r v m t) t, g .receiver, deliver-forces r m (fit .few-processes) hi (self (r .receiver m)), last-same (r .receiver m) hi)
+
+  deliver-number : (m : ℕ) (deleted : List ℕ) → numberOf (deliverRefusal (stateOf r) m deleted) ≡ lowest (reasons (r .n) h (forces r m) (deliver m deleted))
+  unfolding deliverRefusal reasons number
+  deliver-number m deleted =
+      never _ _ _ whole
+      (alike _ _ _ _ (short-same deleted) refl (λ z.
+      alike _ _ _ _ (missing-same m) refl (λ there.
+      alike _ _ _ _ (forces-past m there) refl (λ z. no-more))))
+
+  lose-number : (b : Bool) (m : ℕ) → numberOf (loseRefusal (stateOf r) m) ≡ lowest (reasons (r .n) h b (lose m))
+  unfolding loseRefusal reasons number
+  lose-number b m = never _ _ _ whole (alike _ _ _ _ (missing-same m) refl (λ z. no-more))
+
   line-number : (b : Bool) (F : ℕ) (lent : List ℕ) → numberOf (lineRefusal (stateOf r) F lent) ≡ lowest (reasons (r .n) h b (line F lent))
-  unfolding numberOf lineRefusal firstOf lowest reasons number
-  line-number b F lent = rw (state-sound r v fit, members-found r v fit F, count-is r) (by-bool (ltb (length lent) (r .n))
-      (λ e. rw e)
-      (λ e. rw e (by-bool (eqb F 0) (λ d. rw d) (λ d. rw d (by-bool (leb (2 ^ r .n) F) (λ q. rw q) (λ q. rw q))))))
+  unfolding lineRefusal reasons number
+  line-number b F lent =
+      never _ _ _ whole
+      (alike _ _ _ _ (line-same lent) refl (λ z.
+      alike _ _ _ _ refl refl (λ z.
+      alike _ _ _ _ (outside-same F) refl (λ z.
+      never _ _ _ (members-found r v fit F) no-more))))
 
   recover-number : (b : Bool) (F : ℕ) (deleted lent : List ℕ) → numberOf (recoverRefusal (stateOf r) F deleted lent) ≡ lowest (reasons (r .n) h b (recover F deleted lent))
-  unfolding numberOf recoverRefusal firstOf lowest reasons number
-  recover-number b F deleted lent = rw (state-sound r v fit, members-found r v fit F, count-is r) (by-bool (ltb (length deleted) (2 * r .n * r .n) || ltb (length lent) (r .n))
-      (λ e. rw e)
-      (λ e. rw e (by-bool (eqb F 0) (λ d. rw d) (λ d. rw d (by-bool (leb (2 ^ r .n) F) (λ q. rw q) (λ q. rw q))))))
+  unfolding recoverRefusal reasons number
+  recover-number b F deleted lent =
+      never _ _ _ whole
+      (alike _ _ _ _ (rw (count-is r)) refl (λ z.
+      alike _ _ _ _ refl refl (λ z.
+      alike _ _ _ _ (outside-same F) refl (λ z.
+      never _ _ _ (members-found r v fit F) no-more))))
 
   pub number-right : (c : Call) → numberOf (refusal (stateOf r) c) ≡ lowest (reasons (r .n) h (forcingOf r c) c)
   unfolding refusal forcingOf
