@@ -1,19 +1,21 @@
 -- Demand 3, "Right over whole runs", as one type. Its proof is in proofs/.
 -- Assumes nothing.
 use mathlib.Core.Path.{_≡_}
-use mathlib.Core.Bool.{true}
+use mathlib.Core.Bool.{true, _&&_, not}
 use mathlib.Core.List.{List}
 use mathlib.Core.Logic.{_⊎_}
 use mathlib.Core.Option.{none, some}
 use Prim.Native.Nat.{ℕ, _*_, _^_, _<_, _≤_}
 use lib.Dec.{eqb}
 use lib.ListN.{length, getD}
+use Rattle.laws.specs.Search.{allBelow}
 use Rattle.laws.specs.Tests.{countBelow, some-of}
+use Rattle.model.specs.declared.Checkpoint.{Checkpoint}
 use Rattle.model.specs.declared.Run.{Run}
 use Rattle.model.specs.declared.Refusal.the-variants.{ListTooShort}
 use Rattle.model.specs.declared.StartAnswer.the-variants.{Started}
-use Rattle.model.specs.Words.{names, process}
-use Rattle.model.specs.Steps.{lineOf}
+use Rattle.model.specs.Words.{lastStored, comesBefore, names, process, own, failed}
+use Rattle.model.specs.Steps.{allowed, lineOf}
 use Rattle.model.specs.History.{Line, checkpoints}
 use Rattle.model.specs.Sound.{sound}
 use Rattle.model.specs.Refusals.{lineRefusal, recoverRefusal}
@@ -38,7 +40,9 @@ pub record LineIsRight (n : ℕ) (s : Run) (h : Surviving) (F : ℕ) : Type 0 wh
   pub line-writes : (lent : List ℕ) → n ≤ length lent → (p : ℕ) → p < n → getD (lineOutcome s F lent .line) p 0 ≡ reported s F p
   pub recover-writes : (deleted lent : List ℕ) → 2 * n * n ≤ length deleted → n ≤ length lent → (p : ℕ) → p < n
       → getD (recoverOutcome s F deleted lent .line) p 0 ≡ reported s F p
-  -- and it is right by the history
+  -- the line rule by precedence: it accepts a state exactly if the last stored checkpoint of no failed process comes causally before that state
+  pub by-precedence : (c : Checkpoint) → allowed s F c ≡ allBelow n (λ f. not (failed F f && comesBefore (lastStored (own s f)) f (c .vector)))
+  -- the line is right by the history
   pub right : RightLine n h F (reported s F)
 
 -- What is promised of a state and its surviving history whoever fails: kept by the pairs handed out are exactly the checkpoints that the state keeps,

@@ -2,28 +2,32 @@
 -- nothing later is; its members are live and not failed, or kept.
 -- Assumes nothing.
 use mathlib.Core.Path.{_≡_, refl, sym, _∙_, ap}
-use mathlib.Core.Bool.{true, false, _||_}
+use mathlib.Core.Bool.{true, false, _&&_, _||_, not}
 use mathlib.Core.List.{List}
 use mathlib.Core.Logic.{_⊎_, inl, inr}
 use mathlib.Core.Option.{none, some}
-use Prim.Native.Nat.{ℕ, _*_, _^_, _≤_, _<_}
+use Prim.Native.Nat.{ℕ, _-_, _*_, _^_, _≤_, _<_}
 use native.Mathlib.Omega.{arith}
 use lib.Dec.{ltb}
 use lib.ListN.{length, getD}
-use borrow.Author.Tests.{lt-ltb, ltb-true, ltb-false}
+use borrow.Author.Tests.{lt-ltb, le-ltb, ltb-true, ltb-false}
 use Rattle.laws.specs.Choice.{by-bool}
 use Rattle.laws.specs.Front.{getD-written}
 use Rattle.laws.specs.Lists.{table}
+use Rattle.laws.specs.Ranges.{all-same}
+use Rattle.laws.specs.Search.{allBelow}
 use Rattle.laws.specs.Tables.{length-table, getD-table}
 use Rattle.laws.specs.Truth.{or-left, or-in-right}
+use Rattle.model.specs.declared.Checkpoint.{Checkpoint}
 use Rattle.model.specs.declared.Run.{Run}
 use Rattle.model.specs.declared.Refusal.the-variants.{ListTooShort}
-use Rattle.model.specs.Words.{failed}
-use Rattle.model.specs.Steps.{lineOf}
+use Rattle.model.specs.Words.{entry, lastStored, comesBefore, own, failed}
+use Rattle.model.specs.Steps.{allowed, lineOf}
 use Rattle.model.specs.Sound.{sound}
 use Rattle.model.specs.History.{Lists, Line, checkpoints, Consistent}
 use Rattle.model.specs.Refusals.{shortDeletions, shortLine, noMember, lineRefusal, recoverRefusal}
 use Rattle.model.specs.laws.Refusals.{refusal-in}
+use Rattle.model.specs.laws.Sound.{sound-state}
 use Rattle.model.specs.Outcomes.{lineOutcome, recoverOutcome}
 use Rattle.model.specs.Survival.{Surviving}
 use Rattle.model.specs.Answers.{RightLine}
@@ -48,6 +52,20 @@ module _ (s : Run) (F : ℕ) (whole : sound s ≡ true) where
       short : (length deleted < 2 * s .count * s .count) ⊎ (length lent < s .count) → (shortDeletions s deleted || shortLine s lent) ≡ true
       short (inl d) = or-left (shortDeletions s deleted) (shortLine s lent) (lt-ltb (length deleted) (2 * s .count * s .count) d)
       short (inr l) = or-in-right (shortDeletions s deleted) (shortLine s lent) (lt-ltb (length lent) (s .count) l)
+
+-- An entry is less than an own entry exactly if the last stored checkpoint does not come before: its index is one less than the own entry.
+not-before : (own e : ℕ) → 1 ≤ own → ltb e own ≡ not (ltb (own - 1) e)
+not-before own e pos = by-bool (ltb e own)
+    (λ d. rw (d, le-ltb (own - 1) e (omega (arith, ltb-true e own d))))
+    (λ d. rw (d, lt-ltb (own - 1) e (omega (arith, ltb-false e own d))))
+
+-- So the line rule is one of precedence.
+rule-by-precedence : (s : Run) (F : ℕ) → sound s ≡ true → (c : Checkpoint)
+    → allowed s F c ≡ allBelow (s .count) (λ f. not (failed F f && comesBefore (lastStored (own s f)) f (c .vector)))
+unfolding allowed
+rule-by-precedence s F whole c = all-same (s .count) _ _ (λ f lt. by-bool (failed F f)
+    (λ e. rw e (not-before (own s f .0) (entry (c .vector) f .0) (sound-state s whole .processes f lt .own-some)))
+    (λ e. rw e))
 
 -- Indexes that are those of a right line are a right line.
 pub same-line : (n : ℕ) (h : Surviving) (F : ℕ) (a b : Line) → RightLine n h F a → ((p : ℕ) → p < n → b p ≡ a p) → RightLine n h F b
@@ -114,5 +132,6 @@ module _ (r : Ideal) (v : Inv r) (s : Run) (h : Surviving) (g : Agrees h r) (F :
     recover-short = λ deleted lent short. recover-short s F whole deleted lent (rw count short);
     line-writes = writes-line;
     recover-writes = writes-recover;
+    by-precedence = rw (← count) (rule-by-precedence s F whole);
     right = same-line (r .n) h F (line r (failed F)) (reported s F) ideal-right reported-is;
   }
