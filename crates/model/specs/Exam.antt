@@ -178,7 +178,17 @@ exam =
       kept = (1 ∷ []) ∷ (2 ∷ []) ∷ [];
       lines = record { failed = 2; indexes = 2 ∷ 2 ∷ [] } ∷ record { failed = 1; indexes = 1 ∷ 2 ∷ [] } ∷ [];
     }
-    -- 6. "After 9: vectors (2,0) and (1,3); each keeps one checkpoint." With record 10, "10 8".
+    -- 6. "After 9: vectors (2,0) and (1,3); each keeps one checkpoint."
+    ∷ record {
+      count = 2;
+      calls = take 9 traceCalls;
+      answers = take 9 traceAnswers;
+      vectors = (2 ∷ 0 ∷ []) ∷ (1 ∷ 3 ∷ []) ∷ [];
+      pins = (2 ∷ 0 ∷ []) ∷ (0 ∷ 3 ∷ []) ∷ [];
+      kept = (1 ∷ []) ∷ (2 ∷ []) ∷ [];
+      lines = [];
+    }
+    -- The whole trace: record 10 is refused, "10 8", and the state is as it came.
     ∷ record {
       count = 2;
       calls = traceCalls;

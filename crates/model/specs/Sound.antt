@@ -33,7 +33,7 @@ vectorsSound s =
     allBelow (s .count) (λ p. within s (process s p .vector) && every (λ c. within s (c .vector)) (process s p .kept))
     && every (λ x. within s (x .vector)) (underWay s)
 
--- Numbers that ascend, from above a bound.
+-- Numbers that ascend, from a bound on.
 unfoldable pub ascending : ℕ → List ℕ → Bool
 ascending low [] = true
 ascending low (x ∷ l) = leb low x && ascending (suc x) l
