@@ -16,12 +16,12 @@ use Rattle.model.specs.declared.StartAnswer.the-variants.{Started}
 use Rattle.model.specs.Steps.{startState}
 use Rattle.model.specs.Sound.{sound}
 use Rattle.model.specs.History.{checkpoints}
-use Rattle.model.specs.Outcomes.{startOutcome}
+use Rattle.model.specs.Outcomes.{startOutcome, checkpointOutcome, deliverOutcome, recoverOutcome}
 use Rattle.model.specs.laws.Refusals.{by-refusal}
-use Rattle.model.specs.Calls.{Call, checkpoint, send, deliver, lose, recover, line, Exchange, call, stateAfter, transcript}
+use Rattle.model.specs.Calls.{Call, checkpoint, send, deliver, lose, recover, line, Exchange, answered, call, stateAfter, transcript}
 use Rattle.model.specs.Survival.{Surviving, beginning, after, survivingFrom, surviving}
 use Rattle.model.specs.Answers.{AnswerIsRight, AnswersAreRight}
-use Rattle.model.specs.WholeRuns.{LineIsRight, KeptIsRight, RightOverWholeRuns, Reachable, LinePromise}
+use Rattle.model.specs.WholeRuns.{LineIsRight, KeptIsRight, RightOverWholeRuns, Reachable, LinePromise, StatePromise}
 use Rattle.model.proofs.ideal.Run.{Ideal, begin, keeps}
 use Rattle.model.proofs.ideal.Invariant.{Inv}
 use Rattle.model.proofs.ideal.Begin.{begin-inv, begin-n, begin-pin-own, begin-pin-other}
@@ -201,7 +201,27 @@ reachable-sound s v =
     ∙ reached-sound (v .0) (stateAfter (startOutcome (v .0) .run) (v .3)) (survivingFrom (v .0) beginning (transcript (startOutcome (v .0) .run) (v .3))) (runAfter (begin (v .0)) (v .3))
     (calls-reached (v .0) (startOutcome (v .0) .run) beginning (begin (v .0)) (start-reached (v .0) (v .1) (v .2)) (v .3))
 
--- Demand 3 as a line or recover call says it of its state.
+-- Demand 3 as a line or recover call says it of the state that it is handed,
 pub line-promise : (s : Run) (F : ℕ) → LinePromise s F
 unfolding RightOverWholeRuns LinePromise
-line-promise s F n pos few calls e some-failed inside = rw e (right-over-whole-runs n pos few calls .3 F some-failed inside)
+line-promise s F n pos few calls e some-failed inside =
+    let w = right-over-whole-runs n pos few calls in
+    rw e (w .3 F some-failed inside, w .2)
+
+-- and as a call says it of the state that it returns.
+state-promise : (s : Run) (c : Call) (t : Run) → t ≡ call s c .run → StatePromise s c t
+unfolding RightOverWholeRuns StatePromise
+state-promise s c t same n pos few calls e =
+    rw (same, e, ← after-one (startOutcome n .run) calls c) (right-over-whole-runs n pos few (calls ++ (c ∷ [])) .2)
+
+pub checkpoint-promise : (s : Run) (i : ℕ) (deleted : List ℕ) (t : Run) → t ≡ checkpointOutcome s i deleted .run → StatePromise s (checkpoint i deleted) t
+unfolding call answered
+checkpoint-promise s i deleted t same = state-promise s (checkpoint i deleted) t same
+
+pub deliver-promise : (s : Run) (m : ℕ) (deleted : List ℕ) (t : Run) → t ≡ deliverOutcome s m deleted .run → StatePromise s (deliver m deleted) t
+unfolding call answered
+deliver-promise s m deleted t same = state-promise s (deliver m deleted) t same
+
+pub recover-promise : (s : Run) (F : ℕ) (deleted lent : List ℕ) (t : Run) → t ≡ recoverOutcome s F deleted lent .run → StatePromise s (recover F deleted lent) t
+unfolding call answered
+recover-promise s F deleted lent t same = state-promise s (recover F deleted lent) t same

@@ -2,7 +2,7 @@
 -- Assumes nothing.
 use mathlib.Core.Path.{_≡_}
 use mathlib.Core.Bool.{true, _&&_, not}
-use mathlib.Core.List.{List}
+use mathlib.Core.List.{List, [], _∷_, _++_}
 use mathlib.Core.Logic.{_⊎_}
 use mathlib.Core.Option.{none, some}
 use Prim.Native.Nat.{ℕ, _*_, _^_, _<_, _≤_}
@@ -66,7 +66,14 @@ unfoldable pub Reachable : Run → Type 0
 Reachable s = (n : ℕ) × (1 ≤ n) × (n ≤ 16) × (calls : List Call) × (s ≡ stateAfter (startOutcome n .run) calls)
 
 -- Demand 3 as a line or recover call says it of the state s that it is handed: whatever calls from an accepted start led to s, the line for the
--- failed set F is right, judged by the surviving history of those calls.
+-- failed set F and the checkpoints that are kept are right, judged by the surviving history of those calls.
 unfoldable pub LinePromise : Run → ℕ → Type 0
-LinePromise s F = (n : ℕ) → 1 ≤ n → n ≤ 16 → (calls : List Call) → s ≡ stateAfter (startOutcome n .run) calls → 1 ≤ F → F < 2 ^ n
-    → LineIsRight n s (surviving n (transcript (startOutcome n .run) calls)) F
+LinePromise s F = (n : ℕ) → 1 ≤ n → n ≤ 16 → (calls : List Call) → s ≡ stateAfter (startOutcome n .run) calls → 1 ≤ F → F < 2 ^ n →
+    let h = surviving n (transcript (startOutcome n .run) calls) in
+    (LineIsRight n s h F) × (KeptIsRight n s h)
+
+-- Demand 3 as a call c on the state s says it of the state t that it returns: whatever calls from an accepted start led to s, what t keeps is right,
+-- judged by the surviving history of those calls and of this one behind them, refused or accepted.
+unfoldable pub StatePromise : Run → Call → Run → Type 0
+StatePromise s c t = (n : ℕ) → 1 ≤ n → n ≤ 16 → (calls : List Call) → s ≡ stateAfter (startOutcome n .run) calls
+    → KeptIsRight n t (surviving n (transcript (startOutcome n .run) (calls ++ (c ∷ []))))

@@ -140,7 +140,7 @@ unfolding Reachable LinePromise
 accepted s v F some-failed inside =
     let r = calls-reached (v .0) (startOutcome (v .0) .run) beginning (begin (v .0)) (start-reached (v .0) (v .1) (v .2)) (v .3) in
     let same : s .count ≡ v .0 = ap (λ (t : Run). t .count) (v .4 ∙ r .state) ∙ count-is (runAfter (begin (v .0)) (v .3)) ∙ r .size in
-    line-promise s F (v .0) (v .1) (v .2) (v .3) (v .4) some-failed (rw (← same) inside) .recover-accepted lent lentLine
+    line-promise s F (v .0) (v .1) (v .2) (v .3) (v .4) some-failed (rw (← same) inside) .0 .recover-accepted lent lentLine
     (omega (arith, twice-square (v .0) (v .2), length-replicate {A = ℕ} 512 0))
     (omega (arith, v .2, length-replicate {A = ℕ} 16 0))
 
