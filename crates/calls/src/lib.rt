@@ -18,7 +18,8 @@ use steps::send::SendOutcome;
 use steps::start::StartOutcome;
 ghost use mathlib.Core.Path.{_≡_};
 ghost use Rattle.model.specs.Outcomes.{startOutcome, checkpointOutcome, sendOutcome, deliverOutcome, loseOutcome, lineOutcome, recoverOutcome};
-ghost use Rattle.model.specs.WholeRuns.{LinePromise};
+ghost use Rattle.model.specs.Calls as made;
+ghost use Rattle.model.specs.WholeRuns.{LinePromise, StatePromise};
 
 // A run of n processes: the state in which it starts.
 pub fn start(n: usize) -> StartOutcome
@@ -29,10 +30,12 @@ pub fn start(n: usize) -> StartOutcome
 }
 
 // Process i takes a checkpoint. What is deleted goes to the front of the lent list.
+// Wherever calls from an accepted start led to s, what the returned state keeps is right (demand 3).
 pub fn checkpoint(s: Run, i: usize, deleted: &mut [u16]) -> CheckpointOutcome
     ensures { λ r. ⌜ r .run ≡ checkpointOutcome s i (now (deleted .entry)) .run ⌝ }
     ensures { λ r. ⌜ r .answer ≡ checkpointOutcome s i (now (deleted .entry)) .answer ⌝ }
     ensures { λ r. ⌜ now (deleted .exit) ≡ checkpointOutcome s i (now (deleted .entry)) .deleted ⌝ }
+    ensures { λ r. ⌜ StatePromise s (made.checkpoint i (now (deleted .entry))) (r .run) ⌝ }
 {
     let sound = soundness::is_sound(s);
     if !sound {
@@ -56,10 +59,12 @@ pub fn send(s: Run, i: usize, j: usize) -> SendOutcome
 }
 
 // Message m reaches its receiver. What is deleted goes to the front of the lent list.
+// Wherever calls from an accepted start led to s, what the returned state keeps is right (demand 3).
 pub fn deliver(s: Run, m: u32, deleted: &mut [u16]) -> DeliverOutcome
     ensures { λ r. ⌜ r .run ≡ deliverOutcome s m (now (deleted .entry)) .run ⌝ }
     ensures { λ r. ⌜ r .answer ≡ deliverOutcome s m (now (deleted .entry)) .answer ⌝ }
     ensures { λ r. ⌜ now (deleted .exit) ≡ deliverOutcome s m (now (deleted .entry)) .deleted ⌝ }
+    ensures { λ r. ⌜ StatePromise s (made.deliver m (now (deleted .entry))) (r .run) ⌝ }
 {
     let sound = soundness::is_sound(s);
     if !sound {
@@ -83,7 +88,7 @@ pub fn lose(s: Run, m: u32) -> LoseOutcome
 }
 
 // The line for a failed set, bit p of which stands for process p: its indexes go to the front of the lent list. Nothing else changes.
-// Wherever calls from an accepted start led to s, the line is right (demand 3).
+// Wherever calls from an accepted start led to s, the line is right, and so is what s keeps (demand 3).
 pub fn line(s: Run, failed: u16, line: &mut [u16]) -> LineOutcome
     ensures { λ r. ⌜ r .run ≡ lineOutcome s failed (now (line .entry)) .run ⌝ }
     ensures { λ r. ⌜ r .answer ≡ lineOutcome s failed (now (line .entry)) .answer ⌝ }
@@ -99,13 +104,14 @@ pub fn line(s: Run, failed: u16, line: &mut [u16]) -> LineOutcome
 }
 
 // Everyone goes back to the line for a failed set: its indexes go to the front of the one lent list, what is deleted to the front of the other.
-// Wherever calls from an accepted start led to s, the line is right (demand 3).
+// Wherever calls from an accepted start led to s, the line is right, and so is what s and the returned state keep (demand 3).
 pub fn recover(s: Run, failed: u16, deleted: &mut [u16], line: &mut [u16]) -> RecoverOutcome
     ensures { λ r. ⌜ r .run ≡ recoverOutcome s failed (now (deleted .entry)) (now (line .entry)) .run ⌝ }
     ensures { λ r. ⌜ r .answer ≡ recoverOutcome s failed (now (deleted .entry)) (now (line .entry)) .answer ⌝ }
     ensures { λ r. ⌜ now (deleted .exit) ≡ recoverOutcome s failed (now (deleted .entry)) (now (line .entry)) .deleted ⌝ }
     ensures { λ r. ⌜ now (line .exit) ≡ recoverOutcome s failed (now (deleted .entry)) (now (line .entry)) .line ⌝ }
     ensures { λ r. ⌜ LinePromise s failed ⌝ }
+    ensures { λ r. ⌜ StatePromise s (made.recover failed (now (deleted .entry)) (now (line .entry))) (r .run) ⌝ }
 {
     let sound = soundness::is_sound(s);
     if !sound {
