@@ -42,6 +42,7 @@ use Rattle.model.proofs.whole.Refused.{members-found}
 use Rattle.model.proofs.whole.LineRight.{line-right}
 use Rattle.model.proofs.whole.Reached.{Reached, exchange, refusal, refused-reached}
 use Rattle.model.proofs.whole.Recovers.{recover-step}
+use Rattle.model.proofs.whole.Restarts.{begin-restarted, step-restarted, needed-in, needed-out}
 use Rattle.model.proofs.whole.Runs.{stepped, unlessRefused, runAfter}
 use Rattle.model.proofs.whole.Steps.{checkpoint-step, send-step, deliver-step, lose-step, line-step}
 
@@ -78,6 +79,7 @@ start-reached n pos few = record {
   size = refl;
   state = started-state n pos few ∙ start-is n;
   agrees = begin-agrees n;
+  restarted = begin-restarted n;
 }
 
 -- Each accepted call is a step of the run as functions.
@@ -98,8 +100,10 @@ on-state n s h c r r′ e v = rw e v
 -- An accepted call reaches its step, a refused one what was reached before.
 pub accepted-reached : (n : ℕ) (s : Run) (h : Surviving) (r : Ideal) → Reached n s h r → (c : Call) → refusal (stateOf r) c ≡ none
     → Reached n (call s c .run) (after n h (exchange s c)) (stepped r c)
-accepted-reached n s h r v c e = on-state n s h c r (stepped r c) (v .state)
-    (step-reached n r h c (v .inv) (v .size) (v .agrees) e (step n h r (v .inv) (v .limits) (v .memory) (v .size) (v .agrees) c e))
+accepted-reached n s h r v c e =
+    let t = step n h r (v .inv) (v .limits) (v .memory) (v .size) (v .agrees) c e in
+    on-state n s h c r (stepped r c) (v .state)
+    (step-reached n r h c (v .inv) (v .size) (v .agrees) e t (step-restarted n h r (v .inv) (v .limits) (v .restarted) c e t))
 
 pub call-reached : (n : ℕ) (s : Run) (h : Surviving) (r : Ideal) → Reached n s h r → (c : Call)
     → Reached n (call s c .run) (after n h (exchange s c)) (unlessRefused (refusal (stateOf r) c) r (stepped r c))
@@ -129,6 +133,8 @@ reached-kept n s h r v =
     rw (← v .size, v .state) (record {
       kept-in-state = λ p k hp. rw (process-is r p few hp) (kept-holds r (v .inv) p k ∙ sym (v .agrees .kept p k hp));
       kept-by-pins = λ p k hp. rw (process-is r p few hp) (pins-name r p k few ∙ sym (v .agrees .kept p k hp));
+      needed = λ p k hp e. needed-in h r (v .inv) (v .memory) (v .agrees) (v .restarted) p k (sym (v .agrees .kept p k hp) ∙ e);
+      kept-if-needed = λ p k hp d. v .agrees .kept p k hp ∙ needed-out h r (v .inv) (v .memory) (v .agrees) (v .restarted) p k d;
       at-most-n = λ p hp. omega (arith, count-mono (checkpoints (h .lists p)) (h .kept p) (keeps r p) (λ j lt e. sym (v .agrees .kept p j hp) ∙ e), few-kept r p (checkpoints (h .lists p)));
     })
 

@@ -23,6 +23,8 @@ pub mod Recovered
 pub mod Keeping
 pub mod Marks
 pub mod Before
+pub mod Pasts
 pub mod Sources
 pub mod Memory
 pub mod Knowledge
+pub mod Standing

@@ -7,6 +7,7 @@ pub mod Listed
 pub mod Reached
 pub mod Recovers
 pub mod Refused
+pub mod Restarts
 pub mod Runs
 pub mod Steps
 pub mod Values

@@ -113,7 +113,7 @@ atFront numbers lent = numbers ++ drop (length numbers) lent
 
 -- "the deleted checkpoints .. as pairs process, index, by process, then index, ascending": those in the lists before that were kept before the call
 -- and are not kept after it, both by the pairs handed out. So a pair names a checkpoint that was kept, never one that this call stores; each is
--- handed out once; and a kept checkpoint that a recovery takes from its list is among them.
+-- handed out once; and a kept checkpoint that a recovery takes from its list is among them. Which of the others go is said in Needed.
 unfoldable pub gonePairs : ℕ → Surviving → Surviving → List ℕ
 gonePairs n old now = gather n (λ p. gather (liveOf old p) (λ k. pick (old .kept p k && not (now .kept p k)) (p ∷ k ∷ []) []))
 

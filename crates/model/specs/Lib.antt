@@ -3,6 +3,7 @@ pub mod Calls
 pub mod Exam
 pub mod History
 pub mod Listing
+pub mod Needed
 pub mod Numbers
 pub mod Outcomes
 pub mod Refusals

@@ -12,10 +12,11 @@ use Rattle.laws.specs.Update.{upd}
 use Rattle.model.specs.History.{HistoryEvent, stored, sent, received, Lists, checkpoints, upTo}
 use Rattle.model.specs.Calls.{Call, checkpoint, send, deliver, lose, recover, line, Reply, Exchange}
 
--- The surviving history: the lists; how many sends were accepted; the receiver that each send named; which messages are under way: sent by an accepted
+-- The surviving history: the lists, and what they were right after the last accepted recover, or the start; how many sends were accepted; the receiver that each send named; which messages are under way: sent by an accepted
 -- send, neither delivered nor lost since by an accepted call; which checkpoints are kept.
 pub record Surviving : Type 0 where
   pub lists : Lists
+  pub restart : Lists
   pub sends : ℕ
   pub receiver : ℕ → ℕ
   pub underway : ℕ → Bool
@@ -23,7 +24,7 @@ pub record Surviving : Type 0 where
 
 -- "After the start each list is checkpoint 0."
 unfoldable pub beginning : Surviving
-beginning = record { lists = λ p. stored ∷ []; sends = 0; receiver = λ m. 0; underway = λ m. false; kept = λ p k. eqb k 0 }
+beginning = record { lists = λ p. stored ∷ []; restart = λ p. stored ∷ []; sends = 0; receiver = λ m. 0; underway = λ m. false; kept = λ p k. eqb k 0 }
 
 -- An event at the end of a process's list.
 unfoldable pub added : Lists → ℕ → HistoryEvent → Lists
@@ -50,6 +51,15 @@ listsAfter n h (deliver m deleted) r = added (forcedFirst (h .lists) (h .receive
 listsAfter n h (lose m) r = h .lists
 listsAfter n h (recover F deleted lent) r = cut n (h .lists) (r .line)
 listsAfter n h (line F lent) r = h .lists
+
+-- What the lists were right after the last accepted recover.
+unfoldable pub restartAfter : ℕ → Surviving → Call → Reply → Lists
+restartAfter n h (checkpoint i deleted) r = h .restart
+restartAfter n h (send i j) r = h .restart
+restartAfter n h (deliver m deleted) r = h .restart
+restartAfter n h (lose m) r = h .restart
+restartAfter n h (recover F deleted lent) r = cut n (h .lists) (r .line)
+restartAfter n h (line F lent) r = h .restart
 
 -- How many sends were accepted, and whom each named.
 unfoldable pub sendsAfter : Surviving → Call → ℕ
@@ -88,6 +98,7 @@ keptAfter h lists r p k = ltb k (checkpoints (lists p)) && (h .kept p k || leb (
 unfoldable pub accepted : ℕ → Surviving → Call → Reply → Surviving
 accepted n h c r = record {
   lists = listsAfter n h c r;
+  restart = restartAfter n h c r;
   sends = sendsAfter h c;
   receiver = receiverAfter h c;
   underway = underwayAfter h c;

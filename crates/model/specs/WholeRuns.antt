@@ -22,6 +22,7 @@ use Rattle.model.specs.Refusals.{lineRefusal, recoverRefusal}
 use Rattle.model.specs.Outcomes.{startOutcome, lineOutcome, recoverOutcome}
 use Rattle.model.specs.Calls.{Call, stateAfter, transcript}
 use Rattle.model.specs.Survival.{Surviving, surviving}
+use Rattle.model.specs.Needed.{Needed}
 use Rattle.model.specs.Answers.{RightLine, AnswersAreRight}
 
 -- "The reported line is the n indexes that a line or recover call for the failed set then writes"
@@ -51,9 +52,13 @@ pub record KeptIsRight (n : ℕ) (s : Run) (h : Surviving) : Type 0 where
   pub kept-in-state : (p k : ℕ) → p < n → some-of (λ c. eqb (c .index .0) k) (process s p .kept) ≡ h .kept p k
   pub kept-by-pins : (p k : ℕ) → p < n → some-of (λ pin. names pin (record { 0 = k })) (process s p .pins) ≡ h .kept p k
   pub at-most-n : (p : ℕ) → p < n → countBelow (checkpoints (h .lists p)) (h .kept p) ≤ n
+  -- and they are exactly those that the lists need, so that the pairs handed out are fixed by the history before them and the call
+  pub needed : (p k : ℕ) → p < n → h .kept p k ≡ true → Needed n h p k
+  pub kept-if-needed : (p k : ℕ) → p < n → Needed n h p k → h .kept p k ≡ true
 
 -- Demand 3: for every n from 1 to 16, every list of calls from the state that an accepted start returned, and every non-empty failed set. What every
--- answer is, by the surviving history before it, is in Answers.
+-- answer is, by the surviving history before it, is in Answers; which checkpoints are kept, by the lists alone, is in Needed. Together they leave nothing
+-- in an answer free.
 unfoldable pub RightOverWholeRuns : Type 0
 RightOverWholeRuns = (n : ℕ) → 1 ≤ n → n ≤ 16 → (calls : List Call) →
     let s₀ = startOutcome n .run in

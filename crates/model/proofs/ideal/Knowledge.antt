@@ -1,4 +1,4 @@
--- The vectors say what messages alone say: entry f of a live state, or of a message, is above a exactly if checkpoint a of f comes before it.
+-- The vectors say what messages alone say: entry f of a live state, of a checkpoint or of a message, is above a exactly if checkpoint a of f comes before it.
 -- So a delivery forces a checkpoint exactly if the lists say so.
 -- Assumes nothing.
 use mathlib.Core.Path.{_≡_}
@@ -11,6 +11,7 @@ use borrow.Author.Tests.{ltb-true, ltb-false}
 use Rattle.laws.specs.Choice.{by-bool, by-eq}
 use Rattle.model.specs.History.{HistoryEvent, sent, received, checkpoints, behind}
 use Rattle.model.specs.Answers.{before, ComesBefore, within, message}
+use Rattle.model.specs.Needed.{beforeCheckpoint}
 use Rattle.model.proofs.ideal.Places.{Stands, stands-le}
 use Rattle.model.proofs.ideal.Cuts.{stands-member, member-stands, behind-out, behind-in}
 use Rattle.model.proofs.ideal.Run.{Ideal, forces}
@@ -18,6 +19,7 @@ use Rattle.model.proofs.ideal.Invariant.{Inv}
 use Rattle.model.proofs.ideal.Line.{rising, interval}
 use Rattle.model.proofs.ideal.Delivered.{forces-in, forces-out}
 use Rattle.model.proofs.ideal.Before.{before-stands, before-out}
+use Rattle.model.proofs.ideal.Pasts.{past-checkpoints, past-out, past-in}
 use Rattle.model.proofs.ideal.Memory.{Memory}
 
 -- A part of p's list up to a place: what stands in it stands in the list, in an interval up to the one where it ends.
@@ -37,6 +39,14 @@ module _ (r : Ideal) (v : Inv r) where
     stands = λ e t. before-out m (r .events q) t;
     reached = interval r v q (checkpoints (before m (r .events q))) (before-stands m (r .events q) s);
   }
+
+  stored-place : (p k : ℕ) → k < r .own p → Place r p (beforeCheckpoint k (r .events p))
+  stored-place p k lt =
+      let many : checkpoints (beforeCheckpoint k (r .events p)) ≡ k = past-checkpoints k (r .events p) (omega (arith, v .counted p)) in
+      record {
+        stands = λ e s. let w = past-out k (r .events p) s in (w .0, w .1, omega (arith, w .2, many));
+        reached = omega (arith, many);
+      }
 
   -- A message carried the entry of its sender's state at the place where it was sent.
   carried-is : (q m f : ℕ) → List·Memᴰ (sent m) (r .events q) → f < r .n → r .carried m f ≡ r .vector q (checkpoints (before m (r .events q))) f
@@ -66,6 +76,11 @@ module _ (r : Ideal) (v : Inv r) where
     pub sent-less : (q m : ℕ) → List·Memᴰ (sent m) (r .events q) → ComesBefore (r .events) f a q (before m (r .events q)) → a < r .carried m f
     sent-less q m s t = rw (carried-is q m f s hf) (before-less q (before m (r .events q)) (sent-place q m s) t)
 
+    pub stored-less : (p k : ℕ) → k < r .own p → ComesBefore (r .events) f a p (beforeCheckpoint k (r .events p)) → a < r .vector p k f
+    stored-less p k lt t =
+        let many : checkpoints (beforeCheckpoint k (r .events p)) ≡ k = past-checkpoints k (r .events p) (omega (arith, v .counted p)) in
+        rw many at (before-less p (beforeCheckpoint k (r .events p)) (stored-place p k lt) t)
+
     module _ (memory : Memory r) where
       -- What a message carried comes before its sending.
       sent-known : (b q m : ℕ) → m < b → List·Memᴰ (sent m) (r .events q) → a < r .carried m f → ComesBefore (r .events) f a q (before m (r .events q))
@@ -91,6 +106,16 @@ module _ (r : Ideal) (v : Inv r) where
           let from = v .arrived p (w .1) (w .0) (w .2) .1 in
           let here = stands-member (r .events (r .sender (w .0))) (from .1) in
           message (r .sender (w .0)) (w .0) here (sent-knows (r .sender (w .0)) (w .0) here (omega (arith, w .5))) (stands-member (r .events p) (w .2)))
+
+      -- What a checkpoint knows comes before it.
+      pub stored-knows : (p k : ℕ) → k < r .own p → a < r .vector p k f → ComesBefore (r .events) f a p (beforeCheckpoint k (r .events p))
+      stored-knows p k below lt = by-eq p f
+          (λ e. within e (omega (arith, own-entry p k e (omega arith), past-checkpoints k (r .events p) (omega (arith, v .counted p)))))
+          (λ ne.
+          let w = v .learnt p k f (omega arith) hf ne (omega arith) in
+          let from = v .arrived p (w .1) (w .0) (w .2) .1 in
+          let here = stands-member (r .events (r .sender (w .0))) (from .1) in
+          message (r .sender (w .0)) (w .0) here (sent-knows (r .sender (w .0)) (w .0) here (omega (arith, w .5))) (past-in k (r .events p) (w .2) (w .3)))
 
 -- What forces a checkpoint, of the lists alone.
 abbrev pub Since : Ideal → ℕ → Type 0

@@ -17,7 +17,7 @@ use Rattle.model.proofs.ideal.Invariant.{Inv}
 use Rattle.model.proofs.ideal.Keeping.{Moved}
 use Rattle.model.proofs.ideal.Memory.{Memory}
 use Rattle.model.proofs.simulation.View.{stateOf, Limits}
-use Rattle.model.proofs.whole.Agreement.{Agrees, HandsOut, kept-agrees}
+use Rattle.model.proofs.whole.Agreement.{Agrees, Restarted, HandsOut, kept-agrees}
 use Rattle.model.proofs.whole.Gone.{HandsOver}
 use Rattle.model.proofs.whole.Reached.{Reached, exchange, refusal}
 use Rattle.model.proofs.whole.Runs.{stepped}
@@ -69,12 +69,13 @@ step-agrees n r h c v g e t = rw (accepted-history n (stateOf r) h c e) (record 
 })
 
 pub step-reached : (n : ℕ) (r : Ideal) (h : Surviving) (c : Call) → Inv r → r .n ≡ n → Agrees h r → refusal (stateOf r) c ≡ none → Step n h r c
-    → Reached n (call (stateOf r) c .run) (after n h (exchange (stateOf r) c)) (stepped r c)
-step-reached n r h c v size g e t = record {
+    → Restarted (after n h (exchange (stateOf r) c)) (stepped r c) → Reached n (call (stateOf r) c .run) (after n h (exchange (stateOf r) c)) (stepped r c)
+step-reached n r h c v size g e t restarted = record {
   inv = t .inv;
   limits = t .limits;
   memory = t .memory;
   size = t .moved .size ∙ size;
   state = t .state;
   agrees = step-agrees n r h c v g e t;
+  restarted = restarted;
 }

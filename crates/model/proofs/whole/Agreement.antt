@@ -11,6 +11,8 @@ use Rattle.model.specs.Calls.{Reply}
 use Rattle.model.specs.Survival.{Surviving, handedOut, keptAfter}
 use Rattle.model.proofs.ideal.Run.{Ideal, keeps}
 use Rattle.model.proofs.ideal.Invariant.{Inv}
+use Rattle.model.proofs.ideal.Memory.{Memory}
+use Rattle.model.proofs.ideal.Standing.{Standing}
 use Rattle.model.proofs.ideal.Line.{keeps-below}
 use Rattle.model.proofs.ideal.Keeping.{Moved, moved-new}
 
@@ -21,6 +23,14 @@ pub record Agrees (h : Surviving) (r : Ideal) : Type 0 where
   pub receiver : h .receiver ≡ r .receiver
   pub underway : h .underway ≡ r .transit
   pub kept : (p k : ℕ) → p < r .n → h .kept p k ≡ keeps r p k
+
+-- The history remembers the lists of the run when it last started or recovered, by which the pins of the run now stand.
+pub record Restarted (h : Surviving) (r : Ideal) : Type 0 where
+  pub earlier : Ideal
+  pub inv : Inv earlier
+  pub memory : Memory earlier
+  pub events : h .restart ≡ earlier .events
+  pub standing : Standing earlier r
 
 -- The answer hands out exactly the checkpoints that were pinned and no longer are.
 unfoldable pub HandsOut : Reply → Ideal → Ideal → Type 0

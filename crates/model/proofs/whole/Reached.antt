@@ -19,7 +19,7 @@ use Rattle.model.proofs.ideal.Run.{Ideal}
 use Rattle.model.proofs.ideal.Invariant.{Inv}
 use Rattle.model.proofs.ideal.Memory.{Memory}
 use Rattle.model.proofs.simulation.View.{stateOf, Limits}
-use Rattle.model.proofs.whole.Agreement.{Agrees}
+use Rattle.model.proofs.whole.Agreement.{Agrees, Restarted}
 
 pub record Reached (n : ℕ) (s : Run) (h : Surviving) (r : Ideal) : Type 0 where
   -- the run as functions has all that the invariant says
@@ -27,9 +27,10 @@ pub record Reached (n : ℕ) (s : Run) (h : Surviving) (r : Ideal) : Type 0 wher
   pub limits : Limits r
   pub memory : Memory r
   pub size : r .n ≡ n
-  -- the state stands for it to the last unused place; the history agrees with it
+  -- the state stands for it to the last unused place; the history agrees with it, and remembers its last start or recovery
   pub state : s ≡ stateOf r
   pub agrees : Agrees h r
+  pub restarted : Restarted h r
 
 -- A call with its answer, and the history after it.
 abbrev pub exchange : Run → Call → Exchange
