@@ -19,7 +19,7 @@ use Rattle.model.specs.Steps.{found, latestAllowed}
 use Rattle.model.specs.Sound.{sound}
 use Rattle.model.specs.History.{Lists, checkpoints}
 use Rattle.model.specs.Refusals.{number, Rule, firstOf, shortDeletions, shortLine, absent, atLastInterval, outside, checkpointRefusal, sendRefusal, missing, forcesPast, deliverRefusal, loseRefusal, noMember, lineRefusal, recoverRefusal}
-use Rattle.model.specs.laws.Refusals.{by-refusal}
+use Rattle.model.specs.laws.Refusals.{refusal-in, skipped, by-refusal}
 use Rattle.model.specs.Calls.{Call, checkpoint, send, deliver, lose, recover, line, call}
 use Rattle.model.specs.Survival.{Surviving}
 use Rattle.model.specs.Answers.{Reason, lowest, countUnderWay, tooShort, reasons}
@@ -69,17 +69,18 @@ forcingOf r (line F lent) = false
 
 -- A rule that does not hold gives no number. A rule and a reason that hold alike and have the same number give the same, if those behind them do.
 never : (t : Rule) (l : List Rule) (k : ℕ) → t .holds ≡ false → numberOf (firstOf l) ≡ k → numberOf (firstOf (t ∷ l)) ≡ k
-unfolding numberOf firstOf
-never t l k e rest = rw e rest
+never t l k e rest = ap numberOf (skipped t l e) ∙ rest
 
 alike : (t : Rule) (l : List Rule) (x : Reason) (k : List Reason) → t .holds ≡ x .holds → number (t .gives) ≡ x .number
     → (x .holds ≡ false → numberOf (firstOf l) ≡ lowest k) → numberOf (firstOf (t ∷ l)) ≡ lowest (x ∷ k)
-unfolding numberOf firstOf lowest
-alike t l x k e same rest = by-bool (x .holds) (λ d. rw (e ∙ d, d) same) (λ d. rw (e ∙ d, d) (rest d))
+unfolding numberOf lowest
+alike t l x k e same rest = by-bool (x .holds)
+    (λ d. rw d (ap numberOf (refusal-in (t ∷ l) (some (t .gives)) (0, tt, e ∙ d, refl)) ∙ same))
+    (λ d. rw d (never t l (lowest k) (e ∙ d) (rest d)))
 
 no-more : numberOf (firstOf []) ≡ lowest []
-unfolding numberOf firstOf lowest
-no-more = refl
+unfolding numberOf lowest
+no-more = ap numberOf (refusal-in [] none tt)
 
 module _ (h : Surviving) (r : Ideal) (v : Inv r) (fit : Limits r) (g : Agrees h r) where
   pub live-is : (p : ℕ) → checkpoints (h .lists p) ≡ r .own p
