@@ -2,9 +2,13 @@
 use model::CheckpointIndex;
 use model::Pin;
 ghost use mathlib.Core.Path.{_≡_};
-ghost use Rattle.laws.specs.Tests.{every};
+ghost use mathlib.Core.Bool.{_&&_};
+ghost use Prim.Native.Nat.{_<_};
+ghost use lib.ListN.{getD};
+ghost use Rattle.model.specs.declared.Pin.the-variants.{Nothing};
+ghost use Rattle.model.specs.Words.{names};
 ghost use Rattle.model.specs.Sound.{isNothing, nothingFrom};
-ghost use Rattle.soundness.specs.Judged.{pinOr, pinnedIndexes, among, metBy};
+ghost use Rattle.soundness.specs.Judged.{allOf, pinOr, pinnedIndexes, among, metBy};
 
 fn is_nothing(pin: Pin) -> bool
     ensures { λ r. ⌜ r ≡ isNothing pin ⌝ }
@@ -26,6 +30,17 @@ pub fn nothing_from(pins: [Pin; 16], from: usize) -> bool
         ok = ok & nothing;
     }
     ok
+}
+
+// The pins of process p that the state fixes: its own names the last stored checkpoint, and those at n and above name none.
+pub fn are_fixed_pins_sound(pins: [Pin; 16], last: CheckpointIndex, n: usize, p: usize) -> bool
+    requires { ⌜ p < 16 ⌝ }
+    ensures { λ r. ⌜ r ≡ (names (getD pins p Nothing) last && nothingFrom n pins) ⌝ }
+{
+    let pin = pins[p];
+    let named = rows::pins::names(pin, last);
+    let nothing = nothing_from(pins, n);
+    named & nothing
 }
 
 // The checkpoint that the pin names; the last stored one where it names none.
@@ -76,7 +91,7 @@ pub fn met_by(met: [bool; 16], pinned: [CheckpointIndex; 16], index: CheckpointI
 }
 
 pub fn is_each_met(met: [bool; 16]) -> bool
-    ensures { λ r. ⌜ r ≡ every (λ b. b) met ⌝ }
+    ensures { λ r. ⌜ r ≡ allOf met ⌝ }
 {
     let mut ok = true;
     for j in 0..16 {

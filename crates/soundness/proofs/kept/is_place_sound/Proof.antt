@@ -1,6 +1,6 @@
 -- `soundness::kept::is_place_sound` meets its contract. Assumes nothing.
 use borrow.Author.Needs.{needs}
-use Rattle.soundness.specs.Judged.{placeSound}
+use Rattle.soundness.specs.Judged.{ownEntryIsIndex, placeSound}
 use Rattle.soundness.proofs.kept.is_place_sound.Statement.{statement}
 use Rattle.soundness.proofs.kept.is_place_sound.Tie as tie
 
@@ -14,7 +14,7 @@ is-among-requires : tie.Need-is-among-requires
 is-among-requires c κs = search needs
 
 returns : tie.Need-returns
-unfolding placeSound
+unfolding placeSound ownEntryIsIndex
 returns c = rw (c .before .before .is-among .ensures)
 
 pub is-place-sound-spec : {M : Type 1} → statement M

@@ -3,23 +3,23 @@
 use mathlib.Core.Path.{_≡_, refl, sym, _∙_, ap}
 use mathlib.Core.Bool.{Bool, true, false, _&&_, _||_}
 use mathlib.Core.List.{List, map}
-use Prim.Native.Nat.{ℕ, _+_, _-_, _≤_, _<_}
+use Prim.Native.Nat.{ℕ, _+_, _≤_, _<_}
 use native.Mathlib.Omega.{arith}
 use lib.Dec.{eqb}
 use lib.ListN.{length, getD, take, drop, length-replicate, getD-replicate, replicate}
 use lib.Seq.{getD-take, length-take-le}
-use borrow.Author.Tests.{eq-eqb, ne-eqb}
 use Rattle.laws.specs.Elements.{same-test}
 use Rattle.laws.specs.Loops.{below-at, below-length}
 use Rattle.laws.specs.Rows.{every-turn, every-end, some-turn, some-end, every-at, every-by, and-true}
 use Rattle.laws.specs.Tests.{every, some-of}
-use Rattle.laws.specs.Truth.{and-no-right}
 use Rattle.model.specs.declared.Interval.{Interval}
 use Rattle.model.specs.declared.CheckpointIndex.{CheckpointIndex}
 use Rattle.model.specs.declared.Checkpoint.{Checkpoint}
 use Rattle.model.specs.Words.{zeroVector}
-use Rattle.model.specs.Sound.{ascending, unusedCheckpoint}
-use Rattle.soundness.specs.Judged.{indexOf, empty, metBy, keepsIt, placeSound, rowSound, vectorSound}
+use Rattle.model.specs.Sound.{ascending, zeroFrom}
+use Rattle.soundness.specs.declared.kept.Walk.{Walk}
+use Rattle.soundness.specs.Judged.{indexOf, empty, metBy, keepsIt, placeSound, vectorSound, Joins, noneWalked, walkedOne, walkSound}
+use Rattle.soundness.proofs.Ascent.{ascent-turn, ascent-end}
 use Rattle.soundness.proofs.Vectors.{zero-sound}
 
 abbrev noIndex : CheckpointIndex
@@ -83,28 +83,46 @@ module _ (row : List Checkpoint) (held : ℕ) (fits : held ≤ length row) where
         (λ e. every-by (keepsIt (take held row)) pinned noIndex (λ j lt. sym (at j (omega arith)) ∙ every-at (λ b. b) met j false (omega arith) e))
         (λ e. every-by (λ b. b) met false (λ j lt. at j (omega arith) ∙ every-at (keepsIt (take held row)) pinned j noIndex (omega arith) e))
 
-module _ (n : ℕ) (own : List Interval) (p : ℕ) (last : CheckpointIndex) (pinned : List CheckpointIndex) (row : List Checkpoint) (held : ℕ) where
-  abbrev climbs : Bool
-  climbs = ascending 0 (map indexOf (take held row)) && every (placeSound pinned p) (take held row)
+-- After k turns of the walk along the kept checkpoints of process p: what is gathered decides, together with what is left.
+pub record Walked (pinned : List CheckpointIndex) (p : ℕ) (own : List Interval) (row : List Checkpoint) (held k : ℕ) (w : Walk) : Type 0 where
+  pub inside : k ≤ held
+  pub passed : (w .ok && (ascending (w .low) (map indexOf (drop k (take held row))) && every (placeSound pinned p) (drop k (take held row))))
+      ≡ (ascending 0 (map indexOf (take held row)) && every (placeSound pinned p) (take held row))
+  pub within : (n : ℕ) → n ≤ 16 → zeroFrom n own ≡ true
+      → (vectorSound n own (w .most) && every (λ c. vectorSound n own (c .vector)) (drop k (take held row))) ≡ every (λ c. vectorSound n own (c .vector)) (take held row)
+  pub size : length (w .met) ≡ 16
+  pub met : (j : ℕ) → j < 16 → (getD (w .met) j false || keepsIt (drop k (take held row)) (getD pinned j noIndex)) ≡ keepsIt (take held row) (getD pinned j noIndex)
 
-  abbrev rest : Bool
-  rest = every (λ c. vectorSound n own (c .vector)) (take held row) && every (keepsIt (take held row)) pinned
+module _ (pinned : List CheckpointIndex) (p : ℕ) (own : List Interval) (row : List Checkpoint) (held : ℕ) (fits : held ≤ length row) where
+  pub none-walked : (w : Walk) → w ≡ noneWalked → Walked pinned p own row held 0 w
+  unfolding noneWalked
+  none-walked w e = rw e record {
+    inside = omega arith;
+    passed = refl;
+    within = λ n h z. within-start row held fits n own zeroVector h refl;
+    size = length-replicate 16 false;
+    met = λ j h. met-start row held fits pinned j h;
+  }
 
-  pub other-last : (indexOf (getD row (held - 1) empty) ≡ last .0 → ⊥) → false ≡ rowSound n own p last pinned row held
-  unfolding rowSound
-  other-last differs = rw (ne-eqb _ _ differs)
+  pub one-walked : (k : ℕ) (w r : Walk) → k < held → length own ≡ 16 → Walked pinned p own row held k w
+      → r ≡ walkedOne pinned p w (getD row k empty) → Joins (w .most) (getD row k empty .vector) (r .most) → Walked pinned p own row held (k + 1) r
+  unfolding walkedOne
+  one-walked k w r h size so-far e joins = record {
+    inside = omega arith;
+    passed = rw e (ascent-turn indexOf (placeSound pinned p) row held fits k (w .low) empty (w .ok) _ h (so-far .passed));
+    within = λ n high z. within-turn row held fits n own k (w .most) (r .most) h (joins n own size high z) (so-far .within n high z);
+    size = rw e (met-size row held fits pinned (w .met) (getD row k empty .index) (so-far .size));
+    met = rw e (met-turn row held fits pinned (w .met) k h (so-far .size) (so-far .met));
+  }
 
-  module _ (same : indexOf (getD row (held - 1) empty) ≡ last .0) where
-    pub place-fails : false ≡ (ascending 0 (map indexOf (take held row)) && every (placeSound pinned p) (take held row)) → false ≡ rowSound n own p last pinned row held
-    unfolding rowSound
-    place-fails e = rw (eq-eqb _ _ same, ← e)
-
-    module _ (up : true ≡ (ascending 0 (map indexOf (take held row)) && every (placeSound pinned p) (take held row))) where
-      pub unused-fails : false ≡ every unusedCheckpoint (drop held row) → false ≡ rowSound n own p last pinned row held
-      unfolding rowSound
-      unused-fails e = rw (eq-eqb _ _ same, ← up, ← e)
-
-      pub row-judged : true ≡ every unusedCheckpoint (drop held row)
-          → (every (λ c. vectorSound n own (c .vector)) (take held row) && every (keepsIt (take held row)) pinned) ≡ rowSound n own p last pinned row held
-      unfolding rowSound
-      row-judged e = rw (eq-eqb _ _ same, ← up, ← e)
+  -- The whole walk is judged by what it has gathered.
+  pub all-walked : (k : ℕ) (w : Walk) (n : ℕ) (newest last : CheckpointIndex) → held ≤ k → length pinned ≡ 16 → n ≤ 16 → zeroFrom n own ≡ true → Walked pinned p own row held k w
+      → walkSound n own w newest last
+      ≡ ((ascending 0 (map indexOf (take held row)) && every (placeSound pinned p) (take held row)) && eqb (newest .0) (last .0)
+      && every (λ c. vectorSound n own (c .vector)) (take held row) && every (keepsIt (take held row)) pinned)
+  unfolding walkSound
+  all-walked k w n newest last h size high z so-far = rw (
+    ascent-end indexOf (placeSound pinned p) row held fits k (w .low) (w .ok) _ h (so-far .passed),
+    within-end row held fits n own k (w .most) h (so-far .within n high z),
+    met-end row held fits pinned (w .met) k h (so-far .size) size (so-far .met),
+  )
