@@ -41,7 +41,7 @@ asks (test j) k = eqb j k
 asks (f and g) k = asks f k || asks g k
 
 -- A conjunction that holds has each test that it names.
-asked : (tests : List Bool) (f : Conjunction) (k : ℕ) → asks f k ≡ true → holds tests f ≡ true → getD tests k true ≡ true
+pub asked : (tests : List Bool) (f : Conjunction) (k : ℕ) → asks f k ≡ true → holds tests f ≡ true → getD tests k true ≡ true
 unfolding holds asks
 asked tests none k a e = never-both false a refl
 asked tests (test j) k a e = rw (← eqb-true j k a) e

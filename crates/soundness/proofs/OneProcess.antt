@@ -6,7 +6,7 @@ use mathlib.Core.List.{List, map}
 use mathlib.Core.Option.{some}
 use Prim.Native.Nat.{ℕ, suc, _-_, _≤_, _<_}
 use native.Mathlib.Omega.{arith}
-use lib.Dec.{eqb, leb}
+use lib.Dec.{eqb}
 use lib.ListN.{length, getD, take}
 use lib.Seq.{getD-take, length-take-le}
 use borrow.Author.Tests.{leb-true, eq-eqb, eqb-true}
@@ -15,24 +15,24 @@ use Rattle.laws.specs.Lists.{orElse, lastOf}
 use Rattle.laws.specs.Rows.{last-take, some-at, every-both}
 use Rattle.laws.specs.Search.{allBelow}
 use Rattle.laws.specs.Tests.{every, some-of}
-use Rattle.laws.specs.Truth.{and-left, and-right, and-no-right}
+use Rattle.laws.specs.Truth.{and-no-right}
 use Rattle.model.specs.declared.Interval.{Interval}
 use Rattle.model.specs.declared.CheckpointIndex.{CheckpointIndex}
 use Rattle.model.specs.declared.Pin.{Pin}
 use Rattle.model.specs.declared.Pin.the-variants.{Nothing}
 use Rattle.model.specs.declared.Checkpoint.{Checkpoint}
 use Rattle.model.specs.Words.{entry, lastStored, names, noCheckpoint}
-use Rattle.model.specs.Sound.{ascending, nothingFrom}
-use Rattle.soundness.specs.Judged.{indexOf, empty, vectorSound, pinnedIndexes, among, ownEntryIsIndex, placeSound, processTests, processSound, keepsIt}
-use Rattle.soundness.proofs.Conjunctions.{Conjunction, test, _and_, holds, asks, conjunction, part-fails}
+use Rattle.model.specs.Sound.{ascending}
+use Rattle.soundness.specs.Judged.{indexOf, empty, vectorSound, pinnedIndexes, among, ownEntryIsIndex, placeSound, fit, processTests, processSound, keepsIt}
+use Rattle.soundness.proofs.Conjunctions.{Conjunction, test, _and_, holds, asks, asked, conjunction, part-fails}
 use Rattle.soundness.proofs.StandIn.{pinned-kept, kept-pinned}
 
 last-of : (row : List Checkpoint) (held k : ℕ) → held ≡ suc k → k < length row → lastOf (take held row) ≡ some (getD row k empty)
 last-of row held k e h = rw e (last-take row k empty h)
 
--- What is asked before the walk: the count of kept checkpoints, and the pins that the state fixes. Then what the walk finds. Places in processTests.
+-- What is asked before the walk, and what the walk asks: by the places of processTests.
 abbrev before : Conjunction
-before = test 0 and test 1 and (test 5 and test 9)
+before = test 0 and test 1 and test 5 and test 9
 
 abbrev walk : Conjunction
 walk = (test 2 and (test 3 and test 7)) and test 4 and test 8 and test 6
@@ -41,11 +41,11 @@ module _ (n : ℕ) (own : List Interval) (p : ℕ) (row : List Checkpoint) (pins
   abbrev tests : List Bool
   tests = processTests n own p row pins held
 
-  before-is : holds (processTests n own p row pins held) before ≡ (leb 1 held && leb held n && (names (getD pins p Nothing) last && nothingFrom n pins))
-  unfolding holds processTests
+  before-is : holds (processTests n own p row pins held) before ≡ fit n p last pins held
+  unfolding holds processTests fit
   before-is = rw is-last
 
-  pub before-fails : (leb 1 held && leb held n && (names (getD pins p Nothing) last && nothingFrom n pins)) ≡ false → false ≡ processSound n own p row pins held
+  pub before-fails : fit n p last pins held ≡ false → false ≡ processSound n own p row pins held
   unfolding processSound
   before-fails e = part-fails tests before (before-is ∙ e)
 
@@ -53,16 +53,19 @@ module _ (n : ℕ) (own : List Interval) (p : ℕ) (row : List Checkpoint) (pins
   unfolding processSound processTests holds
   differs e = part-fails tests (test 4) e
 
-  module _ (passed : (leb 1 held && leb held n && (names (getD pins p Nothing) last && nothingFrom n pins)) ≡ true) where
+  module _ (passed : fit n p last pins held ≡ true) where
     -- The count of kept checkpoints is in its range, and the own pin names the last stored one.
     pub low : 1 ≤ held
-    low = leb-true 1 held (and-left (leb 1 held) (leb held n) (and-left (leb 1 held && leb held n) (names (getD pins p Nothing) last && nothingFrom n pins) passed))
+    unfolding processTests asks
+    low = leb-true 1 held (asked tests before 0 refl (before-is ∙ passed))
 
     pub high : held ≤ n
-    high = leb-true held n (and-right (leb 1 held) (leb held n) (and-left (leb 1 held && leb held n) (names (getD pins p Nothing) last && nothingFrom n pins) passed))
+    unfolding processTests asks
+    high = leb-true held n (asked tests before 1 refl (before-is ∙ passed))
 
     is-named : names (getD pins p Nothing) last ≡ true
-    is-named = and-left (names (getD pins p Nothing) last) (nothingFrom n pins) (and-right (leb 1 held && leb held n) (names (getD pins p Nothing) last && nothingFrom n pins) passed)
+    unfolding processTests asks
+    is-named = rw is-last (asked tests before 5 refl (before-is ∙ passed))
 
     all-asked : allBelow (length (processTests n own p row pins held)) (asks (before and walk)) ≡ true
     unfolding processTests asks allBelow

@@ -3,11 +3,12 @@
 use mathlib.Core.Path.{_≡_, refl, sym, _∙_, ap}
 use mathlib.Core.Bool.{Bool, true, false, _&&_, _||_}
 use mathlib.Core.List.{List, map}
-use Prim.Native.Nat.{ℕ, _+_, _≤_, _<_}
+use Prim.Native.Nat.{ℕ, _+_, _-_, _≤_, _<_}
 use native.Mathlib.Omega.{arith}
 use lib.Dec.{eqb}
 use lib.ListN.{length, getD, take, drop, length-replicate, getD-replicate, replicate}
 use lib.Seq.{getD-take, length-take-le}
+use borrow.Author.Tests.{eqb-true, eq-eqb}
 use Rattle.laws.specs.Elements.{same-test}
 use Rattle.laws.specs.Loops.{below-at, below-length}
 use Rattle.laws.specs.Rows.{every-turn, every-end, some-turn, some-end, every-at, every-by, and-true}
@@ -83,9 +84,15 @@ module _ (row : List Checkpoint) (held : ℕ) (fits : held ≤ length row) where
         (λ e. every-by (keepsIt (take held row)) pinned noIndex (λ j lt. sym (at j (omega arith)) ∙ every-at (λ b. b) met j false (omega arith) e))
         (λ e. every-by (λ b. b) met false (λ j lt. at j (omega arith) ∙ every-at (keepsIt (take held row)) pinned j noIndex (omega arith) e))
 
+one-above : (a b : ℕ) → eqb (a + 1) (b + 1) ≡ eqb a b
+one-above a b = same-test (eqb (a + 1) (b + 1)) (eqb a b)
+    (λ e. eq-eqb a b (omega (arith, eqb-true (a + 1) (b + 1) e)))
+    (λ e. eq-eqb (a + 1) (b + 1) (omega (arith, eqb-true a b e)))
+
 -- After k turns of the walk along the kept checkpoints of process p: what is gathered decides, together with what is left.
 pub record Walked (pinned : List CheckpointIndex) (p : ℕ) (own : List Interval) (row : List Checkpoint) (held k : ℕ) (w : Walk) : Type 0 where
   pub inside : k ≤ held
+  pub newest : 0 < k → w .low ≡ indexOf (getD row (k - 1) empty) + 1
   pub passed : (w .ok && (ascending (w .low) (map indexOf (drop k (take held row))) && every (placeSound pinned p) (drop k (take held row))))
       ≡ (ascending 0 (map indexOf (take held row)) && every (placeSound pinned p) (take held row))
   pub within : (n : ℕ) → n ≤ 16 → zeroFrom n own ≡ true
@@ -98,6 +105,7 @@ module _ (pinned : List CheckpointIndex) (p : ℕ) (own : List Interval) (row : 
   unfolding noneWalked
   none-walked w e = rw e record {
     inside = omega arith;
+    newest = λ h. absurd (omega arith);
     passed = refl;
     within = λ n h z. within-start row held fits n own zeroVector h refl;
     size = length-replicate 16 false;
@@ -109,20 +117,26 @@ module _ (pinned : List CheckpointIndex) (p : ℕ) (own : List Interval) (row : 
   unfolding walkedOne
   one-walked k w r h size so-far e joins = record {
     inside = omega arith;
+    newest = λ more. let same : k + 1 - 1 ≡ k = omega arith in rw (same, e);
     passed = rw e (ascent-turn indexOf (placeSound pinned p) row held fits k (w .low) empty (w .ok) _ h (so-far .passed));
     within = λ n high z. within-turn row held fits n own k (w .most) (r .most) h (joins n own size high z) (so-far .within n high z);
     size = rw e (met-size row held fits pinned (w .met) (getD row k empty .index) (so-far .size));
     met = rw e (met-turn row held fits pinned (w .met) k h (so-far .size) (so-far .met));
   }
 
-  -- The whole walk is judged by what it has gathered.
-  pub all-walked : (k : ℕ) (w : Walk) (n : ℕ) (newest last : CheckpointIndex) → held ≤ k → length pinned ≡ 16 → n ≤ 16 → zeroFrom n own ≡ true → Walked pinned p own row held k w
-      → walkSound n own w newest last
-      ≡ ((ascending 0 (map indexOf (take held row)) && every (placeSound pinned p) (take held row)) && eqb (newest .0) (last .0)
+  -- The whole walk is judged by what it has gathered. The place behind the last index is one above the newest.
+  pub all-walked : (k : ℕ) (w : Walk) (n : ℕ) (last : CheckpointIndex) → 1 ≤ held → held ≤ k → length pinned ≡ 16 → n ≤ 16 → zeroFrom n own ≡ true → Walked pinned p own row held k w
+      → walkSound n own w last
+      ≡ ((ascending 0 (map indexOf (take held row)) && every (placeSound pinned p) (take held row)) && eqb (indexOf (getD row (held - 1) empty)) (last .0)
       && every (λ c. vectorSound n own (c .vector)) (take held row) && every (keepsIt (take held row)) pinned)
   unfolding walkSound
-  all-walked k w n newest last h size high z so-far = rw (
-    ascent-end indexOf (placeSound pinned p) row held fits k (w .low) (w .ok) _ h (so-far .passed),
-    within-end row held fits n own k (w .most) h (so-far .within n high z),
-    met-end row held fits pinned (w .met) k h (so-far .size) size (so-far .met),
-  )
+  all-walked k w n last low h size high z so-far =
+      let all : k ≡ held = omega (arith, so-far .inside) in
+      let newest : w .low ≡ indexOf (getD row (held - 1) empty) + 1 = rw all at (so-far .newest (omega arith)) in
+      rw (
+        newest,
+        one-above (indexOf (getD row (held - 1) empty)) (last .0),
+        ascent-end indexOf (placeSound pinned p) row held fits k (w .low) (w .ok) _ h (so-far .passed),
+        within-end row held fits n own k (w .most) h (so-far .within n high z),
+        met-end row held fits pinned (w .met) k h (so-far .size) size (so-far .met),
+      )

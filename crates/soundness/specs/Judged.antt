@@ -81,9 +81,13 @@ walkedOne pinned p w c = record {
   most = takenVector (w .most) (c .vector);
 }
 
--- What is asked of the whole walk, where `newest` is the index of the latest kept checkpoint.
-unfoldable pub walkSound : ℕ → List Interval → Walk → CheckpointIndex → CheckpointIndex → Bool
-walkSound n own w newest last = w .ok && eqb (newest .0) (last .0) && vectorSound n own (w .most) && allOf (w .met)
+-- What is asked of the whole walk.
+unfoldable pub walkSound : ℕ → List Interval → Walk → CheckpointIndex → Bool
+walkSound n own w last = w .ok && eqb (w .low) (last .0 + 1) && vectorSound n own (w .most) && allOf (w .met)
+
+-- What is asked of process p before the walk: how many checkpoints it keeps, and the pins whose place says what they name.
+unfoldable pub fit : ℕ → ℕ → CheckpointIndex → List Pin → ℕ → Bool
+fit n p last pins held = leb 1 held && leb held n && names (getD pins p Nothing) last && nothingFrom n pins
 
 -- The pins and the kept checkpoints of process p: keptSound and pinsSound, the vectors of the kept checkpoints, and the unused pins.
 unfoldable pub processTests : ℕ → List Interval → ℕ → List Checkpoint → List Pin → ℕ → List Bool

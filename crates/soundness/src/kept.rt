@@ -70,19 +70,14 @@ pub fn walked(w: Walk, c: Checkpoint, pinned: [CheckpointIndex; 16], p: usize) -
 }
 
 // The whole walk: all passed, the latest checkpoint is the last one stored, no entry is above the own one there, and every pin has met its checkpoint.
-pub fn is_walk_sound(
-    w: Walk,
-    newest: CheckpointIndex,
-    last: CheckpointIndex,
-    own: [Interval; 16],
-) -> bool
-    ensures { λ r. ⌜ ((n : ℕ) → n ≤ 16 → zeroFrom n own ≡ true → r ≡ walkSound n own w newest last) ⌝ }
+pub fn is_walk_sound(w: Walk, last: CheckpointIndex, own: [Interval; 16]) -> bool
+    ensures { λ r. ⌜ ((n : ℕ) → n ≤ 16 → zeroFrom n own ≡ true → r ≡ walkSound n own w last) ⌝ }
 {
     let met = w.met;
     let most = w.most;
     let within = vector::within_own(most, own);
     let all_met = pins::is_each_met(met);
-    w.ok & (newest.0 == last.0) & within & all_met
+    w.ok & (w.low == last.0 as u32 + 1) & within & all_met
 }
 
 pub fn is_unused(c: Checkpoint) -> bool

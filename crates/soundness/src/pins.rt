@@ -2,13 +2,9 @@
 use model::CheckpointIndex;
 use model::Pin;
 ghost use mathlib.Core.Path.{_≡_};
-ghost use mathlib.Core.Bool.{_&&_};
 ghost use Prim.Native.Nat.{_<_};
-ghost use lib.ListN.{getD};
-ghost use Rattle.model.specs.declared.Pin.the-variants.{Nothing};
-ghost use Rattle.model.specs.Words.{names};
 ghost use Rattle.model.specs.Sound.{isNothing, nothingFrom};
-ghost use Rattle.soundness.specs.Judged.{allOf, pinOr, pinnedIndexes, among, metBy};
+ghost use Rattle.soundness.specs.Judged.{allOf, fit, pinOr, pinnedIndexes, among, metBy};
 
 fn is_nothing(pin: Pin) -> bool
     ensures { λ r. ⌜ r ≡ isNothing pin ⌝ }
@@ -32,15 +28,15 @@ pub fn nothing_from(pins: [Pin; 16], from: usize) -> bool
     ok
 }
 
-// The pins of process p that the state fixes: its own names the last stored checkpoint, and those at n and above name none.
-pub fn are_fixed_pins_sound(pins: [Pin; 16], last: CheckpointIndex, n: usize, p: usize) -> bool
+// What is asked of process p before its kept checkpoints: it keeps 1 to n, its own pin names the last stored one, and its pins at n and above name none.
+pub fn is_fit(pins: [Pin; 16], last: CheckpointIndex, held: usize, n: usize, p: usize) -> bool
     requires { ⌜ p < 16 ⌝ }
-    ensures { λ r. ⌜ r ≡ (names (getD pins p Nothing) last && nothingFrom n pins) ⌝ }
+    ensures { λ r. ⌜ r ≡ fit n p last pins held ⌝ }
 {
     let pin = pins[p];
     let named = rows::pins::names(pin, last);
     let nothing = nothing_from(pins, n);
-    named & nothing
+    (1 <= held) & (held <= n) & named & nothing
 }
 
 // The checkpoint that the pin names; the last stored one where it names none.

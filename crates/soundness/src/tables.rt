@@ -91,8 +91,7 @@ pub fn are_processes_sound(
         let count = held[p];
         let x = own[p];
         let last = rows::vector::last_stored(x);
-        let fixed = pins::are_fixed_pins_sound(row_pins, last, n, p);
-        let fit = (1 <= count) & (count <= n) & fixed;
+        let fit = pins::is_fit(row_pins, last, count, n, p);
         if !fit {
             return false;
         }
@@ -103,8 +102,7 @@ pub fn are_processes_sound(
             let further = kept::walked(walk, c, pinned, p);
             walk = further;
         }
-        let newest = kept[p][count - 1];
-        let ok = kept::is_walk_sound(walk, newest.index, last, own);
+        let ok = kept::is_walk_sound(walk, last, own);
         if !ok {
             return false;
         }

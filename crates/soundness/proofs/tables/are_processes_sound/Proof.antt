@@ -5,7 +5,6 @@ use mathlib.Core.Bool.{Bool, true, false, _&&_}
 use mathlib.Core.Path.{_≡_, refl, _∙_, sym, ap}
 use Prim.Native.Nat.{ℕ, _≤_, _<_, _-_}
 use native.Mathlib.Omega.{arith}
-use lib.Dec.{leb}
 use lib.ListN.{length, getD, drop}
 use denote.Struct.Declared.{row}
 use denote.Enum.Declared.{row as enum-row}
@@ -17,12 +16,11 @@ use Rattle.laws.specs.Search.{allBelow}
 use Rattle.laws.specs.Tests.{every}
 use Rattle.model.specs.declared.Checkpoint.{Checkpoint}
 use Rattle.model.specs.declared.Pin.{Pin}
-use Rattle.model.specs.declared.Pin.the-variants.{Nothing}
-use Rattle.model.specs.Words.{noCheckpoint, zeroVector, names}
-use Rattle.model.specs.Sound.{nothingFrom, unusedCheckpoint}
+use Rattle.model.specs.Words.{noCheckpoint, zeroVector}
+use Rattle.model.specs.Sound.{unusedCheckpoint}
 use Rattle.model.proofs.Checkpoint as checkpoint
 use Rattle.model.proofs.Pin as pin
-use Rattle.soundness.specs.Judged.{empty, vectorSound, processSound, restUnused}
+use Rattle.soundness.specs.Judged.{empty, vectorSound, fit, processSound, restUnused}
 use Rattle.soundness.proofs.OneProcess.{before-fails, low, high, judged}
 use Rattle.soundness.proofs.Sizes.{row-long}
 use Rattle.soundness.proofs.Vectors.{zero-sound}
@@ -37,10 +35,10 @@ abbrev μ-processes : tie.MeasureT-processes
 μ-processes n kept pins own held p₀ p = n - p
 
 abbrev Inv-walk : tie.InvT-walk
-Inv-walk n kept pins own held p count last fixed fit pinned walk₀ k₀ walk k = Walked pinned p own (getD kept p []) count k walk
+Inv-walk n kept pins own held p count last fits pinned walk₀ k₀ walk k = Walked pinned p own (getD kept p []) count k walk
 
 abbrev μ-walk : tie.MeasureT-walk
-μ-walk n kept pins own held p count last fixed fit pinned walk₀ k₀ walk k = count - k
+μ-walk n kept pins own held p count last fits pinned walk₀ k₀ walk k = count - k
 
 abbrev Inv-rows : tie.InvT-rows
 Inv-rows n kept held unused₀ q₀ unused q = (q ≤ 16) × (unusedCheckpoint unused ≡ allBelow q (λ k. restUnused (getD kept k []) (getD held k 0)))
@@ -59,14 +57,14 @@ abbrev Here : (tie.InvT-walk → tie.MeasureT-walk → tie.InvT-processes → ti
 Here type = type Inv-walk μ-walk Inv-processes μ-processes Inv-places μ-places Inv-rows μ-rows
 
 -- The turn of the loop over processes that a place of the code is in, and the places on the way to it.
-abbrev turn : Here tie.After-are-fixed-pins-sound → Here tie.At-processes
+abbrev turn : Here tie.After-is-fit → Here tie.At-processes
 turn c = c .before .before .before .before .before
 
-abbrev first-judged : Here tie.After-none-walked → Here tie.After-are-fixed-pins-sound
+abbrev first-judged : Here tie.After-none-walked → Here tie.After-is-fit
 first-judged c = c .before .before .before
 
 abbrev walk-of : Here tie.After-is-walk-sound → Here tie.After-none-walked
-walk-of c = c .before .before .before .before
+walk-of c = c .before .before .before
 
 -- The process of a turn: its number, its row, its pins and how many checkpoints it keeps.
 abbrev row-of : Here tie.At-processes → List Checkpoint
@@ -84,14 +82,10 @@ sound c k = processSound (c .before .args .n) (c .before .args .t3) k (getD (c .
 abbrev unused : Here tie.At-processes → ℕ → Bool
 unused c k = restUnused (getD (c .before .args .t1) k []) (getD (c .before .args .t4) k 0)
 
--- What is asked before the walk.
-abbrev first-tests : Here tie.After-are-fixed-pins-sound → Bool
-first-tests c =
-    let q = turn c in
-    leb 1 (held-of q) && leb (held-of q) (q .before .args .n) && (names (getD (pins-of q) (q .processes .p) Nothing) (c .before .last-stored .result) && nothingFrom (q .before .args .n) (pins-of q))
-
-first-passed : (c : Here tie.After-none-walked) → first-tests (first-judged c) ≡ true
-first-passed c = rw (← first-judged c .are-fixed-pins-sound .ensures) (not-false _ (c .before .before .if1 .left))
+-- What is asked before the walk has passed.
+first-passed : (c : Here tie.After-none-walked)
+    → fit (turn (first-judged c) .before .args .n) (turn (first-judged c) .processes .p) (first-judged c .before .last-stored .result) (pins-of (turn (first-judged c))) (held-of (turn (first-judged c))) ≡ true
+first-passed c = sym (first-judged c .is-fit .ensures) ∙ not-false _ (c .before .before .if1 .left)
 
 few : (c : Here tie.After-none-walked) → (1 ≤ held-of (turn (first-judged c))) × (held-of (turn (first-judged c)) ≤ 16)
 few c =
@@ -125,13 +119,13 @@ fits c = let q = turn (first-judged c) in rw (kept-long (q .before) (q .processe
 verdict : (c : Here tie.After-is-walk-sound) → c .is-walk-sound .result ≡ sound (turn (first-judged (walk-of c))) (turn (first-judged (walk-of c)) .processes .p)
 verdict c =
     let f = walk-of c in
-    let w = c .before .before .before in
+    let w = c .before .before in
     let q = turn (first-judged f) in
     let a = q .before .args in
     let i = q .processes .p in
     let l = first-judged f .before .last-stored in
     c .is-walk-sound .ensures (a .n) (search needs) (search needs)
-    ∙ all-walked (f .before .pinned-indexes .result) i (a .t3) (row-of q) (held-of q) (fits f) (w .walk .k) (w .walk .walk) (a .n) _ (l .result) (c .before .before .walk-test .left) (search needs) (search needs) (search needs) (w .walk .inv)
+    ∙ all-walked (f .before .pinned-indexes .result) i (a .t3) (row-of q) (held-of q) (fits f) (w .walk .k) (w .walk .walk) (a .n) (l .result) (few f .0) (c .before .walk-test .left) (search needs) (search needs) (search needs) (w .walk .inv)
     ∙ judged (a .n) (a .t3) i (row-of q) (pins-of q) (held-of q) (l .result) (l .ensures) (first-passed f) (fits f) (own-pin (first-judged f .before .before .before .before)) (f .before .pinned-indexes .result) (f .before .pinned-indexes .ensures)
 
 none-joined : unusedCheckpoint noCheckpoint ≡ true
@@ -162,16 +156,15 @@ array-copy-out-x c = search needs
 last-stored-requires : Here tie.Need-last-stored-requires
 last-stored-requires c κs = search needs
 
-are-fixed-pins-sound-requires : Here tie.Need-are-fixed-pins-sound-requires
-are-fixed-pins-sound-requires c κs = search needs
+is-fit-requires : Here tie.Need-is-fit-requires
+is-fit-requires c κs = search needs
 
 returns : Here tie.Need-returns
 returns c =
     let q = turn (c .before) in
     let a = q .before .args in
     let l = c .before .before .last-stored in
-    let fails : first-tests (c .before) ≡ false = rw (← c .before .are-fixed-pins-sound .ensures) (not-true _ (c .if1 .taken)) in
-    ap (λ t. t && allBelow 16 (unused q)) (all-stop (a .n) (sound q) (q .processes .p) (search needs) (sym (before-fails (a .n) (a .t3) (q .processes .p) (row-of q) (pins-of q) (held-of q) (l .result) (l .ensures) fails)))
+    ap (λ t. t && allBelow 16 (unused q)) (all-stop (a .n) (sound q) (q .processes .p) (search needs) (sym (before-fails (a .n) (a .t3) (q .processes .p) (row-of q) (pins-of q) (held-of q) (l .result) (l .ensures) (sym (c .before .is-fit .ensures) ∙ not-true _ (c .if1 .taken)))))
 
 pinned-indexes-requires : Here tie.Need-pinned-indexes-requires
 pinned-indexes-requires c κs = search needs
@@ -211,21 +204,6 @@ walk-again c =
     let f = w .before in
     let q = turn (first-judged f) in
     one-walked (f .before .pinned-indexes .result) (q .processes .p) (q .before .args .t3) (row-of q) (held-of q) (fits f) (w .walk .k) (w .walk .walk) (c .walked .result) (c .before .before .walk-test .taken) (own-long (q .before)) (w .walk .inv) (c .walked .ensures .0) (c .walked .ensures .1)
-
-sub-newest : Here tie.Need-sub-newest
-sub-newest c = search (needs, few (c .before .before))
-
-mul-newest : Here tie.Need-mul-newest
-mul-newest c = search needs
-
-mul-newest-2 : Here tie.Need-mul-newest-2
-mul-newest-2 c = search (needs, few (c .before .before))
-
-index-1-newest : Here tie.Need-index-1-newest
-index-1-newest c = search needs
-
-index-2-newest : Here tie.Need-index-2-newest
-index-2-newest c = search (needs, few (c .before .before))
 
 is-walk-sound-requires : Here tie.Need-is-walk-sound-requires
 is-walk-sound-requires c κs = search needs
@@ -339,7 +317,7 @@ are-processes-sound-spec =
     mul-x
     array-copy-out-x
     last-stored-requires
-    are-fixed-pins-sound-requires
+    is-fit-requires
     returns
     pinned-indexes-requires
     none-walked-requires
@@ -352,11 +330,6 @@ are-processes-sound-spec =
     add-k
     walk-less
     walk-again
-    sub-newest
-    mul-newest
-    mul-newest-2
-    index-1-newest
-    index-2-newest
     is-walk-sound-requires
     returns-2
     add-p

@@ -1,7 +1,8 @@
--- `soundness::pins::are_fixed_pins_sound` meets its contract. Assumes nothing.
+-- `soundness::pins::is_fit` meets its contract. Assumes nothing.
 use borrow.Author.Needs.{needs}
-use Rattle.soundness.proofs.pins.are_fixed_pins_sound.Statement.{statement}
-use Rattle.soundness.proofs.pins.are_fixed_pins_sound.Tie as tie
+use Rattle.soundness.specs.Judged.{fit}
+use Rattle.soundness.proofs.pins.is_fit.Statement.{statement}
+use Rattle.soundness.proofs.pins.is_fit.Tie as tie
 
 mul-pin : tie.Need-mul-pin
 mul-pin c = search needs
@@ -16,7 +17,8 @@ nothing-from-requires : tie.Need-nothing-from-requires
 nothing-from-requires c κs = search needs
 
 returns : tie.Need-returns
+unfolding fit
 returns c = rw (c .nothing-from .ensures, c .before .names .ensures)
 
-pub are-fixed-pins-sound-spec : {M : Type 1} → statement M
-are-fixed-pins-sound-spec = tie.close (tie.spec mul-pin array-copy-out-pin names-requires nothing-from-requires returns)
+pub is-fit-spec : {M : Type 1} → statement M
+is-fit-spec = tie.close (tie.spec mul-pin array-copy-out-pin names-requires nothing-from-requires returns)
