@@ -1,6 +1,6 @@
 -- What a walk along the kept checkpoints of a process gathers: the greatest entries so far, and which pinned indexes have met their checkpoint.
 -- Assumes nothing.
-use mathlib.Core.Path.{_≡_, refl, sym, _∙_, ap}
+use mathlib.Core.Path.{_≡_, refl, sym, _∙_}
 use mathlib.Core.Bool.{Bool, true, false, _&&_, _||_}
 use mathlib.Core.List.{List, map}
 use Prim.Native.Nat.{ℕ, _+_, _-_, _≤_, _<_}
@@ -11,7 +11,7 @@ use lib.Seq.{getD-take, length-take-le}
 use borrow.Author.Tests.{eqb-true, eq-eqb}
 use Rattle.laws.specs.Elements.{same-test}
 use Rattle.laws.specs.Loops.{below-at, below-length}
-use Rattle.laws.specs.Rows.{every-turn, every-end, some-turn, some-end, every-at, every-by, and-true}
+use Rattle.laws.specs.Rows.{every-turn, every-end, some-turn, some-end, every-at, every-by}
 use Rattle.laws.specs.Tests.{every, some-of}
 use Rattle.model.specs.declared.Interval.{Interval}
 use Rattle.model.specs.declared.CheckpointIndex.{CheckpointIndex}

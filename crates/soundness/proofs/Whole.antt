@@ -33,7 +33,8 @@ under : (h a b : Bool) → (h ≡ true → a ≡ b) → (h && a) ≡ (h && b)
 under true a b e = e refl
 under false a b e = refl
 
--- The unused places behind the kept checkpoints, asked beside the test that no process at n and above keeps any: of the code, and then of the rows.
+-- The test of the places behind the kept checkpoints (u) moves beside the test that no process at n and above keeps any (h), which lets it be split;
+-- then its two halves move to the processes and to the rows at n and above.
 beside : (c j u z m h p g : Bool) → (c && (j && u) && z && m && h && p && g) ≡ ((c && j && (z && m && p && g)) && (h && u))
 unfolding holds asks allBelow
 beside c j u z m h p g = same-tests (c ∷ j ∷ u ∷ z ∷ m ∷ h ∷ p ∷ g ∷ [])
@@ -94,7 +95,7 @@ module _ (s : Run) (high : s .count ≤ 16) where
   abbrev unused : ℕ → Bool
   unused p = restUnused (getD (s .kept .0) p []) (getD (s .held) p 0)
 
-  -- The tests of one process: as the code asks them, and as document 01 does.
+  -- The tests of one process, as the code groups them and as document 01 does. A test that is added stands in the list, and in both groupings.
   process-same : (p : ℕ) → p < n
       → (current p && judged p && unused p)
       ≡ (leb 1 (own s p .0) && (within s (process s p .vector) && every (λ c. within s (c .vector)) (process s p .kept)) && (keptSound s p && pinsSound s p) && rowUnused s p)

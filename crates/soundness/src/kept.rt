@@ -24,6 +24,7 @@ pub struct Walk {
     pub most: [Interval; 16],
 }
 
+// Before the first checkpoint.
 pub fn none_walked() -> Walk
     ensures { λ r. ⌜ r ≡ noneWalked ⌝ }
 {
@@ -96,7 +97,7 @@ fn nonzero_of(a: CheckpointIndex, b: CheckpointIndex) -> CheckpointIndex
     if a.0 == 0 { b } else { a }
 }
 
-// Two places at once: what is joined is unused where both are.
+// Two places at once: what is joined is unused exactly if both are.
 pub fn joined(a: Checkpoint, b: Checkpoint) -> Checkpoint
     ensures { λ r. ⌜ unusedCheckpoint r ≡ (unusedCheckpoint a && unusedCheckpoint b) ⌝ }
 {

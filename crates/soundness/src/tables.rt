@@ -73,8 +73,8 @@ pub fn nothing_rows_from(pins: [[Pin; 16]; 16], from: usize) -> bool
     true
 }
 
-// The pins and the kept checkpoints of the n processes, and the unused places of all rows. The kept checkpoints are most of a state: one function has
-// them, and reads them where they stand.
+// The pins and the kept checkpoints of the n processes, and the places behind the kept checkpoints in all rows. The caller has judged the count, and has
+// its own entries. The kept checkpoints are most of a state: one function has them, so that they are handed on once, and reads them where they stand.
 pub fn are_processes_sound(
     kept: [[Checkpoint; 16]; 16],
     pins: [[Pin; 16]; 16],
@@ -95,6 +95,7 @@ pub fn are_processes_sound(
         if !fit {
             return false;
         }
+        // the last stored checkpoint is kept and pinned, so it can stand for "none"
         let pinned = pins::pinned_indexes(row_pins, last);
         let mut walk = kept::none_walked();
         'walk: for k in 0..count {

@@ -1,5 +1,4 @@
 -- `soundness::kept::nonzero_of` meets its contract. Assumes nothing.
-use borrow.Author.Needs.{needs}
 use borrow.Author.Tests.{eq-eqb, ne-eqb}
 use Rattle.soundness.proofs.kept.nonzero_of.Statement.{statement}
 use Rattle.soundness.proofs.kept.nonzero_of.Tie as tie

@@ -1,7 +1,7 @@
 -- `soundness::tables::are_processes_sound` meets its contract. Each process is judged by a walk along its kept checkpoints, and one that fails ends the
 -- loop; then the places behind the kept checkpoints are joined, row by row, and what is joined is unused exactly if each of them is. Assumes nothing.
 use mathlib.Core.List.{List, []}
-use mathlib.Core.Bool.{Bool, true, false, _&&_}
+use mathlib.Core.Bool.{Bool, true, _&&_}
 use mathlib.Core.Path.{_≡_, refl, _∙_, sym, ap}
 use Prim.Native.Nat.{ℕ, _≤_, _<_, _-_}
 use native.Mathlib.Omega.{arith}

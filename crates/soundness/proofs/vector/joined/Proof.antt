@@ -1,6 +1,5 @@
 -- `soundness::vector::joined` meets its contract. Assumes nothing.
 use borrow.Author.Needs.{needs}
-use mathlib.Core.Path.{_≡_}
 use Rattle.soundness.proofs.Vectors.{joined-sound}
 use Rattle.soundness.proofs.vector.joined.Statement.{statement}
 use Rattle.soundness.proofs.vector.joined.Tie as tie
