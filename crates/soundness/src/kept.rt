@@ -10,7 +10,7 @@ ghost use Prim.Native.Nat.{ℕ, _≤_, _<_};
 ghost use lib.Dec.{eqb};
 ghost use Rattle.laws.specs.Choice.{pick};
 ghost use Rattle.model.specs.Sound.{zeroFrom, unusedCheckpoint};
-ghost use Rattle.soundness.specs.Judged.{Joins, placeSound, noneWalked, walkedOne, walkSound};
+ghost use Rattle.soundness.specs.Judged.{Joins, noneWalked, walkedOne, walkSound};
 
 // What a walk along the checkpoints of a process has gathered. What asks for 16 entries at a time is tested once, behind the last checkpoint.
 pub struct Walk {
@@ -37,34 +37,24 @@ pub fn none_walked() -> Walk
     }
 }
 
-// A kept checkpoint of process p by itself, but for its vector's other entries: its own entry is its index, and a pin names it.
-fn is_place_sound(c: Checkpoint, pinned: [CheckpointIndex; 16], p: usize) -> bool
-    requires { ⌜ p < 16 ⌝ }
-    ensures { λ r. ⌜ r ≡ placeSound pinned p c ⌝ }
-{
-    let index = c.index;
-    let vector = c.vector;
-    let x = vector[p];
-    let pinned_too = pins::is_among(index, pinned);
-    (x.0 == index.0) & pinned_too
-}
-
-// One checkpoint more of process p, whose pins name the indexes `pinned`.
+// One checkpoint more of process p, whose pins name the indexes `pinned`: its own entry is its index, and a pin names it.
 pub fn walked(w: Walk, c: Checkpoint, pinned: [CheckpointIndex; 16], p: usize) -> Walk
     requires { ⌜ p < 16 ⌝ }
     ensures { λ r. ⌜ (r ≡ walkedOne pinned p w c) × Joins (w .most) (c .vector) (r .most) ⌝ }
 {
     let index = c.index;
     let vector = c.vector;
+    let x = vector[p];
     let place = index.0 as u32;
-    let one = is_place_sound(c, pinned, p);
     let met = w.met;
     let most = w.most;
+    let pinned_too = pins::is_among(index, pinned);
     let met_now = pins::met_by(met, pinned, index);
     let most_now = vector::joined(most, vector);
+    let low = place + 1;
     Walk {
-        ok: w.ok & (w.low <= place) & one,
-        low: place + 1,
+        ok: w.ok & (w.low <= place) & ((x.0 == index.0) & pinned_too),
+        low,
         met: met_now,
         most: most_now,
     }
