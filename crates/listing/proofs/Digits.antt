@@ -104,9 +104,33 @@ one-stored before at x out place rest s h = by-left (s .left) (s .small) (s .all
           holds = in-front before out (place - 1) place (48 + rest % 10) (s .stored) (omega (arith, length-more (suc k) rest h)) (s .holds);
         }
 
+-- Two digits more are stored, as the code works them out.
+pub two-stored : (before : List ℕ) (at x : ℕ) (out : List ℕ) (place rest : ℕ) → Storing before at x out place rest → 100 ≤ rest
+    → Storing before at x (set (set out (place - 2) (48 + rest % 100 / 10)) (place - 2 + 1) (48 + rest % 100 % 10)) (place - 2) (rest / 100)
+two-stored before at x out place rest s h =
+    let one = one-stored before at x out place rest s (omega arith) in
+    let two = one-stored before at x (set out (place - 1) (48 + rest % 10)) (place - 1) (rest / 10) one (omega arith) in
+    let far : 2 ≤ place = omega (arith, between before at x (set out (place - 1) (48 + rest % 10)) (place - 1) (rest / 10) one) in
+    let last : place - 2 + 1 ≡ place - 1 = omega arith in
+    let first : place - 2 ≡ place - 1 - 1 = omega arith in
+    let last-digit : rest % 100 % 10 ≡ rest % 10 = omega arith in
+    let first-digit : rest % 100 / 10 ≡ rest / 10 % 10 = omega arith in
+    let less : rest / 100 ≡ rest / 10 / 10 = omega arith in
+    rw (last, first, last-digit, first-digit, less, set-comm out (place - 1 - 1) (place - 1) (48 + rest / 10 % 10) (48 + rest % 10) (omega arith)) two
+
 -- The first digit is stored: that is the whole number.
 pub all-stored : (before : List ℕ) (at x : ℕ) (out : List ℕ) (place rest : ℕ) → Storing before at x out place rest → rest < 10 → set out at (48 + rest) ≡ sets before at (decimal x)
 all-stored before at x out place rest s h =
     let one = one-digit (s .left) rest h in
     in-front before out at place (48 + rest) (s .stored) (omega (arith, ap length one)) (s .holds)
     ∙ ap (λ (l : List ℕ). sets before at l) (sym (s .all ∙ ap (λ (l : List ℕ). l ++ s .stored) one))
+
+-- The first two digits are stored.
+pub all-stored-by-two : (before : List ℕ) (at x : ℕ) (out : List ℕ) (place rest : ℕ) → Storing before at x out place rest → 10 ≤ rest → rest < 100
+    → (place ≡ at + 2) × (set (set out at (48 + rest / 10)) (at + 1) (48 + rest % 10) ≡ sets before at (decimal x))
+all-stored-by-two before at x out place rest s low high =
+    let one = one-stored before at x out place rest s low in
+    let next : place - 1 ≡ at + 1 = omega (arith, one .next, ap length (one-digit (one .left) (rest / 10) (omega arith))) in (
+      omega (arith, between before at x out place rest s),
+      rw (set-comm out at (at + 1) (48 + rest / 10) (48 + rest % 10) (omega arith), ← next) (all-stored before at x (set out (place - 1) (48 + rest % 10)) (place - 1) (rest / 10) one (omega arith)),
+    )

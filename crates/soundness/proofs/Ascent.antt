@@ -12,16 +12,16 @@ use lib.Seq.{drop-cons, getD-take, length-take-le}
 use borrow.Author.Tests.{ltb-true, leb-true, lt-ltb, le-leb}
 use Rattle.laws.specs.Elements.{same-test}
 use Rattle.laws.specs.Rows.{and-true}
+use Rattle.laws.specs.Search.{allBelow}
 use Rattle.laws.specs.Tests.{every}
-use Rattle.laws.specs.Truth.{and-no-right}
 use Rattle.model.specs.Sound.{ascending}
+use Rattle.soundness.proofs.Conjunctions.{test, _and_, holds, asks, same-tests}
 
 -- The mark takes in the two tests of one element.
 mixed : (mark low others one rest : Bool) → (mark && ((low && others) && (one && rest))) ≡ (((mark && low) && one) && (others && rest))
-mixed false low others one rest = refl
-mixed true false others one rest = refl
-mixed true true others false rest = and-no-right others false refl
-mixed true true others true rest = refl
+unfolding holds asks allBelow
+mixed mark low others one rest =
+    same-tests (mark ∷ low ∷ others ∷ one ∷ rest ∷ []) (test 0 and ((test 1 and test 2) and (test 3 and test 4))) (((test 0 and test 1) and test 3) and (test 2 and test 4)) refl refl
 
 module _ {A : Type 0} (f : A → ℕ) (t : A → Bool) (l : List A) (m : ℕ) (fits : m ≤ length l) where
   -- what is left behind place i, of which no number may be below `low`

@@ -1,7 +1,9 @@
 -- Laws that belong to no one function.
 pub mod Ascent
-pub mod Gathered
+pub mod Conjunctions
 pub mod OneProcess
+pub mod Sizes
 pub mod StandIn
 pub mod Vectors
+pub mod Walks
 pub mod Whole

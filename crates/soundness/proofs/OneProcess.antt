@@ -1,18 +1,19 @@
 -- The verdicts on one process's pins and kept checkpoints, one for each way out of the code.
 -- Assumes nothing.
-use mathlib.Core.Path.{_≡_, refl, sym, _∙_, ap}
+use mathlib.Core.Path.{_≡_, refl, sym, _∙_}
 use mathlib.Core.Bool.{Bool, true, false, _&&_}
-use mathlib.Core.List.{List, [], map}
+use mathlib.Core.List.{List, map}
 use mathlib.Core.Option.{some}
 use Prim.Native.Nat.{ℕ, suc, _-_, _≤_, _<_}
 use native.Mathlib.Omega.{arith}
 use lib.Dec.{eqb}
-use lib.ListN.{length, getD, take, drop}
+use lib.ListN.{length, getD, take}
 use lib.Seq.{getD-take, length-take-le}
-use borrow.Author.Tests.{le-leb, lt-leb, eq-eqb, eqb-true}
+use borrow.Author.Tests.{leb-true, eq-eqb, eqb-true}
 use Rattle.laws.specs.Choice.{by-bool}
 use Rattle.laws.specs.Lists.{orElse, lastOf}
 use Rattle.laws.specs.Rows.{last-take, some-at, every-both}
+use Rattle.laws.specs.Search.{allBelow}
 use Rattle.laws.specs.Tests.{every, some-of}
 use Rattle.laws.specs.Truth.{and-no-right}
 use Rattle.model.specs.declared.Interval.{Interval}
@@ -20,81 +21,101 @@ use Rattle.model.specs.declared.CheckpointIndex.{CheckpointIndex}
 use Rattle.model.specs.declared.Pin.{Pin}
 use Rattle.model.specs.declared.Pin.the-variants.{Nothing}
 use Rattle.model.specs.declared.Checkpoint.{Checkpoint}
-use Rattle.model.specs.Words.{entry, lastStored, names, named, noCheckpoint}
-use Rattle.model.specs.Sound.{ascending, pinSound, nothingFrom, unusedCheckpoint}
-use Rattle.soundness.specs.Judged.{indexOf, empty, vectorSound, pinnedIndexes, among, placeSound, rowSound, checkpointSound, processSound, keepsIt}
+use Rattle.model.specs.Words.{entry, lastStored, names, noCheckpoint}
+use Rattle.model.specs.Sound.{ascending}
+use Rattle.soundness.specs.Judged.{indexOf, empty, vectorSound, pinnedIndexes, among, ownEntryIsIndex, placeSound, fit, processTests, processSound, keepsIt}
+use Rattle.soundness.proofs.Conjunctions.{Conjunction, test, _and_, holds, asks, asked, conjunction, part-fails}
 use Rattle.soundness.proofs.StandIn.{pinned-kept, kept-pinned}
-use Rattle.soundness.proofs.Whole.{and-no}
-
--- The tests of one process, in the order of the code and in the order of the definition.
-order : (nf a e nm u v s : Bool) → (nf && ((a && (e && nm)) && u && (v && s))) ≡ ((a && (e && v)) && (s && nm) && nf && u)
-order false a e nm u v s = simp and-no
-order true false e nm u v s = refl
-order true true false nm u v s = refl
-order true true true false u v s = simp and-no
-order true true true true false v s = simp and-no
-order true true true true true false s = refl
-order true true true true true true false = refl
-order true true true true true true true = refl
 
 last-of : (row : List Checkpoint) (held k : ℕ) → held ≡ suc k → k < length row → lastOf (take held row) ≡ some (getD row k empty)
 last-of row held k e h = rw e (last-take row k empty h)
 
-module _ (n : ℕ) (own : List Interval) (p : ℕ) (row : List Checkpoint) (pins : List Pin) (held : ℕ) where
-  pub none-held : held < 1 → false ≡ processSound n own p row pins held
+-- What is asked before the walk, and what the walk asks: by the places of processTests.
+abbrev before : Conjunction
+before = test 0 and test 1 and test 5 and test 9
+
+abbrev walk : Conjunction
+walk = (test 2 and (test 3 and test 7)) and test 4 and test 8 and test 6
+
+module _ (n : ℕ) (own : List Interval) (p : ℕ) (row : List Checkpoint) (pins : List Pin) (held : ℕ) (last : CheckpointIndex) (is-last : last ≡ lastStored (entry own p)) where
+  abbrev tests : List Bool
+  tests = processTests n own p row pins held
+
+  before-is : holds (processTests n own p row pins held) before ≡ fit n p last pins held
+  unfolding holds processTests fit
+  before-is = rw is-last
+
+  pub before-fails : fit n p last pins held ≡ false → false ≡ processSound n own p row pins held
   unfolding processSound
-  none-held h = rw (lt-leb 1 held h)
+  before-fails e = part-fails tests before (before-is ∙ e)
 
-  module _ (low : 1 ≤ held) where
-    pub too-many : n < held → false ≡ processSound n own p row pins held
-    unfolding processSound
-    too-many h = rw (le-leb 1 held low, lt-leb held n h)
+  differs : eqb (indexOf (orElse (lastOf (take held row)) noCheckpoint)) (lastStored (entry own p) .0) ≡ false → false ≡ processSound n own p row pins held
+  unfolding processSound processTests holds
+  differs e = part-fails tests (test 4) e
 
-    module _ (high : held ≤ n) (fits : held ≤ length row) where
-      the-last : orElse (lastOf (take held row)) noCheckpoint ≡ getD row (held - 1) empty
-      the-last = rw (last-of row held (held - 1) (omega arith) (omega arith))
+  module _ (passed : fit n p last pins held ≡ true) where
+    -- The count of kept checkpoints is in its range, and the own pin names the last stored one.
+    pub low : 1 ≤ held
+    unfolding processTests asks
+    low = leb-true 1 held (asked tests before 0 refl (before-is ∙ passed))
 
-      module _ (last : CheckpointIndex) (is-last : last ≡ lastStored (entry own p)) where
-        the-name : (b : Bool) → names (getD pins p Nothing) last ≡ b → names (getD pins p Nothing) (lastStored (entry own p)) ≡ b
-        the-name b e = ap (names (getD pins p Nothing)) (sym is-last) ∙ e
+    pub high : held ≤ n
+    unfolding processTests asks
+    high = leb-true held n (asked tests before 1 refl (before-is ∙ passed))
 
-        last-test : eqb (indexOf (orElse (lastOf (take held row)) noCheckpoint)) (lastStored (entry own p) .0) ≡ eqb (indexOf (getD row (held - 1) empty)) (last .0)
-        last-test = rw (the-last, is-last)
+    is-named : names (getD pins p Nothing) last ≡ true
+    unfolding processTests asks
+    is-named = rw is-last (asked tests before 5 refl (before-is ∙ passed))
 
-        pub not-named : names (getD pins p Nothing) last ≡ false → false ≡ processSound n own p row pins held
-        unfolding processSound
-        not-named differs = by-bool (eqb (indexOf (orElse (lastOf (take held row)) noCheckpoint)) (lastStored (entry own p) .0))
-            (λ e. rw (le-leb 1 held low, le-leb held n high, the-name false differs, e))
-            (λ e. rw (le-leb 1 held low, le-leb held n high, the-name false differs, e))
+    all-asked : allBelow (length (processTests n own p row pins held)) (asks (before and walk)) ≡ true
+    unfolding processTests asks allBelow
+    all-asked = refl
 
-        module _ (is-named : names (getD pins p Nothing) last ≡ true) (inside : p < length pins) where
-          is-pinned : some-of (λ pin. names pin last) pins ≡ true
-          is-pinned = some-at (λ pin. names pin last) pins p Nothing inside is-named
+    -- So the walk decides.
+    walk-decides : holds (processTests n own p row pins held) walk ≡ processSound n own p row pins held
+    unfolding processSound holds
+    walk-decides = rw (before-is ∙ passed) at (conjunction tests (before and walk) all-asked)
 
-          module _ (same : eqb (indexOf (getD row (held - 1) empty)) (last .0) ≡ true) where
-            is-kept : keepsIt (take held row) last ≡ true
-            unfolding keepsIt
-            is-kept =
-                let under : held - 1 < length (take held row) = rw (length-take-le held row fits) (omega arith) in
-                let place : getD (take held row) (held - 1) empty ≡ getD row (held - 1) empty = getD-take held row (held - 1) empty (omega arith) in
-                some-at (λ c. eqb (last .0) (indexOf c)) (take held row) (held - 1) empty under (rw place (eq-eqb (last .0) (indexOf (getD row (held - 1) empty)) (sym (eqb-true _ _ same))))
+    module _ (fits : held ≤ length row) (inside : p < length pins) (pinned : List CheckpointIndex) (is-pinned : pinned ≡ pinnedIndexes last pins) where
+      abbrev kept : List Checkpoint
+      kept = take held row
 
-            row-same : (nothingFrom n pins && ((ascending 0 (map indexOf (take held row)) && every (placeSound (pinnedIndexes last pins) p) (take held row))
-                && every unusedCheckpoint (drop held row)
-                && (every (λ c. vectorSound n own (c .vector)) (take held row) && every (keepsIt (take held row)) (pinnedIndexes last pins))))
-                ≡ ((ascending 0 (map indexOf (take held row)) && every (checkpointSound n own p) (take held row))
-                && (every (pinSound (take held row)) pins && every (named pins) (take held row))
-                && nothingFrom n pins
-                && every unusedCheckpoint (drop held row))
-            unfolding placeSound checkpointSound
-            row-same =
-                let kept = take held row in
-                let e : Checkpoint → Bool = λ c. eqb (entry (c .vector) p .0) (indexOf c) in
-                rw (every-both e (λ c. among (pinnedIndexes last pins) (c .index)) kept, every-both e (λ c. vectorSound n own (c .vector)) kept, pinned-kept pins kept last is-kept is-pinned, kept-pinned pins kept last is-kept is-pinned)
-                (order (nothingFrom n pins) (ascending 0 (map indexOf kept)) (every e kept) (every (named pins) kept) (every unusedCheckpoint (drop held row)) (every (λ c. vectorSound n own (c .vector)) kept) (every (pinSound kept) pins))
+      abbrev newest : CheckpointIndex
+      newest = getD row (held - 1) empty .index
 
-          pub judged : (nothingFrom n pins && rowSound n own p last (pinnedIndexes last pins) row held) ≡ processSound n own p row pins held
-          unfolding processSound rowSound
-          judged = by-bool (eqb (indexOf (getD row (held - 1) empty)) (last .0))
-              (λ e. rw (le-leb 1 held low, le-leb held n high, last-test, the-name true is-named, e) (row-same e))
-              (λ e. rw (le-leb 1 held low, le-leb held n high, last-test, e) (and-no-right (nothingFrom n pins) false refl))
+      last-test : eqb (indexOf (orElse (lastOf (take held row)) noCheckpoint)) (lastStored (entry own p) .0) ≡ eqb (newest .0) (last .0)
+      last-test = rw (last-of row held (held - 1) (omega (arith, low)) (omega (arith, low)), is-last)
+
+      last-kept : eqb (newest .0) (last .0) ≡ true → keepsIt (take held row) last ≡ true
+      unfolding keepsIt
+      last-kept same =
+          let under : held - 1 < length (take held row) = rw (length-take-le held row fits) (omega (arith, low)) in
+          let place : getD (take held row) (held - 1) empty ≡ getD row (held - 1) empty = getD-take held row (held - 1) empty (omega (arith, low)) in
+          some-at (λ c. eqb (last .0) (indexOf c)) (take held row) (held - 1) empty under (rw place (eq-eqb (last .0) (newest .0) (sym (eqb-true _ _ same))))
+
+      last-pinned : some-of (λ pin. names pin last) pins ≡ true
+      last-pinned = some-at (λ pin. names pin last) pins p Nothing inside is-named
+
+      -- What the walk has gathered, in the words of document 01.
+      same-walk : keepsIt (take held row) last ≡ true
+          → ((ascending 0 (map indexOf (take held row)) && every (placeSound pinned p) (take held row)) && eqb (newest .0) (last .0)
+          && every (λ c. vectorSound n own (c .vector)) (take held row) && every (keepsIt (take held row)) pinned)
+          ≡ holds (processTests n own p row pins held) walk
+      unfolding placeSound holds processTests
+      same-walk is-kept = rw (
+        is-pinned,
+        last-test,
+        every-both (ownEntryIsIndex p) (λ c. among (pinnedIndexes last pins) (c .index)) kept,
+        pinned-kept pins kept last is-kept last-pinned,
+        kept-pinned pins kept last is-kept last-pinned,
+      )
+
+      pub judged : ((ascending 0 (map indexOf (take held row)) && every (placeSound pinned p) (take held row)) && eqb (newest .0) (last .0)
+          && every (λ c. vectorSound n own (c .vector)) (take held row) && every (keepsIt (take held row)) pinned)
+          ≡ processSound n own p row pins held
+      judged = by-bool (eqb (newest .0) (last .0))
+          (λ e. same-walk (last-kept e) ∙ walk-decides)
+          (λ e. rw (e, and-no-right (ascending 0 (map indexOf (take held row)) && every (placeSound pinned p) (take held row)) false refl) (last-differs e))
+        where
+          last-differs : eqb (newest .0) (last .0) ≡ false → false ≡ processSound n own p row pins held
+          last-differs e = differs (last-test ∙ e)

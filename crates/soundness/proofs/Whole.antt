@@ -2,81 +2,54 @@
 -- Assumes nothing.
 use mathlib.Core.Path.{_≡_, refl, sym, _∙_, ap}
 use mathlib.Core.Bool.{Bool, true, false, _&&_, not}
-use mathlib.Core.List.{List, [], map}
-use Prim.Native.Nat.{ℕ, zero, _≤_, _<_}
+use mathlib.Core.List.{List, [], _∷_, map}
+use Prim.Native.Nat.{ℕ, zero, _+_, _-_, _≤_, _<_}
 use native.Mathlib.Omega.{arith}
 use lib.Dec.{eqb, ltb, leb}
-use lib.ListN.{length, getD, take, drop, length-replicate, getD-replicate}
-use borrow.Author.Tests.{le-leb, lt-leb}
+use lib.ListN.{length, getD, take, drop, length-drop, length-replicate, getD-replicate, List·getD-eq-default}
+use lib.Seq.{getD-drop}
+use borrow.Author.Tests.{le-leb, lt-leb, eqb-true}
 use Rattle.laws.specs.Lists.{orElse, lastOf}
 use Rattle.laws.specs.Loops.{below-at, below-above, below-length}
 use Rattle.laws.specs.Ranges.{all-same}
-use Rattle.laws.specs.Rows.{every-same, every-both, all-both, and-true}
-use Rattle.laws.specs.Search.{allBelow}
+use Rattle.laws.specs.Elements.{same-test}
+use Rattle.laws.specs.Rows.{every-same, every-both, every-at, every-by, all-both, by-lt}
+use Rattle.laws.specs.Search.{allBelow, all-in, all-out}
 use Rattle.laws.specs.Tests.{every}
-use Rattle.laws.specs.Truth.{and-no-right}
+use Rattle.laws.specs.Truth.{and-left, and-right, and-both}
 use Rattle.model.specs.declared.Interval.{Interval}
 use Rattle.model.specs.declared.Pin.the-variants.{Nothing}
+use Rattle.model.specs.declared.Checkpoint.{Checkpoint}
+use Rattle.model.specs.declared.Message.{Message}
 use Rattle.model.specs.declared.Run.{Run}
 use Rattle.model.specs.Words.{mostUnderWay, mostMessages, entry, lastStored, names, named, zeroVector, noCheckpoint, process, own, underWay}
 use Rattle.model.specs.Sound.{sound, countSound, ownSound, within, vectorsSound, ascending, keptSound, pinSound, pinsSound, messageSound, messagesSound, zeroFrom, unusedCheckpoint, unusedMessage, nothingFrom, rowUnused, unusedSound}
-use Rattle.soundness.specs.Judged.{vectorSound, indexOf, checkpointSound, processSound, numberOf, messageJudged, messagesJudged, ownEntries, currentSound, judged}
+use Rattle.soundness.specs.Judged.{vectorSound, indexOf, ownEntryIsIndex, processTests, processSound, restUnused, numberOf, messageJudged, messagesTests, messagesJudged, ownEntries, currentSound}
+use Rattle.soundness.proofs.Conjunctions.{none, test, _and_, each, holds, asks, same-tests}
 use Rattle.soundness.proofs.Vectors.{zero-by}
 
--- A conjunction of which the second half is false.
-pub and-no : (a : Bool) → (a && false) ≡ false
-and-no a = and-no-right a false refl
+-- A test is asked only where another one holds.
+under : (h a b : Bool) → (h ≡ true → a ≡ b) → (h && a) ≡ (h && b)
+under true a b e = e refl
+under false a b e = refl
 
--- The tests of one process, in the order of the code and in the order of document 01.
-one-order : (o w z h₁ h₂ l m a e wk zk ps pn nf u : Bool)
-    → ((o && (w && z)) && (h₁ && h₂ && l && m && ((a && (e && (wk && zk))) && (ps && pn) && nf && u)))
-    ≡ (o && (w && wk) && (h₁ && h₂ && a && e && l && m && (ps && pn)) && (z && nf && zk && u))
-one-order false w z h₁ h₂ l m a e wk zk ps pn nf u = refl
-one-order true false z h₁ h₂ l m a e wk zk ps pn nf u = refl
-one-order true true false h₁ h₂ l m a e wk zk ps pn nf u = simp and-no
-one-order true true true false h₂ l m a e wk zk ps pn nf u = simp and-no
-one-order true true true true false l m a e wk zk ps pn nf u = simp and-no
-one-order true true true true true false m a e wk zk ps pn nf u = simp (and-no (a && e), and-no)
-one-order true true true true true true false a e wk zk ps pn nf u = simp (and-no (a && e && true), and-no)
-one-order true true true true true true true false e wk zk ps pn nf u = simp and-no
-one-order true true true true true true true true false wk zk ps pn nf u = simp and-no
-one-order true true true true true true true true true false zk ps pn nf u = refl
-one-order true true true true true true true true true true false ps pn nf u = simp and-no
-one-order true true true true true true true true true true true false pn nf u = refl
-one-order true true true true true true true true true true true true false nf u = refl
-one-order true true true true true true true true true true true true true false u = refl
-one-order true true true true true true true true true true true true true true u = refl
+-- The test of the places behind the kept checkpoints (u) moves beside the test that no process at n and above keeps any (h), which lets it be split;
+-- then its two halves move to the processes and to the rows at n and above.
+beside : (c j u z m h p g : Bool) → (c && (j && u) && z && m && h && p && g) ≡ ((c && j && (z && m && p && g)) && (h && u))
+unfolding holds asks allBelow
+beside c j u z m h p g = same-tests (c ∷ j ∷ u ∷ z ∷ m ∷ h ∷ p ∷ g ∷ [])
+    (test 0 and (test 1 and test 2) and test 3 and test 4 and test 5 and test 6 and test 7)
+    ((test 0 and test 1 and (test 3 and test 4 and test 6 and test 7)) and (test 5 and test 2))
+    refl
+    refl
 
--- All tests, likewise: of all processes, of unused rows, of the messages.
-all-order : (c₁ c₂ o w k r z s h p c lu ll a ms wm zm um : Bool)
-    → (c₁ && c₂ && ((o && w && k && r) && z && s && h && p && c && (lu && ll && ((a && (ms && (wm && zm))) && um))))
-    ≡ ((c₁ && c₂) && o && (w && wm) && k && (lu && a && ms && ll) && (r && z && p && s && c && h && zm && um))
-all-order false c₂ o w k r z s h p c lu ll a ms wm zm um = refl
-all-order true false o w k r z s h p c lu ll a ms wm zm um = refl
-all-order true true false w k r z s h p c lu ll a ms wm zm um = refl
-all-order true true true false k r z s h p c lu ll a ms wm zm um = refl
-all-order true true true true false r z s h p c lu ll a ms wm zm um = simp (and-no wm)
-all-order true true true true true false z s h p c lu ll a ms wm zm um = simp and-no
-all-order true true true true true true false s h p c lu ll a ms wm zm um = simp and-no
-all-order true true true true true true true false h p c lu ll a ms wm zm um = simp (and-no p, and-no)
-all-order true true true true true true true true false p c lu ll a ms wm zm um = simp (and-no (p && true && c), and-no)
-all-order true true true true true true true true true false c lu ll a ms wm zm um = simp and-no
-all-order true true true true true true true true true true false lu ll a ms wm zm um = simp and-no
-all-order true true true true true true true true true true true false ll a ms wm zm um = simp and-no
-all-order true true true true true true true true true true true true false a ms wm zm um = simp (and-no (a && ms), and-no (wm && true))
-all-order true true true true true true true true true true true true true false ms wm zm um = simp and-no
-all-order true true true true true true true true true true true true true true false wm zm um = simp and-no
-all-order true true true true true true true true true true true true true true true false zm um = refl
-all-order true true true true true true true true true true true true true true true true false um = refl
-all-order true true true true true true true true true true true true true true true true true false = refl
-all-order true true true true true true true true true true true true true true true true true true = refl
-
--- The unused rows of kept checkpoints, judged beside the used ones.
-kept-last : (c j k z s h p m : Bool) → (c && (j && k) && z && s && h && p && m) ≡ (c && j && z && s && h && p && k && m)
-kept-last false j k z s h p m = refl
-kept-last true false k z s h p m = refl
-kept-last true true true z s h p m = rw (and-true (z && s && h && p))
-kept-last true true false z s h p m = rw (and-no (z && s && h && p))
+grouped : (c j o h u r : Bool) → ((c && j && o) && (h && (u && r))) ≡ ((c && j && u) && (h && r) && o)
+unfolding holds asks allBelow
+grouped c j o h u r = same-tests (c ∷ j ∷ o ∷ h ∷ u ∷ r ∷ [])
+    ((test 0 and test 1 and test 2) and (test 3 and (test 4 and test 5)))
+    ((test 0 and test 1 and test 4) and (test 3 and test 5) and test 2)
+    refl
+    refl
 
 module _ (s : Run) (high : s .count ≤ 16) where
   abbrev n : ℕ
@@ -106,45 +79,63 @@ module _ (s : Run) (high : s .count ≤ 16) where
   vector-same v = ap (λ b. b && zeroFrom n v) (all-same n (λ f. leb (entry v f .0) (entry owns f .0)) (λ f. leb (entry v f .0) (entry (getD (s .vectors .0) f []) f .0))
       (λ f lt. ap (λ (x : Interval). leb (entry v f .0) (x .0)) (own-at f lt)))
 
-  -- The vectors of the elements of a list, tested beside something else.
-  vectors-same : {A : Type 0} (t : A → Bool) (v : A → List Interval) (l : List A)
-      → every (λ x. t x && vectorSound n owns (v x)) l ≡ (every t l && (every (λ x. within s (v x)) l && every (λ x. zeroFrom n (v x)) l))
-  vectors-same t v l =
-      every-same (λ x. t x && vectorSound n owns (v x)) (λ x. t x && (within s (v x) && zeroFrom n (v x))) l (λ x. ap (λ b. t x && b) (vector-same (v x)))
-      ∙ every-both t (λ x. within s (v x) && zeroFrom n (v x)) l
-      ∙ ap (λ b. every t l && b) (every-both (λ x. within s (v x)) (λ x. zeroFrom n (v x)) l)
+  -- The vectors of the elements of a list.
+  vectors-same : {A : Type 0} (v : A → List Interval) (l : List A)
+      → every (λ x. vectorSound n owns (v x)) l ≡ (every (λ x. within s (v x)) l && every (λ x. zeroFrom n (v x)) l)
+  vectors-same v l =
+      every-same (λ x. vectorSound n owns (v x)) (λ x. within s (v x) && zeroFrom n (v x)) l (λ x. vector-same (v x))
+      ∙ every-both (λ x. within s (v x)) (λ x. zeroFrom n (v x)) l
 
+  abbrev current : ℕ → Bool
+  current p = currentSound n owns p (getD (s .vectors .0) p [])
+
+  abbrev judged : ℕ → Bool
+  judged p = processSound n owns p (getD (s .kept .0) p []) (getD (s .pins .0) p []) (getD (s .held) p 0)
+
+  abbrev unused : ℕ → Bool
+  unused p = restUnused (getD (s .kept .0) p []) (getD (s .held) p 0)
+
+  -- The tests of one process, as the code groups them and as document 01 does. A test that is added stands in the list, and in both groupings.
   process-same : (p : ℕ) → p < n
-      → (currentSound n owns p (getD (s .vectors .0) p []) && processSound n owns p (getD (s .kept .0) p []) (getD (s .pins .0) p []) (getD (s .held) p 0))
+      → (current p && judged p && unused p)
       ≡ (leb 1 (own s p .0) && (within s (process s p .vector) && every (λ c. within s (c .vector)) (process s p .kept)) && (keptSound s p && pinsSound s p) && rowUnused s p)
-  unfolding currentSound processSound checkpointSound keptSound pinsSound rowUnused own process
+  unfolding currentSound processSound processTests restUnused ownEntryIsIndex keptSound pinsSound rowUnused own process every holds each asks allBelow
   process-same p lt =
       let pins = getD (s .pins .0) p [] in
       let held = getD (s .held) p 0 in
       let row = getD (s .kept .0) p [] in
       let kept = take held row in
       let v = getD (s .vectors .0) p [] in
-      rw (own-at p lt, vector-same v, vectors-same (λ c. eqb (entry (c .vector) p .0) (indexOf c)) (λ c. c .vector) kept)
-      (one-order
-      (leb 1 (entry v p .0))
-      (within s v)
-      (zeroFrom n v)
-      (leb 1 held)
-      (leb held n)
-      (eqb (indexOf (orElse (lastOf kept) noCheckpoint)) (lastStored (entry v p) .0))
-      (names (getD pins p Nothing) (lastStored (entry v p)))
-      (ascending 0 (map indexOf kept))
-      (every (λ c. eqb (entry (c .vector) p .0) (indexOf c)) kept)
-      (every (λ c. within s (c .vector)) kept)
-      (every (λ c. zeroFrom n (c .vector)) kept)
-      (every (pinSound kept) pins)
-      (every (named pins) kept)
-      (nothingFrom n pins)
-      (every unusedCheckpoint (drop held row)))
+      rw (own-at p lt, vector-same v, vectors-same (λ (c : Checkpoint). c .vector) kept)
+      (same-tests
+      (leb 1 (entry v p .0)
+      ∷ within s v
+      ∷ zeroFrom n v
+      ∷ leb 1 held
+      ∷ leb held n
+      ∷ ascending 0 (map indexOf kept)
+      ∷ every (ownEntryIsIndex p) kept
+      ∷ eqb (indexOf (orElse (lastOf kept) noCheckpoint)) (lastStored (entry v p) .0)
+      ∷ names (getD pins p Nothing) (lastStored (entry v p))
+      ∷ every (pinSound kept) pins
+      ∷ every (named pins) kept
+      ∷ every (λ c. within s (c .vector)) kept
+      ∷ every (λ c. zeroFrom n (c .vector)) kept
+      ∷ nothingFrom n pins
+      ∷ every unusedCheckpoint (drop held row)
+      ∷ [])
+      ((test 0 and (test 1 and test 2))
+      and each (test 3 ∷ test 4 ∷ test 5 ∷ test 6 ∷ test 7 ∷ test 8 ∷ test 9 ∷ test 10 ∷ (test 11 and test 12) ∷ test 13 ∷ [])
+      and test 14)
+      (test 0
+      and (test 1 and test 11)
+      and (test 3 and test 4 and test 5 and test 6 and test 7 and test 8 and (test 9 and test 10))
+      and (test 2 and test 13 and test 12 and test 14))
+      refl
+      refl)
 
   -- All processes.
-  processes-same : (allBelow n (λ p. currentSound n owns p (getD (s .vectors .0) p []))
-      && allBelow n (λ p. processSound n owns p (getD (s .kept .0) p []) (getD (s .pins .0) p []) (getD (s .held) p 0)))
+  processes-same : (allBelow n current && allBelow n judged && allBelow n unused)
       ≡ (allBelow n (λ p. leb 1 (own s p .0))
       && allBelow n (λ p. within s (process s p .vector) && every (λ c. within s (c .vector)) (process s p .kept))
       && allBelow n (λ p. keptSound s p && pinsSound s p)
@@ -153,72 +144,97 @@ module _ (s : Run) (high : s .count ≤ 16) where
       let o : ℕ → Bool = λ p. leb 1 (own s p .0) in
       let w : ℕ → Bool = λ p. within s (process s p .vector) && every (λ c. within s (c .vector)) (process s p .kept) in
       let k : ℕ → Bool = λ p. keptSound s p && pinsSound s p in
-      let c : ℕ → Bool = λ p. currentSound n owns p (getD (s .vectors .0) p []) in
-      let j : ℕ → Bool = λ p. processSound n owns p (getD (s .kept .0) p []) (getD (s .pins .0) p []) (getD (s .held) p 0) in
-      sym (all-both n c j)
-      ∙ all-same n (λ p. c p && j p) (λ p. o p && w p && k p && rowUnused s p) process-same
+      sym (all-both n (λ p. current p && judged p) unused ∙ ap (λ b. b && allBelow n unused) (all-both n current judged))
+      ∙ all-same n (λ p. current p && judged p && unused p) (λ p. o p && w p && k p && rowUnused s p) process-same
       ∙ all-both n (λ p. o p && w p && k p) (rowUnused s)
       ∙ ap (λ b. b && allBelow n (rowUnused s)) (all-both n (λ p. o p && w p) k ∙ ap (λ b. b && allBelow n k) (all-both n o w))
 
-  pub whole : judged s ≡ sound s
-  unfolding judged messagesJudged messageJudged sound countSound ownSound vectorsSound messagesSound messageSound unusedSound underWay
-  whole =
-      let live = take (s .underway) (s .messages) in
-      rw (processes-same, vectors-same (λ x. leb (x .number) (s .last) && ltb (x .sender) n && ltb (x .receiver) n && not (eqb (x .sender) (x .receiver))) (λ x. x .vector) live)
-      (all-order
-      (leb 1 n)
-      (leb n 16)
-      (allBelow n (λ p. leb 1 (own s p .0)))
-      (allBelow n (λ p. within s (process s p .vector) && every (λ c. within s (c .vector)) (process s p .kept)))
-      (allBelow n (λ p. keptSound s p && pinsSound s p))
-      (allBelow n (rowUnused s))
-      (every (zeroFrom 0) (drop n (s .vectors .0)))
-      (every not (drop n (s .sent)))
-      (every (eqb 0) (drop n (s .held)))
-      (every (nothingFrom 0) (drop n (s .pins .0)))
-      (every (every unusedCheckpoint) (drop n (s .kept .0)))
-      (leb (s .underway) mostUnderWay)
-      (leb (s .last) mostMessages)
-      (ascending 1 (map numberOf live))
-      (every (λ x. leb (x .number) (s .last) && ltb (x .sender) n && ltb (x .receiver) n && not (eqb (x .sender) (x .receiver))) live)
-      (every (λ x. within s (x .vector)) live)
-      (every (λ x. zeroFrom n (x .vector)) live)
-      (every unusedMessage (drop (s .underway) (s .messages))))
+  -- Where no process at n and above keeps a checkpoint, the places behind the kept ones are whole rows from n on.
+  none-held : every (eqb 0) (drop n (s .held)) ≡ true → (q : ℕ) → n ≤ q → getD (s .held) q 0 ≡ 0
+  none-held e q low = by-lt q (length (s .held))
+      (λ lt. let place : n + (q - n) ≡ q = omega arith in
+      let inside : q - n < length (drop n (s .held)) = rw length-drop (omega arith) in
+      sym (eqb-true 0 (getD (s .held) q 0) (rw (getD-drop, place) at (every-at (eqb 0) (drop n (s .held)) (q - n) 0 inside e))))
+      (λ ge. List·getD-eq-default (s .held) 0 ge)
 
-  -- Where the count is in its range, the other tests decide.
-  counted : 1 ≤ n
-      → (allBelow n (λ p. currentSound n owns p (getD (s .vectors .0) p []))
-      && allBelow n (λ p. processSound n owns p (getD (s .kept .0) p []) (getD (s .pins .0) p []) (getD (s .held) p 0))
-      && every (zeroFrom 0) (drop n (s .vectors .0))
-      && every not (drop n (s .sent))
-      && every (eqb 0) (drop n (s .held))
-      && every (nothingFrom 0) (drop n (s .pins .0))
-      && every (every unusedCheckpoint) (drop n (s .kept .0))
-      && messagesJudged n owns (s .messages) (s .underway) (s .last))
-      ≡ judged s
-  unfolding judged
-  counted low = rw (le-leb 1 (s .count) low, le-leb (s .count) 16 high)
+  rows-same : length (s .kept .0) ≡ 16 → every (eqb 0) (drop n (s .held)) ≡ true
+      → allBelow 16 unused ≡ (allBelow n unused && every (every unusedCheckpoint) (drop n (s .kept .0)))
+  unfolding restUnused
+  rows-same size free = same-test (allBelow 16 unused) (allBelow n unused && every (every unusedCheckpoint) (drop n (s .kept .0)))
+      (λ e. and-both (allBelow n unused) (every (every unusedCheckpoint) (drop n (s .kept .0)))
+      (all-in n unused (λ q lt. all-out 16 unused e q (omega arith)))
+      (every-by (every unusedCheckpoint) (drop n (s .kept .0)) []
+      (λ k lt. let inside : n + k < 16 = omega (arith, length-drop n (s .kept .0)) in rw getD-drop (whole-row (n + k) (omega arith) (all-out 16 unused e (n + k) inside)))))
+      (λ e. all-in 16 unused (λ q lt. by-lt q n
+      (λ below. all-out n unused (and-left (allBelow n unused) (every (every unusedCheckpoint) (drop n (s .kept .0))) e) q below)
+      (λ low. let place : n + (q - n) ≡ q = omega arith in
+      let inside : q - n < length (drop n (s .kept .0)) = rw length-drop (omega arith) in
+      rw (none-held free q low) (rw (getD-drop, place) at (every-at (every unusedCheckpoint) (drop n (s .kept .0)) (q - n) [] inside (and-right (allBelow n unused) (every (every unusedCheckpoint) (drop n (s .kept .0))) e))))))
+    where
+      whole-row : (q : ℕ) → n ≤ q → unused q ≡ true → every unusedCheckpoint (getD (s .kept .0) q []) ≡ true
+      whole-row q low e = rw (none-held free q low) at e
 
-  pub verdict : 1 ≤ n
-      → (allBelow n (λ p. currentSound n owns p (getD (s .vectors .0) p []))
-      && (allBelow n (λ p. processSound n owns p (getD (s .kept .0) p []) (getD (s .pins .0) p []) (getD (s .held) p 0))
-      && every (every unusedCheckpoint) (drop n (s .kept .0)))
-      && every (zeroFrom 0) (drop n (s .vectors .0))
-      && every not (drop n (s .sent))
-      && every (eqb 0) (drop n (s .held))
-      && every (nothingFrom 0) (drop n (s .pins .0))
-      && messagesJudged n owns (s .messages) (s .underway) (s .last))
-      ≡ sound s
-  verdict low = kept-last
-      (allBelow n (λ p. currentSound n owns p (getD (s .vectors .0) p [])))
-      (allBelow n (λ p. processSound n owns p (getD (s .kept .0) p []) (getD (s .pins .0) p []) (getD (s .held) p 0)))
-      (every (every unusedCheckpoint) (drop n (s .kept .0)))
-      (every (zeroFrom 0) (drop n (s .vectors .0)))
-      (every not (drop n (s .sent)))
-      (every (eqb 0) (drop n (s .held)))
-      (every (nothingFrom 0) (drop n (s .pins .0)))
-      (messagesJudged n owns (s .messages) (s .underway) (s .last))
-      ∙ counted low ∙ whole
+  -- The whole state: the tests of the code, as is_sound joins them.
+  module _ (low : 1 ≤ n) (size : length (s .kept .0) ≡ 16) where
+    abbrev noneHeld : Bool
+    noneHeld = every (eqb 0) (drop n (s .held))
+
+    abbrev unusedRows : Bool
+    unusedRows = every (every unusedCheckpoint) (drop n (s .kept .0))
+
+    abbrev others : Bool
+    others = every (zeroFrom 0) (drop n (s .vectors .0)) && every not (drop n (s .sent)) && every (nothingFrom 0) (drop n (s .pins .0)) && messagesJudged n owns (s .messages) (s .underway) (s .last)
+
+    -- Where the count is in its range, the other tests decide.
+    whole : ((allBelow n current && allBelow n judged && allBelow n unused) && (noneHeld && unusedRows) && others) ≡ sound s
+    unfolding messagesJudged messagesTests messageJudged sound countSound ownSound vectorsSound messagesSound messageSound unusedSound underWay every holds each asks allBelow
+    whole =
+        let live = take (s .underway) (s .messages) in
+        let message : Message → Bool = λ x. leb (x .number) (s .last) && ltb (x .sender) n && ltb (x .receiver) n && not (eqb (x .sender) (x .receiver)) in
+        rw (processes-same, every-both message (λ x. vectorSound n owns (x .vector)) live, vectors-same (λ (x : Message). x .vector) live, le-leb 1 n low, le-leb n 16 high)
+        (same-tests
+        (allBelow n (λ p. leb 1 (own s p .0))
+        ∷ allBelow n (λ p. within s (process s p .vector) && every (λ c. within s (c .vector)) (process s p .kept))
+        ∷ allBelow n (λ p. keptSound s p && pinsSound s p)
+        ∷ allBelow n (rowUnused s)
+        ∷ noneHeld
+        ∷ unusedRows
+        ∷ every (zeroFrom 0) (drop n (s .vectors .0))
+        ∷ every not (drop n (s .sent))
+        ∷ every (nothingFrom 0) (drop n (s .pins .0))
+        ∷ leb (s .underway) mostUnderWay
+        ∷ leb (s .last) mostMessages
+        ∷ ascending 1 (map numberOf live)
+        ∷ every message live
+        ∷ every (λ x. within s (x .vector)) live
+        ∷ every (λ x. zeroFrom n (x .vector)) live
+        ∷ every unusedMessage (drop (s .underway) (s .messages))
+        ∷ [])
+        ((test 0 and test 1 and test 2 and test 3)
+        and (test 4 and test 5)
+        and (test 6 and test 7 and test 8 and each (test 9 ∷ test 10 ∷ test 11 ∷ (test 12 and (test 13 and test 14)) ∷ test 15 ∷ [])))
+        (none
+        and test 0
+        and (test 1 and test 13)
+        and test 2
+        and (test 9 and test 11 and test 12 and test 10)
+        and (test 3 and test 6 and test 8 and test 7 and test 5 and test 4 and test 14 and test 15))
+        refl
+        refl)
+
+    pub verdict : (allBelow n current
+        && (allBelow n judged && allBelow 16 unused)
+        && every (zeroFrom 0) (drop n (s .vectors .0))
+        && every not (drop n (s .sent))
+        && noneHeld
+        && every (nothingFrom 0) (drop n (s .pins .0))
+        && messagesJudged n owns (s .messages) (s .underway) (s .last))
+        ≡ sound s
+    verdict =
+        beside (allBelow n current) (allBelow n judged) (allBelow 16 unused) (every (zeroFrom 0) (drop n (s .vectors .0))) (every not (drop n (s .sent))) noneHeld (every (nothingFrom 0) (drop n (s .pins .0))) (messagesJudged n owns (s .messages) (s .underway) (s .last))
+        ∙ ap (λ b. (allBelow n current && allBelow n judged && others) && b) (under noneHeld (allBelow 16 unused) (allBelow n unused && unusedRows) (rows-same size))
+        ∙ grouped (allBelow n current) (allBelow n judged) others noneHeld (allBelow n unused) unusedRows
+        ∙ whole
 
 -- A count outside its range.
 pub none-run : (s : Run) → s .count < 1 → false ≡ sound s

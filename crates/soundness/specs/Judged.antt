@@ -1,11 +1,12 @@
--- Document 01, "A sound state", as the code judges it: the clauses about one vector, one process and one message, over the rows themselves.
--- proofs/Whole has the lemma that these together are `sound`.
+-- Document 01, "A sound state", as the code judges it: the clauses about one vector, one process and the messages, over the rows themselves. What is
+-- asked of a process, and of the messages, is a list of tests that must all hold. proofs/Whole has the lemma that all of them together are `sound`.
 -- Assumes nothing.
-use mathlib.Core.Bool.{Bool, false, _&&_, _||_, not}
-use mathlib.Core.List.{List, [], map}
-use Prim.Native.Nat.{ℕ, _-_}
+use mathlib.Core.Path.{_≡_}
+use mathlib.Core.Bool.{Bool, true, false, _&&_, _||_, not}
+use mathlib.Core.List.{List, [], _∷_, map}
+use Prim.Native.Nat.{ℕ, _+_, _≤_}
 use lib.Dec.{eqb, ltb, leb}
-use lib.ListN.{getD, take, drop}
+use lib.ListN.{length, getD, take, drop, replicate}
 use Rattle.laws.specs.Lists.{orElse, lastOf}
 use Rattle.laws.specs.Loops.{setBelow}
 use Rattle.laws.specs.Search.{allBelow}
@@ -16,13 +17,22 @@ use Rattle.model.specs.declared.Pin.{Pin}
 use Rattle.model.specs.declared.Pin.the-variants.{Nothing, At}
 use Rattle.model.specs.declared.Checkpoint.{Checkpoint}
 use Rattle.model.specs.declared.Message.{Message}
-use Rattle.model.specs.declared.Run.{Run}
 use Rattle.model.specs.Words.{places, mostUnderWay, mostMessages, entry, lastStored, names, named, zeroVector, noCheckpoint}
+use Rattle.model.specs.Steps.{takenVector}
 use Rattle.model.specs.Sound.{ascending, pinSound, zeroFrom, nothingFrom, unusedCheckpoint, unusedMessage}
+use Rattle.soundness.specs.declared.kept.Walk.{Walk}
+
+-- All tests of a list hold.
+abbrev pub allOf : List Bool → Bool
+allOf tests = every (λ b. b) tests
 
 -- A vector of a run of n processes whose own entries are `own`: no entry is above the own entry there, and entries at n and above are zero.
 unfoldable pub vectorSound : ℕ → List Interval → List Interval → Bool
 vectorSound n own v = allBelow n (λ f. leb (entry v f .0) (entry own f .0)) && zeroFrom n v
+
+-- The vector r stands for a and b: it is sound exactly where both are.
+abbrev pub Joins : List Interval → List Interval → List Interval → Type 0
+Joins a b r = (n : ℕ) (own : List Interval) → length own ≡ 16 → n ≤ 16 → zeroFrom n own ≡ true → vectorSound n own r ≡ (vectorSound n own a && vectorSound n own b)
 
 -- The checkpoint that a pin names; the last stored one where it names none.
 unfoldable pub pinOr : CheckpointIndex → Pin → CheckpointIndex
@@ -51,32 +61,55 @@ metBy met pinned a = setBelow places (λ j. getD met j false || eqb (getD pinned
 abbrev pub empty : Checkpoint
 empty = record { index = record { 0 = 0 }; vector = [] }
 
--- A kept checkpoint of process p, but for its vector's other entries: "each one's own entry equal to its index", and it is pinned.
+-- "each one's own entry equal to its index"
+unfoldable pub ownEntryIsIndex : ℕ → Checkpoint → Bool
+ownEntryIsIndex p c = eqb (entry (c .vector) p .0) (indexOf c)
+
+-- A kept checkpoint of process p by itself, but for its vector's other entries: its own entry is its index, and it is pinned.
 unfoldable pub placeSound : List CheckpointIndex → ℕ → Checkpoint → Bool
-placeSound pinned p c = eqb (entry (c .vector) p .0) (indexOf c) && among pinned (c .index)
+placeSound pinned p c = ownEntryIsIndex p c && among pinned (c .index)
 
--- The kept checkpoints of process p beside the indexes that its pins name, and the places behind them.
-unfoldable pub rowSound : ℕ → List Interval → ℕ → CheckpointIndex → List CheckpointIndex → List Checkpoint → ℕ → Bool
-rowSound n own p last pinned row held =
-    eqb (indexOf (getD row (held - 1) empty)) (last .0)
-    && ((ascending 0 (map indexOf (take held row)) && every (placeSound pinned p) (take held row))
-    && every unusedCheckpoint (drop held row)
-    && (every (λ c. vectorSound n own (c .vector)) (take held row) && every (keepsIt (take held row)) pinned))
+-- A walk along the kept checkpoints of process p: what it has gathered before the first, and with one more.
+unfoldable pub noneWalked : Walk
+noneWalked = record { ok = true; low = 0; met = replicate places false; most = zeroVector }
 
--- A kept checkpoint of process p by itself: "each one's own entry equal to its index", and its vector.
-unfoldable pub checkpointSound : ℕ → List Interval → ℕ → Checkpoint → Bool
-checkpointSound n own p c = eqb (entry (c .vector) p .0) (indexOf c) && vectorSound n own (c .vector)
+unfoldable pub walkedOne : List CheckpointIndex → ℕ → Walk → Checkpoint → Walk
+walkedOne pinned p w c = record {
+  ok = w .ok && leb (w .low) (indexOf c) && placeSound pinned p c;
+  low = indexOf c + 1;
+  met = metBy (w .met) pinned (c .index);
+  most = takenVector (w .most) (c .vector);
+}
 
--- The pins and the kept checkpoints of process p: keptSound and pinsSound, the vectors of the kept checkpoints, and what is unused in the row.
+-- What is asked of the whole walk.
+unfoldable pub walkSound : ℕ → List Interval → Walk → CheckpointIndex → Bool
+walkSound n own w last = w .ok && eqb (w .low) (last .0 + 1) && vectorSound n own (w .most) && allOf (w .met)
+
+-- What is asked of process p before the walk: how many checkpoints it keeps, and the pins whose place says what they name.
+unfoldable pub fit : ℕ → ℕ → CheckpointIndex → List Pin → ℕ → Bool
+fit n p last pins held = leb 1 held && leb held n && names (getD pins p Nothing) last && nothingFrom n pins
+
+-- The pins and the kept checkpoints of process p: keptSound and pinsSound, the vectors of the kept checkpoints, and the unused pins.
+unfoldable pub processTests : ℕ → List Interval → ℕ → List Checkpoint → List Pin → ℕ → List Bool
+processTests n own p row pins held =
+    leb 1 held
+    ∷ leb held n
+    ∷ ascending 0 (map indexOf (take held row))
+    ∷ every (ownEntryIsIndex p) (take held row)
+    ∷ eqb (indexOf (orElse (lastOf (take held row)) noCheckpoint)) (lastStored (entry own p) .0)
+    ∷ names (getD pins p Nothing) (lastStored (entry own p))
+    ∷ every (pinSound (take held row)) pins
+    ∷ every (named pins) (take held row)
+    ∷ every (λ c. vectorSound n own (c .vector)) (take held row)
+    ∷ nothingFrom n pins
+    ∷ []
+
 unfoldable pub processSound : ℕ → List Interval → ℕ → List Checkpoint → List Pin → ℕ → Bool
-processSound n own p row pins held =
-    leb 1 held && leb held n
-    && eqb (indexOf (orElse (lastOf (take held row)) noCheckpoint)) (lastStored (entry own p) .0)
-    && names (getD pins p Nothing) (lastStored (entry own p))
-    && ((ascending 0 (map indexOf (take held row)) && every (checkpointSound n own p) (take held row))
-    && (every (pinSound (take held row)) pins && every (named pins) (take held row))
-    && nothingFrom n pins
-    && every unusedCheckpoint (drop held row))
+processSound n own p row pins held = allOf (processTests n own p row pins held)
+
+-- The places of a row behind its kept checkpoints.
+unfoldable pub restUnused : List Checkpoint → ℕ → Bool
+restUnused row held = every unusedCheckpoint (drop held row)
 
 abbrev pub numberOf : Message → ℕ
 numberOf x = x .number
@@ -87,11 +120,17 @@ messageJudged n last own x =
     leb (x .number) last && ltb (x .sender) n && ltb (x .receiver) n && not (eqb (x .sender) (x .receiver)) && vectorSound n own (x .vector)
 
 -- The messages: messagesSound, their vectors, and what is unused in the table.
+unfoldable pub messagesTests : ℕ → List Interval → List Message → ℕ → ℕ → List Bool
+messagesTests n own messages underway last =
+    leb underway mostUnderWay
+    ∷ leb last mostMessages
+    ∷ ascending 1 (map numberOf (take underway messages))
+    ∷ every (messageJudged n last own) (take underway messages)
+    ∷ every unusedMessage (drop underway messages)
+    ∷ []
+
 unfoldable pub messagesJudged : ℕ → List Interval → List Message → ℕ → ℕ → Bool
-messagesJudged n own messages underway last =
-    leb underway mostUnderWay && leb last mostMessages
-    && ((ascending 1 (map numberOf (take underway messages)) && every (messageJudged n last own) (take underway messages))
-    && every unusedMessage (drop underway messages))
+messagesJudged n own messages underway last = allOf (messagesTests n own messages underway last)
 
 -- The own entries of the n processes, zero at n and above.
 unfoldable pub ownEntries : ℕ → List (List Interval) → List Interval
@@ -100,18 +139,3 @@ ownEntries n vectors = setBelow n (λ f. entry (getD vectors f []) f) zeroVector
 -- The current vector of process p: "Own entries at least 1", and the vector itself.
 unfoldable pub currentSound : ℕ → List Interval → ℕ → List Interval → Bool
 currentSound n own p v = leb 1 (entry own p .0) && vectorSound n own v
-
--- The whole state.
-unfoldable pub judged : Run → Bool
-judged s =
-    let n = s .count in
-    let own = ownEntries n (s .vectors .0) in
-    leb 1 n && leb n places
-    && (allBelow n (λ p. currentSound n own p (getD (s .vectors .0) p []))
-    && allBelow n (λ p. processSound n own p (getD (s .kept .0) p []) (getD (s .pins .0) p []) (getD (s .held) p 0))
-    && every (zeroFrom 0) (drop n (s .vectors .0))
-    && every not (drop n (s .sent))
-    && every (eqb 0) (drop n (s .held))
-    && every (nothingFrom 0) (drop n (s .pins .0))
-    && every (every unusedCheckpoint) (drop n (s .kept .0))
-    && messagesJudged n own (s .messages) (s .underway) (s .last))

@@ -1,19 +1,77 @@
-// The pins and the kept checkpoints of one process, each row looked at once.
+// The kept checkpoints of one process, one at a time: the caller has the table and reads it in place.
 use crate::pins;
 use crate::vector;
 use model::Checkpoint;
 use model::CheckpointIndex;
 use model::Interval;
-use model::Pin;
 ghost use mathlib.Core.Path.{_≡_};
-ghost use mathlib.Core.Bool.{true};
+ghost use mathlib.Core.Bool.{true, _&&_};
 ghost use Prim.Native.Nat.{ℕ, _≤_, _<_};
-ghost use lib.ListN.{drop};
-ghost use Rattle.laws.specs.Tests.{every};
+ghost use lib.Dec.{eqb};
+ghost use Rattle.laws.specs.Choice.{pick};
 ghost use Rattle.model.specs.Sound.{zeroFrom, unusedCheckpoint};
-ghost use Rattle.soundness.specs.Judged.{placeSound, rowSound, processSound};
+ghost use Rattle.soundness.specs.Judged.{Joins, noneWalked, walkedOne, walkSound};
 
-fn is_unused(c: Checkpoint) -> bool
+// What a walk along the checkpoints of a process has gathered. What asks for 16 entries at a time is tested once, behind the last checkpoint.
+pub struct Walk {
+    // every checkpoint so far is sound by itself, and the indexes ascend
+    pub ok: bool,
+    // one above the index before
+    pub low: u32,
+    // which pins have met their checkpoint
+    pub met: [bool; 16],
+    // the greatest entries so far
+    pub most: [Interval; 16],
+}
+
+// Before the first checkpoint.
+pub fn none_walked() -> Walk
+    ensures { λ r. ⌜ r ≡ noneWalked ⌝ }
+{
+    let most = rows::start::zero_vector();
+    Walk {
+        ok: true,
+        low: 0,
+        met: [false; 16],
+        most,
+    }
+}
+
+// One checkpoint more of process p, whose pins name the indexes `pinned`: its own entry is its index, and a pin names it.
+pub fn walked(w: Walk, c: Checkpoint, pinned: [CheckpointIndex; 16], p: usize) -> Walk
+    requires { ⌜ p < 16 ⌝ }
+    ensures { λ r. ⌜ (r ≡ walkedOne pinned p w c) × Joins (w .most) (c .vector) (r .most) ⌝ }
+{
+    let index = c.index;
+    let vector = c.vector;
+    let x = vector[p];
+    let place = index.0 as u32;
+    let met = w.met;
+    let most = w.most;
+    let pinned_too = pins::is_among(index, pinned);
+    let met_now = pins::met_by(met, pinned, index);
+    let most_now = vector::joined(most, vector);
+    let low = place + 1;
+    Walk {
+        ok: w.ok & (w.low <= place) & ((x.0 == index.0) & pinned_too),
+        low,
+        met: met_now,
+        most: most_now,
+    }
+}
+
+// The whole walk: all passed, the latest checkpoint is the last one stored, no entry is above the own one there, and every pin has met its checkpoint.
+pub fn is_walk_sound(w: Walk, last: CheckpointIndex, own: [Interval; 16]) -> bool
+    ensures { λ r. ⌜ ((n : ℕ) → n ≤ 16 → zeroFrom n own ≡ true → r ≡ walkSound n own w last) ⌝ }
+{
+    let met = w.met;
+    let most = w.most;
+    let within = vector::within_own(most, own);
+    let all_met = pins::is_each_met(met);
+    w.ok & (w.low == last.0 as u32 + 1) & within & all_met
+}
+
+pub fn is_unused(c: Checkpoint) -> bool
     ensures { λ r. ⌜ r ≡ unusedCheckpoint c ⌝ }
 {
     let index = c.index;
@@ -22,110 +80,22 @@ fn is_unused(c: Checkpoint) -> bool
     (index.0 == 0) & zero
 }
 
-// The places of a row from one on are unused.
-pub fn unused_from(row: [Checkpoint; 16], from: usize) -> bool
-    ensures { λ r. ⌜ r ≡ every unusedCheckpoint (drop from row) ⌝ }
+// An index of two that is not 0, if there is one.
+fn nonzero_of(a: CheckpointIndex, b: CheckpointIndex) -> CheckpointIndex
+    ensures { λ r. ⌜ r ≡ pick (eqb (a .0) 0) b a ⌝ }
 {
-    for k in from..16 {
-        let c = row[k];
-        let unused = is_unused(c);
-        if !unused {
-            return false;
-        }
-    }
-    true
+    if a.0 == 0 { b } else { a }
 }
 
-// A kept checkpoint of process p by itself, but for its vector's other entries: its own entry is its index, and a pin names it.
-fn is_place_sound(c: Checkpoint, pinned: [CheckpointIndex; 16], p: usize) -> bool
-    requires { ⌜ p < 16 ⌝ }
-    ensures { λ r. ⌜ r ≡ placeSound pinned p c ⌝ }
+// Two places at once: what is joined is unused exactly if both are.
+pub fn joined(a: Checkpoint, b: Checkpoint) -> Checkpoint
+    ensures { λ r. ⌜ unusedCheckpoint r ≡ (unusedCheckpoint a && unusedCheckpoint b) ⌝ }
 {
-    let index = c.index;
-    let vector = c.vector;
-    let x = vector[p];
-    let pinned_too = pins::is_among(index, pinned);
-    (x.0 == index.0) & pinned_too
-}
-
-// The kept checkpoints of process p against the indexes that its pins name, and the unused places behind them. Each place is looked at once, and what
-// asks for 16 entries at a time is gathered: the greatest entries so far, and which of the pins have met their checkpoint.
-fn is_row_sound(
-    row: [Checkpoint; 16],
-    pinned: [CheckpointIndex; 16],
-    own: [Interval; 16],
-    held: usize,
-    p: usize,
-    last: CheckpointIndex,
-) -> bool
-    requires { ⌜ (1 ≤ held) × (held ≤ 16) × (p < 16) ⌝ }
-    ensures { λ r. ⌜ ((n : ℕ) → n ≤ 16 → zeroFrom n own ≡ true → r ≡ rowSound n own p last pinned row held) ⌝ }
-{
-    let latest = row[held - 1];
-    let newest = latest.index;
-    if newest.0 != last.0 {
-        return false;
-    }
-    // one above the index before
-    let mut low: u32 = 0;
-    let mut met = [false; 16];
-    let mut most = rows::start::zero_vector();
-    for k in 0..held {
-        let c = row[k];
-        let index = c.index;
-        let vector = c.vector;
-        let place = index.0 as u32;
-        let one = is_place_sound(c, pinned, p);
-        let ok = (low <= place) & one;
-        if !ok {
-            return false;
-        }
-        let met_now = pins::met_by(met, pinned, index);
-        met = met_now;
-        let most_now = vector::joined(most, vector);
-        most = most_now;
-        low = place + 1;
-    }
-    for k in held..16 {
-        let c = row[k];
-        let unused = is_unused(c);
-        if !unused {
-            return false;
-        }
-    }
-    let within = vector::within_own(most, own);
-    let all_met = pins::is_each_met(met);
-    within & all_met
-}
-
-// All that is asked of process p's pins and kept checkpoints. The caller has judged the count, and has its own entries. The last stored checkpoint is
-// kept and pinned, so it can stand for "none" among the indexes that the pins name.
-pub fn is_process_sound(
-    row: [Checkpoint; 16],
-    pins: [Pin; 16],
-    own: [Interval; 16],
-    held: usize,
-    n: usize,
-    p: usize,
-) -> bool
-    requires { ⌜ (n ≤ 16) × (p < n) × (zeroFrom n own ≡ true) ⌝ }
-    ensures { λ r. ⌜ r ≡ processSound n own p row pins held ⌝ }
-{
-    if held < 1 {
-        return false;
-    }
-    if n < held {
-        return false;
-    }
-    let x = own[p];
-    let last = rows::vector::last_stored(x);
-    let pin = pins[p];
-    let named = rows::pins::names(pin, last);
-    if !named {
-        return false;
-    }
-    let nothing = pins::nothing_from(pins, n);
-    let pinned = pins::pinned_indexes(pins, last);
-    let sound = is_row_sound(row, pinned, own, held, p, last);
-    nothing & sound
+    let x = a.index;
+    let y = b.index;
+    let v = a.vector;
+    let w = b.vector;
+    let vector = vector::joined(v, w);
+    let index = nonzero_of(x, y);
+    Checkpoint { index, vector }
 }

@@ -2,9 +2,9 @@
 use model::CheckpointIndex;
 use model::Pin;
 ghost use mathlib.Core.Path.{_≡_};
-ghost use Rattle.laws.specs.Tests.{every};
+ghost use Prim.Native.Nat.{_<_};
 ghost use Rattle.model.specs.Sound.{isNothing, nothingFrom};
-ghost use Rattle.soundness.specs.Judged.{pinOr, pinnedIndexes, among, metBy};
+ghost use Rattle.soundness.specs.Judged.{allOf, fit, pinOr, pinnedIndexes, among, metBy};
 
 fn is_nothing(pin: Pin) -> bool
     ensures { λ r. ⌜ r ≡ isNothing pin ⌝ }
@@ -26,6 +26,17 @@ pub fn nothing_from(pins: [Pin; 16], from: usize) -> bool
         ok = ok & nothing;
     }
     ok
+}
+
+// What is asked of process p before its kept checkpoints: it keeps 1 to n, its own pin names the last stored one, and its pins at n and above name none.
+pub fn is_fit(pins: [Pin; 16], last: CheckpointIndex, held: usize, n: usize, p: usize) -> bool
+    requires { ⌜ p < 16 ⌝ }
+    ensures { λ r. ⌜ r ≡ fit n p last pins held ⌝ }
+{
+    let pin = pins[p];
+    let named = rows::pins::names(pin, last);
+    let nothing = nothing_from(pins, n);
+    (1 <= held) & (held <= n) & named & nothing
 }
 
 // The checkpoint that the pin names; the last stored one where it names none.
@@ -76,7 +87,7 @@ pub fn met_by(met: [bool; 16], pinned: [CheckpointIndex; 16], index: CheckpointI
 }
 
 pub fn is_each_met(met: [bool; 16]) -> bool
-    ensures { λ r. ⌜ r ≡ every (λ b. b) met ⌝ }
+    ensures { λ r. ⌜ r ≡ allOf met ⌝ }
 {
     let mut ok = true;
     for j in 0..16 {

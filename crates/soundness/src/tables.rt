@@ -13,8 +13,8 @@ ghost use lib.Dec.{eqb};
 ghost use lib.ListN.{getD, drop};
 ghost use Rattle.laws.specs.Search.{allBelow};
 ghost use Rattle.laws.specs.Tests.{every};
-ghost use Rattle.model.specs.Sound.{zeroFrom, nothingFrom, unusedCheckpoint};
-ghost use Rattle.soundness.specs.Judged.{ownEntries, currentSound, processSound};
+ghost use Rattle.model.specs.Sound.{zeroFrom, nothingFrom};
+ghost use Rattle.soundness.specs.Judged.{ownEntries, currentSound, processSound, restUnused};
 
 // The own entries of the n processes, zero at n and above.
 pub fn own_entries(vectors: [[Interval; 16]; 16], n: usize) -> [Interval; 16]
@@ -73,8 +73,8 @@ pub fn nothing_rows_from(pins: [[Pin; 16]; 16], from: usize) -> bool
     true
 }
 
-// The pins and the kept checkpoints of the n processes, and the rows of kept checkpoints behind them. The kept checkpoints are most of a state: one
-// function has them, so that they are handed on once.
+// The pins and the kept checkpoints of the n processes, and the places behind the kept checkpoints in all rows. The caller has judged the count, and has
+// its own entries. The kept checkpoints are most of a state: one function has them, so that they are handed on once, and reads them where they stand.
 pub fn are_processes_sound(
     kept: [[Checkpoint; 16]; 16],
     pins: [[Pin; 16]; 16],
@@ -84,25 +84,40 @@ pub fn are_processes_sound(
 ) -> bool
     requires { ⌜ (n ≤ 16) × (zeroFrom n own ≡ true) ⌝ }
     ensures { λ r. ⌜ r ≡ (allBelow n (λ p. processSound n own p (getD kept p []) (getD pins p []) (getD held p 0))
-        && every (every unusedCheckpoint) (drop n kept)) ⌝ }
+        && allBelow 16 (λ p. restUnused (getD kept p []) (getD held p 0))) ⌝ }
 {
-    for p in 0..n {
-        let row = kept[p];
-        let pinned = pins[p];
+    'processes: for p in 0..n {
+        let row_pins = pins[p];
         let count = held[p];
-        let ok = kept::is_process_sound(row, pinned, own, count, n, p);
+        let x = own[p];
+        let last = rows::vector::last_stored(x);
+        let fit = pins::is_fit(row_pins, last, count, n, p);
+        if !fit {
+            return false;
+        }
+        // the last stored checkpoint is kept and pinned, so it can stand for "none"
+        let pinned = pins::pinned_indexes(row_pins, last);
+        let mut walk = kept::none_walked();
+        'walk: for k in 0..count {
+            let c = kept[p][k];
+            let further = kept::walked(walk, c, pinned, p);
+            walk = further;
+        }
+        let ok = kept::is_walk_sound(walk, last, own);
         if !ok {
             return false;
         }
     }
-    for p in n..16 {
-        let row = kept[p];
-        let unused = kept::unused_from(row, 0);
-        if !unused {
-            return false;
+    let mut unused = rows::kept::no_checkpoint();
+    'rows: for q in 0..16 {
+        let from = held[q];
+        'places: for j in from..16 {
+            let place = kept[q][j];
+            let both = kept::joined(unused, place);
+            unused = both;
         }
     }
-    true
+    kept::is_unused(unused)
 }
 
 pub fn unmarked_from(sent: [bool; 16], from: usize) -> bool

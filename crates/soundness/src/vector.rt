@@ -1,13 +1,11 @@
 // One vector against the own entries of all processes.
 use model::Interval;
 ghost use mathlib.Core.Path.{_≡_};
-ghost use mathlib.Core.Bool.{true, _&&_};
-ghost use mathlib.Core.List.{List};
+ghost use mathlib.Core.Bool.{true};
 ghost use Prim.Native.Nat.{ℕ, _≤_};
-ghost use lib.ListN.{length};
-ghost use Rattle.model.specs.declared.Interval.{Interval};
 ghost use Rattle.model.specs.Sound.{zeroFrom};
-ghost use Rattle.soundness.specs.Judged.{vectorSound};
+ghost use Rattle.model.specs.Steps.{takenVector};
+ghost use Rattle.soundness.specs.Judged.{vectorSound, Joins};
 
 // No entry of the vector is above the own entry there. Own entries at n and above are zero, so this one test covers the vector's unused entries
 // too, and it is the same for every n.
@@ -37,8 +35,7 @@ pub fn is_zero(vector: [Interval; 16]) -> bool
 
 // The greater entry of two vectors at each place: it is within own entries where both vectors are.
 pub fn joined(a: [Interval; 16], b: [Interval; 16]) -> [Interval; 16]
-    ensures { λ r. ⌜ ((n : ℕ) (own : List Interval) → length own ≡ 16 → n ≤ 16 → zeroFrom n own ≡ true
-        → vectorSound n own r ≡ (vectorSound n own a && vectorSound n own b)) ⌝ }
+    ensures { λ r. ⌜ (r ≡ takenVector a b) × Joins a b r ⌝ }
 {
     rows::vector::take_in(a, b)
 }

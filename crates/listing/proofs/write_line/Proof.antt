@@ -1,13 +1,14 @@
 -- `listing::write_line` meets its contract: its texts stand one behind the other, and the test says whether there is more behind the number of the refusal.
 -- Assumes nothing.
 use borrow.Author.Needs.{needs}
+use mathlib.Core.Path.{_≡_}
 use mathlib.Core.List.{List, [], _∷_, _++_}
 use Prim.Native.Nat.{ℕ}
 use lib.Dec.{eqb}
 use denote.Ref.{now}
-use borrow.Author.Tests.{eq-eqb, ne-eqb}
+use borrow.Author.Tests.{ne-eqb}
 use Rattle.laws.specs.Choice.{pick}
-use Rattle.model.specs.Listing.{decimal, space, lineFeed, acceptedText, lineText}
+use Rattle.model.specs.Listing.{digits, decimal, space, lineFeed, acceptedText, lineText}
 use Rattle.listing.specs.Lines.{replyOf}
 use Rattle.listing.specs.Printed.{Room}
 use Rattle.listing.proofs.Texts.{then, room-first, room-rest}
@@ -29,50 +30,72 @@ room-1 : (c : tie.After-write-number) → Room (c .write-number .last .0) (c .wr
 unfolding lineText replyOf
 room-1 c = room-rest (space ∷ from-refused (c .before .before .before .before)) (c .write-number .ensures) (c .before .before .before .before .pre .1)
 
-room-2 : (c : tie.After-write-byte) → Room (c .write-byte .last .0) (c .write-byte .result) (from-refused (c .before .before .before .before .before .before .before .before))
-room-2 c = room-rest (from-refused (c .before .before .before .before .before .before .before .before)) (c .write-byte .ensures) (room-1 (c .before .before .before .before))
+abbrev start : tie.After-write-byte → tie.Start
+start c = c .before .before .before .before .before .before .before .before
 
-room-3 : (c : tie.After-write-number2) → Room (c .write-number2 .last .0) (c .write-number2 .result) (from-answer (c .before .before .before .before .before .before .before .before .before .before .before .before))
-room-3 c = room-rest (from-answer (c .before .before .before .before .before .before .before .before .before .before .before .before)) (c .write-number2 .ensures) (room-2 (c .before .before .before .before))
+room-2 : (c : tie.After-write-byte) → Room (c .write-byte .last .0) (c .write-byte .result) (from-refused (start c))
+room-2 c = room-rest (from-refused (start c)) (c .write-byte .ensures) (room-1 (c .before .before .before .before))
 
-room-accepted : (c : tie.Then1) → Room (c .before .before .before .write-number2 .last .0) (c .before .before .before .write-number2 .result) (accepted (c .before .before .before .before .before .before .before .before .before .before .before .before .before .before .before) ++ (lineFeed ∷ []))
-room-accepted c = rw (eq-eqb (c .before .before .before .before .before .before .before .before .before .before .before .before .before .before .before .args .said .refused) 0 (c .if1 .taken)) at (room-3 (c .before .before .before))
+-- The 0 of an accepted record, and what is behind it.
+zero-told : (refused : ℕ) (more feed : List ℕ) → refused ≡ 0 → decimal refused ++ (pick (eqb refused 0) more [] ++ feed) ≡ (48 ∷ []) ++ (more ++ feed)
+unfolding decimal digits
+zero-told refused more feed e = rw e
+
+accepted-rest : (c : tie.Then1) → from-refused (start (c .before .before .before)) ≡ (48 ∷ []) ++ (accepted (start (c .before .before .before)) ++ (lineFeed ∷ []))
+accepted-rest c = let s = start (c .before .before .before) in zero-told (s .args .said .refused) (accepted s) (lineFeed ∷ []) (c .if1 .taken)
+
+room-accepted : (c : tie.Then1) → Room (c .before .before .before .write-byte .last .0) (c .before .before .before .write-byte .result) ((48 ∷ []) ++ (accepted (start (c .before .before .before)) ++ (lineFeed ∷ [])))
+room-accepted c = rw (accepted-rest c) at (room-2 (c .before .before .before))
+
+-- The number of a refusal, and the line feed behind it.
+refused-rest : (c : tie.Else1) → from-refused (start (c .before .before .before)) ≡ decimal (start (c .before .before .before) .args .said .refused) ++ (lineFeed ∷ [])
+refused-rest c = rw (ne-eqb (start (c .before .before .before) .args .said .refused) 0 (c .if1 .left))
+
+room-refused : (c : tie.Else1) → Room (c .before .before .before .write-byte .last .0) (c .before .before .before .write-byte .result) (decimal (start (c .before .before .before) .args .said .refused) ++ (lineFeed ∷ []))
+room-refused c = rw (refused-rest c) at (room-2 (c .before .before .before))
 
 write-number-requires : tie.Need-write-number-requires
 unfolding lineText replyOf
 write-number-requires c κs =
-    let start = c .before .before .before in
-    room-first (now (start .args .out)) (start .args .at) (decimal (start .args .number)) (space ∷ from-refused start) (start .pre .1)
+    let s = c .before .before .before in
+    room-first (now (s .args .out)) (s .args .at) (decimal (s .args .number)) (space ∷ from-refused s) (s .pre .1)
 
 write-byte-requires : tie.Need-write-byte-requires
 write-byte-requires c κs =
     let p = c .before .before .before in
     room-first (p .write-number .last .0) (p .write-number .result) (space ∷ []) (from-refused (p .before .before .before .before)) (room-1 p)
 
+write-byte-requires-2 : tie.Need-write-byte-requires-2
+write-byte-requires-2 c κs =
+    let p = c .before .before .before .before in
+    room-first (p .write-byte .last .0) (p .write-byte .result) (48 ∷ []) (accepted (start p) ++ (lineFeed ∷ [])) (room-accepted (c .before))
+
+room-told : (c : tie.After-write-byte2) → Room (c .write-byte2 .last .0) (c .write-byte2 .result) (accepted (start (c .before .before .before .before .before)) ++ (lineFeed ∷ []))
+room-told c = room-rest (accepted (start (c .before .before .before .before .before)) ++ (lineFeed ∷ [])) (c .write-byte2 .ensures) (room-accepted (c .before .before))
+
+write-accepted-requires : tie.Need-write-accepted-requires
+write-accepted-requires c κs =
+    let p = c .before .before .before in
+    let s = start (p .before .before .before .before .before) in
+    (s .pre .0, room-first (p .write-byte2 .last .0) (p .write-byte2 .result) (accepted s) (lineFeed ∷ []) (room-told p))
+
+write-byte-requires-3 : tie.Need-write-byte-requires-3
+write-byte-requires-3 c κs =
+    let p = c .before .before .before in
+    room-rest (lineFeed ∷ []) (p .write-accepted .ensures) (room-told (p .before .before .before .before))
+
 cast-write-number : tie.Need-cast-write-number
 cast-write-number c = search needs
 
 write-number-requires-2 : tie.Need-write-number-requires-2
 write-number-requires-2 c κs =
+    let p = c .before .before .before .before in
+    room-first (p .write-byte .last .0) (p .write-byte .result) (decimal (start p .args .said .refused)) (lineFeed ∷ []) (room-refused (c .before))
+
+write-byte-requires-4 : tie.Need-write-byte-requires-4
+write-byte-requires-4 c κs =
     let p = c .before .before .before in
-    let start = p .before .before .before .before .before .before .before .before in
-    room-first (p .write-byte .last .0) (p .write-byte .result) (decimal (start .args .said .refused)) (from-answer start) (room-2 p)
-
-write-accepted-requires : tie.Need-write-accepted-requires
-write-accepted-requires c κs =
-    let p = c .before in
-    let start = p .before .before .before .before .before .before .before .before .before .before .before .before .before .before .before in
-    (start .pre .0, room-first (p .before .before .before .write-number2 .last .0) (p .before .before .before .write-number2 .result) (accepted start) (lineFeed ∷ []) (room-accepted p))
-
-write-byte-requires-2 : tie.Need-write-byte-requires-2
-write-byte-requires-2 c κs =
-    let p = c .before .before .before in
-    room-rest (lineFeed ∷ []) (p .write-accepted .ensures) (room-accepted (p .before .before))
-
-write-byte-requires-3 : tie.Need-write-byte-requires-3
-write-byte-requires-3 c κs =
-    let start = c .before .before .before .before .before .before .before .before .before .before .before .before .before .before .before .before in
-    rw (ne-eqb (start .args .said .refused) 0 (c .before .if1 .left)) at (room-3 (c .before .before .before .before))
+    room-rest (lineFeed ∷ []) (p .write-number2 .ensures) (room-refused (p .before .before))
 
 same-length : tie.Need-same-length
 same-length c = search needs
@@ -82,11 +105,11 @@ unfolding lineText replyOf
 returns c =
     let p5 = c .before .before in
     let p4 = p5 .before .before .before .before in
-    let p3 = p4 .before .before .before .before .before in
-    let p2 = p3 .before .before .before .before in
+    let p3 = p4 .before .before .before .before in
+    let p2 = p3 .before .before .before .before .before in
     let p1 = p2 .before .before .before .before in
-    rw (eq-eqb (p1 .before .before .before .before .args .said .refused) 0 (p4 .before .before .if1 .taken))
-    (then (p1 .write-number .ensures) (then (p2 .write-byte .ensures) (then (p3 .write-number2 .ensures) (then (p4 .write-accepted .ensures) (p5 .write-byte2 .ensures)))))
+    rw (accepted-rest (p3 .before .before))
+    (then (p1 .write-number .ensures) (then (p2 .write-byte .ensures) (then (p3 .write-byte2 .ensures) (then (p4 .write-accepted .ensures) (p5 .write-byte3 .ensures)))))
 
 same-length-2 : tie.Need-same-length-2
 same-length-2 c = search needs
@@ -95,11 +118,11 @@ returns-2 : tie.Need-returns-2
 unfolding lineText replyOf
 returns-2 c =
     let p4 = c .before .before in
-    let p3 = p4 .before .before .before .before .before in
-    let p2 = p3 .before .before .before .before in
+    let p3 = p4 .before .before .before .before in
+    let p2 = p3 .before .before .before .before .before in
     let p1 = p2 .before .before .before .before in
-    rw (ne-eqb (p1 .before .before .before .before .args .said .refused) 0 (p4 .before .before .if1 .left))
-    (then (p1 .write-number .ensures) (then (p2 .write-byte .ensures) (then (p3 .write-number2 .ensures) (p4 .write-byte3 .ensures))))
+    rw (refused-rest (p3 .before .before))
+    (then (p1 .write-number .ensures) (then (p2 .write-byte .ensures) (then (p3 .write-number2 .ensures) (p4 .write-byte4 .ensures))))
 
 pub write-line-spec : {M : Type 1} → statement M
 write-line-spec =
@@ -107,11 +130,12 @@ write-line-spec =
     (tie.spec
     write-number-requires
     write-byte-requires
+    write-byte-requires-2
+    write-accepted-requires
+    write-byte-requires-3
     cast-write-number
     write-number-requires-2
-    write-accepted-requires
-    write-byte-requires-2
-    write-byte-requires-3
+    write-byte-requires-4
     same-length
     returns
     same-length-2

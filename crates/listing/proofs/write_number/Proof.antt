@@ -1,11 +1,15 @@
 -- `listing::write_number` meets its contract. The loop's invariant: the digits behind the place are stored, those of the rest are to come.
 -- The measure is the rest. Assumes nothing.
-use Prim.Native.Nat.{_≤_, _<_}
+use mathlib.Core.Path.{_≡_}
+use mathlib.Core.List.{List}
+use Prim.Native.Nat.{ℕ, _+_, _-_, _/_, _%_, _≤_, _<_}
 use native.Mathlib.Omega.{arith}
-use lib.ListN.{length}
+use lib.ListN.{length, set, length-set}
+use lib.Seq.{sets}
 use denote.Ref.{now}
 use borrow.Author.Needs.{needs}
-use Rattle.listing.proofs.Digits.{Storing, none-stored, between, one-stored, all-stored}
+use Rattle.model.specs.Listing.{decimal}
+use Rattle.listing.proofs.Digits.{Storing, none-stored, between, two-stored, all-stored, all-stored-by-two}
 use Rattle.listing.proofs.write_number.Statement.{statement}
 use Rattle.listing.proofs.write_number.Tie as tie
 
@@ -26,15 +30,39 @@ loop-holds c =
     let a = c .before .before .args in
     rw (c .width .ensures) (none-stored (now (a .out)) (a .at) (a .x) (omega arith))
 
-room : (c : tie.In-loop Inv-loop μ-loop) → (c .before .before .before .before .args .at < c .before .loop .place) × (c .before .loop .place ≤ length (c .before .loop .out))
+-- The call that a place of the code belongs to.
+abbrev start : tie.At-loop Inv-loop μ-loop → tie.Start Inv-loop μ-loop
+start c = c .before .before .before
+
+-- A store leaves the buffer as long as it was.
+still-inside : (l : List ℕ) (at byte k : ℕ) → k < length l → k < length (set l at byte)
+still-inside l at byte k h = rw length-set h
+
+-- The place is behind the first digit, and not past the end of the buffer.
+room : (c : tie.At-loop Inv-loop μ-loop) → (start c .args .at < c .loop .place) × (c .loop .place ≤ length (c .loop .out))
 room c =
-    let a = c .before .before .before .before .args in
-    let l = c .before .loop in
-    let b = between (now (a .out)) (a .at) (a .x) (l .out) (l .place) (l .rest) (l .inv) in
+    let a = start c .args in
+    let b = between (now (a .out)) (a .at) (a .x) (c .loop .out) (c .loop .place) (c .loop .rest) (c .loop .inv) in
     (b .0, omega (arith, b .1))
 
+-- A rest of three digits or more leaves room for two in front of the place.
+two-before : (c : tie.In-loop Inv-loop μ-loop) → 2 ≤ c .before .loop .place
+two-before c =
+    let a = start (c .before) .args in
+    let l = c .before .loop in
+    omega (arith, between (now (a .out)) (a .at) (a .x) _ (l .place - 2) (l .rest / 100) (two-stored (now (a .out)) (a .at) (a .x) (l .out) (l .place) (l .rest) (l .inv) (c .loop-test .taken)))
+
+-- The first two digits, where two are left.
+two-left : (c : tie.Then1 Inv-loop μ-loop) → (c .before .before .loop .place ≡ start (c .before .before) .args .at + 2)
+    × (set (set (c .before .before .loop .out) (start (c .before .before) .args .at) (48 + c .before .before .loop .rest / 10)) (start (c .before .before) .args .at + 1) (48 + c .before .before .loop .rest % 10)
+    ≡ sets (now (start (c .before .before) .args .out)) (start (c .before .before) .args .at) (decimal (start (c .before .before) .args .x)))
+two-left c =
+    let a = start (c .before .before) .args in
+    let l = c .before .before .loop in
+    all-stored-by-two (now (a .out)) (a .at) (a .x) (l .out) (l .place) (l .rest) (l .inv) (c .if1 .taken) (c .before .loop-test .left)
+
 sub-place : tie.Need-sub-place Inv-loop μ-loop
-sub-place c = omega (arith, room c)
+sub-place c = two-before c
 
 add-out : tie.Need-add-out Inv-loop μ-loop
 add-out c = search needs
@@ -43,16 +71,7 @@ cast-out : tie.Need-cast-out Inv-loop μ-loop
 cast-out c = search needs
 
 slice-write-out : tie.Need-slice-write-out Inv-loop μ-loop
-slice-write-out c = omega (arith, room c)
-
-loop-less : tie.Need-loop-less Inv-loop μ-loop
-loop-less c = search needs
-
-loop-again : tie.Need-loop-again Inv-loop μ-loop
-loop-again c =
-    let a = c .before .before .before .before .args in
-    let l = c .before .loop in
-    one-stored (now (a .out)) (a .at) (a .x) (l .out) (l .place) (l .rest) (l .inv) (c .loop-test .taken)
+slice-write-out c = omega (arith, room (c .before), two-before c)
 
 add-out-2 : tie.Need-add-out-2 Inv-loop μ-loop
 add-out-2 c = search needs
@@ -60,23 +79,70 @@ add-out-2 c = search needs
 cast-out-2 : tie.Need-cast-out-2 Inv-loop μ-loop
 cast-out-2 c = search needs
 
+add-out-3 : tie.Need-add-out-3 Inv-loop μ-loop
+add-out-3 c = omega (arith, room (c .before), two-before c)
+
 slice-write-out-2 : tie.Need-slice-write-out-2 Inv-loop μ-loop
 slice-write-out-2 c =
-    let a = c .before .before .before .before .args in
     let l = c .before .loop in
-    omega (arith, between (now (a .out)) (a .at) (a .x) (l .out) (l .place) (l .rest) (l .inv))
+    still-inside (l .out) (l .place - 2) _ (l .place - 2 + 1) (omega (arith, room (c .before), two-before c))
+
+loop-less : tie.Need-loop-less Inv-loop μ-loop
+loop-less c = search needs
+
+loop-again : tie.Need-loop-again Inv-loop μ-loop
+loop-again c =
+    let a = start (c .before) .args in
+    let l = c .before .loop in
+    two-stored (now (a .out)) (a .at) (a .x) (l .out) (l .place) (l .rest) (l .inv) (c .loop-test .taken)
+
+add-out-4 : tie.Need-add-out-4 Inv-loop μ-loop
+add-out-4 c = search needs
+
+cast-out-3 : tie.Need-cast-out-3 Inv-loop μ-loop
+cast-out-3 c = search needs
+
+slice-write-out-3 : tie.Need-slice-write-out-3 Inv-loop μ-loop
+slice-write-out-3 c = omega (arith, room (c .before .before))
+
+add-out-5 : tie.Need-add-out-5 Inv-loop μ-loop
+add-out-5 c = search needs
+
+cast-out-4 : tie.Need-cast-out-4 Inv-loop μ-loop
+cast-out-4 c = search needs
+
+add-out-6 : tie.Need-add-out-6 Inv-loop μ-loop
+add-out-6 c = search needs
+
+slice-write-out-4 : tie.Need-slice-write-out-4 Inv-loop μ-loop
+slice-write-out-4 c =
+    let a = start (c .before .before) .args in
+    let l = c .before .before .loop in
+    still-inside (l .out) (a .at) _ (a .at + 1) (omega (arith, room (c .before .before), two-left c .0))
+
+add-out-7 : tie.Need-add-out-7 Inv-loop μ-loop
+add-out-7 c = search needs
+
+cast-out-5 : tie.Need-cast-out-5 Inv-loop μ-loop
+cast-out-5 c = search needs
+
+slice-write-out-5 : tie.Need-slice-write-out-5 Inv-loop μ-loop
+slice-write-out-5 c = omega (arith, room (c .before .before))
 
 same-length : tie.Need-same-length Inv-loop μ-loop
 same-length c = search needs
 
 returns : tie.Need-returns Inv-loop μ-loop
-returns c =
-    let a = c .before .before .before .before .args in
-    let l = c .before .loop in
-    record {
-      next-place = search needs;
-      holds = all-stored (now (a .out)) (a .at) (a .x) (l .out) (l .place) (l .rest) (l .inv) (search needs);
-    }
+returns c = record { next-place = search needs; holds = two-left c .1 }
+
+same-length-2 : tie.Need-same-length-2 Inv-loop μ-loop
+same-length-2 c = search needs
+
+returns-2 : tie.Need-returns-2 Inv-loop μ-loop
+returns-2 c =
+    let a = start (c .before .before) .args in
+    let l = c .before .before .loop in
+    record { next-place = search needs; holds = all-stored (now (a .out)) (a .at) (a .x) (l .out) (l .place) (l .rest) (l .inv) (c .if1 .left) }
 
 pub write-number-spec : {M : Type 1} → statement M
 write-number-spec =
@@ -91,10 +157,23 @@ write-number-spec =
     add-out
     cast-out
     slice-write-out
-    loop-less
-    loop-again
     add-out-2
     cast-out-2
+    add-out-3
     slice-write-out-2
+    loop-less
+    loop-again
+    add-out-4
+    cast-out-3
+    slice-write-out-3
+    add-out-5
+    cast-out-4
+    add-out-6
+    slice-write-out-4
+    add-out-7
+    cast-out-5
+    slice-write-out-5
     same-length
-    returns)
+    returns
+    same-length-2
+    returns-2)

@@ -1,4 +1,6 @@
 -- `soundness::is_sound` meets its contract: what its callees ensure, put together, is the verdict of Whole. Assumes nothing.
+use mathlib.Core.Path.{_≡_, sym, _∙_, ap}
+use lib.ListN.{length}
 use borrow.Author.Needs.{needs}
 use Rattle.soundness.proofs.Whole.{owns-zero, verdict, none-run, many-run}
 use Rattle.soundness.proofs.is_sound.Statement.{statement}
@@ -18,6 +20,10 @@ pin-rows-requires c κs = search needs
 
 kept-rows-requires : tie.Need-kept-rows-requires
 kept-rows-requires c κs = search needs
+
+-- The table of kept checkpoints has 16 rows.
+kept-long : (c : tie.After-kept-rows) → length (c .before .before .before .before .before .args .s .kept .0) ≡ 16
+kept-long c = ap length (sym (c .kept-rows .ensures)) ∙ search needs
 
 own-entries-requires : tie.Need-own-entries-requires
 own-entries-requires c κs = search needs
@@ -58,7 +64,7 @@ returns-3 c =
       c .before .before .before .before .before .before .before .before .before .before .before .before .pin-rows .ensures,
       c .before .before .before .before .before .before .before .before .before .before .before .before .before .vector-rows .ensures,
     )
-    (verdict (c .before .before .before .before .before .before .before .before .before .before .before .before .before .before .before .before .args .s) (search needs) (search needs))
+    (verdict (c .before .before .before .before .before .before .before .before .before .before .before .before .before .before .before .before .args .s) (search needs) (search needs) (kept-long (c .before .before .before .before .before .before .before .before .before .before .before)))
 
 pub is-sound-spec : {M : Type 1} → statement M
 is-sound-spec =

@@ -3,33 +3,48 @@
 use mathlib.Core.List.{List, map, []}
 use mathlib.Core.Bool.{true, false, _&&_}
 use mathlib.Core.Path.{_≡_, refl, sym, _∙_}
-use Prim.Native.Nat.{ℕ, _≤_, _-_, _+_}
+use Prim.Native.Nat.{ℕ, _≤_, _<_, _-_, _+_}
 use lib.ListN.{getD, take, drop}
 use borrow.Author.Tests.{not-true, not-false, le-leb, lt-leb}
 use borrow.Author.Needs.{needs}
 use Rattle.laws.specs.Rows.{every-pass, every-stop, every-done}
+use Rattle.laws.specs.Search.{allBelow}
 use Rattle.laws.specs.Tests.{every}
 use Rattle.model.specs.declared.Interval.{Interval}
 use Rattle.model.specs.declared.Message.{Message}
 use Rattle.model.specs.Sound.{ascending, unusedMessage}
-use Rattle.soundness.specs.Judged.{messageJudged, messagesJudged, numberOf}
+use Rattle.soundness.specs.Judged.{messageJudged, messagesTests, messagesJudged, numberOf}
+use Rattle.soundness.proofs.Conjunctions.{Conjunction, test, _and_, holds, asks, conjunction, part-fails}
 use Rattle.soundness.proofs.Ascent.{ascent-end, ascent-pass, ascent-stop, above}
 use Rattle.soundness.proofs.messages.are_messages_sound.Statement.{statement}
 use Rattle.soundness.proofs.messages.are_messages_sound.Tie as tie
 
-module _ (n : ℕ) (own : List Interval) (messages : List Message) (underway last : ℕ) (few : underway ≤ 64) (low : last ≤ 1000000) where
+module _ (n : ℕ) (own : List Interval) (messages : List Message) (underway last : ℕ) where
+  -- One test fails, or the two that the first loop asks.
+  too-many : 64 < underway → false ≡ messagesJudged n own messages underway last
+  unfolding messagesJudged messagesTests holds
+  too-many h = part-fails (messagesTests n own messages underway last) (test 0) (lt-leb underway 64 h)
+
+  too-high : 1000000 < last → false ≡ messagesJudged n own messages underway last
+  unfolding messagesJudged messagesTests holds
+  too-high h = part-fails (messagesTests n own messages underway last) (test 1) (lt-leb last 1000000 h)
+
   unordered : false ≡ (ascending 1 (map numberOf (take underway messages)) && every (messageJudged n last own) (take underway messages)) → false ≡ messagesJudged n own messages underway last
-  unfolding messagesJudged
-  unordered e = rw (le-leb underway 64 few, le-leb last 1000000 low, ← e)
+  unfolding messagesJudged messagesTests holds
+  unordered e = part-fails (messagesTests n own messages underway last) (test 2 and test 3) (sym e)
 
-  module _ (each : true ≡ (ascending 1 (map numberOf (take underway messages)) && every (messageJudged n last own) (take underway messages))) where
-    leftover : false ≡ every unusedMessage (drop underway messages) → false ≡ messagesJudged n own messages underway last
-    unfolding messagesJudged
-    leftover e = rw (le-leb underway 64 few, le-leb last 1000000 low, ← each, ← e)
+  leftover : false ≡ every unusedMessage (drop underway messages) → false ≡ messagesJudged n own messages underway last
+  unfolding messagesJudged messagesTests holds
+  leftover e = part-fails (messagesTests n own messages underway last) (test 4) (sym e)
 
-    all-judged : true ≡ every unusedMessage (drop underway messages) → true ≡ messagesJudged n own messages underway last
-    unfolding messagesJudged
-    all-judged e = rw (le-leb underway 64 few, le-leb last 1000000 low, ← each, ← e)
+  -- All tests hold.
+  all-judged : underway ≤ 64 → last ≤ 1000000 → true ≡ (ascending 1 (map numberOf (take underway messages)) && every (messageJudged n last own) (take underway messages))
+      → true ≡ every unusedMessage (drop underway messages) → true ≡ messagesJudged n own messages underway last
+  unfolding messagesJudged messagesTests holds asks allBelow
+  all-judged few low each rest =
+      let asked : Conjunction = test 0 and test 1 and (test 2 and test 3) and test 4 in
+      let hold : holds (messagesTests n own messages underway last) asked ≡ true = rw (le-leb underway 64 few, le-leb last 1000000 low, ← each, ← rest) in
+      sym hold ∙ conjunction (messagesTests n own messages underway last) asked refl
 
 abbrev Inv-loop : tie.InvT-loop
 Inv-loop own n underway last messages previous₀ k₀ previous k = (k ≤ underway) × ((ascending (previous + 1) (map numberOf (drop k (take underway messages))) && every (messageJudged n last own) (drop k (take underway messages))) ≡ (ascending 1 (map numberOf (take underway messages)) && every (messageJudged n last own) (take underway messages)))
@@ -44,12 +59,10 @@ abbrev μ-loop2 : tie.MeasureT-loop2
 μ-loop2 n underway last messages previous k₀ k = 64 - k
 
 returns : tie.Need-returns Inv-loop μ-loop Inv-loop2 μ-loop2
-unfolding messagesJudged
-returns c = rw (lt-leb (c .before .args .underway) 64 (c .if1 .taken))
+returns c = let a = c .before .args in too-many (a .n) (a .own) (a .t1) (a .underway) (a .last) (c .if1 .taken)
 
 returns-2 : tie.Need-returns-2 Inv-loop μ-loop Inv-loop2 μ-loop2
-unfolding messagesJudged
-returns-2 c = rw (le-leb (c .before .before .args .underway) 64 (c .before .if1 .left), lt-leb (c .before .before .args .last) 1000000 (c .if2 .taken))
+returns-2 c = let a = c .before .before .args in too-high (a .n) (a .own) (a .t1) (a .underway) (a .last) (c .if2 .taken)
 
 loop-holds : tie.Need-loop-holds Inv-loop μ-loop Inv-loop2 μ-loop2
 loop-holds c = (search needs, refl)
@@ -67,7 +80,7 @@ returns-3 : tie.Need-returns-3 Inv-loop μ-loop Inv-loop2 μ-loop2
 returns-3 c =
     let b = c .before .before .before .before in
     let a = b .before .before .before .args in
-    unordered (a .n) (a .own) (a .t1) (a .underway) (a .last) (search needs) (search needs)
+    unordered (a .n) (a .own) (a .t1) (a .underway) (a .last)
     (ascent-stop numberOf (messageJudged (a .n) (a .last) (a .own)) (a .t1) (a .underway) (search needs) (b .loop .k) (b .loop .previous + 1) (record { number = 0; sender = 0; receiver = 0; vector = [] }) _ (search needs) (b .loop .inv .1) (c .before .is-message-sound .result) (c .before .is-message-sound .ensures) (rw (← above (b .loop .previous) (getD (a .t1) (b .loop .k) (record { number = 0; sender = 0; receiver = 0; vector = [] }) .number)) (not-true _ (c .if3 .taken))))
 
 add-k : tie.Need-add-k Inv-loop μ-loop Inv-loop2 μ-loop2
@@ -99,9 +112,8 @@ is-unused-requires c κs = search needs
 returns-4 : tie.Need-returns-4 Inv-loop μ-loop Inv-loop2 μ-loop2
 returns-4 c =
     let b = c .before .before .before .before in
-    let f = b .before .before in
-    let a = f .before .before .before .args in
-    leftover (a .n) (a .own) (a .t1) (a .underway) (a .last) (search needs) (search needs) (ascent-end numberOf (messageJudged (a .n) (a .last) (a .own)) (a .t1) (a .underway) (search needs) (f .loop .k) (f .loop .previous + 1) true _ (search needs) (f .loop .inv .1))
+    let a = b .before .before .before .before .before .args in
+    leftover (a .n) (a .own) (a .t1) (a .underway) (a .last)
     (every-stop unusedMessage (a .t1) (b .loop2 .k) (record { number = 0; sender = 0; receiver = 0; vector = [] }) (search needs) _ (b .loop2 .inv) (sym (c .before .is-unused .ensures) ∙ not-true _ (c .if4 .taken)))
 
 add-k-2 : tie.Need-add-k-2 Inv-loop μ-loop Inv-loop2 μ-loop2

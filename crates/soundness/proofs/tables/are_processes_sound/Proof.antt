@@ -1,146 +1,355 @@
--- `soundness::tables::are_processes_sound` meets its contract: all processes so far pass, and one that does not ends the loop; then what is left
--- of the unused rows decides. Assumes nothing.
-use mathlib.Core.List.{[]}
-use mathlib.Core.Bool.{true, _&&_}
+-- `soundness::tables::are_processes_sound` meets its contract. Each process is judged by a walk along its kept checkpoints, and one that fails ends the
+-- loop; then the places behind the kept checkpoints are joined, row by row, and what is joined is unused exactly if each of them is. Assumes nothing.
+use mathlib.Core.List.{List, []}
+use mathlib.Core.Bool.{Bool, true, _&&_}
 use mathlib.Core.Path.{_≡_, refl, _∙_, sym, ap}
-use Prim.Native.Nat.{_≤_, _-_}
+use Prim.Native.Nat.{ℕ, _≤_, _<_, _-_}
 use native.Mathlib.Omega.{arith}
-use lib.ListN.{getD, drop}
+use lib.ListN.{length, getD, drop}
+use denote.Struct.Declared.{row}
+use denote.Enum.Declared.{row as enum-row}
 use borrow.Author.Tests.{not-true, not-false}
 use borrow.Author.Needs.{needs}
-use Rattle.laws.specs.Rows.{all-stop, every-pass, every-stop, every-done}
 use Rattle.laws.specs.Loops.{all-zero, all-yes}
+use Rattle.laws.specs.Rows.{all-stop, all-turn, every-turn, every-end}
 use Rattle.laws.specs.Search.{allBelow}
 use Rattle.laws.specs.Tests.{every}
+use Rattle.model.specs.declared.Checkpoint.{Checkpoint}
+use Rattle.model.specs.declared.Pin.{Pin}
+use Rattle.model.specs.Words.{noCheckpoint, zeroVector}
 use Rattle.model.specs.Sound.{unusedCheckpoint}
-use Rattle.soundness.specs.Judged.{processSound}
+use Rattle.model.proofs.Checkpoint as checkpoint
+use Rattle.model.proofs.Pin as pin
+use Rattle.soundness.specs.Judged.{empty, vectorSound, fit, processSound, restUnused}
+use Rattle.soundness.proofs.OneProcess.{before-fails, low, high, judged}
+use Rattle.soundness.proofs.Sizes.{row-long}
+use Rattle.soundness.proofs.Vectors.{zero-sound}
+use Rattle.soundness.proofs.Walks.{Walked, none-walked, one-walked, all-walked}
 use Rattle.soundness.proofs.tables.are_processes_sound.Statement.{statement}
 use Rattle.soundness.proofs.tables.are_processes_sound.Tie as tie
 
-abbrev Inv-loop : tie.InvT-loop
-Inv-loop own n kept pins held p₀ p = (p ≤ n) × (true ≡ allBelow p (λ k. processSound n own k (getD kept k []) (getD pins k []) (getD held k 0)))
+abbrev Inv-processes : tie.InvT-processes
+Inv-processes n kept pins own held p₀ p = (p ≤ n) × (true ≡ allBelow p (λ k. processSound n own k (getD kept k []) (getD pins k []) (getD held k 0)))
 
-abbrev μ-loop : tie.MeasureT-loop
-μ-loop own n kept pins held p₀ p = n - p
+abbrev μ-processes : tie.MeasureT-processes
+μ-processes n kept pins own held p₀ p = n - p
 
-abbrev Inv-loop2 : tie.InvT-loop2
-Inv-loop2 n kept p₀ p = every (every unusedCheckpoint) (drop p kept) ≡ every (every unusedCheckpoint) (drop n kept)
+abbrev Inv-walk : tie.InvT-walk
+Inv-walk n kept pins own held p count last fits pinned walk₀ k₀ walk k = Walked pinned p own (getD kept p []) count k walk
 
-abbrev μ-loop2 : tie.MeasureT-loop2
-μ-loop2 n kept p₀ p = 16 - p
+abbrev μ-walk : tie.MeasureT-walk
+μ-walk n kept pins own held p count last fits pinned walk₀ k₀ walk k = count - k
 
-loop-holds : tie.Need-loop-holds Inv-loop μ-loop Inv-loop2 μ-loop2
-loop-holds c = (search needs, all-zero _)
+abbrev Inv-rows : tie.InvT-rows
+Inv-rows n kept held unused₀ q₀ unused q = (q ≤ 16) × (unusedCheckpoint unused ≡ allBelow q (λ k. restUnused (getD kept k []) (getD held k 0)))
 
-mul-row : tie.Need-mul-row Inv-loop μ-loop Inv-loop2 μ-loop2
-mul-row c = search needs
+abbrev μ-rows : tie.MeasureT-rows
+μ-rows n kept held unused₀ q₀ unused q = 16 - q
 
-array-copy-out-row : tie.Need-array-copy-out-row Inv-loop μ-loop Inv-loop2 μ-loop2
-array-copy-out-row c = search needs
+abbrev Inv-places : tie.InvT-places
+Inv-places n kept held unused₀ q from j₀ unused j = (unusedCheckpoint unused && every unusedCheckpoint (drop j (getD kept q []))) ≡ (unusedCheckpoint unused₀ && restUnused (getD kept q []) from)
 
-mul-pinned : tie.Need-mul-pinned Inv-loop μ-loop Inv-loop2 μ-loop2
-mul-pinned c = search needs
+abbrev μ-places : tie.MeasureT-places
+μ-places n kept held unused₀ q from j₀ unused j = 16 - j
 
-array-copy-out-pinned : tie.Need-array-copy-out-pinned Inv-loop μ-loop Inv-loop2 μ-loop2
-array-copy-out-pinned c = search needs
+-- A type that is stated for any invariants, at these.
+abbrev Here : (tie.InvT-walk → tie.MeasureT-walk → tie.InvT-processes → tie.MeasureT-processes → tie.InvT-places → tie.MeasureT-places → tie.InvT-rows → tie.MeasureT-rows → Type 0) → Type 0
+Here type = type Inv-walk μ-walk Inv-processes μ-processes Inv-places μ-places Inv-rows μ-rows
 
-mul-count : tie.Need-mul-count Inv-loop μ-loop Inv-loop2 μ-loop2
+-- The turn of the loop over processes that a place of the code is in, and the places on the way to it.
+abbrev turn : Here tie.After-is-fit → Here tie.At-processes
+turn c = c .before .before .before .before .before
+
+abbrev first-judged : Here tie.After-none-walked → Here tie.After-is-fit
+first-judged c = c .before .before .before
+
+abbrev walk-of : Here tie.After-is-walk-sound → Here tie.After-none-walked
+walk-of c = c .before .before .before
+
+-- The process of a turn: its number, its row, its pins and how many checkpoints it keeps.
+abbrev row-of : Here tie.At-processes → List Checkpoint
+row-of c = getD (c .before .args .t1) (c .processes .p) []
+
+abbrev pins-of : Here tie.At-processes → List Pin
+pins-of c = getD (c .before .args .t2) (c .processes .p) []
+
+abbrev held-of : Here tie.At-processes → ℕ
+held-of c = getD (c .before .args .t4) (c .processes .p) 0
+
+abbrev sound : Here tie.At-processes → ℕ → Bool
+sound c k = processSound (c .before .args .n) (c .before .args .t3) k (getD (c .before .args .t1) k []) (getD (c .before .args .t2) k []) (getD (c .before .args .t4) k 0)
+
+abbrev unused : Here tie.At-processes → ℕ → Bool
+unused c k = restUnused (getD (c .before .args .t1) k []) (getD (c .before .args .t4) k 0)
+
+-- What is asked before the walk has passed.
+first-passed : (c : Here tie.After-none-walked)
+    → fit (turn (first-judged c) .before .args .n) (turn (first-judged c) .processes .p) (first-judged c .before .last-stored .result) (pins-of (turn (first-judged c))) (held-of (turn (first-judged c))) ≡ true
+first-passed c = sym (first-judged c .is-fit .ensures) ∙ not-false _ (c .before .before .if1 .left)
+
+few : (c : Here tie.After-none-walked) → (1 ≤ held-of (turn (first-judged c))) × (held-of (turn (first-judged c)) ≤ 16)
+few c =
+    let q = turn (first-judged c) in
+    let a = q .before .args in
+    let l = first-judged c .before .last-stored in (
+      low (a .n) (a .t3) (q .processes .p) (row-of q) (pins-of q) (held-of q) (l .result) (l .ensures) (first-passed c),
+      omega (arith, high (a .n) (a .t3) (q .processes .p) (row-of q) (pins-of q) (held-of q) (l .result) (l .ensures) (first-passed c)),
+    )
+
+-- The rows of the tables are as long as their types say.
+kept-long : (c : Here tie.Start) (p : ℕ) → p < 16 → length (getD (c .args .t1) p []) ≡ 16
+kept-long c p h = row-long (row checkpoint.the-type) 16 16 (c .args .t1) _ (c .good .0) p h
+
+pins-long : (c : Here tie.Start) (p : ℕ) → p < 16 → length (getD (c .args .t2) p []) ≡ 16
+pins-long c p h = row-long (enum-row pin.the-type) 16 16 (c .args .t2) _ (c .good .1 .0) p h
+
+own-long : (c : Here tie.Start) → length (c .args .t3) ≡ 16
+own-long c = search needs
+
+process : (c : Here tie.In-processes) → c .before .processes .p < 16
+process c = search needs
+
+own-pin : (c : Here tie.In-processes) → c .before .processes .p < length (pins-of (c .before))
+own-pin c = rw (pins-long (c .before .before) (c .before .processes .p) (process c)) (process c)
+
+fits : (c : Here tie.After-none-walked) → held-of (turn (first-judged c)) ≤ length (row-of (turn (first-judged c)))
+fits c = let q = turn (first-judged c) in rw (kept-long (q .before) (q .processes .p) (process (first-judged c .before .before .before .before))) (few c .1)
+
+-- The walk's verdict is the process's.
+verdict : (c : Here tie.After-is-walk-sound) → c .is-walk-sound .result ≡ sound (turn (first-judged (walk-of c))) (turn (first-judged (walk-of c)) .processes .p)
+verdict c =
+    let f = walk-of c in
+    let w = c .before .before in
+    let q = turn (first-judged f) in
+    let a = q .before .args in
+    let i = q .processes .p in
+    let l = first-judged f .before .last-stored in
+    c .is-walk-sound .ensures (a .n) (search needs) (search needs)
+    ∙ all-walked (f .before .pinned-indexes .result) i (a .t3) (row-of q) (held-of q) (fits f) (w .walk .k) (w .walk .walk) (a .n) (l .result) (few f .0) (c .before .walk-test .left) (search needs) (search needs) (search needs) (w .walk .inv)
+    ∙ judged (a .n) (a .t3) i (row-of q) (pins-of q) (held-of q) (l .result) (l .ensures) (first-passed f) (fits f) (own-pin (first-judged f .before .before .before .before)) (f .before .pinned-indexes .result) (f .before .pinned-indexes .ensures)
+
+none-joined : unusedCheckpoint noCheckpoint ≡ true
+unfolding unusedCheckpoint vectorSound allBelow
+none-joined = zero-sound zeroVector 0 (omega arith)
+
+processes-holds : Here tie.Need-processes-holds
+processes-holds c = (search needs, all-zero _)
+
+mul-row-pins : Here tie.Need-mul-row-pins
+mul-row-pins c = search needs
+
+array-copy-out-row-pins : Here tie.Need-array-copy-out-row-pins
+array-copy-out-row-pins c = search needs
+
+mul-count : Here tie.Need-mul-count
 mul-count c = search needs
 
-array-read-count : tie.Need-array-read-count Inv-loop μ-loop Inv-loop2 μ-loop2
+array-read-count : Here tie.Need-array-read-count
 array-read-count c = search needs
 
-is-process-sound-requires : tie.Need-is-process-sound-requires Inv-loop μ-loop Inv-loop2 μ-loop2
-is-process-sound-requires c κs = search needs
+mul-x : Here tie.Need-mul-x
+mul-x c = search needs
 
-returns : tie.Need-returns Inv-loop μ-loop Inv-loop2 μ-loop2
+array-copy-out-x : Here tie.Need-array-copy-out-x
+array-copy-out-x c = search needs
+
+last-stored-requires : Here tie.Need-last-stored-requires
+last-stored-requires c κs = search needs
+
+is-fit-requires : Here tie.Need-is-fit-requires
+is-fit-requires c κs = search needs
+
+returns : Here tie.Need-returns
 returns c =
-    let b = c .before .before .before .before .before in
-    let a = b .before .args in
-    ap (λ t. t && every (every unusedCheckpoint) (drop (a .n) (a .t1))) (all-stop (a .n) (λ k. processSound (a .n) (a .own) k (getD (a .t1) k []) (getD (a .t2) k []) (getD (a .t4) k 0)) (b .loop .p) (search needs) (sym (c .before .is-process-sound .ensures) ∙ not-true _ (c .if1 .taken)))
+    let q = turn (c .before) in
+    let a = q .before .args in
+    let l = c .before .before .last-stored in
+    ap (λ t. t && allBelow 16 (unused q)) (all-stop (a .n) (sound q) (q .processes .p) (search needs) (sym (before-fails (a .n) (a .t3) (q .processes .p) (row-of q) (pins-of q) (held-of q) (l .result) (l .ensures) (sym (c .before .is-fit .ensures) ∙ not-true _ (c .if1 .taken)))))
 
-add-p : tie.Need-add-p Inv-loop μ-loop Inv-loop2 μ-loop2
+pinned-indexes-requires : Here tie.Need-pinned-indexes-requires
+pinned-indexes-requires c κs = search needs
+
+none-walked-requires : Here tie.Need-none-walked-requires
+none-walked-requires c κs = search needs
+
+walk-holds : Here tie.Need-walk-holds
+walk-holds c =
+    let q = turn (first-judged c) in
+    none-walked (c .before .pinned-indexes .result) (q .processes .p) (q .before .args .t3) (row-of q) (held-of q) (fits c) (c .none-walked .result) (c .none-walked .ensures)
+
+mul-c : Here tie.Need-mul-c
+mul-c c = search needs
+
+mul-c-2 : Here tie.Need-mul-c-2
+mul-c-2 c = search (needs, few (c .before .before))
+
+index-1-c : Here tie.Need-index-1-c
+index-1-c c = search needs
+
+index-2-c : Here tie.Need-index-2-c
+index-2-c c = search (needs, few (c .before .before))
+
+walked-requires : Here tie.Need-walked-requires
+walked-requires c κs = search needs
+
+add-k : Here tie.Need-add-k
+add-k c = search (needs, few (c .before .before .before .before))
+
+walk-less : Here tie.Need-walk-less
+walk-less c = search (needs, few (c .before .before .before .before))
+
+walk-again : Here tie.Need-walk-again
+walk-again c =
+    let w = c .before .before .before in
+    let f = w .before in
+    let q = turn (first-judged f) in
+    one-walked (f .before .pinned-indexes .result) (q .processes .p) (q .before .args .t3) (row-of q) (held-of q) (fits f) (w .walk .k) (w .walk .walk) (c .walked .result) (c .before .before .walk-test .taken) (own-long (q .before)) (w .walk .inv) (c .walked .ensures .0) (c .walked .ensures .1)
+
+is-walk-sound-requires : Here tie.Need-is-walk-sound-requires
+is-walk-sound-requires c κs = search needs
+
+returns-2 : Here tie.Need-returns-2
+returns-2 c =
+    let q = turn (first-judged (walk-of (c .before))) in
+    ap (λ t. t && allBelow 16 (unused q)) (all-stop (q .before .args .n) (sound q) (q .processes .p) (search needs) (sym (verdict (c .before)) ∙ not-true _ (c .if2 .taken)))
+
+add-p : Here tie.Need-add-p
 add-p c = search needs
 
-loop-less : tie.Need-loop-less Inv-loop μ-loop Inv-loop2 μ-loop2
-loop-less c = search needs
+processes-less : Here tie.Need-processes-less
+processes-less c = search needs
 
-loop-again : tie.Need-loop-again Inv-loop μ-loop Inv-loop2 μ-loop2
-loop-again c =
-    let b = c .before .before .before .before .before in
-    let a = b .before .args in
-    (search needs, all-yes (λ k. processSound (a .n) (a .own) k (getD (a .t1) k []) (getD (a .t2) k []) (getD (a .t4) k 0)) (b .loop .p) true (b .loop .inv .1) (sym (c .before .is-process-sound .ensures) ∙ not-false _ (c .if1 .left)))
+processes-again : Here tie.Need-processes-again
+processes-again c =
+    let q = turn (first-judged (walk-of (c .before))) in
+    (search needs, all-yes (sound q) (q .processes .p) true (q .processes .inv .1) (sym (verdict (c .before)) ∙ not-false _ (c .if2 .left)))
 
-loop2-holds : tie.Need-loop2-holds Inv-loop μ-loop Inv-loop2 μ-loop2
-loop2-holds c = refl
+no-checkpoint-requires : Here tie.Need-no-checkpoint-requires
+no-checkpoint-requires c κs = search needs
 
-mul-row-2 : tie.Need-mul-row-2 Inv-loop μ-loop Inv-loop2 μ-loop2
-mul-row-2 c = search needs
+rows-holds : Here tie.Need-rows-holds
+rows-holds c = (search needs, rw (c .no-checkpoint .ensures) none-joined ∙ all-zero _)
 
-array-copy-out-row-2 : tie.Need-array-copy-out-row-2 Inv-loop μ-loop Inv-loop2 μ-loop2
-array-copy-out-row-2 c = search needs
+mul-from : Here tie.Need-mul-from
+mul-from c = search needs
 
-unused-from-requires : tie.Need-unused-from-requires Inv-loop μ-loop Inv-loop2 μ-loop2
-unused-from-requires c κs = search needs
+array-read-from : Here tie.Need-array-read-from
+array-read-from c = search needs
 
-returns-2 : tie.Need-returns-2 Inv-loop μ-loop Inv-loop2 μ-loop2
-returns-2 c =
-    let b = c .before .before .before .before in
-    let f = b .before .before in
-    let a = f .before .args in
-    let e : f .loop .p ≡ a .n = omega arith in
-    let all : true ≡ allBelow (a .n) (λ k. processSound (a .n) (a .own) k (getD (a .t1) k []) (getD (a .t2) k []) (getD (a .t4) k 0)) = rw e at (f .loop .inv .1) in
-    every-stop (every unusedCheckpoint) (a .t1) (b .loop2 .p) [] (search needs) _ (b .loop2 .inv) (sym (c .before .unused-from .ensures) ∙ not-true _ (c .if2 .taken))
-    ∙ ap (λ t. t && every (every unusedCheckpoint) (drop (a .n) (a .t1))) all
+places-holds : Here tie.Need-places-holds
+unfolding restUnused
+places-holds c = refl
 
-add-p-2 : tie.Need-add-p-2 Inv-loop μ-loop Inv-loop2 μ-loop2
-add-p-2 c = search needs
+mul-place : Here tie.Need-mul-place
+mul-place c = search needs
 
-loop2-less : tie.Need-loop2-less Inv-loop μ-loop Inv-loop2 μ-loop2
-loop2-less c = search needs
+mul-place-2 : Here tie.Need-mul-place-2
+mul-place-2 c = search needs
 
-loop2-again : tie.Need-loop2-again Inv-loop μ-loop Inv-loop2 μ-loop2
-loop2-again c =
-    let b = c .before .before .before .before in
-    let a = b .before .before .before .args in
-    every-pass (every unusedCheckpoint) (a .t1) (b .loop2 .p) [] (search needs) _ (b .loop2 .inv) (sym (c .before .unused-from .ensures) ∙ not-false _ (c .if2 .left))
+index-1-place : Here tie.Need-index-1-place
+index-1-place c = search needs
 
-returns-3 : tie.Need-returns-3 Inv-loop μ-loop Inv-loop2 μ-loop2
+index-2-place : Here tie.Need-index-2-place
+index-2-place c = search needs
+
+joined-requires : Here tie.Need-joined-requires
+joined-requires c κs = search needs
+
+add-j : Here tie.Need-add-j
+add-j c = search needs
+
+places-less : Here tie.Need-places-less
+places-less c = search needs
+
+places-again : Here tie.Need-places-again
+places-again c =
+    let l = c .before .before .before in
+    let r = l .before .before in
+    let s = r .before .before .before .before in
+    rw (c .joined .ensures) (every-turn unusedCheckpoint (getD (s .args .t1) (r .rows .q) []) (l .places .j) empty (rw (kept-long s (r .rows .q) (search needs)) (c .before .before .places-test .taken)) (unusedCheckpoint (l .places .unused)) _ (l .places .inv))
+
+add-q : Here tie.Need-add-q
+add-q c = search needs
+
+rows-less : Here tie.Need-rows-less
+rows-less c = search needs
+
+rows-again : Here tie.Need-rows-again
+rows-again c =
+    let l = c .before in
+    let r = l .before .before in
+    let q = r .before .before .before in (
+      search needs,
+      every-end unusedCheckpoint (getD (q .before .args .t1) (r .rows .q) []) (l .places .j) (rw (kept-long (q .before) (r .rows .q) (search needs)) (c .places-test .left)) (unusedCheckpoint (l .places .unused)) _ (l .places .inv)
+          ∙ all-turn (unused q) (r .rows .q) (unusedCheckpoint (r .rows .unused)) (r .rows .inv .1),
+    )
+
+is-unused-requires : Here tie.Need-is-unused-requires
+is-unused-requires c κs = search needs
+
+returns-3 : Here tie.Need-returns-3
 returns-3 c =
-    let b = c .before in
-    let f = b .before .before in
-    let a = f .before .args in
-    let e : f .loop .p ≡ a .n = omega arith in
-    let all : true ≡ allBelow (a .n) (λ k. processSound (a .n) (a .own) k (getD (a .t1) k []) (getD (a .t2) k []) (getD (a .t4) k 0)) = rw e at (f .loop .inv .1) in
-    sym (every-done (every unusedCheckpoint) (a .t1) (b .loop2 .p) (search needs)) ∙ b .loop2 .inv
-    ∙ ap (λ t. t && every (every unusedCheckpoint) (drop (a .n) (a .t1))) all
+    let r = c .before .before in
+    let q = r .before .before .before in
+    let processes : q .processes .p ≡ q .before .args .n = omega arith in
+    let rows : r .rows .q ≡ 16 = omega arith in
+    let all : true ≡ allBelow (q .before .args .n) (sound q) = rw processes at (q .processes .inv .1) in
+    let rest : unusedCheckpoint (r .rows .unused) ≡ allBelow 16 (unused q) = rw rows at (r .rows .inv .1) in
+    c .is-unused .ensures ∙ rest ∙ ap (λ t. t && allBelow 16 (unused q)) all
 
 pub are-processes-sound-spec : {M : Type 1} → statement M
 are-processes-sound-spec =
     tie.close
     (tie.spec
-    Inv-loop
-    μ-loop
-    Inv-loop2
-    μ-loop2
-    loop-holds
-    mul-row
-    array-copy-out-row
-    mul-pinned
-    array-copy-out-pinned
+    Inv-walk
+    μ-walk
+    Inv-processes
+    μ-processes
+    Inv-places
+    μ-places
+    Inv-rows
+    μ-rows
+    processes-holds
+    mul-row-pins
+    array-copy-out-row-pins
     mul-count
     array-read-count
-    is-process-sound-requires
+    mul-x
+    array-copy-out-x
+    last-stored-requires
+    is-fit-requires
     returns
-    add-p
-    loop-less
-    loop-again
-    loop2-holds
-    mul-row-2
-    array-copy-out-row-2
-    unused-from-requires
+    pinned-indexes-requires
+    none-walked-requires
+    walk-holds
+    mul-c
+    mul-c-2
+    index-1-c
+    index-2-c
+    walked-requires
+    add-k
+    walk-less
+    walk-again
+    is-walk-sound-requires
     returns-2
-    add-p-2
-    loop2-less
-    loop2-again
+    add-p
+    processes-less
+    processes-again
+    no-checkpoint-requires
+    rows-holds
+    mul-from
+    array-read-from
+    places-holds
+    mul-place
+    mul-place-2
+    index-1-place
+    index-2-place
+    joined-requires
+    add-j
+    places-less
+    places-again
+    add-q
+    rows-less
+    rows-again
+    is-unused-requires
     returns-3)

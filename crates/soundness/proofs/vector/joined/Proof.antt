@@ -1,6 +1,5 @@
 -- `soundness::vector::joined` meets its contract. Assumes nothing.
 use borrow.Author.Needs.{needs}
-use mathlib.Core.Path.{_≡_}
 use Rattle.soundness.proofs.Vectors.{joined-sound}
 use Rattle.soundness.proofs.vector.joined.Statement.{statement}
 use Rattle.soundness.proofs.vector.joined.Tie as tie
@@ -9,7 +8,10 @@ take-in-requires : tie.Need-take-in-requires
 take-in-requires c κs = search needs
 
 returns : tie.Need-returns
-returns c = λ n own ho h z. rw (c .take-in .ensures) (joined-sound own (c .before .args .a) (c .before .args .b) n ho (search needs) (search needs) h z)
+returns c = (
+  c .take-in .ensures,
+  λ n own ho h z. rw (c .take-in .ensures) (joined-sound own (c .before .args .a) (c .before .args .b) n ho (search needs) (search needs) h z),
+)
 
 pub joined-spec : {M : Type 1} → statement M
 joined-spec = tie.close (tie.spec take-in-requires returns)

@@ -1,6 +1,6 @@
 -- What a walk along the kept checkpoints of a process gathers: the greatest entries so far, and which pinned indexes have met their checkpoint.
 -- Assumes nothing.
-use mathlib.Core.Path.{_≡_, refl, sym, _∙_, ap}
+use mathlib.Core.Path.{_≡_, refl, sym, _∙_}
 use mathlib.Core.Bool.{Bool, true, false, _&&_, _||_}
 use mathlib.Core.List.{List, map}
 use Prim.Native.Nat.{ℕ, _+_, _-_, _≤_, _<_}
@@ -8,18 +8,19 @@ use native.Mathlib.Omega.{arith}
 use lib.Dec.{eqb}
 use lib.ListN.{length, getD, take, drop, length-replicate, getD-replicate, replicate}
 use lib.Seq.{getD-take, length-take-le}
-use borrow.Author.Tests.{eq-eqb, ne-eqb}
+use borrow.Author.Tests.{eqb-true, eq-eqb}
 use Rattle.laws.specs.Elements.{same-test}
 use Rattle.laws.specs.Loops.{below-at, below-length}
-use Rattle.laws.specs.Rows.{every-turn, every-end, some-turn, some-end, every-at, every-by, and-true}
+use Rattle.laws.specs.Rows.{every-turn, every-end, some-turn, some-end, every-at, every-by}
 use Rattle.laws.specs.Tests.{every, some-of}
-use Rattle.laws.specs.Truth.{and-no-right}
 use Rattle.model.specs.declared.Interval.{Interval}
 use Rattle.model.specs.declared.CheckpointIndex.{CheckpointIndex}
 use Rattle.model.specs.declared.Checkpoint.{Checkpoint}
 use Rattle.model.specs.Words.{zeroVector}
-use Rattle.model.specs.Sound.{ascending, unusedCheckpoint}
-use Rattle.soundness.specs.Judged.{indexOf, empty, metBy, keepsIt, placeSound, rowSound, vectorSound}
+use Rattle.model.specs.Sound.{ascending, zeroFrom}
+use Rattle.soundness.specs.declared.kept.Walk.{Walk}
+use Rattle.soundness.specs.Judged.{indexOf, empty, metBy, keepsIt, placeSound, vectorSound, Joins, noneWalked, walkedOne, walkSound}
+use Rattle.soundness.proofs.Ascent.{ascent-turn, ascent-end}
 use Rattle.soundness.proofs.Vectors.{zero-sound}
 
 abbrev noIndex : CheckpointIndex
@@ -83,28 +84,59 @@ module _ (row : List Checkpoint) (held : ℕ) (fits : held ≤ length row) where
         (λ e. every-by (keepsIt (take held row)) pinned noIndex (λ j lt. sym (at j (omega arith)) ∙ every-at (λ b. b) met j false (omega arith) e))
         (λ e. every-by (λ b. b) met false (λ j lt. at j (omega arith) ∙ every-at (keepsIt (take held row)) pinned j noIndex (omega arith) e))
 
-module _ (n : ℕ) (own : List Interval) (p : ℕ) (last : CheckpointIndex) (pinned : List CheckpointIndex) (row : List Checkpoint) (held : ℕ) where
-  abbrev climbs : Bool
-  climbs = ascending 0 (map indexOf (take held row)) && every (placeSound pinned p) (take held row)
+one-above : (a b : ℕ) → eqb (a + 1) (b + 1) ≡ eqb a b
+one-above a b = same-test (eqb (a + 1) (b + 1)) (eqb a b)
+    (λ e. eq-eqb a b (omega (arith, eqb-true (a + 1) (b + 1) e)))
+    (λ e. eq-eqb (a + 1) (b + 1) (omega (arith, eqb-true a b e)))
 
-  abbrev rest : Bool
-  rest = every (λ c. vectorSound n own (c .vector)) (take held row) && every (keepsIt (take held row)) pinned
+-- After k turns of the walk along the kept checkpoints of process p: what is gathered decides, together with what is left.
+pub record Walked (pinned : List CheckpointIndex) (p : ℕ) (own : List Interval) (row : List Checkpoint) (held k : ℕ) (w : Walk) : Type 0 where
+  pub inside : k ≤ held
+  pub newest : 0 < k → w .low ≡ indexOf (getD row (k - 1) empty) + 1
+  pub passed : (w .ok && (ascending (w .low) (map indexOf (drop k (take held row))) && every (placeSound pinned p) (drop k (take held row))))
+      ≡ (ascending 0 (map indexOf (take held row)) && every (placeSound pinned p) (take held row))
+  pub within : (n : ℕ) → n ≤ 16 → zeroFrom n own ≡ true
+      → (vectorSound n own (w .most) && every (λ c. vectorSound n own (c .vector)) (drop k (take held row))) ≡ every (λ c. vectorSound n own (c .vector)) (take held row)
+  pub size : length (w .met) ≡ 16
+  pub met : (j : ℕ) → j < 16 → (getD (w .met) j false || keepsIt (drop k (take held row)) (getD pinned j noIndex)) ≡ keepsIt (take held row) (getD pinned j noIndex)
 
-  pub other-last : (indexOf (getD row (held - 1) empty) ≡ last .0 → ⊥) → false ≡ rowSound n own p last pinned row held
-  unfolding rowSound
-  other-last differs = rw (ne-eqb _ _ differs)
+module _ (pinned : List CheckpointIndex) (p : ℕ) (own : List Interval) (row : List Checkpoint) (held : ℕ) (fits : held ≤ length row) where
+  pub none-walked : (w : Walk) → w ≡ noneWalked → Walked pinned p own row held 0 w
+  unfolding noneWalked
+  none-walked w e = rw e record {
+    inside = omega arith;
+    newest = λ h. absurd (omega arith);
+    passed = refl;
+    within = λ n h z. within-start row held fits n own zeroVector h refl;
+    size = length-replicate 16 false;
+    met = λ j h. met-start row held fits pinned j h;
+  }
 
-  module _ (same : indexOf (getD row (held - 1) empty) ≡ last .0) where
-    pub place-fails : false ≡ (ascending 0 (map indexOf (take held row)) && every (placeSound pinned p) (take held row)) → false ≡ rowSound n own p last pinned row held
-    unfolding rowSound
-    place-fails e = rw (eq-eqb _ _ same, ← e)
+  pub one-walked : (k : ℕ) (w r : Walk) → k < held → length own ≡ 16 → Walked pinned p own row held k w
+      → r ≡ walkedOne pinned p w (getD row k empty) → Joins (w .most) (getD row k empty .vector) (r .most) → Walked pinned p own row held (k + 1) r
+  unfolding walkedOne
+  one-walked k w r h size so-far e joins = record {
+    inside = omega arith;
+    newest = λ more. let same : k + 1 - 1 ≡ k = omega arith in rw (same, e);
+    passed = rw e (ascent-turn indexOf (placeSound pinned p) row held fits k (w .low) empty (w .ok) _ h (so-far .passed));
+    within = λ n high z. within-turn row held fits n own k (w .most) (r .most) h (joins n own size high z) (so-far .within n high z);
+    size = rw e (met-size row held fits pinned (w .met) (getD row k empty .index) (so-far .size));
+    met = rw e (met-turn row held fits pinned (w .met) k h (so-far .size) (so-far .met));
+  }
 
-    module _ (up : true ≡ (ascending 0 (map indexOf (take held row)) && every (placeSound pinned p) (take held row))) where
-      pub unused-fails : false ≡ every unusedCheckpoint (drop held row) → false ≡ rowSound n own p last pinned row held
-      unfolding rowSound
-      unused-fails e = rw (eq-eqb _ _ same, ← up, ← e)
-
-      pub row-judged : true ≡ every unusedCheckpoint (drop held row)
-          → (every (λ c. vectorSound n own (c .vector)) (take held row) && every (keepsIt (take held row)) pinned) ≡ rowSound n own p last pinned row held
-      unfolding rowSound
-      row-judged e = rw (eq-eqb _ _ same, ← up, ← e)
+  -- The whole walk is judged by what it has gathered. The place behind the last index is one above the newest.
+  pub all-walked : (k : ℕ) (w : Walk) (n : ℕ) (last : CheckpointIndex) → 1 ≤ held → held ≤ k → length pinned ≡ 16 → n ≤ 16 → zeroFrom n own ≡ true → Walked pinned p own row held k w
+      → walkSound n own w last
+      ≡ ((ascending 0 (map indexOf (take held row)) && every (placeSound pinned p) (take held row)) && eqb (indexOf (getD row (held - 1) empty)) (last .0)
+      && every (λ c. vectorSound n own (c .vector)) (take held row) && every (keepsIt (take held row)) pinned)
+  unfolding walkSound
+  all-walked k w n last low h size high z so-far =
+      let all : k ≡ held = omega (arith, so-far .inside) in
+      let newest : w .low ≡ indexOf (getD row (held - 1) empty) + 1 = rw all at (so-far .newest (omega arith)) in
+      rw (
+        newest,
+        one-above (indexOf (getD row (held - 1) empty)) (last .0),
+        ascent-end indexOf (placeSound pinned p) row held fits k (w .low) (w .ok) _ h (so-far .passed),
+        within-end row held fits n own k (w .most) h (so-far .within n high z),
+        met-end row held fits pinned (w .met) k h (so-far .size) size (so-far .met),
+      )
