@@ -1,6 +1,6 @@
 // The library: start, checkpoint, send, deliver, lose, line and recover. Each takes any state and any arguments, and says in its contract what it
 // returns and what it leaves of the lists that it is lent, refused or accepted: specs/Outcomes of the crate model has the definitions.
-// A state that is not sound is refused first, with number 2. The rest is done by the functions of the crate steps.
+// A state that is not sound is refused first, with number 2. The rest is done by the crates steps and rollback, which ask plans what the call changes.
 use model::CheckpointAnswer;
 use model::DeliverAnswer;
 use model::LineAnswer;

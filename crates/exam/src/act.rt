@@ -18,7 +18,7 @@ pub(crate) fn start(n: usize) -> After
     let outcome = calls::start(n);
     let run = outcome.run;
     let answer = outcome.answer;
-    let said = lines::say::of_start(answer);
+    let said = output::say::of_start(answer);
     let refused = said.refused;
     After { run, refused }
 }
@@ -31,7 +31,7 @@ pub(crate) fn checkpoint(before: After, i: usize, length: usize) -> After
     let outcome = calls::checkpoint(before.run, i, &mut deleted[..length]);
     let run = outcome.run;
     let answer = outcome.answer;
-    let said = lines::say::of_checkpoint(answer);
+    let said = output::say::of_checkpoint(answer);
     let refused = said.refused;
     After { run, refused }
 }
@@ -42,7 +42,7 @@ pub(crate) fn send(before: After, i: usize, j: usize) -> After
     let outcome = calls::send(before.run, i, j);
     let run = outcome.run;
     let answer = outcome.answer;
-    let said = lines::say::of_send(answer);
+    let said = output::say::of_send(answer);
     let refused = said.refused;
     After { run, refused }
 }
@@ -55,7 +55,7 @@ pub(crate) fn deliver(before: After, m: u32, length: usize) -> After
     let outcome = calls::deliver(before.run, m, &mut deleted[..length]);
     let run = outcome.run;
     let answer = outcome.answer;
-    let said = lines::say::of_deliver(answer);
+    let said = output::say::of_deliver(answer);
     let refused = said.refused;
     After { run, refused }
 }
@@ -75,7 +75,7 @@ pub(crate) fn recover(before: After, failed: u16, length: usize, members: usize)
     );
     let run = outcome.run;
     let answer = outcome.answer;
-    let said = lines::say::of_recover(answer);
+    let said = output::say::of_recover(answer);
     let refused = said.refused;
     After { run, refused }
 }

@@ -186,7 +186,7 @@ pub(crate) fn recover(before: After, failed: u16) -> After {
     let answer = outcome.answer;
     indexes(b"written", failed, &line, n);
     recovery(failed, answer, &deleted);
-    let said = lines::say::of_recover(answer);
+    let said = output::say::of_recover(answer);
     let refused = said.refused;
     After { run, refused }
 }

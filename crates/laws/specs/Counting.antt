@@ -15,6 +15,12 @@ count-le (suc k) t = by-bool (t k)
     (λ e. rw e (omega (arith, count-le k t)))
     (λ e. rw e (omega (arith, count-le k t)))
 
+-- Two tests that agree below a bound count the same.
+pub count-same : (n : ℕ) (t u : ℕ → Bool) → ((k : ℕ) → k < n → t k ≡ u k) → countBelow n t ≡ countBelow n u
+unfolding countBelow
+count-same zero t u h = refl
+count-same (suc n) t u h = rw (h n (omega arith), count-same n t u (λ k lt. h k (omega arith)))
+
 -- Where none passes, the count is 0.
 pub count-none : (k : ℕ) (t : ℕ → Bool) → ((j : ℕ) → j < k → t j ≡ false) → countBelow k t ≡ 0
 unfolding countBelow

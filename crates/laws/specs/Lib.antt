@@ -1,5 +1,8 @@
+pub mod Below
 pub mod Bits
 pub mod Choice
+pub mod Conjunctions
+pub mod Copied
 pub mod Counting
 pub mod Elements
 pub mod Front

@@ -93,6 +93,14 @@ every-at t [] k d h e = absurd (omega arith)
 every-at t (x ∷ l) zero d h e = and-left (t x) (every t l) e
 every-at t (x ∷ l) (suc k) d h e = every-at t l k d (omega arith) (and-right (t x) (every t l) e)
 
+-- Every element behind a place passes: by index.
+pub every-behind : {A : Type 0} (t : A → Bool) (n : ℕ) (l : List A) (k : ℕ) (d : A) → every t (drop n l) ≡ true → n ≤ k → k < length l → t (getD l k d) ≡ true
+unfolding every
+every-behind t zero l k d e low under = every-at t l k d under e
+every-behind t (suc n) [] k d e low under = absurd (omega arith)
+every-behind t (suc n) (x ∷ l) zero d e low under = absurd (omega arith)
+every-behind t (suc n) (x ∷ l) (suc k) d e low under = every-behind t n l k d e (omega arith) (omega arith)
+
 pub every-by : {A : Type 0} (t : A → Bool) (l : List A) (d : A) → ((k : ℕ) → k < length l → t (getD l k d) ≡ true) → every t l ≡ true
 unfolding every
 every-by t [] d h = refl

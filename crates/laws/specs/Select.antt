@@ -1,6 +1,6 @@
 -- Laws of the elements that pass a test, of the last element, and of tests over lists: at ends, over rows of lists, over mapped lists.
 use mathlib.Core.Path.{_≡_, refl, sym, _∙_, ap}
-use mathlib.Core.Bool.{Bool, true, false, _&&_, _||_}
+use mathlib.Core.Bool.{Bool, true, false, not, _&&_, _||_}
 use mathlib.Core.List.{List, [], _∷_, _++_, map}
 use mathlib.Core.Option.{some}
 use Prim.Native.Nat.{ℕ, zero, suc, _≤_}
@@ -9,7 +9,8 @@ use lib.ListN.{length}
 use Rattle.laws.specs.Choice.{pick, by-bool}
 use Rattle.laws.specs.Lists.{select, lastOf, table, gather}
 use Rattle.laws.specs.Search.{anyBelow}
-use Rattle.laws.specs.Tests.{some-of}
+use Rattle.laws.specs.Tests.{every, some-of}
+use Rattle.laws.specs.Truth.{and-left, and-right}
 
 pub select-append : {A : Type 0} (t : A → Bool) (a b : List A) → select t (a ++ b) ≡ select t a ++ select t b
 unfolding select
@@ -36,6 +37,17 @@ select-length t [] = omega arith
 select-length t (x ∷ l) = by-bool (t x)
     (λ e. rw e (omega (arith, select-length t l)))
     (λ e. rw e (omega (arith, select-length t l)))
+
+-- Where every element passes, all are chosen, and none by the opposite test.
+pub all-chosen : {A : Type 0} (t : A → Bool) (l : List A) → every t l ≡ true → select t l ≡ l
+unfolding every select
+all-chosen t [] e = refl
+all-chosen t (x ∷ l) e = rw (and-left (t x) (every t l) e, all-chosen t l (and-right (t x) (every t l) e))
+
+pub none-chosen : {A : Type 0} (t : A → Bool) (l : List A) → every t l ≡ true → select (λ x. not (t x)) l ≡ []
+unfolding every select
+none-chosen t [] e = refl
+none-chosen t (x ∷ l) e = rw (and-left (t x) (every t l) e) (none-chosen t l (and-right (t x) (every t l) e))
 
 pub map-append : {A B : Type 0} (g : A → B) (a b : List A) → map g (a ++ b) ≡ map g a ++ map g b
 map-append g [] b = refl

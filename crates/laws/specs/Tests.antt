@@ -18,3 +18,7 @@ every t (x ∷ l) = t x && every t l
 unfoldable pub some-of : {A : Type 0} → (A → Bool) → List A → Bool
 some-of t [] = false
 some-of t (x ∷ l) = t x || some-of t l
+
+-- all tests of a list hold
+abbrev pub allOf : List Bool → Bool
+allOf tests = every (λ b. b) tests

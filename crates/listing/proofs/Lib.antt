@@ -1,3 +1,5 @@
+-- Laws that belong to no one function.
 pub mod Bounds
 mod Digits
+pub mod Said
 pub mod Texts

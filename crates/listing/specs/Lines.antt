@@ -9,13 +9,13 @@ use Rattle.listing.specs.declared.Value.{Value}
 use Rattle.listing.specs.declared.Value.the-variants.{Hyphen, Number}
 use Rattle.listing.specs.declared.Summary.{Summary}
 
-unfoldable pub valueOf : Value → Option ℕ
-valueOf Hyphen = none
-valueOf (Number v) = some v
+unfoldable pub valueIn : Value → Option ℕ
+valueIn Hyphen = none
+valueIn (Number v) = some v
 
 -- The reply that a summary and a deletion list make. A line prints nothing of a line list.
 unfoldable pub replyOf : Summary → List ℕ → Reply
-replyOf s deleted = record { report = record { refused = s .refused; value = valueOf (s .value); deletions = s .deletions }; deleted = deleted; line = [] }
+replyOf s deleted = record { report = record { refused = s .refused; value = valueIn (s .value); deletions = s .deletions }; deleted = deleted; line = [] }
 
 -- "each as process:index", behind a space
 unfoldable pub pairText : ℕ → ℕ → List ℕ

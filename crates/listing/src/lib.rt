@@ -5,7 +5,7 @@ ghost use mathlib.Core.List.{[], _∷_};
 ghost use Prim.Native.Nat.{_*_, _≤_};
 ghost use lib.ListN.{length};
 ghost use Rattle.model.specs.Listing.{decimal, valueText, deletionsText, acceptedText, lineText};
-ghost use Rattle.listing.specs.Lines.{valueOf, replyOf, pairText};
+ghost use Rattle.listing.specs.Lines.{valueIn, replyOf, pairText};
 ghost use Rattle.listing.specs.Printed.{Room, Printed};
 
 // The value of a line: a hyphen where there is none.
@@ -70,8 +70,8 @@ fn write_byte(out: &mut [u8], at: usize, byte: u8) -> usize
 }
 
 fn write_value(out: &mut [u8], at: usize, value: Value) -> usize
-    requires { ⌜ Room (now out) at (valueText (valueOf value)) ⌝ }
-    ensures { λ r. ⌜ Printed (now (out .entry)) at (valueText (valueOf value)) (now (out .exit)) r ⌝ }
+    requires { ⌜ Room (now out) at (valueText (valueIn value)) ⌝ }
+    ensures { λ r. ⌜ Printed (now (out .entry)) at (valueText (valueIn value)) (now (out .exit)) r ⌝ }
 {
     match value {
         Value::Hyphen => write_byte(out, at, b'-'),

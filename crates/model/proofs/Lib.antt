@@ -1,3 +1,4 @@
+-- Laws that belong to no one function.
 pub mod Blocks
 pub mod Exam
 pub mod Records

@@ -1,55 +1,101 @@
--- A state that calls from a start reach is full up to what it holds: a row of kept checkpoints is the kept ones laid into 16 places, and where the messages
--- in transit are taken away the table of messages is that of none.
+-- A sound state is full up to what it holds: behind the messages under way and behind the kept checkpoints of a process, each place is the unused one.
+-- So a table of the state is its own used front laid into a table, and one process's part put back into the state changes nothing.
 -- Assumes nothing.
-use mathlib.Core.Path.{_≡_, sym, _∙_, ap}
-use mathlib.Core.List.{List, [], _++_}
-use Prim.Native.Nat.{ℕ, _+_, _-_, _≤_, _<_}
+use mathlib.Core.Path.{_≡_, refl, ap, _∙_}
+use mathlib.Core.Bool.{Bool, true}
+use mathlib.Core.List.{List, [], _∷_}
+use Prim.Native.Nat.{ℕ, zero, suc, _-_, _<_}
+use native.Mathlib.Nat.{min-eq-left}
 use native.Mathlib.Omega.{arith}
-use lib.ListN.{length, getD, take, replicate, length-replicate, getD-replicate}
-use lib.Seq.{ext-getD, getD-append-add}
+use borrow.Author.Tests.{eqb-true}
+use lib.Dec.{eqb}
+use lib.ListN.{length, getD, take, drop, replicate, length-take}
 use Rattle.laws.specs.Lists.{placed}
-use Rattle.laws.specs.Loops.{setBelow, below-length, below-above, below-at}
-use Rattle.laws.specs.Prefixes.{placed-length}
-use Rattle.laws.specs.Rows.{by-lt}
+use Rattle.laws.specs.Tests.{every}
+use Rattle.laws.specs.Truth.{and-left, and-right, and-out}
+use Rattle.model.specs.declared.Interval.{Interval}
+use Rattle.model.specs.declared.Checkpoint.{Checkpoint}
 use Rattle.model.specs.declared.Message.{Message}
 use Rattle.model.specs.declared.Run.{Run}
-use Rattle.model.specs.Words.{noCheckpoint, noMessage, process, underWay}
-use Rattle.model.specs.WholeRuns.{Reachable}
-use Rattle.model.proofs.WholeRuns.{reachable-sound}
-use Rattle.steps.specs.Facts.{underway-most}
-use Rattle.steps.specs.Filled.{messages-filled, messages-many, row-filled, row-many}
-use Rattle.plans.proofs.Sizes.{reachable-sized}
+use Rattle.model.specs.Words.{places, mostUnderWay, zeroVector, noCheckpoint, noMessage, process, underWay}
+use Rattle.model.specs.Sound.{zeroFrom, unusedCheckpoint, unusedMessage, sound}
+use Rattle.model.specs.laws.Sound.{sound-state}
+use Rattle.plans.specs.Sized.{Sized}
+use Rattle.plans.proofs.Facts.{place, held-places}
 
-pub kept-placed : (s : Run) → Reachable s → (p : ℕ) → p < s .count
-    → (getD (s .kept .0) p [] ≡ placed 16 noCheckpoint (take (getD (s .held) p 0) (getD (s .kept .0) p [])))
-    × (length (take (getD (s .held) p 0) (getD (s .kept .0) p [])) ≡ getD (s .held) p 0)
-unfolding process
-kept-placed s v p lt = (row-filled s (reachable-sized s v) (reachable-sound s v) p lt, row-many s (reachable-sized s v) (reachable-sound s v) p lt)
+-- A list whose entries from place k on pass a test, where an entry that passes is x: it is its first k entries, filled up with x.
+module _ {A : Type 0} (t : A → Bool) (x : A) where
+  pub filled : (k : ℕ) (l : List A) → every t (drop k l) ≡ true → ((j : ℕ) → j < length l → t (getD l j x) ≡ true → getD l j x ≡ x)
+      → l ≡ placed (length l) x (take k l)
+  unfolding placed every
+  filled zero [] e h = refl
+  filled (suc k) [] e h = refl
+  filled zero (y ∷ l) e h =
+      let one : y ≡ x = h 0 (omega arith) (and-left (t y) (every t l) e) in
+      let rest = filled zero l (and-right (t y) (every t l) e) (λ j lt. h (suc j) (omega arith)) in
+      let size : suc (length l) - 0 ≡ suc (length l - 0) = omega arith in
+      rw size (ap (λ (z : A). z ∷ l) one ∙ ap (λ (r : List A). x ∷ r) rest)
+  filled (suc k) (y ∷ l) e h =
+      let rest = filled k l e (λ j lt. h (suc j) (omega arith)) in
+      let size : suc (length l) - suc (length (take k l)) ≡ length l - length (take k l) = omega arith in
+      rw size (ap (λ (r : List A). y ∷ r) rest)
 
--- A table with its used places made unused.
-module _ {A : Type 0} (size : ℕ) (x : A) (l : List A) (few : length l ≤ size) where
-  past : (k : ℕ) → length l ≤ k → k < size → getD (placed size x l) k x ≡ x
-  unfolding placed
-  past k le lt =
-      let place : k ≡ length l + (k - length l) = omega arith in
-      ap (λ (j : ℕ). getD (l ++ replicate (size - length l) x) j x) place
-      ∙ getD-append-add l (replicate (size - length l) x) (k - length l) x
-      ∙ getD-replicate (size - length l) (k - length l) x x (omega arith)
+-- An unused vector is the vector of zeros, where it has 16 entries,
+pub zero-vector : (v : List Interval) → zeroFrom 0 v ≡ true → length v ≡ places → v ≡ zeroVector
+unfolding zeroFrom placed
+zero-vector v e n =
+    filled (λ x. eqb (x .0) 0) (record { 0 = 0 }) 0 v e (λ j lt q. ap (λ (k : ℕ). record { 0 = k }) (eqb-true (getD v j (record { 0 = 0 }) .0) 0 q))
+    ∙ ap (λ (k : ℕ). replicate k zero-entry) size
+  where
+    zero-entry : Interval
+    zero-entry = record { 0 = 0 }
 
-  all-unused : setBelow (length l) (λ k. x) (placed size x l) ≡ replicate size x
-  all-unused =
-      let long : length (setBelow (length l) (λ k. x) (placed size x l)) ≡ size = below-length (λ k. x) (placed size x l) (length l) ∙ placed-length size x l few in
-      ext-getD x (setBelow (length l) (λ k. x) (placed size x l)) (replicate size x) (long ∙ sym (length-replicate size x))
-      (λ k lt. let inside : k < size = omega arith in
-      by-lt k (length l)
-      (λ less. below-at (λ k. x) (placed size x l) (length l) k x less (omega (arith, placed-length size x l few)))
-      (λ le. below-above (λ k. x) (placed size x l) (length l) k x le ∙ past k le inside)
-      ∙ sym (getD-replicate size k x x inside))
+    size : length v - 0 ≡ places
+    size = omega (arith, n)
 
-pub messages-cleared : (s : Run) → Reachable s → setBelow (s .underway) (λ k. noMessage) (s .messages) ≡ replicate 64 noMessage
-messages-cleared s v =
-    let sound = reachable-sound s v in
-    let many = messages-many s (reachable-sized s v) sound in
-    ap (λ (k : ℕ). setBelow k (λ k. noMessage) (s .messages)) (sym many)
-    ∙ ap (λ (l : List Message). setBelow (length (underWay s)) (λ k. noMessage) l) (messages-filled s (reachable-sized s v) sound)
-    ∙ all-unused 64 noMessage (underWay s) (omega (arith, many, underway-most s sound))
+-- and so are an unused checkpoint and an unused message.
+pub zero-checkpoint : (c : Checkpoint) → unusedCheckpoint c ≡ true → length (c .vector) ≡ places → c ≡ noCheckpoint
+unfolding unusedCheckpoint
+zero-checkpoint c e n =
+    let q = and-out (eqb (c .index .0) 0) (zeroFrom 0 (c .vector)) e in
+    λ j. record { index = record { 0 = eqb-true (c .index .0) 0 (q .0) j }; vector = zero-vector (c .vector) (q .1) n j }
+
+pub zero-message : (x : Message) → unusedMessage x ≡ true → length (x .vector) ≡ places → x ≡ noMessage
+unfolding unusedMessage
+zero-message x e n =
+    let d = and-out _ (zeroFrom 0 (x .vector)) e in
+    let c = and-out _ (eqb (x .receiver) 0) (d .0) in
+    let b = and-out (eqb (x .number) 0) (eqb (x .sender) 0) (c .0) in
+    λ j. record {
+      number = eqb-true (x .number) 0 (b .0) j;
+      sender = eqb-true (x .sender) 0 (b .1) j;
+      receiver = eqb-true (x .receiver) 0 (c .1) j;
+      vector = zero-vector (x .vector) (d .1) n j;
+    }
+
+module _ (s : Run) (size : Sized s) (h : sound s ≡ true) where
+  -- the table of messages
+  pub messages-filled : s .messages ≡ placed mostUnderWay noMessage (underWay s)
+  unfolding underWay
+  messages-filled =
+      filled unusedMessage noMessage (s .underway) (s .messages) (sound-state s h .messages-unused)
+      (λ j lt e. zero-message (getD (s .messages) j noMessage) e (size .carried j (omega (arith, size .messages))))
+      ∙ ap (λ (n : ℕ). placed n noMessage (take (s .underway) (s .messages))) (size .messages)
+
+  pub messages-many : length (underWay s) ≡ s .underway
+  unfolding underWay
+  messages-many = rw length-take (min-eq-left (omega (arith, sound-state s h .underway-most, size .messages)))
+
+  -- the row of the kept checkpoints of a process, and how many they are
+  module _ (p : ℕ) (lt : p < s .count) where
+    pub row-filled : getD (s .kept .0) p [] ≡ placed places noCheckpoint (process s p .kept)
+    unfolding process
+    row-filled =
+        filled unusedCheckpoint noCheckpoint (getD (s .held) p 0) (getD (s .kept .0) p []) (sound-state s h .processes p lt .row-unused)
+        (λ j less e. zero-checkpoint (getD (getD (s .kept .0) p []) j noCheckpoint) e (size .stored p j (place s h p lt) (omega (arith, size .kept-row p (place s h p lt)))))
+        ∙ ap (λ (n : ℕ). placed n noCheckpoint (take (getD (s .held) p 0) (getD (s .kept .0) p []))) (size .kept-row p (place s h p lt))
+
+    pub row-many : length (process s p .kept) ≡ getD (s .held) p 0
+    unfolding process
+    row-many =
+        rw length-take (min-eq-left (omega (arith, held-places s h p lt, size .kept-row p (place s h p lt))))

@@ -1,6 +1,4 @@
 pub mod Carried
-pub mod Moved
 pub mod Planned
-pub mod Recovering
-pub mod Restored
-pub mod Restores
+pub mod Sized
+pub mod Tables

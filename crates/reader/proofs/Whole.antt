@@ -17,8 +17,8 @@ use Rattle.model.specs.Trace.{decoded}
 use Rattle.model.specs.Listing.{perform, records, stateAfterRecords}
 use Rattle.trace.specs.Answers.{recordAt}
 use Rattle.reader.specs.declared.Reader.{Reader}
-use Rattle.reader.specs.Reading.{recordAfter, recordLeft, takenAfter, opened, advanced}
-use Rattle.reader.specs.Whole.{handedOn, turned, parts, leftOver, joined, linesOf, stateOf, Partition, ReadsWhole, RecordByRecord}
+use Rattle.reader.specs.Reading.{recordAfter, recordLeft, takenAfter, newReader, readerAfter}
+use Rattle.reader.specs.Whole.{handedOn, turned, parts, leftOver, joined, linesOfParts, stateAfterParts, Partition, ReadsWhole, RecordByRecord}
 
 -- Bytes of a record or more, and fewer.
 parts-more : (l : List ℕ) → 4 ≤ length l → parts l ≡ take 4 l ∷ parts (drop 4 l)
@@ -79,16 +79,16 @@ fewer-than-four (a ∷ b ∷ c ∷ []) = omega arith
 fewer-than-four (a ∷ b ∷ c ∷ d ∷ l) = fewer-than-four l
 
 -- What the model says of the bytes, it says of the parts.
-same-lines : (l : List ℕ) (done : ℕ) (s : Run) → records done s l ≡ linesOf done s (parts l) (leftOver l)
-unfolding parts leftOver records linesOf
+same-lines : (l : List ℕ) (done : ℕ) (s : Run) → records done s l ≡ linesOfParts done s (parts l) (leftOver l)
+unfolding parts leftOver records linesOfParts
 same-lines [] done s = refl
 same-lines (a ∷ []) done s = refl
 same-lines (a ∷ b ∷ []) done s = refl
 same-lines (a ∷ b ∷ c ∷ []) done s = refl
 same-lines (a ∷ b ∷ c ∷ d ∷ l) done s = rw (same-lines l (done + 1) (perform s (decoded (a ∷ b ∷ c ∷ d ∷ [])) .run))
 
-same-state : (l : List ℕ) (s : Run) → stateAfterRecords s l ≡ stateOf s (parts l)
-unfolding parts stateAfterRecords stateOf
+same-state : (l : List ℕ) (s : Run) → stateAfterRecords s l ≡ stateAfterParts s (parts l)
+unfolding parts stateAfterRecords stateAfterParts
 same-state [] s = refl
 same-state (a ∷ []) s = refl
 same-state (a ∷ b ∷ []) s = refl
@@ -129,8 +129,8 @@ module _ (s : RefT (List ℕ)) where
     next-left : leftOver (behind j) ≡ leftOver (behind (j + 1))
     next-left = left-more (behind j) room ∙ ap leftOver (behind-next j)
 
-    next-at : advanced (at j) ≡ at (j + 1)
-    unfolding advanced takenAfter
+    next-at : readerAfter (at j) ≡ at (j + 1)
+    unfolding readerAfter takenAfter
     next-at = rw left
 
     next-handed : (k : ℕ) → handedOn (suc k) (at j) ≡ take 4 (behind j) ∷ handedOn k (at (j + 1))
@@ -143,8 +143,8 @@ module _ (s : RefT (List ℕ)) where
     unfolding recordLeft
     no-room = omega (arith, leb-false (1 + 4 * j + 4) (length (now s)) none-left, length-drop (1 + 4 * j) (now s))
 
-    stays-at : advanced (at j) ≡ at j
-    unfolding advanced takenAfter
+    stays-at : readerAfter (at j) ≡ at j
+    unfolding readerAfter takenAfter
     stays-at = rw none-left
 
     stopped : (k : ℕ) → turned k (at j) ≡ at j
@@ -199,13 +199,13 @@ module _ (s : RefT (List ℕ)) where
       ap behind same ∙ ends k (j + 1) (omega (arith, count-next j e)) ∙ sym (next-left j e))
       (λ e. ends-here j e)
 
-  at-start : opened s ≡ at 0
-  unfolding opened
+  at-start : newReader s ≡ at 0
+  unfolding newReader
   at-start = refl
 
   reads-whole : (k : ℕ) → length (parts (drop 1 (now s))) ≤ k → ReadsWhole s k
   reads-whole k h =
-      let then : turned k (opened s) .taken ≡ 0 + length (parts (behind 0)) = ap (λ (r : Reader). turned k r .taken) at-start ∙ ap (λ (r : Reader). r .taken) (come k 0 h) in
+      let then : turned k (newReader s) .taken ≡ 0 + length (parts (behind 0)) = ap (λ (r : Reader). turned k r .taken) at-start ∙ ap (λ (r : Reader). r .taken) (come k 0 h) in
       record {
         all-parts = ap (handedOn k) at-start ∙ handed k 0 h;
         counted = then ∙ omega arith;

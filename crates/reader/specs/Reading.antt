@@ -23,8 +23,8 @@ unfoldable pub takenAfter : List ℕ → ℕ → ℕ
 takenAfter trace taken = pick (recordLeft trace taken) (taken + 1) taken
 
 -- A reader that has taken nothing, and the reader behind the next record.
-unfoldable pub opened : RefT (List ℕ) → Reader
-opened trace = record { trace = trace; taken = 0 }
+unfoldable pub newReader : RefT (List ℕ) → Reader
+newReader trace = record { trace = trace; taken = 0 }
 
-unfoldable pub advanced : Reader → Reader
-advanced r = record { trace = r .trace; taken = takenAfter (now (r .trace)) (r .taken) }
+unfoldable pub readerAfter : Reader → Reader
+readerAfter r = record { trace = r .trace; taken = takenAfter (now (r .trace)) (r .taken) }

@@ -14,16 +14,16 @@ use Rattle.model.specs.declared.Refusal.the-variants.{LeftOverBytes}
 use Rattle.model.specs.Trace.{decoded}
 use Rattle.model.specs.Listing.{perform, lineText, refusalText, mostRecords, records, stateAfterRecords}
 use Rattle.reader.specs.declared.Reader.{Reader}
-use Rattle.reader.specs.Reading.{recordAfter, recordLeft, opened, advanced}
+use Rattle.reader.specs.Reading.{recordAfter, recordLeft, newReader, readerAfter}
 
 -- What a reader hands on in k turns, each of which takes a record if one is left; and the reader behind them.
 unfoldable pub handedOn : ℕ → Reader → List (List ℕ)
 handedOn zero r = []
-handedOn (suc k) r = pick (recordLeft (now (r .trace)) (r .taken)) (recordAfter (now (r .trace)) (r .taken) ∷ handedOn k (advanced r)) []
+handedOn (suc k) r = pick (recordLeft (now (r .trace)) (r .taken)) (recordAfter (now (r .trace)) (r .taken) ∷ handedOn k (readerAfter r)) []
 
 unfoldable pub turned : ℕ → Reader → Reader
 turned zero r = r
-turned (suc k) r = turned k (advanced r)
+turned (suc k) r = turned k (readerAfter r)
 
 -- The four-byte parts of the bytes behind the first one, in their order, and the one to three bytes left over.
 unfoldable pub parts : List ℕ → List (List ℕ)
@@ -45,33 +45,33 @@ joined [] = []
 joined (p ∷ ps) = p ++ joined ps
 
 -- The replay of parts one by one: the lines, where `done` records were taken before, and the state.
-unfoldable pub linesOf : ℕ → Run → List (List ℕ) → List ℕ → List ℕ
-linesOf done s [] [] = []
-linesOf done s [] (b ∷ over) = pick (ltb done mostRecords) (refusalText (done + 1) LeftOverBytes) []
-linesOf done s (p ∷ ps) over =
+unfoldable pub linesOfParts : ℕ → Run → List (List ℕ) → List ℕ → List ℕ
+linesOfParts done s [] [] = []
+linesOfParts done s [] (b ∷ over) = pick (ltb done mostRecords) (refusalText (done + 1) LeftOverBytes) []
+linesOfParts done s (p ∷ ps) over =
     let o = perform s (decoded p) in
-    pick (ltb done mostRecords) (lineText (done + 1) (o .reply) ++ linesOf (done + 1) (o .run) ps over) []
+    pick (ltb done mostRecords) (lineText (done + 1) (o .reply) ++ linesOfParts (done + 1) (o .run) ps over) []
 
-unfoldable pub stateOf : Run → List (List ℕ) → Run
-stateOf s [] = s
-stateOf s (p ∷ ps) = stateOf (perform s (decoded p) .run) ps
+unfoldable pub stateAfterParts : Run → List (List ℕ) → Run
+stateAfterParts s [] = s
+stateAfterParts s (p ∷ ps) = stateAfterParts (perform s (decoded p) .run) ps
 
 -- The parts and the left-over bytes are the bytes, each once and in their order, and what the model says of the bytes is what is said of them.
 pub record Partition (l : List ℕ) : Type 0 where
   pub nothing-lost : joined (parts l) ++ leftOver l ≡ l
   pub four-bytes : every (λ p. eqb (length p) 4) (parts l) ≡ true
   pub fewer-than-four : length (leftOver l) < 4
-  pub same-lines : (done : ℕ) (s : Run) → records done s l ≡ linesOf done s (parts l) (leftOver l)
-  pub same-state : (s : Run) → stateAfterRecords s l ≡ stateOf s (parts l)
+  pub same-lines : (done : ℕ) (s : Run) → records done s l ≡ linesOfParts done s (parts l) (leftOver l)
+  pub same-state : (s : Run) → stateAfterRecords s l ≡ stateAfterParts s (parts l)
 
 -- A reader opened on a trace, after as many turns as the trace has records or more.
 pub record ReadsWhole (trace : RefT (List ℕ)) (k : ℕ) : Type 0 where
   -- it has handed on the parts of the trace and nothing else
-  pub all-parts : handedOn k (opened trace) ≡ parts (drop 1 (now trace))
+  pub all-parts : handedOn k (newReader trace) ≡ parts (drop 1 (now trace))
   -- its count is how many they are
-  pub counted : turned k (opened trace) .taken ≡ length (parts (drop 1 (now trace)))
+  pub counted : turned k (newReader trace) .taken ≡ length (parts (drop 1 (now trace)))
   -- behind it are the left-over bytes
-  pub left-behind : drop (1 + 4 * turned k (opened trace) .taken) (now trace) ≡ leftOver (drop 1 (now trace))
+  pub left-behind : drop (1 + 4 * turned k (newReader trace) .taken) (now trace) ≡ leftOver (drop 1 (now trace))
 
 -- "It hands a record on as the part of the trace with its four bytes": for every trace.
 abbrev pub RecordByRecord : Type 0

@@ -2,7 +2,7 @@
 // of the trace with its four bytes, not as a copy." The prover covers no function over a struct that holds a reference, so the functions over
 // `Reader` are thin, over covered ones with plain parameters, and each is proved by hand. Every trace and every count will do.
 ghost use mathlib.Core.Path.{_≡_};
-ghost use Rattle.reader.specs.Reading.{recordAfter, recordLeft, takenAfter, opened, advanced};
+ghost use Rattle.reader.specs.Reading.{recordAfter, recordLeft, takenAfter, newReader, readerAfter};
 
 // The whole trace, first byte included, and how many of its records were taken.
 pub struct Reader<'a> {
@@ -21,7 +21,7 @@ fn part_behind<'a>(trace: &'a [u8], taken: usize) -> &'a [u8]
     }
 }
 
-fn left_behind(trace: &[u8], taken: usize) -> bool
+pub fn record_left(trace: &[u8], taken: usize) -> bool
     ensures { λ r. ⌜ r ≡ recordLeft (now (trace .entry)) taken ⌝ }
 {
     if taken < trace.len() / 4 {
@@ -33,7 +33,7 @@ fn left_behind(trace: &[u8], taken: usize) -> bool
 fn count_behind(trace: &[u8], taken: usize) -> usize
     ensures { λ r. ⌜ r ≡ takenAfter (now (trace .entry)) taken ⌝ }
 {
-    if left_behind(trace, taken) {
+    if record_left(trace, taken) {
         taken + 1
     } else {
         taken
@@ -42,7 +42,7 @@ fn count_behind(trace: &[u8], taken: usize) -> usize
 
 // A reader that has taken nothing.
 pub fn open<'a>(trace: &'a [u8]) -> Reader<'a>
-    ensures { λ r. ⌜ r ≡ opened (trace .entry) ⌝ }
+    ensures { λ r. ⌜ r ≡ newReader (trace .entry) ⌝ }
 {
     Reader { trace, taken: 0 }
 }
@@ -51,7 +51,7 @@ pub fn open<'a>(trace: &'a [u8]) -> Reader<'a>
 pub fn has_record<'a>(r: Reader<'a>) -> bool
     ensures { λ b. ⌜ b ≡ recordLeft (now (r .entry .trace)) (r .entry .taken) ⌝ }
 {
-    left_behind(r.trace, r.taken)
+    record_left(r.trace, r.taken)
 }
 
 // The record that is next, as the part of the trace with its four bytes; the empty part where none is left.
@@ -63,7 +63,7 @@ pub fn next_record<'a>(r: Reader<'a>) -> &'a [u8]
 
 // The reader behind that record: the count is one higher, or as it was where no record is left.
 pub fn advance<'a>(r: Reader<'a>) -> Reader<'a>
-    ensures { λ q. ⌜ q ≡ advanced (r .entry) ⌝ }
+    ensures { λ q. ⌜ q ≡ readerAfter (r .entry) ⌝ }
 {
     Reader {
         trace: r.trace,

@@ -1,141 +1,123 @@
 // Replays the trace on standard input: a line on standard output for each record. It only moves bytes between the two; what they mean is said and
-// proved in `playback`. Memory does not grow with the trace. What was replayed is written before more is read, so that no line that is due is lost
+// proved in `replay_block`. Memory does not grow with the trace. What was replayed is written before more is read, so that no line that is due is lost
 // when the input fails or stalls. An error of the system is said on standard error, and ends the replay.
+
+// position.rt: where the replay stands, and what it asks of the system
+mod position;
+
 use libc::STDIN_FILENO;
-use libc::STDOUT_FILENO;
-use model::Run;
-ghost use Prim.Native.Nat.{_-_, _*_, _≤_, _<_};
+use position::Ended;
+use position::Passed;
+use position::Position;
+ghost use mathlib.Core.Path.{_≡_};
+ghost use Prim.Native.Nat.{_+_, _*_, _≤_, _<_};
 ghost use lib.ListN.{length};
 ghost use Rattle.model.specs.WholeRuns.{Reachable};
 ghost use Rattle.listing.specs.Lines.{longestLine};
-ghost use Rattle.replay.specs.Shows.{Shows, Finished};
+ghost use Rattle.replay.specs.Positions.{Passes, Finished, ReplaysHeld};
 
-// Whether all of these lines are written.
-fn put(lines: &[u8]) -> bool {
-    let is_written = io::write_all(STDOUT_FILENO, lines);
-    if !is_written {
-        os::fail(b"replay: standard output");
-    }
-    is_written
-}
-
-// The state and the count of records behind a block, how many of its bytes are used, and whether their lines could not be written.
-struct Shown {
-    run: Run,
-    done: u64,
-    used: usize,
-    failed: bool,
+// The next records of a block, as many as `replay_block` takes at once: their lines are put. The block is the first byte of the trace and the bytes held.
+fn pass(p: Position, block: &[u8], out: &mut [u8]) -> Passed
+    requires { ⌜ Reachable (p .run) × (p .done < 1000000000) × (4 ≤ p .held) × (length (now block) ≡ 1 + p .held) × (longestLine ≤ length (now out)) ⌝ }
+    ensures { λ r. ⌜ Passes p (now (block .entry)) (r .position) × (r .position .held < p .held) ⌝ }
+{
+    let run = p.run();
+    let step = replay_block::block::replay(run, p.done(), block, out);
+    let next = step.run;
+    let taken = step.taken;
+    let written = step.written;
+    let to = 1 + 4 * taken;
+    position::put(p, &block[1..to], taken, next, &out[..written])
 }
 
 // Every whole record of a block, up to the last that a replay takes.
-fn show(s: Run, done: u64, block: &[u8], out: &mut [u8]) -> Shown
-    requires { ⌜ Reachable s × (done ≤ 1000000000) × (longestLine ≤ length (now out)) ⌝ }
-    ensures { λ r. ⌜ Shows s done (now (block .entry)) (r .run) (r .done) (r .used) ⌝ }
-    ensures { λ r. ⌜ Reachable (r .run) × (r .done ≤ 1000000000) ⌝ }
-    ensures { λ r. ⌜ Finished (r .failed) (r .done) (length (now (block .entry))) (r .used) ⌝ }
+fn pass_all(p: Position, block: &[u8], out: &mut [u8]) -> Passed
+    requires { ⌜ Reachable (p .run) × (p .done ≤ 1000000000) × (length (now block) ≡ 1 + p .held) × (longestLine ≤ length (now out)) ⌝ }
+    ensures { λ r. ⌜ Passes p (now (block .entry)) (r .position) × Finished p (r .failed) (r .position) ⌝ }
 {
-    let mut run = s;
-    let mut count = done;
-    let mut used = 0;
-    while count < 1000000000 && 4 <= block.len() - used {
-        let p = playback::block::replay(run, count, &block[used..], out);
-        let written = p.written;
-        let is_put = put(&out[..written]);
-        run = p.run;
-        count = p.done;
-        used += p.used;
-        if !is_put {
-            return Shown {
-                run,
-                done: count,
-                used,
-                failed: true,
-            };
+    let held = p.held();
+    let mut at = p;
+    while at.done() < 1000000000 && 4 <= at.held() {
+        let used = held - at.held();
+        let passed = pass(at, &block[used..], out);
+        at = passed.position;
+        if passed.failed {
+            return passed;
         }
     }
-    Shown {
-        run,
-        done: count,
-        used,
+    Passed {
         failed: false,
+        position: at,
     }
 }
 
-// What a read answered, and how many bytes the buffer then holds.
-struct Filled {
-    got: isize,
-    held: usize,
+// The same of the bytes in the buffer; those that are left over are moved to its front, behind the first byte.
+fn replay_held(p: Position, input: &mut [u8], out: &mut [u8]) -> Passed
+    requires { ⌜ Reachable (p .run) × (p .held + 4 * p .done ≤ 4000000000) × (1 + p .held ≤ length (now input)) × (longestLine ≤ length (now out)) ⌝ }
+    ensures { λ r. ⌜ ReplaysHeld p (now (input .entry)) (r .failed) (r .position) (now (input .exit)) ⌝ }
+{
+    let held = p.held();
+    let size = 1 + held;
+    let passed = pass_all(p, &input[..size], out);
+    let at = passed.position;
+    output::buffer::keep(input, 1, size - at.held(), size);
+    passed
 }
 
-// One read behind the bytes held, and not past the last record that a replay takes.
-fn fill(done: u64, held: usize, input: &mut [u8]) -> Filled
-    requires { ⌜ (done < 1000000000) × (held < 4) × (longestLine ≤ length (now input)) ⌝ }
-    ensures { λ r. ⌜ (r .held ≤ length (now (input .entry))) × (r .held ≤ 4 * (1000000000 - done)) ⌝ }
+// The end of the input: 13 where bytes are left over, or nothing.
+fn finish(p: Position, input: &[u8], out: &mut [u8]) -> Ended
+    requires { ⌜ (p .held < 4) × (1 + p .held ≤ length (now input)) × (longestLine ≤ length (now out)) ⌝ }
 {
-    let to = lines::buffer::fill_to(done, input.len());
-    let got = libc::read(STDIN_FILENO, &mut input[held..to]);
-    let more = io::count(got, &input[held..to]);
-    Filled {
-        got,
-        held: held + more,
-    }
+    let size = 1 + p.held();
+    let written = output::ends::end(p.done(), &input[1..size], out);
+    position::put_rest(p, &input[1..size], &out[..written])
 }
 
-// The records of a trace, block by block. The bytes of a record that has not arrived whole stay at the front of the buffer.
-fn replay(s: Run, input: &mut [u8], out: &mut [u8])
-    requires { ⌜ Reachable s × (longestLine ≤ length (now input)) × (longestLine ≤ length (now out)) ⌝ }
+// The records of a trace, read by read. Each read brings a byte or more, and a replay reads 4,000,000,000 of them at most.
+fn replay(from: Position, input: &mut [u8], out: &mut [u8]) -> Ended
+    requires { ⌜ Reachable (from .run) × (from .done ≡ 0) × (from .held ≡ 0) × (longestLine ≤ length (now input)) × (longestLine ≤ length (now out)) ⌝ }
 {
-    let mut run = s;
-    let mut done: u64 = 0;
-    let mut held = 0;
-    // Each turn reads a byte or more, and a replay reads 4,000,000,000 of them at most.
-    let mut turns: u64 = 4000000000;
-    while 0 < turns && done < 1000000000 {
-        let filled = fill(done, held, input);
-        if filled.got < 0 {
+    let mut at = from;
+    while at.done() < 1000000000 {
+        let filled = position::fill(at, input);
+        if filled.failed {
             os::fail(b"replay: standard input");
-            return;
+            return position::end_by_error(filled.failed);
         }
-        if filled.got == 0 {
-            let size = lines::ends::end(done, &input[..held], out);
-            put(&out[..size]);
-            return;
+        if filled.more == 0 {
+            return finish(at, input, out);
         }
-        let size = filled.held;
-        let shown = show(run, done, &input[..size], out);
-        if shown.failed {
-            return;
+        let behind = replay_held(filled.position, input, out);
+        if behind.failed {
+            return position::end_by_error(behind.failed);
         }
-        run = shown.run;
-        done = shown.done;
-        held = lines::buffer::keep(input, shown.used, size);
-        turns -= 1;
+        at = behind.position;
     }
+    position::end_at_the_last(at)
 }
 
 // The first byte, and what follows from it.
-fn start(input: &mut [u8], out: &mut [u8])
+fn start(input: &mut [u8], out: &mut [u8]) -> Ended
     requires { ⌜ (longestLine ≤ length (now input)) × (longestLine ≤ length (now out)) ⌝ }
 {
-    let mut byte = [0u8; 1];
-    let got = libc::read(STDIN_FILENO, &mut byte);
-    if got < 0 {
+    let got = libc::read(STDIN_FILENO, &mut input[..1]);
+    let failed = got < 0;
+    if failed {
         os::fail(b"replay: standard input");
-        return;
+        return position::end_by_error(failed);
     }
     if got == 0 {
-        let size = lines::ends::empty(out);
-        put(&out[..size]);
-        return;
+        let size = output::ends::empty(out);
+        return position::put_whole(&input[..0], &out[..size]);
     }
-    let first = lines::ends::first(byte[0], out);
+    let n = input[0];
+    let first = output::ends::first(n, out);
     let run = first.run;
     if first.started {
-        replay(run, input, out);
-        return;
+        return replay(position::begin(n, run), input, out);
     }
     let written = first.written;
-    put(&out[..written]);
+    position::put_whole(&input[..1], &out[..written])
 }
 
 fn main() {

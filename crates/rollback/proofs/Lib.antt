@@ -1,2 +1,9 @@
 -- Laws that belong to no one function.
-pub mod Outside
+pub mod LineCall
+pub mod Members
+pub mod Performed
+pub mod RecoverCall
+pub mod Recovered
+pub mod Recovering
+pub mod Restores
+pub mod Returning

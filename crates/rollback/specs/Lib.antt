@@ -1,5 +1,4 @@
 pub mod After
-pub mod LineCall
 pub mod Members
-pub mod RecoverCall
-pub mod Recovered
+pub mod Restored
+pub mod Returned

@@ -4,17 +4,18 @@ use model::Interval;
 use model::LineAnswer;
 use model::Refusal;
 use model::Run;
+use plans::Verdict;
+use rows::line::Latest;
 ghost use mathlib.Core.Path.{_≡_};
-ghost use mathlib.Core.Bool.{true};
-ghost use Prim.Native.Nat.{ℕ, _<_, _≤_, _^_};
-ghost use lib.Dec.{leb};
-ghost use lib.ListN.{length, getD};
+ghost use mathlib.Core.Bool.{true, false};
+ghost use Prim.Native.Nat.{_≤_};
+ghost use lib.ListN.{length, getD, take};
 ghost use lib.Seq.{sets};
 ghost use Rattle.laws.specs.Lists.{table};
-ghost use Rattle.model.specs.Words.{entry};
 ghost use Rattle.model.specs.Sound.{sound};
 ghost use Rattle.model.specs.Outcomes.{lineOutcome};
-ghost use Rattle.rollback.specs.Members.{liveOf, membersOf, membersIn, noState, OwnAtLeastOne, HeldAtMost};
+ghost use Rattle.rows.specs.Line.{latestBy, latestIs};
+ghost use Rattle.rollback.specs.Members.{membersOf, membersIn, noState, OwnAtLeastOne, HeldAtMost};
 
 // What a line call returns beside the lent list.
 pub struct LineOutcome {
@@ -29,25 +30,23 @@ pub struct Members {
     pub states: [Checkpoint; 16],
 }
 
-// The failed set has a bit at n or above: something is left of it once its lowest n bits are gone.
-pub fn is_outside(failed: u16, n: usize) -> bool
-    ensures { λ r. ⌜ r ≡ leb (2 ^ n) failed ⌝ }
+// The latest allowed one of the first `held` checkpoints of a row. Where the live state is allowed it is not asked for, and the row is left alone: it is
+// large.
+fn latest_unless(
+    allowed: bool,
+    row: [Checkpoint; 16],
+    held: usize,
+    owns: [Interval; 16],
+    marks: [bool; 16],
+) -> Latest
+    requires { ⌜ held ≤ 16 ⌝ }
+    ensures { λ r. ⌜ (allowed ≡ false → r ≡ latestIs (latestBy marks owns (take held row))) ⌝ }
 {
-    let mut left = failed;
-    for k in 0..n {
-        left = left / 2;
+    if allowed {
+        rows::line::none_allowed()
+    } else {
+        rows::line::latest_kept(row, held, owns, marks)
     }
-    1 <= left
-}
-
-// The live state of process p as a checkpoint, from its current vector.
-fn live_of(vector: [Interval; 16], p: usize) -> Checkpoint
-    requires { ⌜ (p < 16) × (1 ≤ entry vector p .0) ⌝ }
-    ensures { λ r. ⌜ r ≡ liveOf p vector ⌝ }
-{
-    let own = vector[p];
-    let index = rows::vector::live_index(own);
-    Checkpoint { index, vector }
 }
 
 // The members of n processes, from the rows of all of them.
@@ -70,11 +69,11 @@ fn find_members(
         let vector = vectors[p];
         let row = kept[p];
         let count = held[p];
-        let live = live_of(vector, p);
-        let latest = rows::line::latest_allowed(row, count, live, owns, marks);
-        let member = rows::line::member_of(latest, live);
+        let allowed = rows::line::is_allowed(vector, owns, marks);
+        let latest = latest_unless(allowed, row, count, owns, marks);
+        let member = rows::recovery::member(vector, p, latest, allowed);
         states[p] = member;
-        let found = latest.found;
+        let found = allowed | latest.found;
         all = all & found;
     }
     Members { all, states }
@@ -126,12 +125,9 @@ pub fn line(s: Run, failed: u16, line: &mut [u16]) -> LineOutcome
     if line.len() < n {
         return refuse(s, Refusal::ListTooShort);
     }
-    if failed == 0 {
-        return refuse(s, Refusal::NobodyFailed);
-    }
-    let outside = is_outside(failed, n);
-    if outside {
-        return refuse(s, Refusal::NoSuchFailedProcess);
+    let verdict = plans::recovery_verdict(failed as u32, n);
+    if let Verdict::Refused(why) = verdict {
+        return refuse(s, why);
     }
     let members = members_of(s, failed);
     let all = members.all;

@@ -1,6 +1,6 @@
 pub mod Deletions
 pub mod Kept
 pub mod Line
-pub mod Plans
+pub mod Receipt
 pub mod Recovery
-pub mod Settling
+pub mod Turn

@@ -1,40 +1,29 @@
 -- Recover on the rows of one process: what a rollback to the line's member leaves of its vector, pins and kept checkpoints, where the own entries after
--- the recovery are given as a row. Below the definitions stands that they say what Steps says of the whole state.
+-- the recovery are given as a row. proofs/Restoring has that they say what Steps says of the whole state.
 -- Assumes nothing.
-use mathlib.Core.Path.{_≡_, refl, ap, sym, _∙_}
-use mathlib.Core.Bool.{Bool, true, false, not, _&&_, _||_}
-use mathlib.Core.List.{List, [], _∷_, _++_, append-nil}
-use Prim.Native.Nat.{ℕ, _+_, _-_, _<_}
-use native.Mathlib.Omega.{arith}
-use borrow.Author.Tests.{eq-eqb, eqb-true, ltb-true, ltb-false, le-leb, lt-leb, le-ltb}
+use mathlib.Core.Bool.{Bool, true, false, _&&_, _||_}
+use mathlib.Core.List.{List}
+use Prim.Native.Nat.{ℕ}
 use lib.Dec.{eqb, leb, ltb}
-use lib.ListN.{length, getD, take, replicate}
-use Rattle.laws.specs.Choice.{pick, by-bool}
-use Rattle.laws.specs.Elements.{every-append, every-single}
+use lib.ListN.{getD}
+use Rattle.laws.specs.Choice.{pick}
 use Rattle.laws.specs.Lists.{select, lastOf, table}
-use Rattle.laws.specs.Prefixes.{select-yes, select-no, every-select, every-last}
-use Rattle.laws.specs.Rows.{or-false}
-use Rattle.laws.specs.Select.{select-append, lastOf-snoc}
-use Rattle.laws.specs.Tables.{getD-table, table-same, table-replicate}
-use Rattle.laws.specs.Tests.{every}
-use Rattle.laws.specs.Truth.{or-in-right}
 use Rattle.model.specs.declared.Interval.{Interval}
 use Rattle.model.specs.declared.CheckpointIndex.{CheckpointIndex}
 use Rattle.model.specs.declared.Pin.{Pin}
 use Rattle.model.specs.declared.Pin.the-variants.{Nothing, At}
 use Rattle.model.specs.declared.Checkpoint.{Checkpoint}
-use Rattle.model.specs.declared.Run.{Run}
-use Rattle.model.specs.Words.{places, entry, below, liveIndex, lastStored, named, Process, process, live, own}
-use Rattle.model.specs.Steps.{listed, advanced, allowed, states, latestAllowed, latestPin, member, rolledBack, vectorAfter, notLost, ownAfter, movedPin, pinAfter, pinsAfter, recovered, deletedAt}
+use Rattle.model.specs.Words.{places, entry, below, liveIndex, named}
+use Rattle.model.specs.Steps.{advanced, latestPin}
 use Rattle.rows.specs.declared.recovery.Found.{Found}
 
 -- a member with this index is stored, and not the live state
 unfoldable pub isStored : CheckpointIndex → Interval → Bool
-isStored a own = ltb (a .0) (liveIndex own .0)
+isStored a ownEntry = ltb (a .0) (liveIndex ownEntry .0)
 
 -- "takes that vector with 1 added to its own entry", where it rolls back
-unfoldable pub vectorThen : Bool → ℕ → List Interval → List Interval → List Interval
-vectorThen rolled p stored current = pick rolled (advanced p stored) current
+unfoldable pub restoredVector : Bool → ℕ → List Interval → List Interval → List Interval
+restoredVector rolled p stored current = pick rolled (advanced p stored) current
 
 -- the checkpoints that are not later than one with this index
 unfoldable pub notLater : CheckpointIndex → List Checkpoint → List Checkpoint
@@ -42,76 +31,36 @@ notLater last l = select (λ c. leb (c .index .0) (last .0)) l
 
 -- "names the latest checkpoint with entry f below own(f)" among these, "none if there is none"
 unfoldable pub movedTo : Interval → ℕ → List Checkpoint → Pin
-movedTo own f l = latestPin (lastOf (select (λ c. below (entry (c .vector) f) own) l))
+movedTo ownEntry f l = latestPin (lastOf (select (λ c. below (entry (c .vector) f) ownEntry) l))
 
 -- the pin for f
-unfoldable pub pinThen : Bool → List Interval → List Interval → List Checkpoint → List Pin → ℕ → Pin
-pinThen rolled v owns l pins f = pick (eqb (entry v f .0) (entry owns f .0)) (pick rolled (movedTo (entry owns f) f l) (getD pins f Nothing)) Nothing
+unfoldable pub restoredPin : Bool → List Interval → List Interval → List Checkpoint → List Pin → ℕ → Pin
+restoredPin rolled v owns l pins f = pick (eqb (entry v f .0) (entry owns f .0)) (pick rolled (movedTo (entry owns f) f l) (getD pins f Nothing)) Nothing
 
-unfoldable pub pinsThen : Bool → List Interval → List Interval → List Checkpoint → List Pin → List Pin
-pinsThen rolled v owns l pins = table places (pinThen rolled v owns l pins)
+unfoldable pub restoredPins : Bool → List Interval → List Interval → List Checkpoint → List Pin → List Pin
+restoredPins rolled v owns l pins = table places (restoredPin rolled v owns l pins)
 
 -- neither lost nor without a pin
 unfoldable pub stays : CheckpointIndex → List Pin → Checkpoint → Bool
 stays last pins c = leb (c .index .0) (last .0) && named pins c
-
-module _ (s : Run) (F p : ℕ) where
-  pub stored-in-state : isStored (member s F p .index) (own s p) ≡ rolledBack s F p
-  unfolding isStored rolledBack
-  stored-in-state = refl
-
-  pub vector-in-state : vectorThen (rolledBack s F p) p (member s F p .vector) (process s p .vector) ≡ vectorAfter s F p
-  unfolding vectorThen vectorAfter
-  vector-in-state = refl
-
-  -- a row of the own entries after the recovery: own(f) at every place f
-  pub pins-in-state : (owns : List Interval) → ((f : ℕ) → f < 16 → entry owns f ≡ ownAfter s F f)
-      → pinsThen (rolledBack s F p) (vectorAfter s F p) owns (notLost s F p) (process s p .pins) ≡ pinsAfter s F p
-  unfolding pinsThen pinThen movedTo pinsAfter pinAfter movedPin
-  pins-in-state owns h = table-same 16 _ _ (λ f lt. rw (h f lt))
-
-  pub kept-in-state : select (named (pinsAfter s F p)) (notLost s F p) ≡ recovered s F p .kept
-  unfolding recovered
-  kept-in-state = refl
-
-  pub deleted-in-state : listed p (select (λ c. not (stays (member s F p .index) (pinsAfter s F p) c)) (process s p .kept)) ≡ deletedAt s F p
-  unfolding stays deletedAt
-  deleted-in-state = refl
-
--- A stored checkpoint is at most the last stored one.
-pub stored-up-to-last : (a : CheckpointIndex) (own : Interval) → 0 < own .0 → leb (a .0) (lastStored own .0) ≡ isStored a own
-unfolding isStored
-stored-up-to-last a own h = by-bool (ltb (a .0) (own .0))
-    (λ e. le-leb (a .0) (own .0 - 1) (omega (arith, ltb-true (a .0) (own .0) e)) ∙ sym e)
-    (λ e. lt-leb (a .0) (own .0 - 1) (omega (arith, ltb-false (a .0) (own .0) e)) ∙ sym e)
-
--- Nothing is stored where the own entry is 0.
-pub stored-none : (a : CheckpointIndex) (own : Interval) → own .0 ≡ 0 → false ≡ isStored a own
-unfolding isStored
-stored-none a own h = sym (le-ltb (a .0) (own .0) (omega arith))
 
 -- A pin as a mark and an index, and back.
 unfoldable pub isAt : Pin → Bool
 isAt Nothing = false
 isAt (At a) = true
 
-unfoldable pub indexOf : Pin → ℕ
-indexOf Nothing = 0
-indexOf (At a) = a .0
+unfoldable pub pinIndex : Pin → ℕ
+pinIndex Nothing = 0
+pinIndex (At a) = a .0
 
 unfoldable pub pinFrom : Bool → ℕ → Pin
 pinFrom mark index = pick mark (At (record { 0 = index })) Nothing
 
-pub pin-from : (pin : Pin) → pinFrom (isAt pin) (indexOf pin) ≡ pin
-unfolding isAt indexOf pinFrom
-pin-from Nothing = refl
-pin-from (At a) = refl
-
 -- for each f, the latest of these with entry f below own(f)
-unfoldable pub foundIn : List Interval → List Checkpoint → Found
-foundIn owns l = record {
+unfoldable pub latestFound : List Interval → List Checkpoint → Found
+latestFound owns l = record {
   marks = table places (λ f. isAt (movedTo (entry owns f) f l));
-  indexes = table places (λ f. indexOf (movedTo (entry owns f) f l));
+  indexes = table places (λ f. pinIndex (movedTo (entry owns f) f l));
 }
 
 -- what is found with one checkpoint more, later than all before it: one that is lost changes nothing
@@ -123,98 +72,6 @@ foundWith owns last found c = pick (leb (c .index .0) (last .0))
     })
     found
 
--- A search for these through a row: before its first entry,
-pub found-none : (owns : List Interval) (last : CheckpointIndex) → foundIn owns (notLater last []) ≡ record { marks = replicate 16 false; indexes = replicate 16 0 }
-unfolding foundIn notLater movedTo latestPin select lastOf isAt indexOf
-found-none owns last = let none : ℕ = 0 in rw (table-replicate 16 false, table-replicate 16 none)
-
--- and with one entry more. First each process's part of it, with one that is not lost,
-moved-snoc : (own : Interval) (f : ℕ) (l : List Checkpoint) (c : Checkpoint)
-    → movedTo own f (l ++ (c ∷ [])) ≡ pick (below (entry (c .vector) f) own) (At (c .index)) (movedTo own f l)
-unfolding movedTo latestPin select
-moved-snoc own f l c = by-bool (below (entry (c .vector) f) own)
-    (λ e. rw (select-append, e, lastOf-snoc))
-    (λ e. rw (select-append, e, append-nil))
-
-mark-snoc : (own : Interval) (f : ℕ) (l : List Checkpoint) (c : Checkpoint)
-    → (isAt (movedTo own f l) || below (entry (c .vector) f) own) ≡ isAt (movedTo own f (l ++ (c ∷ [])))
-unfolding isAt
-mark-snoc own f l c = rw (moved-snoc own f l c) (by-bool (below (entry (c .vector) f) own)
-    (λ e. rw e (or-in-right (isAt (movedTo own f l)) true refl))
-    (λ e. rw e (or-false (isAt (movedTo own f l)))))
-
-index-snoc : (own : Interval) (f : ℕ) (l : List Checkpoint) (c : Checkpoint)
-    → pick (below (entry (c .vector) f) own) (c .index .0) (indexOf (movedTo own f l)) ≡ indexOf (movedTo own f (l ++ (c ∷ [])))
-unfolding indexOf
-index-snoc own f l c = rw (moved-snoc own f l c) (by-bool (below (entry (c .vector) f) own) (λ e. rw e) (λ e. rw e))
-
-found-both : (x : Found) (m : List Bool) (i : List ℕ) → m ≡ x .marks → i ≡ x .indexes → _≡_ {A = Found} (record { marks = m; indexes = i }) x
-found-both x m i e f = rw (e, f)
-
--- then all of it, with one that is not lost,
-found-snoc : (owns : List Interval) (last : CheckpointIndex) (l : List Checkpoint) (c : Checkpoint) → leb (c .index .0) (last .0) ≡ true
-    → foundWith owns last (foundIn owns l) c ≡ foundIn owns (l ++ (c ∷ []))
-unfolding foundWith foundIn
-found-snoc owns last l c e = rw e (found-both (foundIn owns (l ++ (c ∷ []))) _ _
-    (table-same 16 _ _ (λ f lt. rw (getD-table 16 (λ f. isAt (movedTo (entry owns f) f l)) f false lt) (mark-snoc (entry owns f) f l c)))
-    (table-same 16 _ _ (λ f lt. rw (getD-table 16 (λ f. indexOf (movedTo (entry owns f) f l)) f 0 lt) (index-snoc (entry owns f) f l c))))
-
--- with one that is,
-found-lost : (owns : List Interval) (last : CheckpointIndex) (found : Found) (c : Checkpoint) → leb (c .index .0) (last .0) ≡ false → foundWith owns last found c ≡ found
-unfolding foundWith
-found-lost owns last found c e = rw e
-
--- and with either.
-pub found-more : (owns : List Interval) (last : CheckpointIndex) (row : List Checkpoint) (k : ℕ) (d : Checkpoint) → k < length row
-    → (found more : Found) → found ≡ foundIn owns (notLater last (take k row)) → more ≡ foundWith owns last found (getD row k d)
-    → more ≡ foundIn owns (notLater last (take (k + 1) row))
-unfolding notLater
-found-more owns last row k d h found more e m = by-bool (leb (getD row k d .index .0) (last .0))
-    (λ yes. m ∙ rw (e, select-yes (λ c. leb (c .index .0) (last .0)) row k d h yes) (found-snoc owns last _ (getD row k d) yes))
-    (λ no. m ∙ found-lost owns last found (getD row k d) no ∙ e ∙ rw (select-no (λ c. leb (c .index .0) (last .0)) row k d h no))
-
--- The pins at what was found are the moved ones.
-pub found-pins : (owns : List Interval) (l : List Checkpoint)
-    → table 16 (λ f. pinFrom (getD (foundIn owns l .marks) f false) (getD (foundIn owns l .indexes) f 0)) ≡ table 16 (λ f. movedTo (entry owns f) f l)
-unfolding foundIn
-found-pins owns l = table-same 16 _ _ (λ f lt.
-    rw (getD-table 16 (λ f. isAt (movedTo (entry owns f) f l)) f false lt, getD-table 16 (λ f. indexOf (movedTo (entry owns f) f l)) f 0 lt)
-    (pin-from (movedTo (entry owns f) f l)))
-
--- The pins of a rolled-back process, and of another.
-pub pins-rolled : (v owns : List Interval) (l : List Checkpoint) (pins moved : List Pin) → moved ≡ table 16 (λ f. movedTo (entry owns f) f l)
-    → table 16 (λ f. pick (eqb (entry v f .0) (entry owns f .0)) (getD moved f Nothing) Nothing) ≡ pinsThen true v owns l pins
-unfolding pinsThen pinThen
-pins-rolled v owns l pins moved e = rw e (table-same 16 _ _ (λ f lt. rw (getD-table 16 (λ f. movedTo (entry owns f) f l) f Nothing lt)))
-
-pub pins-live : (v owns : List Interval) (l : List Checkpoint) (pins : List Pin)
-    → table 16 (λ f. pick (eqb (entry v f .0) (entry owns f .0)) (getD pins f Nothing) Nothing) ≡ pinsThen false v owns l pins
-unfolding pinsThen pinThen
-pins-live v owns l pins = refl
-
 -- "each one's own entry equal to its index", and the live state's too
 abbrev pub ownIsIndex : ℕ → Checkpoint → Bool
 ownIsIndex p c = eqb (entry (c .vector) p .0) (c .index .0)
-
-live-own : (p : ℕ) (P : Process) → ownIsIndex p (live p P) ≡ true
-unfolding live
-live-own p P = eq-eqb (entry (P .vector) p .0) (entry (P .vector) p .0) refl
-
--- What a caller owes to these functions, on a sound state.
-module _ (s : Run) (F p : ℕ) where
-  -- a process whose own entry is 0, one at the count or above, does not roll back, and its own entry stays 0
-  pub unused-vector : own s p .0 ≡ 0 → vectorAfter s F p ≡ process s p .vector
-  unfolding vectorAfter rolledBack
-  unused-vector h = rw (le-ltb (member s F p .index .0) (own s p .0) (omega arith))
-
-  pub unused-own : own s p .0 ≡ 0 → ownAfter s F p ≡ own s p
-  unfolding ownAfter own
-  unused-own h = ap (λ (v : List Interval). entry v p) (unused-vector h)
-
-  -- a member's own entry is its index, where that holds of the kept ones
-  pub member-own : every (ownIsIndex p) (process s p .kept) ≡ true → entry (member s F p .vector) p .0 ≡ member s F p .index .0
-  unfolding member latestAllowed states
-  member-own h =
-      let now : ownIsIndex p (live p (process s p)) ≡ true = live-own p (process s p) in
-      let all = every-append (ownIsIndex p) (process s p .kept) (live p (process s p) ∷ []) h (every-single (ownIsIndex p) (live p (process s p)) now) in
-      eqb-true _ _ (every-last (ownIsIndex p) _ (live p (process s p)) (every-select (ownIsIndex p) (allowed s F) _ all) now)

@@ -4,8 +4,7 @@ use model::CheckpointIndex;
 use model::Interval;
 use model::Pin;
 ghost use mathlib.Core.Path.{_≡_};
-ghost use mathlib.Core.Bool.{true, not};
-ghost use mathlib.Core.List.{[], _∷_, _++_};
+ghost use mathlib.Core.Bool.{not};
 ghost use Prim.Native.Nat.{_+_, _*_, _<_, _≤_};
 ghost use lib.ListN.{length, take};
 ghost use lib.Seq.{sets};
@@ -68,16 +67,6 @@ pub fn store(kept: KeptRow, c: Checkpoint) -> KeptRow
         row,
         held: held + 1,
     }
-}
-
-// What is kept once c is stored behind the first `held` checkpoints of the row and the pins have moved: collect, then store. A pin names c, and there is
-// room for it (specs/Settling shows both of a checkpoint that the own pin names and that is later than all others).
-pub fn settle(row: [Checkpoint; 16], held: usize, pins: [Pin; 16], c: Checkpoint) -> KeptRow
-    requires { ⌜ (held ≤ 16) × (named pins c ≡ true) × (length (select (named pins) (take held row)) < 16) ⌝ }
-    ensures { λ r. ⌜ r ≡ keptRow (select (named pins) (take held row ++ (c ∷ []))) ⌝ }
-{
-    let left = collect(row, held, pins);
-    store(left, c)
 }
 
 // Of the first `held` checkpoints of process p, those that no pin names are deleted: each one's pair p, index goes into the lent list, from place `at`

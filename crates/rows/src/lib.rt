@@ -17,6 +17,9 @@ pub mod pins;
 // kept.rt: the checkpoints that one process keeps, and the pairs of those that it deletes
 pub mod kept;
 
+// receipt.rt: what a receipt, and the checkpoint stored before it, leave of the rows of a process
+pub mod receipt;
+
 // line.rt: which states of a process a failed set allows in the line
 pub mod line;
 

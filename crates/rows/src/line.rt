@@ -3,12 +3,11 @@ use model::Checkpoint;
 use model::Interval;
 ghost use mathlib.Core.Path.{_≡_};
 ghost use mathlib.Core.Bool.{true, false};
-ghost use mathlib.Core.List.{[], _∷_, _++_};
-ghost use Prim.Native.Nat.{_≤_};
+ghost use Prim.Native.Nat.{_<_, _≤_};
 ghost use lib.ListN.{take};
 ghost use Rattle.laws.specs.Choice.{pick};
-ghost use Rattle.model.specs.Words.{noCheckpoint};
-ghost use Rattle.rows.specs.Line.{ownRow, failedRow, allowedBy, latestBy, latestIs};
+ghost use Rattle.model.specs.Words.{entry, noCheckpoint};
+ghost use Rattle.rows.specs.Line.{liveFrom, ownRow, failedRow, allowedBy, latestBy, latestIs};
 
 // The latest state that a search found, and whether it found one. Where it did not, the state holds zero.
 pub struct Latest {
@@ -88,7 +87,7 @@ pub fn latest_with(latest: Latest, c: Checkpoint, owns: [Interval; 16], marks: [
 }
 
 // The latest allowed one of the first `held` checkpoints of a row, which has no more than 16.
-fn latest_kept(
+pub fn latest_kept(
     row: [Checkpoint; 16],
     held: usize,
     owns: [Interval; 16],
@@ -105,33 +104,12 @@ fn latest_kept(
     latest
 }
 
-// The latest allowed one of these checkpoints and the live state, which is later than all of them.
-pub fn latest_allowed(
-    row: [Checkpoint; 16],
-    held: usize,
-    live: Checkpoint,
-    owns: [Interval; 16],
-    marks: [bool; 16],
-) -> Latest
-    requires { ⌜ held ≤ 16 ⌝ }
-    ensures { λ r. ⌜ r ≡ latestIs (latestBy marks owns (take held row ++ (live ∷ []))) ⌝ }
+// The live state of process p as a checkpoint, from its current vector.
+pub fn live_from(vector: [Interval; 16], p: usize) -> Checkpoint
+    requires { ⌜ (p < 16) × (1 ≤ entry vector p .0) ⌝ }
+    ensures { λ r. ⌜ r ≡ liveFrom p vector ⌝ }
 {
-    let vector = live.vector;
-    let ok = is_allowed(vector, owns, marks);
-    if ok {
-        Latest {
-            found: true,
-            state: live,
-        }
-    } else {
-        latest_kept(row, held, owns, marks)
-    }
-}
-
-// The line's member of a process: the latest allowed state. Where there is none the call is refused, and the live state stands in.
-pub fn member_of(latest: Latest, live: Checkpoint) -> Checkpoint
-    ensures { λ r. ⌜ r ≡ pick (latest .found) (latest .state) live ⌝ }
-{
-    let found = latest.found;
-    if found { latest.state } else { live }
+    let own = vector[p];
+    let index = super::vector::live_index(own);
+    Checkpoint { index, vector }
 }

@@ -1,4 +1,6 @@
-// What a recovery leaves of the rows of one process: its vector, its pins, the checkpoints that it keeps and those that it loses.
+// One process's turn in a recovery: its member of the line, what it is left with when it goes back to it, its pins, the checkpoints that it keeps and those that
+// it loses.
+use super::line::Latest;
 use model::Checkpoint;
 use model::CheckpointIndex;
 use model::Interval;
@@ -17,7 +19,8 @@ ghost use Rattle.model.specs.Words.{entry, below, names};
 ghost use Rattle.model.specs.Steps.{listed};
 ghost use Rattle.model.specs.Outcomes.{pairs};
 ghost use Rattle.rows.specs.Kept.{keptRow};
-ghost use Rattle.rows.specs.Recovery.{isStored, vectorThen, notLater, foundIn, foundWith, pinFrom, pinsThen, stays};
+ghost use Rattle.rows.specs.Turn.{memberFrom, steppedOf};
+ghost use Rattle.rows.specs.Recovery.{isStored, restoredVector, notLater, latestFound, foundWith, pinFrom, restoredPins, stays};
 
 // The line's member with this index is a stored checkpoint of the process with this own entry, and so the process rolls back. The live state's index
 // is above the last stored one. A process whose own entry is 0 has stored nothing.
@@ -41,12 +44,77 @@ pub fn vector_after(
     p: usize,
 ) -> [Interval; 16]
     requires { ⌜ (p < 16) × (rolled ≡ true → entry stored p .0 < 65535) ⌝ }
-    ensures { λ r. ⌜ r ≡ vectorThen rolled p stored current ⌝ }
+    ensures { λ r. ⌜ r ≡ restoredVector rolled p stored current ⌝ }
 {
     if rolled {
         super::vector::advanced(stored, p)
     } else {
         current
+    }
+}
+
+// How many of the checkpoints that a process keeps are searched: all where something is wanted of them, else none.
+pub fn to_search(wanted: bool, held: usize) -> usize
+    ensures { λ r. ⌜ r ≡ pick wanted held 0 ⌝ }
+{
+    if wanted { held } else { 0 }
+}
+
+// The line's member of process p: its live state where that is allowed, else the latest allowed one that it keeps, which `latest` is. Where none is allowed
+// the call is refused, and the live state stands in.
+pub fn member(vector: [Interval; 16], p: usize, latest: Latest, allowed: bool) -> Checkpoint
+    requires { ⌜ (p < 16) × (1 ≤ entry vector p .0) ⌝ }
+    ensures { λ r. ⌜ r ≡ memberFrom allowed p vector latest ⌝ }
+{
+    let live = super::line::live_from(vector, p);
+    let found = latest.found;
+    if allowed {
+        live
+    } else if found {
+        latest.state
+    } else {
+        live
+    }
+}
+
+// What a process is left with when it goes back to its member, and that member's index; `back` counts the processes that roll back, with this one.
+pub struct Stepped {
+    pub vector: [Interval; 16],
+    pub sent: bool,
+    pub rolled: bool,
+    pub index: CheckpointIndex,
+    pub back: usize,
+}
+
+// A member's vector is taken where its own entry is below the current one, so there is room for 1 more.
+pub fn step_back(
+    member: Checkpoint,
+    current: [Interval; 16],
+    sent: bool,
+    p: usize,
+    back: usize,
+) -> Stepped
+    requires { ⌜ (p < 16) × (back ≤ 16) ⌝ }
+    ensures { λ r. ⌜ r ≡ steppedOf member current sent p back ⌝ }
+{
+    let index = member.index;
+    let stored = member.vector;
+    let own = current[p];
+    let known = stored[p];
+    let below = known.0 < own.0;
+    let vector = vector_after(below, stored, current, p);
+    let rolled = is_stored(index, own);
+    let mark = sent & !rolled;
+    let mut count = back;
+    if rolled {
+        count += 1;
+    }
+    Stepped {
+        vector,
+        sent: mark,
+        rolled,
+        index,
+        back: count,
     }
 }
 
@@ -134,7 +202,7 @@ fn find_latest(
     owns: [Interval; 16],
 ) -> Found
     requires { ⌜ held ≤ 16 ⌝ }
-    ensures { λ r. ⌜ r ≡ foundIn owns (notLater last (take held row)) ⌝ }
+    ensures { λ r. ⌜ r ≡ latestFound owns (notLater last (take held row)) ⌝ }
 {
     let mut found = nothing_found();
     for k in 0..held {
@@ -202,7 +270,7 @@ pub fn pins_found(
     found: Found,
     pins: [Pin; 16],
 ) -> [Pin; 16]
-    ensures { λ r. ⌜ ((l : List Checkpoint) → (rolled ≡ true → found ≡ foundIn owns l) → r ≡ pinsThen rolled vector owns l pins) ⌝ }
+    ensures { λ r. ⌜ ((l : List Checkpoint) → (rolled ≡ true → found ≡ latestFound owns l) → r ≡ restoredPins rolled vector owns l pins) ⌝ }
 {
     if rolled {
         let moved = pins_at(found);
@@ -224,16 +292,16 @@ pub fn pins_after(
     pins: [Pin; 16],
 ) -> [Pin; 16]
     requires { ⌜ held ≤ 16 ⌝ }
-    ensures { λ r. ⌜ r ≡ pinsThen rolled vector owns (notLater last (take held row)) pins ⌝ }
+    ensures { λ r. ⌜ r ≡ restoredPins rolled vector owns (notLater last (take held row)) pins ⌝ }
 {
-    let upto = if rolled { held } else { 0 };
-    let found = find_latest(row, upto, last, owns);
+    let searched = to_search(rolled, held);
+    let found = find_latest(row, searched, last, owns);
     pins_found(rolled, vector, owns, found, pins)
 }
 
 // Of the first `held` checkpoints of process p, those that are not later than `last` and that a pin names stay, and they are the result. The others are
 // deleted: each one's pair p, index goes into the lent list, from place `at` on. It has room for two numbers for each place of a row.
-pub fn part(
+pub fn split_kept(
     deleted: &mut [u16],
     at: usize,
     p: usize,

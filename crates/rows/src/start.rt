@@ -6,7 +6,6 @@ ghost use mathlib.Core.Path.{_≡_};
 ghost use Prim.Native.Nat.{_<_};
 ghost use Rattle.model.specs.Words.{zeroVector, noPins};
 ghost use Rattle.model.specs.Steps.{started};
-ghost use Rattle.rows.specs.Kept.{keptRow};
 
 pub fn zero_vector() -> [Interval; 16]
     ensures { λ r. ⌜ r ≡ zeroVector ⌝ }
@@ -41,15 +40,4 @@ pub fn first_pins(p: usize) -> [Pin; 16]
     let pin = Pin::At(CheckpointIndex(0));
     row[p] = pin;
     row
-}
-
-// The checkpoints that a process keeps: checkpoint 0, with a vector of zeros.
-pub fn first_kept(p: usize) -> super::kept::KeptRow
-    ensures { λ r. ⌜ r ≡ keptRow (started p .kept) ⌝ }
-{
-    let c = super::kept::no_checkpoint();
-    super::kept::KeptRow {
-        row: [c; 16],
-        held: 1,
-    }
 }

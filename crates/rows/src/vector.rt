@@ -2,7 +2,6 @@
 use model::CheckpointIndex;
 use model::Interval;
 ghost use mathlib.Core.Path.{_≡_};
-ghost use mathlib.Core.Bool.{_&&_};
 ghost use Prim.Native.Nat.{_<_, _≤_};
 ghost use Rattle.laws.specs.Choice.{pick};
 ghost use Rattle.model.specs.Words.{entry, below, lastStored, liveIndex};
@@ -51,13 +50,6 @@ pub fn is_newer(own: [Interval; 16], carried: [Interval; 16]) -> bool
         }
     }
     any
-}
-
-// A delivery of this vector forces a checkpoint: the process has sent since its last one, and something carried is newer.
-pub fn is_forced(mark: bool, own: [Interval; 16], carried: [Interval; 16]) -> bool
-    ensures { λ r. ⌜ r ≡ (mark && newer own carried) ⌝ }
-{
-    if mark { is_newer(own, carried) } else { false }
 }
 
 // The greater of an own entry and the carried one.

@@ -14,8 +14,8 @@ use Rattle.laws.specs.Elements.{same-test}
 use Rattle.laws.specs.Rows.{and-true}
 use Rattle.laws.specs.Search.{allBelow}
 use Rattle.laws.specs.Tests.{every}
+use Rattle.laws.specs.Conjunctions.{test, _and_, holds, asks, same-tests}
 use Rattle.model.specs.Sound.{ascending}
-use Rattle.soundness.proofs.Conjunctions.{test, _and_, holds, asks, same-tests}
 
 -- The mark takes in the two tests of one element.
 mixed : (mark low others one rest : Bool) → (mark && ((low && others) && (one && rest))) ≡ (((mark && low) && one) && (others && rest))

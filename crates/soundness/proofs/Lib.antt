@@ -1,6 +1,5 @@
 -- Laws that belong to no one function.
 pub mod Ascent
-pub mod Conjunctions
 pub mod OneProcess
 pub mod Sizes
 pub mod StandIn

@@ -16,6 +16,7 @@ use Rattle.laws.specs.Rows.{last-take, some-at, every-both}
 use Rattle.laws.specs.Search.{allBelow}
 use Rattle.laws.specs.Tests.{every, some-of}
 use Rattle.laws.specs.Truth.{and-no-right}
+use Rattle.laws.specs.Conjunctions.{Conjunction, test, _and_, holds, asks, asked, conjunction, part-fails}
 use Rattle.model.specs.declared.Interval.{Interval}
 use Rattle.model.specs.declared.CheckpointIndex.{CheckpointIndex}
 use Rattle.model.specs.declared.Pin.{Pin}
@@ -23,8 +24,7 @@ use Rattle.model.specs.declared.Pin.the-variants.{Nothing}
 use Rattle.model.specs.declared.Checkpoint.{Checkpoint}
 use Rattle.model.specs.Words.{entry, lastStored, names, noCheckpoint}
 use Rattle.model.specs.Sound.{ascending}
-use Rattle.soundness.specs.Judged.{indexOf, empty, vectorSound, pinnedIndexes, among, ownEntryIsIndex, placeSound, fit, processTests, processSound, keepsIt}
-use Rattle.soundness.proofs.Conjunctions.{Conjunction, test, _and_, holds, asks, asked, conjunction, part-fails}
+use Rattle.soundness.specs.Clauses.{indexOf, empty, vectorSound, pinnedIndexes, among, ownEntryIsIndex, placeSound, fit, processTests, processSound, keepsIt}
 use Rattle.soundness.proofs.StandIn.{pinned-kept, kept-pinned}
 
 last-of : (row : List Checkpoint) (held k : ℕ) → held ≡ suc k → k < length row → lastOf (take held row) ≡ some (getD row k empty)

@@ -20,7 +20,7 @@ use Rattle.model.specs.declared.Interval.{Interval}
 use Rattle.model.specs.Words.{entry, zeroVector}
 use Rattle.model.specs.Steps.{takenEntry, takenVector}
 use Rattle.model.specs.Sound.{zeroFrom}
-use Rattle.soundness.specs.Judged.{vectorSound}
+use Rattle.soundness.specs.Clauses.{vectorSound}
 
 abbrev zeroEntry : Interval → Bool
 zeroEntry x = eqb (x .0) 0

@@ -19,7 +19,7 @@ use Rattle.model.specs.declared.Checkpoint.{Checkpoint}
 use Rattle.model.specs.Words.{zeroVector}
 use Rattle.model.specs.Sound.{ascending, zeroFrom}
 use Rattle.soundness.specs.declared.kept.Walk.{Walk}
-use Rattle.soundness.specs.Judged.{indexOf, empty, metBy, keepsIt, placeSound, vectorSound, Joins, noneWalked, walkedOne, walkSound}
+use Rattle.soundness.specs.Clauses.{indexOf, empty, metBy, keepsIt, placeSound, vectorSound, Joins, noneWalked, walkedOne, walkSound}
 use Rattle.soundness.proofs.Ascent.{ascent-turn, ascent-end}
 use Rattle.soundness.proofs.Vectors.{zero-sound}
 

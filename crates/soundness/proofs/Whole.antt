@@ -17,6 +17,7 @@ use Rattle.laws.specs.Rows.{every-same, every-both, every-at, every-by, all-bot
 use Rattle.laws.specs.Search.{allBelow, all-in, all-out}
 use Rattle.laws.specs.Tests.{every}
 use Rattle.laws.specs.Truth.{and-left, and-right, and-both}
+use Rattle.laws.specs.Conjunctions.{none, test, _and_, each, holds, asks, same-tests}
 use Rattle.model.specs.declared.Interval.{Interval}
 use Rattle.model.specs.declared.Pin.the-variants.{Nothing}
 use Rattle.model.specs.declared.Checkpoint.{Checkpoint}
@@ -24,8 +25,7 @@ use Rattle.model.specs.declared.Message.{Message}
 use Rattle.model.specs.declared.Run.{Run}
 use Rattle.model.specs.Words.{mostUnderWay, mostMessages, entry, lastStored, names, named, zeroVector, noCheckpoint, process, own, underWay}
 use Rattle.model.specs.Sound.{sound, countSound, ownSound, within, vectorsSound, ascending, keptSound, pinSound, pinsSound, messageSound, messagesSound, zeroFrom, unusedCheckpoint, unusedMessage, nothingFrom, rowUnused, unusedSound}
-use Rattle.soundness.specs.Judged.{vectorSound, indexOf, ownEntryIsIndex, processTests, processSound, restUnused, numberOf, messageJudged, messagesTests, messagesJudged, ownEntries, currentSound}
-use Rattle.soundness.proofs.Conjunctions.{none, test, _and_, each, holds, asks, same-tests}
+use Rattle.soundness.specs.Clauses.{vectorSound, indexOf, ownEntryIsIndex, processTests, processSound, restUnused, messageNumber, messageTested, messagesTests, messagesTested, ownEntries, currentSound}
 use Rattle.soundness.proofs.Vectors.{zero-by}
 
 -- A test is asked only where another one holds.
@@ -183,11 +183,11 @@ module _ (s : Run) (high : s .count ≤ 16) where
     unusedRows = every (every unusedCheckpoint) (drop n (s .kept .0))
 
     abbrev others : Bool
-    others = every (zeroFrom 0) (drop n (s .vectors .0)) && every not (drop n (s .sent)) && every (nothingFrom 0) (drop n (s .pins .0)) && messagesJudged n owns (s .messages) (s .underway) (s .last)
+    others = every (zeroFrom 0) (drop n (s .vectors .0)) && every not (drop n (s .sent)) && every (nothingFrom 0) (drop n (s .pins .0)) && messagesTested n owns (s .messages) (s .underway) (s .last)
 
     -- Where the count is in its range, the other tests decide.
     whole : ((allBelow n current && allBelow n judged && allBelow n unused) && (noneHeld && unusedRows) && others) ≡ sound s
-    unfolding messagesJudged messagesTests messageJudged sound countSound ownSound vectorsSound messagesSound messageSound unusedSound underWay every holds each asks allBelow
+    unfolding messagesTested messagesTests messageTested sound countSound ownSound vectorsSound messagesSound messageSound unusedSound underWay every holds each asks allBelow
     whole =
         let live = take (s .underway) (s .messages) in
         let message : Message → Bool = λ x. leb (x .number) (s .last) && ltb (x .sender) n && ltb (x .receiver) n && not (eqb (x .sender) (x .receiver)) in
@@ -204,7 +204,7 @@ module _ (s : Run) (high : s .count ≤ 16) where
         ∷ every (nothingFrom 0) (drop n (s .pins .0))
         ∷ leb (s .underway) mostUnderWay
         ∷ leb (s .last) mostMessages
-        ∷ ascending 1 (map numberOf live)
+        ∷ ascending 1 (map messageNumber live)
         ∷ every message live
         ∷ every (λ x. within s (x .vector)) live
         ∷ every (λ x. zeroFrom n (x .vector)) live
@@ -228,10 +228,10 @@ module _ (s : Run) (high : s .count ≤ 16) where
         && every not (drop n (s .sent))
         && noneHeld
         && every (nothingFrom 0) (drop n (s .pins .0))
-        && messagesJudged n owns (s .messages) (s .underway) (s .last))
+        && messagesTested n owns (s .messages) (s .underway) (s .last))
         ≡ sound s
     verdict =
-        beside (allBelow n current) (allBelow n judged) (allBelow 16 unused) (every (zeroFrom 0) (drop n (s .vectors .0))) (every not (drop n (s .sent))) noneHeld (every (nothingFrom 0) (drop n (s .pins .0))) (messagesJudged n owns (s .messages) (s .underway) (s .last))
+        beside (allBelow n current) (allBelow n judged) (allBelow 16 unused) (every (zeroFrom 0) (drop n (s .vectors .0))) (every not (drop n (s .sent))) noneHeld (every (nothingFrom 0) (drop n (s .pins .0))) (messagesTested n owns (s .messages) (s .underway) (s .last))
         ∙ ap (λ b. (allBelow n current && allBelow n judged && others) && b) (under noneHeld (allBelow 16 unused) (allBelow n unused && unusedRows) (rows-same size))
         ∙ grouped (allBelow n current) (allBelow n judged) others noneHeld (allBelow n unused) unusedRows
         ∙ whole

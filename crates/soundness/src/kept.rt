@@ -10,7 +10,7 @@ ghost use Prim.Native.Nat.{ℕ, _≤_, _<_};
 ghost use lib.Dec.{eqb};
 ghost use Rattle.laws.specs.Choice.{pick};
 ghost use Rattle.model.specs.Sound.{zeroFrom, unusedCheckpoint};
-ghost use Rattle.soundness.specs.Judged.{Joins, noneWalked, walkedOne, walkSound};
+ghost use Rattle.soundness.specs.Clauses.{Joins, noneWalked, walkedOne, walkSound};
 
 // What a walk along the checkpoints of a process has gathered. What asks for 16 entries at a time is tested once, behind the last checkpoint.
 pub struct Walk {

@@ -6,7 +6,7 @@ ghost use mathlib.Core.Path.{_≡_};
 ghost use mathlib.Core.Bool.{true};
 ghost use Prim.Native.Nat.{_≤_};
 ghost use Rattle.model.specs.Sound.{zeroFrom, unusedMessage};
-ghost use Rattle.soundness.specs.Judged.{messageJudged, messagesJudged};
+ghost use Rattle.soundness.specs.Clauses.{messageTested, messagesTested};
 
 fn is_unused(x: Message) -> bool
     ensures { λ r. ⌜ r ≡ unusedMessage x ⌝ }
@@ -19,7 +19,7 @@ fn is_unused(x: Message) -> bool
 // A message under way by itself.
 fn is_message_sound(x: Message, own: [Interval; 16], n: usize, last: u32) -> bool
     requires { ⌜ (n ≤ 16) × (zeroFrom n own ≡ true) ⌝ }
-    ensures { λ r. ⌜ r ≡ messageJudged n last own x ⌝ }
+    ensures { λ r. ⌜ r ≡ messageTested n last own x ⌝ }
 {
     let vector = x.vector;
     let within = vector::within_own(vector, own);
@@ -36,7 +36,7 @@ pub fn are_messages_sound(
     last: u32,
 ) -> bool
     requires { ⌜ (n ≤ 16) × (zeroFrom n own ≡ true) ⌝ }
-    ensures { λ r. ⌜ r ≡ messagesJudged n own messages underway last ⌝ }
+    ensures { λ r. ⌜ r ≡ messagesTested n own messages underway last ⌝ }
 {
     if 64 < underway {
         return false;

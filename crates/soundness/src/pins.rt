@@ -3,8 +3,9 @@ use model::CheckpointIndex;
 use model::Pin;
 ghost use mathlib.Core.Path.{_≡_};
 ghost use Prim.Native.Nat.{_<_};
+ghost use Rattle.laws.specs.Tests.{allOf};
 ghost use Rattle.model.specs.Sound.{isNothing, nothingFrom};
-ghost use Rattle.soundness.specs.Judged.{allOf, fit, pinOr, pinnedIndexes, among, metBy};
+ghost use Rattle.soundness.specs.Clauses.{fit, pinOr, pinnedIndexes, among, metBy};
 
 fn is_nothing(pin: Pin) -> bool
     ensures { λ r. ⌜ r ≡ isNothing pin ⌝ }

@@ -14,7 +14,7 @@ ghost use lib.ListN.{getD, drop};
 ghost use Rattle.laws.specs.Search.{allBelow};
 ghost use Rattle.laws.specs.Tests.{every};
 ghost use Rattle.model.specs.Sound.{zeroFrom, nothingFrom};
-ghost use Rattle.soundness.specs.Judged.{ownEntries, currentSound, processSound, restUnused};
+ghost use Rattle.soundness.specs.Clauses.{ownEntries, currentSound, processSound, restUnused};
 
 // The own entries of the n processes, zero at n and above.
 pub fn own_entries(vectors: [[Interval; 16]; 16], n: usize) -> [Interval; 16]

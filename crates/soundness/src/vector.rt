@@ -5,7 +5,7 @@ ghost use mathlib.Core.Bool.{true};
 ghost use Prim.Native.Nat.{ℕ, _≤_};
 ghost use Rattle.model.specs.Sound.{zeroFrom};
 ghost use Rattle.model.specs.Steps.{takenVector};
-ghost use Rattle.soundness.specs.Judged.{vectorSound, Joins};
+ghost use Rattle.soundness.specs.Clauses.{vectorSound, Joins};
 
 // No entry of the vector is above the own entry there. Own entries at n and above are zero, so this one test covers the vector's unused entries
 // too, and it is the same for every n.

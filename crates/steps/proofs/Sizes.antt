@@ -20,7 +20,7 @@ use Rattle.model.specs.declared.Run.{Run}
 use Rattle.model.specs.Words.{noCheckpoint, noMessage}
 use Rattle.model.proofs.Run as run
 use Rattle.model.proofs.Run.Laws as run-laws
-use Rattle.steps.specs.Sized.{Sized}
+use Rattle.plans.specs.Sized.{Sized}
 
 -- What the memory of an array says of each element, where the elements stand in it as their `into`.
 module _ {X Y : Type 0} (into : X → Y) (f : Y → List Val → Fml) (P : X → Type 0) (h : (x : X) (vs : List Val) → shadow (f (into x) vs) → P x) where

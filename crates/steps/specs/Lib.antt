@@ -1,12 +1,2 @@
-pub mod DeliverCall
-pub mod Delivery
-pub mod Facts
-pub mod Filled
 pub mod Messages
-pub mod Parts
-pub mod Refused
-pub mod Sending
-pub mod Sized
-pub mod SoundFacts
 pub mod Starting
-pub mod Storing

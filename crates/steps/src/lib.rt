@@ -1,11 +1,11 @@
 // Each call that touches one process or the messages, on a sound state, whatever its outcome; `rollback` has the two that go over all processes.
-// Soundness is not judged here: the exported calls judge it first and then call these. The replay shares the functions on rows with them, on states
-// that it reached itself, all of which are sound.
+// A call is: the length of its list, the rows that it needs, the decision (plans), and what comes out put into the state. Soundness is not judged here: the
+// exported calls judge it first and then call these. The replay asks the same decisions, on states that it reached itself, all of which are sound.
 
-// parts.rt: the rows of one process, put back into a state
+// parts.rt: a plan carried out on a state
 pub mod parts;
 
-// messages.rt: the messages under way
+// messages.rt: the table of the messages under way
 pub mod messages;
 
 // start.rt: the first state of a run
@@ -17,7 +17,7 @@ pub mod checkpoint;
 // send.rt: a message is sent
 pub mod send;
 
-// deliver.rt: what a delivery leaves of the rows of its receiver, and the call
+// deliver.rt: a message is delivered
 pub mod deliver;
 
 // lose.rt: a message is lost

@@ -1,34 +1,42 @@
 // Lose: the message is no longer under way; nothing else changes.
 use crate::messages;
+use crate::parts;
 use model::LoseAnswer;
-use model::Refusal;
 use model::Run;
+use plans::Verdict;
 ghost use mathlib.Core.Path.{_≡_};
 ghost use mathlib.Core.Bool.{true};
 ghost use Rattle.model.specs.Sound.{sound};
-ghost use Rattle.model.specs.Outcomes.{loseOutcome};
+ghost use Rattle.model.specs.Outcomes.{judged, loseOutcome};
+ghost use Rattle.plans.specs.Planned.{refusalOf};
 
 pub struct LoseOutcome {
     pub run: Run,
     pub answer: LoseAnswer,
 }
 
-// The state is sound: the caller has judged it, or reached it by calls.
+fn answer_of(verdict: Verdict) -> LoseAnswer
+    ensures { λ r. ⌜ r ≡ judged (refusalOf verdict) (λ why. LoseAnswer.Refused why) LoseAnswer.Lost ⌝ }
+{
+    match verdict {
+        Verdict::Refused(why) => LoseAnswer::Refused(why),
+        Verdict::Accepted => LoseAnswer::Lost,
+    }
+}
+
+// The state is sound: the caller has judged it, or reached it by calls. A refused plan changes nothing, so it is carried out like any other.
 pub fn lose(s: Run, m: u32) -> LoseOutcome
     requires { ⌜ sound s ≡ true ⌝ }
     ensures { λ r. ⌜ (r .run ≡ loseOutcome s m .run) × (r .answer ≡ loseOutcome s m .answer) ⌝ }
 {
     let table = s.messages;
-    let underway = s.underway;
-    let last = s.last;
-    let one = messages::find(table, underway, m);
-    let found = one.found;
-    if !found {
-        let answer = LoseAnswer::Refused(Refusal::NotUnderWay);
-        return LoseOutcome { run: s, answer };
-    }
-    let left = messages::remove(table, underway, m);
-    let run = messages::with_messages(s, left, last);
-    let answer = LoseAnswer::Lost;
+    let named = messages::look_up(table, s.underway, s.last, m);
+    let marks = s.sent;
+    let p = plans::lose_plan(marks[0], named);
+    let without = messages::put(table, p);
+    let after = messages::closed_up(without, p.tail);
+    let run = parts::put(s, 0, p, after);
+    let verdict = p.verdict;
+    let answer = answer_of(verdict);
     LoseOutcome { run, answer }
 }

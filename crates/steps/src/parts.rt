@@ -1,44 +1,84 @@
-// The part of a state that is one process's, put back into it.
-use model::Interval;
-use model::Pin;
+// A plan carried out on a state by value. `messages` is the table of messages after it: those under way from its first place on, and the places behind them unused.
+use model::Message;
 use model::Run;
-use rows::kept::KeptRow;
+use plans::Plan;
 ghost use mathlib.Core.Path.{_≡_};
-ghost use Prim.Native.Nat.{_<_};
-ghost use Rattle.steps.specs.Parts.{withRows};
+ghost use mathlib.Core.Bool.{true};
+ghost use Prim.Native.Nat.{_*_, _<_, _≤_};
+ghost use lib.ListN.{length, take};
+ghost use Rattle.model.specs.Sound.{sound};
+ghost use Rattle.model.specs.Steps.{listed};
+ghost use Rattle.model.specs.Outcomes.{pairs, written};
+ghost use Rattle.plans.specs.Carried.{ownAt, unnamedBy, unmoved, moved};
+ghost use Rattle.steps.specs.Messages.{Closed};
 
-// The state with these rows for process i. There are places for 16 processes.
-pub(crate) fn put(
+// The state after a plan for process i that moves no rows. There are places for 16.
+pub(crate) fn put(s: Run, i: usize, p: Plan, messages: [Message; 64]) -> Run
+    requires { ⌜ (i < 16) × Closed messages (p .underway) ⌝ }
+    ensures { λ r. ⌜ r ≡ unmoved s i p (take (p .underway) messages) ⌝ }
+{
+    let mut t = s;
+    t.sent[i] = p.mark;
+    t.messages = messages;
+    t.underway = p.underway;
+    t.last = p.last;
+    t
+}
+
+// The state after a plan that moves the rows of its process, and how many checkpoints it deletes.
+pub struct Moved {
+    pub run: Run,
+    pub gone: usize,
+}
+
+// The rows of process i are those after a receipt of what the plan carries, which stores a checkpoint first if the plan says so. The pairs of the deleted go to the
+// front of the lent list.
+pub(crate) fn move_rows(
     s: Run,
     i: usize,
-    vector: [Interval; 16],
-    pins: [Pin; 16],
-    mark: bool,
-    kept: KeptRow,
-) -> Run
-    requires { ⌜ i < 16 ⌝ }
-    ensures { λ r. ⌜ r ≡ withRows s i vector pins mark kept ⌝ }
+    p: Plan,
+    messages: [Message; 64],
+    deleted: &mut [u16],
+) -> Moved
+    requires { ⌜ (sound s ≡ true) × (i < 16) × (i < s .count) × (p .stores ≡ true → ownAt s i .0 < 65535) × Closed messages (p .underway) × (2 * s .count * s .count ≤ length (now deleted)) ⌝ }
+    ensures { λ r. ⌜ r .run ≡ moved s i p (take (p .underway) messages) ⌝ }
+    ensures { λ r. ⌜ r .gone ≡ length (unnamedBy s i p) ⌝ }
+    ensures { λ r. ⌜ now (deleted .exit) ≡ written (now (deleted .entry)) (pairs (listed i (unnamedBy s i p))) ⌝ }
 {
-    let row = kept.row;
-    let mut vector_rows = rows::squares::vector_rows(s.vectors);
-    vector_rows[i] = vector;
-    let mut pin_rows = rows::squares::pin_rows(s.pins);
-    pin_rows[i] = pins;
-    let mut kept_rows = rows::squares::kept_rows(s.kept);
-    kept_rows[i] = row;
-    let vectors = rows::squares::vectors_from(vector_rows);
-    let all_pins = rows::squares::pins_from(pin_rows);
-    let all_kept = rows::squares::kept_from(kept_rows);
+    let mut vectors = rows::squares::vector_rows(s.vectors);
+    let mut all_pins = rows::squares::pin_rows(s.pins);
+    let mut all_kept = rows::squares::kept_rows(s.kept);
     let mut sent = s.sent;
-    sent[i] = mark;
     let mut held = s.held;
+    let vector = vectors[i];
+    let old = all_pins[i];
+    let row = all_kept[i];
+    let before = held[i];
+    let carried = p.carried;
+    let live = rows::line::live_from(vector, i);
+    let pins = rows::receipt::pins_then(p.stores, live.index, vector, carried, old, i);
+    let gone = rows::kept::write_deletions(deleted, 0, i, row, before, pins);
+    let kept = rows::receipt::kept_then(p.stores, row, before, pins, live);
+    let taken = rows::receipt::vector_then(p.stores, vector, carried, i);
+    let left = kept.row;
+    vectors[i] = taken;
+    all_pins[i] = pins;
+    all_kept[i] = left;
+    sent[i] = p.mark;
     held[i] = kept.held;
-    Run {
-        vectors,
-        pins: all_pins,
+    let vectors_then = rows::squares::vectors_from(vectors);
+    let pins_then = rows::squares::pins_from(all_pins);
+    let kept_then = rows::squares::kept_from(all_kept);
+    let run = Run {
+        count: s.count,
+        vectors: vectors_then,
+        pins: pins_then,
         sent,
-        kept: all_kept,
+        kept: kept_then,
         held,
-        ..s
-    }
+        messages,
+        underway: p.underway,
+        last: p.last,
+    };
+    Moved { run, gone }
 }

@@ -1,6 +1,4 @@
 // Start: each process stores checkpoint 0 with a vector of zeros, its own entry is then 1, and its own pin names checkpoint 0.
-use crate::messages;
-use crate::parts;
 use model::Refusal;
 use model::Run;
 use model::StartAnswer;
@@ -15,51 +13,47 @@ pub struct StartOutcome {
     pub answer: StartAnswer,
 }
 
-// A state of zeros with every pin none, and this count.
-fn blank(n: usize) -> Run
-    ensures { λ r. ⌜ r ≡ blank n ⌝ }
+// The first state of a run of n processes. There are places for 16.
+fn started(n: usize) -> Run
+    requires { ⌜ n ≤ 16 ⌝ }
+    ensures { λ r. ⌜ r ≡ startState n ⌝ }
 {
-    let vector = rows::start::zero_vector();
-    let no_pins = rows::start::no_pins();
+    let zeros = rows::start::zero_vector();
+    let none = rows::start::no_pins();
     let no_checkpoint = rows::kept::no_checkpoint();
-    let no_message = messages::no_message();
+    let no_message = plans::no_message();
     let row = [no_checkpoint; 16];
-    let vectors = rows::squares::vectors_from([vector; 16]);
-    let pins = rows::squares::pins_from([no_pins; 16]);
+    let mut vectors = [zeros; 16];
+    let mut pins = [none; 16];
+    let mut held = [0usize; 16];
+    for p in 0..n {
+        let vector = rows::start::first_vector(p);
+        let own_pins = rows::start::first_pins(p);
+        vectors[p] = vector;
+        pins[p] = own_pins;
+        held[p] = 1;
+    }
+    let all_vectors = rows::squares::vectors_from(vectors);
+    let all_pins = rows::squares::pins_from(pins);
     let kept = rows::squares::kept_from([row; 16]);
     Run {
         count: n,
-        vectors,
-        pins,
+        vectors: all_vectors,
+        pins: all_pins,
         sent: [false; 16],
         kept,
-        held: [0usize; 16],
+        held,
         messages: [no_message; 64],
         underway: 0,
         last: 0,
     }
 }
 
-// The first state of a run of n processes. There are places for 16.
-fn started(n: usize) -> Run
-    requires { ⌜ n ≤ 16 ⌝ }
-    ensures { λ r. ⌜ r ≡ startState n ⌝ }
-{
-    let mut s = blank(n);
-    for p in 0..n {
-        let vector = rows::start::first_vector(p);
-        let pins = rows::start::first_pins(p);
-        let kept = rows::start::first_kept(p);
-        s = parts::put(s, p, vector, pins, false, kept);
-    }
-    s
-}
-
-// A refused start returns a state of zeros.
+// A refused start returns a state of zeros with every pin none: the first state of a run of no process.
 fn refuse() -> StartOutcome
     ensures { λ r. ⌜ r ≡ record { run = blank 0; answer = StartAnswer.Refused Refusal.CountOutsideRange } ⌝ }
 {
-    let run = blank(0);
+    let run = started(0);
     let answer = StartAnswer::Refused(Refusal::CountOutsideRange);
     StartOutcome { run, answer }
 }

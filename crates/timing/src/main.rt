@@ -1,6 +1,5 @@
 // One call of the library, made many times on one full state of 16 processes, for another program to time. Two bytes on standard input say which:
-// a letter for the call, and how many times, in ten thousands. A small letter is the exported call, a capital one what it does behind its test of
-// soundness. It prints 0 if the call was accepted and left a sound state, else a refusal number.
+// a letter for the call, and how many times, in ten thousands. It prints 0 if the call was accepted and left a sound state, else a refusal number.
 use libc::STDIN_FILENO;
 use libc::STDOUT_FILENO;
 use model::Run;
@@ -8,13 +7,10 @@ use model::Run;
 // full.rt: the state that the calls are made on
 mod full;
 
-// exported.rt: the exported calls
+// exported.rt: the exported calls, and their test of soundness alone
 mod exported;
 
-// behind.rt: what they do behind the test of soundness, and that test alone
-mod behind;
-
-// b: start (begin), c: checkpoint, s: send, d: deliver, l: lose, i: line, r: recover
+// b: start (begin), c: checkpoint, s: send, d: deliver, l: lose, i: line, r: recover; t: the test of soundness alone
 fn made(call: u8, s: Run, times: u32) -> u8 {
     match call {
         b'b' => exported::starts(s, times),
@@ -24,20 +20,7 @@ fn made(call: u8, s: Run, times: u32) -> u8 {
         b'l' => exported::loses(s, times),
         b'i' => exported::lines(s, times),
         b'r' => exported::recovers(s, times),
-        _ => made_behind(call, s, times),
-    }
-}
-
-// T is the test alone.
-fn made_behind(call: u8, s: Run, times: u32) -> u8 {
-    match call {
-        b'C' => behind::checkpoints(s, times),
-        b'S' => behind::sends(s, times),
-        b'D' => behind::delivers(s, times),
-        b'L' => behind::loses(s, times),
-        b'I' => behind::lines(s, times),
-        b'R' => behind::recovers(s, times),
-        _ => behind::tests(s, times),
+        _ => exported::tests(s, times),
     }
 }
 

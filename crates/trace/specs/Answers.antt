@@ -23,9 +23,9 @@ unfoldable pub eventIn : List ℕ → Option Event
 eventIn part = pick (eqb (length part) 4) (decoded part) none
 
 -- The answer of `decode` as the model has it.
-unfoldable pub answered : Decoded → Option Event
-answered Malformed = none
-answered (StandsFor e) = some e
+unfoldable pub eventRead : Decoded → Option Event
+eventRead Malformed = none
+eventRead (StandsFor e) = some e
 
 -- The record of an event: zeros where the event does not fit the fields.
 unfoldable pub recordOf : Event → Encoded

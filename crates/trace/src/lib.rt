@@ -5,7 +5,7 @@ ghost use mathlib.Core.Path.{_≡_};
 ghost use Prim.Native.Nat.{_≤_, _<_};
 ghost use lib.ListN.{length};
 ghost use Rattle.model.specs.Trace.{word, fields, ifZero, eventOf, fieldsOf, wordOf, bytesOf};
-ghost use Rattle.trace.specs.Answers.{recordAt, eventIn, answered, recordOf};
+ghost use Rattle.trace.specs.Answers.{recordAt, eventIn, eventRead, recordOf};
 
 // What a part of a trace is found to be.
 pub enum Decoded {
@@ -62,7 +62,7 @@ fn fields_in(part: &[u8]) -> Fields
 
 // The event, if the field that must be zero is.
 fn if_zero(field: usize, e: Event) -> Decoded
-    ensures { λ r. ⌜ answered r ≡ ifZero field e ⌝ }
+    ensures { λ r. ⌜ eventRead r ≡ ifZero field e ⌝ }
 {
     if field == 0 {
         Decoded::StandsFor(e)
@@ -72,7 +72,7 @@ fn if_zero(field: usize, e: Event) -> Decoded
 }
 
 fn event_of(r: Fields) -> Decoded
-    ensures { λ d. ⌜ answered d ≡ eventOf r ⌝ }
+    ensures { λ d. ⌜ eventRead d ≡ eventOf r ⌝ }
 {
     let process = r.process;
     let argument = r.argument;
@@ -89,7 +89,7 @@ fn event_of(r: Fields) -> Decoded
 
 // The event that a part of a trace stands for. A part that is no four bytes long is malformed.
 pub fn decode(part: &[u8]) -> Decoded
-    ensures { λ d. ⌜ answered d ≡ eventIn (now (part .entry)) ⌝ }
+    ensures { λ d. ⌜ eventRead d ≡ eventIn (now (part .entry)) ⌝ }
 {
     if part.len() != 4 {
         return Decoded::Malformed;

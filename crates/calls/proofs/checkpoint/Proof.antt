@@ -6,9 +6,6 @@ use Rattle.calls.proofs.Unsound.{is-sound, is-unsound, checkpoint-unsou
 use Rattle.calls.proofs.checkpoint.Statement.{statement}
 use Rattle.calls.proofs.checkpoint.Tie as tie
 
-is-sound-requires : tie.Need-is-sound-requires
-is-sound-requires c κs = search needs
-
 returns : tie.Need-returns
 returns c =
     let a = c .before .before .before .args in
@@ -20,9 +17,6 @@ checkpoint-requires c κs =
     let d = c .before in
     is-sound (d .before .before .before .args .s) (d .before .is-sound .ensures) (d .if1 .left)
 
-same-length : tie.Need-same-length
-same-length c = search needs
-
 returns-2 : tie.Need-returns-2
 returns-2 c =
     let w = c .before .before in
@@ -31,4 +25,4 @@ returns-2 c =
     (g .0 .0, (g .0 .1, (g .1, checkpoint-promise (a .s) (a .i) (a .deleted .now) (w .checkpoint .result .run) (g .0 .0))))
 
 pub checkpoint-spec : {M : Type 1} → statement M
-checkpoint-spec = tie.close (tie.spec is-sound-requires returns checkpoint-requires same-length returns-2)
+checkpoint-spec = tie.close (tie.spec (λ c κs. search needs) returns checkpoint-requires (λ c. search needs) returns-2)

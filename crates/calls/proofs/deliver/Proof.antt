@@ -6,9 +6,6 @@ use Rattle.calls.proofs.Unsound.{is-sound, is-unsound, deliver-unsound}
 use Rattle.calls.proofs.deliver.Statement.{statement}
 use Rattle.calls.proofs.deliver.Tie as tie
 
-is-sound-requires : tie.Need-is-sound-requires
-is-sound-requires c κs = search needs
-
 returns : tie.Need-returns
 returns c =
     let a = c .before .before .before .args in
@@ -20,9 +17,6 @@ deliver-requires c κs =
     let d = c .before in
     is-sound (d .before .before .before .args .s) (d .before .is-sound .ensures) (d .if1 .left)
 
-same-length : tie.Need-same-length
-same-length c = search needs
-
 returns-2 : tie.Need-returns-2
 returns-2 c =
     let w = c .before .before in
@@ -31,4 +25,4 @@ returns-2 c =
     (g .0, (g .1 .0, (g .1 .1, deliver-promise (a .s) (a .m) (a .deleted .now) (w .deliver .result .run) (g .0))))
 
 pub deliver-spec : {M : Type 1} → statement M
-deliver-spec = tie.close (tie.spec is-sound-requires returns deliver-requires same-length returns-2)
+deliver-spec = tie.close (tie.spec (λ c κs. search needs) returns deliver-requires (λ c. search needs) returns-2)

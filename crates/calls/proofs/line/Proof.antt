@@ -6,9 +6,6 @@ use Rattle.calls.proofs.Unsound.{is-sound, is-unsound, line-unsound}
 use Rattle.calls.proofs.line.Statement.{statement}
 use Rattle.calls.proofs.line.Tie as tie
 
-is-sound-requires : tie.Need-is-sound-requires
-is-sound-requires c κs = search needs
-
 returns : tie.Need-returns
 returns c =
     let a = c .before .before .before .args in
@@ -20,9 +17,6 @@ line-requires c κs =
     let d = c .before in
     is-sound (d .before .before .before .args .s) (d .before .is-sound .ensures) (d .if1 .left)
 
-same-length : tie.Need-same-length
-same-length c = search needs
-
 returns-2 : tie.Need-returns-2
 returns-2 c =
     let w = c .before .before in
@@ -31,4 +25,4 @@ returns-2 c =
     (g .0, (g .1 .0, (g .1 .1, line-promise (a .s) (a .failed))))
 
 pub line-spec : {M : Type 1} → statement M
-line-spec = tie.close (tie.spec is-sound-requires returns line-requires same-length returns-2)
+line-spec = tie.close (tie.spec (λ c κs. search needs) returns line-requires (λ c. search needs) returns-2)

@@ -5,9 +5,6 @@ use Rattle.calls.proofs.Unsound.{is-sound, is-unsound, lose-unsound}
 use Rattle.calls.proofs.lose.Statement.{statement}
 use Rattle.calls.proofs.lose.Tie as tie
 
-is-sound-requires : tie.Need-is-sound-requires
-is-sound-requires c κs = search needs
-
 returns : tie.Need-returns
 returns c =
     let a = c .before .before .args in
@@ -20,4 +17,4 @@ returns-2 : tie.Need-returns-2
 returns-2 c = c .lose .ensures
 
 pub lose-spec : {M : Type 1} → statement M
-lose-spec = tie.close (tie.spec is-sound-requires returns lose-requires returns-2)
+lose-spec = tie.close (tie.spec (λ c κs. search needs) returns lose-requires returns-2)

@@ -6,9 +6,6 @@ use Rattle.calls.proofs.Unsound.{is-sound, is-unsound, recover-unsound}
 use Rattle.calls.proofs.recover.Statement.{statement}
 use Rattle.calls.proofs.recover.Tie as tie
 
-is-sound-requires : tie.Need-is-sound-requires
-is-sound-requires c κs = search needs
-
 returns : tie.Need-returns
 returns c =
     let a = c .before .before .before .before .args in
@@ -20,12 +17,6 @@ recover-requires c κs =
     let d = c .before .before in
     is-sound (d .before .before .before .before .args .s) (d .before .is-sound .ensures) (d .if1 .left)
 
-same-length : tie.Need-same-length
-same-length c = search needs
-
-same-length-2 : tie.Need-same-length-2
-same-length-2 c = search needs
-
 returns-2 : tie.Need-returns-2
 returns-2 c =
     let w = c .before .before .before .before in
@@ -34,4 +25,4 @@ returns-2 c =
     (g .0, (g .1 .0, (g .1 .1 .0, (g .1 .1 .1, (line-promise (a .s) (a .failed), recover-promise (a .s) (a .failed) (a .deleted .now) (a .line .now) (w .recover .result .run) (g .0))))))
 
 pub recover-spec : {M : Type 1} → statement M
-recover-spec = tie.close (tie.spec is-sound-requires returns recover-requires same-length same-length-2 returns-2)
+recover-spec = tie.close (tie.spec (λ c κs. search needs) returns recover-requires (λ c. search needs) (λ c. search needs) returns-2)

@@ -5,9 +5,6 @@ use Rattle.calls.proofs.Unsound.{is-sound, is-unsound, send-unsound}
 use Rattle.calls.proofs.send.Statement.{statement}
 use Rattle.calls.proofs.send.Tie as tie
 
-is-sound-requires : tie.Need-is-sound-requires
-is-sound-requires c κs = search needs
-
 returns : tie.Need-returns
 returns c =
     let a = c .before .before .args in
@@ -20,4 +17,4 @@ returns-2 : tie.Need-returns-2
 returns-2 c = c .send .ensures
 
 pub send-spec : {M : Type 1} → statement M
-send-spec = tie.close (tie.spec is-sound-requires returns send-requires returns-2)
+send-spec = tie.close (tie.spec (λ c κs. search needs) returns send-requires returns-2)

@@ -22,9 +22,6 @@ loop-holds : tie.Need-loop-holds Inv-loop μ-loop
 unfolding decimal
 loop-holds c = (search needs, search needs, refl, at-least-one 19 (c .args .x))
 
-add-digits : tie.Need-add-digits Inv-loop μ-loop
-add-digits c = search needs
-
 returns : tie.Need-returns Inv-loop μ-loop
 unfolding decimal
 returns c =
@@ -36,9 +33,6 @@ mul-limit : tie.Need-mul-limit Inv-loop μ-loop
 mul-limit c =
     let l = c .before .before .loop in
     omega (arith, pow-le-pow-right {n = 10} (omega arith) {i = l .digits} {j = 18} (omega arith))
-
-loop-less : tie.Need-loop-less Inv-loop μ-loop
-loop-less c = search needs
 
 loop-again : tie.Need-loop-again Inv-loop μ-loop
 unfolding decimal
@@ -61,9 +55,9 @@ width-spec =
     Inv-loop
     μ-loop
     loop-holds
-    add-digits
+    (λ c. search needs)
     returns
     mul-limit
-    loop-less
+    (λ c. search needs)
     loop-again
     returns-2)

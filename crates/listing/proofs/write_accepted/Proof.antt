@@ -5,7 +5,7 @@ use mathlib.Core.List.{List, [], _∷_, _++_}
 use Prim.Native.Nat.{ℕ}
 use denote.Ref.{now}
 use Rattle.model.specs.Listing.{decimal, space, valueText, deletionsText, acceptedText}
-use Rattle.listing.specs.Lines.{valueOf, replyOf}
+use Rattle.listing.specs.Lines.{valueIn, replyOf}
 use Rattle.listing.specs.Printed.{Room}
 use Rattle.listing.proofs.Texts.{then, room-first, room-rest}
 use Rattle.listing.proofs.write_accepted.Statement.{statement}
@@ -16,7 +16,7 @@ abbrev from-count : tie.Start → List ℕ
 from-count c = decimal (c .args .said .deletions) ++ deletionsText (c .args .said .deletions) (now (c .args .deleted))
 
 abbrev from-value : tie.Start → List ℕ
-from-value c = valueText (valueOf (c .args .said .value)) ++ (space ∷ from-count c)
+from-value c = valueText (valueIn (c .args .said .value)) ++ (space ∷ from-count c)
 
 -- The room that is left behind each text.
 room-1 : (c : tie.After-write-byte) → Room (c .write-byte .last .0) (c .write-byte .result) (from-value (c .before .before .before .before))
@@ -39,7 +39,7 @@ write-value-requires : tie.Need-write-value-requires
 write-value-requires c κs =
     let p = c .before .before .before in
     let start = p .before .before .before .before in
-    room-first (p .write-byte .last .0) (p .write-byte .result) (valueText (valueOf (start .args .said .value))) (space ∷ from-count start) (room-1 p)
+    room-first (p .write-byte .last .0) (p .write-byte .result) (valueText (valueIn (start .args .said .value))) (space ∷ from-count start) (room-1 p)
 
 write-byte-requires-2 : tie.Need-write-byte-requires-2
 write-byte-requires-2 c κs =
@@ -58,9 +58,6 @@ write-deletions-requires c κs =
     let p = c .before .before .before in
     let start = p .before .before .before .before .before .before .before .before .before .before .before .before .before .before .before .before in
     (start .pre .0, room-rest (deletionsText (start .args .said .deletions) (now (start .args .deleted))) (p .write-number .ensures) (room-3 (p .before .before .before .before)))
-
-same-length : tie.Need-same-length
-same-length c = search needs
 
 returns : tie.Need-returns
 unfolding acceptedText replyOf
@@ -81,5 +78,5 @@ write-accepted-spec =
     write-byte-requires-2
     write-number-requires
     write-deletions-requires
-    same-length
+    (λ c. search needs)
     returns)

@@ -24,27 +24,6 @@ loop-holds : tie.Need-loop-holds Inv-loop μ-loop
 unfolding deletionsText
 loop-holds c = (search needs, refl, nothing (now (c .before .before .args .out)) (c .before .before .args .at))
 
-mul-process : tie.Need-mul-process Inv-loop μ-loop
-mul-process c = search needs
-
-mul-process-2 : tie.Need-mul-process-2 Inv-loop μ-loop
-mul-process-2 c = search needs
-
-shared-slice-read-process : tie.Need-shared-slice-read-process Inv-loop μ-loop
-shared-slice-read-process c = search needs
-
-mul-index : tie.Need-mul-index Inv-loop μ-loop
-mul-index c = search needs
-
-add-index : tie.Need-add-index Inv-loop μ-loop
-add-index c = search needs
-
-mul-index-2 : tie.Need-mul-index-2 Inv-loop μ-loop
-mul-index-2 c = search needs
-
-shared-slice-read-index : tie.Need-shared-slice-read-index Inv-loop μ-loop
-shared-slice-read-index c = search needs
-
 write-pair-requires : tie.Need-write-pair-requires Inv-loop μ-loop
 write-pair-requires c κs =
     let l = c .before .before .before .before .loop in
@@ -53,12 +32,6 @@ write-pair-requires c κs =
     room-rest (pairText (getD d (2 * l .k) 0) (getD d (2 * l .k + 1) 0)) (l .inv .2)
     (room-for-one-more (now (start .args .out)) (start .args .at) (l .k) (start .args .count) d (c .before .before .before .loop-test .taken) (start .pre .0) (start .pre .1))
 
-add-k : tie.Need-add-k Inv-loop μ-loop
-add-k c = search needs
-
-loop-less : tie.Need-loop-less Inv-loop μ-loop
-loop-less c = search needs
-
 loop-again : tie.Need-loop-again Inv-loop μ-loop
 loop-again c =
     let printed = c .before .before .write-pair in
@@ -66,9 +39,6 @@ loop-again c =
     let start = c .before .before .before .before .before .before .before .before .before .before in
     let d = now (start .args .deleted) in
     (search needs, printed .kept .0 ∙ l .inv .1, rw (add-one, one-more (l .k) d (omega arith)) (then (l .inv .2) (printed .ensures)))
-
-same-length : tie.Need-same-length Inv-loop μ-loop
-same-length c = search needs
 
 returns : tie.Need-returns Inv-loop μ-loop
 returns c =
@@ -83,16 +53,16 @@ write-deletions-spec =
     Inv-loop
     μ-loop
     loop-holds
-    mul-process
-    mul-process-2
-    shared-slice-read-process
-    mul-index
-    add-index
-    mul-index-2
-    shared-slice-read-index
+    (λ c. search needs)
+    (λ c. search needs)
+    (λ c. search needs)
+    (λ c. search needs)
+    (λ c. search needs)
+    (λ c. search needs)
+    (λ c. search needs)
     write-pair-requires
-    add-k
-    loop-less
+    (λ c. search needs)
+    (λ c. search needs)
     loop-again
-    same-length
+    (λ c. search needs)
     returns)

@@ -84,9 +84,6 @@ write-byte-requires-3 c κs =
     let p = c .before .before .before in
     room-rest (lineFeed ∷ []) (p .write-accepted .ensures) (room-told (p .before .before .before .before))
 
-cast-write-number : tie.Need-cast-write-number
-cast-write-number c = search needs
-
 write-number-requires-2 : tie.Need-write-number-requires-2
 write-number-requires-2 c κs =
     let p = c .before .before .before .before in
@@ -96,9 +93,6 @@ write-byte-requires-4 : tie.Need-write-byte-requires-4
 write-byte-requires-4 c κs =
     let p = c .before .before .before in
     room-rest (lineFeed ∷ []) (p .write-number2 .ensures) (room-refused (p .before .before))
-
-same-length : tie.Need-same-length
-same-length c = search needs
 
 returns : tie.Need-returns
 unfolding lineText replyOf
@@ -110,9 +104,6 @@ returns c =
     let p1 = p2 .before .before .before .before in
     rw (accepted-rest (p3 .before .before))
     (then (p1 .write-number .ensures) (then (p2 .write-byte .ensures) (then (p3 .write-byte2 .ensures) (then (p4 .write-accepted .ensures) (p5 .write-byte3 .ensures)))))
-
-same-length-2 : tie.Need-same-length-2
-same-length-2 c = search needs
 
 returns-2 : tie.Need-returns-2
 unfolding lineText replyOf
@@ -133,10 +124,10 @@ write-line-spec =
     write-byte-requires-2
     write-accepted-requires
     write-byte-requires-3
-    cast-write-number
+    (λ c. search needs)
     write-number-requires-2
     write-byte-requires-4
-    same-length
+    (λ c. search needs)
     returns
-    same-length-2
+    (λ c. search needs)
     returns-2)

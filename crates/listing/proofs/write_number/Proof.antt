@@ -19,12 +19,6 @@ Inv-loop out₀ at x end place₀ rest₀ out place rest = Storing out₀ at x o
 abbrev μ-loop : tie.MeasureT-loop
 μ-loop out₀ at x end place₀ rest₀ out place rest = rest
 
-width-requires : tie.Need-width-requires Inv-loop μ-loop
-width-requires c κs = search needs
-
-add-end : tie.Need-add-end Inv-loop μ-loop
-add-end c = search needs
-
 loop-holds : tie.Need-loop-holds Inv-loop μ-loop
 loop-holds c =
     let a = c .before .before .args in
@@ -64,20 +58,8 @@ two-left c =
 sub-place : tie.Need-sub-place Inv-loop μ-loop
 sub-place c = two-before c
 
-add-out : tie.Need-add-out Inv-loop μ-loop
-add-out c = search needs
-
-cast-out : tie.Need-cast-out Inv-loop μ-loop
-cast-out c = search needs
-
 slice-write-out : tie.Need-slice-write-out Inv-loop μ-loop
 slice-write-out c = omega (arith, room (c .before), two-before c)
-
-add-out-2 : tie.Need-add-out-2 Inv-loop μ-loop
-add-out-2 c = search needs
-
-cast-out-2 : tie.Need-cast-out-2 Inv-loop μ-loop
-cast-out-2 c = search needs
 
 add-out-3 : tie.Need-add-out-3 Inv-loop μ-loop
 add-out-3 c = omega (arith, room (c .before), two-before c)
@@ -87,32 +69,14 @@ slice-write-out-2 c =
     let l = c .before .loop in
     still-inside (l .out) (l .place - 2) _ (l .place - 2 + 1) (omega (arith, room (c .before), two-before c))
 
-loop-less : tie.Need-loop-less Inv-loop μ-loop
-loop-less c = search needs
-
 loop-again : tie.Need-loop-again Inv-loop μ-loop
 loop-again c =
     let a = start (c .before) .args in
     let l = c .before .loop in
     two-stored (now (a .out)) (a .at) (a .x) (l .out) (l .place) (l .rest) (l .inv) (c .loop-test .taken)
 
-add-out-4 : tie.Need-add-out-4 Inv-loop μ-loop
-add-out-4 c = search needs
-
-cast-out-3 : tie.Need-cast-out-3 Inv-loop μ-loop
-cast-out-3 c = search needs
-
 slice-write-out-3 : tie.Need-slice-write-out-3 Inv-loop μ-loop
 slice-write-out-3 c = omega (arith, room (c .before .before))
-
-add-out-5 : tie.Need-add-out-5 Inv-loop μ-loop
-add-out-5 c = search needs
-
-cast-out-4 : tie.Need-cast-out-4 Inv-loop μ-loop
-cast-out-4 c = search needs
-
-add-out-6 : tie.Need-add-out-6 Inv-loop μ-loop
-add-out-6 c = search needs
 
 slice-write-out-4 : tie.Need-slice-write-out-4 Inv-loop μ-loop
 slice-write-out-4 c =
@@ -120,23 +84,11 @@ slice-write-out-4 c =
     let l = c .before .before .loop in
     still-inside (l .out) (a .at) _ (a .at + 1) (omega (arith, room (c .before .before), two-left c .0))
 
-add-out-7 : tie.Need-add-out-7 Inv-loop μ-loop
-add-out-7 c = search needs
-
-cast-out-5 : tie.Need-cast-out-5 Inv-loop μ-loop
-cast-out-5 c = search needs
-
 slice-write-out-5 : tie.Need-slice-write-out-5 Inv-loop μ-loop
 slice-write-out-5 c = omega (arith, room (c .before .before))
 
-same-length : tie.Need-same-length Inv-loop μ-loop
-same-length c = search needs
-
 returns : tie.Need-returns Inv-loop μ-loop
 returns c = record { next-place = search needs; holds = two-left c .1 }
-
-same-length-2 : tie.Need-same-length-2 Inv-loop μ-loop
-same-length-2 c = search needs
 
 returns-2 : tie.Need-returns-2 Inv-loop μ-loop
 returns-2 c =
@@ -150,30 +102,30 @@ write-number-spec =
     (tie.spec
     Inv-loop
     μ-loop
-    width-requires
-    add-end
+    (λ c κs. search needs)
+    (λ c. search needs)
     loop-holds
     sub-place
-    add-out
-    cast-out
+    (λ c. search needs)
+    (λ c. search needs)
     slice-write-out
-    add-out-2
-    cast-out-2
+    (λ c. search needs)
+    (λ c. search needs)
     add-out-3
     slice-write-out-2
-    loop-less
+    (λ c. search needs)
     loop-again
-    add-out-4
-    cast-out-3
+    (λ c. search needs)
+    (λ c. search needs)
     slice-write-out-3
-    add-out-5
-    cast-out-4
-    add-out-6
+    (λ c. search needs)
+    (λ c. search needs)
+    (λ c. search needs)
     slice-write-out-4
-    add-out-7
-    cast-out-5
+    (λ c. search needs)
+    (λ c. search needs)
     slice-write-out-5
-    same-length
+    (λ c. search needs)
     returns
-    same-length-2
+    (λ c. search needs)
     returns-2)

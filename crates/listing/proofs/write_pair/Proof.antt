@@ -45,9 +45,6 @@ write-byte-requires-2 c κs =
 write-number-requires-2 : tie.Need-write-number-requires-2
 write-number-requires-2 c κs = room-3 (c .before .before .before)
 
-same-length : tie.Need-same-length
-same-length c = search needs
-
 returns : tie.Need-returns
 unfolding pairText
 returns c =
@@ -65,5 +62,5 @@ write-pair-spec =
     write-number-requires
     write-byte-requires-2
     write-number-requires-2
-    same-length
+    (λ c. search needs)
     returns)

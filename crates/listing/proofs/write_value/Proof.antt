@@ -2,47 +2,35 @@
 -- Assumes nothing.
 use borrow.Author.Needs.{needs}
 use Rattle.model.specs.Listing.{valueText}
-use Rattle.listing.specs.Lines.{valueOf}
+use Rattle.listing.specs.Lines.{valueIn}
 use Rattle.listing.proofs.write_value.Statement.{statement}
 use Rattle.listing.proofs.write_value.Tie as tie
 
-enum-told : tie.Need-enum-told
-enum-told c = search needs
-
 write-byte-requires : tie.Need-write-byte-requires
-unfolding valueText valueOf
+unfolding valueText valueIn
 write-byte-requires c κs = rw (c .before .enum-told .given .1) at (c .before .before .before .before .pre)
 
-enum-known-value : tie.Need-enum-known-value
-enum-known-value c = search needs
-
 write-number-requires : tie.Need-write-number-requires
-unfolding valueText valueOf
+unfolding valueText valueIn
 write-number-requires c κs = rw (c .before .before .value .given .1) at (c .before .before .before .before .before .pre)
 
-same-length : tie.Need-same-length
-same-length c = search needs
-
 returns : tie.Need-returns
-unfolding valueText valueOf
+unfolding valueText valueIn
 returns c = rw (c .before .before .before .before .enum-told .given .1) (c .before .before .write-byte .ensures)
 
-same-length-2 : tie.Need-same-length-2
-same-length-2 c = search needs
-
 returns-2 : tie.Need-returns-2
-unfolding valueText valueOf
+unfolding valueText valueIn
 returns-2 c = rw (c .before .before .before .before .before .value .given .1) (c .before .before .write-number .ensures)
 
 pub write-value-spec : {M : Type 1} → statement M
 write-value-spec =
     tie.close
     (tie.spec
-    enum-told
+    (λ c. search needs)
     write-byte-requires
-    enum-known-value
+    (λ c. search needs)
     write-number-requires
-    same-length
+    (λ c. search needs)
     returns
-    same-length-2
+    (λ c. search needs)
     returns-2)

@@ -10,6 +10,7 @@ use native.Mathlib.Omega.{arith}
 use lib.Dec.{ltb}
 use lib.ListN.{length, getD}
 use Rattle.laws.specs.Choice.{by-bool}
+use Rattle.laws.specs.Counting.{count-same}
 use Rattle.laws.specs.Front.{getD-written, written-front}
 use Rattle.laws.specs.Lists.{table}
 use Rattle.laws.specs.Tables.{length-table, getD-table, table-same}
@@ -51,12 +52,6 @@ refused-reply s (deliver m deleted) x e = (rw e, rw e, rw e, rw e)
 refused-reply s (lose m) x e = (rw e, rw e, rw e, rw e)
 refused-reply s (recover F deleted lent) x e = (rw e, rw e, rw e, rw e)
 refused-reply s (line F lent) x e = (rw e, rw e, rw e, rw e)
-
--- Two tests that agree below a bound count the same.
-count-same : (n : ℕ) (t u : ℕ → Bool) → ((k : ℕ) → k < n → t k ≡ u k) → countBelow n t ≡ countBelow n u
-unfolding countBelow
-count-same zero t u h = refl
-count-same (suc n) t u h = rw (h n (omega arith), count-same n t u (λ k lt. h k (omega arith)))
 
 module _ (h : Surviving) (r : Ideal) (v : Inv r) (fit : Limits r) (memory : Memory r) (g : Agrees h r) where
   few : r .n ≤ places

@@ -1,4 +1,4 @@
--- `plans::deliver_plan` meets its contract, by whether the message is in transit, brings something new, and finds a checkpoint to be stored.
+-- `plans::deliver_plan` meets its contract, by whether the message is under way, brings something new, and finds a checkpoint to be stored.
 -- Assumes nothing.
 use borrow.Author.Needs.{needs}
 use mathlib.Core.Path.{_≡_, sym, _∙_}
@@ -6,20 +6,14 @@ use mathlib.Core.Bool.{false, _&&_}
 use lib.Dec.{leb}
 use borrow.Author.Tests.{not-true, not-false}
 use Rattle.laws.specs.Loops.{either}
-use Rattle.plans.proofs.Found.{deliver-missing, deliver-old, deliver-full, deliver-new, mark-fits, unmarked-fits}
+use Rattle.plans.proofs.Cases.{deliver-missing, deliver-old, deliver-full, deliver-new, mark-full, mark-fits, unmarked-fits}
 use Rattle.plans.proofs.deliver_plan.Statement.{statement}
 use Rattle.plans.proofs.deliver_plan.Tie as tie
-
-unchanged-requires : tie.Need-unchanged-requires
-unchanged-requires c κs = search needs
 
 returns : tie.Need-returns
 returns c =
     let a = c .before .before .args in
     c .unchanged .ensures ∙ sym (deliver-missing (a .vector) (a .own) (a .mark) (a .t) (not-true _ (c .before .if1 .taken)))
-
-is-newer-requires : tie.Need-is-newer-requires
-is-newer-requires c κs = search needs
 
 without-it-requires : tie.Need-without-it-requires
 without-it-requires c κs = c .before .before .before .before .before .pre (not-false _ (c .before .before .before .before .if1 .left))
@@ -31,15 +25,12 @@ returns-2 c =
     let old = sym (c .before .before .is-newer .ensures) ∙ not-true _ (c .before .if2 .taken) in
     c .without-it .ensures ∙ sym (deliver-old (a .vector) (a .own) (a .mark) (a .t) e old)
 
-unchanged-requires-2 : tie.Need-unchanged-requires-2
-unchanged-requires-2 c κs = search needs
-
 returns-3 : tie.Need-returns-3
 returns-3 c =
     let a = c .before .before .before .before .before .before .before .before .before .args in
     let e = not-false _ (c .before .before .before .before .before .before .before .before .if1 .left) in
     let new = sym (c .before .before .before .before .before .is-newer .ensures) ∙ not-false _ (c .before .before .before .before .if2 .left) in
-    c .unchanged2 .ensures ∙ sym (deliver-full (a .vector) (a .own) (a .mark) (a .t) e new (c .before .before .before .if3 .taken) (c .before .if4 .taken))
+    c .unchanged2 .ensures ∙ sym (deliver-full (a .vector) (a .own) (a .mark) (a .t) e new (mark-full (a .mark) (a .own) (c .before .before .before .if3 .taken) (c .before .if4 .taken)))
 
 receipt-plan-requires : tie.Need-receipt-plan-requires
 receipt-plan-requires c κs = c .before .before .before .before .before .before .pre (not-false _ (c .before .before .before .before .before .if1 .left))
@@ -57,12 +48,12 @@ pub deliver-plan-spec : {M : Type 1} → statement M
 deliver-plan-spec =
     tie.close
     (tie.spec
-    unchanged-requires
+    (λ c κs. search needs)
     returns
-    is-newer-requires
+    (λ c κs. search needs)
     without-it-requires
     returns-2
-    unchanged-requires-2
+    (λ c κs. search needs)
     returns-3
     receipt-plan-requires
     returns-4)

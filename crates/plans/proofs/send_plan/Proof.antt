@@ -3,21 +3,15 @@
 use native.Mathlib.Omega.{arith}
 use borrow.Author.Needs.{needs}
 use borrow.Author.Tests.{le-leb, lt-leb, eq-eqb, ne-eqb}
-use Rattle.plans.specs.Planned.{sendPlan}
+use Rattle.plans.specs.Planned.{sentPlan, sendPlan}
 use Rattle.plans.proofs.send_plan.Statement.{statement}
 use Rattle.plans.proofs.send_plan.Tie as tie
-
-unchanged-requires : tie.Need-unchanged-requires
-unchanged-requires c κs = search needs
 
 returns : tie.Need-returns
 unfolding sendPlan
 returns c =
     let a = c .before .before .args in
     rw (le-leb (a .n) (a .sender) (c .before .if1 .taken)) (c .unchanged .ensures)
-
-unchanged-requires-2 : tie.Need-unchanged-requires-2
-unchanged-requires-2 c κs = search needs
 
 returns-2 : tie.Need-returns-2
 unfolding sendPlan
@@ -27,9 +21,6 @@ returns-2 c =
       lt-leb (a .n) (a .sender) (c .before .before .if1 .left),
       le-leb (a .n) (a .receiver) (c .before .if2 .taken),
     ) (c .unchanged2 .ensures)
-
-unchanged-requires-3 : tie.Need-unchanged-requires-3
-unchanged-requires-3 c κs = search needs
 
 returns-3 : tie.Need-returns-3
 unfolding sendPlan
@@ -41,9 +32,6 @@ returns-3 c =
       eq-eqb (a .sender) (a .receiver) (c .before .if3 .taken),
     ) (c .unchanged3 .ensures)
 
-unchanged-requires-4 : tie.Need-unchanged-requires-4
-unchanged-requires-4 c κs = search needs
-
 returns-4 : tie.Need-returns-4
 unfolding sendPlan
 returns-4 c =
@@ -54,9 +42,6 @@ returns-4 c =
       ne-eqb (a .sender) (a .receiver) (c .before .before .before .if3 .left),
       le-leb 64 (a .t .underway) (c .before .if4 .taken),
     ) (c .unchanged4 .ensures)
-
-unchanged-requires-5 : tie.Need-unchanged-requires-5
-unchanged-requires-5 c κs = search needs
 
 returns-5 : tie.Need-returns-5
 unfolding sendPlan
@@ -70,42 +55,33 @@ returns-5 c =
       le-leb 1000000 (a .t .last) (omega (arith, c .before .if5 .taken)),
     ) (c .unchanged5 .ensures)
 
-add-number : tie.Need-add-number
-add-number c = search needs
-
-cast-t10 : tie.Need-cast-t10
-cast-t10 c = search needs
-
-add-t12 : tie.Need-add-t12
-add-t12 c = search needs
-
 returns-6 : tie.Need-returns-6
-unfolding sendPlan
+unfolding sendPlan sentPlan
 returns-6 c =
-    let a = c .before .before .before .before .before .before .before .before .before .args in
+    let a = c .before .before .before .before .before .before .before .before .before .before .args in
     rw (
-      lt-leb (a .n) (a .sender) (c .before .before .before .before .before .before .before .before .if1 .left),
-      lt-leb (a .n) (a .receiver) (c .before .before .before .before .before .before .before .if2 .left),
-      ne-eqb (a .sender) (a .receiver) (c .before .before .before .before .before .before .if3 .left),
-      lt-leb 64 (a .t .underway) (c .before .before .before .before .if4 .left),
-      lt-leb 1000000 (a .t .last) (c .before .before .if5 .left),
+      lt-leb (a .n) (a .sender) (c .before .before .before .before .before .before .before .before .before .if1 .left),
+      lt-leb (a .n) (a .receiver) (c .before .before .before .before .before .before .before .before .if2 .left),
+      ne-eqb (a .sender) (a .receiver) (c .before .before .before .before .before .before .before .if3 .left),
+      lt-leb 64 (a .t .underway) (c .before .before .before .before .before .if4 .left),
+      lt-leb 1000000 (a .t .last) (c .before .before .before .if5 .left),
     )
 
 pub send-plan-spec : {M : Type 1} → statement M
 send-plan-spec =
     tie.close
     (tie.spec
-    unchanged-requires
+    (λ c κs. search needs)
     returns
-    unchanged-requires-2
+    (λ c κs. search needs)
     returns-2
-    unchanged-requires-3
+    (λ c κs. search needs)
     returns-3
-    unchanged-requires-4
+    (λ c κs. search needs)
     returns-4
-    unchanged-requires-5
+    (λ c κs. search needs)
     returns-5
-    add-number
-    cast-t10
-    add-t12
+    (λ c. search needs)
+    (λ c. search needs)
+    (λ c. search needs)
     returns-6)

@@ -35,7 +35,7 @@ use denote.Triple.Spec.{Meets, tripleOf}
 use denote.Triple.Table.{entered, cited}
 use denote.Triple.Walked.{says, walkOf, ends-at}
 use denote.Triple.Clauses.{ensured, lasts}
-use Rattle.reader.specs.Reading.{takenAfter, advanced}
+use Rattle.reader.specs.Reading.{takenAfter, readerAfter}
 use Rattle.reader.specs.declared.Reader.{Reader}
 use Rattle.reader.proofs.Reader.Laws as T′
 use Rattle.reader.proofs.Held.{α, B, D, L, fieldsOf, Typed, OwnReader, TakesReader, TakesBytes, bytesAnd, keptReader, Entry, reader-meets, taken-apart}
@@ -59,8 +59,8 @@ res = plain B
 abbrev at : Reader → ℕ → Reader
 at d n = record { trace = d .trace; taken = n }
 
-at-advanced : (d : Reader) (n : ℕ) → n ≡ takenAfter (now (d .trace)) (d .taken) → at d n ≡ advanced d
-unfolding advanced
+at-advanced : (d : Reader) (n : ℕ) → n ≡ takenAfter (now (d .trace)) (d .taken) → at d n ≡ readerAfter d
+unfolding readerAfter
 at-advanced d n e = λ i. at d (e i)
 
 module _ {M : Type 1} (𝓤 : URA M) (H : Heap 𝓤) (A : Atoms 𝓤) (mem : Memory → SProp 𝓤) (run : Routine → Fun 𝓤) where

@@ -11,23 +11,20 @@ use Rattle.reader.specs.Reading.{recordLeft, takenAfter}
 use Rattle.reader.proofs.count_behind.Statement.{statement}
 use Rattle.reader.proofs.count_behind.Tie as tie
 
-left-behind-requires : tie.Need-left-behind-requires
-left-behind-requires c κs = search needs
-
 add-result : tie.Need-add-result
 unfolding recordLeft
 add-result c =
     let a = c .before .before .before .args in
-    let left = leb-true (1 + 4 * a .taken + 4) (length (now (a .trace))) (sym (c .before .left-behind .ensures) ∙ c .if1 .taken) in
+    let left = leb-true (1 + 4 * a .taken + 4) (length (now (a .trace))) (sym (c .before .record-left .ensures) ∙ c .if1 .taken) in
     record { fits = omega (arith, left, c .before .before .before .good .0) }
 
 returns : tie.Need-returns
 unfolding takenAfter
-returns c = rw (sym (c .before .left-behind .ensures), c .if1 .taken)
+returns c = rw (sym (c .before .record-left .ensures), c .if1 .taken)
 
 returns-2 : tie.Need-returns-2
 unfolding takenAfter
-returns-2 c = rw (sym (c .before .left-behind .ensures), c .if1 .left)
+returns-2 c = rw (sym (c .before .record-left .ensures), c .if1 .left)
 
 pub count-behind-spec : {M : Type 1} → statement M
-count-behind-spec = tie.close (tie.spec left-behind-requires add-result returns returns-2)
+count-behind-spec = tie.close (tie.spec (λ c κs. search needs) add-result returns returns-2)

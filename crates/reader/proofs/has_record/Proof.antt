@@ -35,10 +35,10 @@ use Rattle.reader.specs.Reading.{recordLeft}
 use Rattle.reader.specs.declared.Reader.{Reader}
 use Rattle.reader.proofs.Reader.Laws as T′
 use Rattle.reader.proofs.Held.{Typed, OwnReader, TakesReader, TakesBytes, bytesAnd, keptReader, Entry, reader-meets, taken-apart}
-use Rattle.reader.proofs.left_behind as callee
-use Rattle.reader.proofs.left_behind.Symbol as callee-def
-use Rattle.reader.proofs.left_behind.Symbol.{name as #left-behind}
-use Rattle.reader.proofs.left_behind.Met as callee-thm
+use Rattle.reader.proofs.record_left as callee
+use Rattle.reader.proofs.record_left.Symbol as callee-def
+use Rattle.reader.proofs.record_left.Symbol.{name as #record-left}
+use Rattle.reader.proofs.record_left.Met as callee-thm
 use Rattle.reader.proofs.has_record.Key.{name as #has-record}
 use Rattle.reader.proofs.has_record as here
 use Rattle.reader.proofs.has_record.Statement as stated
@@ -78,7 +78,7 @@ module _ {M : Type 1} (𝓤 : URA M) (H : Heap 𝓤) (A : Atoms 𝓤) (W : Given
       suffices ! _ (ends-at 𝓤 H A (TakesReader res) (keptReader res) (here.clauses 𝓤 H A mem run) W (((κ, tt), (q, tt), tt, (d, tt), (T′.lowered d ∷ [], tt)), tt) u r (tt, tt) (tt, tt)) $ says ! e $
       move ! (1 ∷ []) $ frame ! $ nothing ! $ move ! (2 ∷ 0 ∷ []) $ fjoin ! $ frame ! $ done !
 
-  module _ (C : Calls 𝓤 H) (Λ : Loops 𝓤 H) (fm : FmC 𝓤 H (W .laws) C) (known : Triple 𝓤 (C #left-behind) (Left 𝓤 H A mem run)) where
+  module _ (C : Calls 𝓤 H) (Λ : Loops 𝓤 H) (fm : FmC 𝓤 H (W .laws) C) (known : Triple 𝓤 (C #record-left) (Left 𝓤 H A mem run)) where
     walk : Typed d → ent 𝓤 (Entry 𝓤 H A W res κ q d) (WpFn 𝓤 H C Λ code.function (T′.lowered d ∷ []) Post)
     walk wt =
         qed W (raw (Entry 𝓤 H A W res κ q d) ∷ []) ∵ enter ! C Λ code.function (T′.lowered d ∷ []) _ $
@@ -97,7 +97,7 @@ module _ {M : Type 1} (𝓤 : URA M) (H : Heap 𝓤) (A : Atoms 𝓤) (W : Given
         move ! (9 ∷ 10 ∷ []) $ free1 ! $ move ! (7 ∷ 8 ∷ []) $ free1 ! $ move ! (5 ∷ 6 ∷ []) $ free1 ! $ move ! (3 ∷ 4 ∷ []) $ free1 ! $ free0 ! $ by ! (exits r u e)))))))))
 
 has-record-meets : {M : Type 1} (𝓤 : URA M) (H : Heap 𝓤) (A : Atoms 𝓤) (W : Given 𝓤 H A) (mem : Memory → SProp 𝓤) (run : Routine → Fun 𝓤) (𝓣 : Tables 𝓤 H)
-    → Triple 𝓤 (𝓣 .C #left-behind) (Left 𝓤 H A mem run)
+    → Triple 𝓤 (𝓣 .C #record-left) (Left 𝓤 H A mem run)
     → Meets 𝓤 H A here.signature (WpFn 𝓤 H (𝓣 .C) (𝓣 .Λ) code.function) (here.spec 𝓤 H A mem run)
 has-record-meets 𝓤 H A W mem run 𝓣 known =
     reader-meets 𝓤 H A W res (here.clauses 𝓤 H A mem run) (WpFn 𝓤 H (𝓣 .C) (𝓣 .Λ) code.function) (WpFn-mono 𝓤 H (W .laws) 𝓣 code.function)
@@ -109,4 +109,4 @@ has-record-spec 𝓤 H 𝓜 𝓖 𝓡 =
     entered 𝓤 H (tripleOf 𝓤 H (𝓖 .A) here.signature (here.spec 𝓤 H (𝓖 .A) (𝓜 .mem) (𝓡 .run)))
     (tables 𝓤 H 𝓜 𝓡 code.env .C) (tables 𝓤 H 𝓜 𝓡 code.env .Λ) #has-record code.function (code.unfolded 𝓤 H 𝓜 𝓡)
     (has-record-meets 𝓤 H (𝓖 .A) (givenOf 𝓤 H 𝓜 𝓖) (𝓜 .mem) (𝓡 .run) (tablesOf 𝓤 H 𝓜 (tables 𝓤 H 𝓜 𝓡 code.env))
-    (cited 𝓤 H (Left 𝓤 H (𝓖 .A) (𝓜 .mem) (𝓡 .run)) 𝓜 𝓡 code.env #left-behind callee-def.routine code.calls-reader·left-behind (callee-thm.met 𝓤 H 𝓜 𝓖 𝓡)))
+    (cited 𝓤 H (Left 𝓤 H (𝓖 .A) (𝓜 .mem) (𝓡 .run)) 𝓜 𝓡 code.env #record-left callee-def.routine code.calls-reader·record-left (callee-thm.met 𝓤 H 𝓜 𝓖 𝓡)))

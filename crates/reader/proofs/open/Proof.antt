@@ -30,7 +30,7 @@ use denote.Triple.Spec.{Meets, tripleOf}
 use denote.Triple.Table.{entered}
 use denote.Triple.Walked.{says, Stays, stay-none-slice, walkOf, goes-none-slice, ends-at, walked, walk-meets}
 use denote.Exit.{yes}
-use Rattle.reader.specs.Reading.{opened}
+use Rattle.reader.specs.Reading.{newReader}
 use Rattle.reader.specs.declared.Reader.{Reader}
 use Rattle.reader.proofs.Reader.Laws as T′
 use Rattle.reader.proofs.Held.{bytesVal, OwnBytes, OwnReader, put-together}
@@ -45,8 +45,8 @@ stayed = (stay-none-slice (0 ∷ []) tt (plain (λ _. u8)) yes, tt)
 abbrev made : RefT (List ℕ) → Reader
 made s = record { trace = s; taken = 0 }
 
-made-opened : (s : RefT (List ℕ)) → made s ≡ opened s
-unfolding opened
+made-opened : (s : RefT (List ℕ)) → made s ≡ newReader s
+unfolding newReader
 made-opened s = refl
 
 module _ {M : Type 1} (𝓤 : URA M) (H : Heap 𝓤) (A : Atoms 𝓤) (W : Given 𝓤 H A) (mem : Memory → SProp 𝓤) (run : Routine → Fun 𝓤) (κ : Lft) (q : Share) (s : RefT (List ℕ)) where

@@ -10,18 +10,6 @@ use Rattle.reader.proofs.Room.{no-room}
 use Rattle.reader.proofs.part_behind.Statement.{statement}
 use Rattle.reader.proofs.part_behind.Tie as tie
 
-mul-record-part : tie.Need-mul-record-part
-mul-record-part c = search needs
-
-add-record-part : tie.Need-add-record-part
-add-record-part c = search needs
-
-record-part-requires : tie.Need-record-part-requires
-record-part-requires c κs = search needs
-
-slice-aggregate-result : tie.Need-slice-aggregate-result
-slice-aggregate-result c = search needs
-
 returns : tie.Need-returns
 unfolding recordAfter
 returns c = c .record-part .ensures
@@ -33,4 +21,4 @@ returns-2 c =
     rw (no-room (length (now (a .trace))) (a .taken) (c .before .if1 .left))
 
 pub part-behind-spec : {M : Type 1} → statement M
-part-behind-spec = tie.close (tie.spec mul-record-part add-record-part record-part-requires slice-aggregate-result returns returns-2)
+part-behind-spec = tie.close (tie.spec (λ c. search needs) (λ c. search needs) (λ c κs. search needs) (λ c. search needs) returns returns-2)

@@ -1,28 +1,28 @@
--- `replay::replay` is safe and ends. From turn to turn the state is reachable and less than a record is held. The measure is the number of turns that are left.
+-- `replay::replay` is safe and ends. From read to read the position is behind the bytes that were read, and less than a record is held. The measure is what may
+-- still be read, so a turn that does not count what its read brought has no proof.
 -- Assumes nothing.
 use borrow.Author.Needs.{needs}
-use mathlib.Core.Path.{_≡_, refl, sym, _∙_}
-use mathlib.Core.List.{List}
-use Prim.Native.Nat.{ℕ, _-_, _≤_, _<_}
+use mathlib.Core.Path.{_≡_, refl, _∙_, ap}
+use mathlib.Core.List.{List, _++_}
+use Prim.Native.Nat.{ℕ, _+_, _-_, _*_, _≤_, _<_}
 use native.Mathlib.Omega.{arith}
 use denote.Ref.{now}
-use lib.ListN.{length, take}
-use borrow.Author.Tests.{ltb-true}
-use lib.Seq.{length-take-le}
+use lib.ListN.{length, drop}
 use Rattle.model.specs.WholeRuns.{Reachable}
-use Rattle.listing.specs.Lines.{longestLine}
-use Rattle.replay.proofs.Showing.{few-left}
+use Rattle.replay.specs.declared.position.Position.{Position}
+use Rattle.replay.specs.Positions.{bytesHeld, Stands}
+use Rattle.replay.proofs.Going.{stands-first}
 use Rattle.replay.proofs.replay.Statement.{statement}
 use Rattle.replay.proofs.replay.Tie as tie
 
 abbrev Inv-loop : tie.InvT-loop
-Inv-loop input₀ out₀ run₀ done₀ held₀ turns₀ t12 input out run done held turns =
-    Reachable run × (done ≤ 1000000000) × (held < 4) × (length input ≡ length input₀) × (length out ≡ length out₀)
+Inv-loop input₀ out₀ at₀ t7 input out at =
+    Reachable (at .run) × (at .done ≤ 1000000000) × (at .held < 4) × (length input ≡ length input₀) × (length out ≡ length out₀) × Stands (at₀ .run) at input
 
 abbrev μ-loop : tie.MeasureT-loop
-μ-loop input₀ out₀ run₀ done₀ held₀ turns₀ t12 input out run done held turns = turns
+μ-loop input₀ out₀ at₀ t7 input out at = 4000000004 - (at .held + 4 * at .done)
 
--- Behind a read: the buffer is as long as before, and what it holds lies within it.
+-- Behind a read.
 module _ (c : tie.After-fill Inv-loop μ-loop) where
   abbrev turn : tie.At-loop Inv-loop μ-loop
   turn = c .before .before .before .before
@@ -31,42 +31,43 @@ module _ (c : tie.After-fill Inv-loop μ-loop) where
   start = turn .before .before .before
 
   abbrev bytes : List ℕ
-  bytes = c .fill .last .1 .1 .0
-
-  abbrev size : ℕ
-  size = c .fill .result .held
+  bytes = c .fill .last .1 .0
 
   same : length bytes ≡ length (turn .loop .input)
-  same = c .fill .kept .1 .1 .0
+  same = c .fill .kept .1 .0
 
-  filled : size ≤ length bytes
-  filled = omega (arith, same, c .fill .ensures .0)
+  count : c .fill .result .position .held + 4 * c .fill .result .position .done ≡ turn .loop .at .held + c .fill .result .more + 4 * turn .loop .at .done
+  count = ap (λ (q : Position). q .held + 4 * q .done) (c .fill .ensures .position)
 
-  old : turn .loop .held ≤ length bytes
-  old = omega (arith, same, turn .loop .inv .2, turn .loop .inv .3, start .pre .1)
+  reached : Reachable (c .fill .result .position .run)
+  reached = rw (c .fill .ensures .position) (turn .loop .inv .0)
 
-  block-length : length (take size bytes) ≡ size
-  block-length = length-take-le size bytes filled
+-- Behind the records of a read.
+module _ (c : tie.After-replay-held Inv-loop μ-loop) where
+  abbrev read : tie.After-fill Inv-loop μ-loop
+  read = c .before .before .before .before .before .before .before .before
 
-  rest-length : length (take (turn .loop .held) bytes) ≡ turn .loop .held
-  rest-length = length-take-le (turn .loop .held) bytes old
-
-  room : longestLine ≤ length (turn .loop .out)
-  room = omega (arith, turn .loop .inv .4, start .pre .2)
-
--- Behind the line of left-over bytes: it lies within the buffer.
-ended : (c : tie.After-end Inv-loop μ-loop) → c .end .result ≤ length (c .end .last .1 .1 .0)
-ended c = omega (arith, c .end .ensures .1, c .end .kept .1 .1 .0)
+  stands : Stands (start read .args .from .run) (c .replay-held .result .position) (c .replay-held .last .1 .0)
+  stands =
+      let l = turn read .loop in
+      let old = l .inv .5 .read in
+      let brought = drop (l .at .held) (bytesHeld (read .fill .result .position) (bytes read)) in record {
+        read = old ++ brought;
+        behind = c .replay-held .ensures .onward (start read .args .from .run) (old ++ brought) (read .fill .ensures .onward (start read .args .from .run) old (l .inv .5 .behind));
+      }
 
 loop-holds : tie.Need-loop-holds Inv-loop μ-loop
 loop-holds c =
     let start = c .before .before in
-    (start .pre .0, omega arith, omega arith, refl, refl)
+    (start .pre .0, omega (arith, start .pre .1), omega (arith, start .pre .2), refl, refl, stands-first (start .args .from) (now (start .args .input)) (start .pre .1) (start .pre .2))
+
+done-requires : tie.Need-done-requires Inv-loop μ-loop
+done-requires c κs = search needs
 
 fill-requires : tie.Need-fill-requires Inv-loop μ-loop
 fill-requires c κs =
-    let turn = c .before .before .before in
-    (ltb-true (turn .loop .done) 1000000000 (c .before .if1 .taken), turn .loop .inv .2, omega (arith, turn .loop .inv .3, turn .before .before .before .pre .1))
+    let l = c .before .before .before in
+    (omega (arith, c .before .before .done .ensures, c .before .if1 .taken), l .loop .inv .2, omega (arith, l .loop .inv .3, l .before .before .before .pre .3))
 
 slice-aggregate-fail : tie.Need-slice-aggregate-fail Inv-loop μ-loop
 slice-aggregate-fail c = search needs
@@ -74,99 +75,70 @@ slice-aggregate-fail c = search needs
 fail-requires : tie.Need-fail-requires Inv-loop μ-loop
 fail-requires c κs = search needs
 
+end-by-error-requires : tie.Need-end-by-error-requires Inv-loop μ-loop
+end-by-error-requires c κs = search needs
+
 same-length : tie.Need-same-length Inv-loop μ-loop
-same-length c = search needs
+same-length c = let read = c .before .before .before .before .before .before in same read ∙ turn read .loop .inv .3
 
 same-length-2 : tie.Need-same-length-2 Inv-loop μ-loop
-same-length-2 c = search needs
+same-length-2 c = turn (c .before .before .before .before .before .before) .loop .inv .4
 
 returns : tie.Need-returns Inv-loop μ-loop
 returns c = search needs
 
-slice-reshare-prefix-end : tie.Need-slice-reshare-prefix-end Inv-loop μ-loop
-slice-reshare-prefix-end c = old (c .before .before .before .before .before .before .before .before)
-
-slice-aggregate-end : tie.Need-slice-aggregate-end Inv-loop μ-loop
-slice-aggregate-end c = sym (rest-length (c .before .before .before .before .before .before .before .before .before))
-
-end-requires : tie.Need-end-requires Inv-loop μ-loop
-end-requires c κs =
-    let read = c .before .before .before .before .before .before .before .before .before .before in
-    (omega (arith, rest-length read, turn read .loop .inv .2), room read)
-
-slice-reshare-prefix-put : tie.Need-slice-reshare-prefix-put Inv-loop μ-loop
-slice-reshare-prefix-put c = ended (c .before .before)
-
-slice-aggregate-put : tie.Need-slice-aggregate-put Inv-loop μ-loop
-slice-aggregate-put c =
-    let called = c .before .before .before in
-    sym (length-take-le (called .end .result) (called .end .last .1 .1 .0) (ended called))
-
-put-requires : tie.Need-put-requires Inv-loop μ-loop
-put-requires c κs = search needs
+finish-requires : tie.Need-finish-requires Inv-loop μ-loop
+finish-requires c κs =
+    let read = c .before .before .before .before .before .before .before in
+    let l = turn read .loop in
+    (l .inv .2, omega (arith, same read, l .inv .2, l .inv .3, start read .pre .3), omega (arith, l .inv .4, start read .pre .4))
 
 same-length-3 : tie.Need-same-length-3 Inv-loop μ-loop
-same-length-3 c = search needs
+same-length-3 c = let read = c .before .before .before .before .before .before .before .before .before .before in same read ∙ turn read .loop .inv .3
 
 same-length-4 : tie.Need-same-length-4 Inv-loop μ-loop
-same-length-4 c = search needs
+same-length-4 c = c .before .before .finish .kept .1 .1 .0 ∙ turn (c .before .before .before .before .before .before .before .before .before .before) .loop .inv .4
 
 returns-2 : tie.Need-returns-2 Inv-loop μ-loop
 returns-2 c = search needs
 
-slice-reshare-prefix-show : tie.Need-slice-reshare-prefix-show Inv-loop μ-loop
-slice-reshare-prefix-show c = filled (c .before .before .before .before .before .before .before .before)
+replay-held-requires : tie.Need-replay-held-requires Inv-loop μ-loop
+replay-held-requires c κs =
+    let read = c .before .before .before .before .before .before .before in
+    let l = turn read .loop in
+    (reached read, read .fill .ensures .below, omega (arith, same read, read .fill .ensures .inside), omega (arith, l .inv .4, start read .pre .4))
 
-slice-aggregate-show : tie.Need-slice-aggregate-show Inv-loop μ-loop
-slice-aggregate-show c = sym (block-length (c .before .before .before .before .before .before .before .before .before))
-
-show-requires : tie.Need-show-requires Inv-loop μ-loop
-show-requires c κs =
-    let read = c .before .before .before .before .before .before .before .before .before .before in
-    (turn read .loop .inv .0, turn read .loop .inv .1, room read)
+end-by-error-requires-2 : tie.Need-end-by-error-requires-2 Inv-loop μ-loop
+end-by-error-requires-2 c κs = search needs
 
 same-length-5 : tie.Need-same-length-5 Inv-loop μ-loop
-same-length-5 c =
-    let read = c .before .before .before .before .before .before .before .before .before .before .before .before .before .before in
-    same read ∙ turn read .loop .inv .3
+same-length-5 c = let called = c .before .before .before .before .before .before in called .replay-held .kept .1 .0 ∙ same (read called) ∙ turn (read called) .loop .inv .3
 
 same-length-6 : tie.Need-same-length-6 Inv-loop μ-loop
-same-length-6 c =
-    let shown = c .before .before .before in
-    shown .show .kept .1 .1 .1 .0 ∙ turn (shown .before .before .before .before .before .before .before .before .before .before .before) .loop .inv .4
+same-length-6 c = let called = c .before .before .before .before .before .before in called .replay-held .kept .1 .1 .0 ∙ turn (read called) .loop .inv .4
 
 returns-3 : tie.Need-returns-3 Inv-loop μ-loop
 returns-3 c = search needs
 
-keep-requires : tie.Need-keep-requires Inv-loop μ-loop
-keep-requires c κs =
-    let shown = c .before .before .before .before .before in
-    let read = shown .before .before .before .before .before .before .before .before .before .before .before in
-    (omega (arith, shown .show .ensures .0 .within, block-length read), filled read)
-
-sub-turns : tie.Need-sub-turns Inv-loop μ-loop
-sub-turns c =
-    let read = c .before .before .before .before .before .before .before .before .before .before .before .before .before .before .before .before .before .before .before in
-    omega (arith, read .before .before .before .loop-test .taken)
-
 loop-less : tie.Need-loop-less Inv-loop μ-loop
 loop-less c =
-    let read = c .before .before .before .before .before .before .before .before .before .before .before .before .before .before .before .before .before .before .before in
-    omega (arith, read .before .before .before .loop-test .taken)
+    let called = c .before .before .before .before .before .before in
+    omega (arith, called .replay-held .ensures .same, count (read called), read called .fill .ensures .below)
 
 loop-again : tie.Need-loop-again Inv-loop μ-loop
 loop-again c =
-    let kept = c .before .before in
-    let shown = c .before .before .before .before .before .before .before .before in
-    let read = shown .before .before .before .before .before .before .before .before .before .before .before in
-    let few = few-left (turn read .loop .run) (turn read .loop .done) (take (size read) (bytes read)) (shown .show .result .run) (shown .show .result .done) (shown .show .result .used)
-    (shown .show .ensures .0) (shown .show .result .failed) (shown .show .ensures .1 .1) (c .before .before .before .before .before .if4 .left) (turn read .loop .inv .1) (omega (arith, block-length read, read .fill .ensures .1)) in (
-      shown .show .ensures .1 .0 .0,
-      shown .show .ensures .1 .0 .1,
-      omega (arith, kept .keep .ensures .0, few, block-length read),
-      kept .keep .kept .0 ∙ same read ∙ turn read .loop .inv .3,
-      shown .show .kept .1 .1 .1 .0 ∙ turn read .loop .inv .4,
+    let called = c .before .before .before .before .before .before in
+    let l = turn (read called) .loop in (
+      called .replay-held .ensures .reached,
+      called .replay-held .ensures .most,
+      called .replay-held .ensures .few (c .before .if4 .left),
+      called .replay-held .kept .1 .0 ∙ same (read called) ∙ l .inv .3,
+      called .replay-held .kept .1 .1 .0 ∙ l .inv .4,
+      stands called,
     )
+
+end-at-the-last-requires : tie.Need-end-at-the-last-requires Inv-loop μ-loop
+end-at-the-last-requires c κs = omega (arith, c .before .done .ensures, c .if1 .left)
 
 same-length-7 : tie.Need-same-length-7 Inv-loop μ-loop
 same-length-7 c = search needs
@@ -177,16 +149,7 @@ same-length-8 c = search needs
 returns-4 : tie.Need-returns-4 Inv-loop μ-loop
 returns-4 c = search needs
 
-same-length-9 : tie.Need-same-length-9 Inv-loop μ-loop
-same-length-9 c = search needs
-
-same-length-10 : tie.Need-same-length-10 Inv-loop μ-loop
-same-length-10 c = search needs
-
-returns-5 : tie.Need-returns-5 Inv-loop μ-loop
-returns-5 c = search needs
-
 pub replay-spec : {M : Type 1} → statement M
 replay-spec =
     tie.close
-    (tie.spec Inv-loop μ-loop loop-holds fill-requires slice-aggregate-fail fail-requires same-length same-length-2 returns slice-reshare-prefix-end slice-aggregate-end end-requires slice-reshare-prefix-put slice-aggregate-put put-requires same-length-3 same-length-4 returns-2 slice-reshare-prefix-show slice-aggregate-show show-requires same-length-5 same-length-6 returns-3 keep-requires sub-turns loop-less loop-again same-length-7 same-length-8 returns-4 same-length-9 same-length-10 returns-5)
+    (tie.spec Inv-loop μ-loop loop-holds done-requires fill-requires slice-aggregate-fail fail-requires end-by-error-requires same-length same-length-2 returns finish-requires same-length-3 same-length-4 returns-2 replay-held-requires end-by-error-requires-2 same-length-5 same-length-6 returns-3 loop-less loop-again end-at-the-last-requires same-length-7 same-length-8 returns-4)

@@ -12,39 +12,15 @@ returns c = none-run (c .before .args .s) (c .if1 .taken)
 returns-2 : tie.Need-returns-2
 returns-2 c = many-run (c .before .before .args .s) (c .if2 .taken)
 
-vector-rows-requires : tie.Need-vector-rows-requires
-vector-rows-requires c κs = search needs
-
-pin-rows-requires : tie.Need-pin-rows-requires
-pin-rows-requires c κs = search needs
-
-kept-rows-requires : tie.Need-kept-rows-requires
-kept-rows-requires c κs = search needs
-
 -- The table of kept checkpoints has 16 rows.
 kept-long : (c : tie.After-kept-rows) → length (c .before .before .before .before .before .args .s .kept .0) ≡ 16
 kept-long c = ap length (sym (c .kept-rows .ensures)) ∙ search needs
-
-own-entries-requires : tie.Need-own-entries-requires
-own-entries-requires c κs = search needs
 
 are-current-sound-requires : tie.Need-are-current-sound-requires
 are-current-sound-requires c κs = (search needs, rw (c .own-entries .ensures, c .before .before .before .before .before .before .vector-rows .ensures) (owns-zero (c .before .before .before .before .before .before .before .before .before .args .s) (search needs)))
 
 are-processes-sound-requires : tie.Need-are-processes-sound-requires
 are-processes-sound-requires c κs = (search needs, rw (c .before .own-entries .ensures, c .before .before .before .before .before .before .before .vector-rows .ensures) (owns-zero (c .before .before .before .before .before .before .before .before .before .before .args .s) (search needs)))
-
-zero-rows-from-requires : tie.Need-zero-rows-from-requires
-zero-rows-from-requires c κs = search needs
-
-unmarked-from-requires : tie.Need-unmarked-from-requires
-unmarked-from-requires c κs = search needs
-
-none-held-from-requires : tie.Need-none-held-from-requires
-none-held-from-requires c κs = search needs
-
-nothing-rows-from-requires : tie.Need-nothing-rows-from-requires
-nothing-rows-from-requires c κs = search needs
 
 are-messages-sound-requires : tie.Need-are-messages-sound-requires
 are-messages-sound-requires c κs = (search needs, rw (c .before .before .before .before .before .before .own-entries .ensures, c .before .before .before .before .before .before .before .before .before .before .before .before .vector-rows .ensures) (owns-zero (c .before .before .before .before .before .before .before .before .before .before .before .before .before .before .before .args .s) (search needs)))
@@ -72,15 +48,15 @@ is-sound-spec =
     (tie.spec
     returns
     returns-2
-    vector-rows-requires
-    pin-rows-requires
-    kept-rows-requires
-    own-entries-requires
+    (λ c κs. search needs)
+    (λ c κs. search needs)
+    (λ c κs. search needs)
+    (λ c κs. search needs)
     are-current-sound-requires
     are-processes-sound-requires
-    zero-rows-from-requires
-    unmarked-from-requires
-    none-held-from-requires
-    nothing-rows-from-requires
+    (λ c κs. search needs)
+    (λ c κs. search needs)
+    (λ c κs. search needs)
+    (λ c κs. search needs)
     are-messages-sound-requires
     returns-3)

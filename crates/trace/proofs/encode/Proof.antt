@@ -31,17 +31,11 @@ not-fitting : (e : Event) → fits e ≡ false → record { fits = false; bytes 
 unfolding recordOf encoded
 not-fitting e misfit = rw misfit
 
-fields-of-requires : tie.Need-fields-of-requires
-fields-of-requires c κs = search needs
-
 word-of-requires : tie.Need-word-of-requires
 word-of-requires c κs =
     let same = c .before .before .before .before .fields-of .ensures in
     let small = kind-small (c .before .before .before .before .before .args .e) in
     (rw same small, search needs, search needs)
-
-bytes-of-requires : tie.Need-bytes-of-requires
-bytes-of-requires c κs = search needs
 
 returns : tie.Need-returns
 returns c =
@@ -69,4 +63,4 @@ returns-3 c =
 pub encode-spec : {M : Type 1} → statement M
 encode-spec =
     tie.close
-    (tie.spec fields-of-requires word-of-requires bytes-of-requires returns returns-2 returns-3)
+    (tie.spec (λ c κs. search needs) word-of-requires (λ c κs. search needs) returns returns-2 returns-3)

@@ -3,31 +3,16 @@
 use borrow.Author.Tests.{ne-eqb}
 use borrow.Author.Needs.{needs}
 use Rattle.model.specs.Trace.{eventOf}
-use Rattle.trace.specs.Answers.{answered}
+use Rattle.trace.specs.Answers.{eventRead}
 use Rattle.trace.proofs.event_of.Statement.{statement}
 use Rattle.trace.proofs.event_of.Tie as tie
-
-cast-if-zero : tie.Need-cast-if-zero
-cast-if-zero c = search needs
-
-if-zero-requires : tie.Need-if-zero-requires
-if-zero-requires c κs = search needs
-
-if-zero-requires-2 : tie.Need-if-zero-requires-2
-if-zero-requires-2 c κs = search needs
-
-if-zero-requires-3 : tie.Need-if-zero-requires-3
-if-zero-requires-3 c κs = search needs
-
-if-zero-requires-4 : tie.Need-if-zero-requires-4
-if-zero-requires-4 c κs = search needs
 
 returns : tie.Need-returns
 unfolding eventOf
 returns c = rw (c .before .match .keys1) (c .if-zero .ensures)
 
 returns-2 : tie.Need-returns-2
-unfolding eventOf answered
+unfolding eventOf eventRead
 returns-2 c = rw (c .match .keys2)
 
 returns-3 : tie.Need-returns-3
@@ -43,7 +28,7 @@ unfolding eventOf
 returns-5 c = rw (c .before .match .keys5) (c .if-zero4 .ensures)
 
 returns-6 : tie.Need-returns-6
-unfolding eventOf answered
+unfolding eventOf eventRead
 returns-6 c =
     let kind = c .before .args .r .kind in
     let others = c .match .rest in
@@ -53,11 +38,11 @@ pub event-of-spec : {M : Type 1} → statement M
 event-of-spec =
     tie.close
     (tie.spec
-    cast-if-zero
-    if-zero-requires
-    if-zero-requires-2
-    if-zero-requires-3
-    if-zero-requires-4
+    (λ c. search needs)
+    (λ c κs. search needs)
+    (λ c κs. search needs)
+    (λ c κs. search needs)
+    (λ c κs. search needs)
     returns
     returns-2
     returns-3

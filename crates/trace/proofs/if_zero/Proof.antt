@@ -5,7 +5,7 @@ use mathlib.Core.Option.{none}
 use Prim.Native.Nat.{ℕ, zero, suc}
 use Rattle.model.specs.declared.Event.{Event}
 use Rattle.model.specs.Trace.{ifZero}
-use Rattle.trace.specs.Answers.{answered}
+use Rattle.trace.specs.Answers.{eventRead}
 use Rattle.trace.proofs.if_zero.Statement.{statement}
 use Rattle.trace.proofs.if_zero.Tie as tie
 
@@ -15,11 +15,11 @@ not-zero zero e h = absurd (h refl)
 not-zero (suc n) e h = refl
 
 returns : tie.Need-returns
-unfolding answered ifZero
+unfolding eventRead ifZero
 returns c = rw (c .if1 .taken)
 
 returns-2 : tie.Need-returns-2
-unfolding answered
+unfolding eventRead
 returns-2 c = sym (not-zero _ _ (c .if1 .left))
 
 pub if-zero-spec : {M : Type 1} → statement M

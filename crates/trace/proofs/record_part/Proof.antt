@@ -12,27 +12,6 @@ use Rattle.trace.specs.Answers.{recordAt}
 use Rattle.trace.proofs.record_part.Statement.{statement}
 use Rattle.trace.proofs.record_part.Tie as tie
 
-sub-if2 : tie.Need-sub-if2
-sub-if2 c = search needs
-
-add-result : tie.Need-add-result
-add-result c = search needs
-
-sub-result : tie.Need-sub-result
-sub-result c = search needs
-
-part-result-start : tie.Need-part-result-start
-part-result-start c = search needs
-
-part-result-end : tie.Need-part-result-end
-part-result-end c = search needs
-
-slice-aggregate-result : tie.Need-slice-aggregate-result
-slice-aggregate-result c = search needs
-
-slice-aggregate-result-2 : tie.Need-slice-aggregate-result-2
-slice-aggregate-result-2 c = search needs
-
 returns : tie.Need-returns
 unfolding recordAt
 returns c =
@@ -56,13 +35,13 @@ pub record-part-spec : {M : Type 1} → statement M
 record-part-spec =
     tie.close
     (tie.spec
-    sub-if2
-    add-result
-    sub-result
-    part-result-start
-    part-result-end
-    slice-aggregate-result
-    slice-aggregate-result-2
+    (λ c. search needs)
+    (λ c. search needs)
+    (λ c. search needs)
+    (λ c. search needs)
+    (λ c. search needs)
+    (λ c. search needs)
+    (λ c. search needs)
     returns
     returns-2
     returns-3)

@@ -5,24 +5,15 @@ use lib.ListN.{replicate}
 use borrow.Author.Needs.{needs}
 use Rattle.model.specs.declared.CheckpointAnswer.{CheckpointAnswer}
 use Rattle.model.specs.Outcomes.{Report, checkpointReport}
-use Rattle.listing.specs.Said.{reported}
+use Rattle.listing.specs.Said.{reportIn}
 use Rattle.exam.proofs.act.checkpoint.Statement.{statement}
 use Rattle.exam.proofs.act.checkpoint.Tie as tie
-
-array-borrow-prefix-deleted : tie.Need-array-borrow-prefix-deleted
-array-borrow-prefix-deleted c = search needs
 
 slice-aggregate-checkpoint : tie.Need-slice-aggregate-checkpoint
 slice-aggregate-checkpoint c = sym (length-take-le (c .before .args .length) (replicate 512 0) (c .before .pre))
 
-checkpoint-requires : tie.Need-checkpoint-requires
-checkpoint-requires c κs = search needs
-
-of-checkpoint-requires : tie.Need-of-checkpoint-requires
-of-checkpoint-requires c κs = search needs
-
 returns : tie.Need-returns
-unfolding reported
+unfolding reportIn
 returns c =
     let called = c .before .before .before .checkpoint .ensures in (
       called .0,
@@ -34,8 +25,8 @@ pub checkpoint-spec : {M : Type 1} → statement M
 checkpoint-spec =
     tie.close
     (tie.spec
-    array-borrow-prefix-deleted
+    (λ c. search needs)
     slice-aggregate-checkpoint
-    checkpoint-requires
-    of-checkpoint-requires
+    (λ c κs. search needs)
+    (λ c κs. search needs)
     returns)

@@ -5,24 +5,15 @@ use lib.ListN.{replicate}
 use borrow.Author.Needs.{needs}
 use Rattle.model.specs.declared.DeliverAnswer.{DeliverAnswer}
 use Rattle.model.specs.Outcomes.{Report, deliverReport}
-use Rattle.listing.specs.Said.{reported}
+use Rattle.listing.specs.Said.{reportIn}
 use Rattle.exam.proofs.act.deliver.Statement.{statement}
 use Rattle.exam.proofs.act.deliver.Tie as tie
-
-array-borrow-prefix-deleted : tie.Need-array-borrow-prefix-deleted
-array-borrow-prefix-deleted c = search needs
 
 slice-aggregate-deliver : tie.Need-slice-aggregate-deliver
 slice-aggregate-deliver c = sym (length-take-le (c .before .args .length) (replicate 512 0) (c .before .pre))
 
-deliver-requires : tie.Need-deliver-requires
-deliver-requires c κs = search needs
-
-of-deliver-requires : tie.Need-of-deliver-requires
-of-deliver-requires c κs = search needs
-
 returns : tie.Need-returns
-unfolding reported
+unfolding reportIn
 returns c =
     let called = c .before .before .before .deliver .ensures in (
       called .0,
@@ -34,8 +25,8 @@ pub deliver-spec : {M : Type 1} → statement M
 deliver-spec =
     tie.close
     (tie.spec
-    array-borrow-prefix-deleted
+    (λ c. search needs)
     slice-aggregate-deliver
-    deliver-requires
-    of-deliver-requires
+    (λ c κs. search needs)
+    (λ c κs. search needs)
     returns)

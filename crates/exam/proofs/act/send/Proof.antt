@@ -3,18 +3,12 @@ use mathlib.Core.Path.{ap, _∙_}
 use borrow.Author.Needs.{needs}
 use Rattle.model.specs.declared.SendAnswer.{SendAnswer}
 use Rattle.model.specs.Outcomes.{Report, sendReport}
-use Rattle.listing.specs.Said.{reported}
+use Rattle.listing.specs.Said.{reportIn}
 use Rattle.exam.proofs.act.send.Statement.{statement}
 use Rattle.exam.proofs.act.send.Tie as tie
 
-send-requires : tie.Need-send-requires
-send-requires c κs = search needs
-
-of-send-requires : tie.Need-of-send-requires
-of-send-requires c κs = search needs
-
 returns : tie.Need-returns
-unfolding reported
+unfolding reportIn
 returns c =
     let called = c .before .before .send .ensures in (
       called .0,
@@ -23,4 +17,4 @@ returns c =
     )
 
 pub send-spec : {M : Type 1} → statement M
-send-spec = tie.close (tie.spec send-requires of-send-requires returns)
+send-spec = tie.close (tie.spec (λ c κs. search needs) (λ c κs. search needs) returns)

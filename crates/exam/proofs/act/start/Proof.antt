@@ -3,18 +3,12 @@ use mathlib.Core.Path.{ap, _∙_}
 use borrow.Author.Needs.{needs}
 use Rattle.model.specs.declared.StartAnswer.{StartAnswer}
 use Rattle.model.specs.Outcomes.{Report, startReport}
-use Rattle.listing.specs.Said.{reported}
+use Rattle.listing.specs.Said.{reportIn}
 use Rattle.exam.proofs.act.start.Statement.{statement}
 use Rattle.exam.proofs.act.start.Tie as tie
 
-start-requires : tie.Need-start-requires
-start-requires c κs = search needs
-
-of-start-requires : tie.Need-of-start-requires
-of-start-requires c κs = search needs
-
 returns : tie.Need-returns
-unfolding reported
+unfolding reportIn
 returns c =
     let called = c .before .before .start .ensures in (
       called .0,
@@ -23,4 +17,4 @@ returns c =
     )
 
 pub start-spec : {M : Type 1} → statement M
-start-spec = tie.close (tie.spec start-requires of-start-requires returns)
+start-spec = tie.close (tie.spec (λ c κs. search needs) (λ c κs. search needs) returns)

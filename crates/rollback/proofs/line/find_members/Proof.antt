@@ -5,13 +5,14 @@ use mathlib.Core.Bool.{not}
 use mathlib.Core.Path.{_≡_, ap, _∙_}
 use native.Mathlib.Omega.{arith}
 use lib.ListN.{replicate}
-use Rattle.laws.specs.Loops.{setBelow, below-none, turn-set}
+use Rattle.laws.specs.Loops.{setBelow, below-none, turn-set, all-zero}
 use borrow.Author.Needs.{needs}
-use Rattle.laws.specs.Loops.{all-zero}
 use Rattle.laws.specs.Search.{allBelow}
+use Rattle.laws.specs.Below.{all-and}
 use Rattle.model.specs.declared.Checkpoint.{Checkpoint}
 use Rattle.model.specs.Refusals.{missing}
-use Rattle.rollback.specs.Members.{latestAt, memberAt, membersOf, unusedRow, member-turn, found-turn, all-and}
+use Rattle.rollback.specs.Members.{latestAt, memberAt, membersOf, unusedRow}
+use Rattle.rollback.proofs.Members.{member-turn, found-turn}
 use Rattle.rollback.proofs.line.find_members.Statement.{statement}
 use Rattle.rollback.proofs.line.find_members.Tie as tie
 
@@ -24,67 +25,36 @@ Inv-loop owns failed n vectors kept held marks states₀ all₀ p₀ states all 
 abbrev μ-loop : tie.MeasureT-loop
 μ-loop owns failed n vectors kept held marks states₀ all₀ p₀ states all p = n - p
 
-no-checkpoint-requires : tie.Need-no-checkpoint-requires Inv-loop μ-loop
-no-checkpoint-requires c κs = search needs
-
-failed-marks-requires : tie.Need-failed-marks-requires Inv-loop μ-loop
-failed-marks-requires c κs = search needs
-
 loop-holds : tie.Need-loop-holds Inv-loop μ-loop
 loop-holds c = (search needs, ap (λ (x : Checkpoint). replicate 16 x) (c .before .no-checkpoint .ensures) ∙ below-none _ _, all-zero _)
 
-mul-vector : tie.Need-mul-vector Inv-loop μ-loop
-mul-vector c = search needs
+latest-unless-requires : tie.Need-latest-unless-requires Inv-loop μ-loop
+latest-unless-requires c κs =
+    let i = c .before .before .before in
+    let pre = i .before .before .before .before .pre in
+    omega (arith, pre .0, pre .2 (i .before .loop .p) (i .loop-test .taken))
 
-array-copy-out-vector : tie.Need-array-copy-out-vector Inv-loop μ-loop
-array-copy-out-vector c = search needs
-
-mul-row : tie.Need-mul-row Inv-loop μ-loop
-mul-row c = search needs
-
-array-copy-out-row : tie.Need-array-copy-out-row Inv-loop μ-loop
-array-copy-out-row c = search needs
-
-mul-count : tie.Need-mul-count Inv-loop μ-loop
-mul-count c = search needs
-
-array-read-count : tie.Need-array-read-count Inv-loop μ-loop
-array-read-count c = search needs
-
-live-of-requires : tie.Need-live-of-requires Inv-loop μ-loop
-live-of-requires c κs = let b = c .before .before .before in (search needs, b .before .before .before .pre .1 (b .loop .p) (c .before .before .loop-test .taken))
-
-latest-allowed-requires : tie.Need-latest-allowed-requires Inv-loop μ-loop
-latest-allowed-requires c κs = let b = c .before .before .before .before in omega (arith, b .before .before .before .pre .0, b .before .before .before .pre .2 (b .loop .p) (c .before .before .before .loop-test .taken))
-
-member-of-requires : tie.Need-member-of-requires Inv-loop μ-loop
-member-of-requires c κs = search needs
-
-mul-states : tie.Need-mul-states Inv-loop μ-loop
-mul-states c = search needs
-
-array-set-from-states : tie.Need-array-set-from-states Inv-loop μ-loop
-array-set-from-states c = search needs
-
-add-p : tie.Need-add-p Inv-loop μ-loop
-add-p c = search needs
-
-loop-less : tie.Need-loop-less Inv-loop μ-loop
-loop-less c = search needs
+member-requires : tie.Need-member-requires Inv-loop μ-loop
+member-requires c κs =
+    let i = c .before .before .before .before in
+    (search needs, i .before .before .before .before .pre .1 (i .before .loop .p) (i .loop-test .taken))
 
 loop-again : tie.Need-loop-again Inv-loop μ-loop
 loop-again c =
-    let b = c .before .before .before .before .before .before in
+    let m = c .before in
+    let k = m .before in
+    let i = k .before .before .before .before in
+    let b = i .before in
     let a = b .before .before .before .args in
     let l = b .loop in
     let marks = b .before .failed-marks .ensures in
-    let live = c .before .before .live-of .ensures in
-    let latest = c .before .latest-allowed .ensures in (
+    let allowed = k .before .is-allowed .ensures in
+    let latest = k .latest-unless .ensures in (
       search needs,
       turn-set (memberAt (a .n) (a .owns) (a .failed) (a .t1) (a .t2) (a .t3)) unusedRow (l .states) (l .p) (l .inv .1) _
-          (member-turn (a .n) (a .owns) (a .failed) (a .t1) (a .t2) (a .t3) (l .p) _ _ _ marks live latest _ (c .member-of .ensures)),
+          (member-turn (a .n) (a .owns) (a .failed) (a .t1) (a .t2) (a .t3) (l .p) _ _ _ marks allowed latest _ (m .member .ensures)),
       all-and (λ q. not (missing (latestAt (a .n) (a .owns) (a .failed) (a .t1) (a .t2) (a .t3) q))) (l .p) (l .all) _ (l .inv .2)
-          (found-turn (a .n) (a .owns) (a .failed) (a .t1) (a .t2) (a .t3) (l .p) _ _ _ marks live latest),
+          (found-turn (a .n) (a .owns) (a .failed) (a .t1) (a .t2) (a .t3) (l .p) _ _ _ marks allowed latest),
     )
 
 returns : tie.Need-returns Inv-loop μ-loop
@@ -102,21 +72,21 @@ find-members-spec =
     (tie.spec
     Inv-loop
     μ-loop
-    no-checkpoint-requires
-    failed-marks-requires
+    (λ c κs. search needs)
+    (λ c κs. search needs)
     loop-holds
-    mul-vector
-    array-copy-out-vector
-    mul-row
-    array-copy-out-row
-    mul-count
-    array-read-count
-    live-of-requires
-    latest-allowed-requires
-    member-of-requires
-    mul-states
-    array-set-from-states
-    add-p
-    loop-less
+    (λ c. search needs)
+    (λ c. search needs)
+    (λ c. search needs)
+    (λ c. search needs)
+    (λ c. search needs)
+    (λ c. search needs)
+    (λ c κs. search needs)
+    latest-unless-requires
+    member-requires
+    (λ c. search needs)
+    (λ c. search needs)
+    (λ c. search needs)
+    (λ c. search needs)
     loop-again
     returns)

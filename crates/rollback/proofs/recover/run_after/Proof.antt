@@ -1,55 +1,94 @@
 -- `rollback::recover::run_after` meets its contract: the parts, put together.
 -- Assumes nothing.
-use Rattle.rollback.specs.After.{run-done}
-use Rattle.steps.specs.Facts.{count-most, held-most}
+use mathlib.Core.Path.{_≡_, refl}
+use mathlib.Core.List.{List}
+use Prim.Native.Nat.{ℕ}
 use borrow.Author.Needs.{needs}
+use lib.Seq.{sets}
+use Rattle.model.specs.declared.Interval.{Interval}
+use Rattle.model.specs.declared.Pin.{Pin}
+use Rattle.model.specs.declared.Checkpoint.{Checkpoint}
+use Rattle.model.specs.declared.Run.{Run}
+use Rattle.model.specs.declared.RecoverAnswer.the-variants.{Recovered}
+use Rattle.model.specs.Outcomes.{pairs}
+use Rattle.model.specs.laws.Sound.{sound-state}
+use Rattle.rows.specs.Line.{ownRow}
+use Rattle.rollback.specs.declared.recover.RecoverOutcome.{RecoverOutcome}
+use Rattle.rollback.specs.declared.recover.Returned.{Returned}
+use Rattle.rollback.specs.declared.recover.RowsAfter.{RowsAfter}
+use Rattle.rollback.specs.declared.recover.UnderWay.{UnderWay}
+use Rattle.rollback.specs.Returned.{returnedOf}
+use Rattle.rollback.specs.After.{pinsAt, lossesOf, rowsOf}
+use Rattle.rollback.specs.Restored.{stillOf, restored, pinsIn, rowsIn, restoredFrom, restoredIn, lossesFrom, lossesIn}
 use Rattle.rollback.proofs.recover.run_after.Statement.{statement}
 use Rattle.rollback.proofs.recover.run_after.Tie as tie
 
-vector-rows-requires : tie.Need-vector-rows-requires
-vector-rows-requires c κs = search needs
+-- The outcome by the equation of each part.
+run-done : (s : Run) (states : List Checkpoint) (v₀ v₁ : List (List Interval)) (p₀ : List (List Pin)) (k₀ : List (List Checkpoint))
+    (r : Returned) (owns : List Interval) (all : RowsAfter) (still : UnderWay) (l₀ l₁ : List ℕ)
+    → v₀ ≡ s .vectors .0 → p₀ ≡ s .pins .0 → k₀ ≡ s .kept .0
+    → r ≡ returnedOf (s .count) v₀ (s .sent) states
+    → v₁ ≡ r .vectors .0
+    → owns ≡ ownRow v₁
+    → all ≡ rowsOf (s .count) p₀ v₁ owns (r .rolled) k₀ (s .held) (r .members)
+    → l₁ ≡ sets l₀ 0 (pairs (lossesOf (s .count) k₀ (s .held) (r .members) (pinsAt p₀ v₁ owns (r .rolled) k₀ (s .held) (r .members))))
+    → still ≡ stillOf
+    → (_≡_ {A = RecoverOutcome} (record {
+      run = record {
+        count = s .count;
+        vectors = r .vectors;
+        pins = all .pins;
+        sent = r .sent;
+        kept = all .kept;
+        held = all .held;
+        messages = still .messages;
+        underway = still .count;
+        last = s .last;
+      };
+      answer = Recovered (r .back) (all .deleted);
+    })
+    (record { run = restored s (restoredIn s states); answer = Recovered (restoredIn s states .rolled) (restoredIn s states .gone) }))
+    × (l₁ ≡ sets l₀ 0 (pairs (lossesIn s states)))
+unfolding restoredIn restoredFrom rowsIn lossesIn lossesFrom pinsIn
+run-done s states v₀ v₁ p₀ k₀ r owns all still l₀ l₁ a b c d e f g h i = rw (i, h, g, f, e, d, c, b, a) (refl, refl)
 
-pin-rows-requires : tie.Need-pin-rows-requires
-pin-rows-requires c κs = search needs
-
-kept-rows-requires : tie.Need-kept-rows-requires
-kept-rows-requires c κs = search needs
-
-vectors-after-requires : tie.Need-vectors-after-requires
-vectors-after-requires c κs = let st = c .before .before .before .before .before .before .before in count-most (st .args .s) (st .pre .0)
-
-own-entries-requires : tie.Need-own-entries-requires
-own-entries-requires c κs = search needs
-
-sent-after-requires : tie.Need-sent-after-requires
-sent-after-requires c κs = let st = c .before .before .before .before .before .before .before .before .before in count-most (st .args .s) (st .pre .0)
+go-back-requires : tie.Need-go-back-requires
+go-back-requires c κs = let st = c .before .before .before .before .before .before in sound-state (st .args .s) (st .pre .0) .count-most
 
 rows-after-requires : tie.Need-rows-after-requires
-rows-after-requires c κs = let st = c .before .before .before .before .before .before .before .before .before .before .before in (count-most (st .args .s) (st .pre .0), st .pre .1, held-most (st .args .s) (st .pre .0))
-
-vectors-from-requires : tie.Need-vectors-from-requires
-vectors-from-requires c κs = search needs
-
-no-message-requires : tie.Need-no-message-requires
-no-message-requires c κs = search needs
-
-same-length : tie.Need-same-length
-same-length c = search needs
+rows-after-requires c κs =
+    let st = c .before .before .before .before .before .before .before .before .before .before .before .before .before .before in
+    let parts = sound-state (st .args .s) (st .pre .0) in
+    (parts .count-most, st .pre .1, λ p lt. parts .processes p lt .held-most)
 
 returns : tie.Need-returns
 returns c =
-    let a = c .before .before .before .before .before .before .before .before .before .before .before .before .before .before .before .before .before .before .before .args in
-    run-done (a .s) (a .states) (a .rolled) _ _ _ _ _ _ _ _ _ (a .deleted .now) _
-    (c .before .before .before .before .before .before .before .before .before .before .before .before .before .before .before .before .vector-rows .ensures)
-    (c .before .before .before .before .before .before .before .before .before .before .before .before .before .before .before .pin-rows .ensures)
-    (c .before .before .before .before .before .before .before .before .before .before .before .before .before .before .kept-rows .ensures)
-    (c .before .before .before .before .before .before .before .before .before .before .before .vectors-after .ensures)
-    (c .before .before .before .before .before .before .before .before .before .before .own-entries .ensures)
-    (c .before .before .before .before .before .before .before .before .before .sent-after .ensures)
-    (c .before .before .before .before .before .before .before .rows-after .ensures .0)
-    (c .before .before .before .before .before .before .before .rows-after .ensures .1)
-    (c .before .before .before .before .vectors-from .ensures)
-    (c .no-message .ensures)
+    let rows = c .before .before .before .before .before .before .before in
+    let back = rows .before .before .before .before .before .before .before .before in
+    let kept = back .before .before .before in
+    let a = kept .before .before .before .before .args in
+    run-done (a .s) (a .states) _ _ _ _ _ _ _ _ (a .deleted .now) _
+    (kept .before .before .vector-rows .ensures)
+    (kept .before .pin-rows .ensures)
+    (kept .kept-rows .ensures)
+    (back .go-back .ensures)
+    (rows .before .before .before .vector-rows2 .ensures)
+    (rows .before .before .own-entries .ensures)
+    (rows .rows-after .ensures .0)
+    (rows .rows-after .ensures .1)
+    (c .before .still-under-way .ensures)
 
 pub run-after-spec : {M : Type 1} → statement M
-run-after-spec = tie.close (tie.spec vector-rows-requires pin-rows-requires kept-rows-requires vectors-after-requires own-entries-requires sent-after-requires rows-after-requires vectors-from-requires no-message-requires same-length returns)
+run-after-spec =
+    tie.close
+    (tie.spec
+    (λ c κs. search needs)
+    (λ c κs. search needs)
+    (λ c κs. search needs)
+    go-back-requires
+    (λ c κs. search needs)
+    (λ c κs. search needs)
+    rows-after-requires
+    (λ c κs. search needs)
+    (λ c. search needs)
+    returns)

@@ -24,36 +24,9 @@ Inv-loop held pins row left₀ count₀ k₀ left count k =
 abbrev μ-loop : tie.MeasureT-loop
 μ-loop held pins row left₀ count₀ k₀ left count k = held - k
 
-no-checkpoint-requires : tie.Need-no-checkpoint-requires Inv-loop μ-loop
-no-checkpoint-requires c κs = search needs
-
 loop-holds : tie.Need-loop-holds Inv-loop μ-loop
 unfolding select
 loop-holds c = (search needs, search needs, refl, ap (λ (x : Checkpoint). replicate 16 x) (c .no-checkpoint .ensures) ∙ placed-none 16 noCheckpoint)
-
-mul-c : tie.Need-mul-c Inv-loop μ-loop
-mul-c c = search needs
-
-array-copy-out-c : tie.Need-array-copy-out-c Inv-loop μ-loop
-array-copy-out-c c = search needs
-
-is-named-requires : tie.Need-is-named-requires Inv-loop μ-loop
-is-named-requires c κs = search needs
-
-mul-left : tie.Need-mul-left Inv-loop μ-loop
-mul-left c = search needs
-
-array-set-from-left : tie.Need-array-set-from-left Inv-loop μ-loop
-array-set-from-left c = search needs
-
-add-count : tie.Need-add-count Inv-loop μ-loop
-add-count c = search needs
-
-add-k : tie.Need-add-k Inv-loop μ-loop
-add-k c = search needs
-
-loop-less : tie.Need-loop-less Inv-loop μ-loop
-loop-less c = search needs
 
 loop-again : tie.Need-loop-again Inv-loop μ-loop
 unfolding named
@@ -84,15 +57,15 @@ collect-spec =
     (tie.spec
     Inv-loop
     μ-loop
-    no-checkpoint-requires
+    (λ c κs. search needs)
     loop-holds
-    mul-c
-    array-copy-out-c
-    is-named-requires
-    mul-left
-    array-set-from-left
-    add-count
-    add-k
-    loop-less
+    (λ c. search needs)
+    (λ c. search needs)
+    (λ c κs. search needs)
+    (λ c. search needs)
+    (λ c. search needs)
+    (λ c. search needs)
+    (λ c. search needs)
+    (λ c. search needs)
     loop-again
     returns)

@@ -13,7 +13,8 @@ use Rattle.laws.specs.Lists.{select}
 use Rattle.laws.specs.Loops.{either}
 use Rattle.model.specs.Words.{named}
 use Rattle.model.specs.declared.Checkpoint.{Checkpoint}
-use Rattle.rows.specs.Deletions.{pairsOf, pairs-of-none, pair-yes, pair-no}
+use Rattle.rows.specs.Deletions.{pairsOf}
+use Rattle.rows.proofs.Deletions.{pairs-of-none, pair-yes, pair-no}
 use Rattle.rows.proofs.kept.write_deletions.Statement.{statement}
 use Rattle.rows.proofs.kept.write_deletions.Tie as tie
 
@@ -29,48 +30,12 @@ Inv-loop deleted₀ at p held pins row process count₀ next₀ k₀ deleted cou
 abbrev μ-loop : tie.MeasureT-loop
 μ-loop deleted₀ at p held pins row process count₀ next₀ k₀ deleted count next k = held - k
 
-cast-process : tie.Need-cast-process Inv-loop μ-loop
-cast-process c = search needs
-
 loop-holds : tie.Need-loop-holds Inv-loop μ-loop
 unfolding select
 loop-holds c = (search needs, search needs, search needs, refl, refl, rw pairs-of-none)
 
-mul-c : tie.Need-mul-c Inv-loop μ-loop
-mul-c c = search needs
-
-array-copy-out-c : tie.Need-array-copy-out-c Inv-loop μ-loop
-array-copy-out-c c = search needs
-
-is-named-requires : tie.Need-is-named-requires Inv-loop μ-loop
-is-named-requires c κs = search needs
-
-mul-deleted : tie.Need-mul-deleted Inv-loop μ-loop
-mul-deleted c = search needs
-
-slice-write-deleted : tie.Need-slice-write-deleted Inv-loop μ-loop
-slice-write-deleted c = search needs
-
-add-deleted : tie.Need-add-deleted Inv-loop μ-loop
-add-deleted c = search needs
-
-mul-deleted-2 : tie.Need-mul-deleted-2 Inv-loop μ-loop
-mul-deleted-2 c = search needs
-
 slice-write-deleted-2 : tie.Need-slice-write-deleted-2 Inv-loop μ-loop
 slice-write-deleted-2 c = simp length-set (omega arith)
-
-add-next : tie.Need-add-next Inv-loop μ-loop
-add-next c = search needs
-
-add-count : tie.Need-add-count Inv-loop μ-loop
-add-count c = search needs
-
-add-k : tie.Need-add-k Inv-loop μ-loop
-add-k c = search needs
-
-loop-less : tie.Need-loop-less Inv-loop μ-loop
-loop-less c = search needs
 
 loop-again : tie.Need-loop-again Inv-loop μ-loop
 unfolding named
@@ -90,9 +55,6 @@ loop-again c =
     (l .count) (l .next) (l .inv .4) (l .inv .2) (l .inv .5) (ap not (sym (c .before .is-named .ensures)) ∙ w .0 .left) in
     (search needs, omega (arith, w .2), omega (arith, w .2, w .3), ap length (w .1) ∙ l .inv .3, w .2 ∙ n .0, w .1 ∙ n .1))
 
-same-length : tie.Need-same-length Inv-loop μ-loop
-same-length c = search needs
-
 returns : tie.Need-returns Inv-loop μ-loop
 unfolding pairsOf
 returns c =
@@ -106,20 +68,20 @@ write-deletions-spec =
     (tie.spec
     Inv-loop
     μ-loop
-    cast-process
+    (λ c. search needs)
     loop-holds
-    mul-c
-    array-copy-out-c
-    is-named-requires
-    mul-deleted
-    slice-write-deleted
-    add-deleted
-    mul-deleted-2
+    (λ c. search needs)
+    (λ c. search needs)
+    (λ c κs. search needs)
+    (λ c. search needs)
+    (λ c. search needs)
+    (λ c. search needs)
+    (λ c. search needs)
     slice-write-deleted-2
-    add-next
-    add-count
-    add-k
-    loop-less
+    (λ c. search needs)
+    (λ c. search needs)
+    (λ c. search needs)
+    (λ c. search needs)
     loop-again
-    same-length
+    (λ c. search needs)
     returns)

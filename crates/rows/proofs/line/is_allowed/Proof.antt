@@ -20,27 +20,6 @@ abbrev μ-loop : tie.MeasureT-loop
 loop-holds : tie.Need-loop-holds Inv-loop μ-loop
 loop-holds c = (search needs, all-zero _)
 
-mul-known : tie.Need-mul-known Inv-loop μ-loop
-mul-known c = search needs
-
-array-copy-out-known : tie.Need-array-copy-out-known Inv-loop μ-loop
-array-copy-out-known c = search needs
-
-mul-own : tie.Need-mul-own Inv-loop μ-loop
-mul-own c = search needs
-
-array-copy-out-own : tie.Need-array-copy-out-own Inv-loop μ-loop
-array-copy-out-own c = search needs
-
-array-read-mark : tie.Need-array-read-mark Inv-loop μ-loop
-array-read-mark c = search needs
-
-add-f : tie.Need-add-f Inv-loop μ-loop
-add-f c = search needs
-
-loop-less : tie.Need-loop-less Inv-loop μ-loop
-loop-less c = search needs
-
 loop-again : tie.Need-loop-again Inv-loop μ-loop
 unfolding allowedAt
 loop-again c =
@@ -59,12 +38,12 @@ is-allowed-spec =
     Inv-loop
     μ-loop
     loop-holds
-    mul-known
-    array-copy-out-known
-    mul-own
-    array-copy-out-own
-    array-read-mark
-    add-f
-    loop-less
+    (λ c. search needs)
+    (λ c. search needs)
+    (λ c. search needs)
+    (λ c. search needs)
+    (λ c. search needs)
+    (λ c. search needs)
+    (λ c. search needs)
     loop-again
     returns)

@@ -7,7 +7,8 @@ use native.Mathlib.Omega.{arith}
 use borrow.Author.Needs.{needs}
 use lib.ListN.{take}
 use Rattle.model.specs.declared.Checkpoint.{Checkpoint}
-use Rattle.rows.specs.Line.{latestBy, latestIs, latest-none, latest-more}
+use Rattle.rows.specs.Line.{latestBy, latestIs}
+use Rattle.rows.proofs.LineRule.{latest-none, latest-more}
 use Rattle.rows.proofs.line.latest_kept.Statement.{statement}
 use Rattle.rows.proofs.line.latest_kept.Tie as tie
 
@@ -17,26 +18,8 @@ Inv-loop held owns marks row latest₀ k₀ latest k = (k ≤ held) × (latest �
 abbrev μ-loop : tie.MeasureT-loop
 μ-loop held owns marks row latest₀ k₀ latest k = held - k
 
-none-allowed-requires : tie.Need-none-allowed-requires Inv-loop μ-loop
-none-allowed-requires c κs = search needs
-
 loop-holds : tie.Need-loop-holds Inv-loop μ-loop
 loop-holds c = (search needs, c .none-allowed .ensures ∙ latest-none _ _)
-
-mul-c : tie.Need-mul-c Inv-loop μ-loop
-mul-c c = search needs
-
-array-copy-out-c : tie.Need-array-copy-out-c Inv-loop μ-loop
-array-copy-out-c c = search needs
-
-latest-with-requires : tie.Need-latest-with-requires Inv-loop μ-loop
-latest-with-requires c κs = search needs
-
-add-k : tie.Need-add-k Inv-loop μ-loop
-add-k c = search needs
-
-loop-less : tie.Need-loop-less Inv-loop μ-loop
-loop-less c = search needs
 
 loop-again : tie.Need-loop-again Inv-loop μ-loop
 loop-again c =
@@ -56,12 +39,12 @@ latest-kept-spec =
     (tie.spec
     Inv-loop
     μ-loop
-    none-allowed-requires
+    (λ c κs. search needs)
     loop-holds
-    mul-c
-    array-copy-out-c
-    latest-with-requires
-    add-k
-    loop-less
+    (λ c. search needs)
+    (λ c. search needs)
+    (λ c κs. search needs)
+    (λ c. search needs)
+    (λ c. search needs)
     loop-again
     returns)

@@ -5,9 +5,6 @@ use borrow.Author.Needs.{needs}
 use Rattle.rows.proofs.line.latest_with.Statement.{statement}
 use Rattle.rows.proofs.line.latest_with.Tie as tie
 
-is-allowed-requires : tie.Need-is-allowed-requires
-is-allowed-requires c κs = search needs
-
 returns : tie.Need-returns
 returns c = rw (sym (c .before .is-allowed .ensures) ∙ c .if1 .taken)
 
@@ -15,4 +12,4 @@ returns-2 : tie.Need-returns-2
 returns-2 c = rw (sym (c .before .is-allowed .ensures) ∙ c .if1 .left)
 
 pub latest-with-spec : {M : Type 1} → statement M
-latest-with-spec = tie.close (tie.spec is-allowed-requires returns returns-2)
+latest-with-spec = tie.close (tie.spec (λ c κs. search needs) returns returns-2)

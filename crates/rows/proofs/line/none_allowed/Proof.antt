@@ -4,11 +4,8 @@ use borrow.Author.Needs.{needs}
 use Rattle.rows.proofs.line.none_allowed.Statement.{statement}
 use Rattle.rows.proofs.line.none_allowed.Tie as tie
 
-no-checkpoint-requires : tie.Need-no-checkpoint-requires
-no-checkpoint-requires c κs = search needs
-
 returns : tie.Need-returns
 returns c = rw (c .no-checkpoint .ensures)
 
 pub none-allowed-spec : {M : Type 1} → statement M
-none-allowed-spec = tie.close (tie.spec no-checkpoint-requires returns)
+none-allowed-spec = tie.close (tie.spec (λ c κs. search needs) returns)

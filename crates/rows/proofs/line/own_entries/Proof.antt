@@ -22,30 +22,6 @@ abbrev μ-loop : tie.MeasureT-loop
 loop-holds : tie.Need-loop-holds Inv-loop μ-loop
 loop-holds c = (search needs, below-none _ _)
 
-mul-own : tie.Need-mul-own Inv-loop μ-loop
-mul-own c = search needs
-
-mul-own-2 : tie.Need-mul-own-2 Inv-loop μ-loop
-mul-own-2 c = search needs
-
-index-1-own : tie.Need-index-1-own Inv-loop μ-loop
-index-1-own c = search needs
-
-index-2-own : tie.Need-index-2-own Inv-loop μ-loop
-index-2-own c = search needs
-
-mul-owns : tie.Need-mul-owns Inv-loop μ-loop
-mul-owns c = search needs
-
-array-set-from-owns : tie.Need-array-set-from-owns Inv-loop μ-loop
-array-set-from-owns c = search needs
-
-add-f : tie.Need-add-f Inv-loop μ-loop
-add-f c = search needs
-
-loop-less : tie.Need-loop-less Inv-loop μ-loop
-loop-less c = search needs
-
 loop-again : tie.Need-loop-again Inv-loop μ-loop
 loop-again c =
     let b = c .before .before in
@@ -63,13 +39,13 @@ own-entries-spec =
     Inv-loop
     μ-loop
     loop-holds
-    mul-own
-    mul-own-2
-    index-1-own
-    index-2-own
-    mul-owns
-    array-set-from-owns
-    add-f
-    loop-less
+    (λ c. search needs)
+    (λ c. search needs)
+    (λ c. search needs)
+    (λ c. search needs)
+    (λ c. search needs)
+    (λ c. search needs)
+    (λ c. search needs)
+    (λ c. search needs)
     loop-again
     returns)

@@ -26,21 +26,6 @@ loop-holds : tie.Need-loop-holds Inv-loop μ-loop
 unfolding some-of
 loop-holds c = (search needs, refl)
 
-mul-pin : tie.Need-mul-pin Inv-loop μ-loop
-mul-pin c = search needs
-
-array-copy-out-pin : tie.Need-array-copy-out-pin Inv-loop μ-loop
-array-copy-out-pin c = search needs
-
-names-requires : tie.Need-names-requires Inv-loop μ-loop
-names-requires c κs = search needs
-
-add-f : tie.Need-add-f Inv-loop μ-loop
-add-f c = search needs
-
-loop-less : tie.Need-loop-less Inv-loop μ-loop
-loop-less c = search needs
-
 loop-again : tie.Need-loop-again Inv-loop μ-loop
 loop-again c =
     let b = c .before .before .before .before in
@@ -64,10 +49,10 @@ is-named-spec =
     Inv-loop
     μ-loop
     loop-holds
-    mul-pin
-    array-copy-out-pin
-    names-requires
-    add-f
-    loop-less
+    (λ c. search needs)
+    (λ c. search needs)
+    (λ c κs. search needs)
+    (λ c. search needs)
+    (λ c. search needs)
     loop-again
     returns)

@@ -15,47 +15,8 @@ Inv-loop i own carried pins own-pin taken₀ f₀ taken f = (f ≤ 16) × (taken
 abbrev μ-loop : tie.MeasureT-loop
 μ-loop i own carried pins own-pin taken₀ f₀ taken f = 16 - f
 
-mul-own-pin : tie.Need-mul-own-pin Inv-loop μ-loop
-mul-own-pin c = search needs
-
-array-copy-out-own-pin : tie.Need-array-copy-out-own-pin Inv-loop μ-loop
-array-copy-out-own-pin c = search needs
-
 loop-holds : tie.Need-loop-holds Inv-loop μ-loop
 loop-holds c = (search needs, below-none _ _)
-
-mul-x : tie.Need-mul-x Inv-loop μ-loop
-mul-x c = search needs
-
-array-copy-out-x : tie.Need-array-copy-out-x Inv-loop μ-loop
-array-copy-out-x c = search needs
-
-mul-y : tie.Need-mul-y Inv-loop μ-loop
-mul-y c = search needs
-
-array-copy-out-y : tie.Need-array-copy-out-y Inv-loop μ-loop
-array-copy-out-y c = search needs
-
-mul-old : tie.Need-mul-old Inv-loop μ-loop
-mul-old c = search needs
-
-array-copy-out-old : tie.Need-array-copy-out-old Inv-loop μ-loop
-array-copy-out-old c = search needs
-
-taken-pin-requires : tie.Need-taken-pin-requires Inv-loop μ-loop
-taken-pin-requires c κs = search needs
-
-mul-taken : tie.Need-mul-taken Inv-loop μ-loop
-mul-taken c = search needs
-
-array-set-from-taken : tie.Need-array-set-from-taken Inv-loop μ-loop
-array-set-from-taken c = search needs
-
-add-f : tie.Need-add-f Inv-loop μ-loop
-add-f c = search needs
-
-loop-less : tie.Need-loop-less Inv-loop μ-loop
-loop-less c = search needs
 
 loop-again : tie.Need-loop-again Inv-loop μ-loop
 unfolding takenPin
@@ -74,19 +35,19 @@ take-pins-spec =
     (tie.spec
     Inv-loop
     μ-loop
-    mul-own-pin
-    array-copy-out-own-pin
+    (λ c. search needs)
+    (λ c. search needs)
     loop-holds
-    mul-x
-    array-copy-out-x
-    mul-y
-    array-copy-out-y
-    mul-old
-    array-copy-out-old
-    taken-pin-requires
-    mul-taken
-    array-set-from-taken
-    add-f
-    loop-less
+    (λ c. search needs)
+    (λ c. search needs)
+    (λ c. search needs)
+    (λ c. search needs)
+    (λ c. search needs)
+    (λ c. search needs)
+    (λ c κs. search needs)
+    (λ c. search needs)
+    (λ c. search needs)
+    (λ c. search needs)
+    (λ c. search needs)
     loop-again
     returns)

@@ -5,9 +5,6 @@ use borrow.Author.Tests.{le-leb, lt-leb}
 use Rattle.rows.proofs.recovery.does_stay.Statement.{statement}
 use Rattle.rows.proofs.recovery.does_stay.Tie as tie
 
-is-named-requires : tie.Need-is-named-requires
-is-named-requires c κs = search needs
-
 returns : tie.Need-returns
 returns c = rw (le-leb _ _ (c .before .if1 .taken)) (c .is-named .ensures)
 
@@ -15,4 +12,4 @@ returns-2 : tie.Need-returns-2
 returns-2 c = rw (lt-leb _ _ (c .if1 .left))
 
 pub does-stay-spec : {M : Type 1} → statement M
-does-stay-spec = tie.close (tie.spec is-named-requires returns returns-2)
+does-stay-spec = tie.close (tie.spec (λ c κs. search needs) returns returns-2)

@@ -7,36 +7,19 @@ use native.Mathlib.Omega.{arith}
 use borrow.Author.Needs.{needs}
 use lib.ListN.{take}
 use Rattle.model.specs.declared.Checkpoint.{Checkpoint}
-use Rattle.rows.specs.Recovery.{notLater, foundIn, found-none, found-more}
+use Rattle.rows.specs.Recovery.{notLater, latestFound}
+use Rattle.rows.proofs.Restoring.{found-none, found-more}
 use Rattle.rows.proofs.recovery.find_latest.Statement.{statement}
 use Rattle.rows.proofs.recovery.find_latest.Tie as tie
 
 abbrev Inv-loop : tie.InvT-loop
-Inv-loop held last owns row found₀ k₀ found k = (k ≤ held) × (found ≡ foundIn owns (notLater last (take k row)))
+Inv-loop held last owns row found₀ k₀ found k = (k ≤ held) × (found ≡ latestFound owns (notLater last (take k row)))
 
 abbrev μ-loop : tie.MeasureT-loop
 μ-loop held last owns row found₀ k₀ found k = held - k
 
-nothing-found-requires : tie.Need-nothing-found-requires Inv-loop μ-loop
-nothing-found-requires c κs = search needs
-
 loop-holds : tie.Need-loop-holds Inv-loop μ-loop
 loop-holds c = (search needs, c .nothing-found .ensures ∙ sym (found-none _ _))
-
-mul-c : tie.Need-mul-c Inv-loop μ-loop
-mul-c c = search needs
-
-array-copy-out-c : tie.Need-array-copy-out-c Inv-loop μ-loop
-array-copy-out-c c = search needs
-
-found-with-requires : tie.Need-found-with-requires Inv-loop μ-loop
-found-with-requires c κs = search needs
-
-add-k : tie.Need-add-k Inv-loop μ-loop
-add-k c = search needs
-
-loop-less : tie.Need-loop-less Inv-loop μ-loop
-loop-less c = search needs
 
 loop-again : tie.Need-loop-again Inv-loop μ-loop
 loop-again c =
@@ -52,4 +35,4 @@ returns c =
     rw e at (l .inv .1)
 
 pub find-latest-spec : {M : Type 1} → statement M
-find-latest-spec = tie.close (tie.spec Inv-loop μ-loop nothing-found-requires loop-holds mul-c array-copy-out-c found-with-requires add-k loop-less loop-again returns)
+find-latest-spec = tie.close (tie.spec Inv-loop μ-loop (λ c κs. search needs) loop-holds (λ c. search needs) (λ c. search needs) (λ c κs. search needs) (λ c. search needs) (λ c. search needs) loop-again returns)

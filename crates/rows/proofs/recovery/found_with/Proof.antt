@@ -6,12 +6,6 @@ use Rattle.rows.specs.Recovery.{foundWith}
 use Rattle.rows.proofs.recovery.found_with.Statement.{statement}
 use Rattle.rows.proofs.recovery.found_with.Tie as tie
 
-mark-found-requires : tie.Need-mark-found-requires
-mark-found-requires c κs = search needs
-
-index-found-requires : tie.Need-index-found-requires
-index-found-requires c κs = search needs
-
 returns : tie.Need-returns
 unfolding foundWith
 returns c = rw (le-leb _ _ (c .before .before .before .before .before .if1 .taken), c .before .mark-found .ensures, c .index-found .ensures)
@@ -21,4 +15,4 @@ unfolding foundWith
 returns-2 c = rw (lt-leb _ _ (c .if1 .left))
 
 pub found-with-spec : {M : Type 1} → statement M
-found-with-spec = tie.close (tie.spec mark-found-requires index-found-requires returns returns-2)
+found-with-spec = tie.close (tie.spec (λ c κs. search needs) (λ c κs. search needs) returns returns-2)

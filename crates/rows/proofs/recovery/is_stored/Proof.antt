@@ -5,12 +5,9 @@ use native.Mathlib.Omega.{arith}
 use borrow.Author.Needs.{needs}
 use lib.Dec.{leb}
 use Rattle.model.specs.declared.CheckpointIndex.{CheckpointIndex}
-use Rattle.rows.specs.Recovery.{stored-up-to-last, stored-none}
+use Rattle.rows.proofs.Restoring.{stored-up-to-last, stored-none}
 use Rattle.rows.proofs.recovery.is_stored.Statement.{statement}
 use Rattle.rows.proofs.recovery.is_stored.Tie as tie
-
-last-stored-requires : tie.Need-last-stored-requires
-last-stored-requires c κs = search needs
 
 returns : tie.Need-returns
 returns c = stored-none (c .before .before .args .member) (c .before .before .args .own) (c .if1 .taken)
@@ -22,4 +19,4 @@ returns-2 c =
     ∙ stored-up-to-last (a .member) (a .own) (omega (arith, c .before .before .before .if1 .left))
 
 pub is-stored-spec : {M : Type 1} → statement M
-is-stored-spec = tie.close (tie.spec last-stored-requires returns returns-2)
+is-stored-spec = tie.close (tie.spec (λ c κs. search needs) returns returns-2)

@@ -22,39 +22,6 @@ abbrev μ-loop : tie.MeasureT-loop
 loop-holds : tie.Need-loop-holds Inv-loop μ-loop
 loop-holds c = (search needs, below-none _ _)
 
-mul-known : tie.Need-mul-known Inv-loop μ-loop
-mul-known c = search needs
-
-array-copy-out-known : tie.Need-array-copy-out-known Inv-loop μ-loop
-array-copy-out-known c = search needs
-
-mul-own : tie.Need-mul-own Inv-loop μ-loop
-mul-own c = search needs
-
-array-copy-out-own : tie.Need-array-copy-out-own Inv-loop μ-loop
-array-copy-out-own c = search needs
-
-mul-old : tie.Need-mul-old Inv-loop μ-loop
-mul-old c = search needs
-
-array-copy-out-old : tie.Need-array-copy-out-old Inv-loop μ-loop
-array-copy-out-old c = search needs
-
-known-pin-requires : tie.Need-known-pin-requires Inv-loop μ-loop
-known-pin-requires c κs = search needs
-
-mul-known-ones : tie.Need-mul-known-ones Inv-loop μ-loop
-mul-known-ones c = search needs
-
-array-set-from-known-ones : tie.Need-array-set-from-known-ones Inv-loop μ-loop
-array-set-from-known-ones c = search needs
-
-add-f : tie.Need-add-f Inv-loop μ-loop
-add-f c = search needs
-
-loop-less : tie.Need-loop-less Inv-loop μ-loop
-loop-less c = search needs
-
 loop-again : tie.Need-loop-again Inv-loop μ-loop
 loop-again c =
     let b = c .before .before .before .before .before in
@@ -65,4 +32,4 @@ returns : tie.Need-returns Inv-loop μ-loop
 returns c = let e : c .before .loop .f ≡ 16 = omega arith in rw e at (c .before .loop .inv .1) ∙ below-all _ _ 16 (search needs)
 
 pub known-pins-spec : {M : Type 1} → statement M
-known-pins-spec = tie.close (tie.spec Inv-loop μ-loop loop-holds mul-known array-copy-out-known mul-own array-copy-out-own mul-old array-copy-out-old known-pin-requires mul-known-ones array-set-from-known-ones add-f loop-less loop-again returns)
+known-pins-spec = tie.close (tie.spec Inv-loop μ-loop loop-holds (λ c. search needs) (λ c. search needs) (λ c. search needs) (λ c. search needs) (λ c. search needs) (λ c. search needs) (λ c κs. search needs) (λ c. search needs) (λ c. search needs) (λ c. search needs) (λ c. search needs) loop-again returns)

@@ -20,30 +20,6 @@ abbrev μ-loop : tie.MeasureT-loop
 loop-holds : tie.Need-loop-holds Inv-loop μ-loop
 loop-holds c = (search needs, below-none _ _)
 
-array-read-mark : tie.Need-array-read-mark Inv-loop μ-loop
-array-read-mark c = search needs
-
-mul-index : tie.Need-mul-index Inv-loop μ-loop
-mul-index c = search needs
-
-array-read-index : tie.Need-array-read-index Inv-loop μ-loop
-array-read-index c = search needs
-
-pin-at-requires : tie.Need-pin-at-requires Inv-loop μ-loop
-pin-at-requires c κs = search needs
-
-mul-pins : tie.Need-mul-pins Inv-loop μ-loop
-mul-pins c = search needs
-
-array-set-from-pins : tie.Need-array-set-from-pins Inv-loop μ-loop
-array-set-from-pins c = search needs
-
-add-f : tie.Need-add-f Inv-loop μ-loop
-add-f c = search needs
-
-loop-less : tie.Need-loop-less Inv-loop μ-loop
-loop-less c = search needs
-
 loop-again : tie.Need-loop-again Inv-loop μ-loop
 loop-again c =
     let b = c .before .before in
@@ -54,4 +30,4 @@ returns : tie.Need-returns Inv-loop μ-loop
 returns c = let e : c .before .loop .f ≡ 16 = omega arith in rw e at (c .before .loop .inv .1) ∙ below-all _ _ 16 (search needs)
 
 pub pins-at-spec : {M : Type 1} → statement M
-pins-at-spec = tie.close (tie.spec Inv-loop μ-loop loop-holds array-read-mark mul-index array-read-index pin-at-requires mul-pins array-set-from-pins add-f loop-less loop-again returns)
+pins-at-spec = tie.close (tie.spec Inv-loop μ-loop loop-holds (λ c. search needs) (λ c. search needs) (λ c. search needs) (λ c κs. search needs) (λ c. search needs) (λ c. search needs) (λ c. search needs) (λ c. search needs) loop-again returns)

@@ -6,15 +6,10 @@ use borrow.Author.Needs.{needs}
 use lib.ListN.{getD}
 use Rattle.laws.specs.Lists.{table}
 use Rattle.rows.specs.declared.recovery.Found.{Found}
-use Rattle.rows.specs.Recovery.{pinFrom, pins-rolled, pins-live, found-pins}
+use Rattle.rows.specs.Recovery.{pinFrom}
+use Rattle.rows.proofs.Restoring.{pins-rolled, pins-live, found-pins}
 use Rattle.rows.proofs.recovery.pins_found.Statement.{statement}
 use Rattle.rows.proofs.recovery.pins_found.Tie as tie
-
-pins-at-requires : tie.Need-pins-at-requires
-pins-at-requires c κs = search needs
-
-known-pins-requires : tie.Need-known-pins-requires
-known-pins-requires c κs = search needs
 
 returns : tie.Need-returns
 returns c l found =
@@ -23,13 +18,10 @@ returns c l found =
     let moved = c .before .pins-at .ensures ∙ ap (λ (x : Found). table 16 (λ f. pinFrom (getD (x .marks) f false) (getD (x .indexes) f 0))) (found rolled) ∙ found-pins (a .owns) l in
     rw rolled (c .known-pins .ensures ∙ pins-rolled (a .vector) (a .owns) l (a .pins) _ moved)
 
-known-pins-requires-2 : tie.Need-known-pins-requires-2
-known-pins-requires-2 c κs = search needs
-
 returns-2 : tie.Need-returns-2
 returns-2 c l found =
     let a = c .before .before .args in
     rw (c .before .if1 .left) (c .known-pins2 .ensures ∙ pins-live (a .vector) (a .owns) l (a .pins))
 
 pub pins-found-spec : {M : Type 1} → statement M
-pins-found-spec = tie.close (tie.spec pins-at-requires known-pins-requires known-pins-requires-2 returns returns-2)
+pins-found-spec = tie.close (tie.spec (λ c κs. search needs) (λ c κs. search needs) (λ c κs. search needs) returns returns-2)

@@ -1,6 +1,6 @@
 -- `rows::recovery::vector_after` meets its contract, by whether the process rolls back.
 -- Assumes nothing.
-use Rattle.rows.specs.Recovery.{vectorThen}
+use Rattle.rows.specs.Recovery.{restoredVector}
 use Rattle.rows.proofs.recovery.vector_after.Statement.{statement}
 use Rattle.rows.proofs.recovery.vector_after.Tie as tie
 
@@ -8,11 +8,11 @@ advanced-requires : tie.Need-advanced-requires
 advanced-requires c κs = (c .before .pre .0, c .before .pre .1 (c .if1 .taken))
 
 returns : tie.Need-returns
-unfolding vectorThen
+unfolding restoredVector
 returns c = rw (c .before .if1 .taken) (c .advanced .ensures)
 
 returns-2 : tie.Need-returns-2
-unfolding vectorThen
+unfolding restoredVector
 returns-2 c = rw (c .if1 .left)
 
 pub vector-after-spec : {M : Type 1} → statement M

@@ -7,14 +7,8 @@ use borrow.Author.Needs.{needs}
 use Rattle.rows.proofs.vector.last_stored.Statement.{statement}
 use Rattle.rows.proofs.vector.last_stored.Tie as tie
 
-sub-t4 : tie.Need-sub-t4
-sub-t4 c = search needs
-
 returns : tie.Need-returns
 returns c = ap (λ (n : ℕ). record { 0 = n }) (omega arith)
 
-returns-2 : tie.Need-returns-2
-returns-2 c = search needs
-
 pub last-stored-spec : {M : Type 1} → statement M
-last-stored-spec = tie.close (tie.spec sub-t4 returns returns-2)
+last-stored-spec = tie.close (tie.spec (λ c. search needs) returns (λ c. search needs))

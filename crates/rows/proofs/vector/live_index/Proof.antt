@@ -8,9 +8,6 @@ use Rattle.model.specs.declared.CheckpointIndex.{CheckpointIndex}
 use Rattle.rows.proofs.vector.live_index.Statement.{statement}
 use Rattle.rows.proofs.vector.live_index.Tie as tie
 
-last-stored-requires : tie.Need-last-stored-requires
-last-stored-requires c κs = search needs
-
 add-t3 : tie.Need-add-t3
 add-t3 c = let e = ap (λ (x : CheckpointIndex). x .0) (c .before .last-stored .ensures) in omega arith
 
@@ -18,4 +15,4 @@ returns : tie.Need-returns
 returns c = let e = ap (λ (x : CheckpointIndex). x .0) (c .before .last-stored .ensures) in ap (λ (n : ℕ). record { 0 = n }) (omega arith)
 
 pub live-index-spec : {M : Type 1} → statement M
-live-index-spec = tie.close (tie.spec last-stored-requires add-t3 returns)
+live-index-spec = tie.close (tie.spec (λ c κs. search needs) add-t3 returns)

@@ -8,12 +8,12 @@ use lib.Dec.{eqb}
 use lib.ListN.{length-replicate}
 use Rattle.laws.specs.Choice.{pick, by-bool}
 use Rattle.laws.specs.Search.{allBelow}
+use Rattle.laws.specs.Conjunctions.{test, _and_, holds, asks, same-tests}
 use Rattle.model.specs.declared.Interval.{Interval}
 use Rattle.model.specs.declared.CheckpointIndex.{CheckpointIndex}
 use Rattle.model.specs.Words.{zeroVector}
 use Rattle.model.specs.Sound.{zeroFrom, unusedCheckpoint}
-use Rattle.soundness.specs.Judged.{vectorSound, Joins}
-use Rattle.soundness.proofs.Conjunctions.{test, _and_, holds, asks, same-tests}
+use Rattle.soundness.specs.Clauses.{vectorSound, Joins}
 use Rattle.soundness.proofs.Vectors.{zero-sound}
 use Rattle.soundness.proofs.kept.joined.Statement.{statement}
 use Rattle.soundness.proofs.kept.joined.Tie as tie
@@ -25,12 +25,6 @@ zero-joined a b r joins = joins 0 zeroVector (length-replicate {A = Interval} 16
 
 zero-index : (a b : CheckpointIndex) → eqb (pick (eqb (a .0) 0) b a .0) 0 ≡ (eqb (a .0) 0 && eqb (b .0) 0)
 zero-index a b = by-bool (eqb (a .0) 0) (λ e. rw e) (λ e. rw (e, e))
-
-joined-requires : tie.Need-joined-requires
-joined-requires c κs = search needs
-
-nonzero-of-requires : tie.Need-nonzero-of-requires
-nonzero-of-requires c κs = search needs
 
 -- The two tests of each place, one behind the other.
 two-places : (i z j w : Bool) → ((i && j) && (z && w)) ≡ ((i && z) && (j && w))
@@ -45,4 +39,4 @@ returns c =
     (two-places (eqb (a .a .index .0) 0) (zeroFrom 0 (a .a .vector)) (eqb (a .b .index .0) 0) (zeroFrom 0 (a .b .vector)))
 
 pub joined-spec : {M : Type 1} → statement M
-joined-spec = tie.close (tie.spec joined-requires nonzero-of-requires returns)
+joined-spec = tie.close (tie.spec (λ c κs. search needs) (λ c κs. search needs) returns)

@@ -1,15 +1,12 @@
 -- `soundness::kept::none_walked` meets its contract. Assumes nothing.
 use borrow.Author.Needs.{needs}
-use Rattle.soundness.specs.Judged.{noneWalked}
+use Rattle.soundness.specs.Clauses.{noneWalked}
 use Rattle.soundness.proofs.kept.none_walked.Statement.{statement}
 use Rattle.soundness.proofs.kept.none_walked.Tie as tie
-
-zero-vector-requires : tie.Need-zero-vector-requires
-zero-vector-requires c κs = search needs
 
 returns : tie.Need-returns
 unfolding noneWalked
 returns c = rw (c .zero-vector .ensures)
 
 pub none-walked-spec : {M : Type 1} → statement M
-none-walked-spec = tie.close (tie.spec zero-vector-requires returns)
+none-walked-spec = tie.close (tie.spec (λ c κs. search needs) returns)

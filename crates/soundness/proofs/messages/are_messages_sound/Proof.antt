@@ -10,44 +10,44 @@ use borrow.Author.Needs.{needs}
 use Rattle.laws.specs.Rows.{every-pass, every-stop, every-done}
 use Rattle.laws.specs.Search.{allBelow}
 use Rattle.laws.specs.Tests.{every}
+use Rattle.laws.specs.Conjunctions.{Conjunction, test, _and_, holds, asks, conjunction, part-fails}
 use Rattle.model.specs.declared.Interval.{Interval}
 use Rattle.model.specs.declared.Message.{Message}
 use Rattle.model.specs.Sound.{ascending, unusedMessage}
-use Rattle.soundness.specs.Judged.{messageJudged, messagesTests, messagesJudged, numberOf}
-use Rattle.soundness.proofs.Conjunctions.{Conjunction, test, _and_, holds, asks, conjunction, part-fails}
+use Rattle.soundness.specs.Clauses.{messageTested, messagesTests, messagesTested, messageNumber}
 use Rattle.soundness.proofs.Ascent.{ascent-end, ascent-pass, ascent-stop, above}
 use Rattle.soundness.proofs.messages.are_messages_sound.Statement.{statement}
 use Rattle.soundness.proofs.messages.are_messages_sound.Tie as tie
 
 module _ (n : ℕ) (own : List Interval) (messages : List Message) (underway last : ℕ) where
   -- One test fails, or the two that the first loop asks.
-  too-many : 64 < underway → false ≡ messagesJudged n own messages underway last
-  unfolding messagesJudged messagesTests holds
+  too-many : 64 < underway → false ≡ messagesTested n own messages underway last
+  unfolding messagesTested messagesTests holds
   too-many h = part-fails (messagesTests n own messages underway last) (test 0) (lt-leb underway 64 h)
 
-  too-high : 1000000 < last → false ≡ messagesJudged n own messages underway last
-  unfolding messagesJudged messagesTests holds
+  too-high : 1000000 < last → false ≡ messagesTested n own messages underway last
+  unfolding messagesTested messagesTests holds
   too-high h = part-fails (messagesTests n own messages underway last) (test 1) (lt-leb last 1000000 h)
 
-  unordered : false ≡ (ascending 1 (map numberOf (take underway messages)) && every (messageJudged n last own) (take underway messages)) → false ≡ messagesJudged n own messages underway last
-  unfolding messagesJudged messagesTests holds
+  unordered : false ≡ (ascending 1 (map messageNumber (take underway messages)) && every (messageTested n last own) (take underway messages)) → false ≡ messagesTested n own messages underway last
+  unfolding messagesTested messagesTests holds
   unordered e = part-fails (messagesTests n own messages underway last) (test 2 and test 3) (sym e)
 
-  leftover : false ≡ every unusedMessage (drop underway messages) → false ≡ messagesJudged n own messages underway last
-  unfolding messagesJudged messagesTests holds
+  leftover : false ≡ every unusedMessage (drop underway messages) → false ≡ messagesTested n own messages underway last
+  unfolding messagesTested messagesTests holds
   leftover e = part-fails (messagesTests n own messages underway last) (test 4) (sym e)
 
   -- All tests hold.
-  all-judged : underway ≤ 64 → last ≤ 1000000 → true ≡ (ascending 1 (map numberOf (take underway messages)) && every (messageJudged n last own) (take underway messages))
-      → true ≡ every unusedMessage (drop underway messages) → true ≡ messagesJudged n own messages underway last
-  unfolding messagesJudged messagesTests holds asks allBelow
+  all-judged : underway ≤ 64 → last ≤ 1000000 → true ≡ (ascending 1 (map messageNumber (take underway messages)) && every (messageTested n last own) (take underway messages))
+      → true ≡ every unusedMessage (drop underway messages) → true ≡ messagesTested n own messages underway last
+  unfolding messagesTested messagesTests holds asks allBelow
   all-judged few low each rest =
       let asked : Conjunction = test 0 and test 1 and (test 2 and test 3) and test 4 in
       let hold : holds (messagesTests n own messages underway last) asked ≡ true = rw (le-leb underway 64 few, le-leb last 1000000 low, ← each, ← rest) in
       sym hold ∙ conjunction (messagesTests n own messages underway last) asked refl
 
 abbrev Inv-loop : tie.InvT-loop
-Inv-loop own n underway last messages previous₀ k₀ previous k = (k ≤ underway) × ((ascending (previous + 1) (map numberOf (drop k (take underway messages))) && every (messageJudged n last own) (drop k (take underway messages))) ≡ (ascending 1 (map numberOf (take underway messages)) && every (messageJudged n last own) (take underway messages)))
+Inv-loop own n underway last messages previous₀ k₀ previous k = (k ≤ underway) × ((ascending (previous + 1) (map messageNumber (drop k (take underway messages))) && every (messageTested n last own) (drop k (take underway messages))) ≡ (ascending 1 (map messageNumber (take underway messages)) && every (messageTested n last own) (take underway messages)))
 
 abbrev μ-loop : tie.MeasureT-loop
 μ-loop own n underway last messages previous₀ k₀ previous k = underway - k
@@ -67,47 +67,23 @@ returns-2 c = let a = c .before .before .args in too-high (a .n) (a .own) (a .t1
 loop-holds : tie.Need-loop-holds Inv-loop μ-loop Inv-loop2 μ-loop2
 loop-holds c = (search needs, refl)
 
-mul-x : tie.Need-mul-x Inv-loop μ-loop Inv-loop2 μ-loop2
-mul-x c = search needs
-
-array-copy-out-x : tie.Need-array-copy-out-x Inv-loop μ-loop Inv-loop2 μ-loop2
-array-copy-out-x c = search needs
-
-is-message-sound-requires : tie.Need-is-message-sound-requires Inv-loop μ-loop Inv-loop2 μ-loop2
-is-message-sound-requires c κs = search needs
-
 returns-3 : tie.Need-returns-3 Inv-loop μ-loop Inv-loop2 μ-loop2
 returns-3 c =
     let b = c .before .before .before .before in
     let a = b .before .before .before .args in
     unordered (a .n) (a .own) (a .t1) (a .underway) (a .last)
-    (ascent-stop numberOf (messageJudged (a .n) (a .last) (a .own)) (a .t1) (a .underway) (search needs) (b .loop .k) (b .loop .previous + 1) (record { number = 0; sender = 0; receiver = 0; vector = [] }) _ (search needs) (b .loop .inv .1) (c .before .is-message-sound .result) (c .before .is-message-sound .ensures) (rw (← above (b .loop .previous) (getD (a .t1) (b .loop .k) (record { number = 0; sender = 0; receiver = 0; vector = [] }) .number)) (not-true _ (c .if3 .taken))))
-
-add-k : tie.Need-add-k Inv-loop μ-loop Inv-loop2 μ-loop2
-add-k c = search needs
-
-loop-less : tie.Need-loop-less Inv-loop μ-loop Inv-loop2 μ-loop2
-loop-less c = search needs
+    (ascent-stop messageNumber (messageTested (a .n) (a .last) (a .own)) (a .t1) (a .underway) (search needs) (b .loop .k) (b .loop .previous + 1) (record { number = 0; sender = 0; receiver = 0; vector = [] }) _ (search needs) (b .loop .inv .1) (c .before .is-message-sound .result) (c .before .is-message-sound .ensures) (rw (← above (b .loop .previous) (getD (a .t1) (b .loop .k) (record { number = 0; sender = 0; receiver = 0; vector = [] }) .number)) (not-true _ (c .if3 .taken))))
 
 loop-again : tie.Need-loop-again Inv-loop μ-loop Inv-loop2 μ-loop2
 loop-again c =
     let b = c .before .before .before .before in
     let a = b .before .before .before .args in (
       search needs,
-      ascent-pass numberOf (messageJudged (a .n) (a .last) (a .own)) (a .t1) (a .underway) (search needs) (b .loop .k) (b .loop .previous + 1) (record { number = 0; sender = 0; receiver = 0; vector = [] }) _ (search needs) (b .loop .inv .1) (c .before .is-message-sound .result) (c .before .is-message-sound .ensures) (rw (← above (b .loop .previous) (getD (a .t1) (b .loop .k) (record { number = 0; sender = 0; receiver = 0; vector = [] }) .number)) (not-false _ (c .if3 .left))),
+      ascent-pass messageNumber (messageTested (a .n) (a .last) (a .own)) (a .t1) (a .underway) (search needs) (b .loop .k) (b .loop .previous + 1) (record { number = 0; sender = 0; receiver = 0; vector = [] }) _ (search needs) (b .loop .inv .1) (c .before .is-message-sound .result) (c .before .is-message-sound .ensures) (rw (← above (b .loop .previous) (getD (a .t1) (b .loop .k) (record { number = 0; sender = 0; receiver = 0; vector = [] }) .number)) (not-false _ (c .if3 .left))),
     )
 
 loop2-holds : tie.Need-loop2-holds Inv-loop μ-loop Inv-loop2 μ-loop2
 loop2-holds c = refl
-
-mul-x-2 : tie.Need-mul-x-2 Inv-loop μ-loop Inv-loop2 μ-loop2
-mul-x-2 c = search needs
-
-array-copy-out-x-2 : tie.Need-array-copy-out-x-2 Inv-loop μ-loop Inv-loop2 μ-loop2
-array-copy-out-x-2 c = search needs
-
-is-unused-requires : tie.Need-is-unused-requires Inv-loop μ-loop Inv-loop2 μ-loop2
-is-unused-requires c κs = search needs
 
 returns-4 : tie.Need-returns-4 Inv-loop μ-loop Inv-loop2 μ-loop2
 returns-4 c =
@@ -115,12 +91,6 @@ returns-4 c =
     let a = b .before .before .before .before .before .args in
     leftover (a .n) (a .own) (a .t1) (a .underway) (a .last)
     (every-stop unusedMessage (a .t1) (b .loop2 .k) (record { number = 0; sender = 0; receiver = 0; vector = [] }) (search needs) _ (b .loop2 .inv) (sym (c .before .is-unused .ensures) ∙ not-true _ (c .if4 .taken)))
-
-add-k-2 : tie.Need-add-k-2 Inv-loop μ-loop Inv-loop2 μ-loop2
-add-k-2 c = search needs
-
-loop2-less : tie.Need-loop2-less Inv-loop μ-loop Inv-loop2 μ-loop2
-loop2-less c = search needs
 
 loop2-again : tie.Need-loop2-again Inv-loop μ-loop Inv-loop2 μ-loop2
 loop2-again c =
@@ -133,7 +103,7 @@ returns-5 c =
     let b = c .before in
     let f = b .before .before in
     let a = f .before .before .before .args in
-    all-judged (a .n) (a .own) (a .t1) (a .underway) (a .last) (search needs) (search needs) (ascent-end numberOf (messageJudged (a .n) (a .last) (a .own)) (a .t1) (a .underway) (search needs) (f .loop .k) (f .loop .previous + 1) true _ (search needs) (f .loop .inv .1)) (sym (every-done unusedMessage (a .t1) (b .loop2 .k) (search needs)) ∙ b .loop2 .inv)
+    all-judged (a .n) (a .own) (a .t1) (a .underway) (a .last) (search needs) (search needs) (ascent-end messageNumber (messageTested (a .n) (a .last) (a .own)) (a .t1) (a .underway) (search needs) (f .loop .k) (f .loop .previous + 1) true _ (search needs) (f .loop .inv .1)) (sym (every-done unusedMessage (a .t1) (b .loop2 .k) (search needs)) ∙ b .loop2 .inv)
 
 pub are-messages-sound-spec : {M : Type 1} → statement M
 are-messages-sound-spec =
@@ -146,19 +116,19 @@ are-messages-sound-spec =
     returns
     returns-2
     loop-holds
-    mul-x
-    array-copy-out-x
-    is-message-sound-requires
+    (λ c. search needs)
+    (λ c. search needs)
+    (λ c κs. search needs)
     returns-3
-    add-k
-    loop-less
+    (λ c. search needs)
+    (λ c. search needs)
     loop-again
     loop2-holds
-    mul-x-2
-    array-copy-out-x-2
-    is-unused-requires
+    (λ c. search needs)
+    (λ c. search needs)
+    (λ c κs. search needs)
     returns-4
-    add-k-2
-    loop2-less
+    (λ c. search needs)
+    (λ c. search needs)
     loop2-again
     returns-5)

@@ -1,15 +1,12 @@
 -- `soundness::messages::is_message_sound` meets its contract. Assumes nothing.
 use borrow.Author.Needs.{needs}
-use Rattle.soundness.specs.Judged.{messageJudged}
+use Rattle.soundness.specs.Clauses.{messageTested}
 use Rattle.soundness.proofs.messages.is_message_sound.Statement.{statement}
 use Rattle.soundness.proofs.messages.is_message_sound.Tie as tie
 
-within-own-requires : tie.Need-within-own-requires
-within-own-requires c κs = search needs
-
 returns : tie.Need-returns
-unfolding messageJudged
+unfolding messageTested
 returns c = rw (c .before .before .before .before .within-own .ensures (c .before .before .before .before .before .before .args .n) (search needs) (search needs))
 
 pub is-message-sound-spec : {M : Type 1} → statement M
-is-message-sound-spec = tie.close (tie.spec within-own-requires returns)
+is-message-sound-spec = tie.close (tie.spec (λ c κs. search needs) returns)

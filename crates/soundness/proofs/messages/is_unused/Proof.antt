@@ -4,12 +4,9 @@ use Rattle.model.specs.Sound.{unusedMessage}
 use Rattle.soundness.proofs.messages.is_unused.Statement.{statement}
 use Rattle.soundness.proofs.messages.is_unused.Tie as tie
 
-is-zero-requires : tie.Need-is-zero-requires
-is-zero-requires c κs = search needs
-
 returns : tie.Need-returns
 unfolding unusedMessage
 returns c = rw (c .before .before .before .is-zero .ensures)
 
 pub is-unused-spec : {M : Type 1} → statement M
-is-unused-spec = tie.close (tie.spec is-zero-requires returns)
+is-unused-spec = tie.close (tie.spec (λ c κs. search needs) returns)

@@ -8,7 +8,7 @@ use borrow.Author.Needs.{needs}
 use Rattle.laws.specs.Rows.{some-turn, some-end}
 use Rattle.laws.specs.Tests.{some-of}
 use Rattle.model.specs.declared.CheckpointIndex.{CheckpointIndex}
-use Rattle.soundness.specs.Judged.{among}
+use Rattle.soundness.specs.Clauses.{among}
 use Rattle.soundness.proofs.pins.is_among.Statement.{statement}
 use Rattle.soundness.proofs.pins.is_among.Tie as tie
 
@@ -21,18 +21,6 @@ abbrev μ-loop : tie.MeasureT-loop
 loop-holds : tie.Need-loop-holds Inv-loop μ-loop
 loop-holds c = (search needs, refl)
 
-mul-x : tie.Need-mul-x Inv-loop μ-loop
-mul-x c = search needs
-
-array-copy-out-x : tie.Need-array-copy-out-x Inv-loop μ-loop
-array-copy-out-x c = search needs
-
-add-k : tie.Need-add-k Inv-loop μ-loop
-add-k c = search needs
-
-loop-less : tie.Need-loop-less Inv-loop μ-loop
-loop-less c = search needs
-
 loop-again : tie.Need-loop-again Inv-loop μ-loop
 loop-again c = let b = c .before .before .before .before in (search needs, some-turn (λ (x : CheckpointIndex). eqb (b .before .args .index .0) (x .0)) (b .before .args .t2) (b .loop .k) (record { 0 = 0 }) (search needs) (b .loop .any) _ (b .loop .inv .1))
 
@@ -43,4 +31,4 @@ returns c = let b = c .before in some-end (λ (x : CheckpointIndex). eqb (b .bef
 pub is-among-spec : {M : Type 1} → statement M
 is-among-spec =
     tie.close
-    (tie.spec Inv-loop μ-loop loop-holds mul-x array-copy-out-x add-k loop-less loop-again returns)
+    (tie.spec Inv-loop μ-loop loop-holds (λ c. search needs) (λ c. search needs) (λ c. search needs) (λ c. search needs) loop-again returns)

@@ -18,15 +18,6 @@ abbrev μ-loop : tie.MeasureT-loop
 loop-holds : tie.Need-loop-holds Inv-loop μ-loop
 loop-holds c = refl
 
-array-read-one : tie.Need-array-read-one Inv-loop μ-loop
-array-read-one c = search needs
-
-add-j : tie.Need-add-j Inv-loop μ-loop
-add-j c = search needs
-
-loop-less : tie.Need-loop-less Inv-loop μ-loop
-loop-less c = search needs
-
 loop-again : tie.Need-loop-again Inv-loop μ-loop
 loop-again c =
     let b = c .before in
@@ -38,4 +29,4 @@ returns c = let b = c .before in every-end (λ b. b) (b .before .args .t1) (b .l
 pub is-each-met-spec : {M : Type 1} → statement M
 is-each-met-spec =
     tie.close
-    (tie.spec Inv-loop μ-loop loop-holds array-read-one add-j loop-less loop-again returns)
+    (tie.spec Inv-loop μ-loop loop-holds (λ c. search needs) (λ c. search needs) (λ c. search needs) loop-again returns)

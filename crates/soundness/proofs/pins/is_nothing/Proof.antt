@@ -4,12 +4,6 @@ use Rattle.model.specs.Sound.{isNothing}
 use Rattle.soundness.proofs.pins.is_nothing.Statement.{statement}
 use Rattle.soundness.proofs.pins.is_nothing.Tie as tie
 
-enum-told : tie.Need-enum-told
-enum-told c = search needs
-
-enum-told-2 : tie.Need-enum-told-2
-enum-told-2 c = search needs
-
 returns : tie.Need-returns
 unfolding isNothing
 returns c = search needs
@@ -19,4 +13,4 @@ unfolding isNothing
 returns-2 c = search needs
 
 pub is-nothing-spec : {M : Type 1} → statement M
-is-nothing-spec = tie.close (tie.spec enum-told enum-told-2 returns returns-2)
+is-nothing-spec = tie.close (tie.spec (λ c. search needs) (λ c. search needs) returns returns-2)

@@ -7,7 +7,7 @@ use lib.Dec.{eqb}
 use lib.ListN.{getD}
 use borrow.Author.Needs.{needs}
 use Rattle.laws.specs.Loops.{setBelow, below-none, turn-set}
-use Rattle.soundness.specs.Judged.{metBy}
+use Rattle.soundness.specs.Clauses.{metBy}
 use Rattle.soundness.proofs.pins.met_by.Statement.{statement}
 use Rattle.soundness.proofs.pins.met_by.Tie as tie
 
@@ -19,24 +19,6 @@ abbrev μ-loop : tie.MeasureT-loop
 
 loop-holds : tie.Need-loop-holds Inv-loop μ-loop
 loop-holds c = (search needs, below-none _ _)
-
-array-read-before : tie.Need-array-read-before Inv-loop μ-loop
-array-read-before c = search needs
-
-mul-x : tie.Need-mul-x Inv-loop μ-loop
-mul-x c = search needs
-
-array-copy-out-x : tie.Need-array-copy-out-x Inv-loop μ-loop
-array-copy-out-x c = search needs
-
-array-write-now : tie.Need-array-write-now Inv-loop μ-loop
-array-write-now c = search needs
-
-add-j : tie.Need-add-j Inv-loop μ-loop
-add-j c = search needs
-
-loop-less : tie.Need-loop-less Inv-loop μ-loop
-loop-less c = search needs
 
 loop-again : tie.Need-loop-again Inv-loop μ-loop
 loop-again c =
@@ -55,11 +37,11 @@ met-by-spec =
     Inv-loop
     μ-loop
     loop-holds
-    array-read-before
-    mul-x
-    array-copy-out-x
-    array-write-now
-    add-j
-    loop-less
+    (λ c. search needs)
+    (λ c. search needs)
+    (λ c. search needs)
+    (λ c. search needs)
+    (λ c. search needs)
+    (λ c. search needs)
     loop-again
     returns)

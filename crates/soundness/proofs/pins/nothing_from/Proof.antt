@@ -20,21 +20,6 @@ abbrev μ-loop : tie.MeasureT-loop
 loop-holds : tie.Need-loop-holds Inv-loop μ-loop
 loop-holds c = refl
 
-mul-pin : tie.Need-mul-pin Inv-loop μ-loop
-mul-pin c = search needs
-
-array-copy-out-pin : tie.Need-array-copy-out-pin Inv-loop μ-loop
-array-copy-out-pin c = search needs
-
-is-nothing-requires : tie.Need-is-nothing-requires Inv-loop μ-loop
-is-nothing-requires c κs = search needs
-
-add-j : tie.Need-add-j Inv-loop μ-loop
-add-j c = search needs
-
-loop-less : tie.Need-loop-less Inv-loop μ-loop
-loop-less c = search needs
-
 loop-again : tie.Need-loop-again Inv-loop μ-loop
 loop-again c =
     let b = c .before .before .before in
@@ -51,10 +36,10 @@ nothing-from-spec =
     Inv-loop
     μ-loop
     loop-holds
-    mul-pin
-    array-copy-out-pin
-    is-nothing-requires
-    add-j
-    loop-less
+    (λ c. search needs)
+    (λ c. search needs)
+    (λ c κs. search needs)
+    (λ c. search needs)
+    (λ c. search needs)
     loop-again
     returns)

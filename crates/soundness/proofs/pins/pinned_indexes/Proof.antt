@@ -8,7 +8,7 @@ use borrow.Author.Needs.{needs}
 use Rattle.laws.specs.Rows.{placed-start, placed-turn, placed-full}
 use Rattle.laws.specs.Lists.{placed}
 use Rattle.model.specs.declared.Pin.the-variants.{Nothing}
-use Rattle.soundness.specs.Judged.{pinOr, pinnedIndexes}
+use Rattle.soundness.specs.Clauses.{pinOr, pinnedIndexes}
 use Rattle.soundness.proofs.pins.pinned_indexes.Statement.{statement}
 use Rattle.soundness.proofs.pins.pinned_indexes.Tie as tie
 
@@ -20,27 +20,6 @@ abbrev μ-loop : tie.MeasureT-loop
 
 loop-holds : tie.Need-loop-holds Inv-loop μ-loop
 loop-holds c = (search needs, placed-start (pinOr (c .args .last)) 16 (c .args .last) (c .args .t1))
-
-mul-pin : tie.Need-mul-pin Inv-loop μ-loop
-mul-pin c = search needs
-
-array-copy-out-pin : tie.Need-array-copy-out-pin Inv-loop μ-loop
-array-copy-out-pin c = search needs
-
-pin-or-requires : tie.Need-pin-or-requires Inv-loop μ-loop
-pin-or-requires c κs = search needs
-
-mul-indexes : tie.Need-mul-indexes Inv-loop μ-loop
-mul-indexes c = search needs
-
-array-set-from-indexes : tie.Need-array-set-from-indexes Inv-loop μ-loop
-array-set-from-indexes c = search needs
-
-add-j : tie.Need-add-j Inv-loop μ-loop
-add-j c = search needs
-
-loop-less : tie.Need-loop-less Inv-loop μ-loop
-loop-less c = search needs
 
 loop-again : tie.Need-loop-again Inv-loop μ-loop
 loop-again c =
@@ -63,12 +42,12 @@ pinned-indexes-spec =
     Inv-loop
     μ-loop
     loop-holds
-    mul-pin
-    array-copy-out-pin
-    pin-or-requires
-    mul-indexes
-    array-set-from-indexes
-    add-j
-    loop-less
+    (λ c. search needs)
+    (λ c. search needs)
+    (λ c κs. search needs)
+    (λ c. search needs)
+    (λ c. search needs)
+    (λ c. search needs)
+    (λ c. search needs)
     loop-again
     returns)

@@ -10,7 +10,7 @@ use borrow.Author.Needs.{needs}
 use Rattle.laws.specs.Rows.{all-stop}
 use Rattle.laws.specs.Loops.{all-zero, all-yes}
 use Rattle.laws.specs.Search.{allBelow}
-use Rattle.soundness.specs.Judged.{currentSound}
+use Rattle.soundness.specs.Clauses.{currentSound}
 use Rattle.soundness.proofs.tables.are_current_sound.Statement.{statement}
 use Rattle.soundness.proofs.tables.are_current_sound.Tie as tie
 
@@ -23,33 +23,12 @@ abbrev μ-loop : tie.MeasureT-loop
 loop-holds : tie.Need-loop-holds Inv-loop μ-loop
 loop-holds c = (search needs, all-zero _)
 
-mul-row : tie.Need-mul-row Inv-loop μ-loop
-mul-row c = search needs
-
-array-copy-out-row : tie.Need-array-copy-out-row Inv-loop μ-loop
-array-copy-out-row c = search needs
-
-mul-x : tie.Need-mul-x Inv-loop μ-loop
-mul-x c = search needs
-
-array-copy-out-x : tie.Need-array-copy-out-x Inv-loop μ-loop
-array-copy-out-x c = search needs
-
-within-own-requires : tie.Need-within-own-requires Inv-loop μ-loop
-within-own-requires c κs = search needs
-
 returns : tie.Need-returns Inv-loop μ-loop
 unfolding currentSound
 returns c =
     let b = c .before .before .before .before .before .before in
     let a = b .before .args in
     all-stop (a .n) (λ k. currentSound (a .n) (a .t2) k (getD (a .t1) k [])) (b .loop .p) (search needs) (rw (← c .before .before .within-own .ensures (a .n) (search needs) (search needs)) (not-true _ (c .if1 .taken)))
-
-add-p : tie.Need-add-p Inv-loop μ-loop
-add-p c = search needs
-
-loop-less : tie.Need-loop-less Inv-loop μ-loop
-loop-less c = search needs
 
 loop-again : tie.Need-loop-again Inv-loop μ-loop
 unfolding currentSound
@@ -68,13 +47,13 @@ are-current-sound-spec =
     Inv-loop
     μ-loop
     loop-holds
-    mul-row
-    array-copy-out-row
-    mul-x
-    array-copy-out-x
-    within-own-requires
+    (λ c. search needs)
+    (λ c. search needs)
+    (λ c. search needs)
+    (λ c. search needs)
+    (λ c κs. search needs)
     returns
-    add-p
-    loop-less
+    (λ c. search needs)
+    (λ c. search needs)
     loop-again
     returns-2)

@@ -20,7 +20,7 @@ use Rattle.model.specs.Words.{noCheckpoint, zeroVector}
 use Rattle.model.specs.Sound.{unusedCheckpoint}
 use Rattle.model.proofs.Checkpoint as checkpoint
 use Rattle.model.proofs.Pin as pin
-use Rattle.soundness.specs.Judged.{empty, vectorSound, fit, processSound, restUnused}
+use Rattle.soundness.specs.Clauses.{empty, vectorSound, fit, processSound, restUnused}
 use Rattle.soundness.proofs.OneProcess.{before-fails, low, high, judged}
 use Rattle.soundness.proofs.Sizes.{row-long}
 use Rattle.soundness.proofs.Vectors.{zero-sound}

@@ -7,7 +7,7 @@ use lib.ListN.{getD}
 use borrow.Author.Needs.{needs}
 use Rattle.laws.specs.Loops.{setBelow, below-none, turn-set}
 use Rattle.model.specs.Words.{entry, zeroVector}
-use Rattle.soundness.specs.Judged.{ownEntries}
+use Rattle.soundness.specs.Clauses.{ownEntries}
 use Rattle.soundness.proofs.tables.own_entries.Statement.{statement}
 use Rattle.soundness.proofs.tables.own_entries.Tie as tie
 
@@ -19,30 +19,6 @@ abbrev μ-loop : tie.MeasureT-loop
 
 loop-holds : tie.Need-loop-holds Inv-loop μ-loop
 loop-holds c = (search needs, below-none _ _)
-
-mul-x : tie.Need-mul-x Inv-loop μ-loop
-mul-x c = search needs
-
-mul-x-2 : tie.Need-mul-x-2 Inv-loop μ-loop
-mul-x-2 c = search needs
-
-index-1-x : tie.Need-index-1-x Inv-loop μ-loop
-index-1-x c = search needs
-
-index-2-x : tie.Need-index-2-x Inv-loop μ-loop
-index-2-x c = search needs
-
-mul-own : tie.Need-mul-own Inv-loop μ-loop
-mul-own c = search needs
-
-array-set-from-own : tie.Need-array-set-from-own Inv-loop μ-loop
-array-set-from-own c = search needs
-
-add-f : tie.Need-add-f Inv-loop μ-loop
-add-f c = search needs
-
-loop-less : tie.Need-loop-less Inv-loop μ-loop
-loop-less c = search needs
 
 loop-again : tie.Need-loop-again Inv-loop μ-loop
 loop-again c = let b = c .before .before in (search needs, turn-set (λ k. entry (getD (b .before .args .t1) k []) k) zeroVector (b .loop .own) (b .loop .f) (b .loop .inv .1) _ refl)
@@ -58,13 +34,13 @@ own-entries-spec =
     Inv-loop
     μ-loop
     loop-holds
-    mul-x
-    mul-x-2
-    index-1-x
-    index-2-x
-    mul-own
-    array-set-from-own
-    add-f
-    loop-less
+    (λ c. search needs)
+    (λ c. search needs)
+    (λ c. search needs)
+    (λ c. search needs)
+    (λ c. search needs)
+    (λ c. search needs)
+    (λ c. search needs)
+    (λ c. search needs)
     loop-again
     returns)

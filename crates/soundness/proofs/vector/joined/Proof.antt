@@ -4,9 +4,6 @@ use Rattle.soundness.proofs.Vectors.{joined-sound}
 use Rattle.soundness.proofs.vector.joined.Statement.{statement}
 use Rattle.soundness.proofs.vector.joined.Tie as tie
 
-take-in-requires : tie.Need-take-in-requires
-take-in-requires c κs = search needs
-
 returns : tie.Need-returns
 returns c = (
   c .take-in .ensures,
@@ -14,4 +11,4 @@ returns c = (
 )
 
 pub joined-spec : {M : Type 1} → statement M
-joined-spec = tie.close (tie.spec take-in-requires returns)
+joined-spec = tie.close (tie.spec (λ c κs. search needs) returns)

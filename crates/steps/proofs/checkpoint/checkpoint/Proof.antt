@@ -1,82 +1,110 @@
--- `steps::checkpoint::checkpoint` meets its contract. Assumes nothing.
-use Prim.Native.Nat.{_*_, _≤_, _<_}
+-- `steps::checkpoint::checkpoint` meets its contract: its plan, carried out, is the outcome (proofs/Calling). Assumes nothing.
+use Prim.Native.Nat.{_*_, _≤_}
 use mathlib.Core.Path.{refl}
-use Rattle.model.specs.declared.Refusal.the-variants.{ListTooShort, NoSuchProcess, IntervalsUsed}
-use Rattle.model.specs.Words.{process, own}
-use Rattle.steps.specs.Facts.{count-most, square-most, place}
-use Rattle.steps.specs.Refused.{checkpoint-refused, checkpoint-short, checkpoint-absent, checkpoint-used, checkpoint-accepted}
+use Rattle.model.specs.declared.Refusal.the-variants.{ListTooShort}
+use Rattle.model.specs.laws.Sound.{sound-state}
+use Rattle.plans.proofs.Facts.{square-most}
+use Rattle.plans.proofs.SoundFacts.{own-least}
+use Rattle.steps.proofs.Calling.{row-there, put-closed, move-state, move-gone, move-list, first-look, checkpoint-short, checkpoint-refused, checkpoint-does, checkpoint-no, checkpoint-moves, checkpoint-laid, checkpoint-outcome}
+use Rattle.steps.proofs.Sizes.{sizes}
+use borrow.Author.Needs.{needs}
 use borrow.Author.Needs.{needs}
 use Rattle.steps.proofs.checkpoint.checkpoint.Statement.{statement}
 use Rattle.steps.proofs.checkpoint.checkpoint.Tie as tie
 
 mul-if1 : tie.Need-mul-if1
-mul-if1 c = let a = c .before in let most : a .args .s .count ≤ 16 = count-most (a .args .s) (a .pre) in search needs
+mul-if1 c = let a = c .before in let most : a .args .s .count ≤ 16 = sound-state (a .args .s) (a .pre) .count-most in search needs
 
 mul-if1-2 : tie.Need-mul-if1-2
 mul-if1-2 c = let a = c .before in let most : 2 * a .args .s .count * a .args .s .count ≤ 512 = square-most (a .args .s) (a .pre) in search needs
 
-refuse-requires : tie.Need-refuse-requires
-refuse-requires c κs = search needs
-
 returns : tie.Need-returns
 returns c =
-    let a = c .before .before .before in
-    let e = checkpoint-refused (a .args .s) (a .args .i) (a .args .deleted .now) ListTooShort (checkpoint-short (a .args .s) (a .args .i) (a .args .deleted .now) (a .pre) (c .before .if1 .taken)) in
-    rw (e, c .refuse .ensures) ((refl, refl), refl)
+    let u = c .before .before .before in
+    let a = u .args in
+    let size = sizes (a .s) _ (u .good .0) in
+    let e = checkpoint-short (a .s) (u .pre) size (a .i) (a .deleted .now) (c .before .if1 .taken) in
+    rw (checkpoint-refused (a .s) (u .pre) size (a .i) (a .deleted .now) ListTooShort e, c .refuse .ensures) ((refl, refl), refl)
 
-refuse-requires-2 : tie.Need-refuse-requires-2
-refuse-requires-2 c κs = search needs
+mul-own : tie.Need-mul-own
+mul-own c = let less = row-there _ (c .before .row-of .ensures) in search needs
+
+mul-own-2 : tie.Need-mul-own-2
+mul-own-2 c = let less = row-there _ (c .before .row-of .ensures) in search needs
+
+index-1-own : tie.Need-index-1-own
+index-1-own c = let less = row-there _ (c .before .row-of .ensures) in search needs
+
+index-2-own : tie.Need-index-2-own
+index-2-own c = let less = row-there _ (c .before .row-of .ensures) in search needs
+
+array-read-checkpoint-plan : tie.Need-array-read-checkpoint-plan
+array-read-checkpoint-plan c = let less = row-there _ (c .before .before .before .before .before .before .row-of .ensures) in search needs
+
+live-index-requires : tie.Need-live-index-requires
+live-index-requires c κs =
+    let k = c .before .before in
+    let v = k .before .before .before .before .before .before in
+    let r = v .before in
+    let u = r .before .before .before in
+    let a = u .args in
+    let h = u .pre in
+    let size = sizes (a .s) _ (u .good .0) in
+    let long = r .before .if1 .left in
+    let look = first-look (a .s) h size (k .before .none-named .ensures) in
+    let does = checkpoint-does (a .s) h size (a .i) (a .deleted .now) long look (r .row-of .ensures) (v .vector-rows .ensures) (k .checkpoint-plan .ensures) in
+    let moves = checkpoint-moves (a .s) h size (a .i) (a .deleted .now) long look (r .row-of .ensures) (v .vector-rows .ensures) (k .checkpoint-plan .ensures) (c .enum-told .given .1) in
+    rw (v .vector-rows .ensures) (own-least (a .s) h _ (does .moved-process moves))
+
+move-rows-requires : tie.Need-move-rows-requires
+move-rows-requires c κs =
+    let k = c .before .before .before .before in
+    let v = k .before .before .before .before .before .before in
+    let r = v .before in
+    let u = r .before .before .before in
+    let a = u .args in
+    let h = u .pre in
+    let size = sizes (a .s) _ (u .good .0) in
+    let long = r .before .if1 .left in
+    let look = first-look (a .s) h size (k .before .none-named .ensures) in
+    let does = checkpoint-does (a .s) h size (a .i) (a .deleted .now) long look (r .row-of .ensures) (v .vector-rows .ensures) (k .checkpoint-plan .ensures) in
+    let moves = checkpoint-moves (a .s) h size (a .i) (a .deleted .now) long look (r .row-of .ensures) (v .vector-rows .ensures) (k .checkpoint-plan .ensures) (c .before .before .enum-told .given .1) in
+    let laid = checkpoint-laid (a .s) h size (a .i) (a .deleted .now) long look (r .row-of .ensures) (v .vector-rows .ensures) (k .checkpoint-plan .ensures) (c .before .before .enum-told .given .1) in
+    (h, row-there _ (r .row-of .ensures), does .moved-process moves, does .moved-room moves, put-closed does _ laid, long)
 
 returns-2 : tie.Need-returns-2
 returns-2 c =
-    let a = c .before .before .before .before in
-    let e = checkpoint-refused (a .args .s) (a .args .i) (a .args .deleted .now) NoSuchProcess (checkpoint-absent (a .args .s) (a .args .i) (a .args .deleted .now) (a .pre) (c .before .before .if1 .left) (c .before .if2 .taken)) in
-    rw (e, c .refuse2 .ensures) ((refl, refl), refl)
-
-vector-rows-requires : tie.Need-vector-rows-requires
-vector-rows-requires c κs = search needs
-
-mul-own : tie.Need-mul-own
-mul-own c = let a = c .before .before .before .before in let less : a .args .i < 16 = place (a .args .s) (a .pre) (a .args .i) (c .before .if2 .left) in search needs
-
-mul-own-2 : tie.Need-mul-own-2
-mul-own-2 c = let a = c .before .before .before .before in let less : a .args .i < 16 = place (a .args .s) (a .pre) (a .args .i) (c .before .if2 .left) in search needs
-
-index-1-own : tie.Need-index-1-own
-index-1-own c = let a = c .before .before .before .before in let less : a .args .i < 16 = place (a .args .s) (a .pre) (a .args .i) (c .before .if2 .left) in search needs
-
-index-2-own : tie.Need-index-2-own
-index-2-own c = let a = c .before .before .before .before in let less : a .args .i < 16 = place (a .args .s) (a .pre) (a .args .i) (c .before .if2 .left) in search needs
-
-refuse-requires-3 : tie.Need-refuse-requires-3
-refuse-requires-3 c κs = search needs
+    let k = c .before .before .before .before in
+    let v = k .before .before .before .before .before .before in
+    let r = v .before in
+    let u = r .before .before .before in
+    let a = u .args in
+    let h = u .pre in
+    let size = sizes (a .s) _ (u .good .0) in
+    let long = r .before .if1 .left in
+    let look = first-look (a .s) h size (k .before .none-named .ensures) in
+    let does = checkpoint-does (a .s) h size (a .i) (a .deleted .now) long look (r .row-of .ensures) (v .vector-rows .ensures) (k .checkpoint-plan .ensures) in
+    let e = checkpoint-no (a .s) h size (a .i) (a .deleted .now) long look (r .row-of .ensures) (v .vector-rows .ensures) (k .checkpoint-plan .ensures) _ (c .before .before .verdict .given .1) in
+    rw (checkpoint-refused (a .s) h size (a .i) (a .deleted .now) _ e, c .refuse2 .ensures) ((refl, refl), refl)
 
 returns-3 : tie.Need-returns-3
-unfolding own process
 returns-3 c =
-    let a = c .before .before .before .before .before .before .before .before in
-    let used = rw (c .before .before .before .before .vector-rows .ensures) at (c .before .if3 .taken) in
-    let e = checkpoint-refused (a .args .s) (a .args .i) (a .args .deleted .now) IntervalsUsed (checkpoint-used (a .args .s) (a .args .i) (a .args .deleted .now) (a .pre) (c .before .before .before .before .before .before .if1 .left) (c .before .before .before .before .before .if2 .left) used) in
-    rw (e, c .refuse3 .ensures) ((refl, refl), refl)
-
-store-requires : tie.Need-store-requires
-unfolding own process
-store-requires c κs =
-    let a = c .before .before .before .before .before .before .before .before in
-    let early = rw (c .before .before .before .before .vector-rows .ensures) at (c .before .if3 .left) in
-    (a .pre, c .before .before .before .before .before .if2 .left, early, c .before .before .before .before .before .before .if1 .left)
-
-same-length : tie.Need-same-length
-same-length c = search needs
-
-returns-4 : tie.Need-returns-4
-unfolding own process
-returns-4 c =
-    let a = c .before .before .before .before .before .before .before .before .before .before .before in
-    let early = rw (c .before .before .before .before .before .before .before .vector-rows .ensures) at (c .before .before .before .before .if3 .left) in
-    let e = checkpoint-accepted (a .args .s) (a .args .i) (a .args .deleted .now) (a .pre) (c .before .before .before .before .before .before .before .before .before .if1 .left) (c .before .before .before .before .before .before .before .before .if2 .left) early in
-    let f = c .before .before .store .ensures in
-    rw e ((f .0 .0, f .0 .1), f .1)
+    let k = c .before .before .before .before .before .before .before .before in
+    let v = k .before .before .before .before .before .before in
+    let r = v .before in
+    let u = r .before .before .before in
+    let a = u .args in
+    let h = u .pre in
+    let size = sizes (a .s) _ (u .good .0) in
+    let long = r .before .if1 .left in
+    let look = first-look (a .s) h size (k .before .none-named .ensures) in
+    let does = checkpoint-does (a .s) h size (a .i) (a .deleted .now) long look (r .row-of .ensures) (v .vector-rows .ensures) (k .checkpoint-plan .ensures) in
+    let moves = checkpoint-moves (a .s) h size (a .i) (a .deleted .now) long look (r .row-of .ensures) (v .vector-rows .ensures) (k .checkpoint-plan .ensures) (c .before .before .before .before .before .before .enum-told .given .1) in
+    let laid = checkpoint-laid (a .s) h size (a .i) (a .deleted .now) long look (r .row-of .ensures) (v .vector-rows .ensures) (k .checkpoint-plan .ensures) (c .before .before .before .before .before .before .enum-told .given .1) in
+    let put = c .before .before .before .move-rows .ensures in
+    let said = checkpoint-outcome (a .s) h size (a .i) (a .deleted .now) long look (r .row-of .ensures) (v .vector-rows .ensures) (k .checkpoint-plan .ensures) (c .before .before .before .before .before .before .enum-told .given .1)
+    (c .before .before .before .before .before .live-index .ensures) (move-gone does moves (put .1 .0)) (move-list does moves _ (put .1 .1)) in
+    ((move-state does _ laid moves (put .0), said .0), said .1)
 
 pub checkpoint-spec : {M : Type 1} → statement M
 checkpoint-spec =
@@ -84,17 +112,23 @@ checkpoint-spec =
     (tie.spec
     mul-if1
     mul-if1-2
-    refuse-requires
+    (λ c κs. search needs)
     returns
-    refuse-requires-2
-    returns-2
-    vector-rows-requires
+    (λ c κs. search needs)
+    (λ c κs. search needs)
     mul-own
     mul-own-2
     index-1-own
     index-2-own
-    refuse-requires-3
-    returns-3
-    store-requires
-    same-length
-    returns-4)
+    (λ c. search needs)
+    (λ c κs. search needs)
+    array-read-checkpoint-plan
+    (λ c κs. search needs)
+    (λ c. search needs)
+    (λ c κs. search needs)
+    (λ c. search needs)
+    live-index-requires
+    move-rows-requires
+    returns-2
+    (λ c. search needs)
+    returns-3)

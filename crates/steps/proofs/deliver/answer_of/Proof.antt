@@ -4,9 +4,6 @@ use borrow.Author.Needs.{needs}
 use Rattle.steps.proofs.deliver.answer_of.Statement.{statement}
 use Rattle.steps.proofs.deliver.answer_of.Tie as tie
 
-live-index-requires : tie.Need-live-index-requires
-live-index-requires c κs = search needs
-
 returns : tie.Need-returns
 returns c = rw (c .live-index .ensures, c .before .if1 .taken)
 
@@ -14,4 +11,4 @@ returns-2 : tie.Need-returns-2
 returns-2 c = rw (c .if1 .left)
 
 pub answer-of-spec : {M : Type 1} → statement M
-answer-of-spec = tie.close (tie.spec live-index-requires returns returns-2)
+answer-of-spec = tie.close (tie.spec (λ c κs. search needs) returns returns-2)

@@ -1,89 +1,192 @@
--- `steps::deliver::deliver` meets its contract: the list and the message are judged before the delivery.
--- Assumes nothing.
-use borrow.Author.Needs.{needs}
+-- `steps::deliver::deliver` meets its contract: its plan, carried out, is the outcome (proofs/Calling). Assumes nothing.
+use Prim.Native.Nat.{_*_, _≤_}
+use mathlib.Core.Path.{refl}
 use native.Mathlib.Omega.{arith}
-use Rattle.model.specs.declared.Refusal.the-variants.{ListTooShort, NotUnderWay}
-use Rattle.steps.specs.DeliverCall.{pairs-most, short-refused, missing-refused, not-found, found-here, found-again, found-number, found-receiver, refused-outcome, outcome-same}
-use Rattle.steps.specs.Facts.{count-most, underway-most}
+use Rattle.model.specs.declared.Refusal.the-variants.{ListTooShort}
+use Rattle.model.specs.laws.Sound.{sound-state}
+use Rattle.plans.proofs.Facts.{square-most}
+use Rattle.plans.proofs.SoundFacts.{own-least}
+use Rattle.steps.proofs.Calling.{row-there, closed-up, put-closed, put-state, move-state, still-gone, still-list, move-gone, move-list, some-underway, deliver-short, deliver-refused, deliver-does, deliver-no, deliver-present, deliver-outcome}
+use Rattle.steps.proofs.Sizes.{sizes}
+use borrow.Author.Needs.{needs}
+use borrow.Author.Needs.{needs}
 use Rattle.steps.proofs.deliver.deliver.Statement.{statement}
 use Rattle.steps.proofs.deliver.deliver.Tie as tie
-use Rattle.steps.proofs.deliver.deliver.Reads as reads
-use Rattle.steps.proofs.deliver.deliver.Lts as lts
-use Rattle.steps.proofs.deliver.deliver_found.Reads as deliver-found-reads
-use Rattle.steps.proofs.deliver.refuse.Reads as refuse-reads
-use Rattle.steps.proofs.messages.find.Reads as find-reads
 
--- src/deliver.rt:228:24
 mul-if1 : tie.Need-mul-if1
-mul-if1 c =
-    let u = c .before in
-    omega (arith, count-most (u .args .s) (u .pre))
+mul-if1 c = let a = c .before in let most : a .args .s .count ≤ 16 = sound-state (a .args .s) (a .pre) .count-most in search needs
 
--- src/deliver.rt:228:24
 mul-if1-2 : tie.Need-mul-if1-2
-mul-if1-2 c =
-    let u = c .before in
-    omega (arith, pairs-most (u .args .s .count) (count-most (u .args .s) (u .pre)))
+mul-if1-2 c = let a = c .before in let most : 2 * a .args .s .count * a .args .s .count ≤ 512 = square-most (a .args .s) (a .pre) in search needs
 
--- src/deliver.rt:229:9
-refuse-requires : tie.Need-refuse-requires
-refuse-requires c κs = search needs
-
--- src/deliver.rt:229:9
 returns : tie.Need-returns
 returns c =
     let u = c .before .before .before in
     let a = u .args in
-    refused-outcome (a .s) (a .m) (a .deleted .now) ListTooShort (short-refused (a .s) (u .pre) (a .m) (a .deleted .now) (c .before .if1 .taken)) (c .refuse .ensures)
+    let size = sizes (a .s) _ (u .good .0) in
+    let e = deliver-short (a .s) (u .pre) size (a .m) (a .deleted .now) (c .before .if1 .taken) in
+    rw (deliver-refused (a .s) (u .pre) size (a .m) (a .deleted .now) ListTooShort e, c .refuse .ensures) (refl, (refl, refl))
 
--- src/deliver.rt:232:9
-find-requires : tie.Need-find-requires
-find-requires c κs =
-    let u = c .before .before .before in
-    underway-most (u .args .s) (u .pre)
+look-up-requires : tie.Need-look-up-requires
+look-up-requires c κs = let u = c .before .before .before in sound-state (u .args .s) (u .pre) .underway-most
 
--- src/deliver.rt:235:9
-refuse-requires-2 : tie.Need-refuse-requires-2
-refuse-requires-2 c κs = search needs
+mul-vector : tie.Need-mul-vector
+mul-vector c = let less = row-there _ (c .before .row-of .ensures) in search needs
 
--- src/deliver.rt:235:9
+array-copy-out-vector : tie.Need-array-copy-out-vector
+array-copy-out-vector c = let less = row-there _ (c .before .row-of .ensures) in search needs
+
+mul-own : tie.Need-mul-own
+mul-own c = let less = row-there _ (c .before .before .row-of .ensures) in search needs
+
+array-copy-out-own : tie.Need-array-copy-out-own
+array-copy-out-own c = let less = row-there _ (c .before .before .row-of .ensures) in search needs
+
+array-read-deliver-plan : tie.Need-array-read-deliver-plan
+array-read-deliver-plan c = let less = row-there _ (c .before .before .before .before .row-of .ensures) in search needs
+
+deliver-plan-requires : tie.Need-deliver-plan-requires
+deliver-plan-requires c κs =
+    let l = c .before .before .before .before .before .before in
+    let u = l .before .before .before .before in
+    some-underway (u .args .s) (u .pre) (sizes (u .args .s) _ (u .good .0)) (u .args .m) (l .look-up .ensures)
+
+put-requires : tie.Need-put-requires
+put-requires c κs =
+    let k = c .before .before in
+    let v = k .before .before .before .before in
+    let r = v .before in
+    let l = r .before .before in
+    let u = l .before .before .before .before in
+    let a = u .args in
+    let h = u .pre in
+    let size = sizes (a .s) _ (u .good .0) in
+    let long = l .before .before .if1 .left in
+    let does = deliver-does (a .s) h size (a .m) (l .look-up .ensures) (a .deleted .now) long (r .row-of .ensures) (v .vector-rows .ensures) (k .deliver-plan .ensures) in
+    omega (arith, does .place-there, size .messages)
+
+closed-up-requires : tie.Need-closed-up-requires
+closed-up-requires c κs =
+    let k = c .before .before .before in
+    let v = k .before .before .before .before in
+    let r = v .before in
+    let l = r .before .before in
+    let u = l .before .before .before .before in
+    let a = u .args in
+    let h = u .pre in
+    let size = sizes (a .s) _ (u .good .0) in
+    let long = l .before .before .if1 .left in
+    let does = deliver-does (a .s) h size (a .m) (l .look-up .ensures) (a .deleted .now) long (r .row-of .ensures) (v .vector-rows .ensures) (k .deliver-plan .ensures) in
+    omega (arith, does .tail-there, size .messages)
+
+move-rows-requires : tie.Need-move-rows-requires
+move-rows-requires c κs =
+    let k = c .before .before .before .before .before .before in
+    let v = k .before .before .before .before in
+    let r = v .before in
+    let l = r .before .before in
+    let u = l .before .before .before .before in
+    let a = u .args in
+    let h = u .pre in
+    let size = sizes (a .s) _ (u .good .0) in
+    let long = l .before .before .if1 .left in
+    let does = deliver-does (a .s) h size (a .m) (l .look-up .ensures) (a .deleted .now) long (r .row-of .ensures) (v .vector-rows .ensures) (k .deliver-plan .ensures) in
+    let laid = closed-up does (c .before .before .before .put .ensures) (c .before .before .closed-up .ensures) in
+    let moves = c .before .if2 .taken in
+    (h, row-there _ (r .row-of .ensures), does .moved-process moves, does .moved-room moves, put-closed does _ laid, long)
+
+answer-of-requires : tie.Need-answer-of-requires
+answer-of-requires c κs =
+    let k = c .before .before .before .before .before .before .before .before .before in
+    let v = k .before .before .before .before in
+    let r = v .before in
+    let l = r .before .before in
+    let u = l .before .before .before .before in
+    let a = u .args in
+    let h = u .pre in
+    let size = sizes (a .s) _ (u .good .0) in
+    let long = l .before .before .if1 .left in
+    let does = deliver-does (a .s) h size (a .m) (l .look-up .ensures) (a .deleted .now) long (r .row-of .ensures) (v .vector-rows .ensures) (k .deliver-plan .ensures) in
+    rw (v .vector-rows .ensures) (own-least (a .s) h _ (deliver-present (a .s) h size (a .m) (l .look-up .ensures) (a .deleted .now) long (r .row-of .ensures) (v .vector-rows .ensures) (k .deliver-plan .ensures) (c .before .before .before .before .before .before .before .enum-told .given .1)))
+
 returns-2 : tie.Need-returns-2
 returns-2 c =
-    let d = c .before .before in
-    let u = d .before .before .before .before in
+    let k = c .before .before .before .before .before .before .before .before .before .before .before in
+    let v = k .before .before .before .before in
+    let r = v .before in
+    let l = r .before .before in
+    let u = l .before .before .before .before in
     let a = u .args in
-    refused-outcome (a .s) (a .m) (a .deleted .now) NotUnderWay
-    (missing-refused (a .s) (u .pre) (a .m) (a .deleted .now) (d .before .before .if1 .left) (not-found (a .s) (a .m) (d .find .ensures) (c .before .if2 .taken)))
-    (c .refuse2 .ensures)
+    let h = u .pre in
+    let size = sizes (a .s) _ (u .good .0) in
+    let long = l .before .before .if1 .left in
+    let does = deliver-does (a .s) h size (a .m) (l .look-up .ensures) (a .deleted .now) long (r .row-of .ensures) (v .vector-rows .ensures) (k .deliver-plan .ensures) in
+    let laid = closed-up does (c .before .before .before .before .before .before .before .before .put .ensures) (c .before .before .before .before .before .before .before .closed-up .ensures) in
+    let moves = c .before .before .before .before .before .before .if2 .taken in
+    let put = c .before .before .before .before .move-rows .ensures in
+    let said = deliver-outcome (a .s) h size (a .m) (l .look-up .ensures) (a .deleted .now) long (r .row-of .ensures) (v .vector-rows .ensures) (k .deliver-plan .ensures) (c .before .before .before .before .before .before .before .before .before .enum-told .given .1) (c .before .answer-of .ensures) (move-gone does moves (put .1 .0)) (move-list does moves _ (put .1 .1)) in
+    (move-state does _ laid moves (put .0), (said .0, said .1))
 
--- src/deliver.rt:237:5
-deliver-found-requires : tie.Need-deliver-found-requires
-deliver-found-requires c κs =
-    let d = c .before .before in
-    let u = d .before .before .before .before in
+put-requires-2 : tie.Need-put-requires-2
+put-requires-2 c κs =
+    let k = c .before .before .before .before .before in
+    let v = k .before .before .before .before in
+    let r = v .before in
+    let l = r .before .before in
+    let u = l .before .before .before .before in
     let a = u .args in
-    let e = found-here (a .s) (a .m) (d .find .ensures) (c .before .if2 .left) in
-    let same = found-number (a .s) (a .m) _ e in (
-      u .pre,
-      omega (arith, found-receiver (a .s) (u .pre) (a .m) _ e, count-most (a .s) (u .pre)),
-      found-again (a .s) (a .m) _ e,
-      d .before .before .if1 .left,
-    )
+    let h = u .pre in
+    let size = sizes (a .s) _ (u .good .0) in
+    let long = l .before .before .if1 .left in
+    let does = deliver-does (a .s) h size (a .m) (l .look-up .ensures) (a .deleted .now) long (r .row-of .ensures) (v .vector-rows .ensures) (k .deliver-plan .ensures) in
+    let laid = closed-up does (c .before .before .put .ensures) (c .before .closed-up .ensures) in
+    (row-there _ (r .row-of .ensures), put-closed does _ laid)
 
--- src/deliver.rt:221:1
-same-length : tie.Need-same-length
-same-length c = search needs
+answer-of-requires-2 : tie.Need-answer-of-requires-2
+answer-of-requires-2 c κs =
+    let k = c .before .before .before .before .before .before in
+    let v = k .before .before .before .before in
+    let r = v .before in
+    let l = r .before .before in
+    let u = l .before .before .before .before in
+    let a = u .args in
+    let h = u .pre in
+    let size = sizes (a .s) _ (u .good .0) in
+    let long = l .before .before .if1 .left in
+    let does = deliver-does (a .s) h size (a .m) (l .look-up .ensures) (a .deleted .now) long (r .row-of .ensures) (v .vector-rows .ensures) (k .deliver-plan .ensures) in
+    rw (v .vector-rows .ensures) (own-least (a .s) h _ (deliver-present (a .s) h size (a .m) (l .look-up .ensures) (a .deleted .now) long (r .row-of .ensures) (v .vector-rows .ensures) (k .deliver-plan .ensures) (c .before .before .before .before .enum-told .given .1)))
 
--- src/deliver.rt:221:1
 returns-3 : tie.Need-returns-3
 returns-3 c =
-    let d = c .before .before .before .before .before in
-    let u = d .before .before .before .before in
+    let k = c .before .before .before .before in
+    let v = k .before .before .before .before in
+    let r = v .before in
+    let l = r .before .before in
+    let u = l .before .before .before .before in
     let a = u .args in
-    let e = found-here (a .s) (a .m) (d .find .ensures) (c .before .before .before .before .if2 .left) in
-    let same = found-number (a .s) (a .m) _ e in
-    let g = c .before .before .deliver-found .ensures in
-    outcome-same (a .s) (a .m) (a .deleted .now) same g
+    let h = u .pre in
+    let size = sizes (a .s) _ (u .good .0) in
+    let long = l .before .before .if1 .left in
+    let does = deliver-does (a .s) h size (a .m) (l .look-up .ensures) (a .deleted .now) long (r .row-of .ensures) (v .vector-rows .ensures) (k .deliver-plan .ensures) in
+    let e = deliver-no (a .s) h size (a .m) (l .look-up .ensures) (a .deleted .now) long (r .row-of .ensures) (v .vector-rows .ensures) (k .deliver-plan .ensures) _ (c .before .before .verdict .given .1) in
+    rw (deliver-refused (a .s) h size (a .m) (a .deleted .now) _ e, c .refuse2 .ensures) (refl, (refl, refl))
+
+returns-4 : tie.Need-returns-4
+returns-4 c =
+    let k = c .before .before .before .before .before .before .before in
+    let v = k .before .before .before .before in
+    let r = v .before in
+    let l = r .before .before in
+    let u = l .before .before .before .before in
+    let a = u .args in
+    let h = u .pre in
+    let size = sizes (a .s) _ (u .good .0) in
+    let long = l .before .before .if1 .left in
+    let does = deliver-does (a .s) h size (a .m) (l .look-up .ensures) (a .deleted .now) long (r .row-of .ensures) (v .vector-rows .ensures) (k .deliver-plan .ensures) in
+    let laid = closed-up does (c .before .before .before .before .put .ensures) (c .before .before .before .closed-up .ensures) in
+    let still = c .before .before .if2 .left in
+    let said = deliver-outcome (a .s) h size (a .m) (l .look-up .ensures) (a .deleted .now) long (r .row-of .ensures) (v .vector-rows .ensures) (k .deliver-plan .ensures) (c .before .before .before .before .before .enum-told .given .1) (c .answer-of2 .ensures) (still-gone does still) (still-list does still (a .deleted .now)) in
+    (put-state does _ laid still (c .before .put2 .ensures), (said .0, said .1))
 
 pub deliver-spec : {M : Type 1} → statement M
 deliver-spec =
@@ -91,11 +194,27 @@ deliver-spec =
     (tie.spec
     mul-if1
     mul-if1-2
-    refuse-requires
+    (λ c κs. search needs)
     returns
-    find-requires
-    refuse-requires-2
+    look-up-requires
+    (λ c κs. search needs)
+    (λ c κs. search needs)
+    mul-vector
+    array-copy-out-vector
+    mul-own
+    array-copy-out-own
+    array-read-deliver-plan
+    deliver-plan-requires
+    (λ c. search needs)
+    (λ c κs. search needs)
+    (λ c. search needs)
+    put-requires
+    closed-up-requires
+    move-rows-requires
+    answer-of-requires
+    (λ c. search needs)
     returns-2
-    deliver-found-requires
-    same-length
-    returns-3)
+    put-requires-2
+    answer-of-requires-2
+    returns-3
+    returns-4)

@@ -1,36 +1,72 @@
--- `steps::lose::lose` meets its contract. Assumes nothing.
-use mathlib.Core.Path.{refl}
-use borrow.Author.Tests.{not-true, not-false}
-use Rattle.steps.specs.Facts.{underway-most}
-use Rattle.steps.specs.Messages.{found-missing, found-here, lost-put}
-use Rattle.steps.specs.Refused.{lose-missing, lose-accepted}
+-- `steps::lose::lose` meets its contract: its plan, carried out, is the outcome (proofs/Calling). Assumes nothing.
+use native.Mathlib.Omega.{arith}
+use Rattle.model.specs.laws.Sound.{sound-state}
+use Rattle.steps.proofs.Calling.{put-closed, put-state, closed-up, some-underway, lose-does, lose-still, lose-answers}
+use Rattle.steps.proofs.Sizes.{sizes}
+use borrow.Author.Needs.{needs}
 use borrow.Author.Needs.{needs}
 use Rattle.steps.proofs.lose.lose.Statement.{statement}
 use Rattle.steps.proofs.lose.lose.Tie as tie
 
-find-requires : tie.Need-find-requires
-find-requires c κs = underway-most (c .before .args .s) (c .before .pre)
+look-up-requires : tie.Need-look-up-requires
+look-up-requires c κs = sound-state (c .before .args .s) (c .before .pre) .underway-most
+
+lose-plan-requires : tie.Need-lose-plan-requires
+lose-plan-requires c κs =
+    let u = c .before .before .before in
+    let a = u .args in
+    let h = u .pre in
+    let size = sizes (a .s) _ (u .good .0) in
+    some-underway (a .s) h size (a .m) (c .before .look-up .ensures)
+
+put-requires : tie.Need-put-requires
+put-requires c κs =
+    let u = c .before .before .before .before in
+    let a = u .args in
+    let h = u .pre in
+    let size = sizes (a .s) _ (u .good .0) in
+    let does = lose-does (a .s) h size (a .m) (c .before .before .look-up .ensures) (c .lose-plan .ensures) in
+    omega (arith, does .place-there, size .messages)
+
+closed-up-requires : tie.Need-closed-up-requires
+closed-up-requires c κs =
+    let u = c .before .before .before .before .before in
+    let a = u .args in
+    let h = u .pre in
+    let size = sizes (a .s) _ (u .good .0) in
+    let does = lose-does (a .s) h size (a .m) (c .before .before .before .look-up .ensures) (c .before .lose-plan .ensures) in
+    omega (arith, does .tail-there, size .messages)
+
+put-requires-2 : tie.Need-put-requires-2
+put-requires-2 c κs =
+    let u = c .before .before .before .before .before .before in
+    let a = u .args in
+    let h = u .pre in
+    let size = sizes (a .s) _ (u .good .0) in
+    let does = lose-does (a .s) h size (a .m) (c .before .before .before .before .look-up .ensures) (c .before .before .lose-plan .ensures) in
+    (omega arith, put-closed does _ (closed-up does (c .before .put .ensures) (c .closed-up .ensures)))
 
 returns : tie.Need-returns
 returns c =
-    let a = c .before .before .before .args in
-    let f = c .before .find in
-    let e = lose-missing (a .s) (a .m) (c .before .before .before .pre) (found-missing (a .s) (a .m) (f .result) (f .ensures) (not-true _ (c .if1 .taken))) in
-    rw e (refl, refl)
-
-remove-requires : tie.Need-remove-requires
-remove-requires c κs = underway-most (c .before .before .before .args .s) (c .before .before .before .pre)
-
-with-messages-requires : tie.Need-with-messages-requires
-with-messages-requires c κs = search needs
-
-returns-2 : tie.Need-returns-2
-returns-2 c =
-    let a = c .before .before .before .before .before .args in
-    let f = c .before .before .before .find in
-    let e = lose-accepted (a .s) (a .m) (c .before .before .before .before .before .pre) (found-here (a .s) (a .m) (f .result) (f .ensures) (not-false _ (c .before .before .if1 .left))) in
-    rw (e, c .with-messages .ensures, c .before .remove .ensures) (lost-put (a .s) (a .m), refl)
+    let u = c .before .before .before .before .before .before .before .before in
+    let a = u .args in
+    let h = u .pre in
+    let size = sizes (a .s) _ (u .good .0) in
+    let does = lose-does (a .s) h size (a .m) (c .before .before .before .before .before .before .look-up .ensures) (c .before .before .before .before .lose-plan .ensures) in
+    let still = lose-still (a .s) h size (a .m) (c .before .before .before .before .before .before .look-up .ensures) (c .before .before .before .before .lose-plan .ensures) in (
+      put-state does _ (closed-up does (c .before .before .before .put .ensures) (c .before .before .closed-up .ensures)) still (c .before .put2 .ensures),
+      lose-answers (a .s) h size (a .m) (c .before .before .before .before .before .before .look-up .ensures) (c .before .before .before .before .lose-plan .ensures) (c .answer-of .ensures),
+    )
 
 pub lose-spec : {M : Type 1} → statement M
 lose-spec =
-    tie.close (tie.spec find-requires returns remove-requires with-messages-requires returns-2)
+    tie.close
+    (tie.spec
+    look-up-requires
+    (λ c. search needs)
+    lose-plan-requires
+    put-requires
+    closed-up-requires
+    put-requires-2
+    (λ c κs. search needs)
+    returns)

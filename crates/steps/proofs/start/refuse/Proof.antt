@@ -1,13 +1,11 @@
 -- `steps::start::refuse` meets its contract. Assumes nothing.
 use borrow.Author.Needs.{needs}
+use Rattle.steps.proofs.Starting.{started-none}
 use Rattle.steps.proofs.start.refuse.Statement.{statement}
 use Rattle.steps.proofs.start.refuse.Tie as tie
 
-blank-requires : tie.Need-blank-requires
-blank-requires c κs = search needs
-
 returns : tie.Need-returns
-returns c = rw (c .blank .ensures)
+returns c = rw (c .started .ensures, started-none)
 
 pub refuse-spec : {M : Type 1} → statement M
-refuse-spec = tie.close (tie.spec blank-requires returns)
+refuse-spec = tie.close (tie.spec (λ c κs. search needs) returns)

@@ -1,58 +1,56 @@
--- `steps::start::started` meets its contract. Assumes nothing.
+-- `steps::start::started` meets its contract. The loop's invariant: the first p processes have their first rows. Assumes nothing.
 use Prim.Native.Nat.{_≤_, _-_}
-use mathlib.Core.Path.{_≡_, _∙_}
+use mathlib.Core.Path.{_≡_, refl, ap, _∙_}
+use mathlib.Core.List.{List}
 use native.Mathlib.Omega.{arith}
-use Rattle.model.specs.Words.{blank}
-use Rattle.model.specs.Steps.{withProcesses, started, startState}
-use Rattle.steps.specs.Starting.{start-none, start-more}
+use lib.ListN.{replicate}
+use Rattle.laws.specs.Loops.{setBelow, below-none, turn-set}
+use Rattle.model.specs.declared.Interval.{Interval}
+use Rattle.model.specs.declared.Pin.{Pin}
+use Rattle.model.specs.declared.Checkpoint.{Checkpoint}
+use Rattle.model.specs.Words.{blank, zeroVector, noPins, noCheckpoint, noMessage}
+use Rattle.model.specs.Steps.{started}
+use Rattle.steps.specs.Starting.{withFirst}
+use Rattle.steps.proofs.Starting.{started-rows}
 use borrow.Author.Needs.{needs}
 use Rattle.steps.proofs.start.started.Statement.{statement}
 use Rattle.steps.proofs.start.started.Tie as tie
 
 abbrev Inv-loop : tie.InvT-loop
-Inv-loop n s₀ p₀ s p = (p ≤ n) × (s ≡ withProcesses p started (blank n))
+Inv-loop n no-message row vectors₀ pins₀ held₀ p₀ vectors pins held p = (p ≤ n) × (no-message ≡ noMessage) × (row ≡ replicate 16 noCheckpoint) × (vectors ≡ setBelow p (λ k. started k .vector) (replicate 16 zeroVector)) × (pins ≡ setBelow p (λ k. started k .pins) (replicate 16 noPins)) × (held ≡ setBelow p (λ k. 1) (replicate 16 0))
 
 abbrev μ-loop : tie.MeasureT-loop
-μ-loop n s₀ p₀ s p = n - p
-
-blank-requires : tie.Need-blank-requires Inv-loop μ-loop
-blank-requires c κs = search needs
+μ-loop n no-message row vectors₀ pins₀ held₀ p₀ vectors pins held p = n - p
 
 loop-holds : tie.Need-loop-holds Inv-loop μ-loop
-loop-holds c = (search needs, c .blank .ensures ∙ start-none _)
-
-first-vector-requires : tie.Need-first-vector-requires Inv-loop μ-loop
-first-vector-requires c κs = search needs
-
-first-pins-requires : tie.Need-first-pins-requires Inv-loop μ-loop
-first-pins-requires c κs = search needs
-
-first-kept-requires : tie.Need-first-kept-requires Inv-loop μ-loop
-first-kept-requires c κs = search needs
-
-put-requires : tie.Need-put-requires Inv-loop μ-loop
-put-requires c κs = search needs
-
-add-p : tie.Need-add-p Inv-loop μ-loop
-add-p c = search needs
-
-loop-less : tie.Need-loop-less Inv-loop μ-loop
-loop-less c = search needs
+loop-holds c =
+    let k = c .before .before in (
+      search needs,
+      c .no-message .ensures,
+      ap (λ (x : Checkpoint). replicate 16 x) (c .before .no-checkpoint .ensures),
+      ap (λ (x : List Interval). replicate 16 x) (k .before .zero-vector .ensures) ∙ below-none _ _,
+      ap (λ (x : List Pin). replicate 16 x) (k .no-pins .ensures) ∙ below-none _ _,
+      below-none _ _,
+    )
 
 loop-again : tie.Need-loop-again Inv-loop μ-loop
 loop-again c =
-    let k = c .before in
-    let b = k .before .before .before .before in (
+    let l = c .before .before .before .loop in (
       search needs,
-      rw (c .put .ensures, k .first-kept .ensures, k .before .first-pins .ensures, k .before .before .first-vector .ensures)
-          (start-more (b .before .before .args .n) (b .loop .p) (b .loop .s) (b .loop .inv .1)),
+      l .inv .1,
+      l .inv .2,
+      turn-set _ _ (l .vectors) (l .p) (l .inv .3) _ (c .before .first-vector .ensures),
+      turn-set _ _ (l .pins) (l .p) (l .inv .4) _ (c .first-pins .ensures),
+      turn-set _ _ (l .held) (l .p) (l .inv .5) _ refl,
     )
 
 returns : tie.Need-returns Inv-loop μ-loop
-unfolding startState
+unfolding withFirst blank
 returns c =
-    let e : c .before .loop .p ≡ c .before .before .before .args .n = omega arith in
-    rw e at (c .before .loop .inv .1)
+    let v = c .before .before in
+    let l = v .before .before .loop in
+    let e : l .p ≡ v .before .before .before .before .before .before .before .args .n = omega arith in
+    rw (started-rows, c .kept-from .ensures, c .before .pins-from .ensures, v .vectors-from .ensures, l .inv .5, l .inv .4, l .inv .3, l .inv .2, l .inv .1, e)
 
 pub started-spec : {M : Type 1} → statement M
 started-spec =
@@ -60,13 +58,23 @@ started-spec =
     (tie.spec
     Inv-loop
     μ-loop
-    blank-requires
+    (λ c κs. search needs)
+    (λ c κs. search needs)
+    (λ c κs. search needs)
+    (λ c κs. search needs)
     loop-holds
-    first-vector-requires
-    first-pins-requires
-    first-kept-requires
-    put-requires
-    add-p
-    loop-less
+    (λ c κs. search needs)
+    (λ c κs. search needs)
+    (λ c. search needs)
+    (λ c. search needs)
+    (λ c. search needs)
+    (λ c. search needs)
+    (λ c. search needs)
+    (λ c. search needs)
+    (λ c. search needs)
+    (λ c. search needs)
     loop-again
+    (λ c κs. search needs)
+    (λ c κs. search needs)
+    (λ c κs. search needs)
     returns)

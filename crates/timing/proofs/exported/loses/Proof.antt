@@ -10,29 +10,5 @@ Inv-loop s times last₀ refused₀ k₀ last refused k = Unit
 abbrev μ-loop : tie.MeasureT-loop
 μ-loop s times last₀ refused₀ k₀ last refused k = times - k
 
-loop-holds : tie.Need-loop-holds Inv-loop μ-loop
-loop-holds c = search needs
-
-lose-requires : tie.Need-lose-requires Inv-loop μ-loop
-lose-requires c κs = search needs
-
-of-lose-requires : tie.Need-of-lose-requires Inv-loop μ-loop
-of-lose-requires c κs = search needs
-
-add-k : tie.Need-add-k Inv-loop μ-loop
-add-k c = search needs
-
-loop-less : tie.Need-loop-less Inv-loop μ-loop
-loop-less c = search needs
-
-loop-again : tie.Need-loop-again Inv-loop μ-loop
-loop-again c = search needs
-
-left-requires : tie.Need-left-requires Inv-loop μ-loop
-left-requires c κs = search needs
-
-returns : tie.Need-returns Inv-loop μ-loop
-returns c = search needs
-
 pub loses-spec : {M : Type 1} → statement M
-loses-spec = tie.close (tie.spec Inv-loop μ-loop loop-holds lose-requires of-lose-requires add-k loop-less loop-again left-requires returns)
+loses-spec = tie.close (tie.spec Inv-loop μ-loop (λ c. search needs) (λ c κs. search needs) (λ c κs. search needs) (λ c. search needs) (λ c. search needs) (λ c. search needs) (λ c κs. search needs) (λ c. search needs))

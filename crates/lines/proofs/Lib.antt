@@ -1,3 +1,0 @@
-pub mod Endings
-pub mod Lines
-pub mod Moves

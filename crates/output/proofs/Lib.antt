@@ -1,0 +1,4 @@
+-- Laws that belong to no one function.
+pub mod Endings
+pub mod Lines
+pub mod Moves

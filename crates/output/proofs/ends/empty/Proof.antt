@@ -1,0 +1,13 @@
+-- `output::ends::empty` meets its contract: the line of a trace of no bytes is that of the refusal.
+-- Assumes nothing.
+use borrow.Author.Needs.{needs}
+use Rattle.model.specs.Listing.{listing}
+use Rattle.output.proofs.ends.empty.Statement.{statement}
+use Rattle.output.proofs.ends.empty.Tie as tie
+
+returns : tie.Need-returns
+unfolding listing
+returns c = c .before .before .refuse .ensures
+
+pub empty-spec : {M : Type 1} → statement M
+empty-spec = tie.close (tie.spec (λ c κs. search needs) (λ c. search needs) returns)

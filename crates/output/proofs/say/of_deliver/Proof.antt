@@ -1,0 +1,35 @@
+-- `output::say::of_deliver` meets its contract, by the cases of the answer.
+-- Assumes nothing.
+use borrow.Author.Needs.{needs}
+use Rattle.listing.specs.Lines.{valueIn}
+use Rattle.model.specs.Outcomes.{deliverReport}
+use Rattle.listing.specs.Said.{reportIn}
+use Rattle.output.proofs.say.of_deliver.Statement.{statement}
+use Rattle.output.proofs.say.of_deliver.Tie as tie
+
+returns : tie.Need-returns
+unfolding deliverReport
+returns c = rw (c .before .before .a .given .1) (c .refused .ensures)
+
+returns-2 : tie.Need-returns-2
+unfolding reportIn valueIn deliverReport
+returns-2 c = rw (c .before .before .a2 .given .1, c .accepted .ensures)
+
+returns-3 : tie.Need-returns-3
+unfolding reportIn valueIn deliverReport
+returns-3 c = rw (c .before .before .before .a3 .given .1, c .accepted2 .ensures)
+
+pub of-deliver-spec : {M : Type 1} → statement M
+of-deliver-spec =
+    tie.close
+    (tie.spec
+    (λ c. search needs)
+    (λ c κs. search needs)
+    (λ c. search needs)
+    (λ c κs. search needs)
+    (λ c. search needs)
+    (λ c. search needs)
+    (λ c κs. search needs)
+    returns
+    returns-2
+    returns-3)

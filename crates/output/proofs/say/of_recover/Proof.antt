@@ -1,0 +1,21 @@
+-- `output::say::of_recover` meets its contract, by the cases of the answer.
+-- Assumes nothing.
+use borrow.Author.Needs.{needs}
+use Rattle.listing.specs.Lines.{valueIn}
+use Rattle.model.specs.Outcomes.{recoverReport}
+use Rattle.listing.specs.Said.{reportIn}
+use Rattle.output.proofs.say.of_recover.Statement.{statement}
+use Rattle.output.proofs.say.of_recover.Tie as tie
+
+returns : tie.Need-returns
+unfolding recoverReport
+returns c = rw (c .before .before .a .given .1) (c .refused .ensures)
+
+returns-2 : tie.Need-returns-2
+unfolding reportIn valueIn recoverReport
+returns-2 c = rw (c .before .before .a2 .given .1, c .accepted .ensures)
+
+pub of-recover-spec : {M : Type 1} → statement M
+of-recover-spec =
+    tie.close
+    (tie.spec (λ c. search needs) (λ c κs. search needs) (λ c. search needs) (λ c κs. search needs) returns returns-2)

@@ -1,0 +1,28 @@
+-- `output::say::of_send` meets its contract, by the cases of the answer.
+-- Assumes nothing.
+use borrow.Author.Needs.{needs}
+use Rattle.listing.specs.Lines.{valueIn}
+use Rattle.model.specs.Outcomes.{sendReport}
+use Rattle.listing.specs.Said.{reportIn}
+use Rattle.output.proofs.say.of_send.Statement.{statement}
+use Rattle.output.proofs.say.of_send.Tie as tie
+
+returns : tie.Need-returns
+unfolding sendReport
+returns c = rw (c .before .before .a .given .1) (c .refused .ensures)
+
+returns-2 : tie.Need-returns-2
+unfolding reportIn valueIn sendReport
+returns-2 c = rw (c .before .before .a2 .given .1, c .accepted .ensures)
+
+pub of-send-spec : {M : Type 1} → statement M
+of-send-spec =
+    tie.close
+    (tie.spec
+    (λ c. search needs)
+    (λ c κs. search needs)
+    (λ c. search needs)
+    (λ c. search needs)
+    (λ c κs. search needs)
+    returns
+    returns-2)

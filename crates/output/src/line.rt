@@ -1,0 +1,29 @@
+// A line printed into a lent buffer that has room for the longest one.
+use crate::say;
+use listing::Summary;
+use model::Refusal;
+ghost use Prim.Native.Nat.{_+_, _*_, _≤_};
+ghost use lib.ListN.{length};
+ghost use Rattle.model.specs.Listing.{lineText, refusalText};
+ghost use Rattle.listing.specs.Lines.{replyOf, longestLine};
+ghost use Rattle.listing.specs.Printed.{Printed};
+ghost use Rattle.model.proofs.Sizes.{Small};
+ghost use Rattle.listing.specs.Said.{reportIn};
+
+// A line whose numbers are small.
+pub fn print(said: Summary, deleted: &[u16], number: u64, out: &mut [u8], at: usize) -> usize
+    requires { ⌜ Small (reportIn said) × (2 * said .deletions ≤ length (now deleted)) × (number ≤ 1000000000) × (at + longestLine ≤ length (now out)) ⌝ }
+    ensures { λ r. ⌜ Printed (now (out .entry)) at (lineText number (replyOf said (now (deleted .entry)))) (now (out .exit)) r × (r ≤ length (now (out .entry))) ⌝ }
+{
+    listing::write_line(out, at, number, said, deleted)
+}
+
+// The line of a refusal that belongs to the trace and to no call.
+pub(crate) fn refuse(number: u64, why: Refusal, out: &mut [u8]) -> usize
+    requires { ⌜ (number ≤ 1000000000) × (longestLine ≤ length (now out)) ⌝ }
+    ensures { λ r. ⌜ Printed (now (out .entry)) 0 (refusalText number why) (now (out .exit)) r × (r ≤ length (now (out .entry))) ⌝ }
+{
+    let none = [0u16; 1];
+    let said = say::refused(why);
+    print(said, &none, number, out, 0)
+}

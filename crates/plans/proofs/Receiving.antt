@@ -1,0 +1,124 @@
+-- The plans of a delivery that is not refused: of one that brings nothing new, and of one that does.
+-- Assumes nothing.
+use mathlib.Core.Path.{_≡_, refl, sym, _∙_, ap}
+use mathlib.Core.Bool.{Bool, true, false, _&&_}
+use mathlib.Core.List.{List, []}
+use mathlib.Core.Option.{none}
+use Prim.Native.Nat.{ℕ, _<_}
+use native.Mathlib.Omega.{arith}
+use borrow.Author.Tests.{leb-false}
+use lib.Dec.{leb}
+use lib.ListN.{length, getD}
+use Rattle.laws.specs.Choice.{pick}
+use Rattle.laws.specs.Rows.{and-true}
+use Rattle.laws.specs.Truth.{and-no-right}
+use Rattle.model.specs.declared.Message.{Message}
+use Rattle.model.specs.declared.Run.{Run}
+use Rattle.model.specs.Words.{Process, process, withProcess, withMessages, live}
+use Rattle.model.specs.Steps.{listed, settled, deletions, checkpointed, newer, forces, takenIn, others, delivered, deliverState, deliverDeletions}
+use Rattle.model.specs.Sound.{sound}
+use Rattle.plans.specs.declared.Lookup.{Lookup}
+use Rattle.plans.specs.declared.Plan.{Plan}
+use Rattle.plans.specs.Carried.{vectorAt, ownAt, unnamedBy, messagesThen, Fulfils}
+use Rattle.plans.specs.Planned.{refusalOf, withoutIt, receiptPlan}
+use Rattle.plans.specs.Sized.{Sized}
+use Rattle.plans.specs.Tables.{LooksUp}
+use Rattle.plans.proofs.Facts.{place}
+use Rattle.plans.proofs.Fulfilled.{partBy, moved-plan}
+use Rattle.plans.proofs.Looked.{receiver-present, taken-out, one-out}
+use Rattle.plans.proofs.Parts.{part-back}
+use Rattle.plans.proofs.Receipts.{received, receipt-leaves, receipt-deletes}
+use Rattle.plans.proofs.Removing.{without-plan}
+use Rattle.plans.proofs.Still.{none-newer, taken-still, settled-still, deleted-still}
+
+-- A forced checkpoint clears the mark, and one that is not set is clear.
+clear : (b : Bool) → pick b false b ≡ false
+clear true = refl
+clear false = refl
+
+module _ {s : Run} (h : sound s ≡ true) (size : Sized s) {table : List Message} {first tail m : ℕ} {t : Lookup} (look : LooksUp s table first tail m t)
+    (there : t .found ≡ true) where
+  abbrev x : Message
+  x = t .message
+
+  abbrev i : ℕ
+  i = x .receiver
+
+  abbrev mark : Bool
+  mark = getD (s .sent) i false
+
+  present : i < s .count
+  present = receiver-present h size look there
+
+  same-number : others s (x .number) ≡ others s m
+  same-number = ap (others s) (look .numbered there)
+
+  -- It brings nothing new: it is taken out, and nothing else changes.
+  module _ (still : newer (vectorAt s i) (x .vector) ≡ false) where
+    pub forces-none : forces (process s i) (x .vector) ≡ false
+    unfolding forces process
+    forces-none = and-no-right mark (newer (vectorAt s i) (x .vector)) still
+
+    delivered-still : delivered i (x .vector) (process s i) ≡ process s i
+    unfolding delivered process
+    delivered-still =
+        ap (λ (b : Bool). takenIn i (x .vector) (pick b (checkpointed i (process s i)) (process s i))) forces-none
+        ∙ taken-still i (x .vector) (process s i) (size .vector-row i (place s h i present)) (size .pin-row i (place s h i present))
+        (none-newer (vectorAt s i) (x .vector) still)
+
+    still-state : deliverState s x ≡ withMessages s (others s m) (s .last)
+    unfolding deliverState
+    still-state =
+        ap (λ (P : Process). withMessages (withProcess s i (settled P)) (others s (x .number)) (s .last)) delivered-still
+        ∙ ap (λ (P : Process). withMessages (withProcess s i P) (others s (x .number)) (s .last)) (settled-still s h i present)
+        ∙ (λ j. withMessages (part-back s h size i present j) (same-number j) (s .last))
+
+    still-deletes : deliverDeletions s x ≡ []
+    unfolding deliverDeletions
+    still-deletes = ap (deletions i) delivered-still ∙ deleted-still s h i present
+
+    pub still-plan : Fulfils s table first i (withoutIt mark t) none (deliverState s x) (deliverDeletions s x)
+    still-plan = rw still-deletes (without-plan h size look i there (deliverState s x) still-state)
+
+  -- It brings something new, and forces a checkpoint exactly if the receiver has sent.
+  module _ (brings : newer (vectorAt s i) (x .vector) ≡ true) where
+    pub forces-marked : forces (process s i) (x .vector) ≡ mark
+    unfolding forces process
+    forces-marked = ap (λ (b : Bool). mark && b) brings ∙ and-true mark
+
+    abbrev plan : Plan
+    plan = receiptPlan mark t
+
+    in-row : i < length (process s i .pins)
+    unfolding process
+    in-row = omega (arith, size .pin-row i (place s h i present), place s h i present)
+
+    left : messagesThen table first plan ≡ others s m
+    unfolding receiptPlan
+    left = taken-out h size look there
+
+    received-is : delivered i (x .vector) (process s i) ≡ received i (x .vector) (process s i) mark
+    unfolding delivered
+    received-is = ap (received i (x .vector) (process s i)) forces-marked
+
+    part : settled (delivered i (x .vector) (process s i)) ≡ partBy s i plan
+    unfolding receiptPlan process live
+    part =
+        ap settled received-is
+        ∙ receipt-leaves i (x .vector) (process s i) in-row (place s h i present) mark
+        ∙ ap (λ (b : Bool). record { vector = partBy s i plan .vector; pins = partBy s i plan .pins; mark = b; kept = partBy s i plan .kept }) (clear mark)
+
+    state : deliverState s x ≡ withMessages (withProcess s i (partBy s i plan)) (messagesThen table first plan) (t .last)
+    unfolding deliverState
+    state = λ j. withMessages (withProcess s i (part j)) ((same-number ∙ sym left) j) (sym (look .used) j)
+
+    deleted : deliverDeletions s x ≡ listed i (unnamedBy s i plan)
+    unfolding deliverDeletions receiptPlan process live
+    deleted = ap (deletions i) received-is ∙ receipt-deletes i (x .vector) (process s i) in-row (place s h i present) mark
+
+    pub received-plan : (mark && leb 65535 (ownAt s i .0)) ≡ false → Fulfils s table first i plan none (deliverState s x) (deliverDeletions s x)
+    unfolding receiptPlan refusalOf
+    received-plan early =
+        moved-plan s table first i plan (look .within) (omega (arith, look .to, look .end)) (one-out h size look there)
+        (deliverState s x) (deliverDeletions s x) refl present
+        (λ stores. leb-false 65535 (ownAt s i .0) (sym (ap (λ (b : Bool). b && leb 65535 (ownAt s i .0)) stores) ∙ early)) state deleted

@@ -1,4 +1,0 @@
-pub mod Lines
-pub mod Onward
-pub mod Searches
-pub mod Turns

@@ -1,0 +1,60 @@
+-- The program as a whole: what its calls put, one behind the other, is the listing of the trace.
+-- Assumes nothing.
+use mathlib.Core.Path.{_≡_}
+use mathlib.Core.List.{List, [], _∷_, _++_}
+use mathlib.Core.Option.{none, some}
+use Prim.Native.Nat.{ℕ, _*_, _≤_}
+use lib.ListN.{length, take, drop}
+use Rattle.model.specs.declared.Refusal.{Refusal}
+use Rattle.model.specs.Refusals.{startRefusal}
+use Rattle.model.specs.Listing.{mostRecords, listing}
+use Rattle.replay.specs.declared.position.Position.{Position}
+use Rattle.replay.specs.Positions.{beginning, filled, due, passed}
+
+-- What the program does behind the first byte: it reads some bytes, or puts the lines of some records.
+pub data Step : Type 0 where
+  reads : List ℕ → Step
+  puts : ℕ → Step
+
+-- The bytes that are read, one read behind the other.
+unfoldable pub allRead : List Step → List ℕ
+allRead [] = []
+allRead (reads l ∷ steps) = l ++ allRead steps
+allRead (puts k ∷ steps) = allRead steps
+
+-- From a position and the bytes held there: the records whose lines are put are among the bytes held, as `put` requires;
+unfoldable pub Fitting : Position → List ℕ → List Step → Type 0
+Fitting p held [] = Unit {0}
+Fitting p held (reads l ∷ steps) = Fitting (filled p (length l)) (held ++ l) steps
+Fitting p held (puts k ∷ steps) = (4 * k ≤ length held) × Fitting (passed p k (take (4 * k) held)) (drop (4 * k) held) steps
+
+-- what is put, as `put` requires it;
+unfoldable pub allPut : Position → List ℕ → List Step → List ℕ
+allPut p held [] = []
+allPut p held (reads l ∷ steps) = allPut (filled p (length l)) (held ++ l) steps
+allPut p held (puts k ∷ steps) = due p (take (4 * k) held) ++ allPut (passed p k (take (4 * k) held)) (drop (4 * k) held) steps
+
+-- and where the program then stands, with which bytes held.
+unfoldable pub standing : Position → List ℕ → List Step → Position
+standing p held [] = p
+standing p held (reads l ∷ steps) = standing (filled p (length l)) (held ++ l) steps
+standing p held (puts k ∷ steps) = standing (passed p k (take (4 * k) held)) (drop (4 * k) held) steps
+
+unfoldable pub holding : Position → List ℕ → List Step → List ℕ
+holding p held [] = held
+holding p held (reads l ∷ steps) = holding (filled p (length l)) (held ++ l) steps
+holding p held (puts k ∷ steps) = holding (passed p k (take (4 * k) held)) (drop (4 * k) held) steps
+
+-- For every way to cut a trace into reads, and every way to cut what they bring into parts of whole records.
+pub record PrintsTheListing : Type 0 where
+  -- At any time, also where the program stops at an error: what was put is the front of the listing, and what is due is the rest.
+  pub so-far : (n : ℕ) (steps : List Step) (unread : List ℕ) → startRefusal n ≡ none → Fitting (beginning n) [] steps
+      → listing (n ∷ (allRead steps ++ unread)) ≡ allPut (beginning n) [] steps ++ due (standing (beginning n) [] steps) (holding (beginning n) [] steps ++ unread)
+  -- Where nothing is left to read: what was put, and at the end what `put_rest` requires, is the listing.
+  pub at-the-end : (n : ℕ) (steps : List Step) → startRefusal n ≡ none → Fitting (beginning n) [] steps
+      → allPut (beginning n) [] steps ++ due (standing (beginning n) [] steps) (holding (beginning n) [] steps) ≡ listing (n ∷ allRead steps)
+  -- Behind the last record that a replay takes, whatever is left unread.
+  pub at-the-last : (n : ℕ) (steps : List Step) (unread : List ℕ) → startRefusal n ≡ none → Fitting (beginning n) [] steps
+      → mostRecords ≤ standing (beginning n) [] steps .done → allPut (beginning n) [] steps ≡ listing (n ∷ (allRead steps ++ unread))
+  -- Behind a first byte that is refused, what `put_whole` requires. (Of a trace of no bytes it requires `listing []` itself.)
+  pub refused : (n : ℕ) (why : Refusal) (unread : List ℕ) → startRefusal n ≡ some why → listing (n ∷ []) ≡ listing (n ∷ unread)

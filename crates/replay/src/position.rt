@@ -1,0 +1,155 @@
+// Where a replay stands, and the only ways to go on: bytes are read, or the lines of records are put. The fields are this file's own, so that no other file makes a
+// position: a byte counts as held once it is read, and a record as taken once its lines are put. What the system is asked for stands in `fill` and `write`, and in
+// `start` for the first byte.
+use libc::STDIN_FILENO;
+use libc::STDOUT_FILENO;
+use model::Run;
+ghost use mathlib.Core.Path.{_≡_};
+ghost use mathlib.Core.Bool.{true};
+ghost use Prim.Native.Nat.{_+_, _*_, _≤_, _<_};
+ghost use lib.ListN.{length};
+ghost use Rattle.model.specs.Steps.{startState};
+ghost use Rattle.model.specs.Listing.{stateAfterRecords, listing};
+ghost use Rattle.replay.specs.Positions.{beginning, due, passed, Fills};
+
+// The state after the records that were taken, how many they are, and how many bytes are held behind them: they were read, and belong to no record taken.
+pub struct Position {
+    run: Run,
+    done: u64,
+    held: usize,
+}
+
+impl Position {
+    pub fn run(self) -> Run
+        ensures { λ r. ⌜ r ≡ self .run ⌝ }
+    {
+        self.run
+    }
+
+    pub fn done(self) -> u64
+        ensures { λ r. ⌜ r ≡ self .done ⌝ }
+    {
+        self.done
+    }
+
+    pub fn held(self) -> usize
+        ensures { λ r. ⌜ r ≡ self .held ⌝ }
+    {
+        self.held
+    }
+}
+
+// Before the first record of a trace whose first byte is n.
+pub fn begin(n: u8, run: Run) -> Position
+    requires { ⌜ run ≡ startState n ⌝ }
+    ensures { λ r. ⌜ r ≡ beginning n ⌝ }
+{
+    Position {
+        run,
+        done: 0,
+        held: 0,
+    }
+}
+
+// Whether a read failed, how many bytes it brought (none at the end of the input), and the position with them.
+pub struct Filled {
+    pub failed: bool,
+    pub more: usize,
+    pub position: Position,
+}
+
+// One read behind the bytes held, and not past the last record that a replay takes.
+pub fn fill(p: Position, input: &mut [u8]) -> Filled
+    requires { ⌜ (p .done < 1000000000) × (p .held < 4) × (5 ≤ length (now input)) ⌝ }
+    ensures { λ r. ⌜ Fills p (now (input .entry)) (r .more) (r .position) (now (input .exit)) ⌝ }
+{
+    let from = 1 + p.held;
+    let to = 1 + output::buffer::fill_to(p.done, input.len() - 1);
+    let got = libc::read(STDIN_FILENO, &mut input[from..to]);
+    let more = io::count(got, &input[from..to]);
+    let run = p.run;
+    let all = p.held + more;
+    let position = Position {
+        run,
+        done: p.done,
+        held: all,
+    };
+    Filled {
+        failed: got < 0,
+        more,
+        position,
+    }
+}
+
+// Whether all of these lines are written.
+fn write(lines: &[u8]) -> bool {
+    let is_written = io::write_all(STDOUT_FILENO, lines);
+    if !is_written {
+        os::fail(b"replay: standard output");
+    }
+    is_written
+}
+
+// Whether lines could not be written, and the position behind their records.
+pub struct Passed {
+    pub failed: bool,
+    pub position: Position,
+}
+
+// The lines of the next records, which are the bytes of `part`; `next` is the state after them.
+pub fn put(p: Position, part: &[u8], taken: usize, next: Run, lines: &[u8]) -> Passed
+    requires { ⌜ (length (now part) ≡ 4 * taken) × (4 * taken ≤ p .held) × (p .done + taken ≤ 1000000000) × (next ≡ stateAfterRecords (p .run) (now part)) × (now lines ≡ due p (now part)) ⌝ }
+    ensures { λ r. ⌜ r .position ≡ passed p taken (now (part .entry)) ⌝ }
+{
+    let is_written = write(lines);
+    let count = p.done + taken as u64;
+    let left = p.held - 4 * taken;
+    let position = Position {
+        run: next,
+        done: count,
+        held: left,
+    };
+    Passed {
+        failed: !is_written,
+        position,
+    }
+}
+
+// A replay has ended, in one of the ways below, and in no other: this file makes the only values of this type.
+pub struct Ended {
+    failed: bool,
+}
+
+// The last line of a listing, if any: that of the bytes left over.
+pub fn put_rest(p: Position, rest: &[u8], lines: &[u8]) -> Ended
+    requires { ⌜ now lines ≡ due p (now rest) ⌝ }
+{
+    let is_written = write(lines);
+    Ended {
+        failed: !is_written,
+    }
+}
+
+// The only line of a listing: that of a trace of no bytes, or of a first byte that is refused.
+pub fn put_whole(trace: &[u8], lines: &[u8]) -> Ended
+    requires { ⌜ now lines ≡ listing (now trace) ⌝ }
+{
+    let is_written = write(lines);
+    Ended {
+        failed: !is_written,
+    }
+}
+
+// Nothing is read or put behind the last record that a replay takes.
+pub fn end_at_the_last(p: Position) -> Ended
+    requires { ⌜ 1000000000 ≤ p .done ⌝ }
+{
+    Ended { failed: false }
+}
+
+// The system failed to read or to write.
+pub fn end_by_error(failed: bool) -> Ended
+    requires { ⌜ failed ≡ true ⌝ }
+{
+    Ended { failed }
+}

@@ -1,0 +1,112 @@
+-- The turns of the loop over a block: nothing taken yet, one record more, and why it stops.
+-- Assumes nothing.
+use mathlib.Core.Path.{_≡_, refl, sym, _∙_, ap}
+use mathlib.Core.Bool.{true, false}
+use mathlib.Core.List.{List}
+use mathlib.Core.Logic.{inl, inr}
+use mathlib.Core.Option.{Option}
+use Prim.Native.Nat.{ℕ, _+_, _-_, _*_, _≤_, _<_}
+use native.Mathlib.Omega.{arith}
+use lib.ListN.{length, take, drop, length-drop}
+use lib.Seq.{drop-drop, length-take-le}
+use borrow.Author.Tests.{leb-true, leb-false}
+use Rattle.laws.specs.Choice.{by-eq}
+use Rattle.model.specs.declared.Event.{Event}
+use Rattle.model.specs.declared.Run.{Run}
+use Rattle.model.specs.Listing.{lineText, perform, mostRecords, records, stateAfterRecords}
+use Rattle.model.specs.Trace.{decoded}
+use Rattle.model.specs.WholeRuns.{Reachable}
+use Rattle.model.proofs.Blocks.{next-line, next-state, reachable-record}
+use Rattle.model.proofs.Sizes.{Small}
+use Rattle.trace.specs.Answers.{recordAt, eventIn}
+use Rattle.reader.specs.Reading.{recordAfter, recordLeft}
+use Rattle.listing.specs.declared.Summary.{Summary}
+use Rattle.listing.specs.Lines.{longestLine, replyOf}
+use Rattle.listing.specs.Printed.{Printed}
+use Rattle.listing.specs.Said.{reportIn, Says, Performs}
+use Rattle.listing.proofs.Said.{says-line}
+use Rattle.listing.proofs.Texts.{then, nothing}
+use Rattle.replay_block.specs.Blocks.{Replays, Stops}
+use Rattle.replay_block.proofs.Lines.{performed-small, performed-deletions, four-read}
+
+pub none-taken : (s : Run) (done : ℕ) (block out : List ℕ) → Replays s done block out s 0 out 0
+unfolding records stateAfterRecords
+none-taken s done block out = record {
+  within = omega arith;
+  room = λ k lt. absurd (omega arith);
+  state = refl;
+  lines = nothing out 0;
+}
+
+-- The record behind those taken.
+module _ (s : Run) (done : ℕ) (block out : List ℕ) (run : Run) (taken : ℕ) (now-out : List ℕ) (written : ℕ) (so-far : Replays s done block out run taken now-out written)
+    (more : 4 * taken + 4 ≤ length block) where
+  one-taken : written + longestLine ≤ length out → done + taken < mostRecords → (next-run : Run) (next-out : List ℕ) (next : ℕ)
+      → next-run ≡ perform run (decoded (take 4 (drop (4 * taken) block))) .run
+      → Printed now-out written (lineText (done + taken + 1) (perform run (decoded (take 4 (drop (4 * taken) block))) .reply)) next-out next
+      → Replays s done block out next-run (taken + 1) next-out next
+  one-taken space few next-run next-out next e p = record {
+    within = omega arith;
+    room = λ j lt. by-eq j taken (λ q. rw q (omega (arith, so-far .lines .next-place))) (λ ne. so-far .room j (omega arith));
+    state = e ∙ rw (so-far .state, four-more) (sym (next-state taken done s block more));
+    lines = rw (four-more, next-line taken done s block more few) (then (so-far .lines) (rw (so-far .state) at p));
+  }
+    where
+      four-more : 4 * (taken + 1) ≡ 4 * taken + 4
+      four-more = omega arith
+
+-- The part that the reader hands on is the record, where one is left. A block stands behind a first byte.
+module _ (trace : List ℕ) (taken : ℕ) where
+  pub left-more : recordLeft trace taken ≡ true → 4 * taken + 4 ≤ length (drop 1 trace)
+  unfolding recordLeft
+  left-more e = omega (arith, leb-true (1 + 4 * taken + 4) (length trace) e, length-drop 1 trace)
+
+  pub left-none : recordLeft trace taken ≡ false → length (drop 1 trace) < 4 * taken + 4
+  unfolding recordLeft
+  left-none e = omega (arith, leb-false (1 + 4 * taken + 4) (length trace) e, length-drop 1 trace)
+
+  pub record-there : recordLeft trace taken ≡ true → eventIn (recordAfter trace taken) ≡ decoded (take 4 (drop (4 * taken) (drop 1 trace)))
+  unfolding recordAfter recordAt recordLeft
+  record-there e =
+      let part : take 4 (drop (4 * taken) (drop 1 trace)) ≡ take 4 (drop (1 + 4 * taken) trace) = ap (take 4) (drop-drop (4 * taken) 1 trace) in
+      rw (e, part) (four-read (take 4 (drop (1 + 4 * taken) trace)) (length-take-le 4 (drop (1 + 4 * taken) trace)
+      (omega (arith, leb-true (1 + 4 * taken + 4) (length trace) e, length-drop (1 + 4 * taken) trace))))
+
+-- Why the loop stops.
+module _ (done block taken out written : ℕ) where
+  pub at-limit : done + taken ≤ mostRecords → mostRecords ≤ done + taken → Stops done block taken out written
+  unfolding Stops
+  at-limit h g = inl (omega arith)
+
+  pub no-record : block < 4 * taken + 4 → Stops done block taken out written
+  unfolding Stops
+  no-record h = inr (inl h)
+
+  pub no-room : written ≤ out → out - written < longestLine → Stops done block taken out written
+  unfolding Stops
+  no-room h g = inr (inr (inl (omega arith)))
+
+  -- each record takes one place at most
+  pub no-place : (tail : ℕ) → tail ≤ 64 + taken → 576 ≤ tail → Stops done block taken out written
+  unfolding Stops
+  no-place tail h g = inr (inr (inr (omega arith)))
+
+-- What is said of a record is small.
+pub said-fits : (s : Run) (e : Option Event) (said : Summary) (deleted : List ℕ) → Says said deleted (perform s e .reply) → Small (reportIn said) × (said .deletions ≤ 256)
+said-fits s e said deleted h =
+    let whole : Performs s e (perform s e .run) said deleted = record { state = refl; says = h } in
+    (performed-small s e (perform s e .run) said deleted whole, performed-deletions s e (perform s e .run) said deleted whole)
+
+-- One record more, where the state t after it and the words said of it are the model's and its line is printed.
+pub one-said : (s : Run) (done : ℕ) (block out : List ℕ) (run : Run) (taken : ℕ) (now-out : List ℕ) (written : ℕ) → Replays s done block out run taken now-out written
+    → 4 * taken + 4 ≤ length block → written + longestLine ≤ length out → done + taken < mostRecords → Reachable run
+    → (e : Option Event) → e ≡ decoded (take 4 (drop (4 * taken) block)) → (t : Run) → perform run e .run ≡ t
+    → (said : Summary) (deleted : List ℕ) → Says said deleted (perform run e .reply)
+    → (next-out : List ℕ) (next : ℕ) → Printed now-out written (lineText (done + taken + 1) (replyOf said deleted)) next-out next
+    → Replays s done block out t (taken + 1) next-out next × Reachable t
+one-said s done block out run taken now-out written so-far more space few reach e read t after said deleted says next-out next printed = (
+  one-taken s done block out run taken now-out written so-far more space few t next-out next
+      (sym after ∙ ap (λ (o : Option Event). perform run o .run) read)
+      (rw (says-line said deleted (perform run e .reply) says (done + taken + 1) ∙ ap (λ (o : Option Event). lineText (done + taken + 1) (perform run o .reply)) read) at printed),
+  rw (sym after) (reachable-record run reach e),
+)

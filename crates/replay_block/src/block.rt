@@ -1,0 +1,271 @@
+// A block of a trace: its whole records replayed one after the other, their lines printed into a lent buffer.
+use crate::kept;
+use crate::record;
+use crate::window;
+use listing::Summary;
+use listing::Value;
+use model::CheckpointIndex;
+use model::Run;
+use plans::Lookup;
+ghost use mathlib.Core.Path.{_≡_};
+ghost use Prim.Native.Nat.{_+_, _≤_};
+ghost use lib.ListN.{length, drop};
+ghost use Rattle.model.specs.WholeRuns.{Reachable};
+ghost use Rattle.replay_block.specs.Blocks.{Replays, Stops};
+ghost use Rattle.replay_block.specs.Window.{numbersOf};
+
+// The state after the records that were taken of a block, how many they are, and how many bytes of lines were written.
+pub struct Progress {
+    pub run: Run,
+    pub taken: usize,
+    pub written: usize,
+}
+
+// It stops where no whole record is left, where the longest line might not fit, and behind record 1,000,000,000. The state is kept in place: a record
+// stores single elements, rows and messages. A recovery goes over all processes, and looks at the checkpoints that they keep one at a time: a row is
+// copied only where something in it is deleted. So these loops stand here, where the table is, and what they do in a turn stands in rows and plans.
+fn replay_beside(
+    s: Run,
+    done: u64,
+    trace: &[u8],
+    out: &mut [u8],
+    deleted: &mut [u16],
+    numbers: &[u32],
+) -> Progress
+    requires { ⌜ Reachable s × (done ≤ 1000000000) × (length (now deleted) ≡ 512) × (now numbers ≡ numbersOf (s .messages)) ⌝ }
+    ensures { λ r. ⌜ Replays s done (drop 1 (now (trace .entry))) (now (out .entry)) (r .run) (r .taken) (now (out .exit)) (r .written) ⌝ }
+    ensures { λ r. ⌜ Reachable (r .run) × (done + r .taken ≤ 1000000000) × (r .written ≤ length (now (out .entry))) ⌝ }
+    ensures { λ r. ⌜ Stops done (length (drop 1 (now (trace .entry)))) (r .taken) (length (now (out .entry))) (r .written) ⌝ }
+{
+    let n = s.count;
+    let mut vectors = rows::squares::vector_rows(s.vectors);
+    let mut pins = rows::squares::pin_rows(s.pins);
+    let mut kept = rows::squares::kept_rows(s.kept);
+    let mut sent = s.sent;
+    let mut held = s.held;
+    let begun = s.messages;
+    let mut underway = s.underway;
+    let mut last = s.last;
+    let mut window = window::opened(begun);
+    let mut base = last;
+    let mut first = 0;
+    let mut tail = 64;
+    let empty = rows::kept::no_checkpoint();
+    let mut taken = 0;
+    let mut written = 0;
+    'records: while tail < 576
+        && done + (taken as u64) < 1000000000
+        && reader::record_left(trace, taken)
+        && 3102 <= out.len() - written
+    {
+        let part = reader::record_after(trace, taken);
+        let d = trace::decode(part);
+        taken += 1;
+        let number = done + (taken as u64);
+        let recovery = record::recovery_of(d, n);
+        if !recovery.asked {
+            let m = record::sought(d);
+            let place = window::place_in(numbers, m, base, tail);
+            let message = window[place];
+            let found = window::is_there(first, place, tail, message.number, m);
+            let i = record::row_of(d, message.receiver);
+            let vector = vectors[i];
+            let mark = sent[i];
+            let own = vector[i];
+            let t = Lookup {
+                found,
+                place,
+                message,
+                underway,
+                last,
+                tail,
+            };
+            let p = record::plan_of(d, n, vector, own, mark, t);
+            sent[i] = p.mark;
+            let put = p.message;
+            let at = p.place;
+            window[at] = put;
+            underway = p.underway;
+            last = p.last;
+            tail = p.tail;
+            let value = record::value_of(p.stores, p.sends, own, last);
+            let verdict = p.verdict;
+            let refused = record::number_of(verdict);
+            if p.moves {
+                let live = rows::line::live_from(vector, i);
+                let pins_before = pins[i];
+                let carried = p.carried;
+                let moved = rows::receipt::pins_then(
+                    p.stores,
+                    live.index,
+                    vector,
+                    carried,
+                    pins_before,
+                    i,
+                );
+                let received = rows::receipt::vector_then(p.stores, vector, carried, i);
+                vectors[i] = received;
+                pins[i] = moved;
+                let many = held[i];
+                let mut gone = 0;
+                let mut to = 0;
+                let mut j = 0;
+                'collected: while j < many {
+                    let c = kept[i][j];
+                    kept[i][j] = empty;
+                    j += 1;
+                    let stays = rows::pins::is_named(moved, c.index);
+                    if stays {
+                        kept[i][to] = c;
+                        to += 1;
+                    } else {
+                        deleted[2 * gone] = i as u16;
+                        deleted[2 * gone + 1] = c.index.0;
+                        gone += 1;
+                    }
+                }
+                let first_kept = kept[i][0];
+                let stored = kept::stored(p.stores, live, first_kept);
+                let stored_at = kept::place(p.stores, to);
+                kept[i][stored_at] = stored;
+                held[i] = kept::count(p.stores, to);
+                let said = Summary {
+                    refused,
+                    value,
+                    deletions: gone,
+                };
+                written = output::line::print(said, deleted, number, out, written);
+            } else {
+                let said_only = Summary {
+                    refused,
+                    value,
+                    deletions: 0,
+                };
+                written = output::line::print(said_only, deleted, number, out, written);
+            }
+        } else {
+            // each process goes back to its member of the line
+            let owns = rows::line::own_entries(vectors);
+            let failed = recovery.failed;
+            let marks = rows::line::failed_marks(failed, n);
+            let mut rolled = [false; 16];
+            let mut members = [CheckpointIndex(0); 16];
+            let mut back = 0;
+            let mut f = 0;
+            'returned: while f < n {
+                let current = vectors[f];
+                let held_now = held[f];
+                let allowed = rows::line::is_allowed(current, owns, marks);
+                let searched = rows::recovery::to_search(!allowed, held_now);
+                let mut latest = rows::line::none_allowed();
+                let mut a = 0;
+                'allowed: while a < searched {
+                    let candidate = kept[f][a];
+                    latest = rows::line::latest_with(latest, candidate, owns, marks);
+                    a += 1;
+                }
+                let member = rows::recovery::member(current, f, latest, allowed);
+                let sent_now = sent[f];
+                let step = rows::recovery::step_back(member, current, sent_now, f, back);
+                let went_back = step.vector;
+                vectors[f] = went_back;
+                sent[f] = step.sent;
+                rolled[f] = step.rolled;
+                let index = step.index;
+                members[f] = index;
+                back = step.back;
+                f += 1;
+            }
+            // then its pins are moved, and what no pin names is deleted
+            let owns_then = rows::line::own_entries(vectors);
+            let mut all_gone = 0;
+            let mut q = 0;
+            'restored: while q < n {
+                let has_rolled = rolled[q];
+                let known = vectors[q];
+                let held_then = held[q];
+                let pins_now = pins[q];
+                let last_kept = members[q];
+                let to_find = rows::recovery::to_search(has_rolled, held_then);
+                let mut known_last = rows::recovery::nothing_found();
+                let mut b = 0;
+                'found: while b < to_find {
+                    let seen = kept[q][b];
+                    known_last = rows::recovery::found_with(known_last, seen, last_kept, owns_then);
+                    b += 1;
+                }
+                let pins_then = rows::recovery::pins_found(
+                    has_rolled,
+                    known,
+                    owns_then,
+                    known_last,
+                    pins_now,
+                );
+                pins[q] = pins_then;
+                let mut stay = 0;
+                let mut k = 0;
+                'left: while k < held_then {
+                    let x = kept[q][k];
+                    kept[q][k] = empty;
+                    k += 1;
+                    let keeps = rows::recovery::does_stay(x.index, last_kept, pins_then);
+                    if keeps {
+                        kept[q][stay] = x;
+                        stay += 1;
+                    } else {
+                        deleted[2 * all_gone] = q as u16;
+                        deleted[2 * all_gone + 1] = x.index.0;
+                        all_gone += 1;
+                    }
+                }
+                held[q] = stay;
+                q += 1;
+            }
+            base = last;
+            first = 64;
+            tail = 64;
+            underway = 0;
+            let recovered = Summary {
+                refused: 0,
+                value: Value::Number(back as u64),
+                deletions: all_gone,
+            };
+            written = output::line::print(recovered, deleted, number, out, written);
+        }
+    }
+    let messages = window::closed(window, first, tail);
+    let all_vectors = rows::squares::vectors_from(vectors);
+    let all_pins = rows::squares::pins_from(pins);
+    let all_kept = rows::squares::kept_from(kept);
+    let run = Run {
+        count: n,
+        vectors: all_vectors,
+        pins: all_pins,
+        sent,
+        kept: all_kept,
+        held,
+        messages,
+        underway,
+        last,
+    };
+    Progress {
+        run,
+        taken,
+        written,
+    }
+}
+
+// The same with a deletion list of its own.
+pub fn replay(s: Run, done: u64, trace: &[u8], out: &mut [u8]) -> Progress
+    requires { ⌜ Reachable s × (done ≤ 1000000000) ⌝ }
+    ensures { λ r. ⌜ Replays s done (drop 1 (now (trace .entry))) (now (out .entry)) (r .run) (r .taken) (now (out .exit)) (r .written) ⌝ }
+    ensures { λ r. ⌜ Reachable (r .run) × (done + r .taken ≤ 1000000000) × (r .written ≤ length (now (out .entry))) ⌝ }
+    ensures { λ r. ⌜ Stops done (length (drop 1 (now (trace .entry)))) (r .taken) (length (now (out .entry))) (r .written) ⌝ }
+{
+    let mut list = [0u16; 512];
+    let deleted: &mut [u16] = &mut list;
+    let started = s.messages;
+    let numbers = window::numbers_of(started);
+    let old: &[u32] = &numbers;
+    replay_beside(s, done, trace, out, deleted, old)
+}

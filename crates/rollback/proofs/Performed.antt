@@ -1,0 +1,107 @@
+-- A record that asks for a recovery, in a state that calls from a start reach: where the verdict is no refusal the recovery is accepted, and what the model
+-- answers is said by the parts that the two loops leave.
+-- Assumes nothing.
+use mathlib.Core.Path.{_≡_, _∙_, ap}
+use mathlib.Core.Bool.{Bool, true, false, false≢true}
+use mathlib.Core.List.{List, [], _∷_}
+use mathlib.Core.Option.{none, some}
+use Prim.Native.Nat.{ℕ, zero, suc, _+_, _*_, _^_, _≤_, _<_}
+use native.Mathlib.Nat.{suc-mul}
+use native.Mathlib.Omega.{arith}
+use borrow.Author.Tests.{eqb-false, leb-false}
+use lib.Dec.{eqb, leb}
+use lib.ListN.{length, getD, take, replicate, length-append, length-map, length-replicate}
+use lib.Seq.{sets}
+use Rattle.laws.specs.Choice.{by-bool}
+use Rattle.laws.specs.Lists.{select, gather}
+use Rattle.laws.specs.Select.{select-length}
+use Rattle.model.specs.declared.Checkpoint.{Checkpoint}
+use Rattle.model.specs.declared.Run.{Run}
+use Rattle.model.specs.declared.Event.the-variants.{Recover}
+use Rattle.model.specs.Words.{process}
+use Rattle.model.specs.Steps.{Deletion, listed, lineOf, deletedAt, recoverDeletions}
+use Rattle.model.specs.Sound.{sound}
+use Rattle.model.specs.Refusals.{recoverRefusal}
+use Rattle.model.specs.Outcomes.{pairs, accepting, startOutcome, recoverOutcome, recoverReport}
+use Rattle.model.specs.Calls.{answered, call}
+use Rattle.model.specs.Listing.{callOf, perform}
+use Rattle.model.specs.Survival.{beginning}
+use Rattle.model.specs.WholeRuns.{Reachable, LinePromise}
+use Rattle.model.specs.laws.Sound.{sound-state}
+use Rattle.model.proofs.ideal.Run.{begin}
+use Rattle.model.proofs.whole.Runs.{runAfter}
+use Rattle.model.proofs.WholeRuns.{start-reached, calls-reached, line-promise}
+use Rattle.model.proofs.simulation.Reads.{count-is}
+use Rattle.plans.specs.declared.Verdict.the-variants.{Accepted, Refused}
+use Rattle.plans.specs.Planned.{recoveryVerdict}
+use Rattle.rollback.specs.Restored.{Restored, Restores, restored}
+use Rattle.rollback.proofs.RecoverCall.{twice-square}
+
+-- A failed set that is not refused: somebody has failed, and nobody outside the run.
+failed-inside : (n F : ℕ) → recoveryVerdict n F ≡ Accepted → (1 ≤ F) × (F < 2 ^ n)
+unfolding recoveryVerdict
+failed-inside n F v = by-bool (eqb F 0)
+    (λ e. let no : Refused _ ≡ Accepted = rw e at v in absurd (false≢true cc))
+    (λ e.
+    let rest = rw e at v in
+    by-bool (leb (2 ^ n) F)
+    (λ g. let no : Refused _ ≡ Accepted = rw g at rest in absurd (false≢true cc))
+    (λ g. let some-bit = eqb-false F 0 e in (omega arith, leb-false _ _ g)))
+
+-- The call is accepted, with lists that are long enough.
+accepted : (s : Run) → Reachable s → (F : ℕ) → recoveryVerdict (s .count) F ≡ Accepted → recoverRefusal s F (replicate 512 0) (replicate 16 0) ≡ none
+unfolding Reachable LinePromise
+accepted s v F verdict =
+    let r = calls-reached (v .0) (startOutcome (v .0) .run) beginning (begin (v .0)) (start-reached (v .0) (v .1) (v .2)) (v .3) in
+    let same : s .count ≡ v .0 = ap (λ (t : Run). t .count) (v .4 ∙ r .state) ∙ count-is (runAfter (begin (v .0)) (v .3)) ∙ r .size in
+    let inside = failed-inside (s .count) F verdict in
+    line-promise s F (v .0) (v .1) (v .2) (v .3) (v .4) (inside .0) (rw (← same) (inside .1)) .0 .recover-accepted (replicate 512 0) (replicate 16 0)
+    (omega (arith, twice-square (v .0) (v .2), length-replicate {A = ℕ} 512 0))
+    (omega (arith, v .2, length-replicate {A = ℕ} 16 0))
+
+-- What the model answers, by the parts.
+pub recovery-performed : (s : Run) → Reachable s → (F : ℕ) → recoveryVerdict (s .count) F ≡ Accepted → (r : Restored) (before after : List ℕ) → Restores s F r before after
+    → perform s (some (Recover F))
+    ≡ record {
+      run = restored s r;
+      reply = record {
+        report = accepting (some (r .rolled)) (r .gone);
+        deleted = sets (replicate 512 0) 0 (pairs (recoverDeletions s F));
+        line = sets (replicate 16 0) 0 (lineOf s F);
+      };
+    }
+unfolding perform callOf call answered recoverOutcome recoverReport
+recovery-performed s v F verdict r before after h = rw (accepted s v F verdict, h .state, h .rolled, h .gone)
+
+-- Its deletions have room in a list of 512 numbers.
+take-most : {A : Type 0} (k : ℕ) (l : List A) → length (take k l) ≤ k
+take-most zero l = omega arith
+take-most (suc k) [] = omega arith
+take-most (suc k) (x ∷ l) = omega (arith, take-most k l)
+
+gather-most : {A : Type 0} (n m : ℕ) (f : ℕ → List A) → ((p : ℕ) → p < n → length (f p) ≤ m) → length (gather n f) ≤ n * m
+unfolding gather
+gather-most zero m f h = omega arith
+gather-most (suc n) m f h =
+    let apart : suc n * m ≡ n * m + m = suc-mul n m in
+    omega (arith, length-append (gather n f) (f n), gather-most n m f (λ p lt. h p (omega arith)), h n (omega arith), apart)
+
+listed-most : (p k : ℕ) (t : Checkpoint → Bool) (row : List Checkpoint) → length (listed p (select t (take k row))) ≤ k
+unfolding listed
+listed-most p k t row = omega (
+  arith,
+  length-map {A = Checkpoint} {B = Deletion} (select t (take k row)) (λ c. record { process = p; index = c .index }),
+  select-length t (take k row),
+  take-most k row,
+)
+
+module _ (s : Run) (h : sound s ≡ true) (F : ℕ) where
+  deleted-most : (p : ℕ) → p < s .count → length (deletedAt s F p) ≤ 16
+  unfolding deletedAt process
+  deleted-most p lt =
+      let few : length (deletedAt s F p) ≤ getD (s .held) p 0 = listed-most p (getD (s .held) p 0) _ (getD (s .kept .0) p []) in
+      omega (arith, few, sound-state s h .processes p lt .held-most, sound-state s h .count-most)
+
+  pub deletions-most : 2 * length (recoverDeletions s F) ≤ 512
+  unfolding recoverDeletions
+  deletions-most = omega (arith, gather-most (s .count) 16 (deletedAt s F) deleted-most, sound-state s h .count-most)

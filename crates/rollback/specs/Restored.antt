@@ -1,0 +1,91 @@
+-- The recovery of a failed set on the parts of a state, given the members of the line: what the two loops over the processes leave together, by value and in
+-- place alike.
+-- Assumes nothing.
+use mathlib.Core.Bool.{Bool}
+use mathlib.Core.List.{List, []}
+use mathlib.Core.Path.{_≡_}
+use Prim.Native.Nat.{ℕ}
+use lib.ListN.{length}
+use lib.Seq.{sets}
+use Rattle.laws.specs.Lists.{placed}
+use Rattle.model.specs.declared.Checkpoint.{Checkpoint}
+use Rattle.model.specs.declared.Kept.{Kept}
+use Rattle.model.specs.declared.Pin.{Pin}
+use Rattle.model.specs.declared.Pins.{Pins}
+use Rattle.model.specs.declared.Run.{Run}
+use Rattle.model.specs.declared.Vectors.{Vectors}
+use Rattle.model.specs.Words.{mostUnderWay, noMessage}
+use Rattle.model.specs.Steps.{Deletion, recoverState, recoverDeletions, rolledBackCount}
+use Rattle.model.specs.Outcomes.{pairs}
+use Rattle.rows.specs.Line.{ownRow}
+use Rattle.rollback.specs.declared.recover.Returned.{Returned}
+use Rattle.rollback.specs.declared.recover.RowsAfter.{RowsAfter}
+use Rattle.rollback.specs.declared.recover.UnderWay.{UnderWay}
+use Rattle.rollback.specs.Returned.{returnedOf}
+use Rattle.rollback.specs.After.{pinsAt, lossesOf, rowsOf}
+
+-- The parts of a state after a recovery, how many processes rolled back, and how many checkpoints were deleted.
+pub record Restored : Type 0 where
+  pub vectors : Vectors
+  pub pins : Pins
+  pub sent : List Bool
+  pub kept : Kept
+  pub held : List ℕ
+  pub rolled : ℕ
+  pub gone : ℕ
+
+-- the messages that are still under way: "Every message under way is lost."
+unfoldable pub stillOf : UnderWay
+stillOf = record { messages = placed mostUnderWay noMessage []; count = 0 }
+
+-- the state with these parts
+abbrev pub restored : Run → Restored → Run
+restored s r = record {
+  count = s .count;
+  vectors = r .vectors;
+  pins = r .pins;
+  sent = r .sent;
+  kept = r .kept;
+  held = r .held;
+  messages = stillOf .messages;
+  underway = stillOf .count;
+  last = s .last;
+}
+
+-- Given the members' states: all processes gone back, and the rows then.
+abbrev pub returnedIn : Run → List Checkpoint → Returned
+returnedIn s states = returnedOf (s .count) (s .vectors .0) (s .sent) states
+
+unfoldable pub pinsIn : Run → Returned → ℕ → List Pin
+pinsIn s r = pinsAt (s .pins .0) (r .vectors .0) (ownRow (r .vectors .0)) (r .rolled) (s .kept .0) (s .held) (r .members)
+
+unfoldable pub rowsIn : Run → Returned → RowsAfter
+rowsIn s r = rowsOf (s .count) (s .pins .0) (r .vectors .0) (ownRow (r .vectors .0)) (r .rolled) (s .kept .0) (s .held) (r .members)
+
+unfoldable pub restoredFrom : Run → Returned → Restored
+restoredFrom s r = record {
+  vectors = r .vectors;
+  pins = rowsIn s r .pins;
+  sent = r .sent;
+  kept = rowsIn s r .kept;
+  held = rowsIn s r .held;
+  rolled = r .back;
+  gone = rowsIn s r .deleted;
+}
+
+unfoldable pub restoredIn : Run → List Checkpoint → Restored
+restoredIn s states = restoredFrom s (returnedIn s states)
+
+-- what is deleted
+unfoldable pub lossesFrom : Run → Returned → List Deletion
+lossesFrom s r = lossesOf (s .count) (s .kept .0) (s .held) (r .members) (pinsIn s r)
+
+unfoldable pub lossesIn : Run → List Checkpoint → List Deletion
+lossesIn s states = lossesFrom s (returnedIn s states)
+
+-- These parts, and a list with these pairs, are what the recovery of failed set F leaves of a state and of a lent list.
+pub record Restores (s : Run) (F : ℕ) (r : Restored) (before after : List ℕ) : Type 0 where
+  pub state : recoverState s F ≡ restored s r
+  pub rolled : rolledBackCount s F ≡ r .rolled
+  pub gone : length (recoverDeletions s F) ≡ r .gone
+  pub listed : after ≡ sets before 0 (pairs (recoverDeletions s F))

@@ -1,0 +1,138 @@
+-- `steps::parts::move_rows` meets its contract: what its callees ensure, put together, is a plan carried out (plans: specs/Carried). Assumes nothing.
+use Prim.Native.Nat.{_<_}
+use native.Mathlib.Omega.{arith}
+use Rattle.rows.specs.Line.{liveFrom}
+use Rattle.plans.proofs.Facts.{held-places, held-room}
+use Rattle.plans.proofs.SoundFacts.{own-least}
+use Rattle.plans.proofs.Room.{stored-room}
+use Rattle.steps.proofs.Moving.{moved-state, moved-gone, moved-list}
+use Rattle.steps.proofs.Sizes.{sizes}
+use borrow.Author.Needs.{needs}
+use borrow.Author.Needs.{needs}
+use Rattle.steps.proofs.parts.move_rows.Statement.{statement}
+use Rattle.steps.proofs.parts.move_rows.Tie as tie
+
+live-from-requires : tie.Need-live-from-requires
+live-from-requires c κs =
+    let k = c .before .before .before .before .before .before in
+    let u = k .before .before .before .before in
+    let a = u .args in
+    let v = u .pre in
+    rw (k .before .before .vector-rows .ensures) (v .1, own-least (a .s) (v .0) (a .i) (v .2))
+
+pins-then-requires : tie.Need-pins-then-requires
+pins-then-requires c κs =
+    let k = c .before .before .before .before .before .before .before in
+    let u = k .before .before .before .before in
+    let a = u .args in
+    let v = u .pre in
+    rw (k .before .before .vector-rows .ensures) (v .1, v .3)
+
+write-deletions-requires : tie.Need-write-deletions-requires
+write-deletions-requires c κs =
+    let k = c .before .before .before .before .before .before .before .before .before in
+    let u = k .before .before .before .before in
+    let a = u .args in
+    let v = u .pre in
+    (omega (arith, held-room (a .s) (v .0) (a .i) (v .2), v .5), held-places (a .s) (v .0) (a .i) (v .2), v .1)
+
+kept-then-requires : tie.Need-kept-then-requires
+unfolding liveFrom
+kept-then-requires c κs =
+    let k = c .before .before .before .before .before .before .before .before .before .before .before .before in
+    let u = k .before .before .before .before in
+    let a = u .args in
+    let v = u .pre in (
+      held-places (a .s) (v .0) (a .i) (v .2),
+      rw (c .before .before .before .before .pins-then .ensures, c .before .before .before .before .before .live-from .ensures, k .kept-rows .ensures, k .before .pin-rows .ensures, k .before .before .vector-rows .ensures)
+          (stored-room (a .s) (v .0) (sizes (a .s) _ (u .good .0)) (a .i) (v .2) (a .p)),
+    )
+
+vector-then-requires : tie.Need-vector-then-requires
+vector-then-requires c κs =
+    let k = c .before .before .before .before .before .before .before .before .before .before .before .before .before in
+    let u = k .before .before .before .before in
+    let a = u .args in
+    let v = u .pre in
+    rw (k .before .before .vector-rows .ensures) (v .1, v .3)
+
+mul-vectors : tie.Need-mul-vectors
+mul-vectors c = let u = c .before .before .before .before .before .before .before .before .before .before .before .before .before .before .before .before .before .before .before in let less : u .args .i < 16 = u .pre .1 in search needs
+
+array-set-from-vectors : tie.Need-array-set-from-vectors
+array-set-from-vectors c = let u = c .before .before .before .before .before .before .before .before .before .before .before .before .before .before .before .before .before .before .before in let less : u .args .i < 16 = u .pre .1 in search needs
+
+mul-all-pins : tie.Need-mul-all-pins
+mul-all-pins c = let u = c .before .before .before .before .before .before .before .before .before .before .before .before .before .before .before .before .before .before .before in let less : u .args .i < 16 = u .pre .1 in search needs
+
+array-set-from-all-pins : tie.Need-array-set-from-all-pins
+array-set-from-all-pins c = let u = c .before .before .before .before .before .before .before .before .before .before .before .before .before .before .before .before .before .before .before in let less : u .args .i < 16 = u .pre .1 in search needs
+
+mul-all-kept : tie.Need-mul-all-kept
+mul-all-kept c = let u = c .before .before .before .before .before .before .before .before .before .before .before .before .before .before .before .before .before .before .before in let less : u .args .i < 16 = u .pre .1 in search needs
+
+array-set-from-all-kept : tie.Need-array-set-from-all-kept
+array-set-from-all-kept c = let u = c .before .before .before .before .before .before .before .before .before .before .before .before .before .before .before .before .before .before .before in let less : u .args .i < 16 = u .pre .1 in search needs
+
+array-write-sent : tie.Need-array-write-sent
+array-write-sent c = let u = c .before .before .before .before .before .before .before .before .before .before .before .before .before .before .before .before .before .before .before in let less : u .args .i < 16 = u .pre .1 in search needs
+
+mul-held : tie.Need-mul-held
+mul-held c = let u = c .before .before .before .before .before .before .before .before .before .before .before .before .before .before .before .before .before .before .before in let less : u .args .i < 16 = u .pre .1 in search needs
+
+array-write-held : tie.Need-array-write-held
+array-write-held c = let u = c .before .before .before .before .before .before .before .before .before .before .before .before .before .before .before .before .before .before .before in let less : u .args .i < 16 = u .pre .1 in search needs
+
+returns : tie.Need-returns
+returns c =
+    let k = c .before .before .before .before .before .before .before .before .before .before .before .before .before .before .before .before .before .before in
+    let a = k .before .before .before .before .args in
+    let v = k .before .before .before .before .pre in
+    let w = c .before .before .before .before .before .before .before .before in
+    let vectors = k .before .before .vector-rows .ensures in
+    let pins = k .before .pin-rows .ensures in
+    let kept = k .kept-rows .ensures in
+    let live = w .before .before .before .live-from .ensures in
+    let named = w .before .before .pins-then .ensures in (
+      moved-state (a .s) (a .i) (a .p) vectors pins kept live named _ (c .before .before .before .before .before .kept-then .ensures) (c .before .before .before .before .vector-then .ensures)
+          (c .before .before .vectors-from .ensures) (c .before .pins-from .ensures) (c .kept-from .ensures) (v .4),
+      (
+        moved-gone (a .s) (a .i) (a .p) vectors pins kept live named (w .write-deletions .ensures .0),
+        moved-list (a .s) (a .i) (a .p) vectors pins kept live named _ (w .write-deletions .ensures .1),
+      ),
+    )
+
+pub move-rows-spec : {M : Type 1} → statement M
+move-rows-spec =
+    tie.close
+    (tie.spec
+    (λ c κs. search needs)
+    (λ c κs. search needs)
+    (λ c κs. search needs)
+    (λ c. search needs)
+    (λ c. search needs)
+    (λ c. search needs)
+    (λ c. search needs)
+    (λ c. search needs)
+    (λ c. search needs)
+    (λ c. search needs)
+    (λ c. search needs)
+    live-from-requires
+    pins-then-requires
+    write-deletions-requires
+    kept-then-requires
+    vector-then-requires
+    mul-vectors
+    array-set-from-vectors
+    mul-all-pins
+    array-set-from-all-pins
+    mul-all-kept
+    array-set-from-all-kept
+    array-write-sent
+    mul-held
+    array-write-held
+    (λ c κs. search needs)
+    (λ c κs. search needs)
+    (λ c κs. search needs)
+    (λ c. search needs)
+    returns)
