@@ -1,4 +1,4 @@
--- `rows::recovery::member` meets its contract, by whether the live state is allowed, and whether one was found.
+-- `rows::recovery::member` meets its contract, by whether the live state is allowed.
 -- Assumes nothing.
 use borrow.Author.Needs.{needs}
 use Rattle.rows.specs.Turn.{memberFrom}
@@ -11,11 +11,7 @@ returns c = rw (c .if1 .taken, c .before .live-from .ensures)
 
 returns-2 : tie.Need-returns-2
 unfolding memberFrom
-returns-2 c = rw (c .before .before .if1 .left, c .before .if2 .taken)
-
-returns-3 : tie.Need-returns-3
-unfolding memberFrom
-returns-3 c = rw (c .before .if1 .left, c .if2 .left, c .before .before .live-from .ensures)
+returns-2 c = rw (c .latest-or .ensures, c .before .if1 .left, c .before .before .live-from .ensures)
 
 pub member-spec : {M : Type 1} → statement M
-member-spec = tie.close (tie.spec (λ c κs. search needs) returns returns-2 returns-3)
+member-spec = tie.close (tie.spec (λ c κs. search needs) (λ c κs. search needs) returns returns-2)
