@@ -5,7 +5,7 @@ use plans::Plan;
 ghost use mathlib.Core.Path.{_≡_};
 ghost use mathlib.Core.Bool.{true};
 ghost use Prim.Native.Nat.{_*_, _<_, _≤_};
-ghost use lib.ListN.{length, take};
+ghost use lib.ListN.{length, set, take};
 ghost use Rattle.model.specs.Sound.{sound};
 ghost use Rattle.model.specs.Steps.{listed};
 ghost use Rattle.model.specs.Outcomes.{pairs, written};
@@ -20,6 +20,21 @@ pub(crate) fn put(s: Run, i: usize, p: Plan, messages: [Message; 64]) -> Run
     let mut t = s;
     t.sent[i] = p.mark;
     t.messages = messages;
+    t.underway = p.underway;
+    t.last = p.last;
+    t
+}
+
+// The same where the plan's message, put into its place, leaves no place unused before the last message: then no table is copied.
+pub(crate) fn put_message(s: Run, i: usize, p: Plan) -> Run
+    requires { ⌜ (i < 16) × (p .place < 64) × Closed (set (s .messages) (p .place) (p .message)) (p .underway) ⌝ }
+    ensures { λ r. ⌜ r ≡ unmoved s i p (take (p .underway) (set (s .messages) (p .place) (p .message))) ⌝ }
+{
+    let mut t = s;
+    t.sent[i] = p.mark;
+    let place = p.place;
+    let message = p.message;
+    t.messages[place] = message;
     t.underway = p.underway;
     t.last = p.last;
     t

@@ -37,8 +37,7 @@ pub fn send(s: Run, i: usize, j: usize) -> SendOutcome
     let table = s.messages;
     let named = messages::none_named(table[0], s.underway, s.last);
     let p = plans::send_plan(i, j, s.count, vector, mark, named);
-    let after = messages::put(table, p);
-    let run = parts::put(s, row, p, after);
+    let run = parts::put_message(s, row, p);
     let verdict = p.verdict;
     let answer = answer_of(verdict, p.last);
     SendOutcome { run, answer }

@@ -1,10 +1,8 @@
 -- `steps::send::send` meets its contract: its plan, carried out, is the outcome (proofs/Calling). Assumes nothing.
-use mathlib.Core.Path.{_∙_}
 use native.Mathlib.Omega.{arith}
 use Rattle.model.specs.laws.Sound.{sound-state}
 use Rattle.steps.proofs.Calling.{row-there, put-closed, put-state, first-look, send-does, send-straight, send-answers}
 use Rattle.steps.proofs.Sizes.{sizes}
-use borrow.Author.Needs.{needs}
 use borrow.Author.Needs.{needs}
 use Rattle.steps.proofs.send.send.Statement.{statement}
 use Rattle.steps.proofs.send.send.Tie as tie
@@ -27,38 +25,28 @@ send-plan-requires c κs =
     let look = first-look (a .s) h size (c .none-named .ensures) in
     omega (arith, look .end, sound-state (a .s) h .underway-most)
 
-put-requires : tie.Need-put-requires
-put-requires c κs =
+put-message-requires : tie.Need-put-message-requires
+put-message-requires c κs =
     let r = c .before .before .before .before .before .before .before in
     let a = r .before .args in
     let h = r .before .pre in
     let size = sizes (a .s) _ (r .before .good .0) in
     let look = first-look (a .s) h size (c .before .none-named .ensures) in
     let does = send-does (a .s) h size (a .i) (a .j) look (r .row-of .ensures) (c .before .before .before .before .before .before .vector-rows .ensures) (c .send-plan .ensures) in
-    omega (arith, does .place-there, size .messages)
-
-put-requires-2 : tie.Need-put-requires-2
-put-requires-2 c κs =
-    let r = c .before .before .before .before .before .before .before .before in
-    let a = r .before .args in
-    let h = r .before .pre in
-    let size = sizes (a .s) _ (r .before .good .0) in
-    let look = first-look (a .s) h size (c .before .before .none-named .ensures) in
-    let does = send-does (a .s) h size (a .i) (a .j) look (r .row-of .ensures) (c .before .before .before .before .before .before .before .vector-rows .ensures) (c .before .send-plan .ensures) in
-    let straight = send-straight (a .s) h size (a .i) (a .j) look (r .row-of .ensures) (c .before .before .before .before .before .before .before .vector-rows .ensures) (c .before .send-plan .ensures) in
-    (row-there _ (r .row-of .ensures), put-closed does _ (c .put .ensures ∙ straight .0))
+    let straight = send-straight (a .s) h size (a .i) (a .j) look (r .row-of .ensures) (c .before .before .before .before .before .before .vector-rows .ensures) (c .send-plan .ensures) in
+    (row-there _ (r .row-of .ensures), omega (arith, does .place-there, size .messages), put-closed does _ (straight .0))
 
 returns : tie.Need-returns
 returns c =
-    let r = c .before .before .before .before .before .before .before .before .before .before in
+    let r = c .before .before .before .before .before .before .before .before .before in
     let a = r .before .args in
     let h = r .before .pre in
     let size = sizes (a .s) _ (r .before .good .0) in
-    let look = first-look (a .s) h size (c .before .before .before .before .none-named .ensures) in
-    let does = send-does (a .s) h size (a .i) (a .j) look (r .row-of .ensures) (c .before .before .before .before .before .before .before .before .before .vector-rows .ensures) (c .before .before .before .send-plan .ensures) in
-    let straight = send-straight (a .s) h size (a .i) (a .j) look (r .row-of .ensures) (c .before .before .before .before .before .before .before .before .before .vector-rows .ensures) (c .before .before .before .send-plan .ensures) in (
-      put-state does _ (c .before .before .put .ensures ∙ straight .0) (straight .1) (c .before .put2 .ensures),
-      send-answers (a .s) h size (a .i) (a .j) look (r .row-of .ensures) (c .before .before .before .before .before .before .before .before .before .vector-rows .ensures) (c .before .before .before .send-plan .ensures) (c .answer-of .ensures),
+    let look = first-look (a .s) h size (c .before .before .before .none-named .ensures) in
+    let does = send-does (a .s) h size (a .i) (a .j) look (r .row-of .ensures) (c .before .before .before .before .before .before .before .before .vector-rows .ensures) (c .before .before .send-plan .ensures) in
+    let straight = send-straight (a .s) h size (a .i) (a .j) look (r .row-of .ensures) (c .before .before .before .before .before .before .before .before .vector-rows .ensures) (c .before .before .send-plan .ensures) in (
+      put-state does _ (straight .0) (straight .1) (c .before .put-message .ensures),
+      send-answers (a .s) h size (a .i) (a .j) look (r .row-of .ensures) (c .before .before .before .before .before .before .before .before .vector-rows .ensures) (c .before .before .send-plan .ensures) (c .answer-of .ensures),
     )
 
 pub send-spec : {M : Type 1} → statement M
@@ -73,7 +61,6 @@ send-spec =
     (λ c. search needs)
     (λ c κs. search needs)
     send-plan-requires
-    put-requires
-    put-requires-2
+    put-message-requires
     (λ c κs. search needs)
     returns)
