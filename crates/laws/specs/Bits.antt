@@ -89,9 +89,3 @@ module _ (t : ℕ → Bool) where
   bits-some (suc n) f lt e = by-eq f n
       (λ c. rw (rw c at e) (omega (arith, pow-pos n)))
       (λ c. omega (arith, bits-some n f (omega arith) e))
-
--- Two tests that agree below n make the same number.
-pub bits-same : (n : ℕ) (t u : ℕ → Bool) → ((f : ℕ) → f < n → t f ≡ u f) → bitsOf n t ≡ bitsOf n u
-unfolding bitsOf
-bits-same zero t u h = refl
-bits-same (suc n) t u h = rw (h n (omega arith), bits-same n t u (λ f lt. h f (omega arith)))

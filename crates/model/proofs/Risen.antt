@@ -1,14 +1,14 @@
 -- The set of entries that rose is exact, of any two vectors (specs/Risen).
 -- Assumes nothing.
-use mathlib.Core.Path.{_≡_, refl, sym, _∙_, ap}
-use mathlib.Core.Bool.{Bool, true, false, not}
+use mathlib.Core.Path.{_≡_, sym, _∙_, ap}
+use mathlib.Core.Bool.{Bool, not}
 use mathlib.Core.List.{List}
 use Prim.Native.Nat.{ℕ, _≤_, _<_}
 use native.Mathlib.Omega.{arith}
-use lib.Dec.{eqb, ltb}
-use borrow.Author.Tests.{eq-eqb, ne-eqb, lt-ltb, le-ltb, ltb-true, ltb-false}
+use lib.Dec.{eqb}
+use borrow.Author.Tests.{eq-eqb, ne-eqb, le-ltb}
 use Rattle.laws.specs.Bits.{bitsOf, bits-less, bits-at, bits-past, bits-none, bits-some}
-use Rattle.laws.specs.Choice.{pick, by-bool}
+use Rattle.laws.specs.Choice.{by-bool}
 use Rattle.laws.specs.Search.{anyBelow, any-out, any-none}
 use Rattle.laws.specs.Tables.{getD-table}
 use Rattle.model.specs.declared.Interval.{Interval}

@@ -2,7 +2,7 @@
 -- What the set is, of any two vectors, whatever their lengths. proofs/Risen has the proof; specs/Answers says the same of a delivery by the history alone.
 -- Assumes nothing.
 use mathlib.Core.Path.{_≡_}
-use mathlib.Core.Bool.{Bool, false, not}
+use mathlib.Core.Bool.{false, not}
 use mathlib.Core.List.{List}
 use Prim.Native.Nat.{ℕ, _≤_, _<_}
 use lib.Dec.{eqb}

@@ -1,9 +1,9 @@
 -- Taking a carried vector in, entry by entry (specs/TakingIn): before the first, one more, and behind all.
 -- Assumes nothing.
-use mathlib.Core.Path.{_≡_, _∙_}
+use mathlib.Core.Path.{_≡_}
 use mathlib.Core.Bool.{Bool}
 use mathlib.Core.List.{List}
-use Prim.Native.Nat.{ℕ, _+_, _^_, _≤_, _<_}
+use Prim.Native.Nat.{ℕ, _+_, _^_, _<_}
 use native.Mathlib.Omega.{arith}
 use lib.ListN.{length, set}
 use lib.Pow.{pow-mono}
@@ -14,7 +14,7 @@ use Rattle.model.specs.declared.Interval.{Interval}
 use Rattle.model.specs.Words.{entry, below}
 use Rattle.model.specs.Steps.{takenEntry, takenVector, risen}
 use Rattle.rows.specs.declared.vector.Taken.{Taken}
-use Rattle.rows.specs.TakingIn.{takenBy, takenUpTo}
+use Rattle.rows.specs.TakingIn.{takenWhole, takenUpTo}
 
 module _ (own carried : List Interval) where
   abbrev rises : ℕ → Bool
@@ -43,6 +43,6 @@ module _ (own carried : List Interval) where
 
   -- Behind the last entry.
   pub up-all : (k : ℕ) → k ≡ 16 → length own ≡ 16 → {vector : List Interval} {rose : ℕ} → vector ≡ takenUpTo k own carried .vector → rose ≡ takenUpTo k own carried .rose
-      → _≡_ {A = Taken} (record { vector = vector; rose = rose }) (takenBy own carried)
+      → _≡_ {A = Taken} (record { vector = vector; rose = rose }) (takenWhole own carried)
   unfolding takenUpTo takenVector risen
   up-all k e long v r = rw (v, r, e, below-all (takenEntry own carried) own 16 long)

@@ -15,7 +15,7 @@ use Rattle.model.specs.declared.Checkpoint.{Checkpoint}
 use Rattle.model.specs.Words.{named}
 use Rattle.model.specs.Steps.{advanced, takenVector, takenPins}
 use Rattle.rows.specs.declared.vector.Taken.{Taken}
-use Rattle.rows.specs.TakingIn.{takenBy}
+use Rattle.rows.specs.TakingIn.{takenWhole}
 
 -- the vector and the pins once the checkpoint is stored
 unfoldable pub vectorFirst : Bool → ℕ → List Interval → List Interval
@@ -26,7 +26,7 @@ pinsFirst stores i index pins = pick stores (set pins i (At index)) pins
 
 -- the vector with the set of its entries that rose, the vector alone, the pins, and the kept checkpoints after the receipt: those that are still named, then the stored one behind them
 unfoldable pub takenThen : Bool → ℕ → List Interval → List Interval → Taken
-takenThen stores i vector carried = takenBy (vectorFirst stores i vector) carried
+takenThen stores i vector carried = takenWhole (vectorFirst stores i vector) carried
 
 unfoldable pub vectorThen : Bool → ℕ → List Interval → List Interval → List Interval
 vectorThen stores i vector carried = takenVector (vectorFirst stores i vector) carried

@@ -10,8 +10,8 @@ use Rattle.model.specs.Steps.{takenEntry, takenVector, risen}
 use Rattle.rows.specs.declared.vector.Taken.{Taken}
 
 -- both at once
-abbrev pub takenBy : List Interval → List Interval → Taken
-takenBy own carried = record { vector = takenVector own carried; rose = risen own carried }
+abbrev pub takenWhole : List Interval → List Interval → Taken
+takenWhole own carried = record { vector = takenVector own carried; rose = risen own carried }
 
 -- once the entries below k are taken in: they have the greater of the two, those from k on are the old ones, and the set has the risen ones below k
 unfoldable pub takenUpTo : ℕ → List Interval → List Interval → Taken

@@ -6,7 +6,7 @@ ghost use Prim.Native.Nat.{_^_, _<_, _≤_};
 ghost use Rattle.laws.specs.Choice.{pick};
 ghost use Rattle.model.specs.Words.{entry, below, lastStored, liveIndex};
 ghost use Rattle.model.specs.Steps.{advanced, newer, takenVector};
-ghost use Rattle.rows.specs.TakingIn.{takenBy};
+ghost use Rattle.rows.specs.TakingIn.{takenWhole};
 
 // The last stored checkpoint of a process whose own entry is `own`. This is the one place where an interval's number becomes a checkpoint's index.
 pub fn last_stored(own: Interval) -> CheckpointIndex
@@ -91,7 +91,7 @@ fn bit_if_risen(own: Interval, carried: Interval, f: usize) -> u16
 // own takes the carried vector in: each entry that is smaller than the carried one is replaced by it, and the set says which entries these are. Every turn
 // stores its entry, changed or not, as in `greatest`.
 pub fn take_in(own: [Interval; 16], carried: [Interval; 16]) -> Taken
-    ensures { λ r. ⌜ r ≡ takenBy own carried ⌝ }
+    ensures { λ r. ⌜ r ≡ takenWhole own carried ⌝ }
 {
     let mut vector = own;
     let mut rose = 0u16;

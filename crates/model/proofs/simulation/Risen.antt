@@ -1,7 +1,7 @@
 -- The set of entries that rose at a delivery: of each process of the run exactly if the run's live state knows less of it than the message carries, a forced
 -- checkpoint or not; and of no other.
 -- Assumes nothing.
-use mathlib.Core.Path.{_≡_, refl, sym, _∙_, ap}
+use mathlib.Core.Path.{_≡_, sym, _∙_, ap}
 use mathlib.Core.Bool.{Bool, true, false}
 use mathlib.Core.List.{List}
 use Prim.Native.Nat.{ℕ, suc, _+_, _≤_, _<_}
@@ -20,7 +20,7 @@ use Rattle.model.proofs.ideal.Run.{Ideal, forces}
 use Rattle.model.proofs.ideal.Invariant.{Inv}
 use Rattle.model.proofs.ideal.Messages.{underway-proper, underway-own}
 use Rattle.model.proofs.simulation.View.{vectorOf, processOf, messageOf, stateOf}
-use Rattle.model.proofs.simulation.Reads.{entry-is, process-is}
+use Rattle.model.proofs.simulation.Reads.{process-is}
 use Rattle.model.proofs.simulation.Taking.{below-is, below-past, forces-is}
 
 module _ (r : Ideal) (v : Inv r) (few : r .n ≤ places) (m : ℕ) (under : r .transit m ≡ true) where

@@ -1,7 +1,7 @@
 -- `rows::vector::take_in` meets its contract. The loop's invariant: the entries passed so far are taken in, the others are as they were, and the set has those
 -- of the passed ones that rose (specs/TakingIn).
 -- Assumes nothing.
-use Prim.Native.Nat.{_≤_, _<_, _-_}
+use Prim.Native.Nat.{_≤_, _-_}
 use mathlib.Core.Path.{_≡_}
 use native.Mathlib.Omega.{arith}
 use borrow.Author.Needs.{needs}
