@@ -38,9 +38,9 @@ module _ (own carried : List Interval) where
   pub risen-is-exact : RisenIsExact own carried
   unfolding risen newer
   risen-is-exact = record {
-    small = bits-less rises places;
-    exact = λ f lt. bits-at rises places f lt;
+    small = bits-less _ places;
+    exact = λ f lt. bits-at _ places f lt;
     rose = λ f lt. bits-at rises places f lt ∙ out-is-greater f ∙ ap (λ (x : Interval). below (entry own f) x) (sym (taken-entry f lt));
-    no-more = λ f le. bits-past rises places f le;
+    no-more = λ f le. bits-past _ places f le;
     nothing = none-set places rises;
   }
