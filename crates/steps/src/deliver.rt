@@ -80,6 +80,7 @@ pub fn deliver(s: Run, m: u32, deleted: &mut [u16]) -> DeliverOutcome
                 let rose = moved.rose;
                 return DeliverOutcome { run, answer, rose };
             }
+            // nothing that it carries is newer, so no row moves and no entry rises
             let run = parts::put(s, row, p, after);
             let answer = answer_of(p.stores, own, 0);
             DeliverOutcome {
