@@ -2011,124 +2011,24 @@ returns c =
     let e = ends (same-begin (from-After-kept-from-to-After-no-checkpoint c)) (same-end (messagesIn (l .window) (l .first) (l .tail)) (c .before .before .vectors-from .ensures) (c .before .pins-from .ensures) (c .kept-from .ensures) (from-After-kept-from-to-After-closed c .closed .ensures) (l .inv .windowed .many)) (l .inv) in
     (e .0, (e .1, stops (from-After-kept-from-to-Left-records c)))
 
-vector-rows-requires : tie.Need-vector-rows-requires Inv-collected μ-collected Inv-allowed μ-allowed Inv-returned μ-returned Inv-found μ-found Inv-left μ-left Inv-restored μ-restored Inv-records μ-records
-vector-rows-requires c κs = search needs
-
-pin-rows-requires : tie.Need-pin-rows-requires Inv-collected μ-collected Inv-allowed μ-allowed Inv-returned μ-returned Inv-found μ-found Inv-left μ-left Inv-restored μ-restored Inv-records μ-records
-pin-rows-requires c κs = search needs
-
-kept-rows-requires : tie.Need-kept-rows-requires Inv-collected μ-collected Inv-allowed μ-allowed Inv-returned μ-returned Inv-found μ-found Inv-left μ-left Inv-restored μ-restored Inv-records μ-records
-kept-rows-requires c κs = search needs
-
-opened-requires : tie.Need-opened-requires Inv-collected μ-collected Inv-allowed μ-allowed Inv-returned μ-returned Inv-found μ-found Inv-left μ-left Inv-restored μ-restored Inv-records μ-records
-opened-requires c κs = search needs
-
-no-checkpoint-requires : tie.Need-no-checkpoint-requires Inv-collected μ-collected Inv-allowed μ-allowed Inv-returned μ-returned Inv-found μ-found Inv-left μ-left Inv-restored μ-restored Inv-records μ-records
-no-checkpoint-requires c κs = search needs
-
-record-left-requires : tie.Need-record-left-requires Inv-collected μ-collected Inv-allowed μ-allowed Inv-returned μ-returned Inv-found μ-found Inv-left μ-left Inv-restored μ-restored Inv-records μ-records
-record-left-requires c κs = search needs
-
-record-after-requires : tie.Need-record-after-requires Inv-collected μ-collected Inv-allowed μ-allowed Inv-returned μ-returned Inv-found μ-found Inv-left μ-left Inv-restored μ-restored Inv-records μ-records
-record-after-requires c κs = search needs
-
-decode-requires : tie.Need-decode-requires Inv-collected μ-collected Inv-allowed μ-allowed Inv-returned μ-returned Inv-found μ-found Inv-left μ-left Inv-restored μ-restored Inv-records μ-records
-decode-requires c κs = search needs
-
-sought-requires : tie.Need-sought-requires Inv-collected μ-collected Inv-allowed μ-allowed Inv-returned μ-returned Inv-found μ-found Inv-left μ-left Inv-restored μ-restored Inv-records μ-records
-sought-requires c κs = search needs
-
-is-there-requires : tie.Need-is-there-requires Inv-collected μ-collected Inv-allowed μ-allowed Inv-returned μ-returned Inv-found μ-found Inv-left μ-left Inv-restored μ-restored Inv-records μ-records
-is-there-requires c κs = search needs
-
-row-of-requires : tie.Need-row-of-requires Inv-collected μ-collected Inv-allowed μ-allowed Inv-returned μ-returned Inv-found μ-found Inv-left μ-left Inv-restored μ-restored Inv-records μ-records
-row-of-requires c κs = search needs
-
-value-of-requires : tie.Need-value-of-requires Inv-collected μ-collected Inv-allowed μ-allowed Inv-returned μ-returned Inv-found μ-found Inv-left μ-left Inv-restored μ-restored Inv-records μ-records
-value-of-requires c κs = search needs
-
-number-of-requires : tie.Need-number-of-requires Inv-collected μ-collected Inv-allowed μ-allowed Inv-returned μ-returned Inv-found μ-found Inv-left μ-left Inv-restored μ-restored Inv-records μ-records
-number-of-requires c κs = search needs
-
-is-named-requires : tie.Need-is-named-requires Inv-collected μ-collected Inv-allowed μ-allowed Inv-returned μ-returned Inv-found μ-found Inv-left μ-left Inv-restored μ-restored Inv-records μ-records
-is-named-requires c κs = search needs
-
-stored-requires : tie.Need-stored-requires Inv-collected μ-collected Inv-allowed μ-allowed Inv-returned μ-returned Inv-found μ-found Inv-left μ-left Inv-restored μ-restored Inv-records μ-records
-stored-requires c κs = search needs
-
-place-requires : tie.Need-place-requires Inv-collected μ-collected Inv-allowed μ-allowed Inv-returned μ-returned Inv-found μ-found Inv-left μ-left Inv-restored μ-restored Inv-records μ-records
-place-requires c κs = search needs
-
-own-entries-requires : tie.Need-own-entries-requires Inv-collected μ-collected Inv-allowed μ-allowed Inv-returned μ-returned Inv-found μ-found Inv-left μ-left Inv-restored μ-restored Inv-records μ-records
-own-entries-requires c κs = search needs
-
-is-allowed-requires : tie.Need-is-allowed-requires Inv-collected μ-collected Inv-allowed μ-allowed Inv-returned μ-returned Inv-found μ-found Inv-left μ-left Inv-restored μ-restored Inv-records μ-records
-is-allowed-requires c κs = search needs
-
-to-search-requires : tie.Need-to-search-requires Inv-collected μ-collected Inv-allowed μ-allowed Inv-returned μ-returned Inv-found μ-found Inv-left μ-left Inv-restored μ-restored Inv-records μ-records
-to-search-requires c κs = search needs
-
-none-allowed-requires : tie.Need-none-allowed-requires Inv-collected μ-collected Inv-allowed μ-allowed Inv-returned μ-returned Inv-found μ-found Inv-left μ-left Inv-restored μ-restored Inv-records μ-records
-none-allowed-requires c κs = search needs
-
-latest-with-requires : tie.Need-latest-with-requires Inv-collected μ-collected Inv-allowed μ-allowed Inv-returned μ-returned Inv-found μ-found Inv-left μ-left Inv-restored μ-restored Inv-records μ-records
-latest-with-requires c κs = search needs
-
-own-entries-requires-2 : tie.Need-own-entries-requires-2 Inv-collected μ-collected Inv-allowed μ-allowed Inv-returned μ-returned Inv-found μ-found Inv-left μ-left Inv-restored μ-restored Inv-records μ-records
-own-entries-requires-2 c κs = search needs
-
-to-search-requires-2 : tie.Need-to-search-requires-2 Inv-collected μ-collected Inv-allowed μ-allowed Inv-returned μ-returned Inv-found μ-found Inv-left μ-left Inv-restored μ-restored Inv-records μ-records
-to-search-requires-2 c κs = search needs
-
-nothing-found-requires : tie.Need-nothing-found-requires Inv-collected μ-collected Inv-allowed μ-allowed Inv-returned μ-returned Inv-found μ-found Inv-left μ-left Inv-restored μ-restored Inv-records μ-records
-nothing-found-requires c κs = search needs
-
-found-with-requires : tie.Need-found-with-requires Inv-collected μ-collected Inv-allowed μ-allowed Inv-returned μ-returned Inv-found μ-found Inv-left μ-left Inv-restored μ-restored Inv-records μ-records
-found-with-requires c κs = search needs
-
-pins-found-requires : tie.Need-pins-found-requires Inv-collected μ-collected Inv-allowed μ-allowed Inv-returned μ-returned Inv-found μ-found Inv-left μ-left Inv-restored μ-restored Inv-records μ-records
-pins-found-requires c κs = search needs
-
-does-stay-requires : tie.Need-does-stay-requires Inv-collected μ-collected Inv-allowed μ-allowed Inv-returned μ-returned Inv-found μ-found Inv-left μ-left Inv-restored μ-restored Inv-records μ-records
-does-stay-requires c κs = search needs
-
-vectors-from-requires : tie.Need-vectors-from-requires Inv-collected μ-collected Inv-allowed μ-allowed Inv-returned μ-returned Inv-found μ-found Inv-left μ-left Inv-restored μ-restored Inv-records μ-records
-vectors-from-requires c κs = search needs
-
-pins-from-requires : tie.Need-pins-from-requires Inv-collected μ-collected Inv-allowed μ-allowed Inv-returned μ-returned Inv-found μ-found Inv-left μ-left Inv-restored μ-restored Inv-records μ-records
-pins-from-requires c κs = search needs
-
-kept-from-requires : tie.Need-kept-from-requires Inv-collected μ-collected Inv-allowed μ-allowed Inv-returned μ-returned Inv-found μ-found Inv-left μ-left Inv-restored μ-restored Inv-records μ-records
-kept-from-requires c κs = search needs
-
-same-length : tie.Need-same-length Inv-collected μ-collected Inv-allowed μ-allowed Inv-returned μ-returned Inv-found μ-found Inv-left μ-left Inv-restored μ-restored Inv-records μ-records
-same-length c = search needs
-
-same-length-2 : tie.Need-same-length-2 Inv-collected μ-collected Inv-allowed μ-allowed Inv-returned μ-returned Inv-found μ-found Inv-left μ-left Inv-restored μ-restored Inv-records μ-records
-same-length-2 c = search needs
-
 pub replay-beside-spec : {M : Type 1} → statement M
-replay-beside-spec = tie.close (tie.spec Inv-collected μ-collected Inv-allowed μ-allowed Inv-returned μ-returned Inv-found μ-found Inv-left μ-left Inv-restored μ-restored Inv-records μ-records
-    vector-rows-requires
-    pin-rows-requires
-    kept-rows-requires
-    opened-requires
-    no-checkpoint-requires
+replay-beside-spec =
+    tie.close
+    (tie.spec Inv-collected μ-collected Inv-allowed μ-allowed Inv-returned μ-returned Inv-found μ-found Inv-left μ-left Inv-restored μ-restored Inv-records μ-records
+    (λ c κs. search needs) (λ c κs. search needs) (λ c κs. search needs) (λ c κs. search needs) (λ c κs. search needs)
     records-holds
     add-if1
-    record-left-requires
+    (λ c κs. search needs)
     sub-if3
-    record-after-requires
-    decode-requires
+    (λ c κs. search needs) (λ c κs. search needs)
     add-taken
     add-number
     recovery-of-requires
-    sought-requires
+    (λ c κs. search needs)
     place-in-requires
     mul-message
     array-copy-out-message
-    is-there-requires
-    row-of-requires
+    (λ c κs. search needs) (λ c κs. search needs)
     mul-vector
     array-copy-out-vector
     array-read-mark
@@ -2138,8 +2038,7 @@ replay-beside-spec = tie.close (tie.spec Inv-collected μ-collected Inv-allowed 
     array-write-sent
     mul-window
     array-set-from-window
-    value-of-requires
-    number-of-requires
+    (λ c κs. search needs) (λ c κs. search needs)
     live-from-requires
     mul-pins-before
     array-copy-out-pins-before
@@ -2161,7 +2060,7 @@ replay-beside-spec = tie.close (tie.spec Inv-collected μ-collected Inv-allowed 
     index-1-empty
     index-2-empty
     add-j
-    is-named-requires
+    (λ c κs. search needs)
     mul-c-3
     mul-c-4
     index-1-c-2
@@ -2183,8 +2082,7 @@ replay-beside-spec = tie.close (tie.spec Inv-collected μ-collected Inv-allowed 
     mul-first-kept
     index-1-first-kept
     index-2-first-kept
-    stored-requires
-    place-requires
+    (λ c κs. search needs) (λ c κs. search needs)
     mul-stored
     mul-stored-2
     index-1-stored
@@ -2198,22 +2096,20 @@ replay-beside-spec = tie.close (tie.spec Inv-collected μ-collected Inv-allowed 
     print-requires-2
     records-less-2
     records-again-2
-    own-entries-requires
+    (λ c κs. search needs)
     failed-marks-requires
     returned-holds
     mul-current
     array-copy-out-current
     mul-held-now
     array-read-held-now
-    is-allowed-requires
-    to-search-requires
-    none-allowed-requires
+    (λ c κs. search needs) (λ c κs. search needs) (λ c κs. search needs)
     allowed-holds
     mul-candidate
     mul-candidate-2
     index-1-candidate
     index-2-candidate
-    latest-with-requires
+    (λ c κs. search needs)
     add-a
     allowed-less
     allowed-again
@@ -2229,7 +2125,7 @@ replay-beside-spec = tie.close (tie.spec Inv-collected μ-collected Inv-allowed 
     add-f
     returned-less
     returned-again
-    own-entries-requires-2
+    (λ c κs. search needs)
     restored-holds
     array-read-has-rolled
     mul-known
@@ -2240,18 +2136,17 @@ replay-beside-spec = tie.close (tie.spec Inv-collected μ-collected Inv-allowed 
     array-copy-out-pins-now
     mul-last-kept
     array-copy-out-last-kept
-    to-search-requires-2
-    nothing-found-requires
+    (λ c κs. search needs) (λ c κs. search needs)
     found-holds
     mul-seen
     mul-seen-2
     index-1-seen
     index-2-seen
-    found-with-requires
+    (λ c κs. search needs)
     add-b
     found-less
     found-again
-    pins-found-requires
+    (λ c κs. search needs)
     mul-pins-2
     array-set-from-pins-2
     left-holds
@@ -2264,7 +2159,7 @@ replay-beside-spec = tie.close (tie.spec Inv-collected μ-collected Inv-allowed 
     index-1-empty-2
     index-2-empty-2
     add-k
-    does-stay-requires
+    (λ c κs. search needs)
     mul-x-3
     mul-x-4
     index-1-x-2
@@ -2292,9 +2187,5 @@ replay-beside-spec = tie.close (tie.spec Inv-collected μ-collected Inv-allowed 
     records-less-3
     records-again-3
     closed-requires
-    vectors-from-requires
-    pins-from-requires
-    kept-from-requires
-    same-length
-    same-length-2
+    (λ c κs. search needs) (λ c κs. search needs) (λ c κs. search needs) (λ c. search needs) (λ c. search needs)
     returns)

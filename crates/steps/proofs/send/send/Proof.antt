@@ -5,7 +5,6 @@ use Rattle.model.specs.laws.Sound.{sound-state}
 use Rattle.steps.proofs.Calling.{row-there, put-closed, put-state, first-look, send-does, send-straight, send-answers}
 use Rattle.steps.proofs.Sizes.{sizes}
 use borrow.Author.Needs.{needs}
-use borrow.Author.Needs.{needs}
 use Rattle.steps.proofs.send.send.Statement.{statement}
 use Rattle.steps.proofs.send.send.Tie as tie
 
@@ -65,13 +64,11 @@ pub send-spec : {M : Type 1} → statement M
 send-spec =
     tie.close
     (tie.spec
-    (λ c κs. search needs)
-    (λ c κs. search needs)
+    (λ c κs. search needs) (λ c κs. search needs)
     mul-vector
     array-copy-out-vector
     array-read-mark
-    (λ c. search needs)
-    (λ c κs. search needs)
+    (λ c. search needs) (λ c κs. search needs)
     send-plan-requires
     put-requires
     put-requires-2
