@@ -1119,7 +1119,7 @@ most c = sound-state (whole c) (fine c) .count-most
 holds : (c : At-records) → messagesIn (c .records .window) (c .records .first) (c .records .tail) ≡ underWay (whole c)
 holds c =
     let l = c .records in
-    windows.under-way (from-At-records-to-Start c .args .s .count) (l .vectors) (l .pins) (l .kept) (l .sent) (l .held) (messagesIn (l .window) (l .first) (l .tail)) (l .last)
+    windows.under-way (whole c) (messagesIn (l .window) (l .first) (l .tail)) refl refl
 
 -- A whole record is left, there is room for its line, and it is not behind the last one.
 left : (c : Then3) → 4 * from-Then3-to-At-records c .records .taken + 4 ≤ length (drop 1 (now (from-Then3-to-Start c .args .trace)))
