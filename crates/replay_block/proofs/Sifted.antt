@@ -14,7 +14,7 @@ use borrow.Author.Tests.{ne-eqb, eqb-true, eqb-false, not-true}
 use Rattle.laws.specs.Choice.{pick, by-bool}
 use Rattle.laws.specs.Lists.{select}
 use Rattle.laws.specs.Rows.{by-lt}
-use Rattle.laws.specs.Select.{select-append}
+use Rattle.laws.specs.Select.{select-append, select-length}
 use Rattle.model.specs.declared.Message.{Message}
 use Rattle.model.specs.declared.Run.{Run}
 use Rattle.model.specs.Words.{noMessage, underWay}
@@ -211,6 +211,14 @@ module _ {t : Message → Bool} {numbers : List ℕ} {window₀ : List Message} 
 
   pub place-there : z < 576
   place-there = omega (arith, lt, v .windowed .most)
+
+  -- no more are under way than the window has places
+  pub few-outlived : outlived < 576
+  unfolding messagesIn inUse
+  few-outlived =
+      let part = drop first (take tail window) in
+      let size : length part ≡ tail - first = length-drop first (take tail window) ∙ ap (λ (k : ℕ). k - first) (length-take-le tail window (omega (arith, v .windowed .most, v .windowed .long))) in
+      omega (arith, more, v .windowed .many, select-length isUsed part, size, v .windowed .most)
 
   in-use : (x .number ≡ 0 → ⊥) → isUsed (getD window z noMessage) ≡ true
   in-use ne = rw (← is-x, ne-eqb (x .number) 0 ne)
