@@ -85,7 +85,7 @@ pub fn pins_then(
 }
 
 // The checkpoints that the process keeps once its pins have moved: of the first `held` those that a pin names, and the stored one behind them. Then there is a
-// place for it (specs/Settling).
+// place for it (plans: proofs/Settling).
 pub fn kept_then(
     stores: bool,
     row: [Checkpoint; 16],
