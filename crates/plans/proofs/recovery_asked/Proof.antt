@@ -1,6 +1,6 @@
 -- `plans::recovery_asked` meets its contract, by the verdict. An accepted failed set fits into 16 bits.
 -- Assumes nothing.
-use mathlib.Core.Path.{_≡_, sym, _∙_}
+use mathlib.Core.Path.{_≡_, refl, sym, _∙_}
 use borrow.Author.Needs.{needs}
 use Rattle.plans.specs.declared.Verdict.the-variants.{Accepted}
 use Rattle.plans.specs.Planned.{recoveryIf, noRecovery}
@@ -17,7 +17,7 @@ unfolding recoveryIf
 returns-2 c =
     let b = c .before .before in
     let v : b .recovery-verdict .result ≡ Accepted = search needs in
-    rw (sym (b .recovery-verdict .ensures), v)
+    rw (sym (b .recovery-verdict .ensures), v) refl
 
 pub recovery-asked-spec : {M : Type 1} → statement M
 recovery-asked-spec =
