@@ -46,10 +46,10 @@ block-by-block all (suc k) done s (a ∷ b ∷ c ∷ d ∷ l) rest h =
     let next : done + suc k ≡ (done + 1) + k = omega arith in
     let behind = pick (goesOnBehind all (o .run) l) (records all ((done + 1) + k) (stateAfterRecords (o .run) l) rest) [] in
     by-bool (ltb done mostRecords)
-    (λ t. by-bool (goesOn all (o .reply))
+    (λ t. by-bool (goesOn all (o .reply .report .refused))
     (λ g. rw (t, g, next, block-by-block all k (done + 1) (o .run) l rest (omega arith)) (sym (append-assoc line (records all (done + 1) (o .run) l) behind)))
     (λ g. rw (t, g) (sym (append-nil _))))
-    (λ t. rw (t, past-limit all (done + suc k) (stateAfterRecords (o .run) l) rest (omega (arith, ltb-false done mostRecords t))) (sym (pick-same (goesOn all (o .reply) && goesOnBehind all (o .run) l) [])))
+    (λ t. rw (t, past-limit all (done + suc k) (stateAfterRecords (o .run) l) rest (omega (arith, ltb-false done mostRecords t))) (sym (pick-same (goesOn all (o .reply .report .refused) && goesOnBehind all (o .run) l) [])))
 
 -- The same of going on.
 pub goes-on-by-block : (all : Bool) (k : ℕ) (s : Run) (block rest : List ℕ) → length block ≡ 4 * k
@@ -63,7 +63,7 @@ goes-on-by-block all k s (a ∷ b ∷ c ∷ []) rest h = absurd (omega arith)
 goes-on-by-block all zero s (a ∷ b ∷ c ∷ d ∷ l) rest h = absurd (omega arith)
 goes-on-by-block all (suc k) s (a ∷ b ∷ c ∷ d ∷ l) rest h =
     let o = perform s (decoded (a ∷ b ∷ c ∷ d ∷ [])) in
-    by-bool (goesOn all (o .reply))
+    by-bool (goesOn all (o .reply .report .refused))
     (λ g. rw g (goes-on-by-block all k (o .run) l rest (omega arith)))
     (λ g. rw g)
 
@@ -89,13 +89,13 @@ one-line all done s (a ∷ b ∷ c ∷ []) h l = absurd (omega arith)
 one-line all done s (a ∷ b ∷ c ∷ d ∷ []) h l = rw (lt-ltb done mostRecords l, pick-same, append-nil)
 one-line all done s (a ∷ b ∷ c ∷ d ∷ e ∷ r) h l = absurd (omega arith)
 
-pub one-goes-on : (all : Bool) (s : Run) (r : List ℕ) → length r ≡ 4 → goesOnBehind all s r ≡ goesOn all (perform s (decoded r) .reply)
+pub one-goes-on : (all : Bool) (s : Run) (r : List ℕ) → length r ≡ 4 → goesOnBehind all s r ≡ goesOn all (perform s (decoded r) .reply .report .refused)
 unfolding goesOnBehind
 one-goes-on all s [] h = absurd (omega arith)
 one-goes-on all s (a ∷ []) h = absurd (omega arith)
 one-goes-on all s (a ∷ b ∷ []) h = absurd (omega arith)
 one-goes-on all s (a ∷ b ∷ c ∷ []) h = absurd (omega arith)
-one-goes-on all s (a ∷ b ∷ c ∷ d ∷ []) h = by-bool (goesOn all (perform s (decoded (a ∷ b ∷ c ∷ d ∷ [])) .reply)) (λ g. rw g) (λ g. rw g)
+one-goes-on all s (a ∷ b ∷ c ∷ d ∷ []) h = by-bool (goesOn all (perform s (decoded (a ∷ b ∷ c ∷ d ∷ [])) .reply .report .refused)) (λ g. rw g) (λ g. rw g)
 one-goes-on all s (a ∷ b ∷ c ∷ d ∷ e ∷ r) h = absurd (omega arith)
 
 pub one-state : (s : Run) (r : List ℕ) → length r ≡ 4 → stateAfterRecords s r ≡ perform s (decoded r) .run
@@ -140,7 +140,7 @@ module _ (k done : ℕ) (s : Run) (trace : List ℕ) (more : 4 * k + 4 ≤ lengt
       ∙ ap (λ (l : List ℕ). first ++ l) (one-line all (done + k) (stateAfterRecords s (take (4 * k) trace)) second next-length h)
 
   pub next-goes-on : (all : Bool) → goesOnBehind all s (take (4 * k) trace) ≡ true → goesOnBehind all s (take (4 * k + 4) trace)
-      ≡ goesOn all (perform (stateAfterRecords s (take (4 * k) trace)) (decoded (take 4 (drop (4 * k) trace))) .reply)
+      ≡ goesOn all (perform (stateAfterRecords s (take (4 * k) trace)) (decoded (take 4 (drop (4 * k) trace))) .reply .report .refused)
   next-goes-on all going =
       let second = take 4 (drop (4 * k) trace) in
       ap (goesOnBehind all s) (take-add (4 * k) 4 trace)

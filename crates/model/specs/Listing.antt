@@ -89,8 +89,9 @@ unfoldable pub asksForAll : ℕ → List ℕ → Bool
 asksForAll words argument = eqb words 2 && same argument (97 ∷ 108 ∷ 108 ∷ [])
 
 -- Note 11: "The replay program now stops after printing the first refusal." In the old way, `all`, "after any other refusal it goes on."
-unfoldable pub goesOn : Bool → Reply → Bool
-goesOn all r = all || eqb (r .report .refused) 0
+-- By the number that a record's line says: "0 or the refusal number".
+unfoldable pub goesOn : Bool → ℕ → Bool
+goesOn all refused = all || eqb refused 0
 
 -- The lines of the records of a trace, where `done` records were taken before. "13 prints under the next record number and ends". Behind the record where
 -- it stops nothing is judged, left-over bytes included.
@@ -102,7 +103,7 @@ records all done s (a ∷ b ∷ c ∷ []) = pick (ltb done mostRecords) (refusal
 records all done s (a ∷ b ∷ c ∷ d ∷ l) =
     let o = perform s (decoded (a ∷ b ∷ c ∷ d ∷ [])) in
     let line = lineText (done + 1) (o .reply) in
-    let rest = pick (goesOn all (o .reply)) (records all (done + 1) (o .run) l) [] in
+    let rest = pick (goesOn all (o .reply .report .refused)) (records all (done + 1) (o .run) l) [] in
     pick (ltb done mostRecords) (line ++ rest) []
 
 -- Whether the replay goes on behind a part of a trace: it stops at no record of it.
@@ -111,7 +112,7 @@ goesOnBehind all s [] = true
 goesOnBehind all s (a ∷ []) = true
 goesOnBehind all s (a ∷ b ∷ []) = true
 goesOnBehind all s (a ∷ b ∷ c ∷ []) = true
-goesOnBehind all s (a ∷ b ∷ c ∷ d ∷ l) = let o = perform s (decoded (a ∷ b ∷ c ∷ d ∷ [])) in goesOn all (o .reply) && goesOnBehind all (o .run) l
+goesOnBehind all s (a ∷ b ∷ c ∷ d ∷ l) = let o = perform s (decoded (a ∷ b ∷ c ∷ d ∷ [])) in goesOn all (o .reply .report .refused) && goesOnBehind all (o .run) l
 
 -- The state after the records of a part of a trace. Left-over bytes are no record and change nothing.
 unfoldable pub stateAfterRecords : Run → List ℕ → Run
