@@ -1,4 +1,4 @@
-// The exam sheet of document 01 by real calls: every case makes its calls through the crate `calls` and prints what they answered and left, one fact
+// The exam sheet of document 01 by real calls, and cases of document 02 behind it: every case makes its calls through the crate `calls` and prints what they answered and left, one fact
 // a line. The independent oracle prints the same text (`oracle --cases`, laid out above `print` in its cases.rs); the tests compare the two.
 use crate::act::After;
 
@@ -62,13 +62,38 @@ fn case_8() {
     case(8, fourth);
 }
 
-// "Two processes, send 0 to 1, recover {1}: line (1,0); deliver 1 is refused with 8"
+// "Two processes, send 0 to 1, recover {1}: line (1,0)"; document 02: "deliver 1 is then accepted"
 fn case_9() {
     say::case(9);
     let start = act::start(2);
     let sent = act::send(start, 0, 1);
     let recovered = facts::recover(sent, 2);
     let delivered = act::deliver(recovered, 1, 512);
+    say::answer(b"deliver 1", delivered.refused);
+    facts::state(delivered);
+}
+
+// What a recovery loses, each case by the number of the message that it does: process 0 sends and then rolls back, behind its send and between two of them.
+fn lost_1() {
+    say::lost(1);
+    let start = act::start(2);
+    let sent = act::send(start, 0, 1);
+    let recovered = facts::recover(sent, 1);
+    let delivered = act::deliver(recovered, 1, 512);
+    say::answer(b"deliver 1", delivered.refused);
+    facts::state(delivered);
+}
+
+fn lost_2() {
+    say::lost(2);
+    let start = act::start(2);
+    let first = act::send(start, 0, 1);
+    let stored = act::checkpoint(first, 0, 512);
+    let second = act::send(stored, 0, 1);
+    let recovered = facts::recover(second, 1);
+    let missing = act::deliver(recovered, 2, 512);
+    say::answer(b"deliver 2", missing.refused);
+    let delivered = act::deliver(missing, 1, 512);
     say::answer(b"deliver 1", delivered.refused);
     facts::state(delivered);
 }
@@ -80,4 +105,6 @@ fn main() {
     case_8();
     case_9();
     limits::case_10();
+    lost_1();
+    lost_2();
 }

@@ -12,6 +12,7 @@ use Rattle.laws.specs.Lists.{select, lastOf, gather}
 use Rattle.laws.specs.Search.{latest, latest-out}
 use Rattle.laws.specs.Tables.{table-same, gather-same}
 use Rattle.laws.specs.Truth.{and-left, and-no-right}
+use Rattle.model.specs.declared.Interval.{Interval}
 use Rattle.model.specs.declared.Pin.the-variants.{Nothing}
 use Rattle.model.specs.declared.Checkpoint.{Checkpoint}
 use Rattle.model.specs.Words.{places, entry, below, named, process, withMessages, failed}
@@ -156,8 +157,9 @@ module _ (r : Ideal) (v : Inv r) (few : r .n ≤ places) (F : ℕ) where
   unfolding lostBy messageOf
   still-is m e =
       let from = underway-proper r v m e .from in
-      rw (entry-is (r .n) (r .carried m) (r .sender m) few from, member-index r v few F (r .sender m) from)
-      (not-ltb (line r (failed F) (r .sender m)) (r .carried m (r .sender m)))
+      ap (λ (sent-in : Interval). not (ltb (steps.member (stateOf r) F (r .sender m) .index .0) (sent-in .0))) (entry-is (r .n) (r .carried m) (r .sender m) few from)
+      ∙ ap (λ (k : ℕ). not (ltb k (r .carried m (r .sender m)))) (member-index r v few F (r .sender m) from)
+      ∙ not-ltb (line r (failed F) (r .sender m)) (r .carried m (r .sender m))
 
   recover-messages : stillUnderWay (stateOf r) F ≡ messagesOf r′
   unfolding stillUnderWay messagesOf messageOf recovered outlives
