@@ -3,6 +3,7 @@ pub mod Blocks
 pub mod Exam
 pub mod Records
 pub mod Sizes
+pub mod Sweep
 pub mod WholeRuns
 pub mod ideal
 pub mod simulation

@@ -10,6 +10,7 @@ pub mod Refusals
 pub mod Sound
 pub mod Steps
 pub mod Survival
+pub mod Sweep
 pub mod Trace
 pub mod WholeRuns
 pub mod Words
