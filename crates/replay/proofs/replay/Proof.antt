@@ -2,7 +2,8 @@
 -- still be read, so a turn that does not count what its read brought has no proof.
 -- Assumes nothing.
 use borrow.Author.Needs.{needs}
-use mathlib.Core.Path.{_≡_, refl, _∙_, ap}
+use mathlib.Core.Path.{_≡_, refl, sym, _∙_, ap}
+use mathlib.Core.Bool.{true}
 use mathlib.Core.List.{List, _++_}
 use Prim.Native.Nat.{ℕ, _+_, _-_, _*_, _≤_, _<_}
 use native.Mathlib.Omega.{arith}
@@ -17,7 +18,7 @@ use Rattle.replay.proofs.replay.Tie as tie
 
 abbrev Inv-loop : tie.InvT-loop
 Inv-loop input₀ out₀ at₀ t7 input out at =
-    Reachable (at .run) × (at .done ≤ 1000000000) × (at .held < 4) × (length input ≡ length input₀) × (length out ≡ length out₀) × Stands (at₀ .run) at input
+    Reachable (at .run) × (at .done ≤ 1000000000) × (at .held < 4) × (length input ≡ length input₀) × (length out ≡ length out₀) × Stands (at₀ .run) at input × (at .going ≡ true)
 
 abbrev μ-loop : tie.MeasureT-loop
 μ-loop input₀ out₀ at₀ t7 input out at = 4000000004 - (at .held + 4 * at .done)
@@ -59,7 +60,7 @@ module _ (c : tie.After-replay-held Inv-loop μ-loop) where
 loop-holds : tie.Need-loop-holds Inv-loop μ-loop
 loop-holds c =
     let start = c .before .before in
-    (start .pre .0, omega (arith, start .pre .1), omega (arith, start .pre .2), refl, refl, stands-first (start .args .from) (now (start .args .input)) (start .pre .1) (start .pre .2))
+    (start .pre .1, omega (arith, start .pre .2), omega (arith, start .pre .3), refl, refl, stands-first (start .args .from) (now (start .args .input)) (start .pre .2) (start .pre .3), start .pre .0)
 
 done-requires : tie.Need-done-requires Inv-loop μ-loop
 done-requires c κs = search needs
@@ -67,7 +68,7 @@ done-requires c κs = search needs
 fill-requires : tie.Need-fill-requires Inv-loop μ-loop
 fill-requires c κs =
     let l = c .before .before .before in
-    (omega (arith, c .before .before .done .ensures, c .before .if1 .taken), l .loop .inv .2, omega (arith, l .loop .inv .3, l .before .before .before .pre .3))
+    (l .loop .inv .6, omega (arith, c .before .before .done .ensures, c .before .if1 .taken), l .loop .inv .2, omega (arith, l .loop .inv .3, l .before .before .before .pre .4))
 
 slice-aggregate-fail : tie.Need-slice-aggregate-fail Inv-loop μ-loop
 slice-aggregate-fail c = search needs
@@ -91,7 +92,7 @@ finish-requires : tie.Need-finish-requires Inv-loop μ-loop
 finish-requires c κs =
     let read = c .before .before .before .before .before .before .before in
     let l = turn read .loop in
-    (l .inv .2, omega (arith, same read, l .inv .2, l .inv .3, start read .pre .3), omega (arith, l .inv .4, start read .pre .4))
+    (l .inv .6, l .inv .2, omega (arith, same read, l .inv .2, l .inv .3, start read .pre .4), omega (arith, l .inv .4, start read .pre .5))
 
 same-length-3 : tie.Need-same-length-3 Inv-loop μ-loop
 same-length-3 c = let read = c .before .before .before .before .before .before .before .before .before .before in same read ∙ turn read .loop .inv .3
@@ -106,7 +107,7 @@ replay-held-requires : tie.Need-replay-held-requires Inv-loop μ-loop
 replay-held-requires c κs =
     let read = c .before .before .before .before .before .before .before in
     let l = turn read .loop in
-    (reached read, read .fill .ensures .below, omega (arith, same read, read .fill .ensures .inside), omega (arith, l .inv .4, start read .pre .4))
+    (reached read, read .fill .ensures .below, omega (arith, same read, read .fill .ensures .inside), omega (arith, l .inv .4, start read .pre .5))
 
 end-by-error-requires-2 : tie.Need-end-by-error-requires-2 Inv-loop μ-loop
 end-by-error-requires-2 c κs = search needs
