@@ -30,7 +30,6 @@ pub mod refusal {
     pub const LIST_TOO_SHORT: u8 = 3;
     pub const NO_SUCH_PROCESS: u8 = 4;
     pub const SENDER_IS_RECEIVER: u8 = 5;
-    pub const FAILED_SET_EMPTY: u8 = 6;
     pub const FAILED_SET_OUTSIDE: u8 = 7;
     pub const NOT_UNDER_WAY: u8 = 8;
     pub const TOO_MANY_UNDER_WAY: u8 = 9;
@@ -125,6 +124,9 @@ pub struct Checkpointed {
 pub struct Delivered {
     pub forced: Option<u16>,
     pub deletions: usize,
+    /// Note 1: "the set of entries that rose, as a number of 16 bits": bit f
+    /// stands for entry f.
+    pub rose: u16,
 }
 
 /// The answer of an accepted recover.
@@ -265,14 +267,16 @@ impl Run {
         let forced = forces.then(|| self.store_checkpoint(i));
         // Without a newer entry nothing is taken, no pin moves and no
         // checkpoint goes.
+        let mut rose = 0;
         if newer {
-            self.take_entries(i, &carried);
+            rose = self.take_entries(i, &carried);
             self.delete_unpinned(i, &mut deletions);
         }
         self.remove_message(place);
         Ok(Delivered {
             forced,
             deletions: deletions.count,
+            rose,
         })
     }
 
@@ -292,7 +296,10 @@ impl Run {
         Ok(())
     }
 
-    /// "Recover."
+    /// "Recover." Of an empty set it is a sweep (Note 4): no rule below needs
+    /// another word for it. No state is ruled out by a failed process, so "the
+    /// line has every process live, nobody rolls back", and the pin step and
+    /// the messages go by the same rules.
     pub fn recover(
         &mut self,
         failed: u32,
@@ -323,8 +330,7 @@ impl Run {
             // together with the others that are no longer pinned.
             self.delete_unpinned(i, &mut deletions);
         }
-        // "Every message under way is lost."
-        self.under_way = 0;
+        self.lose_sent_after(line);
         Ok(Recovered {
             rolled_back,
             deletions: deletions.count,
@@ -358,12 +364,10 @@ impl Run {
         Ok(())
     }
 
-    /// "6: failed set empty. 7: failed set has a bit at n or above." A set
-    /// whose only bits are at n and above is not empty.
+    /// "7: failed set has a bit at n or above." Note 4: "An empty failed set
+    /// now means a sweep"; "Refusal 6 never occurs any more." A set whose only
+    /// bits are at n and above is not empty.
     fn judge_failed(&self, failed: u32) -> Result<(), u8> {
-        if failed == 0 {
-            return Err(FAILED_SET_EMPTY);
-        }
         if failed >> self.count != 0 {
             return Err(FAILED_SET_OUTSIDE);
         }
@@ -433,15 +437,19 @@ impl Run {
     }
 
     /// "Then each entry that is smaller than the carried one takes it, and
-    /// that entry's pin becomes the own pin."
-    fn take_entries(&mut self, i: usize, carried: &Vector) {
+    /// that entry's pin becomes the own pin." Gives the set of entries that
+    /// rose.
+    fn take_entries(&mut self, i: usize, carried: &Vector) -> u16 {
         let own_pin = self.pins[i][i];
+        let mut rose = 0;
         for f in 0..self.count {
             if self.vectors[i][f] < carried[f] {
                 self.vectors[i][f] = carried[f];
                 self.pins[i][f] = own_pin;
+                rose |= 1 << f;
             }
         }
+        rose
     }
 
     /// "A checkpoint is kept exactly while a pin names it." Deletes the others
@@ -497,6 +505,23 @@ impl Run {
                     .map_or(NO_PIN, |checkpoint| checkpoint.index);
             }
         }
+    }
+
+    /// Note 2: "a recovery loses a message exactly if its sender's entry in the
+    /// carried vector is above the sender's index in the line; the others
+    /// remain under way with their numbers." They move up, in their order.
+    fn lose_sent_after(&mut self, line: &[u16]) {
+        let mut staying = 0;
+        for place in 0..self.under_way {
+            let sender = self.messages[place].sender as usize;
+            if self.messages[place].carried[sender] <= line[sender] {
+                if staying != place {
+                    self.messages[staying] = self.messages[place];
+                }
+                staying += 1;
+            }
+        }
+        self.under_way = staying;
     }
 
     /// "Recover and line write n indexes into a lent line list; the rest of it

@@ -25,7 +25,7 @@ const EXAMPLE_LISTING: &str = "\
 ";
 
 fn sets(run: &Run) -> Vec<Vec<u16>> {
-    (1..1 << run.count())
+    (0..1 << run.count())
         .map(|failed| line(run, failed))
         .collect()
 }
@@ -37,6 +37,8 @@ fn the_ten_record_example() {
         trace.extend_from_slice(&record.to_be_bytes());
     }
     assert_eq!(common::listing(&trace), EXAMPLE_LISTING);
+    // Its only refusal is its last record.
+    assert_eq!(common::stopped_listing(&trace), EXAMPLE_LISTING);
 }
 
 #[test]
@@ -151,10 +153,130 @@ fn case_9() {
         })
     );
     assert_eq!(written[..2], [1, 0]);
-    assert_eq!(run.deliver(1, &mut [0; DELETIONS]), Err(8));
     // "Others stay live, mark included."
     assert!(run.sent_mark(0));
     assert!(!run.sent_mark(1));
+    // Note 2: "Case 9 changes: deliver 1 is then accepted."
+    let answer = run.deliver(1, &mut [0; DELETIONS]);
+    assert_eq!(
+        answer,
+        Ok(Delivered {
+            forced: None,
+            deletions: 0,
+            rose: 0b01
+        })
+    );
+    assert_eq!(run.deliver(1, &mut [0; DELETIONS]), Err(8));
+}
+
+fn numbers_under_way(run: &Run) -> Vec<u32> {
+    let messages = run.under_way().iter();
+    messages.map(|message| message.number).collect()
+}
+
+/// Note 2: a message is lost "exactly if its sender's entry in the carried
+/// vector is above the sender's index in the line".
+#[test]
+fn what_a_recovery_loses() {
+    let mut run = Run::start(3).unwrap();
+    // In 0's intervals 1, 2 and 3, and in 1's and 2's interval 1.
+    assert_eq!(run.send(0, 1), Ok(1));
+    assert_eq!(run.send(2, 0), Ok(2));
+    run.checkpoint(0, &mut [0; 18]).unwrap();
+    assert_eq!(run.send(0, 1), Ok(3));
+    assert_eq!(run.send(1, 0), Ok(4));
+    run.checkpoint(0, &mut [0; 18]).unwrap();
+    assert_eq!(run.send(0, 1), Ok(5));
+    assert_eq!(run.send(0, 2), Ok(6));
+    let sent = run.under_way().to_vec();
+
+    // 0 goes back to checkpoint 2, which ends interval 2: what was sent in
+    // interval 2 stays, and so does all that is under way to 0.
+    let mut line = [0; 3];
+    run.recover(0b001, &mut [0; 18], &mut line).unwrap();
+    assert_eq!(line, [2, 1, 1]);
+    assert_eq!(run.under_way(), &sent[..4]);
+    // The numbers of the lost ones are not used again.
+    assert_eq!(run.send(0, 1), Ok(7));
+    assert_eq!(run.lose(6), Err(8));
+
+    // 1 goes back to its start: what it sent is lost, what is under way to it
+    // is not.
+    run.recover(0b010, &mut [0; 18], &mut line).unwrap();
+    assert_eq!(line, [3, 0, 1]);
+    assert_eq!(numbers_under_way(&run), [1, 2, 3, 7]);
+
+    // A message that was received does not come back with its receipt undone.
+    assert!(run.deliver(3, &mut [0; 18]).is_ok());
+    run.recover(0b011, &mut [0; 18], &mut line).unwrap();
+    assert_eq!(line, [2, 0, 1]);
+    assert_eq!(numbers_under_way(&run), [1, 2]);
+    common::assert_sound(&run);
+}
+
+/// Note 4: "the line has every process live, nobody rolls back, and recover's
+/// pin step deletes what no failure could use. Messages under way stay".
+#[test]
+fn a_sweep() {
+    let mut run = Run::start(2).unwrap();
+    run.send(0, 1).unwrap();
+    run.checkpoint(1, &mut [0; 8]).unwrap();
+    run.deliver(1, &mut [0; 8]).unwrap();
+    run.checkpoint(1, &mut [0; 8]).unwrap();
+    run.checkpoint(0, &mut [0; 8]).unwrap();
+    run.send(0, 1).unwrap();
+    assert_eq!(kept(&run, 1), [1, 2]);
+    let before = run.clone();
+
+    let (mut deletions, mut written) = ([77; 9], [77; 3]);
+    let answer = run.recover(0, &mut deletions, &mut written);
+    assert_eq!(
+        answer,
+        Ok(Recovered {
+            rolled_back: 0,
+            deletions: 1
+        })
+    );
+    assert_eq!(written, [2, 3, 77]);
+    assert_eq!(deletions[..3], [1, 1, 77]);
+    assert_eq!(kept(&run, 0), [1]);
+    assert_eq!(kept(&run, 1), [2]);
+    for i in 0..2 {
+        assert_eq!(run.vector(i), before.vector(i));
+        assert_eq!(run.sent_mark(i), before.sent_mark(i));
+    }
+    assert_eq!(run.under_way(), before.under_way());
+    assert_eq!(sets(&run), sets(&before), "the same lines as without it");
+    // A second one finds nothing more.
+    let swept = run.clone();
+    assert_eq!(
+        run.recover(0, &mut [0; 8], &mut [0; 2]).unwrap().deletions,
+        0
+    );
+    assert_eq!(run, swept);
+    common::assert_sound(&run);
+}
+
+/// Places freed by a recovery are used again, those of survivors are not.
+#[test]
+fn survivors_count_against_64() {
+    let mut run = Run::start(2).unwrap();
+    for _ in 0..40 {
+        run.send(0, 1).unwrap();
+    }
+    for _ in 0..24 {
+        run.send(1, 0).unwrap();
+    }
+    run.recover(0b10, &mut [0; 8], &mut [0; 2]).unwrap();
+    assert_eq!(run.under_way().len(), 40);
+    for number in 65..=88 {
+        assert_eq!(run.send(0, 1), Ok(number));
+    }
+    assert_eq!(run.send(1, 0), Err(9));
+    assert_eq!(run.lose(64), Err(8));
+    assert!(run.deliver(40, &mut [0; 8]).is_ok());
+    assert_eq!(run.send(1, 0), Ok(89));
+    common::assert_sound(&run);
 }
 
 #[test]
@@ -272,7 +394,8 @@ fn a_delivery_without_news_in_the_last_interval() {
         answer,
         Ok(Delivered {
             forced: None,
-            deletions: 0
+            deletions: 0,
+            rose: 0
         })
     );
 }
@@ -282,13 +405,16 @@ fn a_mark_without_news_and_news_without_a_mark_force_nothing() {
     let mut run = Run::start(2).unwrap();
     run.send(0, 1).unwrap();
     run.send(0, 1).unwrap();
-    let none = Ok(Delivered {
-        forced: None,
-        deletions: 0,
-    });
-    assert_eq!(run.deliver(1, &mut [0; 8]), none);
+    let unforced = |rose| {
+        Ok(Delivered {
+            forced: None,
+            deletions: 0,
+            rose,
+        })
+    };
+    assert_eq!(run.deliver(1, &mut [0; 8]), unforced(0b01));
     run.send(1, 0).unwrap();
-    assert_eq!(run.deliver(2, &mut [0; 8]), none);
+    assert_eq!(run.deliver(2, &mut [0; 8]), unforced(0));
     assert!(run.sent_mark(1));
 }
 
@@ -307,7 +433,8 @@ fn a_rolled_back_process_loses_its_mark() {
         answer,
         Ok(Delivered {
             forced: None,
-            deletions: 0
+            deletions: 0,
+            rose: 0b10
         })
     );
     run.send(0, 1).unwrap();
@@ -316,7 +443,8 @@ fn a_rolled_back_process_loses_its_mark() {
         answer,
         Ok(Delivered {
             forced: Some(1),
-            deletions: 1
+            deletions: 1,
+            rose: 0b01
         })
     );
 }
@@ -330,13 +458,20 @@ fn the_exam_text() {
         .lines()
         .all(|line| !line.is_empty() && line.trim() == line));
     assert!(!text.contains("  "));
-    let cases: Vec<&str> = text.split("case ").skip(1).collect();
+    let (cases, rest) = text.split_once("mark ").unwrap();
+    let parts: Vec<&str> = rest.split("lost ").collect();
+    let [mark, lost_1, lost_2] = parts[..] else {
+        panic!("one mark and two cases of lost messages");
+    };
+    let (lost_2, sweep) = lost_2.split_once("sweep ").unwrap();
+    let cases: Vec<&str> = cases.split("case ").skip(1).collect();
     assert_eq!(cases.len(), 10);
 
     assert_eq!(
         cases[0],
-        "1\nvector 0: 1 0\npins 0: 0 -\nkept 0: 0\nvector 1: 1 1\npins 1: 0 0\nkept 1: 0\n\
-         line 1: 0 0\nline 2: 1 0\nline 3: 0 0\n"
+        "1\ndeliver 1: 0\nrisen 1: 1\n\
+         vector 0: 1 0\npins 0: 0 -\nkept 0: 0\nvector 1: 1 1\npins 1: 0 0\nkept 1: 0\n\
+         line 0: 1 1\nline 1: 0 0\nline 2: 1 0\nline 3: 0 0\n"
     );
     let holds = |case: usize, facts: &[&str]| {
         for fact in facts {
@@ -346,7 +481,9 @@ fn the_exam_text() {
     };
     holds(2, &["kept 1: 0 1", "line 1: 0 0", "line 2: 1 1"]);
     holds(3, &["line 1: 1 2", "line 2: 2 1"]);
+    assert!(cases[3].starts_with("4\ndeliver 2: 0\nrisen 2: 2\nvector 0: 2 2\n"));
     holds(4, &["vector 0: 2 2", "pins 0: 1 1", "line 2: 1 1"]);
+    assert!(cases[4].starts_with("5\ndeliver 3: 0\nrisen 3: 1\nvector 0: "));
     holds(
         5,
         &["vector 1: 2 3", "kept 1: 2", "line 2: 2 2", "line 1: 1 2"],
@@ -357,8 +494,14 @@ fn the_exam_text() {
     );
     assert!(cases[6].starts_with("7\nwritten 2: 2 1\nrecover 2: 1 1 1:0\nvector 0: 2 0\n"));
     holds(7, &["vector 1: 1 2"]);
+    assert!(cases[7].starts_with("8\ndeliver 1: 0\nrisen 1: 1\ndeliver 2: 0\nrisen 2: 3\nvector "));
     holds(8, &["line 1: 0 0 0", "line 2: 1 0 0", "line 4: 1 1 0"]);
-    assert!(cases[8].starts_with("9\nwritten 2: 1 0\nrecover 2: 1 0\ndeliver 1: 8\nvector 0: "));
+    assert!(cases[8]
+        .starts_with("9\nwritten 2: 1 0\nrecover 2: 1 0\ndeliver 1: 0\nrisen 1: 1\nvector 0: "));
+    holds(
+        9,
+        &["vector 1: 1 1", "pins 1: 0 0", "line 1: 0 0", "line 2: 1 0"],
+    );
     holds(
         10,
         &["start 0: 1", "start 1: 0", "start 16: 0", "start 17: 1"],
@@ -389,12 +532,42 @@ fn the_exam_text() {
         &["forced 65534: 0", "forced 65535: 11", "quiet 65535: 0"],
     );
     assert_eq!(cases[9].lines().count(), 1 + 4 + 8 + 10 + 10 + 2 + 2 + 3);
+    assert_eq!(
+        mark,
+        "2\ndeliver 1: 0\nrisen 1: 1\ndeliver 2: 0\nrisen 2: 0\n\
+         vector 0: 1 0\npins 0: 0 -\nkept 0: 0\nvector 1: 1 1\npins 1: 0 0\nkept 1: 0\n\
+         line 0: 1 1\nline 1: 0 0\nline 2: 1 0\nline 3: 0 0\n"
+    );
+    assert_eq!(
+        lost_1,
+        "1\nwritten 1: 0 1\nrecover 1: 1 0\ndeliver 1: 8\nrisen 1: 0\n\
+         vector 0: 1 0\npins 0: 0 -\nkept 0: 0\nvector 1: 0 1\npins 1: - 0\nkept 1: 0\n\
+         line 0: 1 1\nline 1: 0 1\nline 2: 1 0\nline 3: 0 0\n"
+    );
+    assert_eq!(
+        lost_2,
+        "2\nwritten 1: 1 1\nrecover 1: 1 0\n\
+         deliver 2: 8\nrisen 2: 0\ndeliver 1: 0\nrisen 1: 1\n\
+         vector 0: 2 0\npins 0: 1 -\nkept 0: 1\nvector 1: 1 1\npins 1: 0 0\nkept 1: 0\n\
+         line 0: 2 1\nline 1: 1 1\nline 2: 2 0\nline 3: 1 0\n"
+    );
+    assert_eq!(
+        sweep,
+        "0\nwritten 0: 2 3\nrecover 0: 0 1 1:1\n\
+         vector 0: 2 0\npins 0: 1 -\nkept 0: 1\nvector 1: 1 3\npins 1: - 2\nkept 1: 2\n\
+         line 0: 2 3\nline 1: 1 3\nline 2: 2 2\nline 3: 1 2\n\
+         deliver 2: 0\nrisen 2: 1\n"
+    );
 }
 
 /// A state is looked at in all its lines: every set has one.
 #[test]
 fn every_failed_set_has_a_line() {
     for records in 0..=9 {
-        assert_eq!(sets(&example(records)).len(), 3);
+        let run = example(records);
+        let lines = sets(&run);
+        assert_eq!(lines.len(), 4);
+        // Note 4: of the empty set "the line has every process live".
+        assert_eq!(lines[0], [run.own_entry(0), run.own_entry(1)]);
     }
 }

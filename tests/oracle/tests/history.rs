@@ -38,6 +38,11 @@ struct History {
     lists: Vec<Vec<Event>>,
     /// The receiver that each send named, by number from 1.
     receivers: Vec<usize>,
+    /// The numbers under way, ascending: sent, and neither received nor lost,
+    /// nor is the send gone from its list.
+    under_way: Vec<u32>,
+    /// The last number used when a process last rolled back.
+    sent_before_rollback: u32,
 }
 
 impl History {
@@ -50,6 +55,8 @@ impl History {
         History {
             lists: vec![vec![first]; n],
             receivers: Vec::new(),
+            under_way: Vec::new(),
+            sent_before_rollback: 0,
         }
     }
 
@@ -76,6 +83,7 @@ impl History {
         self.receivers.push(receiver);
         let number = self.receivers.len() as u32;
         self.lists[sender].push(Event::Sent(number));
+        self.under_way.push(number);
         number
     }
 
@@ -88,6 +96,15 @@ impl History {
             assert_eq!(self.add_checkpoint(receiver), index);
         }
         self.lists[receiver].push(Event::Received(number));
+        self.no_longer_under_way(number);
+    }
+
+    fn no_longer_under_way(&mut self, number: u32) {
+        self.under_way.retain(|other| *other != number);
+    }
+
+    fn stands(&self, wanted: Event) -> bool {
+        self.lists.iter().flatten().any(|event| *event == wanted)
     }
 
     /// "A checkpoint in a list is kept until a pair handed out after it was
@@ -126,6 +143,14 @@ impl History {
                 rolled_back += 1;
             }
         }
+        // Note 2, by the history alone: "The surviving history counts these
+        // sends", and the others are gone from their lists.
+        let mut under_way = std::mem::take(&mut self.under_way);
+        under_way.retain(|number| self.stands(Event::Sent(*number)));
+        self.under_way = under_way;
+        if rolled_back > 0 {
+            self.sent_before_rollback = self.receivers.len() as u32;
+        }
         rolled_back
     }
 
@@ -151,6 +176,41 @@ impl History {
             kept: false,
         });
         states
+    }
+
+    /// What the live state of process i knows of each process.
+    fn known(&self, i: usize) -> Vec<u16> {
+        self.known_at(i, self.lists[i].len())
+    }
+
+    /// What process i knows of each process at a place of its list: entry f of
+    /// its vector there. "Checkpoint a of f comes causally before a state
+    /// exactly if a is less than that state's entry f", so it is how many of
+    /// them do.
+    fn known_at(&self, i: usize, place: usize) -> Vec<u16> {
+        // How many events of each list come causally before the state, and
+        // those of them that are still to be followed back.
+        let mut before = vec![0; self.lists.len()];
+        let mut to_follow = vec![(i, place)];
+        while let Some((p, count)) = to_follow.pop() {
+            for place in before[p]..count {
+                if let Event::Received(number) = self.lists[p][place] {
+                    let (sender, sent_at) = self.find(Event::Sent(number));
+                    to_follow.push((sender, sent_at + 1));
+                }
+            }
+            before[p] = before[p].max(count);
+        }
+        let checkpoints = |list: &[Event]| {
+            list.iter()
+                .filter(|event| matches!(event, Event::Checkpoint { .. }))
+                .count() as u16
+        };
+        self.lists
+            .iter()
+            .zip(before)
+            .map(|(list, count)| checkpoints(&list[..count]))
+            .collect()
     }
 
     fn received(&self) -> Vec<Received> {
@@ -211,9 +271,27 @@ fn for_every_line(states: &[Vec<State>], mut visit: impl FnMut(&[State])) {
     }
 }
 
-/// The demands on the reported lines and on what is kept.
-fn check(run: &Run, history: &History) {
+/// What is under way, by the history and by the state: each of them stands as
+/// sent in its sender's list, and none as received.
+fn check_messages(run: &Run, history: &History) {
+    let numbers: Vec<u32> = run.under_way().iter().map(|x| x.number).collect();
+    assert_eq!(history.under_way, numbers, "by history and by state");
+    for message in run.under_way() {
+        let (sender, sent_at) = history.find(Event::Sent(message.number));
+        assert_eq!(sender, message.sender as usize);
+        let receiver = history.receivers[message.number as usize - 1];
+        assert_eq!(receiver, message.receiver as usize);
+        assert!(!history.stands(Event::Received(message.number)));
+        let known = history.known_at(sender, sent_at);
+        assert_eq!(message.carried[..run.count()], known);
+    }
+}
+
+/// The demands on the reported lines and on what is kept. Straight after a
+/// recovery or sweep, nothing is kept that no failure could use.
+fn check(run: &Run, history: &History, after_recover: bool) {
     let n = run.count();
+    check_messages(run, history);
     let states: Vec<Vec<State>> = (0..n).map(|i| history.states(i)).collect();
     let messages = history.received();
 
@@ -226,6 +304,7 @@ fn check(run: &Run, history: &History) {
         assert_eq!(kept, common::kept(run, i), "kept by pairs and by state");
         assert!(kept.len() <= n, "at most n are kept");
         assert_eq!(states[i].last().unwrap().index, run.own_entry(i));
+        assert_eq!(history.known(i), run.vector(i), "by events and by state");
     }
     common::assert_sound(run);
 
@@ -236,7 +315,7 @@ fn check(run: &Run, history: &History) {
         if !consistent(line, &messages) {
             return;
         }
-        for failed in 1..1 << n {
+        for failed in 0..1 << n {
             if (0..n).any(|i| failed >> i & 1 == 1 && line[i].live) {
                 continue;
             }
@@ -246,7 +325,8 @@ fn check(run: &Run, history: &History) {
         }
     });
 
-    for failed in 1..1 << n {
+    let mut used: Vec<Vec<u16>> = vec![Vec::new(); n];
+    for failed in 0..1 << n {
         let reported = common::line(run, failed as u32);
         let line: Vec<State> = (0..n)
             .map(|i| {
@@ -263,11 +343,20 @@ fn check(run: &Run, history: &History) {
         for i in 0..n {
             let has_failed = failed >> i & 1 == 1;
             assert!(line[i].kept || line[i].live && !has_failed);
+            if line[i].kept {
+                used[i].push(line[i].index);
+            }
         }
         assert_eq!(
             reported, latest[failed],
             "no consistent line is later anywhere"
         );
+    }
+    if after_recover {
+        for i in 0..n {
+            let kept = common::kept(run, i);
+            assert!(kept.iter().all(|index| used[i].contains(index)));
+        }
     }
 }
 
@@ -292,16 +381,70 @@ fn draw_kind(random: &mut Random, weights: &[usize; 5]) -> usize {
     unreachable!()
 }
 
+/// What the calls of several runs met, so that no test passes by meeting
+/// nothing.
+#[derive(Default)]
+struct Met {
+    /// All entries that rose.
+    risen: u16,
+    /// Deliveries by which none rose, and those that forced a checkpoint.
+    no_news: usize,
+    forced: usize,
+    /// Recoveries that lost a message and left one under way, and deliveries of
+    /// messages with a rollback since they were sent.
+    sifted: usize,
+    outlived: usize,
+    /// Sweeps, and those that deleted.
+    sweeps: usize,
+    deleting: usize,
+}
+
+impl Met {
+    fn assert_all(&self, n: usize) {
+        let everyone = u16::MAX >> (16 - n);
+        assert_eq!(self.risen, everyone, "every entry rose somewhere");
+        assert!(self.no_news > 100, "met {} times", self.no_news);
+        assert!(self.forced > 100, "met {} times", self.forced);
+        assert!(self.sifted > 100, "met {} times", self.sifted);
+        assert!(self.outlived > 300, "met {} times", self.outlived);
+        assert!(self.sweeps > 200, "met {} times", self.sweeps);
+        assert!(self.deleting > 30, "met {} times", self.deleting);
+    }
+}
+
+/// One recovery in four is a sweep.
+fn any_failed_set(n: usize, random: &mut Random) -> u32 {
+    match random.below(4) {
+        0 => 0,
+        _ => 1 + random.below((1 << n) - 1) as u32,
+    }
+}
+
+/// Half of the time a number that is under way, else any late one.
+fn any_number(history: &History, random: &mut Random) -> u32 {
+    let under_way = &history.under_way;
+    if !under_way.is_empty() && random.below(2) == 0 {
+        return under_way[random.below(under_way.len())];
+    }
+    history.receivers.len().saturating_sub(random.below(5)) as u32
+}
+
 /// One call, drawn at random (some are refused), and its place in the history.
-fn step(run: &mut Run, history: &mut History, random: &mut Random, weights: &[usize; 5]) {
+/// Says whether it was a recovery or sweep.
+fn step(
+    run: &mut Run,
+    history: &mut History,
+    random: &mut Random,
+    weights: &[usize; 5],
+    met: &mut Met,
+) -> bool {
     let n = run.count();
     let (p, q) = (random.below(n), random.below(n));
-    let numbers = history.receivers.len();
-    // Mostly a late number, as it is more likely under way.
-    let number = numbers.saturating_sub(random.below(5)) as u32;
+    let number = any_number(history, random);
     let mut deletions = [0; DELETIONS];
     let mut line = [0; LINE];
-    match draw_kind(random, weights) {
+    let kind = draw_kind(random, weights);
+    match kind {
         0 => {
             let answer = run.checkpoint(p, &mut deletions).unwrap();
             assert_eq!(history.add_checkpoint(p), answer.index);
@@ -313,17 +456,29 @@ fn step(run: &mut Run, history: &mut History, random: &mut Random, weights: &[us
             }
         }
         2 => {
-            if let Ok(answer) = run.deliver(number, &mut deletions) {
+            let answer = run.deliver(number, &mut deletions);
+            assert_eq!(answer.is_ok(), history.under_way.contains(&number));
+            if let Ok(answer) = answer {
+                let receiver = history.receivers[number as usize - 1];
+                let before = history.known(receiver);
                 history.add_delivery(number, answer.forced);
                 history.delete(&deletions[..2 * answer.deletions]);
+                let after = history.known(receiver);
+                assert_eq!(answer.rose, set_of_risen(receiver, &before, &after));
+                met.risen |= answer.rose;
+                met.no_news += (answer.rose == 0) as usize;
+                met.forced += answer.forced.is_some() as usize;
+                met.outlived += (number <= history.sent_before_rollback) as usize;
             }
         }
         3 => {
-            // "Lose, line and every refused call change nothing."
-            let _ = run.lose(number);
+            // "Lose, line and every refused call change nothing" in the lists.
+            let answer = run.lose(number);
+            assert_eq!(answer.is_ok(), history.under_way.contains(&number));
+            history.no_longer_under_way(number);
         }
         _ => {
-            let failed = 1 + random.below((1 << n) - 1) as u32;
+            let failed = any_failed_set(n, random);
             let reported = common::line(run, failed);
             let answer = run.recover(failed, &mut deletions, &mut line).unwrap();
             assert_eq!(
@@ -332,43 +487,89 @@ fn step(run: &mut Run, history: &mut History, random: &mut Random, weights: &[us
                 "recover writes the line that line reports"
             );
             history.delete(&deletions[..2 * answer.deletions]);
+            let before = history.under_way.len();
             assert_eq!(history.recover(&line[..n]), answer.rolled_back);
+            let after = history.under_way.len();
+            met.sifted += (0 < after && after < before) as usize;
+            if failed == 0 {
+                // Note 4: "nobody rolls back", "Messages under way stay".
+                assert_eq!((answer.rolled_back, after), (0, before));
+                met.sweeps += 1;
+                met.deleting += (answer.deletions > 0) as usize;
+            }
         }
     }
+    kind == 4
 }
 
-fn brute_force(seed: u64, n: usize, every_step: bool) {
+/// Note 1, by the events alone: whose later interval the receiver knows after
+/// a delivery and did not before. Its own is no news, also where a forced
+/// checkpoint begins the next one.
+fn set_of_risen(receiver: usize, before: &[u16], after: &[u16]) -> u16 {
+    (0..before.len())
+        .filter(|&f| f != receiver && before[f] < after[f])
+        .map(|f| 1 << f)
+        .sum()
+}
+
+fn brute_force(seed: u64, n: usize, every_step: bool, met: &mut Met) {
     let mut random = Random(seed);
     let weights = WEIGHTS[random.below(WEIGHTS.len())];
     let events = 10 + random.below(16);
     let mut run = Run::start(n).unwrap();
     let mut history = History::start(n);
     for _ in 0..events {
-        step(&mut run, &mut history, &mut random, &weights);
+        let after_recover = step(&mut run, &mut history, &mut random, &weights, met);
         if every_step {
-            check(&run, &history);
+            check(&run, &history, after_recover);
         }
     }
-    check(&run, &history);
+    check(&run, &history, false);
 }
 
 #[test]
 fn two_processes() {
+    let mut met = Met::default();
     for seed in 0..4000 {
-        brute_force(seed, 2, true);
+        brute_force(seed, 2, true, &mut met);
     }
+    met.assert_all(2);
 }
 
 #[test]
 fn three_processes() {
+    let mut met = Met::default();
     for seed in 0..4000 {
-        brute_force(seed, 3, true);
+        brute_force(seed, 3, true, &mut met);
     }
+    met.assert_all(3);
 }
 
 #[test]
 fn four_processes() {
+    let mut met = Met::default();
     for seed in 0..6000 {
-        brute_force(seed, 4, seed % 4 == 0);
+        brute_force(seed, 4, seed % 4 == 0, &mut met);
     }
+    met.assert_all(4);
+}
+
+/// More processes have too many lines: here only what each call answers and
+/// what each process knows is held against the history.
+#[test]
+fn many_processes() {
+    let mut met = Met::default();
+    for seed in 0..120 {
+        let mut random = Random(seed);
+        let n = 5 + seed as usize % 12;
+        let mut run = Run::start(n).unwrap();
+        let mut history = History::start(n);
+        for _ in 0..150 {
+            step(&mut run, &mut history, &mut random, &WEIGHTS[1], &mut met);
+        }
+        for i in 0..n {
+            assert_eq!(history.known(i), run.vector(i), "by events and by state");
+        }
+    }
+    met.assert_all(16);
 }

@@ -1,6 +1,9 @@
 //! The two programs as they are run.
 
+use oracle::replay::AfterRefusal;
+use std::ffi::OsStr;
 use std::io::{Read, Write};
+use std::os::unix::ffi::OsStrExt;
 use std::process::{Child, Command, Output, Stdio};
 use std::thread;
 
@@ -14,8 +17,9 @@ fn generate(arguments: &[&str]) -> Vec<u8> {
 }
 
 /// The program with its input, output and messages at hand.
-fn running_oracle() -> Child {
+fn running_oracle(arguments: &[&OsStr]) -> Child {
     Command::new(env!("CARGO_BIN_EXE_oracle"))
+        .args(arguments)
         .stdin(Stdio::piped())
         .stdout(Stdio::piped())
         .stderr(Stdio::piped())
@@ -23,12 +27,17 @@ fn running_oracle() -> Child {
         .unwrap()
 }
 
+/// The program with the argument `all`.
 fn oracle(trace: &[u8]) -> Output {
-    let mut program = running_oracle();
+    oracle_with(&[OsStr::new("all")], trace)
+}
+
+fn oracle_with(arguments: &[&OsStr], trace: &[u8]) -> Output {
+    let mut program = running_oracle(arguments);
     let mut input = program.stdin.take().unwrap();
     thread::scope(|scope| {
         scope.spawn(move || {
-            // A bad first byte ends the program before all is read.
+            // A bad first byte or a stop ends the program before all is read.
             let _ = input.write_all(trace);
         });
         program.wait_with_output().unwrap()
@@ -67,10 +76,67 @@ fn the_program_prints_the_cases() {
 fn the_program_and_the_function_agree() {
     for seed in 0..50 {
         let trace = generate(&[&seed.to_string(), "--mix", "damaged"]);
-        let mut expected = Vec::new();
-        oracle::replay::replay(&trace[..], &mut expected).unwrap();
-        assert_eq!(oracle(&trace).stdout, expected);
+        for (after_refusal, arguments) in [
+            (AfterRefusal::GoOn, &[OsStr::new("all")][..]),
+            (AfterRefusal::Stop, &[]),
+        ] {
+            let mut expected = Vec::new();
+            oracle::replay::replay(after_refusal, &trace[..], &mut expected).unwrap();
+            assert_eq!(oracle_with(arguments, &trace).stdout, expected);
+        }
     }
+}
+
+/// Note 11: "start it with the argument `all`, which goes on as before. Any
+/// other argument, or more than one, counts as none."
+#[test]
+fn only_the_one_word_all_goes_on() {
+    // The second of three records is refused.
+    let mut trace = vec![1];
+    for record in [0u32, 7 << 29, 0] {
+        trace.extend(record.to_be_bytes());
+    }
+    let whole = b"1 0 1 1 0:0\n2 14\n3 0 2 1 0:1\n";
+    let stopped = b"1 0 1 1 0:0\n2 14\n";
+    assert_eq!(oracle(&trace).stdout, whole);
+    let others: [&[&[u8]]; 16] = [
+        &[],
+        &[b""],
+        &[b"a"],
+        &[b"al"],
+        &[b"allx"],
+        &[b"xall"],
+        &[b"ALL"],
+        &[b"All"],
+        &[b" all"],
+        &[b"all "],
+        &[b"--all"],
+        &[b"al\xFF"],
+        &[b"all", b"all"],
+        &[b"all", b""],
+        &[b"", b"all"],
+        &[b"all", b"--cases"],
+    ];
+    for words in others {
+        let arguments: Vec<&OsStr> = words.iter().map(|word| OsStr::from_bytes(word)).collect();
+        let output = oracle_with(&arguments, &trace);
+        assert_eq!(output.stdout, stopped, "{arguments:?}");
+        assert!(output.status.success() && output.stderr.is_empty());
+    }
+}
+
+/// The input is still open when the program ends.
+#[test]
+fn it_ends_at_the_stop_while_the_input_goes_on() {
+    let mut program = running_oracle(&[]);
+    let mut input = program.stdin.take().unwrap();
+    input.write_all(&[1, 0, 0, 0, 0, 0xE0, 0, 0, 0, 0]).unwrap();
+    let mut listing = String::new();
+    let mut output = program.stdout.take().unwrap();
+    output.read_to_string(&mut listing).unwrap();
+    assert_eq!(listing, "1 0 1 1 0:0\n2 14\n");
+    assert!(program.wait().unwrap().success());
+    drop(input);
 }
 
 #[test]
@@ -80,7 +146,7 @@ fn no_input_at_all() {
 
 #[test]
 fn a_reader_that_goes_away_ends_it_quietly() {
-    let mut program = running_oracle();
+    let mut program = running_oracle(&[]);
     drop(program.stdout.take());
     let mut input = program.stdin.take().unwrap();
     let mut trace = vec![1];
@@ -109,8 +175,15 @@ fn the_same_seed_gives_the_same_trace() {
     );
 }
 
+/// Nothing is refused but messages that a recovery has lost.
+fn assert_valid(numbers: &[u8]) {
+    let (accepted, lost) = (count(numbers, 0), count(numbers, 8));
+    assert_eq!(accepted + lost, numbers.len());
+}
+
 #[test]
 fn valid_traces_are_accepted() {
+    let mut all = Vec::new();
     for n in 1..=16 {
         for seed in 0..6 {
             let (seed, n) = (seed.to_string(), n.to_string());
@@ -118,9 +191,11 @@ fn valid_traces_are_accepted() {
             assert_eq!(trace.len(), 1 + 4 * 500);
             let numbers = numbers(&trace);
             assert_eq!(numbers.len(), 500);
-            assert_eq!(count(&numbers, 0), 500);
+            assert_valid(&numbers);
+            all.extend(numbers);
         }
     }
+    assert!(count(&all, 8) > 0 && count(&all, 8) < all.len() / 50);
 }
 
 #[test]
@@ -128,7 +203,44 @@ fn a_long_valid_trace_is_accepted() {
     for n in ["1", "2", "16"] {
         let trace = generate(&["7", "--n", n, "--records", "1200000", "--mix", "valid"]);
         let numbers = numbers(&trace);
-        assert_eq!(count(&numbers, 0), 1_200_000);
+        assert_eq!(numbers.len(), 1_200_000);
+        assert_valid(&numbers);
+        assert!(count(&numbers, 8) < 12_000);
+    }
+}
+
+/// Messages outlive recoveries and are delivered: of the deliveries accepted,
+/// these are those with a recovery since the send. And sweeps delete.
+#[test]
+fn recovering_traces_deliver_behind_recoveries() {
+    for n in ["2", "3", "16"] {
+        let trace = generate(&["1", "--n", n, "--records", "20000", "--mix", "recovering"]);
+        let listing = String::from_utf8(oracle(&trace).stdout).unwrap();
+        let (mut recoveries, mut deliveries, mut outlived) = (0, 0, 0);
+        let (mut sweeps, mut deleting) = (0, 0);
+        // How many recoveries came before each send, by number.
+        let mut before = vec![0];
+        for (record, line) in trace[1..].chunks_exact(4).zip(listing.lines()) {
+            let record = u32::from_be_bytes(record.try_into().unwrap());
+            let (kind, argument) = (record >> 29, record & 0x1FF_FFFF);
+            match (kind, line.split(' ').nth(1)) {
+                (1, Some("0")) => before.push(recoveries),
+                (2, Some("0")) => {
+                    deliveries += 1;
+                    outlived += (before[argument as usize] < recoveries) as usize;
+                }
+                (4, Some("0")) if argument == 0 => {
+                    let deletions = line.split(' ').nth(3);
+                    sweeps += 1;
+                    deleting += (deletions != Some("0")) as usize;
+                }
+                (4, Some("0")) => recoveries += 1,
+                (2 | 3, Some("8")) => {}
+                _ => assert_eq!(line.split(' ').nth(1), Some("0")),
+            }
+        }
+        assert!(recoveries > 2000 && deliveries > 4000 && 3 * outlived > deliveries);
+        assert!(sweeps > 200 && deleting > 20, "{deleting} of {sweeps}");
     }
 }
 
@@ -138,10 +250,10 @@ fn mixed_traces_are_refused_in_many_ways() {
     for seed in 0..400 {
         all.extend(numbers(&generate(&[&seed.to_string(), "--mix", "mixed"])));
     }
-    for number in [0, 4, 5, 6, 7, 8, 9] {
+    for number in [0, 4, 5, 7, 8, 9] {
         assert!(count(&all, number) > 20, "{number}");
     }
-    for number in [1, 2, 3, 12, 13, 14] {
+    for number in [1, 2, 3, 6, 12, 13, 14] {
         assert_eq!(count(&all, number), 0, "{number}");
     }
 }
@@ -156,9 +268,10 @@ fn damaged_traces_are_damaged_in_many_ways() {
         all.extend(numbers(&trace));
     }
     assert!(empty > 5);
-    for number in [0, 1, 4, 5, 6, 7, 8, 12, 13, 14] {
+    for number in [0, 1, 4, 5, 7, 8, 12, 13, 14] {
         assert!(count(&all, number) > 5, "{number}");
     }
+    assert_eq!(count(&all, 6), 0);
 }
 
 /// The limits: what is refused, and the few that must be accepted there.
@@ -212,10 +325,4 @@ fn wrong_arguments() {
             .unwrap();
         assert_eq!(status.code(), Some(2), "{arguments:?}");
     }
-    let status = Command::new(env!("CARGO_BIN_EXE_oracle"))
-        .arg("--what")
-        .stderr(Stdio::null())
-        .status()
-        .unwrap();
-    assert_eq!(status.code(), Some(2));
 }
