@@ -110,16 +110,16 @@ said-fits s e said deleted h =
     let whole : Performs s e (perform s e .run) said deleted = record { state = refl; says = h } in
     (performed-small s e (perform s e .run) said deleted whole, performed-deletions s e (perform s e .run) said deleted whole)
 
--- The replay goes on as the number that is said of a record has it; one that is accepted stops it in no way.
+-- The replay goes on as the number that is said of a record has it; where one is accepted it goes on as before.
 says-goes-on : (all : Bool) (said : Summary) (deleted : List ℕ) (s : Run) (e : Option Event) → Says said deleted (perform s e .reply)
     → goesOn all (said .refused) ≡ goesOn all (perform s e .reply .report .refused)
 unfolding reportIn
 says-goes-on all said deleted s e h = ap (λ (r : Report). goesOn all (r .refused)) (h .report)
 
-pub accepted-goes-on : (all : Bool) → goesOn all 0 ≡ true
+pub accepted-goes-on : (all : Bool) {refused : ℕ} → refused ≡ 0 → {going : Bool} → going ≡ true → going ≡ goesOn all refused
 unfolding goesOn
-accepted-goes-on true = refl
-accepted-goes-on false = refl
+accepted-goes-on true e still = still
+accepted-goes-on false e still = still ∙ rw e
 
 -- One record more, where the state t after it and the words said of it are the model's and its line is printed.
 pub one-said : (all : Bool) (s : Run) (done : ℕ) (block out : List ℕ) (run : Run) (taken : ℕ) (now-out : List ℕ) (written : ℕ) (going : Bool)

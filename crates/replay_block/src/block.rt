@@ -96,7 +96,6 @@ fn replay_beside(
             let value = record::value_of(p.stores, p.sends, own, last);
             let verdict = p.verdict;
             let refused = record::number_of(verdict);
-            going = output::line::goes_on(all, refused);
             if p.moves {
                 let live = rows::line::live_from(vector, i);
                 let pins_before = pins[i];
@@ -148,6 +147,8 @@ fn replay_beside(
                     deletions: 0,
                 };
                 written = output::line::print(said_only, deleted, number, out, written);
+                // what moves pins is accepted, and so is a recovery, so a refusal is met here alone
+                going = output::line::goes_on(all, refused);
             }
         } else {
             // each process goes back to its member of the line
