@@ -7,9 +7,11 @@ ghost use Rattle.model.specs.Listing.{asksForAll};
 pub fn asks_for_all(words: usize, argument: &[u8]) -> bool
     ensures { λ r. ⌜ r ≡ asksForAll words (now (argument .entry)) ⌝ }
 {
-    words == 2
-        && argument.len() == 3
-        && argument[0] == b'a'
-        && argument[1] == b'l'
-        && argument[2] == b'l'
+    if words != 2 {
+        return false;
+    }
+    if argument.len() != 3 {
+        return false;
+    }
+    argument[0] == b'a' && argument[1] == b'l' && argument[2] == b'l'
 }

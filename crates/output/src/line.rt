@@ -33,5 +33,8 @@ pub(crate) fn refuse(number: u64, why: Refusal, out: &mut [u8]) -> usize
 pub fn goes_on(all: bool, refused: u8) -> bool
     ensures { λ r. ⌜ r ≡ goesOn all refused ⌝ }
 {
-    all || refused == 0
+    if all {
+        return true;
+    }
+    refused == 0
 }
