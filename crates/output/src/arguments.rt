@@ -13,5 +13,11 @@ pub fn asks_for_all(words: usize, argument: &[u8]) -> bool
     if argument.len() != 3 {
         return false;
     }
-    argument[0] == b'a' && argument[1] == b'l' && argument[2] == b'l'
+    if argument[0] != b'a' {
+        return false;
+    }
+    if argument[1] != b'l' {
+        return false;
+    }
+    argument[2] == b'l'
 }
