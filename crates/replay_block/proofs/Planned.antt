@@ -1,6 +1,6 @@
 -- The plan of a record is one of five: a refusal, a checkpoint, a send, a message taken out, a receipt. What holds of these holds of every plan.
 -- Assumes nothing.
-use mathlib.Core.Path.{_≡_, refl, sym, _∙_, ap}
+use mathlib.Core.Path.{_≡_, refl}
 use mathlib.Core.Bool.{Bool, true, false, false≢true}
 use mathlib.Core.List.{List}
 use mathlib.Core.Logic.{_⊎_, inl, inr}
@@ -77,13 +77,7 @@ module _ (mark : Bool) (t : Lookup) where
         accepted q = absurd (false≢true cc)
 
     -- One that moves pins is accepted.
-    moves-accepted : planOf e n vector own mark t .moves ≡ true → numberOf (planOf e n vector own mark t .verdict) ≡ 0
+    pub moves-accepted : planOf e n vector own mark t .moves ≡ true → numberOf (planOf e n vector own mark t .verdict) ≡ 0
     unfolding unchanged storedPlan sentPlan withoutIt receiptPlan numberOf
     moves-accepted = every-plan n vector own (λ p. p .moves ≡ true → numberOf (p .verdict) ≡ 0)
         (λ why q. absurd (false≢true q)) (λ q. refl) (λ i j q. refl) (λ q. refl) (λ q. refl) e
-
--- The same with the values that the loop has.
-pub accepted-number : {e : Option Event} {n : ℕ} {vector : List Interval} {own : Interval} {mark : Bool} {t : Lookup} {p : Plan} → p ≡ planOf e n vector own mark t
-    → p .moves ≡ true → {refused : ℕ} → refused ≡ numberOf (p .verdict) → refused ≡ 0
-accepted-number {e} {n} {vector} {own} {mark} {t} eq move is =
-    is ∙ ap (λ (q : Plan). numberOf (q .verdict)) eq ∙ moves-accepted mark t n vector own e (ap (λ (q : Plan). q .moves) (sym eq) ∙ move)

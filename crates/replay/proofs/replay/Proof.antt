@@ -1,7 +1,8 @@
--- `replay::replay` is safe and ends. From read to read the position is behind the bytes that were read, and less than a record is held. The measure is what may
+-- `replay::replay` is safe and ends. From read to read the position is behind the bytes that were read, the replay goes on, and less than a record is held. The measure is what may
 -- still be read, so a turn that does not count what its read brought has no proof.
 -- Assumes nothing.
 use borrow.Author.Needs.{needs}
+use borrow.Author.Tests.{not-true, not-false}
 use mathlib.Core.Path.{_≡_, refl, sym, _∙_, ap}
 use mathlib.Core.Bool.{true}
 use mathlib.Core.List.{List, _++_}
@@ -121,36 +122,57 @@ same-length-6 c = let called = c .before .before .before .before .before .before
 returns-3 : tie.Need-returns-3 Inv-loop μ-loop
 returns-3 c = search needs
 
+going-requires : tie.Need-going-requires Inv-loop μ-loop
+going-requires c κs = search needs
+
+end-at-a-refusal-requires : tie.Need-end-at-a-refusal-requires Inv-loop μ-loop
+end-at-a-refusal-requires c κs = sym (c .before .going .ensures) ∙ not-true _ (c .if5 .taken)
+
+same-length-7 : tie.Need-same-length-7 Inv-loop μ-loop
+same-length-7 c =
+    let called = c .before .before .before .before .before .before .before .before in
+    called .replay-held .kept .1 .0 ∙ same (read called) ∙ turn (read called) .loop .inv .3
+
+same-length-8 : tie.Need-same-length-8 Inv-loop μ-loop
+same-length-8 c =
+    let called = c .before .before .before .before .before .before .before .before in
+    called .replay-held .kept .1 .1 .0 ∙ turn (read called) .loop .inv .4
+
+returns-4 : tie.Need-returns-4 Inv-loop μ-loop
+returns-4 c = search needs
+
 loop-less : tie.Need-loop-less Inv-loop μ-loop
 loop-less c =
-    let called = c .before .before .before .before .before .before in
+    let called = c .before .before .before .before .before .before .before .before in
     omega (arith, called .replay-held .ensures .same, count (read called), read called .fill .ensures .below)
 
 loop-again : tie.Need-loop-again Inv-loop μ-loop
 loop-again c =
-    let called = c .before .before .before .before .before .before in
-    let l = turn (read called) .loop in (
+    let called = c .before .before .before .before .before .before .before .before in
+    let l = turn (read called) .loop in
+    let going : called .replay-held .result .position .going ≡ true = sym (c .before .before .going .ensures) ∙ not-false _ (c .before .if5 .left) in (
       called .replay-held .ensures .reached,
       called .replay-held .ensures .most,
-      called .replay-held .ensures .few (c .before .if4 .left),
+      called .replay-held .ensures .few (c .before .before .before .if4 .left) going,
       called .replay-held .kept .1 .0 ∙ same (read called) ∙ l .inv .3,
       called .replay-held .kept .1 .1 .0 ∙ l .inv .4,
       stands called,
+      going,
     )
 
 end-at-the-last-requires : tie.Need-end-at-the-last-requires Inv-loop μ-loop
 end-at-the-last-requires c κs = omega (arith, c .before .done .ensures, c .if1 .left)
 
-same-length-7 : tie.Need-same-length-7 Inv-loop μ-loop
-same-length-7 c = search needs
+same-length-9 : tie.Need-same-length-9 Inv-loop μ-loop
+same-length-9 c = search needs
 
-same-length-8 : tie.Need-same-length-8 Inv-loop μ-loop
-same-length-8 c = search needs
+same-length-10 : tie.Need-same-length-10 Inv-loop μ-loop
+same-length-10 c = search needs
 
-returns-4 : tie.Need-returns-4 Inv-loop μ-loop
-returns-4 c = search needs
+returns-5 : tie.Need-returns-5 Inv-loop μ-loop
+returns-5 c = search needs
 
 pub replay-spec : {M : Type 1} → statement M
 replay-spec =
     tie.close
-    (tie.spec Inv-loop μ-loop loop-holds done-requires fill-requires slice-aggregate-fail fail-requires end-by-error-requires same-length same-length-2 returns finish-requires same-length-3 same-length-4 returns-2 replay-held-requires end-by-error-requires-2 same-length-5 same-length-6 returns-3 loop-less loop-again end-at-the-last-requires same-length-7 same-length-8 returns-4)
+    (tie.spec Inv-loop μ-loop loop-holds done-requires fill-requires slice-aggregate-fail fail-requires end-by-error-requires same-length same-length-2 returns finish-requires same-length-3 same-length-4 returns-2 replay-held-requires end-by-error-requires-2 same-length-5 same-length-6 returns-3 going-requires end-at-a-refusal-requires same-length-7 same-length-8 returns-4 loop-less loop-again end-at-the-last-requires same-length-9 same-length-10 returns-5)
