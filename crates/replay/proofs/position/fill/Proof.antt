@@ -45,8 +45,8 @@ part-count-end c = search needs
 count-requires : tie.Need-count-requires
 count-requires c κs = search needs
 
-add-all : tie.Need-add-all
-add-all c = search needs
+add-sum : tie.Need-add-sum
+add-sum c = search needs
 
 same-length : tie.Need-same-length
 same-length c = search needs
@@ -63,4 +63,4 @@ returns c =
 pub fill-spec : {M : Type 1} → statement M
 fill-spec =
     tie.close
-    (tie.spec add-from sub-fill-to fill-to-requires add-to sub-read part-read-start part-read-end read-requires sub-count part-count-start part-count-end count-requires add-all same-length returns)
+    (tie.spec add-from sub-fill-to fill-to-requires add-to sub-read part-read-start part-read-end read-requires sub-count part-count-start part-count-end count-requires add-sum same-length returns)
