@@ -44,7 +44,7 @@ module _ (all : Bool) (n : ℕ) (steps : List Step) (accepted : startRefusal n �
   put = allPut (beginning all n) [] steps
 
   so-far : (unread : List ℕ) → listing all (n ∷ (allRead steps ++ unread)) ≡ put ++ due then (holding (beginning all n) [] steps ++ unread)
-  unfolding listing started
+  unfolding listing started due
   so-far unread = rw accepted (put-so-far unread steps (beginning all n) [] fits)
 
   at-the-end : put ++ due then (holding (beginning all n) [] steps) ≡ listing all (n ∷ allRead steps)
@@ -55,7 +55,7 @@ module _ (all : Bool) (n : ℕ) (steps : List Step) (accepted : startRefusal n �
 
   -- Nothing is due any more.
   nothing-due : (unread : List ℕ) → due then (holding (beginning all n) [] steps ++ unread) ≡ [] → put ≡ listing all (n ∷ (allRead steps ++ unread))
-  nothing-due unread none = sym (so-far unread ∙ ap (λ (l : List ℕ). put ++ l) none ∙ append-nil put)
+  nothing-due unread over = sym (so-far unread ∙ ap (λ (l : List ℕ). put ++ l) over ∙ append-nil put)
 
   at-a-refusal : (unread : List ℕ) → then .going ≡ false → put ≡ listing all (n ∷ (allRead steps ++ unread))
   unfolding due

@@ -127,9 +127,8 @@ fn start(all: bool, input: &mut [u8], out: &mut [u8]) -> Ended
 
 // Whether the program was started with the one argument `all`. A word that is longer than the room for it counts as an empty one.
 fn is_all_asked() -> bool {
-    let mut room = [0u8; 4];
-    let word: &mut [u8] = &mut room;
-    let size = os::arg(1, word);
+    let mut word = [0u8; 4];
+    let size = os::arg(1, &mut word);
     output::arguments::asks_for_all(os::arg_count(), &word[..size])
 }
 

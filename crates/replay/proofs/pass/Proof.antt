@@ -28,7 +28,7 @@ module _ (c : tie.After-replay) where
   written = c .replay .result .written
 
   abbrev lines : List ℕ
-  lines = c .replay .last .1 .1 .1 .0
+  lines = c .replay .last .1 .1 .1 .1 .0
 
   abbrev part : List ℕ
   part = take (1 + 4 * taken - 1) (drop 1 block)
@@ -47,7 +47,7 @@ module _ (c : tie.After-replay) where
       (c .replay .ensures .1 .0 .0) (c .replay .ensures .1 .0 .1) (c .replay .ensures .1 .0 .2) stops (start .pre .2) (start .pre .3) (start .pre .5)
 
   fitting : written ≤ length lines
-  fitting = omega (arith, c .replay .ensures .1 .0 .2, c .replay .kept .1 .1 .1 .0)
+  fitting = omega (arith, c .replay .ensures .1 .0 .2, c .replay .kept .1 .1 .1 .1 .0)
 
 run-requires : tie.Need-run-requires
 run-requires c κs = search needs

@@ -130,12 +130,12 @@ end-at-a-refusal-requires c κs = sym (c .before .going .ensures) ∙ not-true _
 
 same-length-7 : tie.Need-same-length-7 Inv-loop μ-loop
 same-length-7 c =
-    let called = c .before .before .before .before .before .before .before .before in
+    let called = c .before .before .before .before .before .before .before .before .before in
     called .replay-held .kept .1 .0 ∙ same (read called) ∙ turn (read called) .loop .inv .3
 
 same-length-8 : tie.Need-same-length-8 Inv-loop μ-loop
 same-length-8 c =
-    let called = c .before .before .before .before .before .before .before .before in
+    let called = c .before .before .before .before .before .before .before .before .before in
     called .replay-held .kept .1 .1 .0 ∙ turn (read called) .loop .inv .4
 
 returns-4 : tie.Need-returns-4 Inv-loop μ-loop
@@ -150,7 +150,7 @@ loop-again : tie.Need-loop-again Inv-loop μ-loop
 loop-again c =
     let called = c .before .before .before .before .before .before .before .before in
     let l = turn (read called) .loop in
-    let going : called .replay-held .result .position .going ≡ true = sym (c .before .before .going .ensures) ∙ not-false _ (c .before .if5 .left) in (
+    let going : called .replay-held .result .position .going ≡ true = sym (c .before .going .ensures) ∙ not-false _ (c .if5 .left) in (
       called .replay-held .ensures .reached,
       called .replay-held .ensures .most,
       called .replay-held .ensures .few (c .before .before .before .if4 .left) going,
