@@ -43,9 +43,9 @@ module _ (s : Run) (h : sound s ≡ false) where
   send-unsound i j = rw h (refl, refl)
 
   pub deliver-unsound : (m : ℕ) (deleted : List ℕ) → (s ≡ deliverOutcome s m deleted .run)
-      × ((deliver-answer.Refused UnsoundState ≡ deliverOutcome s m deleted .answer) × (deleted ≡ deliverOutcome s m deleted .deleted))
+      × ((deliver-answer.Refused UnsoundState ≡ deliverOutcome s m deleted .answer) × ((0 ≡ deliverOutcome s m deleted .rose) × (deleted ≡ deliverOutcome s m deleted .deleted)))
   unfolding deliverOutcome deliverRefusal firstOf
-  deliver-unsound m deleted = rw h (refl, (refl, refl))
+  deliver-unsound m deleted = rw h (refl, (refl, (refl, refl)))
 
   pub lose-unsound : (m : ℕ) → (s ≡ loseOutcome s m .run) × (lose-answer.Refused UnsoundState ≡ loseOutcome s m .answer)
   unfolding loseOutcome loseRefusal firstOf

@@ -58,18 +58,23 @@ pub fn send(s: Run, i: usize, j: usize) -> SendOutcome
     steps::send::send(s, i, j)
 }
 
-// Message m reaches its receiver. What is deleted goes to the front of the lent list.
+// Message m reaches its receiver. What is deleted goes to the front of the lent list; `rose` is the set of the receiver's entries that rose.
 // Wherever calls from an accepted start led to s, what the returned state keeps is right (demand 3).
 pub fn deliver(s: Run, m: u32, deleted: &mut [u16]) -> DeliverOutcome
     ensures { λ r. ⌜ r .run ≡ deliverOutcome s m (now (deleted .entry)) .run ⌝ }
     ensures { λ r. ⌜ r .answer ≡ deliverOutcome s m (now (deleted .entry)) .answer ⌝ }
+    ensures { λ r. ⌜ r .rose ≡ deliverOutcome s m (now (deleted .entry)) .rose ⌝ }
     ensures { λ r. ⌜ now (deleted .exit) ≡ deliverOutcome s m (now (deleted .entry)) .deleted ⌝ }
     ensures { λ r. ⌜ StatePromise s (made.deliver m (now (deleted .entry))) (r .run) ⌝ }
 {
     let sound = soundness::is_sound(s);
     if !sound {
         let answer = DeliverAnswer::Refused(Refusal::UnsoundState);
-        return DeliverOutcome { run: s, answer };
+        return DeliverOutcome {
+            run: s,
+            answer,
+            rose: 0,
+        };
     }
     steps::deliver::deliver(s, m, deleted)
 }

@@ -1,4 +1,4 @@
-// What is printed of a state: vector, pins and kept checkpoints of each process, and the line for every failed set that the run has; and of a
+// What is printed of a state: vector, pins and kept checkpoints of each process, and the line for every failed set that the run has; of a delivery; and of a
 // recovery. Nothing is assumed of a state but that its rows have 16 places.
 use crate::act::After;
 use crate::say;
@@ -144,6 +144,26 @@ fn lines(s: Run) {
 pub(crate) fn state(after: After) {
     processes(after.run);
     lines(after.run);
+}
+
+// A value of the delivery of message m.
+fn of_delivery(words: &[u8], m: u32, x: u64) {
+    say::heading(words, m as u64);
+    say::value(x);
+    say::end();
+}
+
+// A delivery with the number of its answer and the set of the entries that rose, and the state behind it.
+pub(crate) fn deliver(before: After, m: u32) -> After {
+    let mut deleted = [0u16; 512];
+    let outcome = calls::deliver(before.run, m, &mut deleted);
+    let run = outcome.run;
+    let answer = outcome.answer;
+    let said = output::say::of_deliver(answer);
+    let refused = said.refused;
+    of_delivery(b"deliver", m, refused as u64);
+    of_delivery(b"risen", m, outcome.rose as u64);
+    After { run, refused }
 }
 
 // A deletion, as process:index.

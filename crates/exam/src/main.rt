@@ -1,5 +1,5 @@
 // The exam sheet of document 01 by real calls: every case makes its calls through the crate `calls` and prints what they answered and left, one fact
-// a line. The independent oracle prints the same text (`oracle --cases`, laid out above `print` in its cases.rs); the tests compare the two.
+// a line; of each delivery that a case is about the set of entries that rose, too (document 02, Note 1). The independent oracle prints the same text (`oracle --cases`, laid out above `print` in its cases.rs); the tests compare the two.
 use crate::act::After;
 
 // say.rt: text on standard output
@@ -8,7 +8,7 @@ mod say;
 // act.rt: each call with the lists that it is lent, and the refusal number of its answer
 mod act;
 
-// facts.rt: what is printed of a state and of a recovery
+// facts.rt: what is printed of a state, of a delivery and of a recovery
 mod facts;
 
 // limits.rt: case 10
@@ -25,8 +25,9 @@ fn case(number: u64, s: After) {
 fn cases_1_to_3() -> After {
     let start = act::start(2);
     let first = act::send(start, 0, 1);
-    let second = act::deliver(first, 1, 512);
-    case(1, second);
+    say::case(1);
+    let second = facts::deliver(first, 1);
+    facts::state(second);
     let third = act::checkpoint(second, 1, 512);
     case(2, third);
     let fourth = act::checkpoint(third, 0, 512);
@@ -36,11 +37,13 @@ fn cases_1_to_3() -> After {
 
 fn cases_4_to_6(fourth: After) {
     let fifth = act::send(fourth, 1, 0);
-    let sixth = act::deliver(fifth, 2, 512);
-    case(4, sixth);
+    say::case(4);
+    let sixth = facts::deliver(fifth, 2);
+    facts::state(sixth);
     let seventh = act::send(sixth, 0, 1);
-    let eighth = act::deliver(seventh, 3, 512);
-    case(5, eighth);
+    say::case(5);
+    let eighth = facts::deliver(seventh, 3);
+    facts::state(eighth);
     let ninth = act::recover(eighth, 1, 512, 16);
     case(6, ninth);
 }
@@ -54,12 +57,13 @@ fn case_7(fourth: After) {
 
 // "Three processes, 0 to 1 sent and delivered, then 1 to 2 sent and delivered"
 fn case_8() {
+    say::case(8);
     let start = act::start(3);
     let first = act::send(start, 0, 1);
-    let second = act::deliver(first, 1, 512);
+    let second = facts::deliver(first, 1);
     let third = act::send(second, 1, 2);
-    let fourth = act::deliver(third, 2, 512);
-    case(8, fourth);
+    let fourth = facts::deliver(third, 2);
+    facts::state(fourth);
 }
 
 // "Two processes, send 0 to 1, recover {1}: line (1,0); deliver 1 is refused with 8"
@@ -68,9 +72,20 @@ fn case_9() {
     let start = act::start(2);
     let sent = act::send(start, 0, 1);
     let recovered = facts::recover(sent, 2);
-    let delivered = act::deliver(recovered, 1, 512);
-    say::answer(b"deliver 1", delivered.refused);
+    let delivered = facts::deliver(recovered, 1);
     facts::state(delivered);
+}
+
+// "Forcing whenever the sent mark is set, though nothing carried is newer": process 1 has sent, and message 2 brings it nothing.
+fn mark_2() {
+    say::mark(2);
+    let start = act::start(2);
+    let first = act::send(start, 0, 1);
+    let second = act::send(first, 0, 1);
+    let known = facts::deliver(second, 1);
+    let marked = act::send(known, 1, 0);
+    let quiet = facts::deliver(marked, 2);
+    facts::state(quiet);
 }
 
 fn main() {
@@ -80,4 +95,5 @@ fn main() {
     case_8();
     case_9();
     limits::case_10();
+    mark_2();
 }

@@ -33,6 +33,13 @@ pub(crate) fn case(number: u64) {
     end();
 }
 
+// One of the wrong marks on past papers, by its place in the list.
+pub(crate) fn mark(number: u64) {
+    text(b"mark");
+    value(number);
+    end();
+}
+
 // The answer of a call: 0, or the refusal number.
 pub(crate) fn answer(call: &[u8], refused: u8) {
     text(call);

@@ -15,7 +15,7 @@ valueIn (Number v) = some v
 
 -- The reply that a summary and a deletion list make. A line prints nothing of a line list.
 unfoldable pub replyOf : Summary → List ℕ → Reply
-replyOf s deleted = record { report = record { refused = s .refused; value = valueIn (s .value); deletions = s .deletions }; deleted = deleted; line = [] }
+replyOf s deleted = record { report = record { refused = s .refused; value = valueIn (s .value); deletions = s .deletions }; rose = 0; deleted = deleted; line = [] }
 
 -- "each as process:index", behind a space
 unfoldable pub pairText : ℕ → ℕ → List ℕ

@@ -2,6 +2,7 @@
 pub mod Blocks
 pub mod Exam
 pub mod Records
+pub mod Risen
 pub mod Sizes
 pub mod WholeRuns
 pub mod ideal

@@ -10,6 +10,7 @@ pub mod Parts
 pub mod Passing
 pub mod Reads
 pub mod Recover
+pub mod Risen
 pub mod Rollback
 pub mod Rows
 pub mod Sound

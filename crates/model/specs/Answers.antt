@@ -12,7 +12,7 @@ use lib.ListN.{length, getD, drop}
 use Rattle.laws.specs.Choice.{pick}
 use Rattle.laws.specs.Lists.{table, gather}
 use Rattle.laws.specs.Tests.{countBelow}
-use Rattle.model.specs.Words.{failed}
+use Rattle.model.specs.Words.{inSet, failed}
 use Rattle.model.specs.History.{HistoryEvent, stored, sent, received, Lists, Line, checkpoints, behind, Consistent}
 use Rattle.model.specs.Calls.{Call, checkpoint, send, deliver, lose, recover, line, Exchange}
 use Rattle.model.specs.Survival.{Surviving, after, surviving}
@@ -141,14 +141,29 @@ unfoldable pub SentSince : Surviving → ℕ → Type 0
 SentSince h p = (m : ℕ) × List·Memᴰ (sent m) (behind (liveOf h p - 1) (h .lists p))
 
 -- ".. and some carried entry is greater than i's": "Checkpoint a of f comes causally before a state exactly if a is less than that state's entry f".
--- A checkpoint of some process f of the run comes before the sending of m, and not before the live state of m's receiver.
-unfoldable pub BringsNews : ℕ → Surviving → ℕ → Type 0
-BringsNews n h m = (f a q : ℕ) × (f < n) × List·Memᴰ (sent m) (h .lists q) × ComesBefore (h .lists) f a q (before m (h .lists q))
+-- m brings its receiver news of f: a checkpoint of f comes before the sending of m, and not before the live state of m's receiver. The receiver then learns
+-- of a later interval of f than it knew.
+unfoldable pub BringsNewsOf : Surviving → ℕ → ℕ → Type 0
+BringsNewsOf h m f = (a q : ℕ) × List·Memᴰ (sent m) (h .lists q) × ComesBefore (h .lists) f a q (before m (h .lists q))
     × (ComesBefore (h .lists) f a (h .receiver m) (h .lists (h .receiver m)) → ⊥)
+
+-- It brings news of some process of the run.
+unfoldable pub BringsNews : ℕ → Surviving → ℕ → Type 0
+BringsNews n h m = (f : ℕ) × (f < n) × BringsNewsOf h m f
 
 -- "first do a checkpoint at i (forced)"
 unfoldable pub Forces : ℕ → Surviving → ℕ → Type 0
 Forces n h m = SentSince h (h .receiver m) × BringsNews n h m
+
+-- Note 1: "the set of entries that rose, as a number of 16 bits, exact in every case". What is promised of the set that an accepted delivery of m gives, judged
+-- by the history h before that call.
+pub record RightRisen (n : ℕ) (h : Surviving) (m : ℕ) (rose : ℕ) : Type 0 where
+  pub small : rose < 65_536
+  -- bit f is set exactly if m brings news of f, "whose news it brought"
+  pub if-news : (f : ℕ) → f < n → BringsNewsOf h m f → inSet rose f ≡ true
+  pub only-if-news : (f : ℕ) → f < n → inSet rose f ≡ true → BringsNewsOf h m f
+  -- no bit stands for a process that the run does not have
+  pub no-more : (f : ℕ) → n ≤ f → inSet rose f ≡ false
 
 -- What is promised of the n indexes that a line or recover call for the failed set F writes, judged by the history h before that call.
 pub record RightLine (n : ℕ) (h : Surviving) (F : ℕ) (written : Line) : Type 0 where
@@ -169,14 +184,18 @@ pub record AnswerIsRight (n : ℕ) (h : Surviving) (e : Exchange) : Type 0 where
   pub only-if : (m : ℕ) (deleted : List ℕ) → e .made ≡ deliver m deleted → h .underway m ≡ true → forcing ≡ true → Forces n h m
   -- the number, 0 if accepted
   pub number : e .reply .report .refused ≡ lowest (reasons n h forcing (e .made))
-  -- "A refusal returns its number ..; lent lists and buffers keep every entry."
+  -- "A refusal returns its number ..; lent lists and buffers keep every entry." Note 1: "and 0 with a refusal"
   pub refused : (e .reply .report .refused ≡ 0 → ⊥)
       → (e .reply .report .value ≡ none) × (e .reply .report .deletions ≡ 0) × (e .reply .deleted ≡ lentDeletions (e .made)) × (e .reply .line ≡ lentLine (e .made))
+      × (e .reply .rose ≡ 0)
   -- if accepted: the value; the pairs, their number and the rest of the list; the line and the rest of its list
   pub value : e .reply .report .refused ≡ 0 → e .reply .report .value ≡ valueOf n h forcing (e .made) (e .reply .line)
   pub pairs : e .reply .report .refused ≡ 0 → e .reply .deleted ≡ atFront (gonePairs n h (after n h e)) (lentDeletions (e .made))
   pub count : e .reply .report .refused ≡ 0 → 2 * e .reply .report .deletions ≡ length (gonePairs n h (after n h e))
   pub line-list : e .reply .report .refused ≡ 0 → e .reply .line ≡ atFront (indexesOf n (failedSet (e .made)) (e .reply .line)) (lentLine (e .made))
+  -- the set of entries that rose; 0 of a call that is no delivery
+  pub rose-right : e .reply .report .refused ≡ 0 → (m : ℕ) (deleted : List ℕ) → e .made ≡ deliver m deleted → RightRisen n h m (e .reply .rose)
+  pub rose-none : ((m : ℕ) (deleted : List ℕ) → e .made ≡ deliver m deleted → ⊥) → e .reply .rose ≡ 0
   pub line-right : e .reply .report .refused ≡ 0 → (F : ℕ) → failedSet (e .made) ≡ some F → RightLine n h F (λ p. getD (e .reply .line) p 0)
 
 -- Every answer of a transcript is right, judged by the surviving history of the exchanges before it.

@@ -20,9 +20,10 @@ pub data Call : Type 0 where
   -- the failed set; the line list
   line : ℕ → List ℕ → Call
 
--- All that a call returns beside the state: its report, and its lent lists as they then stand.
+-- All that a call returns beside the state: its report, the set of entries that rose, and its lent lists as they then stand.
 pub record Reply : Type 0 where
   pub report : Report
+  pub rose : ℕ
   pub deleted : List ℕ
   pub line : List ℕ
 
@@ -31,7 +32,7 @@ pub record Answered : Type 0 where
   pub reply : Reply
 
 unfoldable pub answered : {A : Type 0} → (A → Report) → Outcome A → Answered
-answered report o = record { run = o .run; reply = record { report = report (o .answer); deleted = o .deleted; line = o .line } }
+answered report o = record { run = o .run; reply = record { report = report (o .answer); rose = o .rose; deleted = o .deleted; line = o .line } }
 
 -- A call on a state, by the very outcomes that the library's contracts cite.
 unfoldable pub call : Run → Call → Answered

@@ -33,10 +33,12 @@ unfoldable pub optional : Option ℕ → List ℕ
 optional none = []
 optional (some v) = v ∷ []
 
--- What a call must answer: the refusal number or 0, its value if it has one, the numbers that its deletion list holds in front, and its line list.
+-- What a call must answer: the refusal number or 0, its value if it has one, the set of entries that rose (Note 1), the numbers that its deletion list holds in
+-- front, and its line list.
 pub record Expected : Type 0 where
   pub refused : ℕ
   pub value : List ℕ
+  pub rose : ℕ
   pub deleted : List ℕ
   pub line : List ℕ
 
@@ -72,6 +74,7 @@ unfoldable pub answerRight : Reply → Expected → Bool
 answerRight r e =
     eqb (r .report .refused) (e .refused)
     && same (optional (r .report .value)) (e .value)
+    && eqb (r .rose) (e .rose)
     && eqb (2 * r .report .deletions) (length (e .deleted))
     && same (take (length (e .deleted)) (r .deleted)) (e .deleted)
     && every (eqb 9) (drop (length (e .deleted)) (r .deleted))
@@ -113,16 +116,16 @@ traceCalls =
 
 unfoldable pub traceAnswers : List Expected
 traceAnswers =
-    record { refused = 0; value = 1 ∷ []; deleted = []; line = [] }
-    ∷ record { refused = 0; value = []; deleted = []; line = [] }
-    ∷ record { refused = 0; value = 1 ∷ []; deleted = []; line = [] }
-    ∷ record { refused = 0; value = 1 ∷ []; deleted = 0 ∷ 0 ∷ []; line = [] }
-    ∷ record { refused = 0; value = 2 ∷ []; deleted = []; line = [] }
-    ∷ record { refused = 0; value = []; deleted = []; line = [] }
-    ∷ record { refused = 0; value = 3 ∷ []; deleted = []; line = [] }
-    ∷ record { refused = 0; value = 2 ∷ []; deleted = 1 ∷ 0 ∷ 1 ∷ 1 ∷ []; line = [] }
-    ∷ record { refused = 0; value = 2 ∷ []; deleted = []; line = 1 ∷ 2 ∷ [] }
-    ∷ record { refused = 8; value = []; deleted = []; line = [] }
+    record { refused = 0; value = 1 ∷ []; rose = 0; deleted = []; line = [] }
+    ∷ record { refused = 0; value = []; rose = 1; deleted = []; line = [] }
+    ∷ record { refused = 0; value = 1 ∷ []; rose = 0; deleted = []; line = [] }
+    ∷ record { refused = 0; value = 1 ∷ []; rose = 0; deleted = 0 ∷ 0 ∷ []; line = [] }
+    ∷ record { refused = 0; value = 2 ∷ []; rose = 0; deleted = []; line = [] }
+    ∷ record { refused = 0; value = []; rose = 2; deleted = []; line = [] }
+    ∷ record { refused = 0; value = 3 ∷ []; rose = 0; deleted = []; line = [] }
+    ∷ record { refused = 0; value = 2 ∷ []; rose = 1; deleted = 1 ∷ 0 ∷ 1 ∷ 1 ∷ []; line = [] }
+    ∷ record { refused = 0; value = 2 ∷ []; rose = 0; deleted = []; line = 1 ∷ 2 ∷ [] }
+    ∷ record { refused = 8; value = []; rose = 0; deleted = []; line = [] }
     ∷ []
 
 -- Cases 1 to 9, in the order of the exam sheet. Pins are written 0 for none and k + 1 for checkpoint k.
@@ -202,7 +205,7 @@ exam =
     ∷ record {
       count = 2;
       calls = take 4 traceCalls ++ (recover 2 (deletionList 2) (lineList 2) ∷ []);
-      answers = take 4 traceAnswers ++ (record { refused = 0; value = 1 ∷ []; deleted = 1 ∷ 0 ∷ []; line = 2 ∷ 1 ∷ [] } ∷ []);
+      answers = take 4 traceAnswers ++ (record { refused = 0; value = 1 ∷ []; rose = 0; deleted = 1 ∷ 0 ∷ []; line = 2 ∷ 1 ∷ [] } ∷ []);
       vectors = (2 ∷ 0 ∷ []) ∷ (1 ∷ 2 ∷ []) ∷ [];
       pins = (2 ∷ 0 ∷ []) ∷ (0 ∷ 2 ∷ []) ∷ [];
       kept = (1 ∷ []) ∷ (1 ∷ []) ∷ [];
@@ -213,10 +216,10 @@ exam =
       count = 3;
       calls = send 0 1 ∷ deliver 1 (deletionList 3) ∷ send 1 2 ∷ deliver 2 (deletionList 3) ∷ [];
       answers =
-          record { refused = 0; value = 1 ∷ []; deleted = []; line = [] }
-          ∷ record { refused = 0; value = []; deleted = []; line = [] }
-          ∷ record { refused = 0; value = 2 ∷ []; deleted = []; line = [] }
-          ∷ record { refused = 0; value = []; deleted = []; line = [] }
+          record { refused = 0; value = 1 ∷ []; rose = 0; deleted = []; line = [] }
+          ∷ record { refused = 0; value = []; rose = 1; deleted = []; line = [] }
+          ∷ record { refused = 0; value = 2 ∷ []; rose = 0; deleted = []; line = [] }
+          ∷ record { refused = 0; value = []; rose = 3; deleted = []; line = [] }
           ∷ [];
       vectors = (1 ∷ 0 ∷ 0 ∷ []) ∷ (1 ∷ 1 ∷ 0 ∷ []) ∷ (1 ∷ 1 ∷ 1 ∷ []) ∷ [];
       pins = (1 ∷ 0 ∷ 0 ∷ []) ∷ (1 ∷ 1 ∷ 0 ∷ []) ∷ (1 ∷ 1 ∷ 1 ∷ []) ∷ [];
@@ -232,9 +235,9 @@ exam =
       count = 2;
       calls = send 0 1 ∷ recover 2 (deletionList 2) (lineList 2) ∷ deliver 1 (deletionList 2) ∷ [];
       answers =
-          record { refused = 0; value = 1 ∷ []; deleted = []; line = [] }
-          ∷ record { refused = 0; value = 1 ∷ []; deleted = []; line = 1 ∷ 0 ∷ [] }
-          ∷ record { refused = 8; value = []; deleted = []; line = [] }
+          record { refused = 0; value = 1 ∷ []; rose = 0; deleted = []; line = [] }
+          ∷ record { refused = 0; value = 1 ∷ []; rose = 0; deleted = []; line = 1 ∷ 0 ∷ [] }
+          ∷ record { refused = 8; value = []; rose = 0; deleted = []; line = [] }
           ∷ [];
       vectors = (1 ∷ 0 ∷ []) ∷ (0 ∷ 1 ∷ []) ∷ [];
       pins = (1 ∷ 0 ∷ []) ∷ (0 ∷ 1 ∷ []) ∷ [];
@@ -246,11 +249,11 @@ exam =
       count = 2;
       calls = send 0 1 ∷ send 0 1 ∷ deliver 1 (deletionList 2) ∷ send 1 0 ∷ deliver 2 (deletionList 2) ∷ [];
       answers =
-          record { refused = 0; value = 1 ∷ []; deleted = []; line = [] }
-          ∷ record { refused = 0; value = 2 ∷ []; deleted = []; line = [] }
-          ∷ record { refused = 0; value = []; deleted = []; line = [] }
-          ∷ record { refused = 0; value = 3 ∷ []; deleted = []; line = [] }
-          ∷ record { refused = 0; value = []; deleted = []; line = [] }
+          record { refused = 0; value = 1 ∷ []; rose = 0; deleted = []; line = [] }
+          ∷ record { refused = 0; value = 2 ∷ []; rose = 0; deleted = []; line = [] }
+          ∷ record { refused = 0; value = []; rose = 1; deleted = []; line = [] }
+          ∷ record { refused = 0; value = 3 ∷ []; rose = 0; deleted = []; line = [] }
+          ∷ record { refused = 0; value = []; rose = 0; deleted = []; line = [] }
           ∷ [];
       vectors = (1 ∷ 0 ∷ []) ∷ (1 ∷ 1 ∷ []) ∷ [];
       pins = (1 ∷ 0 ∷ []) ∷ (1 ∷ 1 ∷ []) ∷ [];

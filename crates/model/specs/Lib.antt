@@ -7,6 +7,7 @@ pub mod Needed
 pub mod Numbers
 pub mod Outcomes
 pub mod Refusals
+pub mod Risen
 pub mod Sound
 pub mod Steps
 pub mod Survival

@@ -62,7 +62,7 @@ lineText record-number r =
 
 -- The line of a refusal that belongs to the trace and to no call.
 unfoldable pub refusalText : ℕ → Refusal → List ℕ
-refusalText record-number r = lineText record-number (record { report = refusing r; deleted = []; line = [] })
+refusalText record-number r = lineText record-number (record { report = refusing r; rose = 0; deleted = []; line = [] })
 
 -- The call that an event asks for, with lent lists that are long enough for 16 processes.
 unfoldable pub callOf : Event → Call
@@ -74,7 +74,7 @@ callOf (Recover F) = recover F (replicate 512 0) (replicate 16 0)
 
 -- One record: the state after it, and the reply that its line prints. "14: .. given before any other number for that record."
 unfoldable pub perform : Run → Option Event → Answered
-perform s none = record { run = s; reply = record { report = refusing MalformedRecord; deleted = []; line = [] } }
+perform s none = record { run = s; reply = record { report = refusing MalformedRecord; rose = 0; deleted = []; line = [] } }
 perform s (some e) = call s (callOf e)
 
 -- "The program ends after record 1,000,000,000 and reads nothing past it."

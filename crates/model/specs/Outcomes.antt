@@ -26,13 +26,15 @@ use Rattle.model.specs.declared.LineAnswer.the-variants as line-answer
 use Rattle.model.specs.declared.RecoverAnswer.{RecoverAnswer}
 use Rattle.model.specs.declared.RecoverAnswer.the-variants as recover-answer
 use Rattle.model.specs.Words.{noMessage, blank, process, live}
-use Rattle.model.specs.Steps.{Deletion, startState, checkpointState, checkpointDeletions, sendState, found, forces, deliverState, deliverDeletions, loseState, lineOf, recoverState, recoverDeletions, rolledBackCount}
+use Rattle.model.specs.Steps.{Deletion, startState, checkpointState, checkpointDeletions, sendState, found, forces, deliverState, deliverRisen, deliverDeletions, loseState, lineOf, recoverState, recoverDeletions, rolledBackCount}
 use Rattle.model.specs.Refusals.{number, startRefusal, checkpointRefusal, sendRefusal, deliverRefusal, loseRefusal, lineRefusal, recoverRefusal}
 
--- What a call leaves behind. A list that the call is not lent is empty.
+-- What a call leaves behind. A list that the call is not lent is empty. `rose` is the set of entries that rose (Note 1): "0 with a refusal", and 0 of a
+-- call that takes no carried vector in.
 pub record Outcome (A : Type 0) : Type 0 where
   pub run : Run
   pub answer : A
+  pub rose : ℕ
   pub deleted : List ℕ
   pub line : List ℕ
 
@@ -52,23 +54,24 @@ written lent numbers = sets lent 0 numbers
 
 unfoldable pub startOutcome : ℕ → Outcome StartAnswer
 startOutcome n = judged (startRefusal n)
-    (λ r. record { run = blank 0; answer = start-answer.Refused r; deleted = []; line = [] })
-    (record { run = startState n; answer = start-answer.Started; deleted = []; line = [] })
+    (λ r. record { run = blank 0; answer = start-answer.Refused r; rose = 0; deleted = []; line = [] })
+    (record { run = startState n; answer = start-answer.Started; rose = 0; deleted = []; line = [] })
 
 unfoldable pub checkpointOutcome : Run → ℕ → List ℕ → Outcome CheckpointAnswer
 checkpointOutcome s i deleted = judged (checkpointRefusal s i deleted)
-    (λ r. record { run = s; answer = checkpoint-answer.Refused r; deleted = deleted; line = [] })
+    (λ r. record { run = s; answer = checkpoint-answer.Refused r; rose = 0; deleted = deleted; line = [] })
     (record {
       run = checkpointState s i;
       answer = checkpoint-answer.Stored (live i (process s i) .index) (length (checkpointDeletions s i));
+      rose = 0;
       deleted = written deleted (pairs (checkpointDeletions s i));
       line = [];
     })
 
 unfoldable pub sendOutcome : Run → ℕ → ℕ → Outcome SendAnswer
 sendOutcome s i j = judged (sendRefusal s i j)
-    (λ r. record { run = s; answer = send-answer.Refused r; deleted = []; line = [] })
-    (record { run = sendState s i j; answer = send-answer.Sent (s .last + 1); deleted = []; line = [] })
+    (λ r. record { run = s; answer = send-answer.Refused r; rose = 0; deleted = []; line = [] })
+    (record { run = sendState s i j; answer = send-answer.Sent (s .last + 1); rose = 0; deleted = []; line = [] })
 
 -- The answer of an accepted delivery: with a forced checkpoint its index, and in both cases how many were deleted.
 unfoldable pub deliverAnswer : Run → Message → DeliverAnswer
@@ -82,30 +85,32 @@ message s m = orElse (found s m) noMessage
 
 unfoldable pub deliverOutcome : Run → ℕ → List ℕ → Outcome DeliverAnswer
 deliverOutcome s m deleted = judged (deliverRefusal s m deleted)
-    (λ r. record { run = s; answer = deliver-answer.Refused r; deleted = deleted; line = [] })
+    (λ r. record { run = s; answer = deliver-answer.Refused r; rose = 0; deleted = deleted; line = [] })
     (record {
       run = deliverState s (message s m);
       answer = deliverAnswer s (message s m);
+      rose = deliverRisen s (message s m);
       deleted = written deleted (pairs (deliverDeletions s (message s m)));
       line = [];
     })
 
 unfoldable pub loseOutcome : Run → ℕ → Outcome LoseAnswer
 loseOutcome s m = judged (loseRefusal s m)
-    (λ r. record { run = s; answer = lose-answer.Refused r; deleted = []; line = [] })
-    (record { run = loseState s m; answer = lose-answer.Lost; deleted = []; line = [] })
+    (λ r. record { run = s; answer = lose-answer.Refused r; rose = 0; deleted = []; line = [] })
+    (record { run = loseState s m; answer = lose-answer.Lost; rose = 0; deleted = []; line = [] })
 
 unfoldable pub lineOutcome : Run → ℕ → List ℕ → Outcome LineAnswer
 lineOutcome s F line = judged (lineRefusal s F line)
-    (λ r. record { run = s; answer = line-answer.Refused r; deleted = []; line = line })
-    (record { run = s; answer = line-answer.Written; deleted = []; line = written line (lineOf s F) })
+    (λ r. record { run = s; answer = line-answer.Refused r; rose = 0; deleted = []; line = line })
+    (record { run = s; answer = line-answer.Written; rose = 0; deleted = []; line = written line (lineOf s F) })
 
 unfoldable pub recoverOutcome : Run → ℕ → List ℕ → List ℕ → Outcome RecoverAnswer
 recoverOutcome s F deleted line = judged (recoverRefusal s F deleted line)
-    (λ r. record { run = s; answer = recover-answer.Refused r; deleted = deleted; line = line })
+    (λ r. record { run = s; answer = recover-answer.Refused r; rose = 0; deleted = deleted; line = line })
     (record {
       run = recoverState s F;
       answer = recover-answer.Recovered (rolledBackCount s F) (length (recoverDeletions s F));
+      rose = 0;
       deleted = written deleted (pairs (recoverDeletions s F));
       line = written line (lineOf s F);
     })

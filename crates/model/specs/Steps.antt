@@ -6,6 +6,7 @@ use mathlib.Core.Option.{Option, none, some}
 use Prim.Native.Nat.{ℕ, zero, suc, _+_}
 use lib.Dec.{eqb, ltb, leb}
 use lib.ListN.{getD, set}
+use Rattle.laws.specs.Bits.{bitsOf}
 use Rattle.laws.specs.Choice.{pick}
 use Rattle.laws.specs.Lists.{select, orElse, lastOf, table, gather}
 use Rattle.laws.specs.Search.{allBelow, anyBelow}
@@ -103,6 +104,10 @@ takenPin i own carried pins f = pick (below (entry own f) (entry carried f)) (ge
 unfoldable pub takenPins : ℕ → List Interval → List Interval → List Pin → List Pin
 takenPins i own carried pins = table places (takenPin i own carried pins)
 
+-- Note 1: "the set of entries that rose, as a number of 16 bits". Entry f rises where it is smaller than the carried one; bit f stands for it.
+unfoldable pub risen : List Interval → List Interval → ℕ
+risen own carried = bitsOf places (λ f. below (entry own f) (entry carried f))
+
 unfoldable pub takenIn : ℕ → List Interval → Process → Process
 takenIn i carried P = record {
   vector = takenVector (P .vector) carried;
@@ -117,6 +122,12 @@ delivered i carried P = takenIn i carried (pick (forces P carried) (checkpointed
 -- "The message is no longer under way."
 unfoldable pub deliverState : Run → Message → Run
 deliverState s x = withMessages (withProcess s (x .receiver) (settled (delivered (x .receiver) (x .vector) (process s (x .receiver))))) (others s (x .number)) (s .last)
+
+-- Note 1: "Delivery passes it on." The entries that rose are those of the vector that takes the carried one in: behind the forced checkpoint, if there is one.
+unfoldable pub deliverRisen : Run → Message → ℕ
+deliverRisen s x =
+    let P = process s (x .receiver) in
+    risen (pick (forces P (x .vector)) (advanced (x .receiver) (P .vector)) (P .vector)) (x .vector)
 
 unfoldable pub deliverDeletions : Run → Message → List Deletion
 deliverDeletions s x = deletions (x .receiver) (delivered (x .receiver) (x .vector) (process s (x .receiver)))

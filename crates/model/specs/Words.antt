@@ -2,9 +2,10 @@
 -- Assumes nothing.
 use mathlib.Core.Bool.{Bool, false}
 use mathlib.Core.List.{List, []}
-use Prim.Native.Nat.{ℕ, _-_, _/_, _%_, _^_}
+use Prim.Native.Nat.{ℕ, _-_}
 use lib.Dec.{eqb, ltb}
 use lib.ListN.{length, getD, set, take, replicate}
+use Rattle.laws.specs.Bits.{bit}
 use Rattle.laws.specs.Lists.{placed}
 use Rattle.laws.specs.Tests.{some-of}
 use Rattle.model.specs.declared.Interval.{Interval}
@@ -147,6 +148,10 @@ withMessages s messages last = record {
   last = last;
 }
 
--- "The failed set is a number of 16 bits; bit p, worth 2 to the power p, stands for process p."
+-- A set of processes, or of a vector's entries, is a number: "bit p, worth 2 to the power p, stands for process p".
+abbrev pub inSet : ℕ → ℕ → Bool
+inSet S p = bit S p
+
+-- "The failed set is a number of 16 bits".
 abbrev pub failed : ℕ → ℕ → Bool
-failed F p = eqb (F / (2 ^ p) % 2) 1
+failed F p = inSet F p

@@ -24,5 +24,5 @@ line-fits said deleted k h few entries = line-length k (replyOf said deleted) fe
 -- The line of a refusal, beside any list.
 pub refusal-line : (said : Summary) (why : Refusal) (l : List ℕ) (k : ℕ) → reportIn said ≡ refusing why → lineText k (replyOf said l) ≡ refusalText k why
 unfolding refusalText
-refusal-line said why l k h = says-line said l (record { report = refusing why; deleted = []; line = [] })
+refusal-line said why l k h = says-line said l (record { report = refusing why; rose = 0; deleted = []; line = [] })
     (record { report = h; listed = none-listed said (refusing why) l [] h refl }) k

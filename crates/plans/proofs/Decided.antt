@@ -2,7 +2,7 @@
 -- place `first` up to place `tail`, and t is what a look-up of message m says of it: the calls of the library and the replay of a block differ in the table alone.
 -- Each of these takes s, that it is sound and sized, table, first, tail, m, t and that the look-up is right, then what stands behind its name:
 --   refused-decided i why, checkpoint-decided i lent long, send-decided i j room, deliver-decided lent long, lose-decided i: the plan fulfils the model's outcome;
---   checkpoint-stores i, checkpoint-sends i, send-numbers i j, send-stores i j, deliver-forces, deliver-sends r, lose-quiet mark: what an answer says of its plan;
+--   checkpoint-stores i, checkpoint-sends i, send-numbers i j, send-stores i j, deliver-forces, deliver-rises, deliver-sends r, lose-quiet mark: what an answer says of its plan;
 --   found-message, found-underway: what the look-up gives where it has found the message.
 -- And of a failed set, with s, that it is sound, F, a line list that is long enough, and for a recovery a deletion list that is:
 --   line-refused why, line-passed, recover-refused why, recover-passed: what the verdict says of the call's refusal.
@@ -14,24 +14,26 @@ use mathlib.Core.Option.{Option, none, some}
 use Prim.Native.Nat.{ℕ, _+_, _*_, _^_, _≤_, _<_}
 use lib.Dec.{eqb, ltb, leb}
 use lib.ListN.{length, getD}
-use borrow.Author.Tests.{lt-ltb, le-ltb, leb-false}
-use Rattle.laws.specs.Choice.{by-bool}
+use borrow.Author.Tests.{lt-ltb, le-ltb, leb-false, eqb-true}
+use Rattle.laws.specs.Choice.{pick, by-bool}
 use Rattle.laws.specs.Truth.{never-both, or-left, or-in-right}
 use Rattle.model.specs.declared.Message.{Message}
 use Rattle.model.specs.declared.Refusal.{Refusal}
 use Rattle.model.specs.declared.Refusal.the-variants.{UnsoundState, NoSuchProcess, SenderIsReceiver, NobodyFailed, NoSuchFailedProcess, NotUnderWay, TooManyUnderWay, MessageNumbersUsed, IntervalsUsed}
 use Rattle.model.specs.declared.Run.{Run}
 use Rattle.model.specs.Words.{process, own}
-use Rattle.model.specs.Steps.{checkpointDeletions, found, forces, deliverState, deliverDeletions, loseState}
+use Rattle.model.specs.Steps.{checkpointDeletions, found, newer, forces, deliverState, deliverRisen, deliverDeletions, loseState}
 use Rattle.model.specs.Sound.{sound}
 use Rattle.model.specs.Refusals.{firstOf, checkpointRefusal, sendRefusal, forcesPast, deliverRefusal, loseRefusal, noMember, emptySet, outside, lineRefusal, recoverRefusal}
 use Rattle.model.specs.Outcomes.{judged, checkpointOutcome, sendOutcome, message, deliverOutcome, loseOutcome}
 use Rattle.model.specs.laws.Refusals.{refusal-in}
+use Rattle.model.proofs.Risen.{risen-is-exact}
+use Rattle.rows.specs.Receipt.{vectorFirst, takenThen}
 use Rattle.plans.specs.declared.Lookup.{Lookup}
 use Rattle.plans.specs.declared.Plan.{Plan}
 use Rattle.plans.specs.declared.Verdict.{Verdict}
 use Rattle.plans.specs.declared.Verdict.the-variants.{Accepted, Refused}
-use Rattle.plans.specs.Carried.{vectorAt, ownAt, Fulfils}
+use Rattle.plans.specs.Carried.{vectorAt, ownAt, roseBy, Fulfils}
 use Rattle.plans.specs.Planned.{rowOf, unchanged, storedPlan, checkpointPlan, sentPlan, sendPlan, withoutIt, receiptPlan, deliverPlan, losePlan, recoveryVerdict}
 use Rattle.plans.specs.Sized.{Sized}
 use Rattle.plans.specs.Tables.{LooksUp}
@@ -187,6 +189,29 @@ module _ (s : Run) (h : sound s ≡ true) (size : Sized s) (table : List Message
       (λ e still yes. (found-message there, refl, forces-none h size look there still))
       (λ e brings late. not-accepted IntervalsUsed)
       (λ e brings early yes. (found-message there, refl, forces-marked h size look there brings))))
+      (λ gone. rw (deliver-missing _ _ _ t gone) (not-accepted NotUnderWay))
+
+  -- the entries that rise at an accepted one are those of the row that its plan moves; one that moves none brings nothing new
+  rises-not : t .found ≡ true → newer (vectorAt s receiver) (t .message .vector) ≡ false → deliverRisen s (t .message) ≡ 0
+  unfolding deliverRisen process
+  rises-not there still = rw (forces-none h size look there still) (eqb-true _ 0 (risen-is-exact (vectorAt s receiver) (t .message .vector) .nothing ∙ rw still))
+
+  rises-there : t .found ≡ true → newer (vectorAt s receiver) (t .message .vector) ≡ true
+      → deliverRisen s (t .message) ≡ takenThen (getD (s .sent) receiver false) receiver (vectorAt s receiver) (t .message .vector) .rose
+  unfolding deliverRisen process takenThen vectorFirst
+  rises-there there brings = rw (forces-marked h size look there brings)
+
+  pub deliver-rises : deliver (rowOf receiver) .verdict ≡ Accepted
+      → deliverRisen s (t .message) ≡ pick (deliver (rowOf receiver) .moves) (roseBy s (rowOf receiver) (deliver (rowOf receiver))) 0
+  unfolding unchanged withoutIt receiptPlan
+  deliver-rises = by-bool (t .found)
+      (λ there.
+      let Says : ℕ → Plan → Type 0 = λ q p. p .verdict ≡ Accepted → deliverRisen s (t .message) ≡ pick (p .moves) (roseBy s q p) 0 in
+      subst (λ (q : ℕ). Says q (deliver q)) (sym (deliver-row there))
+      (deliver-cases _ _ _ t (Says receiver) (λ gone. not-accepted NotUnderWay)
+      (λ e still yes. rises-not there still)
+      (λ e brings late. not-accepted IntervalsUsed)
+      (λ e brings early yes. rises-there there brings)))
       (λ gone. rw (deliver-missing _ _ _ t gone) (not-accepted NotUnderWay))
 
   pub deliver-sends : (r : ℕ) → deliver r .sends ≡ false

@@ -18,7 +18,7 @@ use Rattle.model.specs.Words.{mostUnderWay, entry, liveIndex, named, noMessage}
 use Rattle.model.specs.Steps.{Deletion, listed}
 use Rattle.rows.specs.declared.kept.KeptRow.{KeptRow}
 use Rattle.rows.specs.Kept.{keptRow}
-use Rattle.rows.specs.Receipt.{vectorThen, pinsThen, keptThen}
+use Rattle.rows.specs.Receipt.{takenThen, vectorThen, pinsThen, keptThen}
 use Rattle.plans.specs.declared.Plan.{Plan}
 use Rattle.plans.specs.Planned.{refusalOf}
 use Rattle.plans.specs.Tables.{messagesIn}
@@ -45,6 +45,10 @@ module _ (s : Run) (i : ℕ) where
 
   abbrev pub unnamedBy : Plan → List Checkpoint
   unnamedBy p = select (λ c. not (named (pinsBy p) c)) keptAt
+
+  -- the entries of its vector that rise
+  abbrev pub roseBy : Plan → ℕ
+  roseBy p = takenThen (p .stores) i vectorAt (p .carried) .rose
 
 -- The state with these parts in place of its own.
 abbrev pub withParts : Run → List (List Interval) → List (List Pin) → List Bool → List (List Checkpoint) → List ℕ → List Message → ℕ → ℕ → Run

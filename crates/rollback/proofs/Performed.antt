@@ -66,6 +66,7 @@ pub recovery-performed : (s : Run) → Reachable s → (F : ℕ) → recoveryVer
       run = restored s r;
       reply = record {
         report = accepting (some (r .rolled)) (r .gone);
+        rose = 0;
         deleted = sets (replicate 512 0) 0 (pairs (recoverDeletions s F));
         line = sets (replicate 16 0) 0 (lineOf s F);
       };

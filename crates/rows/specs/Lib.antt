@@ -3,4 +3,5 @@ pub mod Kept
 pub mod Line
 pub mod Receipt
 pub mod Recovery
+pub mod TakingIn
 pub mod Turn

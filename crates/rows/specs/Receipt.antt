@@ -14,6 +14,8 @@ use Rattle.model.specs.declared.Pin.the-variants.{At}
 use Rattle.model.specs.declared.Checkpoint.{Checkpoint}
 use Rattle.model.specs.Words.{named}
 use Rattle.model.specs.Steps.{advanced, takenVector, takenPins}
+use Rattle.rows.specs.declared.vector.Taken.{Taken}
+use Rattle.rows.specs.TakingIn.{takenWhole}
 
 -- the vector and the pins once the checkpoint is stored
 unfoldable pub vectorFirst : Bool → ℕ → List Interval → List Interval
@@ -22,7 +24,10 @@ vectorFirst stores i vector = pick stores (advanced i vector) vector
 unfoldable pub pinsFirst : Bool → ℕ → CheckpointIndex → List Pin → List Pin
 pinsFirst stores i index pins = pick stores (set pins i (At index)) pins
 
--- the vector, the pins and the kept checkpoints after the receipt: those that are still named, then the stored one behind them
+-- the vector with the set of its entries that rose, the vector alone, the pins, and the kept checkpoints after the receipt: those that are still named, then the stored one behind them
+unfoldable pub takenThen : Bool → ℕ → List Interval → List Interval → Taken
+takenThen stores i vector carried = takenWhole (vectorFirst stores i vector) carried
+
 unfoldable pub vectorThen : Bool → ℕ → List Interval → List Interval → List Interval
 vectorThen stores i vector carried = takenVector (vectorFirst stores i vector) carried
 

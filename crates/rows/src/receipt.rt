@@ -11,7 +11,7 @@ ghost use lib.ListN.{length, take};
 ghost use Rattle.laws.specs.Lists.{select};
 ghost use Rattle.model.specs.Words.{entry, named};
 ghost use Rattle.rows.specs.Kept.{keptRow};
-ghost use Rattle.rows.specs.Receipt.{vectorFirst, pinsFirst, vectorThen, pinsThen, keptThen};
+ghost use Rattle.rows.specs.Receipt.{vectorFirst, pinsFirst, takenThen, vectorThen, pinsThen, keptThen};
 
 // The vector that takes the carried one in: where a checkpoint is stored, 1 is added to the own entry first. The caller has refused to store one at 65,535.
 fn vector_first(stores: bool, vector: [Interval; 16], i: usize) -> [Interval; 16]
@@ -37,7 +37,21 @@ fn pins_first(stores: bool, index: CheckpointIndex, pins: [Pin; 16], i: usize) -
     }
 }
 
-// The vector of process i after the receipt.
+// The vector of process i after the receipt, and the set of its entries that rose when the carried vector was taken in.
+pub fn taken_then(
+    stores: bool,
+    vector: [Interval; 16],
+    carried: [Interval; 16],
+    i: usize,
+) -> super::vector::Taken
+    requires { ⌜ (i < 16) × (stores ≡ true → entry vector i .0 < 65535) ⌝ }
+    ensures { λ r. ⌜ r ≡ takenThen stores i vector carried ⌝ }
+{
+    let first = vector_first(stores, vector, i);
+    super::vector::take_in(first, carried)
+}
+
+// The vector alone.
 pub fn vector_then(
     stores: bool,
     vector: [Interval; 16],
@@ -47,8 +61,8 @@ pub fn vector_then(
     requires { ⌜ (i < 16) × (stores ≡ true → entry vector i .0 < 65535) ⌝ }
     ensures { λ r. ⌜ r ≡ vectorThen stores i vector carried ⌝ }
 {
-    let first = vector_first(stores, vector, i);
-    super::vector::take_in(first, carried)
+    let taken = taken_then(stores, vector, carried, i);
+    taken.vector
 }
 
 // The pins of process i after the receipt; `index` is the live state's before it.

@@ -2,10 +2,11 @@
 use model::CheckpointIndex;
 use model::Interval;
 ghost use mathlib.Core.Path.{_≡_};
-ghost use Prim.Native.Nat.{_<_, _≤_};
+ghost use Prim.Native.Nat.{_^_, _<_, _≤_};
 ghost use Rattle.laws.specs.Choice.{pick};
 ghost use Rattle.model.specs.Words.{entry, below, lastStored, liveIndex};
 ghost use Rattle.model.specs.Steps.{advanced, newer, takenVector};
+ghost use Rattle.rows.specs.TakingIn.{takenWhole};
 
 // The last stored checkpoint of a process whose own entry is `own`. This is the one place where an interval's number becomes a checkpoint's index.
 pub fn last_stored(own: Interval) -> CheckpointIndex
@@ -59,17 +60,48 @@ fn greater(own: Interval, carried: Interval) -> Interval
     if own.0 < carried.0 { carried } else { own }
 }
 
-// own, with each entry that is smaller than the carried one replaced by it. Every turn stores its entry, changed or not: such a loop takes several
-// entries at a time.
-pub fn take_in(own: [Interval; 16], carried: [Interval; 16]) -> [Interval; 16]
-    ensures { λ r. ⌜ r ≡ takenVector own carried ⌝ }
+// The greater of two vectors at each entry. Every turn stores its entry, changed or not: such a loop takes several entries at a time.
+pub fn greatest(a: [Interval; 16], b: [Interval; 16]) -> [Interval; 16]
+    ensures { λ r. ⌜ r ≡ takenVector a b ⌝ }
 {
-    let mut taken = own;
+    let mut most = a;
+    for f in 0..16 {
+        let x = a[f];
+        let y = b[f];
+        let z = greater(x, y);
+        most[f] = z;
+    }
+    most
+}
+
+// A vector that has taken a carried one in, and the set of its entries that rose: bit f, worth 2 to the power f, stands for entry f.
+pub struct Taken {
+    pub vector: [Interval; 16],
+    pub rose: u16,
+}
+
+// What entry f adds to the set: its bit, if it rises.
+fn bit_if_risen(own: Interval, carried: Interval, f: usize) -> u16
+    requires { ⌜ f < 16 ⌝ }
+    ensures { λ r. ⌜ r ≡ pick (below own carried) (2 ^ f) 0 ⌝ }
+{
+    if own.0 < carried.0 { 1u16 << f } else { 0 }
+}
+
+// own takes the carried vector in: each entry that is smaller than the carried one is replaced by it, and the set says which entries these are. Every turn
+// stores its entry, changed or not, as in `greatest`.
+pub fn take_in(own: [Interval; 16], carried: [Interval; 16]) -> Taken
+    ensures { λ r. ⌜ r ≡ takenWhole own carried ⌝ }
+{
+    let mut vector = own;
+    let mut rose = 0u16;
     for f in 0..16 {
         let x = own[f];
         let y = carried[f];
         let z = greater(x, y);
-        taken[f] = z;
+        let bit = bit_if_risen(x, y, f);
+        vector[f] = z;
+        rose = rose + bit;
     }
-    taken
+    Taken { vector, rose }
 }

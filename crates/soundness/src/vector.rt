@@ -37,5 +37,5 @@ pub fn is_zero(vector: [Interval; 16]) -> bool
 pub fn joined(a: [Interval; 16], b: [Interval; 16]) -> [Interval; 16]
     ensures { λ r. ⌜ (r ≡ takenVector a b) × Joins a b r ⌝ }
 {
-    rows::vector::take_in(a, b)
+    rows::vector::greatest(a, b)
 }

@@ -28,7 +28,7 @@ use Rattle.model.specs.declared.DeliverAnswer.the-variants as deliver-answer
 use Rattle.model.specs.declared.LoseAnswer.{LoseAnswer}
 use Rattle.model.specs.declared.LoseAnswer.the-variants as lose-answer
 use Rattle.model.specs.Words.{mostUnderWay, entry, liveIndex, noMessage, process, live, underWay}
-use Rattle.model.specs.Steps.{Deletion, listed, checkpointDeletions, sendState, found, forces, deliverDeletions, loseState}
+use Rattle.model.specs.Steps.{Deletion, listed, checkpointDeletions, sendState, found, forces, deliverRisen, deliverDeletions, loseState}
 use Rattle.model.specs.Sound.{sound}
 use Rattle.model.specs.Refusals.{missing, checkpointRefusal, sendRefusal, deliverRefusal, loseRefusal}
 use Rattle.model.specs.Outcomes.{Outcome, judged, pairs, checkpointOutcome, sendOutcome, deliverAnswer, message, deliverOutcome, loseOutcome}
@@ -38,14 +38,14 @@ use Rattle.plans.specs.declared.Lookup.{Lookup}
 use Rattle.plans.specs.declared.Plan.{Plan}
 use Rattle.plans.specs.declared.Verdict.{Verdict}
 use Rattle.plans.specs.declared.Verdict.the-variants.{Accepted, Refused}
-use Rattle.plans.specs.Carried.{messagesThen, unnamedBy, unmoved, moved, Fulfils}
+use Rattle.plans.specs.Carried.{messagesThen, unnamedBy, roseBy, unmoved, moved, Fulfils}
 use Rattle.plans.specs.Planned.{rowOf, refusalOf, unchanged, storedPlan, checkpointPlan, sentPlan, sendPlan, withoutIt, deliverPlan, losePlan}
 use Rattle.plans.specs.Sized.{Sized}
 use Rattle.plans.specs.Tables.{inUse, messagesIn, LooksUp}
 use Rattle.plans.proofs.Facts.{row-is}
 use Rattle.plans.proofs.Filled.{messages-filled, messages-many}
 use Rattle.plans.proofs.Cases.{either-plan}
-use Rattle.plans.proofs.Decided.{found-underway, checkpoint-decided, checkpoint-stores, send-decided, send-numbers, deliver-decided, deliver-forces, lose-decided}
+use Rattle.plans.proofs.Decided.{found-underway, checkpoint-decided, checkpoint-stores, send-decided, send-numbers, deliver-decided, deliver-forces, deliver-rises, lose-decided}
 use Rattle.plans.proofs.Looked.{put-back, put-behind, receiver-present}
 use Rattle.steps.specs.Messages.{noneNamed, lookedUp, Closed}
 use Rattle.steps.proofs.ClosedTables.{front, closed}
@@ -162,7 +162,7 @@ module _ (s : Run) (h : sound s ≡ true) (size : Sized s) where
         where
           by-verdict : (v : Verdict) → (v ≡ Accepted → p .last ≡ s .last + 1)
               → judged (refusalOf v) (λ why. send-answer.Refused why) (send-answer.Sent (p .last))
-              ≡ judged {A = Outcome SendAnswer} (refusalOf v) (λ r. record { run = s; answer = send-answer.Refused r; deleted = []; line = [] }) (record { run = sendState s i j; answer = send-answer.Sent (s .last + 1); deleted = []; line = [] }) .answer
+              ≡ judged {A = Outcome SendAnswer} (refusalOf v) (λ r. record { run = s; answer = send-answer.Refused r; rose = 0; deleted = []; line = [] }) (record { run = sendState s i j; answer = send-answer.Sent (s .last + 1); rose = 0; deleted = []; line = [] }) .answer
           by-verdict Accepted last = ap send-answer.Sent (last refl)
           by-verdict (Refused why) last = refl
 
@@ -173,7 +173,7 @@ module _ (s : Run) (h : sound s ≡ true) (size : Sized s) where
     checkpoint-short short = refusal-in _ (some ListTooShort) (1, (rw h, tt), lt-ltb (length lent) (2 * s .count * s .count) short, refl)
 
     pub checkpoint-refused : (why : Refusal) → checkpointRefusal s i lent ≡ some why
-        → checkpointOutcome s i lent ≡ record { run = s; answer = checkpoint-answer.Refused why; deleted = lent; line = [] }
+        → checkpointOutcome s i lent ≡ record { run = s; answer = checkpoint-answer.Refused why; rose = 0; deleted = lent; line = [] }
     unfolding checkpointOutcome
     checkpoint-refused why e = rw e
 
@@ -244,7 +244,7 @@ module _ (s : Run) (h : sound s ≡ true) (size : Sized s) where
       lose-answers e = rw (lose-does .verdict) (e ∙ by-verdict (p .verdict))
         where
           by-verdict : (v : Verdict) → judged (refusalOf v) (λ why. lose-answer.Refused why) lose-answer.Lost
-              ≡ judged {A = Outcome LoseAnswer} (refusalOf v) (λ r. record { run = s; answer = lose-answer.Refused r; deleted = []; line = [] }) (record { run = loseState s m; answer = lose-answer.Lost; deleted = []; line = [] }) .answer
+              ≡ judged {A = Outcome LoseAnswer} (refusalOf v) (λ r. record { run = s; answer = lose-answer.Refused r; rose = 0; deleted = []; line = [] }) (record { run = loseState s m; answer = lose-answer.Lost; rose = 0; deleted = []; line = [] }) .answer
           by-verdict Accepted = refl
           by-verdict (Refused why) = refl
 
@@ -261,6 +261,9 @@ module _ (s : Run) (h : sound s ≡ true) (size : Sized s) where
 
       facts : p .verdict ≡ Accepted → (found s m ≡ some (t .message)) × (row ≡ t .message .receiver) × (forces (process s (t .message .receiver)) (t .message .vector) ≡ p .stores)
       facts = rw (e-p, e-vectors, e-row) (deliver-forces s h size (s .messages) 0 (s .underway) m t look)
+
+      risen : p .verdict ≡ Accepted → deliverRisen s (t .message) ≡ pick (p .moves) (roseBy s row p) 0
+      risen = rw (e-p, e-vectors, e-row) (deliver-rises s h size (s .messages) 0 (s .underway) m t look)
 
       module _ (accepted : p .verdict ≡ Accepted) where
         delivered-fine : deliverRefusal s m lent ≡ none
@@ -282,12 +285,23 @@ module _ (s : Run) (h : sound s ≡ true) (size : Sized s) where
         deliver-outcome e-answer e-gone e-list =
             rw (e-answer, e-gone, e-list, delivered-fine, facts accepted .0, e-vectors, facts accepted .1, facts accepted .2) (refl, refl)
 
+        -- the entries that rose, by whether the plan moves the receiver's rows
+        rises : deliverOutcome s m lent .rose ≡ pick (p .moves) (roseBy s row p) 0
+        unfolding deliverOutcome
+        rises = rw (delivered-fine, facts accepted .0) (risen accepted)
+
+        pub moved-rose : p .moves ≡ true → {rose : ℕ} → rose ≡ roseBy s row p → rose ≡ deliverOutcome s m lent .rose
+        moved-rose moves e = e ∙ sym (rises ∙ rw moves)
+
+        pub still-rose : p .moves ≡ false → 0 ≡ deliverOutcome s m lent .rose
+        still-rose still = sym (rises ∙ rw still)
+
   module _ (m : ℕ) (lent : List ℕ) where
     pub deliver-short : length lent < 2 * s .count * s .count → deliverRefusal s m lent ≡ some ListTooShort
     unfolding deliverRefusal
     deliver-short short = refusal-in _ (some ListTooShort) (1, (rw h, tt), lt-ltb (length lent) (2 * s .count * s .count) short, refl)
 
     pub deliver-refused : (why : Refusal) → deliverRefusal s m lent ≡ some why
-        → deliverOutcome s m lent ≡ record { run = s; answer = deliver-answer.Refused why; deleted = lent; line = [] }
+        → deliverOutcome s m lent ≡ record { run = s; answer = deliver-answer.Refused why; rose = 0; deleted = lent; line = [] }
     unfolding deliverOutcome
     deliver-refused why e = rw e

@@ -21,17 +21,18 @@ use Rattle.model.specs.Outcomes.{pairs}
 use Rattle.rows.specs.declared.kept.KeptRow.{KeptRow}
 use Rattle.rows.specs.Kept.{keptRow}
 use Rattle.rows.specs.Line.{liveFrom}
-use Rattle.rows.specs.Receipt.{vectorThen, pinsThen, keptThen}
+use Rattle.rows.specs.declared.vector.Taken.{Taken}
+use Rattle.rows.specs.Receipt.{takenThen, vectorThen, pinsThen, keptThen}
 use Rattle.plans.specs.declared.Plan.{Plan}
-use Rattle.plans.specs.Carried.{unnamedBy, moved}
+use Rattle.plans.specs.Carried.{unnamedBy, roseBy, moved}
 use Rattle.steps.specs.Messages.{Closed}
 
 module _ (s : Run) (i : ℕ) (p : Plan) {vectors : List (List Interval)} {all-pins : List (List Pin)} {all-kept : List (List Checkpoint)} {live : Checkpoint} {pins : List Pin}
     (e-vectors : vectors ≡ s .vectors .0) (e-all-pins : all-pins ≡ s .pins .0) (e-all-kept : all-kept ≡ s .kept .0) (e-live : live ≡ liveFrom i (getD vectors i []))
     (e-pins : pins ≡ pinsThen (p .stores) i (live .index) (getD vectors i []) (p .carried) (getD all-pins i [])) where
-  pub moved-state : {kept : KeptRow} {taken : List Interval} {v : Vectors} {q : Pins} {k : Kept} (messages : List Message)
-      → kept ≡ keptRow (keptThen (p .stores) pins (take (getD (s .held) i 0) (getD all-kept i [])) live) → taken ≡ vectorThen (p .stores) i (getD vectors i []) (p .carried)
-      → v ≡ record { 0 = set vectors i taken } → q ≡ record { 0 = set all-pins i pins } → k ≡ record { 0 = set all-kept i (kept .row) } → Closed messages (p .underway)
+  pub moved-state : {kept : KeptRow} {taken : Taken} {v : Vectors} {q : Pins} {k : Kept} (messages : List Message)
+      → kept ≡ keptRow (keptThen (p .stores) pins (take (getD (s .held) i 0) (getD all-kept i [])) live) → taken ≡ takenThen (p .stores) i (getD vectors i []) (p .carried)
+      → v ≡ record { 0 = set vectors i (taken .vector) } → q ≡ record { 0 = set all-pins i pins } → k ≡ record { 0 = set all-kept i (kept .row) } → Closed messages (p .underway)
       → record {
         count = s .count;
         vectors = v;
@@ -43,12 +44,15 @@ module _ (s : Run) (i : ℕ) (p : Plan) {vectors : List (List Interval)} {all-pi
         underway = p .underway;
         last = p .last;
       } ≡ moved s i p (take (p .underway) messages)
-  unfolding moved liveFrom
+  unfolding moved liveFrom takenThen vectorThen
   moved-state messages e-kept e-taken e-v e-q e-k closed = rw (e-v, e-q, e-k, e-kept, e-taken, e-pins, e-live, e-all-kept, e-all-pins, e-vectors, ← closed .0, ← closed .1)
 
   pub moved-gone : {gone : ℕ} → gone ≡ length (select (λ c. not (named pins c)) (take (getD (s .held) i 0) (getD all-kept i []))) → gone ≡ length (unnamedBy s i p)
   unfolding liveFrom
   moved-gone e = rw (e, e-pins, e-live, e-all-kept, e-all-pins, e-vectors)
+
+  pub moved-rose : {taken : Taken} → taken ≡ takenThen (p .stores) i (getD vectors i []) (p .carried) → taken .rose ≡ roseBy s i p
+  moved-rose e = rw (e, e-vectors)
 
   pub moved-list : (l₀ : List ℕ) {l : List ℕ} → l ≡ sets l₀ 0 (pairs (listed i (select (λ c. not (named pins c)) (take (getD (s .held) i 0) (getD all-kept i [])))))
       → l ≡ sets l₀ 0 (pairs (listed i (unnamedBy s i p)))

@@ -50,15 +50,15 @@ unfolding startState withProcesses
 started-none = refl
 
 -- Which counts are refused.
-pub start-few : (n : ℕ) → n < 1 → startOutcome n ≡ record { run = blank 0; answer = Refused CountOutsideRange; deleted = []; line = [] }
+pub start-few : (n : ℕ) → n < 1 → startOutcome n ≡ record { run = blank 0; answer = Refused CountOutsideRange; rose = 0; deleted = []; line = [] }
 unfolding startOutcome startRefusal firstOf
 start-few n few = rw (lt-leb 1 n few)
 
 module _ (n : ℕ) (some : 1 ≤ n) where
-  pub start-many : places < n → startOutcome n ≡ record { run = blank 0; answer = Refused CountOutsideRange; deleted = []; line = [] }
+  pub start-many : places < n → startOutcome n ≡ record { run = blank 0; answer = Refused CountOutsideRange; rose = 0; deleted = []; line = [] }
   unfolding startOutcome startRefusal firstOf
   start-many many = rw (le-leb 1 n some, lt-leb n places many)
 
-  pub start-accepted : n ≤ places → startOutcome n ≡ record { run = startState n; answer = Started; deleted = []; line = [] }
+  pub start-accepted : n ≤ places → startOutcome n ≡ record { run = startState n; answer = Started; rose = 0; deleted = []; line = [] }
   unfolding startOutcome startRefusal firstOf
   start-accepted few = rw (le-leb 1 n some, le-leb n places few)

@@ -14,18 +14,23 @@ ghost use Rattle.model.specs.Words.{liveIndex};
 ghost use Rattle.model.specs.Sound.{sound};
 ghost use Rattle.model.specs.Outcomes.{deliverOutcome};
 
-// What a deliver call returns beside the lent list.
+// What a deliver call returns beside the lent list. `rose` is the set of the receiver's entries that rose, bit f for entry f; 0 with a refusal.
 pub struct DeliverOutcome {
     pub run: Run,
     pub answer: DeliverAnswer,
+    pub rose: u16,
 }
 
-// A refusal returns the state as it came.
+// A refusal returns the state as it came, and no entry rose.
 fn refuse(s: Run, why: Refusal) -> DeliverOutcome
-    ensures { λ r. ⌜ r ≡ record { run = s; answer = DeliverAnswer.Refused why } ⌝ }
+    ensures { λ r. ⌜ r ≡ record { run = s; answer = DeliverAnswer.Refused why; rose = 0 } ⌝ }
 {
     let answer = DeliverAnswer::Refused(why);
-    DeliverOutcome { run: s, answer }
+    DeliverOutcome {
+        run: s,
+        answer,
+        rose: 0,
+    }
 }
 
 // The answer of an accepted delivery to a process with this own entry before it.
@@ -41,11 +46,12 @@ fn answer_of(forced: bool, own: Interval, count: usize) -> DeliverAnswer
     }
 }
 
-// Deliver message m, on a sound state: the state, the answer and the lent list as document 01 has them, refused or accepted.
+// Deliver message m, on a sound state: the state, the answer and the lent list as document 01 has them, and the set of entries that rose, refused or accepted.
 pub fn deliver(s: Run, m: u32, deleted: &mut [u16]) -> DeliverOutcome
     requires { ⌜ sound s ≡ true ⌝ }
     ensures { λ r. ⌜ r .run ≡ deliverOutcome s m (now (deleted .entry)) .run ⌝ }
     ensures { λ r. ⌜ r .answer ≡ deliverOutcome s m (now (deleted .entry)) .answer ⌝ }
+    ensures { λ r. ⌜ r .rose ≡ deliverOutcome s m (now (deleted .entry)) .rose ⌝ }
     ensures { λ r. ⌜ now (deleted .exit) ≡ deliverOutcome s m (now (deleted .entry)) .deleted ⌝ }
 {
     let n = s.count;
@@ -71,11 +77,17 @@ pub fn deliver(s: Run, m: u32, deleted: &mut [u16]) -> DeliverOutcome
                 let moved = parts::move_rows(s, row, p, after, deleted);
                 let answer = answer_of(p.stores, own, moved.gone);
                 let run = moved.run;
-                return DeliverOutcome { run, answer };
+                let rose = moved.rose;
+                return DeliverOutcome { run, answer, rose };
             }
+            // nothing that it carries is newer, so no row moves and no entry rises
             let run = parts::put(s, row, p, after);
             let answer = answer_of(p.stores, own, 0);
-            DeliverOutcome { run, answer }
+            DeliverOutcome {
+                run,
+                answer,
+                rose: 0,
+            }
         }
     }
 }

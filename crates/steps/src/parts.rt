@@ -9,7 +9,7 @@ ghost use lib.ListN.{length, set, take};
 ghost use Rattle.model.specs.Sound.{sound};
 ghost use Rattle.model.specs.Steps.{listed};
 ghost use Rattle.model.specs.Outcomes.{pairs, written};
-ghost use Rattle.plans.specs.Carried.{ownAt, unnamedBy, unmoved, moved};
+ghost use Rattle.plans.specs.Carried.{ownAt, unnamedBy, roseBy, unmoved, moved};
 ghost use Rattle.steps.specs.Messages.{Closed};
 
 // The state after a plan for process i that moves no rows. There are places for 16.
@@ -40,10 +40,11 @@ pub(crate) fn put_message(s: Run, i: usize, p: Plan) -> Run
     t
 }
 
-// The state after a plan that moves the rows of its process, and how many checkpoints it deletes.
+// The state after a plan that moves the rows of its process, how many checkpoints it deletes, and the set of the entries of its vector that rose.
 pub struct Moved {
     pub run: Run,
     pub gone: usize,
+    pub rose: u16,
 }
 
 // The rows of process i are those after a receipt of what the plan carries, which stores a checkpoint first if the plan says so. The pairs of the deleted go to the
@@ -58,6 +59,7 @@ pub(crate) fn move_rows(
     requires { ⌜ (sound s ≡ true) × (i < 16) × (i < s .count) × (p .stores ≡ true → ownAt s i .0 < 65535) × Closed messages (p .underway) × (2 * s .count * s .count ≤ length (now deleted)) ⌝ }
     ensures { λ r. ⌜ r .run ≡ moved s i p (take (p .underway) messages) ⌝ }
     ensures { λ r. ⌜ r .gone ≡ length (unnamedBy s i p) ⌝ }
+    ensures { λ r. ⌜ r .rose ≡ roseBy s i p ⌝ }
     ensures { λ r. ⌜ now (deleted .exit) ≡ written (now (deleted .entry)) (pairs (listed i (unnamedBy s i p))) ⌝ }
 {
     let mut vectors = rows::squares::vector_rows(s.vectors);
@@ -74,9 +76,10 @@ pub(crate) fn move_rows(
     let pins = rows::receipt::pins_then(p.stores, live.index, vector, carried, old, i);
     let gone = rows::kept::write_deletions(deleted, 0, i, row, before, pins);
     let kept = rows::receipt::kept_then(p.stores, row, before, pins, live);
-    let taken = rows::receipt::vector_then(p.stores, vector, carried, i);
+    let taken = rows::receipt::taken_then(p.stores, vector, carried, i);
+    let received = taken.vector;
     let left = kept.row;
-    vectors[i] = taken;
+    vectors[i] = received;
     all_pins[i] = pins;
     all_kept[i] = left;
     sent[i] = p.mark;
@@ -95,5 +98,6 @@ pub(crate) fn move_rows(
         underway: p.underway,
         last: p.last,
     };
-    Moved { run, gone }
+    let rose = taken.rose;
+    Moved { run, gone, rose }
 }

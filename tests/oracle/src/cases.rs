@@ -1,4 +1,5 @@
-//! The exam text: the cases 1 to 10 of the exam sheet, by real calls.
+//! The exam text: the cases 1 to 10 of the exam sheet, and one of the wrong
+//! marks on past papers, by real calls.
 
 use crate::run::{Run, MAX_PROCESSES};
 use std::fmt::{Display, Write as _};
@@ -24,14 +25,21 @@ const DELETIONS: usize = 2 * MAX_PROCESSES * MAX_PROCESSES;
 /// * for F = 1 .. 2^n - 1, one line:
 ///   `line F: m0 m1 ..`    the n indexes that a line call for F writes.
 ///
+/// "The facts of a delivery", of message M, are two lines:
+///
+/// * `deliver M: R`  0 if it is accepted, else the refusal number;
+/// * `risen M: S`    the set of entries that rose, as its number; 0 with a
+///   refusal.
+///
 /// # Cases 1 to 6
 ///
 /// n = 2. The calls of the ten-record example are, by record:
 /// 1 send 0 to 1; 2 deliver 1; 3 checkpoint 1; 4 checkpoint 0; 5 send 1 to 0;
 /// 6 deliver 2; 7 send 0 to 1; 8 deliver 3; 9 recover 1, which is {0}.
 /// Each case starts anew, makes the calls of the first r records, and prints
-/// `case K` and the facts of the state. r is 2, 3, 4, 6, 8, 9 for case
-/// 1, 2, 3, 4, 5, 6.
+/// `case K`, then, if record r is a delivery (in the cases 1, 4 and 5), the
+/// facts of that one, then the facts of the state. r is 2, 3, 4, 6, 8, 9 for
+/// case 1, 2, 3, 4, 5, 6.
 ///
 /// # Case 7
 ///
@@ -42,14 +50,15 @@ const DELETIONS: usize = 2 * MAX_PROCESSES * MAX_PROCESSES;
 ///
 /// # Case 8
 ///
-/// n = 3. Send 0 to 1, deliver 1, send 1 to 2, deliver 2. Prints `case 8` and
-/// the facts of the state.
+/// n = 3. Send 0 to 1, deliver 1, send 1 to 2, deliver 2. Prints `case 8`, the
+/// facts of the first delivery, those of the second, and the facts of the
+/// state.
 ///
 /// # Case 9
 ///
 /// n = 2. Send 0 to 1, recover 2, deliver 1. Prints `case 9`, `written 2: ..`
-/// and `recover 2: ..` as in case 7, `deliver 1: R`, where R is the refusal
-/// number, and the facts of the state.
+/// and `recover 2: ..` as in case 7, the facts of the delivery, and the facts
+/// of the state.
 ///
 /// # Case 10
 ///
@@ -79,6 +88,14 @@ const DELETIONS: usize = 2 * MAX_PROCESSES * MAX_PROCESSES;
 /// * `quiet 65535: R`: new run, n = 2, send 0 to 1 (message 1), send 0 to 1
 ///   (message 2), deliver 1, 65,534 times checkpoint 1, send 1 to 0
 ///   (message 3), deliver 2: the sent mark is set, nothing carried is newer.
+///
+/// # Mark 2
+///
+/// The second of the wrong marks on past papers: "Forcing whenever the sent
+/// mark is set, though nothing carried is newer." n = 2. Send 0 to 1
+/// (message 1), send 0 to 1 (message 2), deliver 1, send 1 to 0 (message 3),
+/// deliver 2. Prints `mark 2`, the facts of the first delivery, those of the
+/// second, and the facts of the state.
 pub fn print<W: io::Write>(output: &mut W) -> io::Result<()> {
     output.write_all(text().as_bytes())?;
     output.flush()
@@ -87,14 +104,12 @@ pub fn print<W: io::Write>(output: &mut W) -> io::Result<()> {
 /// The exam text as a whole.
 pub fn text() -> String {
     let mut text = String::new();
-    for (case, records) in [(1, 2), (2, 3), (3, 4), (4, 6), (5, 8), (6, 9)] {
-        fact(&mut text, "case", [case]);
-        facts_of_state(&mut text, &example(records));
-    }
+    cases_1_to_6(&mut text);
     case_7(&mut text);
     case_8(&mut text);
     case_9(&mut text);
     case_10(&mut text);
+    mark_2(&mut text);
     text
 }
 
@@ -118,6 +133,24 @@ pub fn example(records: usize) -> Run {
     run
 }
 
+fn cases_1_to_6(text: &mut String) {
+    for (case, records) in [(1, 2), (2, 3), (3, 4), (4, 6), (5, 8), (6, 9)] {
+        fact(text, "case", [case]);
+        // The deliveries of the example: records 2, 6 and 8.
+        let delivery = [(2, 1), (6, 2), (8, 3)]
+            .into_iter()
+            .find(|(record, _)| *record == records);
+        match delivery {
+            Some((record, message)) => {
+                let mut run = example(record - 1);
+                facts_of_delivery(text, &mut run, message);
+                facts_of_state(text, &run);
+            }
+            None => facts_of_state(text, &example(records)),
+        }
+    }
+}
+
 fn case_7(text: &mut String) {
     let mut run = example(4);
     fact(text, "case", [7]);
@@ -127,11 +160,11 @@ fn case_7(text: &mut String) {
 
 fn case_8(text: &mut String) {
     let mut run = new_run(3);
-    send(&mut run, 0, 1);
-    deliver(&mut run, 1);
-    send(&mut run, 1, 2);
-    deliver(&mut run, 2);
     fact(text, "case", [8]);
+    send(&mut run, 0, 1);
+    facts_of_delivery(text, &mut run, 1);
+    send(&mut run, 1, 2);
+    facts_of_delivery(text, &mut run, 2);
     facts_of_state(text, &run);
 }
 
@@ -140,7 +173,7 @@ fn case_9(text: &mut String) {
     send(&mut run, 0, 1);
     fact(text, "case", [9]);
     facts_of_recover(text, &mut run, 2);
-    fact(text, "deliver 1:", [deliver(&mut run, 1)]);
+    facts_of_delivery(text, &mut run, 1);
     facts_of_state(text, &run);
 }
 
@@ -227,6 +260,17 @@ fn facts_of_last_intervals(text: &mut String) {
     fact(text, "quiet 65535:", [deliver(&mut run, 2)]);
 }
 
+fn mark_2(text: &mut String) {
+    let mut run = new_run(2);
+    fact(text, "mark", [2]);
+    send(&mut run, 0, 1);
+    send(&mut run, 0, 1);
+    facts_of_delivery(text, &mut run, 1);
+    send(&mut run, 1, 0);
+    facts_of_delivery(text, &mut run, 2);
+    facts_of_state(text, &run);
+}
+
 fn facts_of_state(text: &mut String, run: &Run) {
     let count = run.count();
     for process in 0..count {
@@ -255,6 +299,13 @@ fn facts_of_recover(text: &mut String, run: &mut Run, failed: u32) {
     let mut values = vec![answer.rolled_back.to_string(), answer.deletions.to_string()];
     values.extend(pairs.map(|pair| format!("{}:{}", pair[0], pair[1])));
     fact(text, &format!("recover {failed}:"), values);
+}
+
+fn facts_of_delivery(text: &mut String, run: &mut Run, message: u32) {
+    let answer = run.deliver(message, &mut [0; DELETIONS]);
+    let rose = answer.map_or(0, |done| done.rose);
+    fact(text, &format!("deliver {message}:"), [number(answer)]);
+    fact(text, &format!("risen {message}:"), [rose]);
 }
 
 /// One line: the heading, then each value after a space.

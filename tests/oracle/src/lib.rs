@@ -5,8 +5,9 @@
 //! * `cases`: the exam text.
 //! * `generate`: random traces; it uses nothing of the rest.
 //!
-//! Quoted sentences in the comments are from the paper that specifies the
-//! product, "Recovery lines and collected checkpoints of a message-passing run".
+//! Quoted sentences in the comments are from the papers that specify the
+//! product: "Recovery lines and collected checkpoints of a message-passing
+//! run" and, where a note is named, "New change requests".
 
 pub mod cases;
 pub mod generate;

@@ -125,6 +125,9 @@ pub struct Checkpointed {
 pub struct Delivered {
     pub forced: Option<u16>,
     pub deletions: usize,
+    /// Note 1: "the set of entries that rose, as a number of 16 bits": bit f
+    /// stands for entry f.
+    pub rose: u16,
 }
 
 /// The answer of an accepted recover.
@@ -265,14 +268,16 @@ impl Run {
         let forced = forces.then(|| self.store_checkpoint(i));
         // Without a newer entry nothing is taken, no pin moves and no
         // checkpoint goes.
+        let mut rose = 0;
         if newer {
-            self.take_entries(i, &carried);
+            rose = self.take_entries(i, &carried);
             self.delete_unpinned(i, &mut deletions);
         }
         self.remove_message(place);
         Ok(Delivered {
             forced,
             deletions: deletions.count,
+            rose,
         })
     }
 
@@ -433,15 +438,19 @@ impl Run {
     }
 
     /// "Then each entry that is smaller than the carried one takes it, and
-    /// that entry's pin becomes the own pin."
-    fn take_entries(&mut self, i: usize, carried: &Vector) {
+    /// that entry's pin becomes the own pin." Gives the set of entries that
+    /// rose.
+    fn take_entries(&mut self, i: usize, carried: &Vector) -> u16 {
         let own_pin = self.pins[i][i];
+        let mut rose = 0;
         for f in 0..self.count {
             if self.vectors[i][f] < carried[f] {
                 self.vectors[i][f] = carried[f];
                 self.pins[i][f] = own_pin;
+                rose |= 1 << f;
             }
         }
+        rose
     }
 
     /// "A checkpoint is kept exactly while a pin names it." Deletes the others

@@ -272,7 +272,8 @@ fn a_delivery_without_news_in_the_last_interval() {
         answer,
         Ok(Delivered {
             forced: None,
-            deletions: 0
+            deletions: 0,
+            rose: 0
         })
     );
 }
@@ -282,13 +283,16 @@ fn a_mark_without_news_and_news_without_a_mark_force_nothing() {
     let mut run = Run::start(2).unwrap();
     run.send(0, 1).unwrap();
     run.send(0, 1).unwrap();
-    let none = Ok(Delivered {
-        forced: None,
-        deletions: 0,
-    });
-    assert_eq!(run.deliver(1, &mut [0; 8]), none);
+    let unforced = |rose| {
+        Ok(Delivered {
+            forced: None,
+            deletions: 0,
+            rose,
+        })
+    };
+    assert_eq!(run.deliver(1, &mut [0; 8]), unforced(0b01));
     run.send(1, 0).unwrap();
-    assert_eq!(run.deliver(2, &mut [0; 8]), none);
+    assert_eq!(run.deliver(2, &mut [0; 8]), unforced(0));
     assert!(run.sent_mark(1));
 }
 
@@ -307,7 +311,8 @@ fn a_rolled_back_process_loses_its_mark() {
         answer,
         Ok(Delivered {
             forced: None,
-            deletions: 0
+            deletions: 0,
+            rose: 0b10
         })
     );
     run.send(0, 1).unwrap();
@@ -316,7 +321,8 @@ fn a_rolled_back_process_loses_its_mark() {
         answer,
         Ok(Delivered {
             forced: Some(1),
-            deletions: 1
+            deletions: 1,
+            rose: 0b01
         })
     );
 }
@@ -330,12 +336,14 @@ fn the_exam_text() {
         .lines()
         .all(|line| !line.is_empty() && line.trim() == line));
     assert!(!text.contains("  "));
-    let cases: Vec<&str> = text.split("case ").skip(1).collect();
+    let (cases, mark) = text.split_once("mark ").unwrap();
+    let cases: Vec<&str> = cases.split("case ").skip(1).collect();
     assert_eq!(cases.len(), 10);
 
     assert_eq!(
         cases[0],
-        "1\nvector 0: 1 0\npins 0: 0 -\nkept 0: 0\nvector 1: 1 1\npins 1: 0 0\nkept 1: 0\n\
+        "1\ndeliver 1: 0\nrisen 1: 1\n\
+         vector 0: 1 0\npins 0: 0 -\nkept 0: 0\nvector 1: 1 1\npins 1: 0 0\nkept 1: 0\n\
          line 1: 0 0\nline 2: 1 0\nline 3: 0 0\n"
     );
     let holds = |case: usize, facts: &[&str]| {
@@ -346,7 +354,9 @@ fn the_exam_text() {
     };
     holds(2, &["kept 1: 0 1", "line 1: 0 0", "line 2: 1 1"]);
     holds(3, &["line 1: 1 2", "line 2: 2 1"]);
+    assert!(cases[3].starts_with("4\ndeliver 2: 0\nrisen 2: 2\nvector 0: 2 2\n"));
     holds(4, &["vector 0: 2 2", "pins 0: 1 1", "line 2: 1 1"]);
+    assert!(cases[4].starts_with("5\ndeliver 3: 0\nrisen 3: 1\nvector 0: "));
     holds(
         5,
         &["vector 1: 2 3", "kept 1: 2", "line 2: 2 2", "line 1: 1 2"],
@@ -357,8 +367,10 @@ fn the_exam_text() {
     );
     assert!(cases[6].starts_with("7\nwritten 2: 2 1\nrecover 2: 1 1 1:0\nvector 0: 2 0\n"));
     holds(7, &["vector 1: 1 2"]);
+    assert!(cases[7].starts_with("8\ndeliver 1: 0\nrisen 1: 1\ndeliver 2: 0\nrisen 2: 3\nvector "));
     holds(8, &["line 1: 0 0 0", "line 2: 1 0 0", "line 4: 1 1 0"]);
-    assert!(cases[8].starts_with("9\nwritten 2: 1 0\nrecover 2: 1 0\ndeliver 1: 8\nvector 0: "));
+    assert!(cases[8]
+        .starts_with("9\nwritten 2: 1 0\nrecover 2: 1 0\ndeliver 1: 8\nrisen 1: 0\nvector 0: "));
     holds(
         10,
         &["start 0: 1", "start 1: 0", "start 16: 0", "start 17: 1"],
@@ -389,6 +401,12 @@ fn the_exam_text() {
         &["forced 65534: 0", "forced 65535: 11", "quiet 65535: 0"],
     );
     assert_eq!(cases[9].lines().count(), 1 + 4 + 8 + 10 + 10 + 2 + 2 + 3);
+    assert_eq!(
+        mark,
+        "2\ndeliver 1: 0\nrisen 1: 1\ndeliver 2: 0\nrisen 2: 0\n\
+         vector 0: 1 0\npins 0: 0 -\nkept 0: 0\nvector 1: 1 1\npins 1: 0 0\nkept 1: 0\n\
+         line 1: 0 0\nline 2: 1 0\nline 3: 0 0\n"
+    );
 }
 
 /// A state is looked at in all its lines: every set has one.

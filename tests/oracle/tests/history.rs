@@ -153,6 +153,35 @@ impl History {
         states
     }
 
+    /// What the live state of process i knows of each process: entry f of its
+    /// vector. "Checkpoint a of f comes causally before a state exactly if a is
+    /// less than that state's entry f", so it is how many of them do.
+    fn known(&self, i: usize) -> Vec<u16> {
+        // How many events of each list come causally before the state, and
+        // those of them that are still to be followed back.
+        let mut before = vec![0; self.lists.len()];
+        let mut to_follow = vec![(i, self.lists[i].len())];
+        while let Some((p, count)) = to_follow.pop() {
+            for place in before[p]..count {
+                if let Event::Received(number) = self.lists[p][place] {
+                    let (sender, sent_at) = self.find(Event::Sent(number));
+                    to_follow.push((sender, sent_at + 1));
+                }
+            }
+            before[p] = before[p].max(count);
+        }
+        let checkpoints = |list: &[Event]| {
+            list.iter()
+                .filter(|event| matches!(event, Event::Checkpoint { .. }))
+                .count() as u16
+        };
+        self.lists
+            .iter()
+            .zip(before)
+            .map(|(list, count)| checkpoints(&list[..count]))
+            .collect()
+    }
+
     fn received(&self) -> Vec<Received> {
         let mut all = Vec::new();
         for (receiver, list) in self.lists.iter().enumerate() {
@@ -226,6 +255,7 @@ fn check(run: &Run, history: &History) {
         assert_eq!(kept, common::kept(run, i), "kept by pairs and by state");
         assert!(kept.len() <= n, "at most n are kept");
         assert_eq!(states[i].last().unwrap().index, run.own_entry(i));
+        assert_eq!(history.known(i), run.vector(i), "by events and by state");
     }
     common::assert_sound(run);
 
@@ -292,8 +322,34 @@ fn draw_kind(random: &mut Random, weights: &[usize; 5]) -> usize {
     unreachable!()
 }
 
+/// What the calls of several runs met, so that no test passes by meeting
+/// nothing.
+#[derive(Default)]
+struct Met {
+    /// All entries that rose.
+    risen: u16,
+    /// Deliveries by which none rose, and those that forced a checkpoint.
+    no_news: usize,
+    forced: usize,
+}
+
+impl Met {
+    fn assert_all(&self, n: usize) {
+        let everyone = u16::MAX >> (16 - n);
+        assert_eq!(self.risen, everyone, "every entry rose somewhere");
+        assert!(self.no_news > 100, "met {} times", self.no_news);
+        assert!(self.forced > 100, "met {} times", self.forced);
+    }
+}
+
 /// One call, drawn at random (some are refused), and its place in the history.
-fn step(run: &mut Run, history: &mut History, random: &mut Random, weights: &[usize; 5]) {
+fn step(
+    run: &mut Run,
+    history: &mut History,
+    random: &mut Random,
+    weights: &[usize; 5],
+    met: &mut Met,
+) {
     let n = run.count();
     let (p, q) = (random.below(n), random.below(n));
     let numbers = history.receivers.len();
@@ -314,8 +370,15 @@ fn step(run: &mut Run, history: &mut History, random: &mut Random, weights: &[us
         }
         2 => {
             if let Ok(answer) = run.deliver(number, &mut deletions) {
+                let receiver = history.receivers[number as usize - 1];
+                let before = history.known(receiver);
                 history.add_delivery(number, answer.forced);
                 history.delete(&deletions[..2 * answer.deletions]);
+                let after = history.known(receiver);
+                assert_eq!(answer.rose, set_of_risen(receiver, &before, &after));
+                met.risen |= answer.rose;
+                met.no_news += (answer.rose == 0) as usize;
+                met.forced += answer.forced.is_some() as usize;
             }
         }
         3 => {
@@ -337,14 +400,24 @@ fn step(run: &mut Run, history: &mut History, random: &mut Random, weights: &[us
     }
 }
 
-fn brute_force(seed: u64, n: usize, every_step: bool) {
+/// Note 1, by the events alone: whose later interval the receiver knows after
+/// a delivery and did not before. Its own is no news, also where a forced
+/// checkpoint begins the next one.
+fn set_of_risen(receiver: usize, before: &[u16], after: &[u16]) -> u16 {
+    (0..before.len())
+        .filter(|&f| f != receiver && before[f] < after[f])
+        .map(|f| 1 << f)
+        .sum()
+}
+
+fn brute_force(seed: u64, n: usize, every_step: bool, met: &mut Met) {
     let mut random = Random(seed);
     let weights = WEIGHTS[random.below(WEIGHTS.len())];
     let events = 10 + random.below(16);
     let mut run = Run::start(n).unwrap();
     let mut history = History::start(n);
     for _ in 0..events {
-        step(&mut run, &mut history, &mut random, &weights);
+        step(&mut run, &mut history, &mut random, &weights, met);
         if every_step {
             check(&run, &history);
         }
@@ -354,21 +427,47 @@ fn brute_force(seed: u64, n: usize, every_step: bool) {
 
 #[test]
 fn two_processes() {
+    let mut met = Met::default();
     for seed in 0..4000 {
-        brute_force(seed, 2, true);
+        brute_force(seed, 2, true, &mut met);
     }
+    met.assert_all(2);
 }
 
 #[test]
 fn three_processes() {
+    let mut met = Met::default();
     for seed in 0..4000 {
-        brute_force(seed, 3, true);
+        brute_force(seed, 3, true, &mut met);
     }
+    met.assert_all(3);
 }
 
 #[test]
 fn four_processes() {
+    let mut met = Met::default();
     for seed in 0..6000 {
-        brute_force(seed, 4, seed % 4 == 0);
+        brute_force(seed, 4, seed % 4 == 0, &mut met);
     }
+    met.assert_all(4);
+}
+
+/// More processes have too many lines: here only what each call answers and
+/// what each process knows is held against the history.
+#[test]
+fn many_processes() {
+    let mut met = Met::default();
+    for seed in 0..120 {
+        let mut random = Random(seed);
+        let n = 5 + seed as usize % 12;
+        let mut run = Run::start(n).unwrap();
+        let mut history = History::start(n);
+        for _ in 0..150 {
+            step(&mut run, &mut history, &mut random, &WEIGHTS[1], &mut met);
+        }
+        for i in 0..n {
+            assert_eq!(history.known(i), run.vector(i), "by events and by state");
+        }
+    }
+    met.assert_all(16);
 }

@@ -10,7 +10,7 @@ returns : tie.Need-returns
 returns c =
     let a = c .before .before .before .args in
     let g = deliver-unsound (a .s) (is-unsound (a .s) (c .before .is-sound .ensures) (c .if1 .taken)) (a .m) (a .deleted .now) in
-    (g .0, (g .1 .0, (g .1 .1, deliver-promise (a .s) (a .m) (a .deleted .now) (a .s) (g .0))))
+    (g .0, (g .1 .0, (g .1 .1 .0, (g .1 .1 .1, deliver-promise (a .s) (a .m) (a .deleted .now) (a .s) (g .0)))))
 
 deliver-requires : tie.Need-deliver-requires
 deliver-requires c κs =
@@ -22,7 +22,7 @@ returns-2 c =
     let w = c .before .before in
     let g = w .deliver .ensures in
     let a = w .before .before .before .before .before .args in
-    (g .0, (g .1 .0, (g .1 .1, deliver-promise (a .s) (a .m) (a .deleted .now) (w .deliver .result .run) (g .0))))
+    (g .0, (g .1 .0, (g .1 .1 .0, (g .1 .1 .1, deliver-promise (a .s) (a .m) (a .deleted .now) (w .deliver .result .run) (g .0)))))
 
 pub deliver-spec : {M : Type 1} → statement M
 deliver-spec = tie.close (tie.spec (λ c κs. search needs) returns deliver-requires (λ c. search needs) returns-2)

@@ -117,15 +117,39 @@ module _ (r : Ideal) (v : Inv r) where
           let here = stands-member (r .events (r .sender (w .0))) (from .1) in
           message (r .sender (w .0)) (w .0) here (sent-knows (r .sender (w .0)) (w .0) here (omega (arith, w .5))) (past-in k (r .events p) (w .2) (w .3)))
 
--- What forces a checkpoint, of the lists alone.
+-- What forces a checkpoint, and what a message brings news of, of the lists alone.
 abbrev pub Since : Ideal → ℕ → Type 0
 Since r p = (m : ℕ) × List·Memᴰ (sent m) (behind (checkpoints (r .events p) - 1) (r .events p))
 
-abbrev pub News : Ideal → ℕ → Type 0
-News r m = (f a q : ℕ) × (f < r .n) × List·Memᴰ (sent m) (r .events q) × ComesBefore (r .events) f a q (before m (r .events q))
+abbrev pub NewsOf : Ideal → ℕ → ℕ → Type 0
+NewsOf r m f = (a q : ℕ) × List·Memᴰ (sent m) (r .events q) × ComesBefore (r .events) f a q (before m (r .events q))
     × (ComesBefore (r .events) f a (r .receiver m) (r .events (r .receiver m)) → ⊥)
 
+abbrev pub News : Ideal → ℕ → Type 0
+News r m = (f : ℕ) × (f < r .n) × NewsOf r m f
+
 module _ (r : Ideal) (v : Inv r) (memory : Memory r) (m : ℕ) (under : r .transit m ≡ true) where
+  -- A carried entry is newer exactly if the message brings news of its process.
+  module _ (f : ℕ) (hf : f < r .n) where
+    pub newer-news : r .vector (r .receiver m) (r .own (r .receiver m)) f < r .carried m f → NewsOf r m f
+    newer-news more =
+        let i = r .receiver m in
+        let a = r .vector i (r .own i) f in
+        let q = r .sender m in
+        let s = stands-member (r .events q) (v .underway m under .1) in
+        (a, q, s, sent-knows r v f a hf memory q m s more, λ z. let known = live-less r v f a hf i z in omega arith)
+
+    pub news-newer : NewsOf r m f → r .vector (r .receiver m) (r .own (r .receiver m)) f < r .carried m f
+    news-newer d =
+        let i = r .receiver m in
+        let a = d .0 in
+        let more : a < r .carried m f = sent-less r v f a hf (d .1) m (d .2) (d .3) in
+        by-bool (ltb (r .vector i (r .own i) f) (r .carried m f))
+        (λ e. ltb-true _ _ e)
+        (λ e.
+        let old : r .carried m f ≤ r .vector i (r .own i) f = ltb-false _ _ e in
+        absurd (d .4 (live-knows r v f a hf memory i (omega arith))))
+
   -- A delivery that forces a checkpoint: its receiver has sent since its last one, and the message brings news.
   pub forced-since : forces r m ≡ true → Since r (r .receiver m)
   forced-since e =
@@ -134,27 +158,13 @@ module _ (r : Ideal) (v : Inv r) (memory : Memory r) (m : ℕ) (under : r .trans
       (w .0, behind-in (checkpoints (r .events i) - 1) (r .events i) (w .1) (omega (arith, v .counted i, v .positive i)))
 
   pub forced-news : forces r m ≡ true → News r m
-  forced-news e =
-      let i = r .receiver m in
-      let w = forces-out r m e in
-      let f = w .1 in
-      let a = r .vector i (r .own i) f in
-      let q = r .sender m in
-      let s = stands-member (r .events q) (v .underway m under .1) in
-      (f, a, q, w .2, s, sent-knows r v f a (w .2) memory q m s (w .3), λ z. let known = live-less r v f a (w .2) i z in omega arith)
+  forced-news e = let w = forces-out r m e in (w .1, w .2, newer-news (w .1) (w .2) (w .3))
 
   -- And the other way round.
   pub news-forces : Since r (r .receiver m) → News r m → forces r m ≡ true
   news-forces c d =
       let i = r .receiver m in
-      let f = d .0 in
-      let a = d .1 in
       let s = behind-out (checkpoints (r .events i) - 1) (r .events i) (c .1) in
       let live : s .0 ≡ r .own i = omega (arith, s .2, interval r v i (s .0) (s .1), v .counted i) in
       let mark : r .mark i ≡ true = v .marked i (c .0) (rw live at (s .1)) in
-      let more : a < r .carried m f = sent-less r v f a (d .3) (d .2) m (d .4) (d .5) in
-      by-bool (ltb (r .vector i (r .own i) f) (r .carried m f))
-      (λ e. forces-in r m f (d .3) mark (ltb-true _ _ e))
-      (λ e.
-      let old : r .carried m f ≤ r .vector i (r .own i) f = ltb-false _ _ e in
-      absurd (d .6 (live-knows r v f a (d .3) memory i (omega arith))))
+      forces-in r m (d .0) (d .1) mark (news-newer (d .0) (d .1) (d .2))

@@ -7,20 +7,21 @@ use mathlib.Core.Option.{Option, none, some}
 use Prim.Native.Nat.{ℕ, _^_, _≤_, _<_}
 use native.Mathlib.Omega.{arith}
 use lib.ListN.{getD}
-use borrow.Author.Tests.{eqb-false}
+use borrow.Author.Tests.{eqb-false, lt-ltb, ltb-true}
 use Rattle.model.specs.declared.Refusal.{Refusal}
 use Rattle.model.specs.Refusals.{number}
 use Rattle.model.specs.laws.Refusals.{by-refusal}
 use Rattle.model.specs.Calls.{Call, checkpoint, send, deliver, lose, recover, line, answered, call}
 use Rattle.model.specs.Survival.{Surviving, after}
-use Rattle.model.specs.Answers.{lowest, reasons, failedSet, gonePairs, SentSince, BringsNews, Forces, RightLine, AnswerIsRight}
+use Rattle.model.specs.Answers.{lowest, reasons, failedSet, gonePairs, SentSince, BringsNewsOf, BringsNews, Forces, RightRisen, RightLine, AnswerIsRight}
 use Rattle.model.specs.WholeRuns.{reported, LineIsRight}
 use Rattle.model.proofs.ideal.Run.{Ideal, forces}
 use Rattle.model.proofs.ideal.Invariant.{Inv}
 use Rattle.model.proofs.ideal.Memory.{Memory}
-use Rattle.model.proofs.ideal.Knowledge.{Since, News, forced-since, forced-news, news-forces}
+use Rattle.model.proofs.ideal.Knowledge.{Since, NewsOf, News, newer-news, news-newer, forced-since, forced-news, news-forces}
 use Rattle.model.proofs.simulation.View.{stateOf, Limits}
-use Rattle.model.proofs.simulation.SoundCalls.{line-run, recover-run}
+use Rattle.model.proofs.simulation.Risen.{rose-small, rose-is, rose-past}
+use Rattle.model.proofs.simulation.SoundCalls.{deliver-run, line-run, recover-run}
 use Rattle.model.proofs.whole.Agreement.{Agrees}
 use Rattle.model.proofs.whole.Accepted.{Step, accepted-report, step-agrees}
 use Rattle.model.proofs.whole.Gone.{goneAll, gone-agrees}
@@ -28,7 +29,7 @@ use Rattle.model.proofs.whole.LineRight.{same-line}
 use Rattle.model.proofs.whole.Reached.{exchange, refusal, refused-number, refused-report}
 use Rattle.model.proofs.whole.Refused.{reports-number, forcingOf, number-right}
 use Rattle.model.proofs.whole.Runs.{stepped}
-use Rattle.model.proofs.whole.Values.{refused-reply, value-right, line-list-right}
+use Rattle.model.proofs.whole.Values.{refused-reply, value-right, deliver-rose, others-rose, line-list-right}
 
 -- A refused call does not report the number 0.
 not-accepted : (x : Refusal) (k : ℕ) → k ≡ number x → k ≡ 0 → ⊥
@@ -44,12 +45,20 @@ module _ (h : Surviving) (r : Ideal) (v : Inv r) (fit : Limits r) (memory : Memo
   in-transit m under = rw (g .underway) at under
 
   in-history : (m : ℕ) → Since r (r .receiver m) × News r m → Forces (r .n) h m
-  unfolding Forces SentSince BringsNews
+  unfolding Forces SentSince BringsNews BringsNewsOf
   in-history m d = rw (g .lists, g .receiver) d
 
   from-history : (m : ℕ) → Forces (r .n) h m → Since r (r .receiver m) × News r m
-  unfolding Forces SentSince BringsNews
+  unfolding Forces SentSince BringsNews BringsNewsOf
   from-history m d = rw (← g .lists, ← g .receiver) d
+
+  news-in : (m f : ℕ) → NewsOf r m f → BringsNewsOf h m f
+  unfolding BringsNewsOf
+  news-in m f d = rw (g .lists, g .receiver) d
+
+  news-out : (m f : ℕ) → BringsNewsOf h m f → NewsOf r m f
+  unfolding BringsNewsOf
+  news-out m f d = rw (← g .lists, ← g .receiver) d
 
   module _ (c : Call) where
     forces-if : (m : ℕ) (deleted : List ℕ) → c ≡ deliver m deleted → h .underway m ≡ true → Forces (r .n) h m → forcingOf r c ≡ true
@@ -62,6 +71,22 @@ module _ (h : Surviving) (r : Ideal) (v : Inv r) (fit : Limits r) (memory : Memo
 
     number-is : call (stateOf r) c .reply .report .refused ≡ lowest (reasons (r .n) h (forcingOf r c) c)
     number-is = reports-number (stateOf r) c ∙ number-right h r v fit g c
+
+  -- The set of entries that rose at an accepted delivery: those that the message brings news of.
+  risen-right : (m : ℕ) (deleted : List ℕ) → refusal (stateOf r) (deliver m deleted) ≡ none → RightRisen (r .n) h m (call (stateOf r) (deliver m deleted) .reply .rose)
+  unfolding refusal
+  risen-right m deleted e =
+      let few = fit .few-processes in
+      let under = deliver-run r v fit m deleted e .0 in
+      rw (deliver-rose h r v fit memory g m deleted e) (record {
+        small = rose-small r v few m under;
+        if-news = λ f hf d. rose-is r v few m under f hf ∙ lt-ltb _ _ (news-newer r v memory m under f hf (news-out m f d));
+        only-if-news = λ f hf q. news-in m f (newer-news r v memory m under f hf (ltb-true _ _ (sym (rose-is r v few m under f hf) ∙ q)));
+        no-more = λ f le. rose-past r v few m under f le;
+      })
+
+  rose-answer : (c : Call) → refusal (stateOf r) c ≡ none → (m : ℕ) (deleted : List ℕ) → c ≡ deliver m deleted → RightRisen (r .n) h m (call (stateOf r) c .reply .rose)
+  rose-answer c e m deleted q = rw q (risen-right m deleted (rw q at e))
 
   -- The line that an accepted call wrote.
   line-answer : ((F : ℕ) → 1 ≤ F → F < 2 ^ r .n → LineIsRight (r .n) (stateOf r) h F) → (c : Call) → refusal (stateOf r) c ≡ none → (F : ℕ) → failedSet c ≡ some F
@@ -104,6 +129,8 @@ module _ (h : Surviving) (r : Ideal) (v : Inv r) (fit : Limits r) (memory : Memo
         pairs = λ z. rw handed (t .hands-over .deleted);
         count = λ z. rw handed (t .hands-over .counted);
         line-list = λ z. line-list-right h r v fit memory g c e;
+        rose-right = λ z. rose-answer c e;
+        rose-none = others-rose (stateOf r) c;
         line-right = λ z F q. line-answer lines c e F q;
       })
       (λ x e.
@@ -118,5 +145,7 @@ module _ (h : Surviving) (r : Ideal) (v : Inv r) (fit : Limits r) (memory : Memo
         pairs = λ z. absurd (no z);
         count = λ z. absurd (no z);
         line-list = λ z. absurd (no z);
+        rose-right = λ z m deleted q. absurd (no z);
+        rose-none = others-rose (stateOf r) c;
         line-right = λ z F q. absurd (no z);
       })

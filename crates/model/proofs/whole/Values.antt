@@ -1,5 +1,5 @@
 -- What a reply holds beside its number and its pairs: of a refused call nothing new; of an accepted one its value and its line list, by the
--- surviving history.
+-- surviving history, and the set of entries that rose.
 -- Assumes nothing.
 use mathlib.Core.Path.{_≡_, refl, sym, _∙_, ap}
 use mathlib.Core.Bool.{Bool}
@@ -18,10 +18,11 @@ use Rattle.laws.specs.Tests.{countBelow}
 use Rattle.model.specs.declared.Run.{Run}
 use Rattle.model.specs.declared.Refusal.{Refusal}
 use Rattle.model.specs.Words.{places, failed, own}
-use Rattle.model.specs.Steps.{rolledBack, rolledBackCount}
+use Rattle.model.specs.Steps.{deliverRisen, rolledBack, rolledBackCount}
 use Rattle.model.specs.History.{Line}
 use Rattle.model.specs.Refusals.{checkpointRefusal, sendRefusal, deliverRefusal, loseRefusal, lineRefusal, recoverRefusal}
 use Rattle.model.specs.Outcomes.{written, checkpointOutcome, sendOutcome, deliverOutcome, loseOutcome, lineOutcome, recoverOutcome, checkpointReport, sendReport, deliverReport, loseReport, lineReport, recoverReport}
+use Rattle.model.specs.laws.Refusals.{by-refusal}
 use Rattle.model.specs.Calls.{Call, checkpoint, send, deliver, lose, recover, line, answered, call}
 use Rattle.model.specs.Survival.{Surviving}
 use Rattle.model.specs.Answers.{valueOf, lentDeletions, lentLine, failedSet, atFront, indexesOf}
@@ -30,7 +31,7 @@ use Rattle.model.proofs.ideal.Run.{Ideal, forces}
 use Rattle.model.proofs.ideal.Invariant.{Inv}
 use Rattle.model.proofs.ideal.Memory.{Memory}
 use Rattle.model.proofs.ideal.Messages.{underway-proper}
-use Rattle.model.proofs.simulation.View.{stateOf, Limits}
+use Rattle.model.proofs.simulation.View.{messageOf, stateOf, Limits}
 use Rattle.model.proofs.simulation.Reads.{count-is, last-is, own-is}
 use Rattle.model.proofs.simulation.Checkpoint.{checkpoint-index}
 use Rattle.model.proofs.simulation.Deliver.{deliver-index}
@@ -42,16 +43,27 @@ use Rattle.model.proofs.whole.Refused.{live-is, forcingOf}
 use Rattle.model.proofs.whole.Steps.{value-forced, value-plain}
 use Rattle.model.proofs.whole.Recovers.{written-line}
 
--- A refused call reports no value and no deletion, and its lent lists keep every entry.
+-- A refused call reports no value and no deletion, its lent lists keep every entry, and no entry rose.
 pub refused-reply : (s : Run) (c : Call) (x : Refusal) → refusal s c ≡ some x
     → (call s c .reply .report .value ≡ none) × (call s c .reply .report .deletions ≡ 0) × (call s c .reply .deleted ≡ lentDeletions c) × (call s c .reply .line ≡ lentLine c)
+    × (call s c .reply .rose ≡ 0)
 unfolding refusal call answered checkpointOutcome sendOutcome deliverOutcome loseOutcome lineOutcome recoverOutcome checkpointReport sendReport deliverReport loseReport lineReport recoverReport lentDeletions lentLine
-refused-reply s (checkpoint i deleted) x e = (rw e, rw e, rw e, rw e)
-refused-reply s (send i j) x e = (rw e, rw e, rw e, rw e)
-refused-reply s (deliver m deleted) x e = (rw e, rw e, rw e, rw e)
-refused-reply s (lose m) x e = (rw e, rw e, rw e, rw e)
-refused-reply s (recover F deleted lent) x e = (rw e, rw e, rw e, rw e)
-refused-reply s (line F lent) x e = (rw e, rw e, rw e, rw e)
+refused-reply s (checkpoint i deleted) x e = (rw e, rw e, rw e, rw e, rw e)
+refused-reply s (send i j) x e = (rw e, rw e, rw e, rw e, rw e)
+refused-reply s (deliver m deleted) x e = (rw e, rw e, rw e, rw e, rw e)
+refused-reply s (lose m) x e = (rw e, rw e, rw e, rw e, rw e)
+refused-reply s (recover F deleted lent) x e = (rw e, rw e, rw e, rw e, rw e)
+refused-reply s (line F lent) x e = (rw e, rw e, rw e, rw e, rw e)
+
+-- Only a delivery says that entries rose.
+pub others-rose : (s : Run) (c : Call) → ((m : ℕ) (deleted : List ℕ) → c ≡ deliver m deleted → ⊥) → call s c .reply .rose ≡ 0
+unfolding call answered checkpointOutcome sendOutcome loseOutcome lineOutcome recoverOutcome
+others-rose s (checkpoint i deleted) other = by-refusal (checkpointRefusal s i deleted) (λ e. rw e) (λ x e. rw e)
+others-rose s (send i j) other = by-refusal (sendRefusal s i j) (λ e. rw e) (λ x e. rw e)
+others-rose s (deliver m deleted) other = absurd (other m deleted refl)
+others-rose s (lose m) other = by-refusal (loseRefusal s m) (λ e. rw e) (λ x e. rw e)
+others-rose s (recover F deleted lent) other = by-refusal (recoverRefusal s F deleted lent) (λ e. rw e) (λ x e. rw e)
+others-rose s (line F lent) other = by-refusal (lineRefusal s F lent) (λ e. rw e) (λ x e. rw e)
 
 module _ (h : Surviving) (r : Ideal) (v : Inv r) (fit : Limits r) (memory : Memory r) (g : Agrees h r) where
   few : r .n ≤ places
@@ -110,6 +122,11 @@ module _ (h : Surviving) (r : Ideal) (v : Inv r) (fit : Limits r) (memory : Memo
       rw (live-is h r v fit g (h .receiver m), g .receiver) (by-bool (forces r m)
       (λ q. rw q (value-forced (r .n) h r v fit memory refl g m deleted e q ∙ ap some (deliver-index r m few hi (own-entry (r .receiver m)))))
       (λ q. rw q (value-plain (r .n) h r v fit memory refl g m deleted e q)))
+
+  -- The set of entries that rose at an accepted delivery.
+  pub deliver-rose : (m : ℕ) (deleted : List ℕ) → deliverRefusal (stateOf r) m deleted ≡ none → call (stateOf r) (deliver m deleted) .reply .rose ≡ deliverRisen (stateOf r) (messageOf r m)
+  unfolding call answered deliverOutcome
+  deliver-rose m deleted e = rw (e, deliver-run r v fit m deleted e .1)
 
   -- The value of an accepted call.
   pub value-right : (c : Call) → refusal (stateOf r) c ≡ none → call (stateOf r) c .reply .report .value ≡ valueOf (r .n) h (forcingOf r c) c (call (stateOf r) c .reply .line)

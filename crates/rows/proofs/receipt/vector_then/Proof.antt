@@ -1,13 +1,13 @@
--- `rows::receipt::vector_then` meets its contract: one leaf behind the other.
+-- `rows::receipt::vector_then` meets its contract: it is what was taken in, without the set.
 -- Assumes nothing.
 use borrow.Author.Needs.{needs}
-use Rattle.rows.specs.Receipt.{vectorThen}
+use Rattle.rows.specs.Receipt.{takenThen, vectorThen}
 use Rattle.rows.proofs.receipt.vector_then.Statement.{statement}
 use Rattle.rows.proofs.receipt.vector_then.Tie as tie
 
 returns : tie.Need-returns
-unfolding vectorThen
-returns c = rw (c .take-in .ensures, c .before .vector-first .ensures)
+unfolding takenThen vectorThen
+returns c = rw (c .before .taken-then .ensures)
 
 pub vector-then-spec : {M : Type 1} → statement M
-vector-then-spec = tie.close (tie.spec (λ c κs. search needs) (λ c κs. search needs) returns)
+vector-then-spec = tie.close (tie.spec (λ c κs. search needs) returns)

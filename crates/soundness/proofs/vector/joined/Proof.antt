@@ -6,8 +6,8 @@ use Rattle.soundness.proofs.vector.joined.Tie as tie
 
 returns : tie.Need-returns
 returns c = (
-  c .take-in .ensures,
-  λ n own ho h z. rw (c .take-in .ensures) (joined-sound own (c .before .args .a) (c .before .args .b) n ho (search needs) (search needs) h z),
+  c .greatest .ensures,
+  λ n own ho h z. rw (c .greatest .ensures) (joined-sound own (c .before .args .a) (c .before .args .b) n ho (search needs) (search needs) h z),
 )
 
 pub joined-spec : {M : Type 1} → statement M

@@ -103,7 +103,7 @@ returns-3 c =
     let laid = checkpoint-laid (a .s) h size (a .i) (a .deleted .now) long look (r .row-of .ensures) (v .vector-rows .ensures) (k .checkpoint-plan .ensures) (c .before .before .before .before .before .before .enum-told .given .1) in
     let put = c .before .before .before .move-rows .ensures in
     let said = checkpoint-outcome (a .s) h size (a .i) (a .deleted .now) long look (r .row-of .ensures) (v .vector-rows .ensures) (k .checkpoint-plan .ensures) (c .before .before .before .before .before .before .enum-told .given .1)
-    (c .before .before .before .before .before .live-index .ensures) (move-gone does moves (put .1 .0)) (move-list does moves _ (put .1 .1)) in
+    (c .before .before .before .before .before .live-index .ensures) (move-gone does moves (put .1 .0)) (move-list does moves _ (put .1 .1 .1)) in
     ((move-state does _ laid moves (put .0), said .0), said .1)
 
 pub checkpoint-spec : {M : Type 1} → statement M

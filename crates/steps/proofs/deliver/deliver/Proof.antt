@@ -6,7 +6,7 @@ use Rattle.model.specs.declared.Refusal.the-variants.{ListTooShort}
 use Rattle.model.specs.laws.Sound.{sound-state}
 use Rattle.plans.proofs.Facts.{square-most}
 use Rattle.plans.proofs.SoundFacts.{own-least}
-use Rattle.steps.proofs.Calling.{row-there, closed-up, put-closed, put-state, move-state, still-gone, still-list, move-gone, move-list, some-underway, deliver-short, deliver-refused, deliver-does, deliver-no, deliver-present, deliver-outcome}
+use Rattle.steps.proofs.Calling.{row-there, closed-up, put-closed, put-state, move-state, still-gone, still-list, move-gone, move-list, some-underway, deliver-short, deliver-refused, deliver-does, deliver-no, deliver-present, deliver-outcome, moved-rose, still-rose}
 use Rattle.steps.proofs.Sizes.{sizes}
 use borrow.Author.Needs.{needs}
 use borrow.Author.Needs.{needs}
@@ -25,7 +25,7 @@ returns c =
     let a = u .args in
     let size = sizes (a .s) _ (u .good .0) in
     let e = deliver-short (a .s) (u .pre) size (a .m) (a .deleted .now) (c .before .if1 .taken) in
-    rw (deliver-refused (a .s) (u .pre) size (a .m) (a .deleted .now) ListTooShort e, c .refuse .ensures) (refl, (refl, refl))
+    rw (deliver-refused (a .s) (u .pre) size (a .m) (a .deleted .now) ListTooShort e, c .refuse .ensures) (refl, (refl, (refl, refl)))
 
 look-up-requires : tie.Need-look-up-requires
 look-up-requires c κs = let u = c .before .before .before in sound-state (u .args .s) (u .pre) .underway-most
@@ -124,8 +124,9 @@ returns-2 c =
     let laid = closed-up does (c .before .before .before .before .before .before .before .before .put .ensures) (c .before .before .before .before .before .before .before .closed-up .ensures) in
     let moves = c .before .before .before .before .before .before .if2 .taken in
     let put = c .before .before .before .before .move-rows .ensures in
-    let said = deliver-outcome (a .s) h size (a .m) (l .look-up .ensures) (a .deleted .now) long (r .row-of .ensures) (v .vector-rows .ensures) (k .deliver-plan .ensures) (c .before .before .before .before .before .before .before .before .before .enum-told .given .1) (c .before .answer-of .ensures) (move-gone does moves (put .1 .0)) (move-list does moves _ (put .1 .1)) in
-    (move-state does _ laid moves (put .0), (said .0, said .1))
+    let said = deliver-outcome (a .s) h size (a .m) (l .look-up .ensures) (a .deleted .now) long (r .row-of .ensures) (v .vector-rows .ensures) (k .deliver-plan .ensures) (c .before .before .before .before .before .before .before .before .before .enum-told .given .1) (c .before .answer-of .ensures) (move-gone does moves (put .1 .0)) (move-list does moves _ (put .1 .1 .1)) in
+    let rose = moved-rose (a .s) h size (a .m) (l .look-up .ensures) (a .deleted .now) long (r .row-of .ensures) (v .vector-rows .ensures) (k .deliver-plan .ensures) (c .before .before .before .before .before .before .before .before .before .enum-told .given .1) moves (put .1 .1 .0) in
+    (move-state does _ laid moves (put .0), (said .0, (rose, said .1)))
 
 put-requires-2 : tie.Need-put-requires-2
 put-requires-2 c κs =
@@ -169,7 +170,7 @@ returns-3 c =
     let long = l .before .before .if1 .left in
     let does = deliver-does (a .s) h size (a .m) (l .look-up .ensures) (a .deleted .now) long (r .row-of .ensures) (v .vector-rows .ensures) (k .deliver-plan .ensures) in
     let e = deliver-no (a .s) h size (a .m) (l .look-up .ensures) (a .deleted .now) long (r .row-of .ensures) (v .vector-rows .ensures) (k .deliver-plan .ensures) _ (c .before .before .verdict .given .1) in
-    rw (deliver-refused (a .s) h size (a .m) (a .deleted .now) _ e, c .refuse2 .ensures) (refl, (refl, refl))
+    rw (deliver-refused (a .s) h size (a .m) (a .deleted .now) _ e, c .refuse2 .ensures) (refl, (refl, (refl, refl)))
 
 returns-4 : tie.Need-returns-4
 returns-4 c =
@@ -186,7 +187,8 @@ returns-4 c =
     let laid = closed-up does (c .before .before .before .before .put .ensures) (c .before .before .before .closed-up .ensures) in
     let still = c .before .before .if2 .left in
     let said = deliver-outcome (a .s) h size (a .m) (l .look-up .ensures) (a .deleted .now) long (r .row-of .ensures) (v .vector-rows .ensures) (k .deliver-plan .ensures) (c .before .before .before .before .before .enum-told .given .1) (c .answer-of2 .ensures) (still-gone does still) (still-list does still (a .deleted .now)) in
-    (put-state does _ laid still (c .before .put2 .ensures), (said .0, said .1))
+    let rose = still-rose (a .s) h size (a .m) (l .look-up .ensures) (a .deleted .now) long (r .row-of .ensures) (v .vector-rows .ensures) (k .deliver-plan .ensures) (c .before .before .before .before .before .enum-told .given .1) still in
+    (put-state does _ laid still (c .before .put2 .ensures), (said .0, (rose, said .1)))
 
 pub deliver-spec : {M : Type 1} → statement M
 deliver-spec =

@@ -5,7 +5,7 @@ use Rattle.rows.specs.Line.{liveFrom}
 use Rattle.plans.proofs.Facts.{held-places, held-room}
 use Rattle.plans.proofs.SoundFacts.{own-least}
 use Rattle.plans.proofs.Room.{stored-room}
-use Rattle.steps.proofs.Moving.{moved-state, moved-gone, moved-list}
+use Rattle.steps.proofs.Moving.{moved-state, moved-gone, moved-rose, moved-list}
 use Rattle.steps.proofs.Sizes.{sizes}
 use borrow.Author.Needs.{needs}
 use borrow.Author.Needs.{needs}
@@ -48,8 +48,8 @@ kept-then-requires c κs =
           (stored-room (a .s) (v .0) (sizes (a .s) _ (u .good .0)) (a .i) (v .2) (a .p)),
     )
 
-vector-then-requires : tie.Need-vector-then-requires
-vector-then-requires c κs =
+taken-then-requires : tie.Need-taken-then-requires
+taken-then-requires c κs =
     let k = c .before .before .before .before .before .before .before .before .before .before .before .before .before in
     let u = k .before .before .before .before in
     let a = u .args in
@@ -57,48 +57,52 @@ vector-then-requires c κs =
     rw (k .before .before .vector-rows .ensures) (v .1, v .3)
 
 mul-vectors : tie.Need-mul-vectors
-mul-vectors c = let u = c .before .before .before .before .before .before .before .before .before .before .before .before .before .before .before .before .before .before .before in let less : u .args .i < 16 = u .pre .1 in search needs
+mul-vectors c = let u = c .before .before .before .before .before .before .before .before .before .before .before .before .before .before .before .before .before .before .before .before in let less : u .args .i < 16 = u .pre .1 in search needs
 
 array-set-from-vectors : tie.Need-array-set-from-vectors
-array-set-from-vectors c = let u = c .before .before .before .before .before .before .before .before .before .before .before .before .before .before .before .before .before .before .before in let less : u .args .i < 16 = u .pre .1 in search needs
+array-set-from-vectors c = let u = c .before .before .before .before .before .before .before .before .before .before .before .before .before .before .before .before .before .before .before .before in let less : u .args .i < 16 = u .pre .1 in search needs
 
 mul-all-pins : tie.Need-mul-all-pins
-mul-all-pins c = let u = c .before .before .before .before .before .before .before .before .before .before .before .before .before .before .before .before .before .before .before in let less : u .args .i < 16 = u .pre .1 in search needs
+mul-all-pins c = let u = c .before .before .before .before .before .before .before .before .before .before .before .before .before .before .before .before .before .before .before .before in let less : u .args .i < 16 = u .pre .1 in search needs
 
 array-set-from-all-pins : tie.Need-array-set-from-all-pins
-array-set-from-all-pins c = let u = c .before .before .before .before .before .before .before .before .before .before .before .before .before .before .before .before .before .before .before in let less : u .args .i < 16 = u .pre .1 in search needs
+array-set-from-all-pins c = let u = c .before .before .before .before .before .before .before .before .before .before .before .before .before .before .before .before .before .before .before .before in let less : u .args .i < 16 = u .pre .1 in search needs
 
 mul-all-kept : tie.Need-mul-all-kept
-mul-all-kept c = let u = c .before .before .before .before .before .before .before .before .before .before .before .before .before .before .before .before .before .before .before in let less : u .args .i < 16 = u .pre .1 in search needs
+mul-all-kept c = let u = c .before .before .before .before .before .before .before .before .before .before .before .before .before .before .before .before .before .before .before .before in let less : u .args .i < 16 = u .pre .1 in search needs
 
 array-set-from-all-kept : tie.Need-array-set-from-all-kept
-array-set-from-all-kept c = let u = c .before .before .before .before .before .before .before .before .before .before .before .before .before .before .before .before .before .before .before in let less : u .args .i < 16 = u .pre .1 in search needs
+array-set-from-all-kept c = let u = c .before .before .before .before .before .before .before .before .before .before .before .before .before .before .before .before .before .before .before .before in let less : u .args .i < 16 = u .pre .1 in search needs
 
 array-write-sent : tie.Need-array-write-sent
-array-write-sent c = let u = c .before .before .before .before .before .before .before .before .before .before .before .before .before .before .before .before .before .before .before in let less : u .args .i < 16 = u .pre .1 in search needs
+array-write-sent c = let u = c .before .before .before .before .before .before .before .before .before .before .before .before .before .before .before .before .before .before .before .before in let less : u .args .i < 16 = u .pre .1 in search needs
 
 mul-held : tie.Need-mul-held
-mul-held c = let u = c .before .before .before .before .before .before .before .before .before .before .before .before .before .before .before .before .before .before .before in let less : u .args .i < 16 = u .pre .1 in search needs
+mul-held c = let u = c .before .before .before .before .before .before .before .before .before .before .before .before .before .before .before .before .before .before .before .before in let less : u .args .i < 16 = u .pre .1 in search needs
 
 array-write-held : tie.Need-array-write-held
-array-write-held c = let u = c .before .before .before .before .before .before .before .before .before .before .before .before .before .before .before .before .before .before .before in let less : u .args .i < 16 = u .pre .1 in search needs
+array-write-held c = let u = c .before .before .before .before .before .before .before .before .before .before .before .before .before .before .before .before .before .before .before .before in let less : u .args .i < 16 = u .pre .1 in search needs
 
 returns : tie.Need-returns
 returns c =
-    let k = c .before .before .before .before .before .before .before .before .before .before .before .before .before .before .before .before .before .before in
+    let k = c .before .before .before .before .before .before .before .before .before .before .before .before .before .before .before .before .before .before .before in
     let a = k .before .before .before .before .args in
     let v = k .before .before .before .before .pre in
-    let w = c .before .before .before .before .before .before .before .before in
+    let w = c .before .before .before .before .before .before .before .before .before in
     let vectors = k .before .before .vector-rows .ensures in
     let pins = k .before .pin-rows .ensures in
     let kept = k .kept-rows .ensures in
     let live = w .before .before .before .live-from .ensures in
-    let named = w .before .before .pins-then .ensures in (
-      moved-state (a .s) (a .i) (a .p) vectors pins kept live named _ (c .before .before .before .before .before .kept-then .ensures) (c .before .before .before .before .vector-then .ensures)
+    let named = w .before .before .pins-then .ensures in
+    let taken = c .before .before .before .before .before .taken-then .ensures in (
+      moved-state (a .s) (a .i) (a .p) vectors pins kept live named _ (c .before .before .before .before .before .before .kept-then .ensures) taken
           (c .before .before .vectors-from .ensures) (c .before .pins-from .ensures) (c .kept-from .ensures) (v .4),
       (
         moved-gone (a .s) (a .i) (a .p) vectors pins kept live named (w .write-deletions .ensures .0),
-        moved-list (a .s) (a .i) (a .p) vectors pins kept live named _ (w .write-deletions .ensures .1),
+        (
+          moved-rose (a .s) (a .i) (a .p) vectors pins kept live named taken,
+          moved-list (a .s) (a .i) (a .p) vectors pins kept live named _ (w .write-deletions .ensures .1),
+        ),
       ),
     )
 
@@ -121,7 +125,7 @@ move-rows-spec =
     pins-then-requires
     write-deletions-requires
     kept-then-requires
-    vector-then-requires
+    taken-then-requires
     mul-vectors
     array-set-from-vectors
     mul-all-pins

@@ -1,0 +1,20 @@
+-- `rows::vector::bit_if_risen` meets its contract: 1, shifted by less than 16 places, loses nothing. Assumes nothing.
+use mathlib.Core.Path.{_∙_}
+use native.Mathlib.Nat.{one-mul}
+use native.Mathlib.Omega.{arith}
+use lib.Pow.{shl-exact}
+use borrow.Author.Needs.{needs}
+use borrow.Author.Tests.{lt-ltb, le-ltb}
+use Rattle.rows.proofs.vector.bit_if_risen.Statement.{statement}
+use Rattle.rows.proofs.vector.bit_if_risen.Tie as tie
+
+returns : tie.Need-returns
+returns c =
+    let u = c .before .before .before in
+    rw (lt-ltb _ _ (c .if1 .taken)) (shl-exact {a = 1} 1 (u .args .f) 16 (omega arith) (omega (arith, u .pre)) ∙ one-mul _)
+
+returns-2 : tie.Need-returns-2
+returns-2 c = rw (le-ltb _ _ (c .if1 .left))
+
+pub bit-if-risen-spec : {M : Type 1} → statement M
+bit-if-risen-spec = tie.close (tie.spec (λ c. search needs) (λ c. search needs) returns returns-2)
