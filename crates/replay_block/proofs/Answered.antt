@@ -9,7 +9,7 @@ use Prim.Native.Nat.{ℕ, _+_, _*_, _≤_, _<_}
 use native.Mathlib.Omega.{arith}
 use lib.ListN.{length, getD, replicate, length-replicate}
 use lib.Seq.{sets}
-use borrow.Author.Tests.{leb-false, lt-ltb}
+use borrow.Author.Tests.{leb-false}
 use Rattle.laws.specs.Choice.{pick}
 use Rattle.laws.specs.Truth.{never-both}
 use Rattle.model.specs.declared.DeliverAnswer.the-variants as deliver-answer
@@ -37,7 +37,7 @@ use Rattle.plans.specs.Carried.{vectorAt, ownAt, Fulfils}
 use Rattle.plans.specs.Planned.{rowOf, refusalOf, unchanged, recoveryVerdict}
 use Rattle.plans.specs.Sized.{Sized}
 use Rattle.plans.specs.Tables.{LooksUp}
-use Rattle.plans.proofs.Facts.{place, square-most}
+use Rattle.plans.proofs.Facts.{row-is, square-most}
 use Rattle.plans.proofs.Decided as decided
 use Rattle.listing.specs.Lines.{valueIn}
 use Rattle.listing.specs.Said.{reportIn}
@@ -83,11 +83,6 @@ pub record Does (s : Run) (window : List Message) (first i : ℕ) (p : Plan) (a 
   pub fulfils : Fulfils s window first i p refusal (a .run) deletions
   pub said : reportOf p (ownAt s i) (length deletions) ≡ a .reply .report
   pub list : (deletions ≡ []) ⊎ (a .reply .deleted ≡ sets (replicate 512 0) 0 (pairs deletions))
-
--- A process of the run has the row of its number.
-row-is : (s : Run) → sound s ≡ true → (i : ℕ) → i < s .count → rowOf i ≡ i
-unfolding rowOf
-row-is s h i lt = rw (lt-ltb i 16 (place s h i lt))
 
 abbrev lent : List ℕ
 lent = replicate 512 0

@@ -19,9 +19,6 @@ use Rattle.laws.specs.Rows.{every-at, by-lt, every-behind}
 use Rattle.laws.specs.Select.{select-append}
 use Rattle.laws.specs.Tables.{length-table, getD-table, take-placed}
 use Rattle.laws.specs.Truth.{and-out, never-both}
-use Rattle.model.specs.declared.Interval.{Interval}
-use Rattle.model.specs.declared.Pin.{Pin}
-use Rattle.model.specs.declared.Checkpoint.{Checkpoint}
 use Rattle.model.specs.declared.Message.{Message}
 use Rattle.model.specs.declared.Run.{Run}
 use Rattle.model.specs.Words.{mostUnderWay, noMessage, underWay, withMessages}
@@ -37,11 +34,10 @@ use Rattle.replay_block.specs.Window.{openedWindow, numbersOf, placeIn, 
 use Rattle.replay_block.proofs.Messages.{in-none}
 use Rattle.replay_block.proofs.Places.{old-most, old-first}
 
--- The messages under way of the state that the parts are.
-pub under-way : (n : ℕ) (vectors : List (List Interval)) (pins : List (List Pin)) (kept : List (List Checkpoint)) (sent : List Bool) (held : List ℕ) (messages : List Message) (last : ℕ)
-    → messages ≡ underWay (stateInPlace n vectors pins kept sent held messages last)
+-- The messages under way of a state whose table has these in front and unused places behind them.
+pub under-way : (run : Run) (messages : List Message) → run .messages ≡ placed mostUnderWay noMessage messages → run .underway ≡ length messages → messages ≡ underWay run
 unfolding underWay
-under-way n vectors pins kept sent held messages last = sym (take-placed mostUnderWay noMessage messages)
+under-way run messages table many = rw (table, many) (sym (take-placed mostUnderWay noMessage messages))
 
 -- Numbers that ascend are at least the bound, and no two of them are equal.
 numbered-least : (low : ℕ) (l : List Message) (k : ℕ) → ascending low (map (λ x. x .number) l) ≡ true → k < length l → low ≤ getD l k noMessage .number

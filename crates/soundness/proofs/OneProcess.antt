@@ -110,10 +110,10 @@ module _ (n : ℕ) (own : List Interval) (p : ℕ) (row : List Checkpoint) (pins
         kept-pinned pins kept last is-kept last-pinned,
       )
 
-      pub judged : ((ascending 0 (map indexOf (take held row)) && every (placeSound pinned p) (take held row)) && eqb (newest .0) (last .0)
+      pub tests-decide : ((ascending 0 (map indexOf (take held row)) && every (placeSound pinned p) (take held row)) && eqb (newest .0) (last .0)
           && every (λ c. vectorSound n own (c .vector)) (take held row) && every (keepsIt (take held row)) pinned)
           ≡ processSound n own p row pins held
-      judged = by-bool (eqb (newest .0) (last .0))
+      tests-decide = by-bool (eqb (newest .0) (last .0))
           (λ e. same-walk (last-kept e) ∙ walk-decides)
           (λ e. rw (e, and-no-right (ascending 0 (map indexOf (take held row)) && every (placeSound pinned p) (take held row)) false refl) (last-differs e))
         where

@@ -89,15 +89,15 @@ module _ (s : Run) (high : s .count ≤ 16) where
   abbrev current : ℕ → Bool
   current p = currentSound n owns p (getD (s .vectors .0) p [])
 
-  abbrev judged : ℕ → Bool
-  judged p = processSound n owns p (getD (s .kept .0) p []) (getD (s .pins .0) p []) (getD (s .held) p 0)
+  abbrev tested : ℕ → Bool
+  tested p = processSound n owns p (getD (s .kept .0) p []) (getD (s .pins .0) p []) (getD (s .held) p 0)
 
   abbrev unused : ℕ → Bool
   unused p = restUnused (getD (s .kept .0) p []) (getD (s .held) p 0)
 
   -- The tests of one process, as the code groups them and as document 01 does. A test that is added stands in the list, and in both groupings.
   process-same : (p : ℕ) → p < n
-      → (current p && judged p && unused p)
+      → (current p && tested p && unused p)
       ≡ (leb 1 (own s p .0) && (within s (process s p .vector) && every (λ c. within s (c .vector)) (process s p .kept)) && (keptSound s p && pinsSound s p) && rowUnused s p)
   unfolding currentSound processSound processTests restUnused ownEntryIsIndex keptSound pinsSound rowUnused own process every holds each asks allBelow
   process-same p lt =
@@ -135,7 +135,7 @@ module _ (s : Run) (high : s .count ≤ 16) where
       refl)
 
   -- All processes.
-  processes-same : (allBelow n current && allBelow n judged && allBelow n unused)
+  processes-same : (allBelow n current && allBelow n tested && allBelow n unused)
       ≡ (allBelow n (λ p. leb 1 (own s p .0))
       && allBelow n (λ p. within s (process s p .vector) && every (λ c. within s (c .vector)) (process s p .kept))
       && allBelow n (λ p. keptSound s p && pinsSound s p)
@@ -144,8 +144,8 @@ module _ (s : Run) (high : s .count ≤ 16) where
       let o : ℕ → Bool = λ p. leb 1 (own s p .0) in
       let w : ℕ → Bool = λ p. within s (process s p .vector) && every (λ c. within s (c .vector)) (process s p .kept) in
       let k : ℕ → Bool = λ p. keptSound s p && pinsSound s p in
-      sym (all-both n (λ p. current p && judged p) unused ∙ ap (λ b. b && allBelow n unused) (all-both n current judged))
-      ∙ all-same n (λ p. current p && judged p && unused p) (λ p. o p && w p && k p && rowUnused s p) process-same
+      sym (all-both n (λ p. current p && tested p) unused ∙ ap (λ b. b && allBelow n unused) (all-both n current tested))
+      ∙ all-same n (λ p. current p && tested p && unused p) (λ p. o p && w p && k p && rowUnused s p) process-same
       ∙ all-both n (λ p. o p && w p && k p) (rowUnused s)
       ∙ ap (λ b. b && allBelow n (rowUnused s)) (all-both n (λ p. o p && w p) k ∙ ap (λ b. b && allBelow n k) (all-both n o w))
 
@@ -186,7 +186,7 @@ module _ (s : Run) (high : s .count ≤ 16) where
     others = every (zeroFrom 0) (drop n (s .vectors .0)) && every not (drop n (s .sent)) && every (nothingFrom 0) (drop n (s .pins .0)) && messagesTested n owns (s .messages) (s .underway) (s .last)
 
     -- Where the count is in its range, the other tests decide.
-    whole : ((allBelow n current && allBelow n judged && allBelow n unused) && (noneHeld && unusedRows) && others) ≡ sound s
+    whole : ((allBelow n current && allBelow n tested && allBelow n unused) && (noneHeld && unusedRows) && others) ≡ sound s
     unfolding messagesTested messagesTests messageTested sound countSound ownSound vectorsSound messagesSound messageSound unusedSound underWay every holds each asks allBelow
     whole =
         let live = take (s .underway) (s .messages) in
@@ -223,7 +223,7 @@ module _ (s : Run) (high : s .count ≤ 16) where
         refl)
 
     pub verdict : (allBelow n current
-        && (allBelow n judged && allBelow 16 unused)
+        && (allBelow n tested && allBelow 16 unused)
         && every (zeroFrom 0) (drop n (s .vectors .0))
         && every not (drop n (s .sent))
         && noneHeld
@@ -231,9 +231,9 @@ module _ (s : Run) (high : s .count ≤ 16) where
         && messagesTested n owns (s .messages) (s .underway) (s .last))
         ≡ sound s
     verdict =
-        beside (allBelow n current) (allBelow n judged) (allBelow 16 unused) (every (zeroFrom 0) (drop n (s .vectors .0))) (every not (drop n (s .sent))) noneHeld (every (nothingFrom 0) (drop n (s .pins .0))) (messagesTested n owns (s .messages) (s .underway) (s .last))
-        ∙ ap (λ b. (allBelow n current && allBelow n judged && others) && b) (under noneHeld (allBelow 16 unused) (allBelow n unused && unusedRows) (rows-same size))
-        ∙ grouped (allBelow n current) (allBelow n judged) others noneHeld (allBelow n unused) unusedRows
+        beside (allBelow n current) (allBelow n tested) (allBelow 16 unused) (every (zeroFrom 0) (drop n (s .vectors .0))) (every not (drop n (s .sent))) noneHeld (every (nothingFrom 0) (drop n (s .pins .0))) (messagesTested n owns (s .messages) (s .underway) (s .last))
+        ∙ ap (λ b. (allBelow n current && allBelow n tested && others) && b) (under noneHeld (allBelow 16 unused) (allBelow n unused && unusedRows) (rows-same size))
+        ∙ grouped (allBelow n current) (allBelow n tested) others noneHeld (allBelow n unused) unusedRows
         ∙ whole
 
 -- A count outside its range.

@@ -10,39 +10,6 @@ use Rattle.replay.proofs.Texts.{front-text}
 use Rattle.replay.proofs.finish.Statement.{statement}
 use Rattle.replay.proofs.finish.Tie as tie
 
-held-requires : tie.Need-held-requires
-held-requires c κs = search needs
-
-add-size : tie.Need-add-size
-add-size c = search needs
-
-done-requires : tie.Need-done-requires
-done-requires c κs = search needs
-
-sub-end : tie.Need-sub-end
-sub-end c = search needs
-
-part-end-start : tie.Need-part-end-start
-part-end-start c = search needs
-
-part-end-end : tie.Need-part-end-end
-part-end-end c = search needs
-
-end-requires : tie.Need-end-requires
-end-requires c κs = search needs
-
-sub-put-rest : tie.Need-sub-put-rest
-sub-put-rest c = search needs
-
-part-put-rest-start : tie.Need-part-put-rest-start
-part-put-rest-start c = search needs
-
-part-put-rest-end : tie.Need-part-put-rest-end
-part-put-rest-end c = search needs
-
-slice-reshare-prefix-put-rest : tie.Need-slice-reshare-prefix-put-rest
-slice-reshare-prefix-put-rest c = search needs
-
 slice-aggregate-put-rest : tie.Need-slice-aggregate-put-rest
 slice-aggregate-put-rest c =
     let called = c .before .before .before .before .end in
@@ -56,13 +23,12 @@ put-rest-requires c κs =
     let start = c .before .before .before .before .before .before .before .before .before .before .before in
     rw (c .before .before .before .before .before .before .before .done .ensures) at (front-text _ _ _ (called .result) (called .ensures .0 (start .args .p .run)) (called .ensures .1))
 
-same-length : tie.Need-same-length
-same-length c = search needs
-
-returns : tie.Need-returns
-returns c = search needs
-
 pub finish-spec : {M : Type 1} → statement M
 finish-spec =
     tie.close
-    (tie.spec held-requires add-size done-requires sub-end part-end-start part-end-end end-requires sub-put-rest part-put-rest-start part-put-rest-end slice-reshare-prefix-put-rest slice-aggregate-put-rest put-rest-requires same-length returns)
+    (tie.spec
+    (λ c κs. search needs) (λ c. search needs) (λ c κs. search needs) (λ c. search needs) (λ c. search needs) (λ c. search needs) (λ c κs. search needs)
+    (λ c. search needs) (λ c. search needs) (λ c. search needs) (λ c. search needs)
+    slice-aggregate-put-rest
+    put-rest-requires
+    (λ c. search needs) (λ c. search needs))

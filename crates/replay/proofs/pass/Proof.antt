@@ -48,36 +48,15 @@ module _ (c : tie.After-replay) where
   fitting : written ≤ length lines
   fitting = omega (arith, c .replay .ensures .1 .0 .2, c .replay .kept .1 .1 .1 .0)
 
-run-requires : tie.Need-run-requires
-run-requires c κs = search needs
-
-done-requires : tie.Need-done-requires
-done-requires c κs = search needs
-
 replay-requires : tie.Need-replay-requires
 replay-requires c κs =
     let start = c .before .before .before .before .before in
     (rw (c .before .before .run .ensures) (start .pre .0), omega (arith, c .before .done .ensures, start .pre .1))
 
-mul-to : tie.Need-mul-to
-mul-to c = search needs
-
-add-to : tie.Need-add-to
-add-to c = search needs
-
-sub-put : tie.Need-sub-put
-sub-put c = search needs
-
-part-put-start : tie.Need-part-put-start
-part-put-start c = search needs
-
 part-put-end : tie.Need-part-put-end
 part-put-end c =
     let called = c .before .before .before in
     omega (arith, given-on called .inside, start called .pre .3)
-
-slice-reshare-prefix-put : tie.Need-slice-reshare-prefix-put
-slice-reshare-prefix-put c = search needs
 
 slice-aggregate-put : tie.Need-slice-aggregate-put
 slice-aggregate-put c = let called = c .before .before .before .before .before in search (needs, length-take-le (written called) (lines called) (fitting called))
@@ -86,9 +65,6 @@ put-requires : tie.Need-put-requires
 put-requires c κs =
     let known = given-on (c .before .before .before .before .before) in
     (known .many, known .inside, known .most, known .state, known .due-lines)
-
-same-length : tie.Need-same-length
-same-length c = search needs
 
 returns : tie.Need-returns
 returns c =
@@ -99,4 +75,13 @@ returns c =
 pub pass-spec : {M : Type 1} → statement M
 pass-spec =
     tie.close
-    (tie.spec run-requires done-requires replay-requires mul-to add-to sub-put part-put-start part-put-end slice-reshare-prefix-put slice-aggregate-put put-requires same-length returns)
+    (tie.spec
+    (λ c κs. search needs) (λ c κs. search needs)
+    replay-requires
+    (λ c. search needs) (λ c. search needs) (λ c. search needs) (λ c. search needs)
+    part-put-end
+    (λ c. search needs)
+    slice-aggregate-put
+    put-requires
+    (λ c. search needs)
+    returns)

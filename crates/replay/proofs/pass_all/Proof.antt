@@ -55,34 +55,13 @@ module _ (c : tie.After-pass Inv-loop μ-loop) where
   again =
       passes-then (start turn .args .p) (loop turn .loop .at) (c .pass .result .position) (block turn) (part turn) (is-part turn) (loop turn .loop .inv .0) (c .pass .ensures .0)
 
-held-requires : tie.Need-held-requires Inv-loop μ-loop
-held-requires c κs = search needs
-
 loop-holds : tie.Need-loop-holds Inv-loop μ-loop
 loop-holds c =
     let start = c .before .before .before in
     (passes-none (start .args .p) (now (start .args .block)) (start .pre .0) (start .pre .1), refl)
 
-done-requires : tie.Need-done-requires Inv-loop μ-loop
-done-requires c κs = search needs
-
-held-requires-2 : tie.Need-held-requires-2 Inv-loop μ-loop
-held-requires-2 c κs = search needs
-
-held-requires-3 : tie.Need-held-requires-3 Inv-loop μ-loop
-held-requires-3 c κs = search needs
-
 sub-used : tie.Need-sub-used Inv-loop μ-loop
 sub-used c = omega (arith, c .before .before .before .before .before .loop .inv .0 .fewer)
-
-sub-pass : tie.Need-sub-pass Inv-loop μ-loop
-sub-pass c = search needs
-
-part-pass-start : tie.Need-part-pass-start Inv-loop μ-loop
-part-pass-start c = search needs
-
-part-pass-end : tie.Need-part-pass-end Inv-loop μ-loop
-part-pass-end c = search needs
 
 pass-requires : tie.Need-pass-requires Inv-loop μ-loop
 pass-requires c κs =
@@ -110,16 +89,10 @@ loop-again c =
     let called = c .before .before .before .before in
     (again called, called .pass .kept .1 .1 .0 ∙ loop (turn called) .loop .inv .1)
 
-same-length-2 : tie.Need-same-length-2 Inv-loop μ-loop
-same-length-2 c = search needs
-
 returns-2 : tie.Need-returns-2 Inv-loop μ-loop
 returns-2 c =
     let l = c .before .before .before .before in
     (l .loop .inv .0, none-left (l .before .before .before .before .args .p) (l .loop .at) (omega (arith, c .before .held2 .ensures, leb-false 4 (c .before .held2 .result) (c .if2 .left))))
-
-same-length-3 : tie.Need-same-length-3 Inv-loop μ-loop
-same-length-3 c = search needs
 
 returns-3 : tie.Need-returns-3 Inv-loop μ-loop
 returns-3 c =
@@ -129,4 +102,20 @@ returns-3 c =
 pub pass-all-spec : {M : Type 1} → statement M
 pass-all-spec =
     tie.close
-    (tie.spec Inv-loop μ-loop held-requires loop-holds done-requires held-requires-2 held-requires-3 sub-used sub-pass part-pass-start part-pass-end pass-requires same-length returns loop-less loop-again same-length-2 returns-2 same-length-3 returns-3)
+    (tie.spec
+    Inv-loop
+    μ-loop
+    (λ c κs. search needs)
+    loop-holds
+    (λ c κs. search needs) (λ c κs. search needs) (λ c κs. search needs)
+    sub-used
+    (λ c. search needs) (λ c. search needs) (λ c. search needs)
+    pass-requires
+    same-length
+    returns
+    loop-less
+    loop-again
+    (λ c. search needs)
+    returns-2
+    (λ c. search needs)
+    returns-3)

@@ -61,31 +61,16 @@ loop-holds c =
     let start = c .before .before in
     (start .pre .0, omega (arith, start .pre .1), omega (arith, start .pre .2), refl, refl, stands-first (start .args .from) (now (start .args .input)) (start .pre .1) (start .pre .2))
 
-done-requires : tie.Need-done-requires Inv-loop μ-loop
-done-requires c κs = search needs
-
 fill-requires : tie.Need-fill-requires Inv-loop μ-loop
 fill-requires c κs =
     let l = c .before .before .before in
     (omega (arith, c .before .before .done .ensures, c .before .if1 .taken), l .loop .inv .2, omega (arith, l .loop .inv .3, l .before .before .before .pre .3))
-
-slice-aggregate-fail : tie.Need-slice-aggregate-fail Inv-loop μ-loop
-slice-aggregate-fail c = search needs
-
-fail-requires : tie.Need-fail-requires Inv-loop μ-loop
-fail-requires c κs = search needs
-
-end-by-error-requires : tie.Need-end-by-error-requires Inv-loop μ-loop
-end-by-error-requires c κs = search needs
 
 same-length : tie.Need-same-length Inv-loop μ-loop
 same-length c = let read = c .before .before .before .before .before .before in same read ∙ turn read .loop .inv .3
 
 same-length-2 : tie.Need-same-length-2 Inv-loop μ-loop
 same-length-2 c = turn (c .before .before .before .before .before .before) .loop .inv .4
-
-returns : tie.Need-returns Inv-loop μ-loop
-returns c = search needs
 
 finish-requires : tie.Need-finish-requires Inv-loop μ-loop
 finish-requires c κs =
@@ -99,26 +84,17 @@ same-length-3 c = let read = c .before .before .before .before .before .before .
 same-length-4 : tie.Need-same-length-4 Inv-loop μ-loop
 same-length-4 c = c .before .before .finish .kept .1 .1 .0 ∙ turn (c .before .before .before .before .before .before .before .before .before .before) .loop .inv .4
 
-returns-2 : tie.Need-returns-2 Inv-loop μ-loop
-returns-2 c = search needs
-
 replay-held-requires : tie.Need-replay-held-requires Inv-loop μ-loop
 replay-held-requires c κs =
     let read = c .before .before .before .before .before .before .before in
     let l = turn read .loop in
     (reached read, read .fill .ensures .below, omega (arith, same read, read .fill .ensures .inside), omega (arith, l .inv .4, start read .pre .4))
 
-end-by-error-requires-2 : tie.Need-end-by-error-requires-2 Inv-loop μ-loop
-end-by-error-requires-2 c κs = search needs
-
 same-length-5 : tie.Need-same-length-5 Inv-loop μ-loop
 same-length-5 c = let called = c .before .before .before .before .before .before in called .replay-held .kept .1 .0 ∙ same (read called) ∙ turn (read called) .loop .inv .3
 
 same-length-6 : tie.Need-same-length-6 Inv-loop μ-loop
 same-length-6 c = let called = c .before .before .before .before .before .before in called .replay-held .kept .1 .1 .0 ∙ turn (read called) .loop .inv .4
-
-returns-3 : tie.Need-returns-3 Inv-loop μ-loop
-returns-3 c = search needs
 
 loop-less : tie.Need-loop-less Inv-loop μ-loop
 loop-less c =
@@ -140,16 +116,29 @@ loop-again c =
 end-at-the-last-requires : tie.Need-end-at-the-last-requires Inv-loop μ-loop
 end-at-the-last-requires c κs = omega (arith, c .before .done .ensures, c .if1 .left)
 
-same-length-7 : tie.Need-same-length-7 Inv-loop μ-loop
-same-length-7 c = search needs
-
-same-length-8 : tie.Need-same-length-8 Inv-loop μ-loop
-same-length-8 c = search needs
-
-returns-4 : tie.Need-returns-4 Inv-loop μ-loop
-returns-4 c = search needs
-
 pub replay-spec : {M : Type 1} → statement M
 replay-spec =
     tie.close
-    (tie.spec Inv-loop μ-loop loop-holds done-requires fill-requires slice-aggregate-fail fail-requires end-by-error-requires same-length same-length-2 returns finish-requires same-length-3 same-length-4 returns-2 replay-held-requires end-by-error-requires-2 same-length-5 same-length-6 returns-3 loop-less loop-again end-at-the-last-requires same-length-7 same-length-8 returns-4)
+    (tie.spec
+    Inv-loop
+    μ-loop
+    loop-holds
+    (λ c κs. search needs)
+    fill-requires
+    (λ c. search needs) (λ c κs. search needs) (λ c κs. search needs)
+    same-length
+    same-length-2
+    (λ c. search needs)
+    finish-requires
+    same-length-3
+    same-length-4
+    (λ c. search needs)
+    replay-held-requires
+    (λ c κs. search needs)
+    same-length-5
+    same-length-6
+    (λ c. search needs)
+    loop-less
+    loop-again
+    end-at-the-last-requires
+    (λ c. search needs) (λ c. search needs) (λ c. search needs))

@@ -41,9 +41,6 @@ module _ (c : tie.After-pass-all) where
   passes : Passes (start first .args .p) (take (1 + start first .args .p .held) (input first)) (c .pass-all .result .position)
   passes = rw (is-size first) at (c .pass-all .ensures .0)
 
-held-requires : tie.Need-held-requires
-held-requires c κs = search needs
-
 add-size : tie.Need-add-size
 add-size c = omega (arith, c .held .ensures, c .before .before .before .pre .2)
 
@@ -58,9 +55,6 @@ pass-all-requires c κs =
     let first = c .before .before in
     (start first .pre .0, omega (arith, start first .pre .1), block-length first ∙ is-size first, start first .pre .3)
 
-held-requires-2 : tie.Need-held-requires-2
-held-requires-2 c κs = search needs
-
 sub-keep : tie.Need-sub-keep
 sub-keep c =
     let called = c .before .before .before .before .before in
@@ -70,12 +64,6 @@ keep-requires : tie.Need-keep-requires
 keep-requires c κs =
     let called = c .before .before .before .before .before in
     (omega (arith, c .held2 .ensures, is-size (first called), passes called .fewer), omega arith, inside (first called))
-
-same-length : tie.Need-same-length
-same-length c = search needs
-
-same-length-2 : tie.Need-same-length-2
-same-length-2 c = search needs
 
 returns : tie.Need-returns
 returns c =
@@ -90,4 +78,14 @@ returns c =
 pub replay-held-spec : {M : Type 1} → statement M
 replay-held-spec =
     tie.close
-    (tie.spec held-requires add-size slice-reshare-prefix-pass-all slice-aggregate-pass-all pass-all-requires held-requires-2 sub-keep keep-requires same-length same-length-2 returns)
+    (tie.spec
+    (λ c κs. search needs)
+    add-size
+    slice-reshare-prefix-pass-all
+    slice-aggregate-pass-all
+    pass-all-requires
+    (λ c κs. search needs)
+    sub-keep
+    keep-requires
+    (λ c. search needs) (λ c. search needs)
+    returns)

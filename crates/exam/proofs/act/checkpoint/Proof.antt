@@ -27,6 +27,5 @@ checkpoint-spec =
     (tie.spec
     (λ c. search needs)
     slice-aggregate-checkpoint
-    (λ c κs. search needs)
-    (λ c κs. search needs)
+    (λ c κs. search needs) (λ c κs. search needs)
     returns)

@@ -27,6 +27,5 @@ deliver-spec =
     (tie.spec
     (λ c. search needs)
     slice-aggregate-deliver
-    (λ c κs. search needs)
-    (λ c κs. search needs)
+    (λ c κs. search needs) (λ c κs. search needs)
     returns)

@@ -34,6 +34,5 @@ recover-spec =
     slice-aggregate-recover
     (λ c. search needs)
     slice-aggregate-recover-2
-    (λ c κs. search needs)
-    (λ c κs. search needs)
+    (λ c κs. search needs) (λ c κs. search needs)
     returns)

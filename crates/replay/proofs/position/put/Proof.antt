@@ -6,22 +6,14 @@ use Rattle.replay.proofs.Going.{put-there}
 use Rattle.replay.proofs.position.put.Statement.{statement}
 use Rattle.replay.proofs.position.put.Tie as tie
 
-write-requires : tie.Need-write-requires
-write-requires c κs = search needs
-
-add-count : tie.Need-add-count
-add-count c = search needs
-
-mul-left : tie.Need-mul-left
-mul-left c = search needs
-
-sub-left : tie.Need-sub-left
-sub-left c = search needs
-
 returns : tie.Need-returns
 returns c =
     let start = c .before .before .before .before .before in
     put-there (start .args .p) (start .args .taken) (now (start .args .part)) (start .args .next) (start .pre .3)
 
 pub put-spec : {M : Type 1} → statement M
-put-spec = tie.close (tie.spec write-requires add-count mul-left sub-left returns)
+put-spec =
+    tie.close
+    (tie.spec
+    (λ c κs. search needs) (λ c. search needs) (λ c. search needs) (λ c. search needs)
+    returns)

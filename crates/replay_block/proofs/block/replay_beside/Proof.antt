@@ -1119,7 +1119,7 @@ most c = sound-state (whole c) (fine c) .count-most
 holds : (c : At-records) → messagesIn (c .records .window) (c .records .first) (c .records .tail) ≡ underWay (whole c)
 holds c =
     let l = c .records in
-    windows.under-way (from-At-records-to-Start c .args .s .count) (l .vectors) (l .pins) (l .kept) (l .sent) (l .held) (messagesIn (l .window) (l .first) (l .tail)) (l .last)
+    windows.under-way (whole c) (messagesIn (l .window) (l .first) (l .tail)) refl refl
 
 -- A whole record is left, there is room for its line, and it is not behind the last one.
 left : (c : Then3) → 4 * from-Then3-to-At-records c .records .taken + 4 ≤ length (drop 1 (now (from-Then3-to-Start c .args .trace)))
@@ -1172,9 +1172,13 @@ mul-message c = omega (arith, in-window c)
 array-copy-out-message : tie.Need-array-copy-out-message Inv-collected μ-collected Inv-allowed μ-allowed Inv-returned μ-returned Inv-found μ-found Inv-left μ-left Inv-restored μ-restored Inv-records μ-records
 array-copy-out-message c = omega (arith, in-window c)
 
+-- What was read there is the message in the window, whatever stands for one past its end.
+message-is : (c : After-place-in) (d : Message) → getD (from-After-place-in-to-At-records c .records .window) (c .place-in .result) d ≡ getD (from-After-place-in-to-At-records c .records .window) (c .place-in .result) noMessage
+message-is c d = any-default (from-After-place-in-to-At-records c .records .window) (c .place-in .result) d noMessage (rw (from-After-place-in-to-At-records c .records .inv .windowed .long) (in-window c))
+
 -- What the laws of a plan take: the state, the event, the window, and what was looked up.
 in-rows : (c : After-row-of) → c .row-of .result < 16
-in-rows c = turn.row-there (whole (from-After-row-of-to-At-records c)) (reach (from-After-row-of-to-At-records c)) (event (from-After-row-of-to-After-decode c)) (not-asked (from-After-row-of-to-Then4 c)) (from-After-row-of-to-At-records c .records .inv .windowed) (from-After-row-of-to-In-records c .records-test .taken) (holds (from-After-row-of-to-At-records c)) refl (from-After-row-of-to-After-sought c .sought .ensures) (from-After-row-of-to-After-place-in c .place-in .ensures) (any-default (from-After-row-of-to-At-records c .records .window) (from-After-row-of-to-After-place-in c .place-in .result) _ noMessage (rw (from-After-row-of-to-At-records c .records .inv .windowed .long) (in-window (from-After-row-of-to-After-place-in c)))) (c .before .is-there .ensures) (c .row-of .ensures)
+in-rows c = turn.row-there (whole (from-After-row-of-to-At-records c)) (reach (from-After-row-of-to-At-records c)) (event (from-After-row-of-to-After-decode c)) (not-asked (from-After-row-of-to-Then4 c)) (from-After-row-of-to-At-records c .records .inv .windowed) (from-After-row-of-to-In-records c .records-test .taken) (holds (from-After-row-of-to-At-records c)) refl (from-After-row-of-to-After-sought c .sought .ensures) (from-After-row-of-to-After-place-in c .place-in .ensures) (message-is (from-After-row-of-to-After-place-in c) _) (c .before .is-there .ensures) (c .row-of .ensures)
 
 mul-vector : tie.Need-mul-vector Inv-collected μ-collected Inv-allowed μ-allowed Inv-returned μ-returned Inv-found μ-found Inv-left μ-left Inv-restored μ-restored Inv-records μ-records
 mul-vector c = omega (arith, in-rows (c))
@@ -1195,13 +1199,13 @@ array-write-sent : tie.Need-array-write-sent Inv-collected μ-collected Inv-allo
 array-write-sent c = omega (arith, in-rows (from-After-plan-of-to-After-row-of c))
 
 plan-of-requires : tie.Need-plan-of-requires Inv-collected μ-collected Inv-allowed μ-allowed Inv-returned μ-returned Inv-found μ-found Inv-left μ-left Inv-restored μ-restored Inv-records μ-records
-plan-of-requires c κs = (turn.some-there (whole (from-After-own-to-At-records c)) (reach (from-After-own-to-At-records c)) (event (from-After-own-to-After-decode c)) (not-asked (from-After-own-to-Then4 c)) (from-After-own-to-At-records c .records .inv .windowed) (from-After-own-to-In-records c .records-test .taken) (holds (from-After-own-to-At-records c)) refl (from-After-own-to-After-sought c .sought .ensures) (from-After-own-to-After-place-in c .place-in .ensures) (any-default (from-After-own-to-At-records c .records .window) (from-After-own-to-After-place-in c .place-in .result) _ noMessage (rw (from-After-own-to-At-records c .records .inv .windowed .long) (in-window (from-After-own-to-After-place-in c)))) (from-After-own-to-After-is-there c .is-there .ensures) (c .before .before .row-of .ensures), omega (arith, from-After-own-to-In-records c .records-test .taken))
+plan-of-requires c κs = (turn.some-there (whole (from-After-own-to-At-records c)) (reach (from-After-own-to-At-records c)) (event (from-After-own-to-After-decode c)) (not-asked (from-After-own-to-Then4 c)) (from-After-own-to-At-records c .records .inv .windowed) (from-After-own-to-In-records c .records-test .taken) (holds (from-After-own-to-At-records c)) refl (from-After-own-to-After-sought c .sought .ensures) (from-After-own-to-After-place-in c .place-in .ensures) (message-is (from-After-own-to-After-place-in c) _) (from-After-own-to-After-is-there c .is-there .ensures) (c .before .before .row-of .ensures), omega (arith, from-After-own-to-In-records c .records-test .taken))
 
 mul-window : tie.Need-mul-window Inv-collected μ-collected Inv-allowed μ-allowed Inv-returned μ-returned Inv-found μ-found Inv-left μ-left Inv-restored μ-restored Inv-records μ-records
-mul-window c = omega (arith, turn.place-there (whole (from-After-put-to-At-records c)) (reach (from-After-put-to-At-records c)) (event (from-After-put-to-After-decode c)) (not-asked (from-After-put-to-Then4 c)) (from-After-put-to-At-records c .records .inv .windowed) (from-After-put-to-In-records c .records-test .taken) (holds (from-After-put-to-At-records c)) refl (from-After-put-to-After-sought c .sought .ensures) (from-After-put-to-After-place-in c .place-in .ensures) (any-default (from-After-put-to-At-records c .records .window) (from-After-put-to-After-place-in c .place-in .result) _ noMessage (rw (from-After-put-to-At-records c .records .inv .windowed .long) (in-window (from-After-put-to-After-place-in c)))) (from-After-put-to-After-is-there c .is-there .ensures) (from-After-put-to-After-row-of c .row-of .ensures) (c .before .plan-of .ensures))
+mul-window c = omega (arith, turn.place-there (whole (from-After-put-to-At-records c)) (reach (from-After-put-to-At-records c)) (event (from-After-put-to-After-decode c)) (not-asked (from-After-put-to-Then4 c)) (from-After-put-to-At-records c .records .inv .windowed) (from-After-put-to-In-records c .records-test .taken) (holds (from-After-put-to-At-records c)) refl (from-After-put-to-After-sought c .sought .ensures) (from-After-put-to-After-place-in c .place-in .ensures) (message-is (from-After-put-to-After-place-in c) _) (from-After-put-to-After-is-there c .is-there .ensures) (from-After-put-to-After-row-of c .row-of .ensures) (c .before .plan-of .ensures))
 
 array-set-from-window : tie.Need-array-set-from-window Inv-collected μ-collected Inv-allowed μ-allowed Inv-returned μ-returned Inv-found μ-found Inv-left μ-left Inv-restored μ-restored Inv-records μ-records
-array-set-from-window c = omega (arith, turn.place-there (whole (from-After-put-to-At-records c)) (reach (from-After-put-to-At-records c)) (event (from-After-put-to-After-decode c)) (not-asked (from-After-put-to-Then4 c)) (from-After-put-to-At-records c .records .inv .windowed) (from-After-put-to-In-records c .records-test .taken) (holds (from-After-put-to-At-records c)) refl (from-After-put-to-After-sought c .sought .ensures) (from-After-put-to-After-place-in c .place-in .ensures) (any-default (from-After-put-to-At-records c .records .window) (from-After-put-to-After-place-in c .place-in .result) _ noMessage (rw (from-After-put-to-At-records c .records .inv .windowed .long) (in-window (from-After-put-to-After-place-in c)))) (from-After-put-to-After-is-there c .is-there .ensures) (from-After-put-to-After-row-of c .row-of .ensures) (c .before .plan-of .ensures))
+array-set-from-window c = omega (arith, turn.place-there (whole (from-After-put-to-At-records c)) (reach (from-After-put-to-At-records c)) (event (from-After-put-to-After-decode c)) (not-asked (from-After-put-to-Then4 c)) (from-After-put-to-At-records c .records .inv .windowed) (from-After-put-to-In-records c .records-test .taken) (holds (from-After-put-to-At-records c)) refl (from-After-put-to-After-sought c .sought .ensures) (from-After-put-to-After-place-in c .place-in .ensures) (message-is (from-After-put-to-After-place-in c) _) (from-After-put-to-After-is-there c .is-there .ensures) (from-After-put-to-After-row-of c .row-of .ensures) (c .before .plan-of .ensures))
 
 -- The pins of its process move.
 mul-pins-before : tie.Need-mul-pins-before Inv-collected μ-collected Inv-allowed μ-allowed Inv-returned μ-returned Inv-found μ-found Inv-left μ-left Inv-restored μ-restored Inv-records μ-records
@@ -1229,13 +1233,13 @@ array-read-many : tie.Need-array-read-many Inv-collected μ-collected Inv-allowe
 array-read-many c = omega (arith, in-rows (from-After-vector-then-to-After-row-of c))
 
 live-from-requires : tie.Need-live-from-requires Inv-collected μ-collected Inv-allowed μ-allowed Inv-returned μ-returned Inv-found μ-found Inv-left μ-left Inv-restored μ-restored Inv-records μ-records
-live-from-requires c κs = (in-rows (from-Then5-to-After-row-of c), turn.moved-own (whole (from-Then5-to-At-records c)) (reach (from-Then5-to-At-records c)) (event (from-Then5-to-After-decode c)) (not-asked (from-Then5-to-Then4 c)) (from-Then5-to-At-records c .records .inv .windowed) (from-Then5-to-In-records c .records-test .taken) (holds (from-Then5-to-At-records c)) refl (from-Then5-to-After-sought c .sought .ensures) (from-Then5-to-After-place-in c .place-in .ensures) (any-default (from-Then5-to-At-records c .records .window) (from-Then5-to-After-place-in c .place-in .result) _ noMessage (rw (from-Then5-to-At-records c .records .inv .windowed .long) (in-window (from-Then5-to-After-place-in c)))) (from-Then5-to-After-is-there c .is-there .ensures) (from-Then5-to-After-row-of c .row-of .ensures) (from-Then5-to-After-plan-of c .plan-of .ensures) (c .if5 .taken))
+live-from-requires c κs = (in-rows (from-Then5-to-After-row-of c), turn.moved-own (whole (from-Then5-to-At-records c)) (reach (from-Then5-to-At-records c)) (event (from-Then5-to-After-decode c)) (not-asked (from-Then5-to-Then4 c)) (from-Then5-to-At-records c .records .inv .windowed) (from-Then5-to-In-records c .records-test .taken) (holds (from-Then5-to-At-records c)) refl (from-Then5-to-After-sought c .sought .ensures) (from-Then5-to-After-place-in c .place-in .ensures) (message-is (from-Then5-to-After-place-in c) _) (from-Then5-to-After-is-there c .is-there .ensures) (from-Then5-to-After-row-of c .row-of .ensures) (from-Then5-to-After-plan-of c .plan-of .ensures) (c .if5 .taken))
 
 pins-then-requires : tie.Need-pins-then-requires Inv-collected μ-collected Inv-allowed μ-allowed Inv-returned μ-returned Inv-found μ-found Inv-left μ-left Inv-restored μ-restored Inv-records μ-records
-pins-then-requires c κs = (in-rows (from-After-carried-to-After-row-of c), turn.moved-room (whole (from-After-carried-to-At-records c)) (reach (from-After-carried-to-At-records c)) (event (from-After-carried-to-After-decode c)) (not-asked (from-After-carried-to-Then4 c)) (from-After-carried-to-At-records c .records .inv .windowed) (from-After-carried-to-In-records c .records-test .taken) (holds (from-After-carried-to-At-records c)) refl (from-After-carried-to-After-sought c .sought .ensures) (from-After-carried-to-After-place-in c .place-in .ensures) (any-default (from-After-carried-to-At-records c .records .window) (from-After-carried-to-After-place-in c .place-in .result) _ noMessage (rw (from-After-carried-to-At-records c .records .inv .windowed .long) (in-window (from-After-carried-to-After-place-in c)))) (from-After-carried-to-After-is-there c .is-there .ensures) (from-After-carried-to-After-row-of c .row-of .ensures) (from-After-carried-to-After-plan-of c .plan-of .ensures) (from-After-carried-to-Then5 c .if5 .taken))
+pins-then-requires c κs = (in-rows (from-After-carried-to-After-row-of c), turn.moved-room (whole (from-After-carried-to-At-records c)) (reach (from-After-carried-to-At-records c)) (event (from-After-carried-to-After-decode c)) (not-asked (from-After-carried-to-Then4 c)) (from-After-carried-to-At-records c .records .inv .windowed) (from-After-carried-to-In-records c .records-test .taken) (holds (from-After-carried-to-At-records c)) refl (from-After-carried-to-After-sought c .sought .ensures) (from-After-carried-to-After-place-in c .place-in .ensures) (message-is (from-After-carried-to-After-place-in c) _) (from-After-carried-to-After-is-there c .is-there .ensures) (from-After-carried-to-After-row-of c .row-of .ensures) (from-After-carried-to-After-plan-of c .plan-of .ensures) (from-After-carried-to-Then5 c .if5 .taken))
 
 vector-then-requires : tie.Need-vector-then-requires Inv-collected μ-collected Inv-allowed μ-allowed Inv-returned μ-returned Inv-found μ-found Inv-left μ-left Inv-restored μ-restored Inv-records μ-records
-vector-then-requires c κs = (in-rows (from-After-pins-then-to-After-row-of c), turn.moved-room (whole (from-After-pins-then-to-At-records c)) (reach (from-After-pins-then-to-At-records c)) (event (from-After-pins-then-to-After-decode c)) (not-asked (from-After-pins-then-to-Then4 c)) (from-After-pins-then-to-At-records c .records .inv .windowed) (from-After-pins-then-to-In-records c .records-test .taken) (holds (from-After-pins-then-to-At-records c)) refl (from-After-pins-then-to-After-sought c .sought .ensures) (from-After-pins-then-to-After-place-in c .place-in .ensures) (any-default (from-After-pins-then-to-At-records c .records .window) (from-After-pins-then-to-After-place-in c .place-in .result) _ noMessage (rw (from-After-pins-then-to-At-records c .records .inv .windowed .long) (in-window (from-After-pins-then-to-After-place-in c)))) (from-After-pins-then-to-After-is-there c .is-there .ensures) (from-After-pins-then-to-After-row-of c .row-of .ensures) (from-After-pins-then-to-After-plan-of c .plan-of .ensures) (from-After-pins-then-to-Then5 c .if5 .taken))
+vector-then-requires c κs = (in-rows (from-After-pins-then-to-After-row-of c), turn.moved-room (whole (from-After-pins-then-to-At-records c)) (reach (from-After-pins-then-to-At-records c)) (event (from-After-pins-then-to-After-decode c)) (not-asked (from-After-pins-then-to-Then4 c)) (from-After-pins-then-to-At-records c .records .inv .windowed) (from-After-pins-then-to-In-records c .records-test .taken) (holds (from-After-pins-then-to-At-records c)) refl (from-After-pins-then-to-After-sought c .sought .ensures) (from-After-pins-then-to-After-place-in c .place-in .ensures) (message-is (from-After-pins-then-to-After-place-in c) _) (from-After-pins-then-to-After-is-there c .is-there .ensures) (from-After-pins-then-to-After-row-of c .row-of .ensures) (from-After-pins-then-to-After-plan-of c .plan-of .ensures) (from-After-pins-then-to-Then5 c .if5 .taken))
 
 -- Its row has a place, is filled behind what it keeps, and keeps 16 at most.
 there : (c : After-row-of) → c .row-of .result < length (from-After-row-of-to-At-records c .records .kept)
@@ -1245,7 +1249,7 @@ row-long : (c : After-row-of) → length (getD (from-After-row-of-to-At-records 
 row-long c = sized (from-After-row-of-to-At-records c) .kept-row (c .row-of .result) (in-rows c)
 
 many-most : (c : Then5) → getD (from-Then5-to-At-records c .records .held) (from-Then5-to-After-row-of c .row-of .result) 0 ≤ 16
-many-most c = turn.moved-held (whole (from-Then5-to-At-records c)) (reach (from-Then5-to-At-records c)) (event (from-Then5-to-After-decode c)) (not-asked (from-Then5-to-Then4 c)) (from-Then5-to-At-records c .records .inv .windowed) (from-Then5-to-In-records c .records-test .taken) (holds (from-Then5-to-At-records c)) refl (from-Then5-to-After-sought c .sought .ensures) (from-Then5-to-After-place-in c .place-in .ensures) (any-default (from-Then5-to-At-records c .records .window) (from-Then5-to-After-place-in c .place-in .result) _ noMessage (rw (from-Then5-to-At-records c .records .inv .windowed .long) (in-window (from-Then5-to-After-place-in c)))) (from-Then5-to-After-is-there c .is-there .ensures) (from-Then5-to-After-row-of c .row-of .ensures) (from-Then5-to-After-plan-of c .plan-of .ensures) (c .if5 .taken)
+many-most c = turn.moved-held (whole (from-Then5-to-At-records c)) (reach (from-Then5-to-At-records c)) (event (from-Then5-to-After-decode c)) (not-asked (from-Then5-to-Then4 c)) (from-Then5-to-At-records c .records .inv .windowed) (from-Then5-to-In-records c .records-test .taken) (holds (from-Then5-to-At-records c)) refl (from-Then5-to-After-sought c .sought .ensures) (from-Then5-to-After-place-in c .place-in .ensures) (message-is (from-Then5-to-After-place-in c) _) (from-Then5-to-After-is-there c .is-there .ensures) (from-Then5-to-After-row-of c .row-of .ensures) (from-Then5-to-After-plan-of c .plan-of .ensures) (c .if5 .taken)
 
 collected-holds : tie.Need-collected-holds Inv-collected μ-collected Inv-allowed μ-allowed Inv-returned μ-returned Inv-found μ-found Inv-left μ-left Inv-restored μ-restored Inv-records μ-records
 collected-holds c =
@@ -1417,7 +1421,7 @@ pinned c =
 kept-done : (c : After-collected) → c .before .collected .kept
     ≡ set (from-After-collected-to-At-records c .records .kept) (from-After-collected-to-After-row-of c .row-of .result) (placed 16 noCheckpoint (select (named (from-After-collected-to-After-pins-then c .pins-then .result)) (take (getD (from-After-collected-to-At-records c .records .held) (from-After-collected-to-After-row-of c .row-of .result) 0) (getD (from-After-collected-to-At-records c .records .kept) (from-After-collected-to-After-row-of c .row-of .result) []))))
 kept-done c =
-    collected.done _ _ _ (there (from-After-collected-to-After-row-of c)) _ _ (rw (over c) at (c .before .collected .inv .0)) (many-most (from-After-collected-to-Then5 c)) (turn.moved-filled (whole (from-After-collected-to-At-records c)) (reach (from-After-collected-to-At-records c)) (event (from-After-collected-to-After-decode c)) (not-asked (from-After-collected-to-Then4 c)) (from-After-collected-to-At-records c .records .inv .windowed) (from-After-collected-to-In-records c .records-test .taken) (holds (from-After-collected-to-At-records c)) refl (from-After-collected-to-After-sought c .sought .ensures) (from-After-collected-to-After-place-in c .place-in .ensures) (any-default (from-After-collected-to-At-records c .records .window) (from-After-collected-to-After-place-in c .place-in .result) _ noMessage (rw (from-After-collected-to-At-records c .records .inv .windowed .long) (in-window (from-After-collected-to-After-place-in c)))) (from-After-collected-to-After-is-there c .is-there .ensures) (from-After-collected-to-After-row-of c .row-of .ensures) (from-After-collected-to-After-plan-of c .plan-of .ensures) (from-After-collected-to-Then5 c .if5 .taken)) (row-long (from-After-collected-to-After-row-of c))
+    collected.done _ _ _ (there (from-After-collected-to-After-row-of c)) _ _ (rw (over c) at (c .before .collected .inv .0)) (many-most (from-After-collected-to-Then5 c)) (turn.moved-filled (whole (from-After-collected-to-At-records c)) (reach (from-After-collected-to-At-records c)) (event (from-After-collected-to-After-decode c)) (not-asked (from-After-collected-to-Then4 c)) (from-After-collected-to-At-records c .records .inv .windowed) (from-After-collected-to-In-records c .records-test .taken) (holds (from-After-collected-to-At-records c)) refl (from-After-collected-to-After-sought c .sought .ensures) (from-After-collected-to-After-place-in c .place-in .ensures) (message-is (from-After-collected-to-After-place-in c) _) (from-After-collected-to-After-is-there c .is-there .ensures) (from-After-collected-to-After-row-of c .row-of .ensures) (from-After-collected-to-After-plan-of c .plan-of .ensures) (from-After-collected-to-Then5 c .if5 .taken)) (row-long (from-After-collected-to-After-row-of c))
 
 row-long-then : (c : After-collected) → length (getD (c .before .collected .kept) (from-After-collected-to-After-row-of c .row-of .result) []) ≡ 16
 row-long-then c =
@@ -1430,7 +1434,7 @@ to-is c = c .before .collected .inv .0 .stayed ∙ ap (λ (k : ℕ). length (sel
 
 places : (c : After-collected) → from-After-collected-to-After-plan-of c .plan-of .result .stores ≡ true
     → length (select (named (from-After-collected-to-After-pins-then c .pins-then .result)) (take (getD (from-After-collected-to-At-records c .records .held) (from-After-collected-to-After-row-of c .row-of .result) 0) (getD (from-After-collected-to-At-records c .records .kept) (from-After-collected-to-After-row-of c .row-of .result) []))) < 16
-places c = turn.moved-places (whole (from-After-collected-to-At-records c)) (reach (from-After-collected-to-At-records c)) (event (from-After-collected-to-After-decode c)) (not-asked (from-After-collected-to-Then4 c)) (from-After-collected-to-At-records c .records .inv .windowed) (from-After-collected-to-In-records c .records-test .taken) (holds (from-After-collected-to-At-records c)) refl (from-After-collected-to-After-sought c .sought .ensures) (from-After-collected-to-After-place-in c .place-in .ensures) (any-default (from-After-collected-to-At-records c .records .window) (from-After-collected-to-After-place-in c .place-in .result) _ noMessage (rw (from-After-collected-to-At-records c .records .inv .windowed .long) (in-window (from-After-collected-to-After-place-in c)))) (from-After-collected-to-After-is-there c .is-there .ensures) (from-After-collected-to-After-row-of c .row-of .ensures) (from-After-collected-to-After-plan-of c .plan-of .ensures) (from-After-collected-to-Then5 c .if5 .taken) (pinned (from-After-collected-to-After-pins-then c))
+places c = turn.moved-places (whole (from-After-collected-to-At-records c)) (reach (from-After-collected-to-At-records c)) (event (from-After-collected-to-After-decode c)) (not-asked (from-After-collected-to-Then4 c)) (from-After-collected-to-At-records c .records .inv .windowed) (from-After-collected-to-In-records c .records-test .taken) (holds (from-After-collected-to-At-records c)) refl (from-After-collected-to-After-sought c .sought .ensures) (from-After-collected-to-After-place-in c .place-in .ensures) (message-is (from-After-collected-to-After-place-in c) _) (from-After-collected-to-After-is-there c .is-there .ensures) (from-After-collected-to-After-row-of c .row-of .ensures) (from-After-collected-to-After-plan-of c .plan-of .ensures) (from-After-collected-to-Then5 c .if5 .taken) (pinned (from-After-collected-to-After-pins-then c))
 
 to-room : (c : After-collected) → from-After-collected-to-After-plan-of c .plan-of .result .stores ≡ true → c .before .collected .to < 16
 to-room c stores = omega (arith, places c stores, to-is c)
@@ -1479,7 +1483,7 @@ moved-state c =
     same-parts (messagesIn (set (from-After-count-to-At-records c .records .window) (from-After-count-to-After-plan-of c .plan-of .result .place) (from-After-count-to-After-plan-of c .plan-of .result .message)) (from-After-count-to-At-records c .records .first) (from-After-count-to-After-plan-of c .plan-of .result .tail))
     (ap (set (from-After-count-to-At-records c .records .vectors) i) (from-After-count-to-After-vector-then c .vector-then .ensures)) (row-then (c .before) ∙ ap (λ (live : Checkpoint). set (from-After-count-to-At-records c .records .kept) i (left live .row)) (live-is (from-After-count-to-After-live-from c)))
     (ap (set (from-After-count-to-At-records c .records .held) i) (held-then c ∙ ap (λ (live : Checkpoint). left live .held) (live-is (from-After-count-to-After-live-from c))))
-    (turn.moved-state (whole (from-After-count-to-At-records c)) (reach (from-After-count-to-At-records c)) (event (from-After-count-to-After-decode c)) (not-asked (from-After-count-to-Then4 c)) (from-After-count-to-At-records c .records .inv .windowed) (from-After-count-to-In-records c .records-test .taken) (holds (from-After-count-to-At-records c)) refl (from-After-count-to-After-sought c .sought .ensures) (from-After-count-to-After-place-in c .place-in .ensures) (any-default (from-After-count-to-At-records c .records .window) (from-After-count-to-After-place-in c .place-in .result) _ noMessage (rw (from-After-count-to-At-records c .records .inv .windowed .long) (in-window (from-After-count-to-After-place-in c)))) (from-After-count-to-After-is-there c .is-there .ensures) (from-After-count-to-After-row-of c .row-of .ensures) (from-After-count-to-After-plan-of c .plan-of .ensures) (from-After-count-to-Then5 c .if5 .taken) (pinned (from-After-count-to-After-pins-then c)))
+    (turn.moved-state (whole (from-After-count-to-At-records c)) (reach (from-After-count-to-At-records c)) (event (from-After-count-to-After-decode c)) (not-asked (from-After-count-to-Then4 c)) (from-After-count-to-At-records c .records .inv .windowed) (from-After-count-to-In-records c .records-test .taken) (holds (from-After-count-to-At-records c)) refl (from-After-count-to-After-sought c .sought .ensures) (from-After-count-to-After-place-in c .place-in .ensures) (message-is (from-After-count-to-After-place-in c) _) (from-After-count-to-After-is-there c .is-there .ensures) (from-After-count-to-After-row-of c .row-of .ensures) (from-After-count-to-After-plan-of c .plan-of .ensures) (from-After-count-to-Then5 c .if5 .taken) (pinned (from-After-count-to-After-pins-then c)))
 
 moved-says : (c : After-collected) → Says (record { refused = from-After-collected-to-After-number-of c .number-of .result; value = from-After-collected-to-After-value-of c .value-of .result; deletions = c .before .collected .gone }) (c .before .collected .deleted) (perform (whole (from-After-collected-to-At-records c)) (event (from-After-collected-to-After-decode c)) .reply)
 moved-says c =
@@ -1489,7 +1493,7 @@ moved-says c =
     let gone : ℕ → List Checkpoint = λ k. select (λ x. not (named (from-After-collected-to-After-pins-then c .pins-then .result) x)) (take k row) in
     let went : c .before .collected .gone ≡ length (gone (c .before .collected .j)) = omega (arith, v .went) in
     same-words (from-After-collected-to-After-number-of c .number-of .ensures) (from-After-collected-to-After-value-of c .value-of .ensures) (went ∙ ap (λ (k : ℕ). length (gone k)) (over c)) (v .list ∙ ap (λ (k : ℕ). sets (from-After-collected-to-At-records c .records .deleted) 0 (pairs (listed i (gone k)))) (over c))
-    (turn.moved-says (whole (from-After-collected-to-At-records c)) (reach (from-After-collected-to-At-records c)) (event (from-After-collected-to-After-decode c)) (not-asked (from-After-collected-to-Then4 c)) (from-After-collected-to-At-records c .records .inv .windowed) (from-After-collected-to-In-records c .records-test .taken) (holds (from-After-collected-to-At-records c)) refl (from-After-collected-to-After-sought c .sought .ensures) (from-After-collected-to-After-place-in c .place-in .ensures) (any-default (from-After-collected-to-At-records c .records .window) (from-After-collected-to-After-place-in c .place-in .result) _ noMessage (rw (from-After-collected-to-At-records c .records .inv .windowed .long) (in-window (from-After-collected-to-After-place-in c)))) (from-After-collected-to-After-is-there c .is-there .ensures) (from-After-collected-to-After-row-of c .row-of .ensures) (from-After-collected-to-After-plan-of c .plan-of .ensures) (from-After-collected-to-Then5 c .if5 .taken) (pinned (from-After-collected-to-After-pins-then c)) (from-After-collected-to-At-records c .records .deleted) (from-After-collected-to-At-records c .records .inv .lent))
+    (turn.moved-says (whole (from-After-collected-to-At-records c)) (reach (from-After-collected-to-At-records c)) (event (from-After-collected-to-After-decode c)) (not-asked (from-After-collected-to-Then4 c)) (from-After-collected-to-At-records c .records .inv .windowed) (from-After-collected-to-In-records c .records-test .taken) (holds (from-After-collected-to-At-records c)) refl (from-After-collected-to-After-sought c .sought .ensures) (from-After-collected-to-After-place-in c .place-in .ensures) (message-is (from-After-collected-to-After-place-in c) _) (from-After-collected-to-After-is-there c .is-there .ensures) (from-After-collected-to-After-row-of c .row-of .ensures) (from-After-collected-to-After-plan-of c .plan-of .ensures) (from-After-collected-to-Then5 c .if5 .taken) (pinned (from-After-collected-to-After-pins-then c)) (from-After-collected-to-At-records c .records .deleted) (from-After-collected-to-At-records c .records .inv .lent))
 
 lent-moved : (c : After-collected) → length (c .before .collected .deleted) ≡ 512
 lent-moved c = collected.list-length _ _ _ (there (from-After-collected-to-After-row-of c)) _ _ (c .before .collected .inv .0) ∙ from-After-collected-to-At-records c .records .inv .lent
@@ -1513,11 +1517,11 @@ records-again c =
     one-more (from-After-slice-known3-to-At-records c .records .inv) (left (from-After-slice-known3-to-Then3 c)) (room (from-After-slice-known3-to-Then3 c)) (few (from-After-slice-known3-to-Then3 c)) (event (from-After-slice-known3-to-After-decode c)) (is-event (from-After-slice-known3-to-After-decode c))
     (moved-state (from-After-slice-known3-to-After-count c))
     (moved-says (from-After-slice-known3-to-After-collected c)) (lent-moved (from-After-slice-known3-to-After-collected c)) (c .before .before .print .ensures .0) (c .before .before .print .ensures .1) (c .before .before .print .kept .1 .1 .1 .0)
-    (turn.planned (whole (from-After-slice-known3-to-At-records c)) (reach (from-After-slice-known3-to-At-records c)) (event (from-After-slice-known3-to-After-decode c)) (not-asked (from-After-slice-known3-to-Then4 c)) (from-After-slice-known3-to-At-records c .records .inv .windowed) (from-After-slice-known3-to-In-records c .records-test .taken) (holds (from-After-slice-known3-to-At-records c)) refl (from-After-slice-known3-to-After-sought c .sought .ensures) (from-After-slice-known3-to-After-place-in c .place-in .ensures) (any-default (from-After-slice-known3-to-At-records c .records .window) (from-After-slice-known3-to-After-place-in c .place-in .result) _ noMessage (rw (from-After-slice-known3-to-At-records c .records .inv .windowed .long) (in-window (from-After-slice-known3-to-After-place-in c)))) (from-After-slice-known3-to-After-is-there c .is-there .ensures) (from-After-slice-known3-to-After-row-of c .row-of .ensures) (from-After-slice-known3-to-After-plan-of c .plan-of .ensures)) (omega (arith, turn.tail-next (whole (from-After-slice-known3-to-At-records c)) (reach (from-After-slice-known3-to-At-records c)) (event (from-After-slice-known3-to-After-decode c)) (not-asked (from-After-slice-known3-to-Then4 c)) (from-After-slice-known3-to-At-records c .records .inv .windowed) (from-After-slice-known3-to-In-records c .records-test .taken) (holds (from-After-slice-known3-to-At-records c)) refl (from-After-slice-known3-to-After-sought c .sought .ensures) (from-After-slice-known3-to-After-place-in c .place-in .ensures) (any-default (from-After-slice-known3-to-At-records c .records .window) (from-After-slice-known3-to-After-place-in c .place-in .result) _ noMessage (rw (from-After-slice-known3-to-At-records c .records .inv .windowed .long) (in-window (from-After-slice-known3-to-After-place-in c)))) (from-After-slice-known3-to-After-is-there c .is-there .ensures) (from-After-slice-known3-to-After-row-of c .row-of .ensures) (from-After-slice-known3-to-After-plan-of c .plan-of .ensures), from-After-slice-known3-to-At-records c .records .inv .sends))
+    (turn.planned (whole (from-After-slice-known3-to-At-records c)) (reach (from-After-slice-known3-to-At-records c)) (event (from-After-slice-known3-to-After-decode c)) (not-asked (from-After-slice-known3-to-Then4 c)) (from-After-slice-known3-to-At-records c .records .inv .windowed) (from-After-slice-known3-to-In-records c .records-test .taken) (holds (from-After-slice-known3-to-At-records c)) refl (from-After-slice-known3-to-After-sought c .sought .ensures) (from-After-slice-known3-to-After-place-in c .place-in .ensures) (message-is (from-After-slice-known3-to-After-place-in c) _) (from-After-slice-known3-to-After-is-there c .is-there .ensures) (from-After-slice-known3-to-After-row-of c .row-of .ensures) (from-After-slice-known3-to-After-plan-of c .plan-of .ensures)) (omega (arith, turn.tail-next (whole (from-After-slice-known3-to-At-records c)) (reach (from-After-slice-known3-to-At-records c)) (event (from-After-slice-known3-to-After-decode c)) (not-asked (from-After-slice-known3-to-Then4 c)) (from-After-slice-known3-to-At-records c .records .inv .windowed) (from-After-slice-known3-to-In-records c .records-test .taken) (holds (from-After-slice-known3-to-At-records c)) refl (from-After-slice-known3-to-After-sought c .sought .ensures) (from-After-slice-known3-to-After-place-in c .place-in .ensures) (message-is (from-After-slice-known3-to-After-place-in c) _) (from-After-slice-known3-to-After-is-there c .is-there .ensures) (from-After-slice-known3-to-After-row-of c .row-of .ensures) (from-After-slice-known3-to-After-plan-of c .plan-of .ensures), from-After-slice-known3-to-At-records c .records .inv .sends))
 
 -- Nothing moves.
 unmoved-says : (c : Else5) → Says (record { refused = c .before .number-of .result; value = c .before .before .value-of .result; deletions = 0 }) (from-Else5-to-At-records c .records .deleted) (perform (whole (from-Else5-to-At-records c)) (event (from-Else5-to-After-decode c)) .reply)
-unmoved-says c = same-words (c .before .number-of .ensures) (c .before .before .value-of .ensures) refl refl (turn.unmoved-says (whole (from-Else5-to-At-records c)) (reach (from-Else5-to-At-records c)) (event (from-Else5-to-After-decode c)) (not-asked (from-Else5-to-Then4 c)) (from-Else5-to-At-records c .records .inv .windowed) (from-Else5-to-In-records c .records-test .taken) (holds (from-Else5-to-At-records c)) refl (from-Else5-to-After-sought c .sought .ensures) (from-Else5-to-After-place-in c .place-in .ensures) (any-default (from-Else5-to-At-records c .records .window) (from-Else5-to-After-place-in c .place-in .result) _ noMessage (rw (from-Else5-to-At-records c .records .inv .windowed .long) (in-window (from-Else5-to-After-place-in c)))) (from-Else5-to-After-is-there c .is-there .ensures) (from-Else5-to-After-row-of c .row-of .ensures) (from-Else5-to-After-plan-of c .plan-of .ensures) (c .if5 .left) (from-Else5-to-At-records c .records .deleted))
+unmoved-says c = same-words (c .before .number-of .ensures) (c .before .before .value-of .ensures) refl refl (turn.unmoved-says (whole (from-Else5-to-At-records c)) (reach (from-Else5-to-At-records c)) (event (from-Else5-to-After-decode c)) (not-asked (from-Else5-to-Then4 c)) (from-Else5-to-At-records c .records .inv .windowed) (from-Else5-to-In-records c .records-test .taken) (holds (from-Else5-to-At-records c)) refl (from-Else5-to-After-sought c .sought .ensures) (from-Else5-to-After-place-in c .place-in .ensures) (message-is (from-Else5-to-After-place-in c) _) (from-Else5-to-After-is-there c .is-there .ensures) (from-Else5-to-After-row-of c .row-of .ensures) (from-Else5-to-After-plan-of c .plan-of .ensures) (c .if5 .left) (from-Else5-to-At-records c .records .deleted))
 
 print-requires-2 : tie.Need-print-requires-2 Inv-collected μ-collected Inv-allowed μ-allowed Inv-returned μ-returned Inv-found μ-found Inv-left μ-left Inv-restored μ-restored Inv-records μ-records
 print-requires-2 c κs =
@@ -1527,8 +1531,8 @@ print-requires-2 c κs =
 records-again-2 : tie.Need-records-again-2 Inv-collected μ-collected Inv-allowed μ-allowed Inv-returned μ-returned Inv-found μ-found Inv-left μ-left Inv-restored μ-restored Inv-records μ-records
 records-again-2 c =
     one-more (from-After-slice-known4-to-At-records c .records .inv) (left (from-After-slice-known4-to-Then3 c)) (room (from-After-slice-known4-to-Then3 c)) (few (from-After-slice-known4-to-Then3 c)) (event (from-After-slice-known4-to-After-decode c)) (is-event (from-After-slice-known4-to-After-decode c))
-    (turn.unmoved-state (whole (from-After-slice-known4-to-At-records c)) (reach (from-After-slice-known4-to-At-records c)) (event (from-After-slice-known4-to-After-decode c)) (not-asked (from-After-slice-known4-to-Then4 c)) (from-After-slice-known4-to-At-records c .records .inv .windowed) (from-After-slice-known4-to-In-records c .records-test .taken) (holds (from-After-slice-known4-to-At-records c)) refl (from-After-slice-known4-to-After-sought c .sought .ensures) (from-After-slice-known4-to-After-place-in c .place-in .ensures) (any-default (from-After-slice-known4-to-At-records c .records .window) (from-After-slice-known4-to-After-place-in c .place-in .result) _ noMessage (rw (from-After-slice-known4-to-At-records c .records .inv .windowed .long) (in-window (from-After-slice-known4-to-After-place-in c)))) (from-After-slice-known4-to-After-is-there c .is-there .ensures) (from-After-slice-known4-to-After-row-of c .row-of .ensures) (from-After-slice-known4-to-After-plan-of c .plan-of .ensures) (from-After-slice-known4-to-Else5 c .if5 .left)) (unmoved-says (from-After-slice-known4-to-Else5 c)) (from-After-slice-known4-to-At-records c .records .inv .lent) (c .before .before .print2 .ensures .0) (c .before .before .print2 .ensures .1)
-    (c .before .before .print2 .kept .1 .1 .1 .0) (turn.planned (whole (from-After-slice-known4-to-At-records c)) (reach (from-After-slice-known4-to-At-records c)) (event (from-After-slice-known4-to-After-decode c)) (not-asked (from-After-slice-known4-to-Then4 c)) (from-After-slice-known4-to-At-records c .records .inv .windowed) (from-After-slice-known4-to-In-records c .records-test .taken) (holds (from-After-slice-known4-to-At-records c)) refl (from-After-slice-known4-to-After-sought c .sought .ensures) (from-After-slice-known4-to-After-place-in c .place-in .ensures) (any-default (from-After-slice-known4-to-At-records c .records .window) (from-After-slice-known4-to-After-place-in c .place-in .result) _ noMessage (rw (from-After-slice-known4-to-At-records c .records .inv .windowed .long) (in-window (from-After-slice-known4-to-After-place-in c)))) (from-After-slice-known4-to-After-is-there c .is-there .ensures) (from-After-slice-known4-to-After-row-of c .row-of .ensures) (from-After-slice-known4-to-After-plan-of c .plan-of .ensures)) (omega (arith, turn.tail-next (whole (from-After-slice-known4-to-At-records c)) (reach (from-After-slice-known4-to-At-records c)) (event (from-After-slice-known4-to-After-decode c)) (not-asked (from-After-slice-known4-to-Then4 c)) (from-After-slice-known4-to-At-records c .records .inv .windowed) (from-After-slice-known4-to-In-records c .records-test .taken) (holds (from-After-slice-known4-to-At-records c)) refl (from-After-slice-known4-to-After-sought c .sought .ensures) (from-After-slice-known4-to-After-place-in c .place-in .ensures) (any-default (from-After-slice-known4-to-At-records c .records .window) (from-After-slice-known4-to-After-place-in c .place-in .result) _ noMessage (rw (from-After-slice-known4-to-At-records c .records .inv .windowed .long) (in-window (from-After-slice-known4-to-After-place-in c)))) (from-After-slice-known4-to-After-is-there c .is-there .ensures) (from-After-slice-known4-to-After-row-of c .row-of .ensures) (from-After-slice-known4-to-After-plan-of c .plan-of .ensures), from-After-slice-known4-to-At-records c .records .inv .sends))
+    (turn.unmoved-state (whole (from-After-slice-known4-to-At-records c)) (reach (from-After-slice-known4-to-At-records c)) (event (from-After-slice-known4-to-After-decode c)) (not-asked (from-After-slice-known4-to-Then4 c)) (from-After-slice-known4-to-At-records c .records .inv .windowed) (from-After-slice-known4-to-In-records c .records-test .taken) (holds (from-After-slice-known4-to-At-records c)) refl (from-After-slice-known4-to-After-sought c .sought .ensures) (from-After-slice-known4-to-After-place-in c .place-in .ensures) (message-is (from-After-slice-known4-to-After-place-in c) _) (from-After-slice-known4-to-After-is-there c .is-there .ensures) (from-After-slice-known4-to-After-row-of c .row-of .ensures) (from-After-slice-known4-to-After-plan-of c .plan-of .ensures) (from-After-slice-known4-to-Else5 c .if5 .left)) (unmoved-says (from-After-slice-known4-to-Else5 c)) (from-After-slice-known4-to-At-records c .records .inv .lent) (c .before .before .print2 .ensures .0) (c .before .before .print2 .ensures .1)
+    (c .before .before .print2 .kept .1 .1 .1 .0) (turn.planned (whole (from-After-slice-known4-to-At-records c)) (reach (from-After-slice-known4-to-At-records c)) (event (from-After-slice-known4-to-After-decode c)) (not-asked (from-After-slice-known4-to-Then4 c)) (from-After-slice-known4-to-At-records c .records .inv .windowed) (from-After-slice-known4-to-In-records c .records-test .taken) (holds (from-After-slice-known4-to-At-records c)) refl (from-After-slice-known4-to-After-sought c .sought .ensures) (from-After-slice-known4-to-After-place-in c .place-in .ensures) (message-is (from-After-slice-known4-to-After-place-in c) _) (from-After-slice-known4-to-After-is-there c .is-there .ensures) (from-After-slice-known4-to-After-row-of c .row-of .ensures) (from-After-slice-known4-to-After-plan-of c .plan-of .ensures)) (omega (arith, turn.tail-next (whole (from-After-slice-known4-to-At-records c)) (reach (from-After-slice-known4-to-At-records c)) (event (from-After-slice-known4-to-After-decode c)) (not-asked (from-After-slice-known4-to-Then4 c)) (from-After-slice-known4-to-At-records c .records .inv .windowed) (from-After-slice-known4-to-In-records c .records-test .taken) (holds (from-After-slice-known4-to-At-records c)) refl (from-After-slice-known4-to-After-sought c .sought .ensures) (from-After-slice-known4-to-After-place-in c .place-in .ensures) (message-is (from-After-slice-known4-to-After-place-in c) _) (from-After-slice-known4-to-After-is-there c .is-there .ensures) (from-After-slice-known4-to-After-row-of c .row-of .ensures) (from-After-slice-known4-to-After-plan-of c .plan-of .ensures), from-After-slice-known4-to-At-records c .records .inv .sends))
 
 -- A recovery: the record asks for it, and it is not refused.
 asked : (c : Else4) → (event (from-Else4-to-After-decode c) ≡ some (Recover (c .before .before .recovery-of .result .failed))) × (recoveryVerdict (from-Else4-to-Start c .args .s .count) (c .before .before .recovery-of .result .failed) ≡ Accepted)
@@ -2011,124 +2015,24 @@ returns c =
     let e = ends (same-begin (from-After-kept-from-to-After-no-checkpoint c)) (same-end (messagesIn (l .window) (l .first) (l .tail)) (c .before .before .vectors-from .ensures) (c .before .pins-from .ensures) (c .kept-from .ensures) (from-After-kept-from-to-After-closed c .closed .ensures) (l .inv .windowed .many)) (l .inv) in
     (e .0, (e .1, stops (from-After-kept-from-to-Left-records c)))
 
-vector-rows-requires : tie.Need-vector-rows-requires Inv-collected μ-collected Inv-allowed μ-allowed Inv-returned μ-returned Inv-found μ-found Inv-left μ-left Inv-restored μ-restored Inv-records μ-records
-vector-rows-requires c κs = search needs
-
-pin-rows-requires : tie.Need-pin-rows-requires Inv-collected μ-collected Inv-allowed μ-allowed Inv-returned μ-returned Inv-found μ-found Inv-left μ-left Inv-restored μ-restored Inv-records μ-records
-pin-rows-requires c κs = search needs
-
-kept-rows-requires : tie.Need-kept-rows-requires Inv-collected μ-collected Inv-allowed μ-allowed Inv-returned μ-returned Inv-found μ-found Inv-left μ-left Inv-restored μ-restored Inv-records μ-records
-kept-rows-requires c κs = search needs
-
-opened-requires : tie.Need-opened-requires Inv-collected μ-collected Inv-allowed μ-allowed Inv-returned μ-returned Inv-found μ-found Inv-left μ-left Inv-restored μ-restored Inv-records μ-records
-opened-requires c κs = search needs
-
-no-checkpoint-requires : tie.Need-no-checkpoint-requires Inv-collected μ-collected Inv-allowed μ-allowed Inv-returned μ-returned Inv-found μ-found Inv-left μ-left Inv-restored μ-restored Inv-records μ-records
-no-checkpoint-requires c κs = search needs
-
-record-left-requires : tie.Need-record-left-requires Inv-collected μ-collected Inv-allowed μ-allowed Inv-returned μ-returned Inv-found μ-found Inv-left μ-left Inv-restored μ-restored Inv-records μ-records
-record-left-requires c κs = search needs
-
-record-after-requires : tie.Need-record-after-requires Inv-collected μ-collected Inv-allowed μ-allowed Inv-returned μ-returned Inv-found μ-found Inv-left μ-left Inv-restored μ-restored Inv-records μ-records
-record-after-requires c κs = search needs
-
-decode-requires : tie.Need-decode-requires Inv-collected μ-collected Inv-allowed μ-allowed Inv-returned μ-returned Inv-found μ-found Inv-left μ-left Inv-restored μ-restored Inv-records μ-records
-decode-requires c κs = search needs
-
-sought-requires : tie.Need-sought-requires Inv-collected μ-collected Inv-allowed μ-allowed Inv-returned μ-returned Inv-found μ-found Inv-left μ-left Inv-restored μ-restored Inv-records μ-records
-sought-requires c κs = search needs
-
-is-there-requires : tie.Need-is-there-requires Inv-collected μ-collected Inv-allowed μ-allowed Inv-returned μ-returned Inv-found μ-found Inv-left μ-left Inv-restored μ-restored Inv-records μ-records
-is-there-requires c κs = search needs
-
-row-of-requires : tie.Need-row-of-requires Inv-collected μ-collected Inv-allowed μ-allowed Inv-returned μ-returned Inv-found μ-found Inv-left μ-left Inv-restored μ-restored Inv-records μ-records
-row-of-requires c κs = search needs
-
-value-of-requires : tie.Need-value-of-requires Inv-collected μ-collected Inv-allowed μ-allowed Inv-returned μ-returned Inv-found μ-found Inv-left μ-left Inv-restored μ-restored Inv-records μ-records
-value-of-requires c κs = search needs
-
-number-of-requires : tie.Need-number-of-requires Inv-collected μ-collected Inv-allowed μ-allowed Inv-returned μ-returned Inv-found μ-found Inv-left μ-left Inv-restored μ-restored Inv-records μ-records
-number-of-requires c κs = search needs
-
-is-named-requires : tie.Need-is-named-requires Inv-collected μ-collected Inv-allowed μ-allowed Inv-returned μ-returned Inv-found μ-found Inv-left μ-left Inv-restored μ-restored Inv-records μ-records
-is-named-requires c κs = search needs
-
-stored-requires : tie.Need-stored-requires Inv-collected μ-collected Inv-allowed μ-allowed Inv-returned μ-returned Inv-found μ-found Inv-left μ-left Inv-restored μ-restored Inv-records μ-records
-stored-requires c κs = search needs
-
-place-requires : tie.Need-place-requires Inv-collected μ-collected Inv-allowed μ-allowed Inv-returned μ-returned Inv-found μ-found Inv-left μ-left Inv-restored μ-restored Inv-records μ-records
-place-requires c κs = search needs
-
-own-entries-requires : tie.Need-own-entries-requires Inv-collected μ-collected Inv-allowed μ-allowed Inv-returned μ-returned Inv-found μ-found Inv-left μ-left Inv-restored μ-restored Inv-records μ-records
-own-entries-requires c κs = search needs
-
-is-allowed-requires : tie.Need-is-allowed-requires Inv-collected μ-collected Inv-allowed μ-allowed Inv-returned μ-returned Inv-found μ-found Inv-left μ-left Inv-restored μ-restored Inv-records μ-records
-is-allowed-requires c κs = search needs
-
-to-search-requires : tie.Need-to-search-requires Inv-collected μ-collected Inv-allowed μ-allowed Inv-returned μ-returned Inv-found μ-found Inv-left μ-left Inv-restored μ-restored Inv-records μ-records
-to-search-requires c κs = search needs
-
-none-allowed-requires : tie.Need-none-allowed-requires Inv-collected μ-collected Inv-allowed μ-allowed Inv-returned μ-returned Inv-found μ-found Inv-left μ-left Inv-restored μ-restored Inv-records μ-records
-none-allowed-requires c κs = search needs
-
-latest-with-requires : tie.Need-latest-with-requires Inv-collected μ-collected Inv-allowed μ-allowed Inv-returned μ-returned Inv-found μ-found Inv-left μ-left Inv-restored μ-restored Inv-records μ-records
-latest-with-requires c κs = search needs
-
-own-entries-requires-2 : tie.Need-own-entries-requires-2 Inv-collected μ-collected Inv-allowed μ-allowed Inv-returned μ-returned Inv-found μ-found Inv-left μ-left Inv-restored μ-restored Inv-records μ-records
-own-entries-requires-2 c κs = search needs
-
-to-search-requires-2 : tie.Need-to-search-requires-2 Inv-collected μ-collected Inv-allowed μ-allowed Inv-returned μ-returned Inv-found μ-found Inv-left μ-left Inv-restored μ-restored Inv-records μ-records
-to-search-requires-2 c κs = search needs
-
-nothing-found-requires : tie.Need-nothing-found-requires Inv-collected μ-collected Inv-allowed μ-allowed Inv-returned μ-returned Inv-found μ-found Inv-left μ-left Inv-restored μ-restored Inv-records μ-records
-nothing-found-requires c κs = search needs
-
-found-with-requires : tie.Need-found-with-requires Inv-collected μ-collected Inv-allowed μ-allowed Inv-returned μ-returned Inv-found μ-found Inv-left μ-left Inv-restored μ-restored Inv-records μ-records
-found-with-requires c κs = search needs
-
-pins-found-requires : tie.Need-pins-found-requires Inv-collected μ-collected Inv-allowed μ-allowed Inv-returned μ-returned Inv-found μ-found Inv-left μ-left Inv-restored μ-restored Inv-records μ-records
-pins-found-requires c κs = search needs
-
-does-stay-requires : tie.Need-does-stay-requires Inv-collected μ-collected Inv-allowed μ-allowed Inv-returned μ-returned Inv-found μ-found Inv-left μ-left Inv-restored μ-restored Inv-records μ-records
-does-stay-requires c κs = search needs
-
-vectors-from-requires : tie.Need-vectors-from-requires Inv-collected μ-collected Inv-allowed μ-allowed Inv-returned μ-returned Inv-found μ-found Inv-left μ-left Inv-restored μ-restored Inv-records μ-records
-vectors-from-requires c κs = search needs
-
-pins-from-requires : tie.Need-pins-from-requires Inv-collected μ-collected Inv-allowed μ-allowed Inv-returned μ-returned Inv-found μ-found Inv-left μ-left Inv-restored μ-restored Inv-records μ-records
-pins-from-requires c κs = search needs
-
-kept-from-requires : tie.Need-kept-from-requires Inv-collected μ-collected Inv-allowed μ-allowed Inv-returned μ-returned Inv-found μ-found Inv-left μ-left Inv-restored μ-restored Inv-records μ-records
-kept-from-requires c κs = search needs
-
-same-length : tie.Need-same-length Inv-collected μ-collected Inv-allowed μ-allowed Inv-returned μ-returned Inv-found μ-found Inv-left μ-left Inv-restored μ-restored Inv-records μ-records
-same-length c = search needs
-
-same-length-2 : tie.Need-same-length-2 Inv-collected μ-collected Inv-allowed μ-allowed Inv-returned μ-returned Inv-found μ-found Inv-left μ-left Inv-restored μ-restored Inv-records μ-records
-same-length-2 c = search needs
-
 pub replay-beside-spec : {M : Type 1} → statement M
-replay-beside-spec = tie.close (tie.spec Inv-collected μ-collected Inv-allowed μ-allowed Inv-returned μ-returned Inv-found μ-found Inv-left μ-left Inv-restored μ-restored Inv-records μ-records
-    vector-rows-requires
-    pin-rows-requires
-    kept-rows-requires
-    opened-requires
-    no-checkpoint-requires
+replay-beside-spec =
+    tie.close
+    (tie.spec Inv-collected μ-collected Inv-allowed μ-allowed Inv-returned μ-returned Inv-found μ-found Inv-left μ-left Inv-restored μ-restored Inv-records μ-records
+    (λ c κs. search needs) (λ c κs. search needs) (λ c κs. search needs) (λ c κs. search needs) (λ c κs. search needs)
     records-holds
     add-if1
-    record-left-requires
+    (λ c κs. search needs)
     sub-if3
-    record-after-requires
-    decode-requires
+    (λ c κs. search needs) (λ c κs. search needs)
     add-taken
     add-number
     recovery-of-requires
-    sought-requires
+    (λ c κs. search needs)
     place-in-requires
     mul-message
     array-copy-out-message
-    is-there-requires
-    row-of-requires
+    (λ c κs. search needs) (λ c κs. search needs)
     mul-vector
     array-copy-out-vector
     array-read-mark
@@ -2138,8 +2042,7 @@ replay-beside-spec = tie.close (tie.spec Inv-collected μ-collected Inv-allowed 
     array-write-sent
     mul-window
     array-set-from-window
-    value-of-requires
-    number-of-requires
+    (λ c κs. search needs) (λ c κs. search needs)
     live-from-requires
     mul-pins-before
     array-copy-out-pins-before
@@ -2161,7 +2064,7 @@ replay-beside-spec = tie.close (tie.spec Inv-collected μ-collected Inv-allowed 
     index-1-empty
     index-2-empty
     add-j
-    is-named-requires
+    (λ c κs. search needs)
     mul-c-3
     mul-c-4
     index-1-c-2
@@ -2183,8 +2086,7 @@ replay-beside-spec = tie.close (tie.spec Inv-collected μ-collected Inv-allowed 
     mul-first-kept
     index-1-first-kept
     index-2-first-kept
-    stored-requires
-    place-requires
+    (λ c κs. search needs) (λ c κs. search needs)
     mul-stored
     mul-stored-2
     index-1-stored
@@ -2198,22 +2100,20 @@ replay-beside-spec = tie.close (tie.spec Inv-collected μ-collected Inv-allowed 
     print-requires-2
     records-less-2
     records-again-2
-    own-entries-requires
+    (λ c κs. search needs)
     failed-marks-requires
     returned-holds
     mul-current
     array-copy-out-current
     mul-held-now
     array-read-held-now
-    is-allowed-requires
-    to-search-requires
-    none-allowed-requires
+    (λ c κs. search needs) (λ c κs. search needs) (λ c κs. search needs)
     allowed-holds
     mul-candidate
     mul-candidate-2
     index-1-candidate
     index-2-candidate
-    latest-with-requires
+    (λ c κs. search needs)
     add-a
     allowed-less
     allowed-again
@@ -2229,7 +2129,7 @@ replay-beside-spec = tie.close (tie.spec Inv-collected μ-collected Inv-allowed 
     add-f
     returned-less
     returned-again
-    own-entries-requires-2
+    (λ c κs. search needs)
     restored-holds
     array-read-has-rolled
     mul-known
@@ -2240,18 +2140,17 @@ replay-beside-spec = tie.close (tie.spec Inv-collected μ-collected Inv-allowed 
     array-copy-out-pins-now
     mul-last-kept
     array-copy-out-last-kept
-    to-search-requires-2
-    nothing-found-requires
+    (λ c κs. search needs) (λ c κs. search needs)
     found-holds
     mul-seen
     mul-seen-2
     index-1-seen
     index-2-seen
-    found-with-requires
+    (λ c κs. search needs)
     add-b
     found-less
     found-again
-    pins-found-requires
+    (λ c κs. search needs)
     mul-pins-2
     array-set-from-pins-2
     left-holds
@@ -2264,7 +2163,7 @@ replay-beside-spec = tie.close (tie.spec Inv-collected μ-collected Inv-allowed 
     index-1-empty-2
     index-2-empty-2
     add-k
-    does-stay-requires
+    (λ c κs. search needs)
     mul-x-3
     mul-x-4
     index-1-x-2
@@ -2292,9 +2191,5 @@ replay-beside-spec = tie.close (tie.spec Inv-collected μ-collected Inv-allowed 
     records-less-3
     records-again-3
     closed-requires
-    vectors-from-requires
-    pins-from-requires
-    kept-from-requires
-    same-length
-    same-length-2
+    (λ c κs. search needs) (λ c κs. search needs) (λ c κs. search needs) (λ c. search needs) (λ c. search needs)
     returns)

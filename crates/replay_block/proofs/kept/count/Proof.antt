@@ -4,9 +4,6 @@ use borrow.Author.Needs.{needs}
 use Rattle.replay_block.proofs.kept.count.Statement.{statement}
 use Rattle.replay_block.proofs.kept.count.Tie as tie
 
-add-result : tie.Need-add-result
-add-result c = search needs
-
 returns : tie.Need-returns
 returns c = rw (c .if1 .taken)
 
@@ -14,4 +11,9 @@ returns-2 : tie.Need-returns-2
 returns-2 c = rw (c .if1 .left)
 
 pub count-spec : {M : Type 1} → statement M
-count-spec = tie.close (tie.spec add-result returns returns-2)
+count-spec =
+    tie.close
+    (tie.spec
+    (λ c. search needs)
+    returns
+    returns-2)

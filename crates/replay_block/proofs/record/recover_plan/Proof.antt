@@ -7,21 +7,6 @@ use Rattle.replay_block.specs.Record.{refusedPlan}
 use Rattle.replay_block.proofs.record.recover_plan.Statement.{statement}
 use Rattle.replay_block.proofs.record.recover_plan.Tie as tie
 
-recovery-verdict-requires : tie.Need-recovery-verdict-requires
-recovery-verdict-requires c κs = search needs
-
-enum-known-verdict : tie.Need-enum-known-verdict
-enum-known-verdict c = search needs
-
-unchanged-requires : tie.Need-unchanged-requires
-unchanged-requires c κs = search needs
-
-enum-told : tie.Need-enum-told
-enum-told c = search needs
-
-unchanged-requires-2 : tie.Need-unchanged-requires-2
-unchanged-requires-2 c κs = search needs
-
 returns : tie.Need-returns
 unfolding refusedPlan
 returns c = rw (sym (c .before .before .before .before .recovery-verdict .ensures), c .before .before .verdict .given .1) (c .unchanged .ensures)
@@ -36,10 +21,6 @@ pub recover-plan-spec : {M : Type 1} → statement M
 recover-plan-spec =
     tie.close
     (tie.spec
-    recovery-verdict-requires
-    enum-known-verdict
-    unchanged-requires
-    enum-told
-    unchanged-requires-2
+    (λ c κs. search needs) (λ c. search needs) (λ c κs. search needs) (λ c. search needs) (λ c κs. search needs)
     returns
     returns-2)

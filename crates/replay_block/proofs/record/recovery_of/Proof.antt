@@ -10,36 +10,6 @@ use Rattle.replay_block.proofs.Asked.{accepted-fits}
 use Rattle.replay_block.proofs.record.recovery_of.Statement.{statement}
 use Rattle.replay_block.proofs.record.recovery_of.Tie as tie
 
-enum-told : tie.Need-enum-told
-enum-told c = search needs
-
-enum-known-d : tie.Need-enum-known-d
-enum-known-d c = search needs
-
-enum-known-e : tie.Need-enum-known-e
-enum-known-e c = search needs
-
-enum-known-e-2 : tie.Need-enum-known-e-2
-enum-known-e-2 c = search needs
-
-enum-known-e-3 : tie.Need-enum-known-e-3
-enum-known-e-3 c = search needs
-
-enum-known-e-4 : tie.Need-enum-known-e-4
-enum-known-e-4 c = search needs
-
-enum-known-e-5 : tie.Need-enum-known-e-5
-enum-known-e-5 c = search needs
-
-recovery-verdict-requires : tie.Need-recovery-verdict-requires
-recovery-verdict-requires c κs = search needs
-
-enum-known-verdict : tie.Need-enum-known-verdict
-enum-known-verdict c = search needs
-
-enum-told-2 : tie.Need-enum-told-2
-enum-told-2 c = search needs
-
 cast-t15 : tie.Need-cast-t15
 cast-t15 c =
     let b = c .before .before in
@@ -85,16 +55,8 @@ pub recovery-of-spec : {M : Type 1} → statement M
 recovery-of-spec =
     tie.close
     (tie.spec
-    enum-told
-    enum-known-d
-    enum-known-e
-    enum-known-e-2
-    enum-known-e-3
-    enum-known-e-4
-    enum-known-e-5
-    recovery-verdict-requires
-    enum-known-verdict
-    enum-told-2
+    (λ c. search needs) (λ c. search needs) (λ c. search needs) (λ c. search needs) (λ c. search needs) (λ c. search needs) (λ c. search needs)
+    (λ c κs. search needs) (λ c. search needs) (λ c. search needs)
     cast-t15
     returns
     returns-2

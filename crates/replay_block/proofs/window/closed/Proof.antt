@@ -27,20 +27,11 @@ Inv-loop first tail window messages₀ to₀ k₀ messages to k =
 abbrev μ-loop : tie.MeasureT-loop
 μ-loop first tail window messages₀ to₀ k₀ messages to k = tail - k
 
-no-message-requires : tie.Need-no-message-requires Inv-loop μ-loop
-no-message-requires c κs = search needs
-
 loop-holds : tie.Need-loop-holds Inv-loop μ-loop
 loop-holds c =
     let a = c .before .args in
     let none = in-none (a .t1) (a .first) (a .first) (omega arith) in
     (search needs, c .before .pre .0, rw none, ap (λ (x : Message). replicate 64 x) (c .no-message .ensures) ∙ rw none (placed-none 64 noMessage))
-
-mul-x : tie.Need-mul-x Inv-loop μ-loop
-mul-x c = search needs
-
-array-copy-out-x : tie.Need-array-copy-out-x Inv-loop μ-loop
-array-copy-out-x c = search needs
 
 array-set-from-messages : tie.Need-array-set-from-messages Inv-loop μ-loop
 array-set-from-messages c =
@@ -56,12 +47,6 @@ mul-messages c = let room : c .before .before .before .before .loop .to < 64 = a
 
 add-to : tie.Need-add-to Inv-loop μ-loop
 add-to c = let room : c .before .before .before .before .loop .to < 64 = array-set-from-messages c in search needs
-
-add-k : tie.Need-add-k Inv-loop μ-loop
-add-k c = search needs
-
-loop-less : tie.Need-loop-less Inv-loop μ-loop
-loop-less c = search needs
 
 loop-again : tie.Need-loop-again Inv-loop μ-loop
 loop-again c =
@@ -90,14 +75,12 @@ closed-spec =
     (tie.spec
     Inv-loop
     μ-loop
-    no-message-requires
+    (λ c κs. search needs)
     loop-holds
-    mul-x
-    array-copy-out-x
+    (λ c. search needs) (λ c. search needs)
     mul-messages
     array-set-from-messages
     add-to
-    add-k
-    loop-less
+    (λ c. search needs) (λ c. search needs)
     loop-again
     returns)

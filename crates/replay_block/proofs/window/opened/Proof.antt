@@ -21,29 +21,8 @@ Inv-loop messages window₀ k₀ window k = (k ≤ 64) × (window ≡ placed 576
 abbrev μ-loop : tie.MeasureT-loop
 μ-loop messages window₀ k₀ window k = 64 - k
 
-no-message-requires : tie.Need-no-message-requires Inv-loop μ-loop
-no-message-requires c κs = search needs
-
 loop-holds : tie.Need-loop-holds Inv-loop μ-loop
 loop-holds c = (search needs, ap (λ (x : Message). replicate 576 x) (c .no-message .ensures) ∙ placed-none 576 noMessage)
-
-mul-x : tie.Need-mul-x Inv-loop μ-loop
-mul-x c = search needs
-
-array-copy-out-x : tie.Need-array-copy-out-x Inv-loop μ-loop
-array-copy-out-x c = search needs
-
-mul-window : tie.Need-mul-window Inv-loop μ-loop
-mul-window c = search needs
-
-array-set-from-window : tie.Need-array-set-from-window Inv-loop μ-loop
-array-set-from-window c = search needs
-
-add-k : tie.Need-add-k Inv-loop μ-loop
-add-k c = search needs
-
-loop-less : tie.Need-loop-less Inv-loop μ-loop
-loop-less c = search needs
 
 loop-again : tie.Need-loop-again Inv-loop μ-loop
 loop-again c =
@@ -66,13 +45,8 @@ opened-spec =
     (tie.spec
     Inv-loop
     μ-loop
-    no-message-requires
+    (λ c κs. search needs)
     loop-holds
-    mul-x
-    array-copy-out-x
-    mul-window
-    array-set-from-window
-    add-k
-    loop-less
+    (λ c. search needs) (λ c. search needs) (λ c. search needs) (λ c. search needs) (λ c. search needs) (λ c. search needs)
     loop-again
     returns)

@@ -11,24 +11,12 @@ returns : tie.Need-returns
 unfolding placeIn
 returns c = rw (eq-eqb _ 0 (c .if1 .taken))
 
-old-place-requires : tie.Need-old-place-requires
-old-place-requires c κs = search needs
-
 returns-2 : tie.Need-returns-2
 unfolding placeIn
 returns-2 c =
     let b = c .before .before in
     let a = b .before .before .args in
     rw (ne-eqb (a .m) 0 (b .if1 .left), le-leb (a .m) (a .base) (c .before .if2 .taken)) (c .old-place .ensures)
-
-sub-at : tie.Need-sub-at
-sub-at c = search needs
-
-cast-at : tie.Need-cast-at
-cast-at c = search needs
-
-add-at : tie.Need-add-at
-add-at c = search needs
 
 returns-3 : tie.Need-returns-3
 unfolding placeIn
@@ -47,4 +35,10 @@ returns-4 c =
 pub place-in-spec : {M : Type 1} → statement M
 place-in-spec =
     tie.close
-    (tie.spec returns old-place-requires returns-2 sub-at cast-at add-at returns-3 returns-4)
+    (tie.spec
+    returns
+    (λ c κs. search needs)
+    returns-2
+    (λ c. search needs) (λ c. search needs) (λ c. search needs)
+    returns-3
+    returns-4)

@@ -38,10 +38,10 @@ module _ (n : ℕ) (own : List Interval) (messages : List Message) (underway las
   leftover e = part-fails (messagesTests n own messages underway last) (test 4) (sym e)
 
   -- All tests hold.
-  all-judged : underway ≤ 64 → last ≤ 1000000 → true ≡ (ascending 1 (map messageNumber (take underway messages)) && every (messageTested n last own) (take underway messages))
+  all-tested : underway ≤ 64 → last ≤ 1000000 → true ≡ (ascending 1 (map messageNumber (take underway messages)) && every (messageTested n last own) (take underway messages))
       → true ≡ every unusedMessage (drop underway messages) → true ≡ messagesTested n own messages underway last
   unfolding messagesTested messagesTests holds asks allBelow
-  all-judged few low each rest =
+  all-tested few low each rest =
       let asked : Conjunction = test 0 and test 1 and (test 2 and test 3) and test 4 in
       let hold : holds (messagesTests n own messages underway last) asked ≡ true = rw (le-leb underway 64 few, le-leb last 1000000 low, ← each, ← rest) in
       sym hold ∙ conjunction (messagesTests n own messages underway last) asked refl
@@ -103,7 +103,7 @@ returns-5 c =
     let b = c .before in
     let f = b .before .before in
     let a = f .before .before .before .args in
-    all-judged (a .n) (a .own) (a .t1) (a .underway) (a .last) (search needs) (search needs) (ascent-end messageNumber (messageTested (a .n) (a .last) (a .own)) (a .t1) (a .underway) (search needs) (f .loop .k) (f .loop .previous + 1) true _ (search needs) (f .loop .inv .1)) (sym (every-done unusedMessage (a .t1) (b .loop2 .k) (search needs)) ∙ b .loop2 .inv)
+    all-tested (a .n) (a .own) (a .t1) (a .underway) (a .last) (search needs) (search needs) (ascent-end messageNumber (messageTested (a .n) (a .last) (a .own)) (a .t1) (a .underway) (search needs) (f .loop .k) (f .loop .previous + 1) true _ (search needs) (f .loop .inv .1)) (sym (every-done unusedMessage (a .t1) (b .loop2 .k) (search needs)) ∙ b .loop2 .inv)
 
 pub are-messages-sound-spec : {M : Type 1} → statement M
 are-messages-sound-spec =
@@ -116,19 +116,13 @@ are-messages-sound-spec =
     returns
     returns-2
     loop-holds
-    (λ c. search needs)
-    (λ c. search needs)
-    (λ c κs. search needs)
+    (λ c. search needs) (λ c. search needs) (λ c κs. search needs)
     returns-3
-    (λ c. search needs)
-    (λ c. search needs)
+    (λ c. search needs) (λ c. search needs)
     loop-again
     loop2-holds
-    (λ c. search needs)
-    (λ c. search needs)
-    (λ c κs. search needs)
+    (λ c. search needs) (λ c. search needs) (λ c κs. search needs)
     returns-4
-    (λ c. search needs)
-    (λ c. search needs)
+    (λ c. search needs) (λ c. search needs)
     loop2-again
     returns-5)

@@ -21,7 +21,7 @@ use Rattle.model.specs.Sound.{unusedCheckpoint}
 use Rattle.model.proofs.Checkpoint as checkpoint
 use Rattle.model.proofs.Pin as pin
 use Rattle.soundness.specs.Clauses.{empty, vectorSound, fit, processSound, restUnused}
-use Rattle.soundness.proofs.OneProcess.{before-fails, low, high, judged}
+use Rattle.soundness.proofs.OneProcess.{before-fails, low, high, tests-decide}
 use Rattle.soundness.proofs.Sizes.{row-long}
 use Rattle.soundness.proofs.Vectors.{zero-sound}
 use Rattle.soundness.proofs.Walks.{Walked, none-walked, one-walked, all-walked}
@@ -60,8 +60,8 @@ Here type = type Inv-walk μ-walk Inv-processes μ-processes Inv-places μ-place
 abbrev turn : Here tie.After-is-fit → Here tie.At-processes
 turn c = c .before .before .before .before .before
 
-abbrev first-judged : Here tie.After-none-walked → Here tie.After-is-fit
-first-judged c = c .before .before .before
+abbrev first-tested : Here tie.After-none-walked → Here tie.After-is-fit
+first-tested c = c .before .before .before
 
 abbrev walk-of : Here tie.After-is-walk-sound → Here tie.After-none-walked
 walk-of c = c .before .before .before
@@ -84,14 +84,14 @@ unused c k = restUnused (getD (c .before .args .t1) k []) (getD (c .before .args
 
 -- What is asked before the walk has passed.
 first-passed : (c : Here tie.After-none-walked)
-    → fit (turn (first-judged c) .before .args .n) (turn (first-judged c) .processes .p) (first-judged c .before .last-stored .result) (pins-of (turn (first-judged c))) (held-of (turn (first-judged c))) ≡ true
-first-passed c = sym (first-judged c .is-fit .ensures) ∙ not-false _ (c .before .before .if1 .left)
+    → fit (turn (first-tested c) .before .args .n) (turn (first-tested c) .processes .p) (first-tested c .before .last-stored .result) (pins-of (turn (first-tested c))) (held-of (turn (first-tested c))) ≡ true
+first-passed c = sym (first-tested c .is-fit .ensures) ∙ not-false _ (c .before .before .if1 .left)
 
-few : (c : Here tie.After-none-walked) → (1 ≤ held-of (turn (first-judged c))) × (held-of (turn (first-judged c)) ≤ 16)
+few : (c : Here tie.After-none-walked) → (1 ≤ held-of (turn (first-tested c))) × (held-of (turn (first-tested c)) ≤ 16)
 few c =
-    let q = turn (first-judged c) in
+    let q = turn (first-tested c) in
     let a = q .before .args in
-    let l = first-judged c .before .last-stored in (
+    let l = first-tested c .before .last-stored in (
       low (a .n) (a .t3) (q .processes .p) (row-of q) (pins-of q) (held-of q) (l .result) (l .ensures) (first-passed c),
       omega (arith, high (a .n) (a .t3) (q .processes .p) (row-of q) (pins-of q) (held-of q) (l .result) (l .ensures) (first-passed c)),
     )
@@ -112,21 +112,21 @@ process c = search needs
 own-pin : (c : Here tie.In-processes) → c .before .processes .p < length (pins-of (c .before))
 own-pin c = rw (pins-long (c .before .before) (c .before .processes .p) (process c)) (process c)
 
-fits : (c : Here tie.After-none-walked) → held-of (turn (first-judged c)) ≤ length (row-of (turn (first-judged c)))
-fits c = let q = turn (first-judged c) in rw (kept-long (q .before) (q .processes .p) (process (first-judged c .before .before .before .before))) (few c .1)
+fits : (c : Here tie.After-none-walked) → held-of (turn (first-tested c)) ≤ length (row-of (turn (first-tested c)))
+fits c = let q = turn (first-tested c) in rw (kept-long (q .before) (q .processes .p) (process (first-tested c .before .before .before .before))) (few c .1)
 
 -- The walk's verdict is the process's.
-verdict : (c : Here tie.After-is-walk-sound) → c .is-walk-sound .result ≡ sound (turn (first-judged (walk-of c))) (turn (first-judged (walk-of c)) .processes .p)
+verdict : (c : Here tie.After-is-walk-sound) → c .is-walk-sound .result ≡ sound (turn (first-tested (walk-of c))) (turn (first-tested (walk-of c)) .processes .p)
 verdict c =
     let f = walk-of c in
     let w = c .before .before in
-    let q = turn (first-judged f) in
+    let q = turn (first-tested f) in
     let a = q .before .args in
     let i = q .processes .p in
-    let l = first-judged f .before .last-stored in
+    let l = first-tested f .before .last-stored in
     c .is-walk-sound .ensures (a .n) (search needs) (search needs)
     ∙ all-walked (f .before .pinned-indexes .result) i (a .t3) (row-of q) (held-of q) (fits f) (w .walk .k) (w .walk .walk) (a .n) (l .result) (few f .0) (c .before .walk-test .left) (search needs) (search needs) (search needs) (w .walk .inv)
-    ∙ judged (a .n) (a .t3) i (row-of q) (pins-of q) (held-of q) (l .result) (l .ensures) (first-passed f) (fits f) (own-pin (first-judged f .before .before .before .before)) (f .before .pinned-indexes .result) (f .before .pinned-indexes .ensures)
+    ∙ tests-decide (a .n) (a .t3) i (row-of q) (pins-of q) (held-of q) (l .result) (l .ensures) (first-passed f) (fits f) (own-pin (first-tested f .before .before .before .before)) (f .before .pinned-indexes .result) (f .before .pinned-indexes .ensures)
 
 none-joined : unusedCheckpoint noCheckpoint ≡ true
 unfolding unusedCheckpoint vectorSound allBelow
@@ -174,7 +174,7 @@ none-walked-requires c κs = search needs
 
 walk-holds : Here tie.Need-walk-holds
 walk-holds c =
-    let q = turn (first-judged c) in
+    let q = turn (first-tested c) in
     none-walked (c .before .pinned-indexes .result) (q .processes .p) (q .before .args .t3) (row-of q) (held-of q) (fits c) (c .none-walked .result) (c .none-walked .ensures)
 
 mul-c : Here tie.Need-mul-c
@@ -202,7 +202,7 @@ walk-again : Here tie.Need-walk-again
 walk-again c =
     let w = c .before .before .before in
     let f = w .before in
-    let q = turn (first-judged f) in
+    let q = turn (first-tested f) in
     one-walked (f .before .pinned-indexes .result) (q .processes .p) (q .before .args .t3) (row-of q) (held-of q) (fits f) (w .walk .k) (w .walk .walk) (c .walked .result) (c .before .before .walk-test .taken) (own-long (q .before)) (w .walk .inv) (c .walked .ensures .0) (c .walked .ensures .1)
 
 is-walk-sound-requires : Here tie.Need-is-walk-sound-requires
@@ -210,7 +210,7 @@ is-walk-sound-requires c κs = search needs
 
 returns-2 : Here tie.Need-returns-2
 returns-2 c =
-    let q = turn (first-judged (walk-of (c .before))) in
+    let q = turn (first-tested (walk-of (c .before))) in
     ap (λ t. t && allBelow 16 (unused q)) (all-stop (q .before .args .n) (sound q) (q .processes .p) (search needs) (sym (verdict (c .before)) ∙ not-true _ (c .if2 .taken)))
 
 add-p : Here tie.Need-add-p
@@ -221,7 +221,7 @@ processes-less c = search needs
 
 processes-again : Here tie.Need-processes-again
 processes-again c =
-    let q = turn (first-judged (walk-of (c .before))) in
+    let q = turn (first-tested (walk-of (c .before))) in
     (search needs, all-yes (sound q) (q .processes .p) true (q .processes .inv .1) (sym (verdict (c .before)) ∙ not-false _ (c .if2 .left)))
 
 no-checkpoint-requires : Here tie.Need-no-checkpoint-requires

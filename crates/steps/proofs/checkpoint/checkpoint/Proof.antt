@@ -8,7 +8,6 @@ use Rattle.plans.proofs.SoundFacts.{own-least}
 use Rattle.steps.proofs.Calling.{row-there, put-closed, move-state, move-gone, move-list, first-look, checkpoint-short, checkpoint-refused, checkpoint-does, checkpoint-no, checkpoint-moves, checkpoint-laid, checkpoint-outcome}
 use Rattle.steps.proofs.Sizes.{sizes}
 use borrow.Author.Needs.{needs}
-use borrow.Author.Needs.{needs}
 use Rattle.steps.proofs.checkpoint.checkpoint.Statement.{statement}
 use Rattle.steps.proofs.checkpoint.checkpoint.Tie as tie
 
@@ -114,19 +113,14 @@ checkpoint-spec =
     mul-if1-2
     (λ c κs. search needs)
     returns
-    (λ c κs. search needs)
-    (λ c κs. search needs)
+    (λ c κs. search needs) (λ c κs. search needs)
     mul-own
     mul-own-2
     index-1-own
     index-2-own
-    (λ c. search needs)
-    (λ c κs. search needs)
+    (λ c. search needs) (λ c κs. search needs)
     array-read-checkpoint-plan
-    (λ c κs. search needs)
-    (λ c. search needs)
-    (λ c κs. search needs)
-    (λ c. search needs)
+    (λ c κs. search needs) (λ c. search needs) (λ c κs. search needs) (λ c. search needs)
     live-index-requires
     move-rows-requires
     returns-2

@@ -9,7 +9,6 @@ use Rattle.plans.proofs.SoundFacts.{own-least}
 use Rattle.steps.proofs.Calling.{row-there, closed-up, put-closed, put-state, move-state, still-gone, still-list, move-gone, move-list, some-underway, deliver-short, deliver-refused, deliver-does, deliver-no, deliver-present, deliver-outcome, moved-rose, still-rose}
 use Rattle.steps.proofs.Sizes.{sizes}
 use borrow.Author.Needs.{needs}
-use borrow.Author.Needs.{needs}
 use Rattle.steps.proofs.deliver.deliver.Statement.{statement}
 use Rattle.steps.proofs.deliver.deliver.Tie as tie
 

@@ -2,7 +2,6 @@
 use mathlib.Core.Path.{refl}
 use Rattle.plans.specs.Planned.{refusalOf}
 use borrow.Author.Needs.{needs}
-use borrow.Author.Needs.{needs}
 use Rattle.steps.proofs.lose.answer_of.Statement.{statement}
 use Rattle.steps.proofs.lose.answer_of.Tie as tie
 

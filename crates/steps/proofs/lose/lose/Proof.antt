@@ -4,7 +4,6 @@ use Rattle.model.specs.laws.Sound.{sound-state}
 use Rattle.steps.proofs.Calling.{put-closed, put-state, closed-up, some-underway, lose-does, lose-still, lose-answers}
 use Rattle.steps.proofs.Sizes.{sizes}
 use borrow.Author.Needs.{needs}
-use borrow.Author.Needs.{needs}
 use Rattle.steps.proofs.lose.lose.Statement.{statement}
 use Rattle.steps.proofs.lose.lose.Tie as tie
 

@@ -8,7 +8,6 @@ use Rattle.plans.proofs.Room.{stored-room}
 use Rattle.steps.proofs.Moving.{moved-state, moved-gone, moved-rose, moved-list}
 use Rattle.steps.proofs.Sizes.{sizes}
 use borrow.Author.Needs.{needs}
-use borrow.Author.Needs.{needs}
 use Rattle.steps.proofs.parts.move_rows.Statement.{statement}
 use Rattle.steps.proofs.parts.move_rows.Tie as tie
 

@@ -1,7 +1,6 @@
 -- `steps::parts::put` meets its contract. Assumes nothing.
 use Rattle.plans.specs.Carried.{unmoved}
 use borrow.Author.Needs.{needs}
-use borrow.Author.Needs.{needs}
 use Rattle.steps.proofs.parts.put.Statement.{statement}
 use Rattle.steps.proofs.parts.put.Tie as tie
 
