@@ -1,5 +1,6 @@
-// The exam sheet of document 01 by real calls: every case makes its calls through the crate `calls` and prints what they answered and left, one fact
-// a line; of each delivery that a case is about the set of entries that rose, too (document 02, Note 1). The independent oracle prints the same text (`oracle --cases`, laid out above `print` in its cases.rs); the tests compare the two.
+// The exam sheet of document 01 by real calls, and cases of document 02 behind it: every case makes its calls through the crate `calls` and prints what they
+// answered and left, one fact a line; of each delivery that a case is about the set of entries that rose, too (document 02, Note 1). The independent oracle
+// prints the same text (`oracle --cases`, laid out above `print` in its cases.rs); the tests compare the two.
 use crate::act::After;
 
 // say.rt: text on standard output
@@ -66,7 +67,7 @@ fn case_8() {
     facts::state(fourth);
 }
 
-// "Two processes, send 0 to 1, recover {1}: line (1,0); deliver 1 is refused with 8"
+// "Two processes, send 0 to 1, recover {1}: line (1,0)"; document 02: "deliver 1 is then accepted"
 fn case_9() {
     say::case(9);
     let start = act::start(2);
@@ -88,6 +89,28 @@ fn mark_2() {
     facts::state(quiet);
 }
 
+// What a recovery loses, each case by the number of the message that it does: process 0 sends and then rolls back, behind its send and between two of them.
+fn lost_1() {
+    say::lost(1);
+    let start = act::start(2);
+    let sent = act::send(start, 0, 1);
+    let recovered = facts::recover(sent, 1);
+    let delivered = facts::deliver(recovered, 1);
+    facts::state(delivered);
+}
+
+fn lost_2() {
+    say::lost(2);
+    let start = act::start(2);
+    let first = act::send(start, 0, 1);
+    let stored = act::checkpoint(first, 0, 512);
+    let second = act::send(stored, 0, 1);
+    let recovered = facts::recover(second, 1);
+    let missing = facts::deliver(recovered, 2);
+    let delivered = facts::deliver(missing, 1);
+    facts::state(delivered);
+}
+
 fn main() {
     let fourth = cases_1_to_3();
     cases_4_to_6(fourth);
@@ -96,4 +119,6 @@ fn main() {
     case_9();
     limits::case_10();
     mark_2();
+    lost_1();
+    lost_2();
 }

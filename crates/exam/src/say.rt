@@ -40,6 +40,13 @@ pub(crate) fn mark(number: u64) {
     end();
 }
 
+// A case about the message that a recovery loses.
+pub(crate) fn lost(message: u64) {
+    text(b"lost");
+    value(message);
+    end();
+}
+
 // The answer of a call: 0, or the refusal number.
 pub(crate) fn answer(call: &[u8], refused: u8) {
     text(call);

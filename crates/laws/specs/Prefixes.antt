@@ -25,6 +25,12 @@ unfolding select
 select-same t u [] h = refl
 select-same t u (x ∷ l) h = rw (h x, select-same t u l h)
 
+-- It is enough that they agree where another test holds, which every element passes.
+pub select-same-on : {A : Type 0} (g t u : A → Bool) (l : List A) → every g l ≡ true → ((x : A) → g x ≡ true → t x ≡ u x) → select t l ≡ select u l
+unfolding select every
+select-same-on g t u [] all h = refl
+select-same-on g t u (x ∷ l) all h = rw (h x (and-left (g x) _ all), select-same-on g t u l (and-right (g x) _ all) h)
+
 -- Entry i of a list: x. It is chosen, or it is not.
 module _ {A : Type 0} (t : A → Bool) (l : List A) (i : ℕ) (d : A) (h : i < length l) where
   pub select-yes : t (getD l i d) ≡ true → select t (take (i + 1) l) ≡ select t (take i l) ++ (getD l i d ∷ [])

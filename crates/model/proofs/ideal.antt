@@ -20,6 +20,7 @@ pub mod DeliveredViews
 pub mod RecoveredViews
 pub mod RecoveredStates
 pub mod Recovered
+pub mod Outliving
 pub mod Keeping
 pub mod Marks
 pub mod Before

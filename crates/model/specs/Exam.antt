@@ -128,7 +128,7 @@ traceAnswers =
     ∷ record { refused = 8; value = []; rose = 0; deleted = []; line = [] }
     ∷ []
 
--- Cases 1 to 9, in the order of the exam sheet. Pins are written 0 for none and k + 1 for checkpoint k.
+-- Cases 1 to 9, in the order of the exam sheet, and two for Note 2 behind them. Pins are written 0 for none and k + 1 for checkpoint k.
 unfoldable pub exam : List Case
 exam =
     -- 1. "After record 2: vectors (1,0) and (1,1); 1's pins 0, 0. Failed {0}: line (0,0). Failed {1}: (1,0)."
@@ -230,19 +230,57 @@ exam =
           ∷ record { failed = 4; indexes = 1 ∷ 1 ∷ 0 ∷ [] }
           ∷ [];
     }
-    -- 9. "Two processes, send 0 to 1, recover {1}: line (1,0); deliver 1 is refused with 8."
+    -- 9. "Two processes, send 0 to 1, recover {1}: line (1,0)"; Note 2: "deliver 1 is then accepted."
     ∷ record {
       count = 2;
       calls = send 0 1 ∷ recover 2 (deletionList 2) (lineList 2) ∷ deliver 1 (deletionList 2) ∷ [];
       answers =
           record { refused = 0; value = 1 ∷ []; rose = 0; deleted = []; line = [] }
           ∷ record { refused = 0; value = 1 ∷ []; rose = 0; deleted = []; line = 1 ∷ 0 ∷ [] }
+          ∷ record { refused = 0; value = []; rose = 1; deleted = []; line = [] }
+          ∷ [];
+      vectors = (1 ∷ 0 ∷ []) ∷ (1 ∷ 1 ∷ []) ∷ [];
+      pins = (1 ∷ 0 ∷ []) ∷ (1 ∷ 1 ∷ []) ∷ [];
+      kept = (0 ∷ []) ∷ (0 ∷ []) ∷ [];
+      lines = record { failed = 1; indexes = 0 ∷ 0 ∷ [] } ∷ record { failed = 2; indexes = 1 ∷ 0 ∷ [] } ∷ [];
+    }
+    -- Note 2, the sender rolls back behind its send: recover {0} instead, line (0,1); the message is lost, and deliver 1 is refused with 8.
+    ∷ record {
+      count = 2;
+      calls = send 0 1 ∷ recover 1 (deletionList 2) (lineList 2) ∷ deliver 1 (deletionList 2) ∷ [];
+      answers =
+          record { refused = 0; value = 1 ∷ []; rose = 0; deleted = []; line = [] }
+          ∷ record { refused = 0; value = 1 ∷ []; rose = 0; deleted = []; line = 0 ∷ 1 ∷ [] }
           ∷ record { refused = 8; value = []; rose = 0; deleted = []; line = [] }
           ∷ [];
       vectors = (1 ∷ 0 ∷ []) ∷ (0 ∷ 1 ∷ []) ∷ [];
       pins = (1 ∷ 0 ∷ []) ∷ (0 ∷ 1 ∷ []) ∷ [];
       kept = (0 ∷ []) ∷ (0 ∷ []) ∷ [];
-      lines = [];
+      lines = record { failed = 1; indexes = 0 ∷ 1 ∷ [] } ∷ record { failed = 2; indexes = 1 ∷ 0 ∷ [] } ∷ [];
+    }
+    -- Note 2, the sender rolls back between two sends: message 1, sent in the interval before its member, remains under way, and message 2 is lost.
+    ∷ record {
+      count = 2;
+      calls =
+          send 0 1
+          ∷ checkpoint 0 (deletionList 2)
+          ∷ send 0 1
+          ∷ recover 1 (deletionList 2) (lineList 2)
+          ∷ deliver 2 (deletionList 2)
+          ∷ deliver 1 (deletionList 2)
+          ∷ [];
+      answers =
+          record { refused = 0; value = 1 ∷ []; rose = 0; deleted = []; line = [] }
+          ∷ record { refused = 0; value = 1 ∷ []; rose = 0; deleted = 0 ∷ 0 ∷ []; line = [] }
+          ∷ record { refused = 0; value = 2 ∷ []; rose = 0; deleted = []; line = [] }
+          ∷ record { refused = 0; value = 1 ∷ []; rose = 0; deleted = []; line = 1 ∷ 1 ∷ [] }
+          ∷ record { refused = 8; value = []; rose = 0; deleted = []; line = [] }
+          ∷ record { refused = 0; value = []; rose = 1; deleted = []; line = [] }
+          ∷ [];
+      vectors = (2 ∷ 0 ∷ []) ∷ (1 ∷ 1 ∷ []) ∷ [];
+      pins = (2 ∷ 0 ∷ []) ∷ (1 ∷ 1 ∷ []) ∷ [];
+      kept = (1 ∷ []) ∷ (0 ∷ []) ∷ [];
+      lines = record { failed = 1; indexes = 1 ∷ 1 ∷ [] } ∷ record { failed = 2; indexes = 2 ∷ 0 ∷ [] } ∷ record { failed = 3; indexes = 1 ∷ 0 ∷ [] } ∷ [];
     }
     -- For the wrong mark "Forcing whenever the sent mark is set, though nothing carried is newer": process 1 has sent, and message 2 brings it nothing.
     ∷ record {

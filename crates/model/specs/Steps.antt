@@ -195,9 +195,13 @@ recovered s F p = record {
   kept = select (named (pinsAfter s F p)) (notLost s F p);
 }
 
--- "Every message under way is lost." Which ones are lost is said here alone.
+-- Note 2: "a recovery loses a message exactly if its sender's entry in the carried vector is above the sender's index in the line; the others remain
+-- under way with their numbers." Which ones are lost is said here alone.
+unfoldable pub lostBy : Run → ℕ → Message → Bool
+lostBy s F x = ltb (member s F (x .sender) .index .0) (entry (x .vector) (x .sender) .0)
+
 unfoldable pub stillUnderWay : Run → ℕ → List Message
-stillUnderWay s F = []
+stillUnderWay s F = select (λ x. not (lostBy s F x)) (underWay s)
 
 unfoldable pub recoverState : Run → ℕ → Run
 recoverState s F = withMessages (withProcesses (s .count) (recovered s F) s) (stillUnderWay s F) (s .last)

@@ -13,7 +13,7 @@ use Rattle.model.specs.History.{HistoryEvent, stored, sent, received, Li
 use Rattle.model.specs.Calls.{Call, checkpoint, send, deliver, lose, recover, line, Reply, Exchange}
 
 -- The surviving history: the lists, and what they were right after the last accepted recover, or the start; how many sends were accepted; the receiver that each send named; which messages are under way: sent by an accepted
--- send, neither delivered nor lost since by an accepted call; which checkpoints are kept.
+-- send, neither delivered nor lost since by an accepted call, and not lost by a recovery; which checkpoints are kept.
 pub record Surviving : Type 0 where
   pub lists : Lists
   pub restart : Lists
@@ -78,14 +78,26 @@ receiverAfter h (lose m) = h .receiver
 receiverAfter h (recover F deleted lent) = h .receiver
 receiverAfter h (line F lent) = h .receiver
 
--- Which messages are under way. "Deliver: The message is no longer under way." "Lose: The message is no longer under way." "Recover: Every message under way is lost."
-unfoldable pub underwayAfter : Surviving → Call → ℕ → Bool
-underwayAfter h (checkpoint i deleted) = h .underway
-underwayAfter h (send i j) = upd (h .underway) (h .sends + 1) true
-underwayAfter h (deliver m deleted) = upd (h .underway) m false
-underwayAfter h (lose m) = upd (h .underway) m false
-underwayAfter h (recover F deleted lent) = λ m. false
-underwayAfter h (line F lent) = h .underway
+-- "sent m" stands in a list; it does in one of the lists of the n processes.
+unfoldable pub isSent : ℕ → List HistoryEvent → Bool
+isSent m [] = false
+isSent m (stored ∷ l) = isSent m l
+isSent m (sent k ∷ l) = eqb k m || isSent m l
+isSent m (received k ∷ l) = isSent m l
+
+unfoldable pub stillSent : ℕ → Lists → ℕ → Bool
+stillSent n lists m = anyBelow n (λ p. isSent m (lists p))
+
+-- Which messages are under way; `lists` are the lists after the call. "Deliver: The message is no longer under way." "Lose: The message is no longer under way."
+-- Note 2: "a recovery loses a message exactly if its sender's entry in the carried vector is above the sender's index in the line": by the lists, exactly if
+-- its send goes from its sender's list. "The surviving history counts these sends": those of the others still stand there.
+unfoldable pub underwayAfter : ℕ → Surviving → Lists → Call → ℕ → Bool
+underwayAfter n h lists (checkpoint i deleted) = h .underway
+underwayAfter n h lists (send i j) = upd (h .underway) (h .sends + 1) true
+underwayAfter n h lists (deliver m deleted) = upd (h .underway) m false
+underwayAfter n h lists (lose m) = upd (h .underway) m false
+underwayAfter n h lists (recover F deleted lent) = λ m. h .underway m && stillSent n lists m
+underwayAfter n h lists (line F lent) = h .underway
 
 -- The answer hands out the pair p, k.
 unfoldable pub handedOut : Reply → ℕ → ℕ → Bool
@@ -101,7 +113,7 @@ accepted n h c r = record {
   restart = restartAfter n h c r;
   sends = sendsAfter h c;
   receiver = receiverAfter h c;
-  underway = underwayAfter h c;
+  underway = underwayAfter n h (listsAfter n h c r) c;
   kept = keptAfter h (listsAfter n h c r) r;
 }
 

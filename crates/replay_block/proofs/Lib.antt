@@ -10,6 +10,7 @@ pub mod Onward
 pub mod Places
 pub mod Planned
 pub mod Searches
+pub mod Sifted
 pub mod Sizes
 pub mod Turn
 pub mod Turns

@@ -17,7 +17,7 @@ use Rattle.plans.specs.Tables.{isUsed, inUse, messagesIn}
 
 module _ (window : List Message) (first : ℕ) where
   -- up to a place behind k: those up to k, and those behind
-  in-split : (k n : ℕ) → first ≤ k → k ≤ length window → messagesIn window first (k + n) ≡ messagesIn window first k ++ inUse (take n (drop k window))
+  pub in-split : (k n : ℕ) → first ≤ k → k ≤ length window → messagesIn window first (k + n) ≡ messagesIn window first k ++ inUse (take n (drop k window))
   unfolding messagesIn inUse
   in-split k n from to =
       ap (λ (l : List Message). select isUsed (drop first l)) (take-add k n window)

@@ -1,4 +1,4 @@
--- What holds of the window at the start of a block, what a look-up in it says, and what holds of it after a message is put into it and after a recovery.
+-- What holds of the window at the start of a block, what a look-up in it says, and what holds of it after a message is put into it.
 -- Assumes nothing.
 use mathlib.Core.Path.{_≡_, refl, sym, _∙_, ap}
 use mathlib.Core.Bool.{Bool, true, false, _&&_}
@@ -31,7 +31,6 @@ use Rattle.plans.proofs.Filled.{zero-message, messages-filled, messages-many}
 use Rattle.plans.proofs.Parts.{messages-back}
 use Rattle.plans.proofs.Tables.{all-used}
 use Rattle.replay_block.specs.Window.{openedWindow, numbersOf, placeIn, isThere, stateInPlace, Windowed}
-use Rattle.replay_block.proofs.Messages.{in-none}
 use Rattle.replay_block.proofs.Places.{old-most, old-first}
 
 -- The messages under way of a state whose table has these in front and unused places behind them.
@@ -149,9 +148,6 @@ nobody m (x ∷ l) nowhere =
     (λ used. rw (used, ne-eqb (x .number) m (nowhere 0 (omega arith) used)) rest)
     (λ unused. rw unused rest)
 
-pub none-left : (window : List Message) → messagesIn window 64 64 ≡ []
-none-left window = in-none window 64 64 (omega arith)
-
 module _ {numbers : List ℕ} {window : List Message} {base first tail underway last : ℕ} (w : Windowed numbers window base first tail underway last) where
   -- A place is at most the tail.
   pub place-most : (m : ℕ) → placeIn numbers m base tail ≤ tail
@@ -194,22 +190,6 @@ module _ {numbers : List ℕ} {window : List Message} {base first tail underway 
     placed-there : placeIn numbers m base tail ≡ k
     placed-there = by-lt k 64 placed-old placed-new
 
-  -- After a recovery no place is in use.
-  pub forgotten : Windowed numbers window last 64 64 0 last
-  forgotten = record {
-    long = w .long;
-    numbers-long = w .numbers-long;
-    numbers-old = λ k lt. omega (arith, w .numbers-old k lt, w .used);
-    numbers-apart = w .numbers-apart;
-    from = omega arith;
-    least = omega arith;
-    most = omega arith;
-    used = omega arith;
-    old = λ k low lt. absurd (omega arith);
-    new = λ k low lt. absurd (omega arith);
-    many = ap length (sym (none-left window));
-  }
-
   -- A message is put into a place: it is unused then, or has the number that was there.
   module _ (k : ℕ) (x : Message) (same : (x .number ≡ 0) ⊎ (x .number ≡ getD window k noMessage .number)) where
     number-then : (P : ℕ → Type 0) (j : ℕ) → j < 576 → P 0 → P (getD window j noMessage .number) → P (getD (set window k x) j noMessage .number)
@@ -242,7 +222,7 @@ module _ {numbers : List ℕ} {window : List Message} {base first tail underway 
     numbers-long = w .numbers-long;
     numbers-old = w .numbers-old;
     numbers-apart = w .numbers-apart;
-    from = w .from;
+    from = omega (arith, w .from);
     least = omega (arith, w .least);
     most = omega arith;
     used = omega (arith, w .used, w .least);

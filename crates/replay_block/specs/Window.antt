@@ -1,6 +1,6 @@
 -- The messages under way while a block is replayed. Places 0 to 63 of the window are the table of the state that the block began with; behind them each send takes
--- the next place, so the message with number m has place 63 + (m - base), where base is the last number used before them. A message that is received or lost leaves
--- its place unused, and no other moves. The messages under way are those in use from place `first` up to place `tail`.
+-- the next place, so the message with number m has place 63 + (m - base), where base is the last number used before them. A message that is received, or lost by a
+-- loss or a recovery, leaves its place unused, and no other moves. The messages under way are those in use from place `first` up to place `tail`.
 -- Assumes nothing.
 use mathlib.Core.Path.{_≡_}
 use mathlib.Core.Bool.{Bool, _&&_}
@@ -66,7 +66,7 @@ pub record Windowed (numbers : List ℕ) (window : List Message) (base first tai
   pub numbers-long : length numbers ≡ mostUnderWay
   pub numbers-old : (k : ℕ) → k < mostUnderWay → getD numbers k 0 ≤ base
   pub numbers-apart : (j k : ℕ) → j < k → k < mostUnderWay → 1 ≤ getD numbers k 0 → getD numbers j 0 ≡ getD numbers k 0 → ⊥
-  pub from : first ≤ mostUnderWay
+  pub from : first ≤ tail
   pub least : mostUnderWay ≤ tail
   pub most : tail ≤ windowPlaces
   pub used : last ≡ base + (tail - mostUnderWay)

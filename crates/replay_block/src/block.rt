@@ -47,10 +47,11 @@ fn replay_beside(
     let mut underway = s.underway;
     let mut last = s.last;
     let mut window = window::opened(begun);
-    let mut base = last;
+    let base = last;
     let mut first = 0;
     let mut tail = 64;
     let empty = rows::kept::no_checkpoint();
+    let unused = plans::no_message();
     let mut taken = 0;
     let mut written = 0;
     'records: while tail < 576
@@ -221,10 +222,24 @@ fn replay_beside(
                 held[q] = stay;
                 q += 1;
             }
-            base = last;
-            first = 64;
-            tail = 64;
-            underway = 0;
+            // a message that was sent behind the line leaves its place unused, and no other moves
+            let mut outlived = 0;
+            let mut z = first;
+            'sifted: while outlived < underway {
+                let y = window[z];
+                let here = z;
+                z += 1;
+                if y.number != 0 {
+                    let outlives = rows::recovery::does_outlive(y, members);
+                    if outlives {
+                        first = window::first_from(outlived, first, here);
+                        outlived += 1;
+                    } else {
+                        window[here] = unused;
+                        underway -= 1;
+                    }
+                }
+            }
             let recovered = Summary {
                 refused: 0,
                 value: Value::Number(back as u64),

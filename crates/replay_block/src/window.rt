@@ -1,10 +1,13 @@
 // The messages under way while a block is replayed. Places 0 to 63 of the window are the table of the state that the block began with; behind them each
 // send takes the next place, so the message with number m has place 63 + (m - base), where base is the last number used before them. A message that is
-// received or lost leaves its place unused, and no other moves. The messages under way are those that are used, from `first` up to `tail`.
+// received, or lost by a loss or a recovery, leaves its place unused, and no other moves. The messages under way are those that are used, from `first` up to
+// `tail`.
 use model::Message;
 ghost use mathlib.Core.Path.{_≡_};
 ghost use Prim.Native.Nat.{_≤_};
+ghost use lib.Dec.{eqb};
 ghost use lib.ListN.{length, take};
+ghost use Rattle.laws.specs.Choice.{pick};
 ghost use Rattle.laws.specs.Lists.{placed};
 ghost use Rattle.model.specs.Words.{mostUnderWay, noMessage};
 ghost use Rattle.plans.specs.Tables.{messagesIn};
@@ -92,4 +95,11 @@ pub fn is_there(first: usize, place: usize, tail: usize, number: u32, m: u32) ->
         return false;
     }
     number == m
+}
+
+// The first place that may be in use, where `used` messages stand before place `here`, all from `first` on: that place itself if there are none.
+pub fn first_from(used: usize, first: usize, here: usize) -> usize
+    ensures { λ r. ⌜ r ≡ pick (eqb used 0) here first ⌝ }
+{
+    if used == 0 { here } else { first }
 }

@@ -7,24 +7,27 @@ use Prim.Native.Nat.{ℕ, zero, suc, _<_, _≤_}
 use native.Mathlib.Omega.{arith}
 use lib.Dec.{leb, ltb}
 use lib.ListN.{length, getD, replicate, length-replicate}
-use Rattle.laws.specs.Lists.{placed}
+use Rattle.laws.specs.Choice.{not-ltb}
+use Rattle.laws.specs.Lists.{placed, select}
 use Rattle.laws.specs.Loops.{setBelow, below-at, below-above}
+use Rattle.laws.specs.Prefixes.{select-same-on}
 use Rattle.laws.specs.Rows.{by-lt}
 use Rattle.laws.specs.Select.{select-select}
 use Rattle.laws.specs.Tables.{getD-table, gather-same}
 use Rattle.laws.specs.Below.{below-same}
 use Rattle.laws.specs.Counting.{count-same}
 use Rattle.model.specs.declared.Interval.{Interval}
+use Rattle.model.specs.declared.CheckpointIndex.{CheckpointIndex}
 use Rattle.model.specs.declared.Pin.{Pin}
 use Rattle.model.specs.declared.Checkpoint.{Checkpoint}
 use Rattle.model.specs.declared.Run.{Run}
-use Rattle.model.specs.Words.{places, entry, below, noCheckpoint, named, Process, process, own, withProcess, withMessages}
-use Rattle.model.specs.Steps.{Deletion, withProcesses, member, rolledBack, vectorAfter, notLost, ownAfter, pinsAfter, recovered, stillUnderWay, recoverState, deletedAt, recoverDeletions, rolledBackCount}
-use Rattle.model.specs.Sound.{sound}
-use Rattle.model.specs.laws.Sound.{sound-state}
+use Rattle.model.specs.Words.{places, entry, below, noCheckpoint, named, Process, process, own, underWay, withProcess, withMessages}
+use Rattle.model.specs.Steps.{Deletion, withProcesses, member, rolledBack, vectorAfter, notLost, ownAfter, pinsAfter, recovered, lostBy, stillUnderWay, recoverState, deletedAt, recoverDeletions, rolledBackCount}
+use Rattle.model.specs.Sound.{messageSound, sound}
+use Rattle.model.specs.laws.Sound.{sound-state, sound-message}
 use Rattle.rows.specs.declared.recovery.Stepped.{Stepped}
 use Rattle.rows.specs.Line.{ownRow}
-use Rattle.rows.specs.Recovery.{notLater, stays}
+use Rattle.rows.specs.Recovery.{notLater, stays, outlives}
 use Rattle.rows.specs.Turn.{steppedOf}
 use Rattle.rows.proofs.Restoring.{stored-in-state, vector-in-state, pins-in-state, deleted-in-state, unused-own, member-own}
 use Rattle.plans.proofs.SoundFacts.{vector-there, own-unused}
@@ -168,7 +171,14 @@ module _ (s : Run) (h : sound s ≡ true) (F : ℕ) where
   unfolding rowsIn rowsOf heldBelow pinsIn
   held-are = below-same (s .count) _ _ (s .held) (λ p lt. ap (λ (l : List Checkpoint). length l) (kept-at p lt))
 
+  -- the messages: a message under way has its sender in the run, so what was sent up to the members outlives
+  still-are : select (outlives (back .members)) (underWay s) ≡ stillUnderWay s F
+  unfolding stillUnderWay lostBy outlives
+  still-are = select-same-on (messageSound s) _ _ (underWay s) (sound-state s h .messages-sound) (λ x fine.
+      ap (λ (a : CheckpointIndex). leb (entry (x .vector) (x .sender) .0) (a .0)) (member-row (x .sender) (sound-message s x fine .from))
+      ∙ sym (not-ltb (member s F (x .sender) .index .0) (entry (x .vector) (x .sender) .0)))
+
   -- the state
   pub run-in-state : restored s (restoredIn s members) ≡ recoverState s F
-  unfolding restoredIn restoredFrom recoverState withMessages stillUnderWay stillOf recovered
-  run-in-state = rw (processes-rows (s .count) (recovered s F) s, pins-are, rows-are, held-are, sent-are, vectors-are)
+  unfolding restoredIn restoredFrom recoverState withMessages stillOf recovered
+  run-in-state = rw (processes-rows (s .count) (recovered s F) s, pins-are, rows-are, held-are, sent-are, vectors-are, still-are)

@@ -5,15 +5,18 @@ use mathlib.Core.Bool.{Bool, true}
 use mathlib.Core.List.{List}
 use Prim.Native.Nat.{ℕ}
 use lib.Seq.{sets}
+use Rattle.laws.specs.Lists.{select}
 use Rattle.model.specs.declared.Interval.{Interval}
 use Rattle.model.specs.declared.CheckpointIndex.{CheckpointIndex}
 use Rattle.model.specs.declared.Pin.{Pin}
 use Rattle.model.specs.declared.Checkpoint.{Checkpoint}
 use Rattle.model.specs.declared.Run.{Run}
+use Rattle.model.specs.Words.{underWay}
 use Rattle.model.specs.Sound.{sound}
 use Rattle.model.specs.laws.Sound.{sound-state}
 use Rattle.model.specs.Outcomes.{pairs}
 use Rattle.rows.specs.Line.{ownRow}
+use Rattle.rows.specs.Recovery.{outlives}
 use Rattle.rollback.specs.declared.line.Members.{Members}
 use Rattle.rollback.specs.declared.recover.Returned.{Returned}
 use Rattle.rollback.specs.declared.recover.RowsAfter.{RowsAfter}
@@ -38,7 +41,16 @@ module _ (s : Run) (states : List Checkpoint) (list₀ : List ℕ) (f : ℕ) (af
     (is-owns : owns ≡ ownRow after)
     (all-done : q ≡ s .count) (rec : Recovering (s .count) after owns rolled members (s .pins .0) (s .kept .0) (s .held) list₀ pins kept held list gone q) where
   abbrev parts : Restored
-  parts = record { vectors = record { 0 = after }; pins = record { 0 = pins }; sent = sent; kept = record { 0 = kept }; held = held; rolled = back; gone = gone }
+  parts = record {
+    vectors = record { 0 = after };
+    pins = record { 0 = pins };
+    sent = sent;
+    kept = record { 0 = kept };
+    held = held;
+    under = select (outlives members) (underWay s);
+    rolled = back;
+    gone = gone;
+  }
 
   abbrev returned : Returned
   returned = record { vectors = record { 0 = after }; sent = sent; rolled = rolled; members = members; back = back }
@@ -52,7 +64,7 @@ module _ (s : Run) (states : List Checkpoint) (list₀ : List ℕ) (f : ℕ) (af
   parts-are : parts ≡ restoredIn s states
   unfolding restoredIn restoredFrom
   parts-are =
-      ap (λ (r : RowsAfter). record { vectors = record { 0 = after }; pins = r .pins; sent = sent; kept = r .kept; held = r .held; rolled = back; gone = r .deleted }) rows-are
+      ap (λ (r : RowsAfter). record { vectors = record { 0 = after }; pins = r .pins; sent = sent; kept = r .kept; held = r .held; under = select (outlives members) (underWay s); rolled = back; gone = r .deleted }) rows-are
       ∙ ap (restoredFrom s) (all-returned ret all-back (record { 0 = after }) refl)
 
   list-is : list ≡ sets list₀ 0 (pairs (lossesIn s states))

@@ -2,41 +2,44 @@
 -- place alike.
 -- Assumes nothing.
 use mathlib.Core.Bool.{Bool}
-use mathlib.Core.List.{List, []}
+use mathlib.Core.List.{List}
 use mathlib.Core.Path.{_≡_}
 use Prim.Native.Nat.{ℕ}
 use lib.ListN.{length}
 use lib.Seq.{sets}
-use Rattle.laws.specs.Lists.{placed}
+use Rattle.laws.specs.Lists.{placed, select}
 use Rattle.model.specs.declared.Checkpoint.{Checkpoint}
 use Rattle.model.specs.declared.Kept.{Kept}
+use Rattle.model.specs.declared.Message.{Message}
 use Rattle.model.specs.declared.Pin.{Pin}
 use Rattle.model.specs.declared.Pins.{Pins}
 use Rattle.model.specs.declared.Run.{Run}
 use Rattle.model.specs.declared.Vectors.{Vectors}
-use Rattle.model.specs.Words.{mostUnderWay, noMessage}
+use Rattle.model.specs.Words.{mostUnderWay, noMessage, underWay}
 use Rattle.model.specs.Steps.{Deletion, recoverState, recoverDeletions, rolledBackCount}
 use Rattle.model.specs.Outcomes.{pairs}
 use Rattle.rows.specs.Line.{ownRow}
+use Rattle.rows.specs.Recovery.{outlives}
 use Rattle.rollback.specs.declared.recover.Returned.{Returned}
 use Rattle.rollback.specs.declared.recover.RowsAfter.{RowsAfter}
 use Rattle.rollback.specs.declared.recover.UnderWay.{UnderWay}
 use Rattle.rollback.specs.Returned.{returnedOf}
 use Rattle.rollback.specs.After.{pinsAt, lossesOf, rowsOf}
 
--- The parts of a state after a recovery, how many processes rolled back, and how many checkpoints were deleted.
+-- The parts of a state after a recovery, with the messages that are still under way, how many processes rolled back, and how many checkpoints were deleted.
 pub record Restored : Type 0 where
   pub vectors : Vectors
   pub pins : Pins
   pub sent : List Bool
   pub kept : Kept
   pub held : List ℕ
+  pub under : List Message
   pub rolled : ℕ
   pub gone : ℕ
 
--- the messages that are still under way: "Every message under way is lost."
-unfoldable pub stillOf : UnderWay
-stillOf = record { messages = placed mostUnderWay noMessage []; count = 0 }
+-- messages that are still under way, in the table of a state
+unfoldable pub stillOf : List Message → UnderWay
+stillOf l = record { messages = placed mostUnderWay noMessage l; count = length l }
 
 -- the state with these parts
 abbrev pub restored : Run → Restored → Run
@@ -47,8 +50,8 @@ restored s r = record {
   sent = r .sent;
   kept = r .kept;
   held = r .held;
-  messages = stillOf .messages;
-  underway = stillOf .count;
+  messages = stillOf (r .under) .messages;
+  underway = stillOf (r .under) .count;
   last = s .last;
 }
 
@@ -69,6 +72,7 @@ restoredFrom s r = record {
   sent = r .sent;
   kept = rowsIn s r .kept;
   held = rowsIn s r .held;
+  under = select (outlives (r .members)) (underWay s);
   rolled = r .back;
   gone = rowsIn s r .deleted;
 }

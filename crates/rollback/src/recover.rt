@@ -1,4 +1,5 @@
-// The recovery of a failed set: each process goes back to its member of the line, then its pins are moved and what no pin names is deleted.
+// The recovery of a failed set: each process goes back to its member of the line, then its pins are moved and what no pin names is deleted; the messages that
+// were sent up to the line stay under way.
 use model::Checkpoint;
 use model::CheckpointIndex;
 use model::Interval;
@@ -15,10 +16,13 @@ ghost use mathlib.Core.Path.{_≡_};
 ghost use mathlib.Core.Bool.{true, _||_};
 ghost use Prim.Native.Nat.{_*_, _≤_};
 ghost use lib.Dec.{ltb};
-ghost use lib.ListN.{length};
+ghost use lib.ListN.{length, take};
 ghost use lib.Seq.{sets};
+ghost use Rattle.laws.specs.Lists.{select};
+ghost use Rattle.laws.specs.Tests.{every};
 ghost use Rattle.model.specs.Sound.{sound};
 ghost use Rattle.model.specs.Outcomes.{pairs, recoverOutcome};
+ghost use Rattle.rows.specs.Recovery.{outlives};
 ghost use Rattle.rollback.specs.Members.{HeldAtMost};
 ghost use Rattle.rollback.specs.Returned.{returnedOf};
 ghost use Rattle.rollback.specs.After.{pinsAt, rowsOf, lossesOf};
@@ -139,13 +143,30 @@ fn rows_after(
     }
 }
 
-// Every message under way is lost. Which ones are is decided here alone.
-fn still_under_way() -> UnderWay
-    ensures { λ r. ⌜ r ≡ stillOf ⌝ }
+// Those of the messages under way that outlive the recovery to the members with these indexes, one behind the other. The places behind them hold zero.
+fn still_under_way(
+    messages: [Message; 64],
+    underway: usize,
+    members: [CheckpointIndex; 16],
+) -> UnderWay
+    requires { ⌜ (underway ≤ 64) × (every (λ x. ltb (x .sender) 16) (take underway messages) ≡ true) ⌝ }
+    ensures { λ r. ⌜ r ≡ stillOf (select (outlives members) (take underway messages)) ⌝ }
 {
     let unused = plans::no_message();
-    let messages = [unused; 64];
-    UnderWay { messages, count: 0 }
+    let mut left = [unused; 64];
+    let mut count = 0;
+    for k in 0..underway {
+        let x = messages[k];
+        let stays = rows::recovery::does_outlive(x, members);
+        if stays {
+            left[count] = x;
+            count += 1;
+        }
+    }
+    UnderWay {
+        messages: left,
+        count,
+    }
 }
 
 // A recovery that is accepted, to these members.
@@ -160,6 +181,7 @@ fn run_after(s: Run, states: [Checkpoint; 16], deleted: &mut [u16]) -> RecoverOu
     let old_kept = rows::squares::kept_rows(s.kept);
     let old_sent = s.sent;
     let old_held = s.held;
+    let old_messages = s.messages;
     let returned = go_back(old_vectors, old_sent, states, n);
     let vectors = returned.vectors;
     let sent = returned.sent;
@@ -181,7 +203,7 @@ fn run_after(s: Run, states: [Checkpoint; 16], deleted: &mut [u16]) -> RecoverOu
     let pins = all.pins;
     let kept = all.kept;
     let held = all.held;
-    let still = still_under_way();
+    let still = still_under_way(old_messages, s.underway, members);
     let messages = still.messages;
     let run = Run {
         count: n,

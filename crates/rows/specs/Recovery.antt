@@ -13,6 +13,7 @@ use Rattle.model.specs.declared.CheckpointIndex.{CheckpointIndex}
 use Rattle.model.specs.declared.Pin.{Pin}
 use Rattle.model.specs.declared.Pin.the-variants.{Nothing, At}
 use Rattle.model.specs.declared.Checkpoint.{Checkpoint}
+use Rattle.model.specs.declared.Message.{Message}
 use Rattle.model.specs.Words.{places, entry, below, liveIndex, named}
 use Rattle.model.specs.Steps.{advanced, latestPin}
 use Rattle.rows.specs.declared.recovery.Found.{Found}
@@ -75,3 +76,7 @@ foundWith owns last found c = pick (leb (c .index .0) (last .0))
 -- "each one's own entry equal to its index", and the live state's too
 abbrev pub ownIsIndex : ℕ → Checkpoint → Bool
 ownIsIndex p c = eqb (entry (c .vector) p .0) (c .index .0)
+
+-- Note 2: what a recovery to members with these indexes does not lose, since the sender's entry in the carried vector is not above the sender's index
+unfoldable pub outlives : List CheckpointIndex → Message → Bool
+outlives members x = leb (entry (x .vector) (x .sender) .0) (getD members (x .sender) (record { 0 = 0 }) .0)

@@ -1,9 +1,10 @@
 // One process's turn in a recovery: its member of the line, what it is left with when it goes back to it, its pins, the checkpoints that it keeps and those that
-// it loses.
+// it loses. Which messages outlive the recovery.
 use super::line::Latest;
 use model::Checkpoint;
 use model::CheckpointIndex;
 use model::Interval;
+use model::Message;
 use model::Pin;
 ghost use mathlib.Core.Path.{_≡_};
 ghost use mathlib.Core.Bool.{true, false, not, _&&_, _||_};
@@ -20,7 +21,7 @@ ghost use Rattle.model.specs.Steps.{listed};
 ghost use Rattle.model.specs.Outcomes.{pairs};
 ghost use Rattle.rows.specs.Kept.{keptRow};
 ghost use Rattle.rows.specs.Turn.{memberFrom, steppedOf};
-ghost use Rattle.rows.specs.Recovery.{isStored, restoredVector, notLater, latestFound, foundWith, pinFrom, restoredPins, stays};
+ghost use Rattle.rows.specs.Recovery.{isStored, restoredVector, notLater, latestFound, foundWith, pinFrom, restoredPins, stays, outlives};
 
 // The line's member with this index is a stored checkpoint of the process with this own entry, and so the process rolls back. The live state's index
 // is above the last stored one. A process whose own entry is 0 has stored nothing.
@@ -354,4 +355,25 @@ pub fn does_stay(index: CheckpointIndex, last: CheckpointIndex, pins: [Pin; 16])
     } else {
         false
     }
+}
+
+// A message that was sent in this interval of its sender was sent up to the sender's member, which has this index. Document 02 compares the two: interval g
+// lies before checkpoint g.
+fn was_sent_by(sent_in: Interval, member: CheckpointIndex) -> bool
+    ensures { λ r. ⌜ r ≡ leb (sent_in .0) (member .0) ⌝ }
+{
+    sent_in.0 <= member.0
+}
+
+// Message x outlives a recovery to the members with these indexes. The interval in which it was sent is its sender's entry in what it carries; its receiver
+// plays no part.
+pub fn does_outlive(x: Message, members: [CheckpointIndex; 16]) -> bool
+    requires { ⌜ x .sender < 16 ⌝ }
+    ensures { λ r. ⌜ r ≡ outlives members x ⌝ }
+{
+    let from = x.sender;
+    let carried = x.vector;
+    let sent_in = carried[from];
+    let member = members[from];
+    was_sent_by(sent_in, member)
 }

@@ -1,5 +1,6 @@
-//! The exam text: the cases 1 to 10 of the exam sheet, and one of the wrong
-//! marks on past papers, by real calls.
+//! The exam text: the cases 1 to 10 of the exam sheet, one of the wrong marks
+//! on past papers, and two cases of messages that a recovery loses, by real
+//! calls.
 
 use crate::run::{Run, MAX_PROCESSES};
 use std::fmt::{Display, Write as _};
@@ -96,6 +97,17 @@ const DELETIONS: usize = 2 * MAX_PROCESSES * MAX_PROCESSES;
 /// (message 1), send 0 to 1 (message 2), deliver 1, send 1 to 0 (message 3),
 /// deliver 2. Prints `mark 2`, the facts of the first delivery, those of the
 /// second, and the facts of the state.
+///
+/// # Lost 1 and lost 2
+///
+/// Note 2. Each prints `lost M`, where M is the message that the recovery
+/// loses, `written 1: ..` and `recover 1: ..` as in case 7, the facts of each
+/// delivery, and the facts of the state. n = 2 in both.
+///
+/// * `lost 1`: send 0 to 1, recover 1, which is {0}, deliver 1. The sender
+///   rolls back behind its send.
+/// * `lost 2`: send 0 to 1 (message 1), checkpoint 0, send 0 to 1 (message 2),
+///   recover 1, deliver 2, deliver 1. Message 1 outlives the recovery.
 pub fn print<W: io::Write>(output: &mut W) -> io::Result<()> {
     output.write_all(text().as_bytes())?;
     output.flush()
@@ -110,6 +122,8 @@ pub fn text() -> String {
     case_9(&mut text);
     case_10(&mut text);
     mark_2(&mut text);
+    lost_1(&mut text);
+    lost_2(&mut text);
     text
 }
 
@@ -268,6 +282,27 @@ fn mark_2(text: &mut String) {
     facts_of_delivery(text, &mut run, 1);
     send(&mut run, 1, 0);
     facts_of_delivery(text, &mut run, 2);
+    facts_of_state(text, &run);
+}
+
+fn lost_1(text: &mut String) {
+    let mut run = new_run(2);
+    fact(text, "lost", [1]);
+    send(&mut run, 0, 1);
+    facts_of_recover(text, &mut run, 1);
+    facts_of_delivery(text, &mut run, 1);
+    facts_of_state(text, &run);
+}
+
+fn lost_2(text: &mut String) {
+    let mut run = new_run(2);
+    fact(text, "lost", [2]);
+    send(&mut run, 0, 1);
+    checkpoint(&mut run, 0);
+    send(&mut run, 0, 1);
+    facts_of_recover(text, &mut run, 1);
+    facts_of_delivery(text, &mut run, 2);
+    facts_of_delivery(text, &mut run, 1);
     facts_of_state(text, &run);
 }
 

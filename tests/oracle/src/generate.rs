@@ -1,11 +1,15 @@
 //! Random traces by seed; the same arguments always give the same bytes.
 //!
 //! What is not given is drawn from the seed: N from 1 to 16, COUNT from 0 to
-//! 400, the mix mostly valid, mixed or damaged (limits for one seed in 64; its
-//! default COUNT is a little above 66,000, as less would not reach a limit).
+//! 400, the mix mostly valid, mixed, recovering or damaged (limits for one seed
+//! in 64; its default COUNT is a little above 66,000, as less would not reach a
+//! limit).
 //!
-//! * valid: nearly every record is accepted. How often each kind comes, and in
-//!   which order messages are taken, is drawn from the seed.
+//! * valid: nearly every record is accepted; the others deliver or lose a
+//!   message that a recovery has lost. How often each kind comes, and in which
+//!   order messages are taken, is drawn from the seed.
+//! * recovering: as valid, with a recovery every few records, and deliveries
+//!   behind each.
 //! * mixed: also records that a run refuses.
 //! * damaged: also records of unused kinds or with fields that must be zero
 //!   and are not, left-over bytes at the end, a bad first byte, an empty
@@ -15,8 +19,9 @@
 //!   on and with two processes or more, uses up the message numbers.
 //!
 //! The rules of a run are not known here, only which message numbers are
-//! probably under way and how many checkpoints a process can have stored at
-//! most. It streams: the memory used does not depend on COUNT.
+//! perhaps under way, no other one being so, and how many checkpoints a process
+//! can have stored at most. It streams: the memory used does not depend on
+//! COUNT.
 
 use std::io::{self, Write};
 
@@ -36,6 +41,7 @@ pub fn write_trace<W: Write>(plan: Plan, output: W) -> io::Result<()> {
     let mut trace = Trace::new(plan, output);
     match plan.mix {
         Mix::Valid => trace.valid()?,
+        Mix::Recovering => trace.recovering()?,
         Mix::Mixed => trace.mixed()?,
         Mix::Damaged => trace.damaged()?,
         Mix::Limits => trace.limits()?,
@@ -48,6 +54,7 @@ pub fn write_trace<W: Write>(plan: Plan, output: W) -> io::Result<()> {
 #[derive(Clone, Copy, PartialEq)]
 enum Mix {
     Valid,
+    Recovering,
     Mixed,
     Damaged,
     Limits,
@@ -72,8 +79,9 @@ impl Plan {
         let drawn_n = 1 + random.below(16);
         let drawn_records = random.below(401) as u64;
         let drawn_mix = match random.below(64) {
-            0..=23 => Mix::Valid,
-            24..=47 => Mix::Mixed,
+            0..=19 => Mix::Valid,
+            20..=27 => Mix::Recovering,
+            28..=47 => Mix::Mixed,
             48..=62 => Mix::Damaged,
             _ => Mix::Limits,
         };
@@ -103,6 +111,7 @@ impl Plan {
 fn mix_named(name: &str) -> Option<Mix> {
     match name {
         "valid" => Some(Mix::Valid),
+        "recovering" => Some(Mix::Recovering),
         "mixed" => Some(Mix::Mixed),
         "damaged" => Some(Mix::Damaged),
         "limits" => Some(Mix::Limits),
@@ -158,6 +167,16 @@ struct Weights {
     recover: u32,
 }
 
+/// The weights of `recovering`: checkpoints and deliveries enough that messages
+/// are sent before a checkpoint, outlive a rollback and are delivered behind it.
+const RECOVERING: Weights = Weights {
+    checkpoint: 24,
+    send: 32,
+    deliver: 28,
+    lose: 1,
+    recover: 15,
+};
+
 impl Weights {
     fn drawn(random: &mut Random) -> Weights {
         Weights {
@@ -195,10 +214,16 @@ enum Order {
     NewestFirst,
 }
 
+/// A message that is under way, unless a recovery has lost it.
 #[derive(Clone, Copy)]
 struct UnderWay {
     number: u32,
+    sender: u32,
     receiver: u32,
+    /// How many checkpoints its sender can have stored before the send at most.
+    stored_before: u64,
+    /// No recovery came since the send.
+    sure: bool,
 }
 
 /// A trace being written, and the little that is known of the run.
@@ -310,18 +335,35 @@ impl<W: Write> Trace<W> {
     fn send(&mut self, sender: u32, receiver: u32) -> io::Result<u32> {
         self.sends += 1;
         let number = self.sends as u32;
-        self.under_way.push(UnderWay { number, receiver });
+        self.under_way.push(UnderWay {
+            number,
+            sender,
+            receiver,
+            stored_before: self.stored[sender as usize],
+            sure: true,
+        });
         self.record(SEND, sender, receiver)?;
         Ok(number)
     }
 
-    fn deliver(&mut self, message: UnderWay) -> io::Result<()> {
-        self.stored[message.receiver as usize] += 1;
-        self.record(DELIVER, 0, message.number)
+    fn deliver(&mut self, number: u32, receiver: u32) -> io::Result<()> {
+        self.stored[receiver as usize] += 1;
+        self.record(DELIVER, 0, number)
     }
 
+    /// A failed process goes back to a checkpoint, so what it sent since its
+    /// last one is lost. Every other message may be lost or not, and stays in
+    /// the list: it never has fewer than are under way, so no send that is
+    /// counted here is refused, and the numbers stay right.
     fn recover(&mut self, failed: u32) -> io::Result<()> {
-        self.under_way.clear();
+        let stored = &self.stored;
+        self.under_way.retain(|message| {
+            let sender = message.sender as usize;
+            failed >> sender & 1 == 0 || message.stored_before < stored[sender]
+        });
+        for message in &mut self.under_way {
+            message.sure = false;
+        }
         self.record(RECOVER, 0, failed)
     }
 
@@ -343,6 +385,15 @@ impl<W: Write> Trace<W> {
         self.under_way.retain(|message| message.number != number);
     }
 
+    /// Loses every message that may be lost already: the list is exact then.
+    fn lose_unsure(&mut self) -> io::Result<()> {
+        while let Some(place) = self.under_way.iter().position(|message| !message.sure) {
+            let message = self.under_way.remove(place);
+            self.record(LOSE, 0, message.number)?;
+        }
+        Ok(())
+    }
+
     fn any_failed_set(&mut self) -> u32 {
         if self.random.once_in(2) {
             1 << self.any_process()
@@ -352,7 +403,7 @@ impl<W: Write> Trace<W> {
     }
 }
 
-// ------------------------------------------------------------------- valid
+// ---------------------------------------------------- valid and recovering
 
 impl<W: Write> Trace<W> {
     fn valid(&mut self) -> io::Result<()> {
@@ -361,6 +412,11 @@ impl<W: Write> Trace<W> {
             self.valid_record()?;
         }
         Ok(())
+    }
+
+    fn recovering(&mut self) -> io::Result<()> {
+        self.weights = RECOVERING;
+        self.valid()
     }
 
     /// A long trace must not use up the message numbers or the intervals in
@@ -436,7 +492,7 @@ impl<W: Write> Trace<W> {
 
     fn deliver_if_it_may(&mut self, message: UnderWay) -> io::Result<()> {
         if self.may_store(message.receiver) {
-            self.deliver(message)
+            self.deliver(message.number, message.receiver)
         } else {
             self.record(LOSE, 0, message.number)
         }
@@ -462,8 +518,8 @@ impl<W: Write> Trace<W> {
     /// A record that a run refuses, whatever its state (or, for a message
     /// number, very likely).
     fn refused_record(&mut self) -> io::Result<()> {
-        // A send too many can only be had while 64 are under way.
-        if self.under_way.len() == MAX_UNDER_WAY && self.random.once_in(2) {
+        // A send too many can only be had while 64 are surely under way.
+        if self.surely_full() && self.random.once_in(2) {
             let sender = self.any_process();
             let receiver = self.other_process(sender);
             return self.record(SEND, sender, receiver);
@@ -499,6 +555,10 @@ impl<W: Write> Trace<W> {
                 self.record(RECOVER, 0, failed)
             }
         }
+    }
+
+    fn surely_full(&self) -> bool {
+        self.under_way.len() == MAX_UNDER_WAY && self.under_way.iter().all(|message| message.sure)
     }
 
     /// None if all that fit into a record's field are in the run.
@@ -655,8 +715,8 @@ impl<W: Write> Trace<W> {
         // second brings nothing newer.
         let first = self.send(other, process)?;
         let quiet = self.send(other, process)?;
-        self.record(DELIVER, 0, first)?;
         self.take_number(first);
+        self.deliver(first, process)?;
 
         let forced_last = self.random.once_in(2);
         let checkpoints = CHECKPOINTS - forced_last as u64;
@@ -670,16 +730,16 @@ impl<W: Write> Trace<W> {
         if forced_last {
             // Own entry 65,534 may still store, also when forced.
             let forcing = self.send_a_forcing_message(other, process)?;
-            self.record(DELIVER, 0, forcing)?;
             self.take_number(forcing);
+            self.deliver(forcing, process)?;
         }
 
         self.record(CHECKPOINT, process, 0)?;
         let forcing = self.send_a_forcing_message(other, process)?;
-        self.record(DELIVER, 0, forcing)?;
-        self.record(DELIVER, 0, quiet)?;
+        self.deliver(forcing, process)?;
         self.take_number(quiet);
-        self.record(DELIVER, 0, forcing)?;
+        self.deliver(quiet, process)?;
+        self.deliver(forcing, process)?;
         self.record(LOSE, 0, forcing)?;
         self.take_number(forcing);
         self.record(CHECKPOINT, process, 0)?;
@@ -690,10 +750,8 @@ impl<W: Write> Trace<W> {
         self.record(CHECKPOINT, process, 0)?;
         self.checkpoint(other)?;
         let newer = self.send(other, process)?;
-        self.record(DELIVER, 0, newer)?;
         self.take_number(newer);
-        self.stored[process as usize] = CHECKPOINTS;
-        Ok(())
+        self.deliver(newer, process)
     }
 
     /// Afterwards `process` has sent, and a message from `other` is under way
@@ -706,6 +764,7 @@ impl<W: Write> Trace<W> {
 
     /// Sends until number 1,000,000 is used, and past it.
     fn all_message_numbers(&mut self) -> io::Result<()> {
+        self.lose_unsure()?;
         while self.sends < MESSAGE_NUMBERS {
             // The last 64 stay under way.
             let last = self.sends + MAX_UNDER_WAY as u64 >= MESSAGE_NUMBERS;
@@ -740,10 +799,10 @@ impl<W: Write> Trace<W> {
         let surely = self.stored[message.receiver as usize] + 1 < CHECKPOINTS;
         match self.random.below(4) {
             0 | 1 => self.record(LOSE, 0, message.number),
-            _ if surely => self.deliver(message),
+            _ if surely => self.deliver(message.number, message.receiver),
             2 => self.record(LOSE, 0, message.number),
             _ => {
-                self.deliver(message)?;
+                self.deliver(message.number, message.receiver)?;
                 self.record(LOSE, 0, message.number)
             }
         }

@@ -328,8 +328,7 @@ impl Run {
             // together with the others that are no longer pinned.
             self.delete_unpinned(i, &mut deletions);
         }
-        // "Every message under way is lost."
-        self.under_way = 0;
+        self.lose_sent_after(line);
         Ok(Recovered {
             rolled_back,
             deletions: deletions.count,
@@ -506,6 +505,23 @@ impl Run {
                     .map_or(NO_PIN, |checkpoint| checkpoint.index);
             }
         }
+    }
+
+    /// Note 2: "a recovery loses a message exactly if its sender's entry in the
+    /// carried vector is above the sender's index in the line; the others
+    /// remain under way with their numbers." They move up, in their order.
+    fn lose_sent_after(&mut self, line: &[u16]) {
+        let mut staying = 0;
+        for place in 0..self.under_way {
+            let sender = self.messages[place].sender as usize;
+            if self.messages[place].carried[sender] <= line[sender] {
+                if staying != place {
+                    self.messages[staying] = self.messages[place];
+                }
+                staying += 1;
+            }
+        }
+        self.under_way = staying;
     }
 
     /// "Recover and line write n indexes into a lent line list; the rest of it

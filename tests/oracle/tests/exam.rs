@@ -151,10 +151,87 @@ fn case_9() {
         })
     );
     assert_eq!(written[..2], [1, 0]);
-    assert_eq!(run.deliver(1, &mut [0; DELETIONS]), Err(8));
     // "Others stay live, mark included."
     assert!(run.sent_mark(0));
     assert!(!run.sent_mark(1));
+    // Note 2: "Case 9 changes: deliver 1 is then accepted."
+    let answer = run.deliver(1, &mut [0; DELETIONS]);
+    assert_eq!(
+        answer,
+        Ok(Delivered {
+            forced: None,
+            deletions: 0,
+            rose: 0b01
+        })
+    );
+    assert_eq!(run.deliver(1, &mut [0; DELETIONS]), Err(8));
+}
+
+fn numbers_under_way(run: &Run) -> Vec<u32> {
+    let messages = run.under_way().iter();
+    messages.map(|message| message.number).collect()
+}
+
+/// Note 2: a message is lost "exactly if its sender's entry in the carried
+/// vector is above the sender's index in the line".
+#[test]
+fn what_a_recovery_loses() {
+    let mut run = Run::start(3).unwrap();
+    // In 0's intervals 1, 2 and 3, and in 1's and 2's interval 1.
+    assert_eq!(run.send(0, 1), Ok(1));
+    assert_eq!(run.send(2, 0), Ok(2));
+    run.checkpoint(0, &mut [0; 18]).unwrap();
+    assert_eq!(run.send(0, 1), Ok(3));
+    assert_eq!(run.send(1, 0), Ok(4));
+    run.checkpoint(0, &mut [0; 18]).unwrap();
+    assert_eq!(run.send(0, 1), Ok(5));
+    assert_eq!(run.send(0, 2), Ok(6));
+    let sent = run.under_way().to_vec();
+
+    // 0 goes back to checkpoint 2, which ends interval 2: what was sent in
+    // interval 2 stays, and so does all that is under way to 0.
+    let mut line = [0; 3];
+    run.recover(0b001, &mut [0; 18], &mut line).unwrap();
+    assert_eq!(line, [2, 1, 1]);
+    assert_eq!(run.under_way(), &sent[..4]);
+    // The numbers of the lost ones are not used again.
+    assert_eq!(run.send(0, 1), Ok(7));
+    assert_eq!(run.lose(6), Err(8));
+
+    // 1 goes back to its start: what it sent is lost, what is under way to it
+    // is not.
+    run.recover(0b010, &mut [0; 18], &mut line).unwrap();
+    assert_eq!(line, [3, 0, 1]);
+    assert_eq!(numbers_under_way(&run), [1, 2, 3, 7]);
+
+    // A message that was received does not come back with its receipt undone.
+    assert!(run.deliver(3, &mut [0; 18]).is_ok());
+    run.recover(0b011, &mut [0; 18], &mut line).unwrap();
+    assert_eq!(line, [2, 0, 1]);
+    assert_eq!(numbers_under_way(&run), [1, 2]);
+    common::assert_sound(&run);
+}
+
+/// Places freed by a recovery are used again, those of survivors are not.
+#[test]
+fn survivors_count_against_64() {
+    let mut run = Run::start(2).unwrap();
+    for _ in 0..40 {
+        run.send(0, 1).unwrap();
+    }
+    for _ in 0..24 {
+        run.send(1, 0).unwrap();
+    }
+    run.recover(0b10, &mut [0; 8], &mut [0; 2]).unwrap();
+    assert_eq!(run.under_way().len(), 40);
+    for number in 65..=88 {
+        assert_eq!(run.send(0, 1), Ok(number));
+    }
+    assert_eq!(run.send(1, 0), Err(9));
+    assert_eq!(run.lose(64), Err(8));
+    assert!(run.deliver(40, &mut [0; 8]).is_ok());
+    assert_eq!(run.send(1, 0), Ok(89));
+    common::assert_sound(&run);
 }
 
 #[test]
@@ -336,7 +413,11 @@ fn the_exam_text() {
         .lines()
         .all(|line| !line.is_empty() && line.trim() == line));
     assert!(!text.contains("  "));
-    let (cases, mark) = text.split_once("mark ").unwrap();
+    let (cases, rest) = text.split_once("mark ").unwrap();
+    let parts: Vec<&str> = rest.split("lost ").collect();
+    let [mark, lost_1, lost_2] = parts[..] else {
+        panic!("one mark and two cases of lost messages");
+    };
     let cases: Vec<&str> = cases.split("case ").skip(1).collect();
     assert_eq!(cases.len(), 10);
 
@@ -370,7 +451,11 @@ fn the_exam_text() {
     assert!(cases[7].starts_with("8\ndeliver 1: 0\nrisen 1: 1\ndeliver 2: 0\nrisen 2: 3\nvector "));
     holds(8, &["line 1: 0 0 0", "line 2: 1 0 0", "line 4: 1 1 0"]);
     assert!(cases[8]
-        .starts_with("9\nwritten 2: 1 0\nrecover 2: 1 0\ndeliver 1: 8\nrisen 1: 0\nvector 0: "));
+        .starts_with("9\nwritten 2: 1 0\nrecover 2: 1 0\ndeliver 1: 0\nrisen 1: 1\nvector 0: "));
+    holds(
+        9,
+        &["vector 1: 1 1", "pins 1: 0 0", "line 1: 0 0", "line 2: 1 0"],
+    );
     holds(
         10,
         &["start 0: 1", "start 1: 0", "start 16: 0", "start 17: 1"],
@@ -406,6 +491,19 @@ fn the_exam_text() {
         "2\ndeliver 1: 0\nrisen 1: 1\ndeliver 2: 0\nrisen 2: 0\n\
          vector 0: 1 0\npins 0: 0 -\nkept 0: 0\nvector 1: 1 1\npins 1: 0 0\nkept 1: 0\n\
          line 1: 0 0\nline 2: 1 0\nline 3: 0 0\n"
+    );
+    assert_eq!(
+        lost_1,
+        "1\nwritten 1: 0 1\nrecover 1: 1 0\ndeliver 1: 8\nrisen 1: 0\n\
+         vector 0: 1 0\npins 0: 0 -\nkept 0: 0\nvector 1: 0 1\npins 1: - 0\nkept 1: 0\n\
+         line 1: 0 1\nline 2: 1 0\nline 3: 0 0\n"
+    );
+    assert_eq!(
+        lost_2,
+        "2\nwritten 1: 1 1\nrecover 1: 1 0\n\
+         deliver 2: 8\nrisen 2: 0\ndeliver 1: 0\nrisen 1: 1\n\
+         vector 0: 2 0\npins 0: 1 -\nkept 0: 1\nvector 1: 1 1\npins 1: 0 0\nkept 1: 0\n\
+         line 1: 1 1\nline 2: 2 0\nline 3: 1 0\n"
     );
 }
 

@@ -38,6 +38,11 @@ struct History {
     lists: Vec<Vec<Event>>,
     /// The receiver that each send named, by number from 1.
     receivers: Vec<usize>,
+    /// The numbers under way, ascending: sent, and neither received nor lost,
+    /// nor is the send gone from its list.
+    under_way: Vec<u32>,
+    /// The last number used when a process last rolled back.
+    sent_before_rollback: u32,
 }
 
 impl History {
@@ -50,6 +55,8 @@ impl History {
         History {
             lists: vec![vec![first]; n],
             receivers: Vec::new(),
+            under_way: Vec::new(),
+            sent_before_rollback: 0,
         }
     }
 
@@ -76,6 +83,7 @@ impl History {
         self.receivers.push(receiver);
         let number = self.receivers.len() as u32;
         self.lists[sender].push(Event::Sent(number));
+        self.under_way.push(number);
         number
     }
 
@@ -88,6 +96,15 @@ impl History {
             assert_eq!(self.add_checkpoint(receiver), index);
         }
         self.lists[receiver].push(Event::Received(number));
+        self.no_longer_under_way(number);
+    }
+
+    fn no_longer_under_way(&mut self, number: u32) {
+        self.under_way.retain(|other| *other != number);
+    }
+
+    fn stands(&self, wanted: Event) -> bool {
+        self.lists.iter().flatten().any(|event| *event == wanted)
     }
 
     /// "A checkpoint in a list is kept until a pair handed out after it was
@@ -126,6 +143,14 @@ impl History {
                 rolled_back += 1;
             }
         }
+        // Note 2, by the history alone: "The surviving history counts these
+        // sends", and the others are gone from their lists.
+        let mut under_way = std::mem::take(&mut self.under_way);
+        under_way.retain(|number| self.stands(Event::Sent(*number)));
+        self.under_way = under_way;
+        if rolled_back > 0 {
+            self.sent_before_rollback = self.receivers.len() as u32;
+        }
         rolled_back
     }
 
@@ -153,14 +178,20 @@ impl History {
         states
     }
 
-    /// What the live state of process i knows of each process: entry f of its
-    /// vector. "Checkpoint a of f comes causally before a state exactly if a is
-    /// less than that state's entry f", so it is how many of them do.
+    /// What the live state of process i knows of each process.
     fn known(&self, i: usize) -> Vec<u16> {
+        self.known_at(i, self.lists[i].len())
+    }
+
+    /// What process i knows of each process at a place of its list: entry f of
+    /// its vector there. "Checkpoint a of f comes causally before a state
+    /// exactly if a is less than that state's entry f", so it is how many of
+    /// them do.
+    fn known_at(&self, i: usize, place: usize) -> Vec<u16> {
         // How many events of each list come causally before the state, and
         // those of them that are still to be followed back.
         let mut before = vec![0; self.lists.len()];
-        let mut to_follow = vec![(i, self.lists[i].len())];
+        let mut to_follow = vec![(i, place)];
         while let Some((p, count)) = to_follow.pop() {
             for place in before[p]..count {
                 if let Event::Received(number) = self.lists[p][place] {
@@ -240,9 +271,26 @@ fn for_every_line(states: &[Vec<State>], mut visit: impl FnMut(&[State])) {
     }
 }
 
+/// What is under way, by the history and by the state: each of them stands as
+/// sent in its sender's list, and none as received.
+fn check_messages(run: &Run, history: &History) {
+    let numbers: Vec<u32> = run.under_way().iter().map(|x| x.number).collect();
+    assert_eq!(history.under_way, numbers, "by history and by state");
+    for message in run.under_way() {
+        let (sender, sent_at) = history.find(Event::Sent(message.number));
+        assert_eq!(sender, message.sender as usize);
+        let receiver = history.receivers[message.number as usize - 1];
+        assert_eq!(receiver, message.receiver as usize);
+        assert!(!history.stands(Event::Received(message.number)));
+        let known = history.known_at(sender, sent_at);
+        assert_eq!(message.carried[..run.count()], known);
+    }
+}
+
 /// The demands on the reported lines and on what is kept.
 fn check(run: &Run, history: &History) {
     let n = run.count();
+    check_messages(run, history);
     let states: Vec<Vec<State>> = (0..n).map(|i| history.states(i)).collect();
     let messages = history.received();
 
@@ -331,6 +379,10 @@ struct Met {
     /// Deliveries by which none rose, and those that forced a checkpoint.
     no_news: usize,
     forced: usize,
+    /// Recoveries that lost a message and left one under way, and deliveries of
+    /// messages with a rollback since they were sent.
+    sifted: usize,
+    outlived: usize,
 }
 
 impl Met {
@@ -339,7 +391,18 @@ impl Met {
         assert_eq!(self.risen, everyone, "every entry rose somewhere");
         assert!(self.no_news > 100, "met {} times", self.no_news);
         assert!(self.forced > 100, "met {} times", self.forced);
+        assert!(self.sifted > 100, "met {} times", self.sifted);
+        assert!(self.outlived > 300, "met {} times", self.outlived);
     }
+}
+
+/// Half of the time a number that is under way, else any late one.
+fn any_number(history: &History, random: &mut Random) -> u32 {
+    let under_way = &history.under_way;
+    if !under_way.is_empty() && random.below(2) == 0 {
+        return under_way[random.below(under_way.len())];
+    }
+    history.receivers.len().saturating_sub(random.below(5)) as u32
 }
 
 /// One call, drawn at random (some are refused), and its place in the history.
@@ -352,9 +415,7 @@ fn step(
 ) {
     let n = run.count();
     let (p, q) = (random.below(n), random.below(n));
-    let numbers = history.receivers.len();
-    // Mostly a late number, as it is more likely under way.
-    let number = numbers.saturating_sub(random.below(5)) as u32;
+    let number = any_number(history, random);
     let mut deletions = [0; DELETIONS];
     let mut line = [0; LINE];
     match draw_kind(random, weights) {
@@ -369,7 +430,9 @@ fn step(
             }
         }
         2 => {
-            if let Ok(answer) = run.deliver(number, &mut deletions) {
+            let answer = run.deliver(number, &mut deletions);
+            assert_eq!(answer.is_ok(), history.under_way.contains(&number));
+            if let Ok(answer) = answer {
                 let receiver = history.receivers[number as usize - 1];
                 let before = history.known(receiver);
                 history.add_delivery(number, answer.forced);
@@ -379,11 +442,14 @@ fn step(
                 met.risen |= answer.rose;
                 met.no_news += (answer.rose == 0) as usize;
                 met.forced += answer.forced.is_some() as usize;
+                met.outlived += (number <= history.sent_before_rollback) as usize;
             }
         }
         3 => {
-            // "Lose, line and every refused call change nothing."
-            let _ = run.lose(number);
+            // "Lose, line and every refused call change nothing" in the lists.
+            let answer = run.lose(number);
+            assert_eq!(answer.is_ok(), history.under_way.contains(&number));
+            history.no_longer_under_way(number);
         }
         _ => {
             let failed = 1 + random.below((1 << n) - 1) as u32;
@@ -395,7 +461,10 @@ fn step(
                 "recover writes the line that line reports"
             );
             history.delete(&deletions[..2 * answer.deletions]);
+            let before = history.under_way.len();
             assert_eq!(history.recover(&line[..n]), answer.rolled_back);
+            let after = history.under_way.len();
+            met.sifted += (0 < after && after < before) as usize;
         }
     }
 }

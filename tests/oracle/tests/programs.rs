@@ -109,8 +109,15 @@ fn the_same_seed_gives_the_same_trace() {
     );
 }
 
+/// Nothing is refused but messages that a recovery has lost.
+fn assert_valid(numbers: &[u8]) {
+    let (accepted, lost) = (count(numbers, 0), count(numbers, 8));
+    assert_eq!(accepted + lost, numbers.len());
+}
+
 #[test]
 fn valid_traces_are_accepted() {
+    let mut all = Vec::new();
     for n in 1..=16 {
         for seed in 0..6 {
             let (seed, n) = (seed.to_string(), n.to_string());
@@ -118,9 +125,11 @@ fn valid_traces_are_accepted() {
             assert_eq!(trace.len(), 1 + 4 * 500);
             let numbers = numbers(&trace);
             assert_eq!(numbers.len(), 500);
-            assert_eq!(count(&numbers, 0), 500);
+            assert_valid(&numbers);
+            all.extend(numbers);
         }
     }
+    assert!(count(&all, 8) > 0 && count(&all, 8) < all.len() / 50);
 }
 
 #[test]
@@ -128,7 +137,37 @@ fn a_long_valid_trace_is_accepted() {
     for n in ["1", "2", "16"] {
         let trace = generate(&["7", "--n", n, "--records", "1200000", "--mix", "valid"]);
         let numbers = numbers(&trace);
-        assert_eq!(count(&numbers, 0), 1_200_000);
+        assert_eq!(numbers.len(), 1_200_000);
+        assert_valid(&numbers);
+        assert!(count(&numbers, 8) < 12_000);
+    }
+}
+
+/// Messages outlive recoveries and are delivered: of the deliveries accepted,
+/// these are those with a recovery since the send.
+#[test]
+fn recovering_traces_deliver_behind_recoveries() {
+    for n in ["2", "3", "16"] {
+        let trace = generate(&["1", "--n", n, "--records", "20000", "--mix", "recovering"]);
+        let listing = String::from_utf8(oracle(&trace).stdout).unwrap();
+        let (mut recoveries, mut deliveries, mut outlived) = (0, 0, 0);
+        // How many recoveries came before each send, by number.
+        let mut before = vec![0];
+        for (record, line) in trace[1..].chunks_exact(4).zip(listing.lines()) {
+            let record = u32::from_be_bytes(record.try_into().unwrap());
+            let (kind, argument) = (record >> 29, record & 0x1FF_FFFF);
+            match (kind, line.split(' ').nth(1)) {
+                (1, Some("0")) => before.push(recoveries),
+                (2, Some("0")) => {
+                    deliveries += 1;
+                    outlived += (before[argument as usize] < recoveries) as usize;
+                }
+                (4, Some("0")) => recoveries += 1,
+                (2 | 3, Some("8")) => {}
+                _ => assert_eq!(line.split(' ').nth(1), Some("0")),
+            }
+        }
+        assert!(recoveries > 2000 && deliveries > 4000 && 3 * outlived > deliveries);
     }
 }
 

@@ -67,6 +67,10 @@ module _ (r : Ideal) (v : Inv r) where
     pub underway-carries : (f : ℕ) → f < r .n → r .carried m f ≡ r .vector (r .sender m) sentIn f
     underway-carries f hf = v .carries (r .sender m) sentIn m f sentIn-stands hf
 
+    -- Of its sender it carries the number of that interval.
+    pub underway-sent : r .carried m (r .sender m) ≡ sentIn
+    underway-sent = underway-carries (r .sender m) (underway-proper .from) ∙ v .self (r .sender m) sentIn sentIn-le
+
     -- Nothing that it carries lies in the future.
     pub underway-present : (f : ℕ) → f < r .n → r .carried m f ≤ r .own f
     underway-present f hf = omega (arith, underway-carries f hf, v .present (r .sender m) sentIn f hf sentIn-le)

@@ -14,7 +14,7 @@ use Rattle.model.proofs.ideal.Rule.{keeps-in, keeps-out, same-some}
 use Rattle.model.proofs.ideal.Invariant.{Inv, Pinned}
 use Rattle.model.proofs.ideal.Line.{rising, line-back}
 use Rattle.model.proofs.ideal.RecoveredViews.{recovered-n, recovered-pin-none, recovered-pin-stays, recovered-pin-back}
-use Rattle.model.proofs.ideal.RecoveredStates.{within, own-back, own-stays, own-ge, old, knows, live-other, nothing, counted′, positive′, self′, blank′, rises′, present′, knows′, proper′, carries′, arrived′, single′, takes′, marked′, known′, source′, learnt′}
+use Rattle.model.proofs.ideal.RecoveredStates.{within, own-back, own-stays, own-ge, old, knows, live-other, underway′, pending′, counted′, positive′, self′, blank′, rises′, present′, knows′, proper′, carries′, arrived′, single′, takes′, marked′, known′, source′, learnt′}
 
 module _ (r : Ideal) (v : Inv r) (F : Failed) where
   -- The line.
@@ -158,8 +158,8 @@ module _ (r : Ideal) (v : Inv r) (F : Failed) where
     arrived = arrived′ r v F;
     single = single′ r v F;
     takes = takes′ r v F;
-    underway = λ m t. absurd (nothing r v F m t);
-    pending = λ m t. absurd (nothing r v F m t);
+    underway = underway′ r v F;
+    pending = pending′ r v F;
     marked = marked′ r v F;
     known = known′ r v F;
     source = source′ r v F;

@@ -6,7 +6,6 @@ use mathlib.Core.Bool.{Bool, true, false}
 use Prim.Native.Nat.{ℕ, suc, _≤_, _<_}
 use native.Mathlib.Omega.{arith}
 use Rattle.laws.specs.Choice.{by-eq, by-bool}
-use Rattle.laws.specs.Truth.{never-both}
 use Rattle.model.specs.History.{HistoryEvent, stored, sent, received, checkpoints, upTo}
 use Rattle.model.proofs.ideal.Places.{Stands}
 use Rattle.model.proofs.ideal.Times.{times, times-upTo}
@@ -14,6 +13,7 @@ use Rattle.model.proofs.ideal.Cuts.{upTo-out, upTo-in, upTo-live, check
 use Rattle.model.proofs.ideal.Run.{Ideal, Failed, line, rolled, recovered}
 use Rattle.model.proofs.ideal.Invariant.{Inv, Proper, SentOf, Told}
 use Rattle.model.proofs.ideal.Line.{rising, interval, line-back, line-live, line-le, line-knows, line-sent}
+use Rattle.model.proofs.ideal.Messages.{sentIn, sentIn-stands, underway-sent}
 use Rattle.model.proofs.ideal.RecoveredViews.{recovered-own-back, recovered-own-stays, recovered-live-own, recovered-live, recovered-vector, recovered-mark-stays, recovered-transit, recovered-events-back, recovered-events-stays}
 
 module _ (r : Ideal) (v : Inv r) (F : Failed) where
@@ -184,9 +184,16 @@ module _ (r : Ideal) (v : Inv r) (F : Failed) where
   pub takes′ : (p g m f : ℕ) → Stands (received m) g (r′ .events p) → f < r .n → r .carried m f ≤ r′ .vector p g f
   takes′ p g m f s hf = let w = before p g s in rw (old p g f (w .1)) (v .takes p g m f (w .0) hf)
 
-  -- No message is under way.
-  pub nothing : (m : ℕ) → r′ .transit m ≡ true → ⊥
-  nothing m t = never-both (r′ .transit m) t (recovered-transit r F m)
+  -- A message under way was sent up to its sender's member, so its send survives.
+  pub underway′ : (m : ℕ) → r′ .transit m ≡ true → SentOf r′ m
+  unfolding recovered
+  underway′ m t =
+      let z = recovered-transit r F m t in
+      (sentIn r v m (z .0), after (r .sender m) (sentIn r v m (z .0)) (sentIn-stands r v m (z .0)) (rw (underway-sent r v m (z .0)) at (z .1)))
+
+  -- None that is under way was received.
+  pub pending′ : (m : ℕ) → r′ .transit m ≡ true → (p g : ℕ) → Stands (received m) g (r′ .events p) → ⊥
+  pending′ m t p g s = v .pending m (recovered-transit r F m t .0) p g (before p g s .0)
 
   -- A process that has sent in its current interval has its mark set.
   pub marked′ : (p m : ℕ) → Stands (sent m) (r′ .own p) (r′ .events p) → r′ .mark p ≡ true

@@ -5,12 +5,13 @@ use mathlib.Core.Option.{none}
 use Prim.Native.Nat.{ℕ, suc, _≤_}
 use native.Mathlib.Omega.{arith}
 use lib.Dec.{ltb}
-use borrow.Author.Tests.{eq-eqb, ne-eqb}
+use borrow.Author.Tests.{eq-eqb, ne-eqb, leb-true}
 use Rattle.laws.specs.Choice.{by-bool}
 use Rattle.laws.specs.Search.{latest}
+use Rattle.laws.specs.Truth.{and-left, and-right}
 use Rattle.laws.specs.Update.{upds}
 use Rattle.model.specs.History.{upTo}
-use Rattle.model.proofs.ideal.Run.{Ideal, Failed, keeps, line, rolled, ownAfter, vectorAfter, pinAfter, recovered}
+use Rattle.model.proofs.ideal.Run.{Ideal, Failed, keeps, line, rolled, ownAfter, vectorAfter, pinAfter, outlives, recovered}
 
 module _ (r : Ideal) (F : Failed) where
   -- As many processes.
@@ -88,10 +89,10 @@ module _ (r : Ideal) (F : Failed) where
   unfolding recovered pinAfter
   recovered-pin-back p f e d = rw (eq-eqb (vectorAfter r F p (ownAfter r F p) f) (ownAfter r F f) d) (rw e)
 
-  -- Every message under way is lost; nothing else changes about messages.
-  pub recovered-transit : (m : ℕ) → recovered r F .transit m ≡ false
-  unfolding recovered
-  recovered-transit m = refl
+  -- A message under way was under way, and was sent up to its sender's member; nothing else changes about messages.
+  pub recovered-transit : (m : ℕ) → recovered r F .transit m ≡ true → (r .transit m ≡ true) × (r .carried m (r .sender m) ≤ line r F (r .sender m))
+  unfolding recovered outlives
+  recovered-transit m e = (and-left (r .transit m) _ e, leb-true _ _ (and-right (r .transit m) _ e))
 
   -- What messages carry stays.
   pub recovered-carried : (m f : ℕ) → recovered r F .carried m f ≡ r .carried m f

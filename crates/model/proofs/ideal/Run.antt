@@ -5,7 +5,7 @@ use mathlib.Core.Bool.{Bool, true, false, _&&_, _||_, not}
 use mathlib.Core.List.{List, [], _∷_, _++_}
 use mathlib.Core.Option.{Option, none, some}
 use Prim.Native.Nat.{ℕ, suc, max}
-use lib.Dec.{eqb, ltb}
+use lib.Dec.{eqb, ltb, leb}
 use Rattle.laws.specs.Choice.{pick}
 use Rattle.laws.specs.Search.{anyBelow, allBelow, latest}
 use Rattle.laws.specs.Update.{upd}
@@ -183,7 +183,11 @@ pinAfter r F p f = pick (eqb (vectorAfter r F p (ownAfter r F p) f) (ownAfter r 
     (r .pin p f))
     none
 
--- Recover: each process whose member is stored goes back to it; every message under way is lost.
+-- A message outlives a recovery: it is under way, and was sent in an interval up to its sender's member.
+unfoldable pub outlives : Ideal → Failed → ℕ → Bool
+outlives r F m = r .transit m && leb (r .carried m (r .sender m)) (line r F (r .sender m))
+
+-- Recover: each process whose member is stored goes back to it; the messages that were sent up to the line stay under way.
 unfoldable pub recovered : Ideal → Failed → Ideal
 recovered r F = record {
   n = r .n;
@@ -191,7 +195,7 @@ recovered r F = record {
   vector = vectorAfter r F;
   mark = λ p. pick (rolled r F p) false (r .mark p);
   pin = pinAfter r F;
-  transit = λ m. false;
+  transit = outlives r F;
   carried = r .carried;
   sender = r .sender;
   receiver = r .receiver;

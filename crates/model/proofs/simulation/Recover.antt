@@ -7,22 +7,24 @@ use Prim.Native.Nat.{ℕ, suc, _≤_, _<_}
 use native.Mathlib.Omega.{arith}
 use lib.Dec.{eqb, ltb, leb, leb·suc-zero}
 use borrow.Author.Tests.{lt-ltb, leb-true, leb-false}
-use Rattle.laws.specs.Choice.{by-bool}
+use Rattle.laws.specs.Choice.{by-bool, not-ltb}
 use Rattle.laws.specs.Lists.{select, lastOf, gather}
 use Rattle.laws.specs.Search.{latest, latest-out}
 use Rattle.laws.specs.Tables.{table-same, gather-same}
 use Rattle.laws.specs.Truth.{and-left, and-no-right}
+use Rattle.model.specs.declared.Interval.{Interval}
 use Rattle.model.specs.declared.Pin.the-variants.{Nothing}
 use Rattle.model.specs.declared.Checkpoint.{Checkpoint}
 use Rattle.model.specs.Words.{places, entry, below, named, process, withMessages, failed}
 use Rattle.model.specs.Steps as steps
-use Rattle.model.specs.Steps.{listed, withProcesses, latestPin, movedPin, pinsAfter, notLost, rolledBack, stillUnderWay, recoverState, deletedAt, recoverDeletions}
-use Rattle.model.proofs.ideal.Run.{Ideal, Failed, keeps, line, rolled, ownAfter, vectorAfter, pinAfter, recovered}
+use Rattle.model.specs.Steps.{listed, withProcesses, latestPin, movedPin, pinsAfter, notLost, rolledBack, lostBy, stillUnderWay, recoverState, deletedAt, recoverDeletions}
+use Rattle.model.proofs.ideal.Run.{Ideal, Failed, keeps, line, rolled, ownAfter, vectorAfter, pinAfter, outlives, recovered}
 use Rattle.model.proofs.ideal.Invariant.{Inv}
+use Rattle.model.proofs.ideal.Messages.{underway-proper}
 use Rattle.model.proofs.ideal.Rule.{keeps-in, keeps-out}
-use Rattle.model.proofs.simulation.View.{passing, pinOf, pinsOf, checkpointOf, keptOf, processOf, messagesOf, stateOf}
+use Rattle.model.proofs.simulation.View.{passing, pinOf, pinsOf, checkpointOf, keptOf, processOf, messageOf, messagesOf, stateOf}
 use Rattle.model.proofs.simulation.Passing.{passing-same, passing-none, select-passing, last-passing}
-use Rattle.model.proofs.simulation.Reads.{entry-is, entry-past, pin-is, pin-past, count-is, last-is, process-is}
+use Rattle.model.proofs.simulation.Reads.{entry-is, entry-past, pin-is, pin-past, count-is, last-is, underWay-is, process-is}
 use Rattle.model.proofs.simulation.Rows.{process-eq, named-is, checkpoint-same, settled-kept}
 use Rattle.model.proofs.simulation.Stepping.{all-parts-messages}
 use Rattle.model.proofs.simulation.Lines.{member-index, rolled-is}
@@ -150,9 +152,21 @@ module _ (r : Ideal) (v : Inv r) (few : r .n ≤ places) (F : ℕ) where
         (λ k h. rw (named-is r′ p (checkpointOf r p k) few-after) (ap (λ (b : Bool). keeps r p k && not b) (gone k h)))
         (λ k h q. refl)))
 
-  recover-messages : [] ≡ messagesOf r′
-  unfolding messagesOf recovered
-  recover-messages = sym (passing-none (suc (r .last)) (λ m. false) _ (λ m h. refl))
+  -- The state keeps a message under way exactly if it was sent up to its sender's member.
+  still-is : (m : ℕ) → r .transit m ≡ true → not (lostBy (stateOf r) F (messageOf r m)) ≡ leb (r .carried m (r .sender m)) (line r (failed F) (r .sender m))
+  unfolding lostBy messageOf
+  still-is m e =
+      let from = underway-proper r v m e .from in
+      ap (λ (sent-in : Interval). not (ltb (steps.member (stateOf r) F (r .sender m) .index .0) (sent-in .0))) (entry-is (r .n) (r .carried m) (r .sender m) few from)
+      ∙ ap (λ (k : ℕ). not (ltb k (r .carried m (r .sender m)))) (member-index r v few F (r .sender m) from)
+      ∙ not-ltb (line r (failed F) (r .sender m)) (r .carried m (r .sender m))
+
+  recover-messages : stillUnderWay (stateOf r) F ≡ messagesOf r′
+  unfolding stillUnderWay messagesOf messageOf recovered outlives
+  recover-messages = rw (underWay-is r) (select-passing (λ x. not (lostBy (stateOf r) F x)) (suc (r .last)) (r .transit) (messageOf r)
+      ∙ passing-same (suc (r .last)) _ _ _ _
+      (λ m lt. by-bool (r .transit m) (λ e. rw (e, still-is m e)) (λ e. rw e))
+      (λ m lt e. refl))
 
   recover-n : r′ .n ≡ r .n
   unfolding recovered
@@ -163,10 +177,10 @@ module _ (r : Ideal) (v : Inv r) (few : r .n ≤ places) (F : ℕ) where
   recover-last = refl
 
   pub recover-is : recoverState (stateOf r) F ≡ stateOf r′
-  unfolding recoverState stillUnderWay
+  unfolding recoverState
   recover-is =
-      ap (λ (c : ℕ). withMessages (withProcesses c (steps.recovered (stateOf r) F) (stateOf r)) [] (stateOf r .last)) (count-is r)
-      ∙ all-parts-messages r r′ recover-n (steps.recovered (stateOf r) F) [] (stateOf r .last) recover-process recover-messages (last-is r ∙ sym recover-last)
+      ap (λ (c : ℕ). withMessages (withProcesses c (steps.recovered (stateOf r) F) (stateOf r)) (stillUnderWay (stateOf r) F) (stateOf r .last)) (count-is r)
+      ∙ all-parts-messages r r′ recover-n (steps.recovered (stateOf r) F) (stillUnderWay (stateOf r) F) (stateOf r .last) recover-process recover-messages (last-is r ∙ sym recover-last)
 
   pub recover-deletions : recoverDeletions (stateOf r) F ≡ gather (r .n) (λ p. listed p (passing (r .own p) (λ k. keeps r p k && not (keeps r′ p k)) (checkpointOf r p)))
   unfolding recoverDeletions

@@ -6,12 +6,12 @@ use Prim.Native.Nat.{ℕ, suc, _≤_, _<_}
 use native.Mathlib.Omega.{arith}
 use lib.ListN.{length}
 use Rattle.laws.specs.Choice.{by-bool, by-eq}
-use Rattle.laws.specs.Truth.{never-both}
+use Rattle.laws.specs.Truth.{never-both, and-left}
 use Rattle.laws.specs.Tests.{countBelow}
 use Rattle.laws.specs.Update.{upd, upd-same, upd-other}
 use Rattle.laws.specs.Counting.{count-none, count-mono}
 use Rattle.model.specs.Words.{places, mostUnderWay, mostMessages}
-use Rattle.model.proofs.ideal.Run.{Ideal, Failed, begin, checkpointed, sending, forces, takenBy, takenIn, delivered, lost, recovered}
+use Rattle.model.proofs.ideal.Run.{Ideal, Failed, begin, checkpointed, sending, forces, takenBy, takenIn, delivered, lost, outlives, recovered}
 use Rattle.model.proofs.simulation.View.{messageOf, messagesOf, Limits}
 use Rattle.model.proofs.simulation.Passing.{length-passing}
 
@@ -69,10 +69,10 @@ pub limits-lose : (r : Ideal) (m : ℕ) → Limits r → Limits (lost r m)
 unfolding lost
 limits-lose r m fit = limits-less r (lost r m) fit refl refl (λ j e. taken-off (r .transit) m j e)
 
--- A recovery loses every message.
+-- A recovery puts no message under way.
 pub limits-recover : (r : Ideal) (F : Failed) → Limits r → Limits (recovered r F)
-unfolding recovered
-limits-recover r F fit = limits-less r (recovered r F) fit refl refl (λ m e. never-both false e refl)
+unfolding recovered outlives
+limits-recover r F fit = limits-less r (recovered r F) fit refl refl (λ m e. and-left (r .transit m) _ e)
 
 -- A send adds one message and one number, where both had room.
 pub limits-send : (r : Ideal) (i j : ℕ) → Limits r → length (messagesOf r) < mostUnderWay → r .last < mostMessages → Limits (sending r i j)

@@ -51,7 +51,7 @@ pub record Step (n : ℕ) (h : Surviving) (r : Ideal) (c : Call) : Type 0 where
   pub lists : listsAfter n h c (call (stateOf r) c .reply) ≡ stepped r c .events
   pub sends : sendsAfter h c ≡ stepped r c .last
   pub receiver : receiverAfter h c ≡ stepped r c .receiver
-  pub underway : underwayAfter h c ≡ stepped r c .transit
+  pub underway : underwayAfter n h (listsAfter n h c (call (stateOf r) c .reply)) c ≡ stepped r c .transit
   pub memory : Memory (stepped r c)
   pub hands-out : HandsOut (call (stateOf r) c .reply) r (stepped r c)
   pub hands-over : HandsOver (call (stateOf r) c .reply) (lentDeletions c) r (stepped r c)

@@ -11,6 +11,7 @@ use lib.Dec.{ltb}
 use lib.ListN.{getD}
 use borrow.Author.Tests.{ltb-true, ltb-false}
 use Rattle.laws.specs.Choice.{by-bool}
+use Rattle.model.specs.History.{Lists}
 use Rattle.model.specs.Calls.{checkpoint, send, deliver, Reply}
 use Rattle.model.specs.Survival.{Surviving, added, forcedFirst, cut, listsAfter, sendsAfter, receiverAfter, underwayAfter}
 use Rattle.model.proofs.ideal.Run.{Ideal, Failed, checkpointed, sending, forces, takenIn, takenBy, delivered, recovered, rolled, line}
@@ -38,13 +39,13 @@ module _ (n : ℕ) (h : Surviving) (r : Ideal) (g : Agrees h r) where
   unfolding receiverAfter sending
   send-receiver i j = rw (g .sends, g .receiver, add-one)
 
-  pub send-underway : (i j : ℕ) → underwayAfter h (send i j) ≡ sending r i j .transit
+  pub send-underway : (lists : Lists) (i j : ℕ) → underwayAfter n h lists (send i j) ≡ sending r i j .transit
   unfolding underwayAfter sending
-  send-underway i j = rw (g .sends, g .underway, add-one)
+  send-underway lists i j = rw (g .sends, g .underway, add-one)
 
-  pub deliver-underway : (m : ℕ) (deleted : List ℕ) → underwayAfter h (deliver m deleted) ≡ delivered r m .transit
+  pub deliver-underway : (lists : Lists) (m : ℕ) (deleted : List ℕ) → underwayAfter n h lists (deliver m deleted) ≡ delivered r m .transit
   unfolding underwayAfter delivered takenIn takenBy checkpointed
-  deliver-underway m deleted = rw (g .underway) (by-bool (forces r m) (λ e. rw e) (λ e. rw e))
+  deliver-underway lists m deleted = rw (g .underway) (by-bool (forces r m) (λ e. rw e) (λ e. rw e))
 
   -- Deliver m: the answer's value says whether a checkpoint was forced.
   pub deliver-forced : (m : ℕ) (deleted : List ℕ) (a : Reply) (k : ℕ) → forces r m ≡ true → a .report .value ≡ some k → listsAfter n h (deliver m deleted) a ≡ delivered r m .events

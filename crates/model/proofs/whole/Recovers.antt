@@ -1,6 +1,6 @@
 -- An accepted recover call, as a step of the run as functions.
 -- Assumes nothing.
-use mathlib.Core.Path.{_≡_, refl, _∙_}
+use mathlib.Core.Path.{_≡_, _∙_, fun-ext}
 use mathlib.Core.List.{List}
 use mathlib.Core.Option.{none}
 use Prim.Native.Nat.{ℕ, _≤_, _<_}
@@ -21,6 +21,7 @@ use Rattle.model.proofs.ideal.Invariant.{Inv}
 use Rattle.model.proofs.ideal.Memory.{Memory, recovered-memory}
 use Rattle.model.proofs.ideal.Keeping.{recovered-moved}
 use Rattle.model.proofs.ideal.Recovered.{recovered-inv}
+use Rattle.model.proofs.ideal.Outliving.{still-sent}
 use Rattle.model.proofs.simulation.View.{stateOf, Limits}
 use Rattle.model.proofs.simulation.SoundCalls.{recover-run}
 use Rattle.model.proofs.simulation.SoundLimits.{limits-recover}
@@ -78,9 +79,13 @@ module _ (n : ℕ) (h : Surviving) (r : Ideal) (v : Inv r) (fit : Limits r) (mem
   recover-cut = rw (← size, g .lists) (recover-lists r v (failed F) (call (stateOf r) (recover F deleted lent) .reply .line) written-line)
 
   recover-same : (sendsAfter h (recover F deleted lent) ≡ recovered r (failed F) .last) × (receiverAfter h (recover F deleted lent) ≡ recovered r (failed F) .receiver)
-      × (underwayAfter h (recover F deleted lent) ≡ recovered r (failed F) .transit)
-  unfolding sendsAfter receiverAfter underwayAfter recovered
-  recover-same = (g .sends, g .receiver, refl)
+  unfolding sendsAfter receiverAfter recovered
+  recover-same = (g .sends, g .receiver)
+
+  -- A message that was under way still is exactly if its send still stands in the lists.
+  recover-underway : underwayAfter n h (listsAfter n h (recover F deleted lent) (call (stateOf r) (recover F deleted lent) .reply)) (recover F deleted lent) ≡ recovered r (failed F) .transit
+  unfolding underwayAfter
+  recover-underway = rw (recover-cut, g .underway, ← size) (fun-ext (still-sent r v (failed F)))
 
   pub recover-step : Step n h r (recover F deleted lent)
   unfolding stepped
@@ -92,7 +97,7 @@ module _ (n : ℕ) (h : Surviving) (r : Ideal) (v : Inv r) (fit : Limits r) (mem
     lists = recover-cut;
     sends = recover-same .0;
     receiver = recover-same .1;
-    underway = recover-same .2;
+    underway = recover-underway;
     memory = recovered-memory r (failed F) memory;
     hands-out = recover-hands-out;
     hands-over = recover-hands-over;

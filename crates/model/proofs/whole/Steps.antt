@@ -11,6 +11,7 @@ use lib.ListN.{length}
 use Rattle.laws.specs.Choice.{by-bool}
 use Rattle.laws.specs.Search.{anyBelow}
 use Rattle.model.specs.Words.{places, process, live}
+use Rattle.model.specs.History.{Lists}
 use Rattle.model.specs.Steps.{checkpointDeletions, deliverDeletions}
 use Rattle.model.specs.Steps as steps
 use Rattle.model.specs.Outcomes.{pairs, written, checkpointOutcome, checkpointReport, sendOutcome, sendReport, message, deliverAnswer, deliverOutcome, deliverReport, loseOutcome, loseReport, lineOutcome, lineReport}
@@ -73,9 +74,9 @@ module _ (n : ℕ) (h : Surviving) (r : Ideal) (v : Inv r) (fit : Limits r) (mem
     unfolding call answered checkpointOutcome
     checkpoint-list = rw e
 
-    checkpoint-receiver : (receiverAfter h (checkpoint i deleted) ≡ checkpointed r i .receiver) × (underwayAfter h (checkpoint i deleted) ≡ checkpointed r i .transit)
+    checkpoint-receiver : (receiverAfter h (checkpoint i deleted) ≡ checkpointed r i .receiver) × ((lists : Lists) → underwayAfter n h lists (checkpoint i deleted) ≡ checkpointed r i .transit)
     unfolding receiverAfter underwayAfter checkpointed
-    checkpoint-receiver = (g .receiver, g .underway)
+    checkpoint-receiver = (g .receiver, λ lists. g .underway)
 
     checkpoint-hands-out : HandsOut (call (stateOf r) (checkpoint i deleted) .reply) r (checkpointed r i)
     unfolding HandsOut
@@ -99,7 +100,7 @@ module _ (n : ℕ) (h : Surviving) (r : Ideal) (v : Inv r) (fit : Limits r) (mem
       lists = checkpoint-lists n h r g i deleted (call (stateOf r) (checkpoint i deleted) .reply);
       sends = g .sends ∙ sym (checkpointed-last r i);
       receiver = checkpoint-receiver .0;
-      underway = checkpoint-receiver .1;
+      underway = checkpoint-receiver .1 _;
       memory = checkpointed-memory r i memory;
       hands-out = checkpoint-hands-out;
       hands-over = checkpoint-hands-over;
@@ -136,7 +137,7 @@ module _ (n : ℕ) (h : Surviving) (r : Ideal) (v : Inv r) (fit : Limits r) (mem
           lists = send-lists n h r g i j a;
           sends = send-sends n h r g i j;
           receiver = send-receiver n h r g i j;
-          underway = send-underway n h r g i j;
+          underway = send-underway n h r g _ i j;
           memory = sending-memory r i j v memory;
           hands-out = hands-out-none a r (sending r i j) send-count (sending-keeps r i j);
           hands-over = send-hands-over;
@@ -152,9 +153,9 @@ module _ (n : ℕ) (h : Surviving) (r : Ideal) (v : Inv r) (fit : Limits r) (mem
     unfolding call answered loseOutcome loseReport
     lose-count = rw e
 
-    lose-same : (listsAfter n h (lose m) (call (stateOf r) (lose m) .reply) ≡ lost r m .events) × (sendsAfter h (lose m) ≡ lost r m .last) × (receiverAfter h (lose m) ≡ lost r m .receiver) × (underwayAfter h (lose m) ≡ lost r m .transit)
+    lose-same : (listsAfter n h (lose m) (call (stateOf r) (lose m) .reply) ≡ lost r m .events) × (sendsAfter h (lose m) ≡ lost r m .last) × (receiverAfter h (lose m) ≡ lost r m .receiver) × ((lists : Lists) → underwayAfter n h lists (lose m) ≡ lost r m .transit)
     unfolding listsAfter sendsAfter receiverAfter underwayAfter lost
-    lose-same = (g .lists, g .sends, g .receiver, rw (g .underway))
+    lose-same = (g .lists, g .sends, g .receiver, λ lists. rw (g .underway))
 
     lose-none : call (stateOf r) (lose m) .reply .deleted ≡ []
     unfolding call answered loseOutcome
@@ -174,7 +175,7 @@ module _ (n : ℕ) (h : Surviving) (r : Ideal) (v : Inv r) (fit : Limits r) (mem
       lists = lose-same .0;
       sends = lose-same .1;
       receiver = lose-same .2;
-      underway = lose-same .3;
+      underway = lose-same .3 _;
       memory = lost-memory r m memory;
       hands-out = hands-out-none (call (stateOf r) (lose m) .reply) r (lost r m) lose-count (lost-keeps r m);
       hands-over = lose-hands-over;
@@ -190,9 +191,9 @@ module _ (n : ℕ) (h : Surviving) (r : Ideal) (v : Inv r) (fit : Limits r) (mem
     unfolding call answered lineOutcome lineReport
     line-count = rw e
 
-    line-same : (listsAfter n h (line F lent) (call (stateOf r) (line F lent) .reply) ≡ r .events) × (sendsAfter h (line F lent) ≡ r .last) × (receiverAfter h (line F lent) ≡ r .receiver) × (underwayAfter h (line F lent) ≡ r .transit)
+    line-same : (listsAfter n h (line F lent) (call (stateOf r) (line F lent) .reply) ≡ r .events) × (sendsAfter h (line F lent) ≡ r .last) × (receiverAfter h (line F lent) ≡ r .receiver) × ((lists : Lists) → underwayAfter n h lists (line F lent) ≡ r .transit)
     unfolding listsAfter sendsAfter receiverAfter underwayAfter
-    line-same = (g .lists, g .sends, g .receiver, g .underway)
+    line-same = (g .lists, g .sends, g .receiver, λ lists. g .underway)
 
     line-none : call (stateOf r) (line F lent) .reply .deleted ≡ []
     unfolding call answered lineOutcome
@@ -212,7 +213,7 @@ module _ (n : ℕ) (h : Surviving) (r : Ideal) (v : Inv r) (fit : Limits r) (mem
       lists = line-same .0;
       sends = line-same .1;
       receiver = line-same .2;
-      underway = line-same .3;
+      underway = line-same .3 _;
       memory = memory;
       hands-out = hands-out-none (call (stateOf r) (line F lent) .reply) r r line-count (λ p k. refl);
       hands-over = line-hands-over;
@@ -275,7 +276,7 @@ module _ (n : ℕ) (h : Surviving) (r : Ideal) (v : Inv r) (fit : Limits r) (mem
       lists = deliver-lists;
       sends = g .sends ∙ sym (delivered-last r m);
       receiver = g .receiver ∙ sym (fun-ext (delivered-receiver r m));
-      underway = deliver-underway n h r g m deleted;
+      underway = deliver-underway n h r g _ m deleted;
       memory = delivered-memory r m memory;
       hands-out = deliver-hands-out;
       hands-over = deliver-hands-over;

@@ -1,6 +1,7 @@
 //! `soak COUNT FIRST PROGRAM` holds PROGRAM to the oracle on COUNT random
 //! traces, of the seeds FIRST, FIRST + 1 and on. Every second trace is damaged,
-//! the others are what their seed draws.
+//! the others are what their seed draws: valid, with many recoveries, mixed,
+//! damaged or up to the limits.
 //!
 //! The traces and what is expected are made in this process; only PROGRAM is
 //! started for each trace. It must print the oracle's listing byte for byte,

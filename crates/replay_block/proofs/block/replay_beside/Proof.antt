@@ -36,7 +36,7 @@ use Rattle.rows.specs.declared.kept.KeptRow.{KeptRow}
 use Rattle.rows.specs.Kept.{keptRow}
 use Rattle.rows.specs.Receipt.{pinsThen, keptThen}
 use Rattle.rows.specs.Line.{latestBy, latestIs, liveFrom}
-use Rattle.rows.specs.Recovery.{notLater, latestFound, restoredPins, stays}
+use Rattle.rows.specs.Recovery.{notLater, latestFound, restoredPins, stays, outlives}
 use Rattle.rows.proofs.LineRule.{latest-none, latest-more}
 use Rattle.rows.proofs.Restoring.{found-none, found-more}
 use Rattle.plans.specs.declared.Verdict.the-variants.{Accepted}
@@ -65,6 +65,8 @@ use Rattle.replay_block.proofs.Asked.{recovery-asked}
 use Rattle.replay_block.proofs.Between.{Between, Inside, one-more, stored-row, same-words, same-rows, same-asked, same-parts, same-start, none-yet, same-end, ends, all-told, recovered-state, recovered-says}
 use Rattle.replay_block.proofs.Collected as collected
 use Rattle.replay_block.proofs.Searches.{search-most, member-searched, pins-searched}
+use Rattle.replay_block.proofs.Sifted as sifted
+use Rattle.replay_block.proofs.Sifted.{Sifting, none-sifted}
 use Rattle.replay_block.proofs.Sizes.{reachable-sized}
 use Rattle.replay_block.proofs.Turn as turn
 use Rattle.replay_block.proofs.Turns.{none-taken, left-more, left-none, record-there, one-said, said-fits, at-limit, no-record, no-room, no-place}
@@ -74,279 +76,310 @@ use Rattle.replay_block.proofs.block.replay_beside.Tie as tie
 
 -- The row of a process whose pins move: its first j checkpoints are collected.
 abbrev Inv-collected : tie.InvT-collected
-Inv-collected done trace out deleted₀ numbers n vectors pins kept₀ sent held underway last window base first tail empty taken written number m place found i mark p at value refused live moved many gone₀ to₀ j₀ deleted kept gone to j = collected.Collecting (named moved) kept₀ i deleted₀ gone₀ j to gone kept deleted × (j ≤ many)
+Inv-collected done trace out deleted₀ numbers n vectors pins kept₀ sent held underway last window base first tail empty unused taken written number m place found i mark p at value refused live moved many gone₀ to₀ j₀ deleted kept gone to j = collected.Collecting (named moved) kept₀ i deleted₀ gone₀ j to gone kept deleted × (j ≤ many)
 
 abbrev μ-collected : tie.MeasureT-collected
-μ-collected done trace out deleted₀ numbers n vectors pins kept₀ sent held underway last window base first tail empty taken written number m place found i mark p at value refused live moved many gone₀ to₀ j₀ deleted kept gone to j = many - j
+μ-collected done trace out deleted₀ numbers n vectors pins kept₀ sent held underway last window base first tail empty unused taken written number m place found i mark p at value refused live moved many gone₀ to₀ j₀ deleted kept gone to j = many - j
 
 -- The member of process f: the latest allowed one of the first a that it keeps.
 abbrev Inv-allowed : tie.InvT-allowed
-Inv-allowed done trace out deleted numbers n vectors pins kept sent held underway last window base first tail empty taken written number owns failed marks rolled members back f current held-now allowed searched latest₀ a₀ latest a = (a ≤ searched) × (latest ≡ latestIs (latestBy marks owns (take a (getD kept f []))))
+Inv-allowed done trace out deleted numbers n vectors pins kept sent held underway last window base first tail empty unused taken written number owns failed marks rolled members back f current held-now allowed searched latest₀ a₀ latest a = (a ≤ searched) × (latest ≡ latestIs (latestBy marks owns (take a (getD kept f []))))
 
 abbrev μ-allowed : tie.MeasureT-allowed
-μ-allowed done trace out deleted numbers n vectors pins kept sent held underway last window base first tail empty taken written number owns failed marks rolled members back f current held-now allowed searched latest₀ a₀ latest a = searched - a
+μ-allowed done trace out deleted numbers n vectors pins kept sent held underway last window base first tail empty unused taken written number owns failed marks rolled members back f current held-now allowed searched latest₀ a₀ latest a = searched - a
 
 -- The first f processes have gone back to their members.
 abbrev Inv-returned : tie.InvT-returned
-Inv-returned done trace out deleted numbers n vectors₀ pins kept sent₀ held underway last window base first tail empty taken written number owns failed marks rolled₀ members₀ back₀ f₀ vectors sent rolled members back f = Returning n (statesOf n failed vectors₀ kept held) vectors₀ sent₀ vectors sent rolled members back f
+Inv-returned done trace out deleted numbers n vectors₀ pins kept sent₀ held underway last window base first tail empty unused taken written number owns failed marks rolled₀ members₀ back₀ f₀ vectors sent rolled members back f = Returning n (statesOf n failed vectors₀ kept held) vectors₀ sent₀ vectors sent rolled members back f
 
 abbrev μ-returned : tie.MeasureT-returned
-μ-returned done trace out deleted numbers n vectors₀ pins kept sent₀ held underway last window base first tail empty taken written number owns failed marks rolled₀ members₀ back₀ f₀ vectors sent rolled members back f = n - f
+μ-returned done trace out deleted numbers n vectors₀ pins kept sent₀ held underway last window base first tail empty unused taken written number owns failed marks rolled₀ members₀ back₀ f₀ vectors sent rolled members back f = n - f
 
 -- The pins of process q: what is found among the first b that it keeps.
 abbrev Inv-found : tie.InvT-found
-Inv-found done trace out deleted numbers n vectors pins kept sent held underway last window base first tail empty taken written number failed rolled members back f owns-then all-gone q has-rolled known held-then pins-now last-kept to-find known-last₀ b₀ known-last b = (b ≤ to-find) × (known-last ≡ latestFound owns-then (notLater last-kept (take b (getD kept q []))))
+Inv-found done trace out deleted numbers n vectors pins kept sent held underway last window base first tail empty unused taken written number failed rolled members back f owns-then all-gone q has-rolled known held-then pins-now last-kept to-find known-last₀ b₀ known-last b = (b ≤ to-find) × (known-last ≡ latestFound owns-then (notLater last-kept (take b (getD kept q []))))
 
 abbrev μ-found : tie.MeasureT-found
-μ-found done trace out deleted numbers n vectors pins kept sent held underway last window base first tail empty taken written number failed rolled members back f owns-then all-gone q has-rolled known held-then pins-now last-kept to-find known-last₀ b₀ known-last b = to-find - b
+μ-found done trace out deleted numbers n vectors pins kept sent held underway last window base first tail empty unused taken written number failed rolled members back f owns-then all-gone q has-rolled known held-then pins-now last-kept to-find known-last₀ b₀ known-last b = to-find - b
 
 -- Its row: the first k checkpoints are collected.
 abbrev Inv-left : tie.InvT-left
-Inv-left done trace out deleted₀ numbers n vectors pins kept₀ sent held underway last window base first tail empty taken written number failed rolled members back f owns-then all-gone₀ q has-rolled held-then last-kept to-find b pins-then stay₀ k₀ deleted kept all-gone stay k = collected.Collecting (stays last-kept pins-then) kept₀ q deleted₀ all-gone₀ k stay all-gone kept deleted × (k ≤ held-then)
+Inv-left done trace out deleted₀ numbers n vectors pins kept₀ sent held underway last window base first tail empty unused taken written number failed rolled members back f owns-then all-gone₀ q has-rolled held-then last-kept to-find b pins-then stay₀ k₀ deleted kept all-gone stay k = collected.Collecting (stays last-kept pins-then) kept₀ q deleted₀ all-gone₀ k stay all-gone kept deleted × (k ≤ held-then)
 
 abbrev μ-left : tie.MeasureT-left
-μ-left done trace out deleted₀ numbers n vectors pins kept₀ sent held underway last window base first tail empty taken written number failed rolled members back f owns-then all-gone₀ q has-rolled held-then last-kept to-find b pins-then stay₀ k₀ deleted kept all-gone stay k = held-then - k
+μ-left done trace out deleted₀ numbers n vectors pins kept₀ sent held underway last window base first tail empty unused taken written number failed rolled members back f owns-then all-gone₀ q has-rolled held-then last-kept to-find b pins-then stay₀ k₀ deleted kept all-gone stay k = held-then - k
 
 -- The rows of the first q processes are as they are after the recovery.
 abbrev Inv-restored : tie.InvT-restored
-Inv-restored done trace out deleted₀ numbers n vectors pins₀ kept₀ sent held₀ underway last window base first tail empty taken written number failed rolled members back f owns-then all-gone₀ q₀ deleted pins kept held all-gone q = Recovering n vectors owns-then rolled members pins₀ kept₀ held₀ deleted₀ pins kept held deleted all-gone q
+Inv-restored done trace out deleted₀ numbers n vectors pins₀ kept₀ sent held₀ underway last window base first tail empty unused taken written number failed rolled members back f owns-then all-gone₀ q₀ deleted pins kept held all-gone q = Recovering n vectors owns-then rolled members pins₀ kept₀ held₀ deleted₀ pins kept held deleted all-gone q
 
 abbrev μ-restored : tie.MeasureT-restored
-μ-restored done trace out deleted₀ numbers n vectors pins₀ kept₀ sent held₀ underway last window base first tail empty taken written number failed rolled members back f owns-then all-gone₀ q₀ deleted pins kept held all-gone q = n - q
+μ-restored done trace out deleted₀ numbers n vectors pins₀ kept₀ sent held₀ underway last window base first tail empty unused taken written number failed rolled members back f owns-then all-gone₀ q₀ deleted pins kept held all-gone q = n - q
+
+-- The messages before place z: those that were sent up to the line are left.
+abbrev Inv-sifted : tie.InvT-sifted
+Inv-sifted done trace out deleted numbers n vectors pins kept sent held underway₀ last window₀ base first₀ tail empty unused taken written number failed members back f all-gone q outlived₀ z₀ underway window first outlived z = Sifting (outlives members) numbers window₀ first₀ base tail last window first underway outlived z
+
+abbrev μ-sifted : tie.MeasureT-sifted
+μ-sifted done trace out deleted numbers n vectors pins kept sent held underway₀ last window₀ base first₀ tail empty unused taken written number failed members back f all-gone q outlived₀ z₀ underway window first outlived z = tail - z
 
 abbrev Inv-records : tie.InvT-records
-Inv-records done trace out₀ deleted₀ numbers n vectors₀ pins₀ kept₀ sent₀ held₀ underway₀ last₀ window₀ base₀ first₀ tail₀ empty taken₀ written₀ out deleted vectors pins kept sent held underway last window base first tail taken written =
+Inv-records done trace out₀ deleted₀ numbers n vectors₀ pins₀ kept₀ sent₀ held₀ underway₀ last₀ window₀ base first₀ tail₀ empty unused taken₀ written₀ out deleted vectors pins kept sent held underway last window first tail taken written =
     Between (stateInPlace n vectors₀ pins₀ kept₀ sent₀ held₀ (messagesIn window₀ first₀ tail₀) last₀) done (drop 1 trace) out₀ numbers
     (stateInPlace n vectors pins kept sent held (messagesIn window first tail) last) taken out deleted written window base first tail underway last
 
 abbrev μ-records : tie.MeasureT-records
-μ-records done trace out₀ deleted₀ numbers n vectors₀ pins₀ kept₀ sent₀ held₀ underway₀ last₀ window₀ base₀ first₀ tail₀ empty taken₀ written₀ out deleted vectors pins kept sent held underway last window base first tail taken written = length (drop 1 trace) - 4 * taken
+μ-records done trace out₀ deleted₀ numbers n vectors₀ pins₀ kept₀ sent₀ held₀ underway₀ last₀ window₀ base first₀ tail₀ empty unused taken₀ written₀ out deleted vectors pins kept sent held underway last window first tail taken written = length (drop 1 trace) - 4 * taken
 
 -- The places that are named below, and the roads between them.
 abbrev Start : Type 0
-Start = tie.Start Inv-collected μ-collected Inv-allowed μ-allowed Inv-returned μ-returned Inv-found μ-found Inv-left μ-left Inv-restored μ-restored Inv-records μ-records
+Start = tie.Start Inv-collected μ-collected Inv-allowed μ-allowed Inv-returned μ-returned Inv-found μ-found Inv-left μ-left Inv-restored μ-restored Inv-sifted μ-sifted Inv-records μ-records
 
 abbrev After-vector-rows : Type 0
-After-vector-rows = tie.After-vector-rows Inv-collected μ-collected Inv-allowed μ-allowed Inv-returned μ-returned Inv-found μ-found Inv-left μ-left Inv-restored μ-restored Inv-records μ-records
+After-vector-rows = tie.After-vector-rows Inv-collected μ-collected Inv-allowed μ-allowed Inv-returned μ-returned Inv-found μ-found Inv-left μ-left Inv-restored μ-restored Inv-sifted μ-sifted Inv-records μ-records
 
 abbrev After-pin-rows : Type 0
-After-pin-rows = tie.After-pin-rows Inv-collected μ-collected Inv-allowed μ-allowed Inv-returned μ-returned Inv-found μ-found Inv-left μ-left Inv-restored μ-restored Inv-records μ-records
+After-pin-rows = tie.After-pin-rows Inv-collected μ-collected Inv-allowed μ-allowed Inv-returned μ-returned Inv-found μ-found Inv-left μ-left Inv-restored μ-restored Inv-sifted μ-sifted Inv-records μ-records
 
 abbrev After-kept-rows : Type 0
-After-kept-rows = tie.After-kept-rows Inv-collected μ-collected Inv-allowed μ-allowed Inv-returned μ-returned Inv-found μ-found Inv-left μ-left Inv-restored μ-restored Inv-records μ-records
+After-kept-rows = tie.After-kept-rows Inv-collected μ-collected Inv-allowed μ-allowed Inv-returned μ-returned Inv-found μ-found Inv-left μ-left Inv-restored μ-restored Inv-sifted μ-sifted Inv-records μ-records
 
 abbrev After-no-checkpoint : Type 0
-After-no-checkpoint = tie.After-no-checkpoint Inv-collected μ-collected Inv-allowed μ-allowed Inv-returned μ-returned Inv-found μ-found Inv-left μ-left Inv-restored μ-restored Inv-records μ-records
+After-no-checkpoint = tie.After-no-checkpoint Inv-collected μ-collected Inv-allowed μ-allowed Inv-returned μ-returned Inv-found μ-found Inv-left μ-left Inv-restored μ-restored Inv-sifted μ-sifted Inv-records μ-records
+
+abbrev After-no-message : Type 0
+After-no-message = tie.After-no-message Inv-collected μ-collected Inv-allowed μ-allowed Inv-returned μ-returned Inv-found μ-found Inv-left μ-left Inv-restored μ-restored Inv-sifted μ-sifted Inv-records μ-records
 
 abbrev At-records : Type 0
-At-records = tie.At-records Inv-collected μ-collected Inv-allowed μ-allowed Inv-returned μ-returned Inv-found μ-found Inv-left μ-left Inv-restored μ-restored Inv-records μ-records
+At-records = tie.At-records Inv-collected μ-collected Inv-allowed μ-allowed Inv-returned μ-returned Inv-found μ-found Inv-left μ-left Inv-restored μ-restored Inv-sifted μ-sifted Inv-records μ-records
 
 abbrev In-records : Type 0
-In-records = tie.In-records Inv-collected μ-collected Inv-allowed μ-allowed Inv-returned μ-returned Inv-found μ-found Inv-left μ-left Inv-restored μ-restored Inv-records μ-records
+In-records = tie.In-records Inv-collected μ-collected Inv-allowed μ-allowed Inv-returned μ-returned Inv-found μ-found Inv-left μ-left Inv-restored μ-restored Inv-sifted μ-sifted Inv-records μ-records
 
 abbrev Then1 : Type 0
-Then1 = tie.Then1 Inv-collected μ-collected Inv-allowed μ-allowed Inv-returned μ-returned Inv-found μ-found Inv-left μ-left Inv-restored μ-restored Inv-records μ-records
+Then1 = tie.Then1 Inv-collected μ-collected Inv-allowed μ-allowed Inv-returned μ-returned Inv-found μ-found Inv-left μ-left Inv-restored μ-restored Inv-sifted μ-sifted Inv-records μ-records
 
 abbrev After-record-left : Type 0
-After-record-left = tie.After-record-left Inv-collected μ-collected Inv-allowed μ-allowed Inv-returned μ-returned Inv-found μ-found Inv-left μ-left Inv-restored μ-restored Inv-records μ-records
+After-record-left = tie.After-record-left Inv-collected μ-collected Inv-allowed μ-allowed Inv-returned μ-returned Inv-found μ-found Inv-left μ-left Inv-restored μ-restored Inv-sifted μ-sifted Inv-records μ-records
 
 abbrev Then2 : Type 0
-Then2 = tie.Then2 Inv-collected μ-collected Inv-allowed μ-allowed Inv-returned μ-returned Inv-found μ-found Inv-left μ-left Inv-restored μ-restored Inv-records μ-records
+Then2 = tie.Then2 Inv-collected μ-collected Inv-allowed μ-allowed Inv-returned μ-returned Inv-found μ-found Inv-left μ-left Inv-restored μ-restored Inv-sifted μ-sifted Inv-records μ-records
 
 abbrev Then3 : Type 0
-Then3 = tie.Then3 Inv-collected μ-collected Inv-allowed μ-allowed Inv-returned μ-returned Inv-found μ-found Inv-left μ-left Inv-restored μ-restored Inv-records μ-records
+Then3 = tie.Then3 Inv-collected μ-collected Inv-allowed μ-allowed Inv-returned μ-returned Inv-found μ-found Inv-left μ-left Inv-restored μ-restored Inv-sifted μ-sifted Inv-records μ-records
 
 abbrev After-decode : Type 0
-After-decode = tie.After-decode Inv-collected μ-collected Inv-allowed μ-allowed Inv-returned μ-returned Inv-found μ-found Inv-left μ-left Inv-restored μ-restored Inv-records μ-records
+After-decode = tie.After-decode Inv-collected μ-collected Inv-allowed μ-allowed Inv-returned μ-returned Inv-found μ-found Inv-left μ-left Inv-restored μ-restored Inv-sifted μ-sifted Inv-records μ-records
 
 abbrev After-recovery-of : Type 0
-After-recovery-of = tie.After-recovery-of Inv-collected μ-collected Inv-allowed μ-allowed Inv-returned μ-returned Inv-found μ-found Inv-left μ-left Inv-restored μ-restored Inv-records μ-records
+After-recovery-of = tie.After-recovery-of Inv-collected μ-collected Inv-allowed μ-allowed Inv-returned μ-returned Inv-found μ-found Inv-left μ-left Inv-restored μ-restored Inv-sifted μ-sifted Inv-records μ-records
 
 abbrev Then4 : Type 0
-Then4 = tie.Then4 Inv-collected μ-collected Inv-allowed μ-allowed Inv-returned μ-returned Inv-found μ-found Inv-left μ-left Inv-restored μ-restored Inv-records μ-records
+Then4 = tie.Then4 Inv-collected μ-collected Inv-allowed μ-allowed Inv-returned μ-returned Inv-found μ-found Inv-left μ-left Inv-restored μ-restored Inv-sifted μ-sifted Inv-records μ-records
 
 abbrev After-sought : Type 0
-After-sought = tie.After-sought Inv-collected μ-collected Inv-allowed μ-allowed Inv-returned μ-returned Inv-found μ-found Inv-left μ-left Inv-restored μ-restored Inv-records μ-records
+After-sought = tie.After-sought Inv-collected μ-collected Inv-allowed μ-allowed Inv-returned μ-returned Inv-found μ-found Inv-left μ-left Inv-restored μ-restored Inv-sifted μ-sifted Inv-records μ-records
 
 abbrev After-place-in : Type 0
-After-place-in = tie.After-place-in Inv-collected μ-collected Inv-allowed μ-allowed Inv-returned μ-returned Inv-found μ-found Inv-left μ-left Inv-restored μ-restored Inv-records μ-records
+After-place-in = tie.After-place-in Inv-collected μ-collected Inv-allowed μ-allowed Inv-returned μ-returned Inv-found μ-found Inv-left μ-left Inv-restored μ-restored Inv-sifted μ-sifted Inv-records μ-records
 
 abbrev After-is-there : Type 0
-After-is-there = tie.After-is-there Inv-collected μ-collected Inv-allowed μ-allowed Inv-returned μ-returned Inv-found μ-found Inv-left μ-left Inv-restored μ-restored Inv-records μ-records
+After-is-there = tie.After-is-there Inv-collected μ-collected Inv-allowed μ-allowed Inv-returned μ-returned Inv-found μ-found Inv-left μ-left Inv-restored μ-restored Inv-sifted μ-sifted Inv-records μ-records
 
 abbrev After-row-of : Type 0
-After-row-of = tie.After-row-of Inv-collected μ-collected Inv-allowed μ-allowed Inv-returned μ-returned Inv-found μ-found Inv-left μ-left Inv-restored μ-restored Inv-records μ-records
+After-row-of = tie.After-row-of Inv-collected μ-collected Inv-allowed μ-allowed Inv-returned μ-returned Inv-found μ-found Inv-left μ-left Inv-restored μ-restored Inv-sifted μ-sifted Inv-records μ-records
 
 abbrev After-own : Type 0
-After-own = tie.After-own Inv-collected μ-collected Inv-allowed μ-allowed Inv-returned μ-returned Inv-found μ-found Inv-left μ-left Inv-restored μ-restored Inv-records μ-records
+After-own = tie.After-own Inv-collected μ-collected Inv-allowed μ-allowed Inv-returned μ-returned Inv-found μ-found Inv-left μ-left Inv-restored μ-restored Inv-sifted μ-sifted Inv-records μ-records
 
 abbrev After-plan-of : Type 0
-After-plan-of = tie.After-plan-of Inv-collected μ-collected Inv-allowed μ-allowed Inv-returned μ-returned Inv-found μ-found Inv-left μ-left Inv-restored μ-restored Inv-records μ-records
+After-plan-of = tie.After-plan-of Inv-collected μ-collected Inv-allowed μ-allowed Inv-returned μ-returned Inv-found μ-found Inv-left μ-left Inv-restored μ-restored Inv-sifted μ-sifted Inv-records μ-records
 
 abbrev After-put : Type 0
-After-put = tie.After-put Inv-collected μ-collected Inv-allowed μ-allowed Inv-returned μ-returned Inv-found μ-found Inv-left μ-left Inv-restored μ-restored Inv-records μ-records
+After-put = tie.After-put Inv-collected μ-collected Inv-allowed μ-allowed Inv-returned μ-returned Inv-found μ-found Inv-left μ-left Inv-restored μ-restored Inv-sifted μ-sifted Inv-records μ-records
 
 abbrev After-value-of : Type 0
-After-value-of = tie.After-value-of Inv-collected μ-collected Inv-allowed μ-allowed Inv-returned μ-returned Inv-found μ-found Inv-left μ-left Inv-restored μ-restored Inv-records μ-records
+After-value-of = tie.After-value-of Inv-collected μ-collected Inv-allowed μ-allowed Inv-returned μ-returned Inv-found μ-found Inv-left μ-left Inv-restored μ-restored Inv-sifted μ-sifted Inv-records μ-records
 
 abbrev After-number-of : Type 0
-After-number-of = tie.After-number-of Inv-collected μ-collected Inv-allowed μ-allowed Inv-returned μ-returned Inv-found μ-found Inv-left μ-left Inv-restored μ-restored Inv-records μ-records
+After-number-of = tie.After-number-of Inv-collected μ-collected Inv-allowed μ-allowed Inv-returned μ-returned Inv-found μ-found Inv-left μ-left Inv-restored μ-restored Inv-sifted μ-sifted Inv-records μ-records
 
 abbrev Then5 : Type 0
-Then5 = tie.Then5 Inv-collected μ-collected Inv-allowed μ-allowed Inv-returned μ-returned Inv-found μ-found Inv-left μ-left Inv-restored μ-restored Inv-records μ-records
+Then5 = tie.Then5 Inv-collected μ-collected Inv-allowed μ-allowed Inv-returned μ-returned Inv-found μ-found Inv-left μ-left Inv-restored μ-restored Inv-sifted μ-sifted Inv-records μ-records
 
 abbrev After-live-from : Type 0
-After-live-from = tie.After-live-from Inv-collected μ-collected Inv-allowed μ-allowed Inv-returned μ-returned Inv-found μ-found Inv-left μ-left Inv-restored μ-restored Inv-records μ-records
+After-live-from = tie.After-live-from Inv-collected μ-collected Inv-allowed μ-allowed Inv-returned μ-returned Inv-found μ-found Inv-left μ-left Inv-restored μ-restored Inv-sifted μ-sifted Inv-records μ-records
 
 abbrev After-carried : Type 0
-After-carried = tie.After-carried Inv-collected μ-collected Inv-allowed μ-allowed Inv-returned μ-returned Inv-found μ-found Inv-left μ-left Inv-restored μ-restored Inv-records μ-records
+After-carried = tie.After-carried Inv-collected μ-collected Inv-allowed μ-allowed Inv-returned μ-returned Inv-found μ-found Inv-left μ-left Inv-restored μ-restored Inv-sifted μ-sifted Inv-records μ-records
 
 abbrev After-pins-then : Type 0
-After-pins-then = tie.After-pins-then Inv-collected μ-collected Inv-allowed μ-allowed Inv-returned μ-returned Inv-found μ-found Inv-left μ-left Inv-restored μ-restored Inv-records μ-records
+After-pins-then = tie.After-pins-then Inv-collected μ-collected Inv-allowed μ-allowed Inv-returned μ-returned Inv-found μ-found Inv-left μ-left Inv-restored μ-restored Inv-sifted μ-sifted Inv-records μ-records
 
 abbrev After-vector-then : Type 0
-After-vector-then = tie.After-vector-then Inv-collected μ-collected Inv-allowed μ-allowed Inv-returned μ-returned Inv-found μ-found Inv-left μ-left Inv-restored μ-restored Inv-records μ-records
+After-vector-then = tie.After-vector-then Inv-collected μ-collected Inv-allowed μ-allowed Inv-returned μ-returned Inv-found μ-found Inv-left μ-left Inv-restored μ-restored Inv-sifted μ-sifted Inv-records μ-records
 
 abbrev At-collected : Type 0
-At-collected = tie.At-collected Inv-collected μ-collected Inv-allowed μ-allowed Inv-returned μ-returned Inv-found μ-found Inv-left μ-left Inv-restored μ-restored Inv-records μ-records
+At-collected = tie.At-collected Inv-collected μ-collected Inv-allowed μ-allowed Inv-returned μ-returned Inv-found μ-found Inv-left μ-left Inv-restored μ-restored Inv-sifted μ-sifted Inv-records μ-records
 
 abbrev In-collected : Type 0
-In-collected = tie.In-collected Inv-collected μ-collected Inv-allowed μ-allowed Inv-returned μ-returned Inv-found μ-found Inv-left μ-left Inv-restored μ-restored Inv-records μ-records
+In-collected = tie.In-collected Inv-collected μ-collected Inv-allowed μ-allowed Inv-returned μ-returned Inv-found μ-found Inv-left μ-left Inv-restored μ-restored Inv-sifted μ-sifted Inv-records μ-records
 
 abbrev After-collected : Type 0
-After-collected = tie.After-collected Inv-collected μ-collected Inv-allowed μ-allowed Inv-returned μ-returned Inv-found μ-found Inv-left μ-left Inv-restored μ-restored Inv-records μ-records
+After-collected = tie.After-collected Inv-collected μ-collected Inv-allowed μ-allowed Inv-returned μ-returned Inv-found μ-found Inv-left μ-left Inv-restored μ-restored Inv-sifted μ-sifted Inv-records μ-records
 
 abbrev Then6 : Type 0
-Then6 = tie.Then6 Inv-collected μ-collected Inv-allowed μ-allowed Inv-returned μ-returned Inv-found μ-found Inv-left μ-left Inv-restored μ-restored Inv-records μ-records
+Then6 = tie.Then6 Inv-collected μ-collected Inv-allowed μ-allowed Inv-returned μ-returned Inv-found μ-found Inv-left μ-left Inv-restored μ-restored Inv-sifted μ-sifted Inv-records μ-records
 
 abbrev Else6 : Type 0
-Else6 = tie.Else6 Inv-collected μ-collected Inv-allowed μ-allowed Inv-returned μ-returned Inv-found μ-found Inv-left μ-left Inv-restored μ-restored Inv-records μ-records
+Else6 = tie.Else6 Inv-collected μ-collected Inv-allowed μ-allowed Inv-returned μ-returned Inv-found μ-found Inv-left μ-left Inv-restored μ-restored Inv-sifted μ-sifted Inv-records μ-records
 
 abbrev After-place : Type 0
-After-place = tie.After-place Inv-collected μ-collected Inv-allowed μ-allowed Inv-returned μ-returned Inv-found μ-found Inv-left μ-left Inv-restored μ-restored Inv-records μ-records
+After-place = tie.After-place Inv-collected μ-collected Inv-allowed μ-allowed Inv-returned μ-returned Inv-found μ-found Inv-left μ-left Inv-restored μ-restored Inv-sifted μ-sifted Inv-records μ-records
 
 abbrev After-count : Type 0
-After-count = tie.After-count Inv-collected μ-collected Inv-allowed μ-allowed Inv-returned μ-returned Inv-found μ-found Inv-left μ-left Inv-restored μ-restored Inv-records μ-records
+After-count = tie.After-count Inv-collected μ-collected Inv-allowed μ-allowed Inv-returned μ-returned Inv-found μ-found Inv-left μ-left Inv-restored μ-restored Inv-sifted μ-sifted Inv-records μ-records
 
 abbrev After-print-arg2 : Type 0
-After-print-arg2 = tie.After-print-arg2 Inv-collected μ-collected Inv-allowed μ-allowed Inv-returned μ-returned Inv-found μ-found Inv-left μ-left Inv-restored μ-restored Inv-records μ-records
+After-print-arg2 = tie.After-print-arg2 Inv-collected μ-collected Inv-allowed μ-allowed Inv-returned μ-returned Inv-found μ-found Inv-left μ-left Inv-restored μ-restored Inv-sifted μ-sifted Inv-records μ-records
 
 abbrev After-slice-known3 : Type 0
-After-slice-known3 = tie.After-slice-known3 Inv-collected μ-collected Inv-allowed μ-allowed Inv-returned μ-returned Inv-found μ-found Inv-left μ-left Inv-restored μ-restored Inv-records μ-records
+After-slice-known3 = tie.After-slice-known3 Inv-collected μ-collected Inv-allowed μ-allowed Inv-returned μ-returned Inv-found μ-found Inv-left μ-left Inv-restored μ-restored Inv-sifted μ-sifted Inv-records μ-records
 
 abbrev Else5 : Type 0
-Else5 = tie.Else5 Inv-collected μ-collected Inv-allowed μ-allowed Inv-returned μ-returned Inv-found μ-found Inv-left μ-left Inv-restored μ-restored Inv-records μ-records
+Else5 = tie.Else5 Inv-collected μ-collected Inv-allowed μ-allowed Inv-returned μ-returned Inv-found μ-found Inv-left μ-left Inv-restored μ-restored Inv-sifted μ-sifted Inv-records μ-records
 
 abbrev After-print-arg4 : Type 0
-After-print-arg4 = tie.After-print-arg4 Inv-collected μ-collected Inv-allowed μ-allowed Inv-returned μ-returned Inv-found μ-found Inv-left μ-left Inv-restored μ-restored Inv-records μ-records
+After-print-arg4 = tie.After-print-arg4 Inv-collected μ-collected Inv-allowed μ-allowed Inv-returned μ-returned Inv-found μ-found Inv-left μ-left Inv-restored μ-restored Inv-sifted μ-sifted Inv-records μ-records
 
 abbrev After-slice-known4 : Type 0
-After-slice-known4 = tie.After-slice-known4 Inv-collected μ-collected Inv-allowed μ-allowed Inv-returned μ-returned Inv-found μ-found Inv-left μ-left Inv-restored μ-restored Inv-records μ-records
+After-slice-known4 = tie.After-slice-known4 Inv-collected μ-collected Inv-allowed μ-allowed Inv-returned μ-returned Inv-found μ-found Inv-left μ-left Inv-restored μ-restored Inv-sifted μ-sifted Inv-records μ-records
 
 abbrev Else4 : Type 0
-Else4 = tie.Else4 Inv-collected μ-collected Inv-allowed μ-allowed Inv-returned μ-returned Inv-found μ-found Inv-left μ-left Inv-restored μ-restored Inv-records μ-records
+Else4 = tie.Else4 Inv-collected μ-collected Inv-allowed μ-allowed Inv-returned μ-returned Inv-found μ-found Inv-left μ-left Inv-restored μ-restored Inv-sifted μ-sifted Inv-records μ-records
 
 abbrev After-own-entries : Type 0
-After-own-entries = tie.After-own-entries Inv-collected μ-collected Inv-allowed μ-allowed Inv-returned μ-returned Inv-found μ-found Inv-left μ-left Inv-restored μ-restored Inv-records μ-records
+After-own-entries = tie.After-own-entries Inv-collected μ-collected Inv-allowed μ-allowed Inv-returned μ-returned Inv-found μ-found Inv-left μ-left Inv-restored μ-restored Inv-sifted μ-sifted Inv-records μ-records
 
 abbrev After-failed-marks : Type 0
-After-failed-marks = tie.After-failed-marks Inv-collected μ-collected Inv-allowed μ-allowed Inv-returned μ-returned Inv-found μ-found Inv-left μ-left Inv-restored μ-restored Inv-records μ-records
+After-failed-marks = tie.After-failed-marks Inv-collected μ-collected Inv-allowed μ-allowed Inv-returned μ-returned Inv-found μ-found Inv-left μ-left Inv-restored μ-restored Inv-sifted μ-sifted Inv-records μ-records
 
 abbrev At-returned : Type 0
-At-returned = tie.At-returned Inv-collected μ-collected Inv-allowed μ-allowed Inv-returned μ-returned Inv-found μ-found Inv-left μ-left Inv-restored μ-restored Inv-records μ-records
+At-returned = tie.At-returned Inv-collected μ-collected Inv-allowed μ-allowed Inv-returned μ-returned Inv-found μ-found Inv-left μ-left Inv-restored μ-restored Inv-sifted μ-sifted Inv-records μ-records
 
 abbrev In-returned : Type 0
-In-returned = tie.In-returned Inv-collected μ-collected Inv-allowed μ-allowed Inv-returned μ-returned Inv-found μ-found Inv-left μ-left Inv-restored μ-restored Inv-records μ-records
+In-returned = tie.In-returned Inv-collected μ-collected Inv-allowed μ-allowed Inv-returned μ-returned Inv-found μ-found Inv-left μ-left Inv-restored μ-restored Inv-sifted μ-sifted Inv-records μ-records
 
 abbrev After-returned : Type 0
-After-returned = tie.After-returned Inv-collected μ-collected Inv-allowed μ-allowed Inv-returned μ-returned Inv-found μ-found Inv-left μ-left Inv-restored μ-restored Inv-records μ-records
+After-returned = tie.After-returned Inv-collected μ-collected Inv-allowed μ-allowed Inv-returned μ-returned Inv-found μ-found Inv-left μ-left Inv-restored μ-restored Inv-sifted μ-sifted Inv-records μ-records
 
 abbrev After-is-allowed : Type 0
-After-is-allowed = tie.After-is-allowed Inv-collected μ-collected Inv-allowed μ-allowed Inv-returned μ-returned Inv-found μ-found Inv-left μ-left Inv-restored μ-restored Inv-records μ-records
+After-is-allowed = tie.After-is-allowed Inv-collected μ-collected Inv-allowed μ-allowed Inv-returned μ-returned Inv-found μ-found Inv-left μ-left Inv-restored μ-restored Inv-sifted μ-sifted Inv-records μ-records
 
 abbrev After-to-search : Type 0
-After-to-search = tie.After-to-search Inv-collected μ-collected Inv-allowed μ-allowed Inv-returned μ-returned Inv-found μ-found Inv-left μ-left Inv-restored μ-restored Inv-records μ-records
+After-to-search = tie.After-to-search Inv-collected μ-collected Inv-allowed μ-allowed Inv-returned μ-returned Inv-found μ-found Inv-left μ-left Inv-restored μ-restored Inv-sifted μ-sifted Inv-records μ-records
 
 abbrev At-allowed : Type 0
-At-allowed = tie.At-allowed Inv-collected μ-collected Inv-allowed μ-allowed Inv-returned μ-returned Inv-found μ-found Inv-left μ-left Inv-restored μ-restored Inv-records μ-records
+At-allowed = tie.At-allowed Inv-collected μ-collected Inv-allowed μ-allowed Inv-returned μ-returned Inv-found μ-found Inv-left μ-left Inv-restored μ-restored Inv-sifted μ-sifted Inv-records μ-records
 
 abbrev In-allowed : Type 0
-In-allowed = tie.In-allowed Inv-collected μ-collected Inv-allowed μ-allowed Inv-returned μ-returned Inv-found μ-found Inv-left μ-left Inv-restored μ-restored Inv-records μ-records
+In-allowed = tie.In-allowed Inv-collected μ-collected Inv-allowed μ-allowed Inv-returned μ-returned Inv-found μ-found Inv-left μ-left Inv-restored μ-restored Inv-sifted μ-sifted Inv-records μ-records
 
 abbrev After-allowed : Type 0
-After-allowed = tie.After-allowed Inv-collected μ-collected Inv-allowed μ-allowed Inv-returned μ-returned Inv-found μ-found Inv-left μ-left Inv-restored μ-restored Inv-records μ-records
+After-allowed = tie.After-allowed Inv-collected μ-collected Inv-allowed μ-allowed Inv-returned μ-returned Inv-found μ-found Inv-left μ-left Inv-restored μ-restored Inv-sifted μ-sifted Inv-records μ-records
 
 abbrev After-latest-with : Type 0
-After-latest-with = tie.After-latest-with Inv-collected μ-collected Inv-allowed μ-allowed Inv-returned μ-returned Inv-found μ-found Inv-left μ-left Inv-restored μ-restored Inv-records μ-records
+After-latest-with = tie.After-latest-with Inv-collected μ-collected Inv-allowed μ-allowed Inv-returned μ-returned Inv-found μ-found Inv-left μ-left Inv-restored μ-restored Inv-sifted μ-sifted Inv-records μ-records
 
 abbrev After-member : Type 0
-After-member = tie.After-member Inv-collected μ-collected Inv-allowed μ-allowed Inv-returned μ-returned Inv-found μ-found Inv-left μ-left Inv-restored μ-restored Inv-records μ-records
+After-member = tie.After-member Inv-collected μ-collected Inv-allowed μ-allowed Inv-returned μ-returned Inv-found μ-found Inv-left μ-left Inv-restored μ-restored Inv-sifted μ-sifted Inv-records μ-records
 
 abbrev After-went-back : Type 0
-After-went-back = tie.After-went-back Inv-collected μ-collected Inv-allowed μ-allowed Inv-returned μ-returned Inv-found μ-found Inv-left μ-left Inv-restored μ-restored Inv-records μ-records
+After-went-back = tie.After-went-back Inv-collected μ-collected Inv-allowed μ-allowed Inv-returned μ-returned Inv-found μ-found Inv-left μ-left Inv-restored μ-restored Inv-sifted μ-sifted Inv-records μ-records
 
 abbrev After-index : Type 0
-After-index = tie.After-index Inv-collected μ-collected Inv-allowed μ-allowed Inv-returned μ-returned Inv-found μ-found Inv-left μ-left Inv-restored μ-restored Inv-records μ-records
+After-index = tie.After-index Inv-collected μ-collected Inv-allowed μ-allowed Inv-returned μ-returned Inv-found μ-found Inv-left μ-left Inv-restored μ-restored Inv-sifted μ-sifted Inv-records μ-records
 
 abbrev After-own-entries2 : Type 0
-After-own-entries2 = tie.After-own-entries2 Inv-collected μ-collected Inv-allowed μ-allowed Inv-returned μ-returned Inv-found μ-found Inv-left μ-left Inv-restored μ-restored Inv-records μ-records
+After-own-entries2 = tie.After-own-entries2 Inv-collected μ-collected Inv-allowed μ-allowed Inv-returned μ-returned Inv-found μ-found Inv-left μ-left Inv-restored μ-restored Inv-sifted μ-sifted Inv-records μ-records
 
 abbrev At-restored : Type 0
-At-restored = tie.At-restored Inv-collected μ-collected Inv-allowed μ-allowed Inv-returned μ-returned Inv-found μ-found Inv-left μ-left Inv-restored μ-restored Inv-records μ-records
+At-restored = tie.At-restored Inv-collected μ-collected Inv-allowed μ-allowed Inv-returned μ-returned Inv-found μ-found Inv-left μ-left Inv-restored μ-restored Inv-sifted μ-sifted Inv-records μ-records
 
 abbrev In-restored : Type 0
-In-restored = tie.In-restored Inv-collected μ-collected Inv-allowed μ-allowed Inv-returned μ-returned Inv-found μ-found Inv-left μ-left Inv-restored μ-restored Inv-records μ-records
+In-restored = tie.In-restored Inv-collected μ-collected Inv-allowed μ-allowed Inv-returned μ-returned Inv-found μ-found Inv-left μ-left Inv-restored μ-restored Inv-sifted μ-sifted Inv-records μ-records
 
 abbrev After-restored : Type 0
-After-restored = tie.After-restored Inv-collected μ-collected Inv-allowed μ-allowed Inv-returned μ-returned Inv-found μ-found Inv-left μ-left Inv-restored μ-restored Inv-records μ-records
+After-restored = tie.After-restored Inv-collected μ-collected Inv-allowed μ-allowed Inv-returned μ-returned Inv-found μ-found Inv-left μ-left Inv-restored μ-restored Inv-sifted μ-sifted Inv-records μ-records
 
 abbrev After-to-search2 : Type 0
-After-to-search2 = tie.After-to-search2 Inv-collected μ-collected Inv-allowed μ-allowed Inv-returned μ-returned Inv-found μ-found Inv-left μ-left Inv-restored μ-restored Inv-records μ-records
+After-to-search2 = tie.After-to-search2 Inv-collected μ-collected Inv-allowed μ-allowed Inv-returned μ-returned Inv-found μ-found Inv-left μ-left Inv-restored μ-restored Inv-sifted μ-sifted Inv-records μ-records
 
 abbrev At-found : Type 0
-At-found = tie.At-found Inv-collected μ-collected Inv-allowed μ-allowed Inv-returned μ-returned Inv-found μ-found Inv-left μ-left Inv-restored μ-restored Inv-records μ-records
+At-found = tie.At-found Inv-collected μ-collected Inv-allowed μ-allowed Inv-returned μ-returned Inv-found μ-found Inv-left μ-left Inv-restored μ-restored Inv-sifted μ-sifted Inv-records μ-records
 
 abbrev In-found : Type 0
-In-found = tie.In-found Inv-collected μ-collected Inv-allowed μ-allowed Inv-returned μ-returned Inv-found μ-found Inv-left μ-left Inv-restored μ-restored Inv-records μ-records
+In-found = tie.In-found Inv-collected μ-collected Inv-allowed μ-allowed Inv-returned μ-returned Inv-found μ-found Inv-left μ-left Inv-restored μ-restored Inv-sifted μ-sifted Inv-records μ-records
 
 abbrev After-found : Type 0
-After-found = tie.After-found Inv-collected μ-collected Inv-allowed μ-allowed Inv-returned μ-returned Inv-found μ-found Inv-left μ-left Inv-restored μ-restored Inv-records μ-records
+After-found = tie.After-found Inv-collected μ-collected Inv-allowed μ-allowed Inv-returned μ-returned Inv-found μ-found Inv-left μ-left Inv-restored μ-restored Inv-sifted μ-sifted Inv-records μ-records
 
 abbrev After-found-with : Type 0
-After-found-with = tie.After-found-with Inv-collected μ-collected Inv-allowed μ-allowed Inv-returned μ-returned Inv-found μ-found Inv-left μ-left Inv-restored μ-restored Inv-records μ-records
+After-found-with = tie.After-found-with Inv-collected μ-collected Inv-allowed μ-allowed Inv-returned μ-returned Inv-found μ-found Inv-left μ-left Inv-restored μ-restored Inv-sifted μ-sifted Inv-records μ-records
 
 abbrev After-pins-found : Type 0
-After-pins-found = tie.After-pins-found Inv-collected μ-collected Inv-allowed μ-allowed Inv-returned μ-returned Inv-found μ-found Inv-left μ-left Inv-restored μ-restored Inv-records μ-records
+After-pins-found = tie.After-pins-found Inv-collected μ-collected Inv-allowed μ-allowed Inv-returned μ-returned Inv-found μ-found Inv-left μ-left Inv-restored μ-restored Inv-sifted μ-sifted Inv-records μ-records
 
 abbrev At-left : Type 0
-At-left = tie.At-left Inv-collected μ-collected Inv-allowed μ-allowed Inv-returned μ-returned Inv-found μ-found Inv-left μ-left Inv-restored μ-restored Inv-records μ-records
+At-left = tie.At-left Inv-collected μ-collected Inv-allowed μ-allowed Inv-returned μ-returned Inv-found μ-found Inv-left μ-left Inv-restored μ-restored Inv-sifted μ-sifted Inv-records μ-records
 
 abbrev In-left : Type 0
-In-left = tie.In-left Inv-collected μ-collected Inv-allowed μ-allowed Inv-returned μ-returned Inv-found μ-found Inv-left μ-left Inv-restored μ-restored Inv-records μ-records
+In-left = tie.In-left Inv-collected μ-collected Inv-allowed μ-allowed Inv-returned μ-returned Inv-found μ-found Inv-left μ-left Inv-restored μ-restored Inv-sifted μ-sifted Inv-records μ-records
 
 abbrev After-left : Type 0
-After-left = tie.After-left Inv-collected μ-collected Inv-allowed μ-allowed Inv-returned μ-returned Inv-found μ-found Inv-left μ-left Inv-restored μ-restored Inv-records μ-records
+After-left = tie.After-left Inv-collected μ-collected Inv-allowed μ-allowed Inv-returned μ-returned Inv-found μ-found Inv-left μ-left Inv-restored μ-restored Inv-sifted μ-sifted Inv-records μ-records
 
 abbrev Then7 : Type 0
-Then7 = tie.Then7 Inv-collected μ-collected Inv-allowed μ-allowed Inv-returned μ-returned Inv-found μ-found Inv-left μ-left Inv-restored μ-restored Inv-records μ-records
+Then7 = tie.Then7 Inv-collected μ-collected Inv-allowed μ-allowed Inv-returned μ-returned Inv-found μ-found Inv-left μ-left Inv-restored μ-restored Inv-sifted μ-sifted Inv-records μ-records
 
 abbrev Else7 : Type 0
-Else7 = tie.Else7 Inv-collected μ-collected Inv-allowed μ-allowed Inv-returned μ-returned Inv-found μ-found Inv-left μ-left Inv-restored μ-restored Inv-records μ-records
+Else7 = tie.Else7 Inv-collected μ-collected Inv-allowed μ-allowed Inv-returned μ-returned Inv-found μ-found Inv-left μ-left Inv-restored μ-restored Inv-sifted μ-sifted Inv-records μ-records
+
+abbrev At-sifted : Type 0
+At-sifted = tie.At-sifted Inv-collected μ-collected Inv-allowed μ-allowed Inv-returned μ-returned Inv-found μ-found Inv-left μ-left Inv-restored μ-restored Inv-sifted μ-sifted Inv-records μ-records
+
+abbrev In-sifted : Type 0
+In-sifted = tie.In-sifted Inv-collected μ-collected Inv-allowed μ-allowed Inv-returned μ-returned Inv-found μ-found Inv-left μ-left Inv-restored μ-restored Inv-sifted μ-sifted Inv-records μ-records
+
+abbrev After-sifted : Type 0
+After-sifted = tie.After-sifted Inv-collected μ-collected Inv-allowed μ-allowed Inv-returned μ-returned Inv-found μ-found Inv-left μ-left Inv-restored μ-restored Inv-sifted μ-sifted Inv-records μ-records
+
+abbrev Then8 : Type 0
+Then8 = tie.Then8 Inv-collected μ-collected Inv-allowed μ-allowed Inv-returned μ-returned Inv-found μ-found Inv-left μ-left Inv-restored μ-restored Inv-sifted μ-sifted Inv-records μ-records
+
+abbrev After-first-from : Type 0
+After-first-from = tie.After-first-from Inv-collected μ-collected Inv-allowed μ-allowed Inv-returned μ-returned Inv-found μ-found Inv-left μ-left Inv-restored μ-restored Inv-sifted μ-sifted Inv-records μ-records
+
+abbrev Else9 : Type 0
+Else9 = tie.Else9 Inv-collected μ-collected Inv-allowed μ-allowed Inv-returned μ-returned Inv-found μ-found Inv-left μ-left Inv-restored μ-restored Inv-sifted μ-sifted Inv-records μ-records
+
+abbrev Else8 : Type 0
+Else8 = tie.Else8 Inv-collected μ-collected Inv-allowed μ-allowed Inv-returned μ-returned Inv-found μ-found Inv-left μ-left Inv-restored μ-restored Inv-sifted μ-sifted Inv-records μ-records
 
 abbrev After-print-arg6 : Type 0
-After-print-arg6 = tie.After-print-arg6 Inv-collected μ-collected Inv-allowed μ-allowed Inv-returned μ-returned Inv-found μ-found Inv-left μ-left Inv-restored μ-restored Inv-records μ-records
+After-print-arg6 = tie.After-print-arg6 Inv-collected μ-collected Inv-allowed μ-allowed Inv-returned μ-returned Inv-found μ-found Inv-left μ-left Inv-restored μ-restored Inv-sifted μ-sifted Inv-records μ-records
 
 abbrev After-slice-known5 : Type 0
-After-slice-known5 = tie.After-slice-known5 Inv-collected μ-collected Inv-allowed μ-allowed Inv-returned μ-returned Inv-found μ-found Inv-left μ-left Inv-restored μ-restored Inv-records μ-records
+After-slice-known5 = tie.After-slice-known5 Inv-collected μ-collected Inv-allowed μ-allowed Inv-returned μ-returned Inv-found μ-found Inv-left μ-left Inv-restored μ-restored Inv-sifted μ-sifted Inv-records μ-records
 
 abbrev Left-records : Type 0
-Left-records = tie.Left-records Inv-collected μ-collected Inv-allowed μ-allowed Inv-returned μ-returned Inv-found μ-found Inv-left μ-left Inv-restored μ-restored Inv-records μ-records
+Left-records = tie.Left-records Inv-collected μ-collected Inv-allowed μ-allowed Inv-returned μ-returned Inv-found μ-found Inv-left μ-left Inv-restored μ-restored Inv-sifted μ-sifted Inv-records μ-records
 
 abbrev After-closed : Type 0
-After-closed = tie.After-closed Inv-collected μ-collected Inv-allowed μ-allowed Inv-returned μ-returned Inv-found μ-found Inv-left μ-left Inv-restored μ-restored Inv-records μ-records
+After-closed = tie.After-closed Inv-collected μ-collected Inv-allowed μ-allowed Inv-returned μ-returned Inv-found μ-found Inv-left μ-left Inv-restored μ-restored Inv-sifted μ-sifted Inv-records μ-records
 
 abbrev After-kept-from : Type 0
-After-kept-from = tie.After-kept-from Inv-collected μ-collected Inv-allowed μ-allowed Inv-returned μ-returned Inv-found μ-found Inv-left μ-left Inv-restored μ-restored Inv-records μ-records
+After-kept-from = tie.After-kept-from Inv-collected μ-collected Inv-allowed μ-allowed Inv-returned μ-returned Inv-found μ-found Inv-left μ-left Inv-restored μ-restored Inv-sifted μ-sifted Inv-records μ-records
 
 abbrev from-After-allowed-to-At-records : After-allowed → At-records
 from-After-allowed-to-At-records c = c .before .before .before .before .before .before .before .before .before .before .before .before .before .before .before .before .before .before .before .before
@@ -466,7 +499,7 @@ abbrev from-After-count-to-In-records : After-count → In-records
 from-After-count-to-In-records c = c .before .before .before .before .before .before .before .before .before .before .before .before .before .before .before .before .before .before .before .before .before .before .before .before .before .before .before .before .before .before .before .before
 
 abbrev from-After-count-to-Start : After-count → Start
-from-After-count-to-Start c = c .before .before .before .before .before .before .before .before .before .before .before .before .before .before .before .before .before .before .before .before .before .before .before .before .before .before .before .before .before .before .before .before .before .before .before .before .before .before .before .before .before .before .before .before .before .before
+from-After-count-to-Start c = c .before .before .before .before .before .before .before .before .before .before .before .before .before .before .before .before .before .before .before .before .before .before .before .before .before .before .before .before .before .before .before .before .before .before .before .before .before .before .before .before .before .before .before .before .before .before .before
 
 abbrev from-After-count-to-Then4 : After-count → Then4
 from-After-count-to-Then4 c = c .before .before .before .before .before .before .before .before .before .before .before .before .before .before .before .before .before .before .before .before .before .before .before
@@ -481,10 +514,22 @@ abbrev from-After-decode-to-At-records : After-decode → At-records
 from-After-decode-to-At-records c = c .before .before .before .before .before .before .before
 
 abbrev from-After-decode-to-Start : After-decode → Start
-from-After-decode-to-Start c = c .before .before .before .before .before .before .before .before .before .before .before .before .before .before .before .before .before .before .before .before
+from-After-decode-to-Start c = c .before .before .before .before .before .before .before .before .before .before .before .before .before .before .before .before .before .before .before .before .before
 
 abbrev from-After-decode-to-Then2 : After-decode → Then2
 from-After-decode-to-Then2 c = c .before .before .before
+
+abbrev from-After-first-from-to-At-records : After-first-from → At-records
+from-After-first-from-to-At-records c = c .before .before .before .before .before .before .before .before .before .before .before .before .before .before .before .before .before .before .before .before .before .before .before .before .before
+
+abbrev from-After-first-from-to-At-sifted : After-first-from → At-sifted
+from-After-first-from-to-At-sifted c = c .before .before .before .before .before .before .before
+
+abbrev from-After-first-from-to-In-sifted : After-first-from → In-sifted
+from-After-first-from-to-In-sifted c = c .before .before .before .before .before .before
+
+abbrev from-After-first-from-to-Then8 : After-first-from → Then8
+from-After-first-from-to-Then8 c = c .before .before .before
 
 abbrev from-After-found-to-After-to-search2 : After-found → After-to-search2
 from-After-found-to-After-to-search2 c = c .before .before .before
@@ -538,13 +583,16 @@ abbrev from-After-kept-from-to-After-closed : After-kept-from → After-closed
 from-After-kept-from-to-After-closed c = c .before .before .before
 
 abbrev from-After-kept-from-to-After-no-checkpoint : After-kept-from → After-no-checkpoint
-from-After-kept-from-to-After-no-checkpoint c = c .before .before .before .before .before .before
+from-After-kept-from-to-After-no-checkpoint c = c .before .before .before .before .before .before .before
 
 abbrev from-After-kept-from-to-At-records : After-kept-from → At-records
 from-After-kept-from-to-At-records c = c .before .before .before .before .before
 
 abbrev from-After-kept-from-to-Left-records : After-kept-from → Left-records
 from-After-kept-from-to-Left-records c = c .before .before .before .before
+
+abbrev from-After-kept-from-to-Start : After-kept-from → Start
+from-After-kept-from-to-Start c = c .before .before .before .before .before .before .before .before .before .before .before .before .before .before .before .before .before .before .before
 
 abbrev from-After-latest-with-to-After-to-search : After-latest-with → After-to-search
 from-After-latest-with-to-After-to-search c = c .before .before .before .before .before
@@ -596,6 +644,18 @@ from-After-no-checkpoint-to-After-vector-rows c = c .before .before .before .bef
 
 abbrev from-After-no-checkpoint-to-Start : After-no-checkpoint → Start
 from-After-no-checkpoint-to-Start c = c .before .before .before .before .before .before .before .before .before .before .before .before
+
+abbrev from-After-no-message-to-After-kept-rows : After-no-message → After-kept-rows
+from-After-no-message-to-After-kept-rows c = c .before .before .before .before .before .before
+
+abbrev from-After-no-message-to-After-pin-rows : After-no-message → After-pin-rows
+from-After-no-message-to-After-pin-rows c = c .before .before .before .before .before .before .before
+
+abbrev from-After-no-message-to-After-vector-rows : After-no-message → After-vector-rows
+from-After-no-message-to-After-vector-rows c = c .before .before .before .before .before .before .before .before
+
+abbrev from-After-no-message-to-Start : After-no-message → Start
+from-After-no-message-to-Start c = c .before .before .before .before .before .before .before .before .before .before .before .before .before
 
 abbrev from-After-own-entries-to-At-records : After-own-entries → At-records
 from-After-own-entries-to-At-records c = c .before .before .before .before .before .before .before .before .before .before .before
@@ -721,16 +781,19 @@ abbrev from-After-print-arg4-to-Then3 : After-print-arg4 → Then3
 from-After-print-arg4-to-Then3 c = c .before .before .before .before .before .before .before .before .before .before .before .before .before .before .before .before .before .before .before
 
 abbrev from-After-print-arg6-to-After-decode : After-print-arg6 → After-decode
-from-After-print-arg6-to-After-decode c = c .before .before .before .before .before .before .before .before .before .before .before .before
+from-After-print-arg6-to-After-decode c = c .before .before .before .before .before .before .before .before .before .before .before .before .before .before
+
+abbrev from-After-print-arg6-to-After-restored : After-print-arg6 → After-restored
+from-After-print-arg6-to-After-restored c = c .before .before .before .before
 
 abbrev from-After-print-arg6-to-At-records : After-print-arg6 → At-records
-from-After-print-arg6-to-At-records c = c .before .before .before .before .before .before .before .before .before .before .before .before .before .before .before .before .before .before .before
+from-After-print-arg6-to-At-records c = c .before .before .before .before .before .before .before .before .before .before .before .before .before .before .before .before .before .before .before .before .before
 
 abbrev from-After-print-arg6-to-At-restored : After-print-arg6 → At-restored
-from-After-print-arg6-to-At-restored c = c .before .before .before
+from-After-print-arg6-to-At-restored c = c .before .before .before .before .before
 
 abbrev from-After-print-arg6-to-Then3 : After-print-arg6 → Then3
-from-After-print-arg6-to-Then3 c = c .before .before .before .before .before .before .before .before .before .before .before .before .before .before
+from-After-print-arg6-to-Then3 c = c .before .before .before .before .before .before .before .before .before .before .before .before .before .before .before .before
 
 abbrev from-After-put-to-After-decode : After-put → After-decode
 from-After-put-to-After-decode c = c .before .before .before .before .before .before .before .before .before .before .before .before
@@ -775,10 +838,10 @@ abbrev from-After-restored-to-Else4 : After-restored → Else4
 from-After-restored-to-Else4 c = c .before .before .before .before .before .before .before
 
 abbrev from-After-restored-to-Start : After-restored → Start
-from-After-restored-to-Start c = c .before .before .before .before .before .before .before .before .before .before .before .before .before .before .before .before .before .before .before .before .before .before .before .before .before .before .before .before .before .before
+from-After-restored-to-Start c = c .before .before .before .before .before .before .before .before .before .before .before .before .before .before .before .before .before .before .before .before .before .before .before .before .before .before .before .before .before .before .before
 
 abbrev from-After-returned-to-Start : After-returned → Start
-from-After-returned-to-Start c = c .before .before .before .before .before .before .before .before .before .before .before .before .before .before .before .before .before .before .before .before .before .before .before .before .before .before .before
+from-After-returned-to-Start c = c .before .before .before .before .before .before .before .before .before .before .before .before .before .before .before .before .before .before .before .before .before .before .before .before .before .before .before .before
 
 abbrev from-After-row-of-to-After-decode : After-row-of → After-decode
 from-After-row-of-to-After-decode c = c .before .before .before .before .before .before .before .before
@@ -797,6 +860,27 @@ from-After-row-of-to-In-records c = c .before .before .before .before .before .b
 
 abbrev from-After-row-of-to-Then4 : After-row-of → Then4
 from-After-row-of-to-Then4 c = c .before .before .before .before .before
+
+abbrev from-After-sifted-to-After-decode : After-sifted → After-decode
+from-After-sifted-to-After-decode c = c .before .before .before .before .before .before .before .before .before .before .before .before
+
+abbrev from-After-sifted-to-After-recovery-of : After-sifted → After-recovery-of
+from-After-sifted-to-After-recovery-of c = c .before .before .before .before .before .before .before .before .before .before .before
+
+abbrev from-After-sifted-to-At-records : After-sifted → At-records
+from-After-sifted-to-At-records c = c .before .before .before .before .before .before .before .before .before .before .before .before .before .before .before .before .before .before .before
+
+abbrev from-After-sifted-to-At-restored : After-sifted → At-restored
+from-After-sifted-to-At-restored c = c .before .before .before
+
+abbrev from-After-sifted-to-At-returned : After-sifted → At-returned
+from-After-sifted-to-At-returned c = c .before .before .before .before .before .before
+
+abbrev from-After-sifted-to-Else4 : After-sifted → Else4
+from-After-sifted-to-Else4 c = c .before .before .before .before .before .before .before .before .before
+
+abbrev from-After-sifted-to-Start : After-sifted → Start
+from-After-sifted-to-Start c = c .before .before .before .before .before .before .before .before .before .before .before .before .before .before .before .before .before .before .before .before .before .before .before .before .before .before .before .before .before .before .before .before .before
 
 abbrev from-After-slice-known3-to-After-collected : After-slice-known3 → After-collected
 from-After-slice-known3-to-After-collected c = c .before .before .before .before .before .before .before .before .before
@@ -868,19 +952,25 @@ abbrev from-After-slice-known4-to-Then4 : After-slice-known4 → Then4
 from-After-slice-known4-to-Then4 c = c .before .before .before .before .before .before .before .before .before .before .before .before .before .before .before .before .before
 
 abbrev from-After-slice-known5-to-After-decode : After-slice-known5 → After-decode
-from-After-slice-known5-to-After-decode c = c .before .before .before .before .before .before .before .before .before .before .before .before .before .before .before
+from-After-slice-known5-to-After-decode c = c .before .before .before .before .before .before .before .before .before .before .before .before .before .before .before .before .before
 
 abbrev from-After-slice-known5-to-After-restored : After-slice-known5 → After-restored
-from-After-slice-known5-to-After-restored c = c .before .before .before .before .before
+from-After-slice-known5-to-After-restored c = c .before .before .before .before .before .before .before
+
+abbrev from-After-slice-known5-to-After-sifted : After-slice-known5 → After-sifted
+from-After-slice-known5-to-After-sifted c = c .before .before .before .before .before
 
 abbrev from-After-slice-known5-to-At-records : After-slice-known5 → At-records
-from-After-slice-known5-to-At-records c = c .before .before .before .before .before .before .before .before .before .before .before .before .before .before .before .before .before .before .before .before .before .before
+from-After-slice-known5-to-At-records c = c .before .before .before .before .before .before .before .before .before .before .before .before .before .before .before .before .before .before .before .before .before .before .before .before
 
 abbrev from-After-slice-known5-to-At-restored : After-slice-known5 → At-restored
-from-After-slice-known5-to-At-restored c = c .before .before .before .before .before .before
+from-After-slice-known5-to-At-restored c = c .before .before .before .before .before .before .before .before
+
+abbrev from-After-slice-known5-to-At-sifted : After-slice-known5 → At-sifted
+from-After-slice-known5-to-At-sifted c = c .before .before .before .before .before .before
 
 abbrev from-After-slice-known5-to-Then3 : After-slice-known5 → Then3
-from-After-slice-known5-to-Then3 c = c .before .before .before .before .before .before .before .before .before .before .before .before .before .before .before .before .before
+from-After-slice-known5-to-Then3 c = c .before .before .before .before .before .before .before .before .before .before .before .before .before .before .before .before .before .before .before
 
 abbrev from-After-sought-to-At-records : After-sought → At-records
 from-After-sought-to-At-records c = c .before .before .before .before .before .before .before .before .before .before .before
@@ -913,13 +1003,13 @@ abbrev from-After-went-back-to-In-returned : After-went-back → In-returned
 from-After-went-back-to-In-returned c = c .before .before .before .before .before .before .before .before .before
 
 abbrev from-At-records-to-Start : At-records → Start
-from-At-records-to-Start c = c .before .before .before .before .before .before .before .before .before .before .before .before .before
+from-At-records-to-Start c = c .before .before .before .before .before .before .before .before .before .before .before .before .before .before
 
 abbrev from-Else4-to-After-decode : Else4 → After-decode
 from-Else4-to-After-decode c = c .before .before .before
 
 abbrev from-Else4-to-Start : Else4 → Start
-from-Else4-to-Start c = c .before .before .before .before .before .before .before .before .before .before .before .before .before .before .before .before .before .before .before .before .before .before .before
+from-Else4-to-Start c = c .before .before .before .before .before .before .before .before .before .before .before .before .before .before .before .before .before .before .before .before .before .before .before .before
 
 abbrev from-Else5-to-After-decode : Else5 → After-decode
 from-Else5-to-After-decode c = c .before .before .before .before .before .before .before .before .before .before .before .before .before .before .before
@@ -949,7 +1039,7 @@ abbrev from-Else5-to-Then4 : Else5 → Then4
 from-Else5-to-Then4 c = c .before .before .before .before .before .before .before .before .before .before .before .before
 
 abbrev from-Else6-to-After-no-checkpoint : Else6 → After-no-checkpoint
-from-Else6-to-After-no-checkpoint c = c .before .before .before .before .before .before .before .before .before .before .before .before .before .before .before .before .before .before .before .before .before .before .before .before .before .before .before .before .before .before .before .before .before
+from-Else6-to-After-no-checkpoint c = c .before .before .before .before .before .before .before .before .before .before .before .before .before .before .before .before .before .before .before .before .before .before .before .before .before .before .before .before .before .before .before .before .before .before
 
 abbrev from-Else6-to-After-pins-then : Else6 → After-pins-then
 from-Else6-to-After-pins-then c = c .before .before .before .before .before .before
@@ -967,7 +1057,7 @@ abbrev from-Else6-to-In-collected : Else6 → In-collected
 from-Else6-to-In-collected c = c .before .before .before
 
 abbrev from-Else7-to-After-no-checkpoint : Else7 → After-no-checkpoint
-from-Else7-to-After-no-checkpoint c = c .before .before .before .before .before .before .before .before .before .before .before .before .before .before .before .before .before .before .before .before .before .before .before .before .before .before .before .before .before .before .before
+from-Else7-to-After-no-checkpoint c = c .before .before .before .before .before .before .before .before .before .before .before .before .before .before .before .before .before .before .before .before .before .before .before .before .before .before .before .before .before .before .before .before
 
 abbrev from-Else7-to-At-left : Else7 → At-left
 from-Else7-to-At-left c = c .before .before .before .before
@@ -980,6 +1070,27 @@ from-Else7-to-In-left c = c .before .before .before
 
 abbrev from-Else7-to-In-restored : Else7 → In-restored
 from-Else7-to-In-restored c = c .before .before .before .before .before .before .before .before .before .before .before .before .before
+
+abbrev from-Else8-to-At-records : Else8 → At-records
+from-Else8-to-At-records c = c .before .before .before .before .before .before .before .before .before .before .before .before .before .before .before .before .before .before .before .before .before .before
+
+abbrev from-Else8-to-At-sifted : Else8 → At-sifted
+from-Else8-to-At-sifted c = c .before .before .before .before
+
+abbrev from-Else8-to-In-sifted : Else8 → In-sifted
+from-Else8-to-In-sifted c = c .before .before .before
+
+abbrev from-Else9-to-After-no-message : Else9 → After-no-message
+from-Else9-to-After-no-message c = c .before .before .before .before .before .before .before .before .before .before .before .before .before .before .before .before .before .before .before .before .before .before .before .before .before
+
+abbrev from-Else9-to-At-records : Else9 → At-records
+from-Else9-to-At-records c = c .before .before .before .before .before .before .before .before .before .before .before .before .before .before .before .before .before .before .before .before .before .before .before .before
+
+abbrev from-Else9-to-At-sifted : Else9 → At-sifted
+from-Else9-to-At-sifted c = c .before .before .before .before .before .before
+
+abbrev from-Else9-to-In-sifted : Else9 → In-sifted
+from-Else9-to-In-sifted c = c .before .before .before .before .before
 
 abbrev from-In-allowed-to-After-to-search : In-allowed → After-to-search
 from-In-allowed-to-After-to-search c = c .before .before .before
@@ -1017,8 +1128,11 @@ from-In-restored-to-At-records c = c .before .before .before .before .before .be
 abbrev from-In-returned-to-At-records : In-returned → At-records
 from-In-returned-to-At-records c = c .before .before .before .before .before .before .before .before .before .before .before .before .before .before
 
+abbrev from-In-sifted-to-At-records : In-sifted → At-records
+from-In-sifted-to-At-records c = c .before .before .before .before .before .before .before .before .before .before .before .before .before .before .before .before .before .before .before
+
 abbrev from-Left-records-to-Start : Left-records → Start
-from-Left-records-to-Start c = c .before .before .before .before .before .before .before .before .before .before .before .before .before .before
+from-Left-records-to-Start c = c .before .before .before .before .before .before .before .before .before .before .before .before .before .before .before
 
 abbrev from-Then2-to-At-records : Then2 → At-records
 from-Then2-to-At-records c = c .before .before .before .before
@@ -1027,7 +1141,7 @@ abbrev from-Then3-to-At-records : Then3 → At-records
 from-Then3-to-At-records c = c .before .before .before .before .before
 
 abbrev from-Then3-to-Start : Then3 → Start
-from-Then3-to-Start c = c .before .before .before .before .before .before .before .before .before .before .before .before .before .before .before .before .before .before
+from-Then3-to-Start c = c .before .before .before .before .before .before .before .before .before .before .before .before .before .before .before .before .before .before .before
 
 abbrev from-Then3-to-Then1 : Then3 → Then1
 from-Then3-to-Then1 c = c .before .before .before
@@ -1036,7 +1150,7 @@ abbrev from-Then4-to-After-decode : Then4 → After-decode
 from-Then4-to-After-decode c = c .before .before .before
 
 abbrev from-Then4-to-Start : Then4 → Start
-from-Then4-to-Start c = c .before .before .before .before .before .before .before .before .before .before .before .before .before .before .before .before .before .before .before .before .before .before .before
+from-Then4-to-Start c = c .before .before .before .before .before .before .before .before .before .before .before .before .before .before .before .before .before .before .before .before .before .before .before .before
 
 abbrev from-Then5-to-After-decode : Then5 → After-decode
 from-Then5-to-After-decode c = c .before .before .before .before .before .before .before .before .before .before .before .before .before .before .before
@@ -1066,7 +1180,7 @@ abbrev from-Then5-to-Then4 : Then5 → Then4
 from-Then5-to-Then4 c = c .before .before .before .before .before .before .before .before .before .before .before .before
 
 abbrev from-Then6-to-After-no-checkpoint : Then6 → After-no-checkpoint
-from-Then6-to-After-no-checkpoint c = c .before .before .before .before .before .before .before .before .before .before .before .before .before .before .before .before .before .before .before .before .before .before .before .before .before .before .before .before .before .before .before .before .before
+from-Then6-to-After-no-checkpoint c = c .before .before .before .before .before .before .before .before .before .before .before .before .before .before .before .before .before .before .before .before .before .before .before .before .before .before .before .before .before .before .before .before .before .before
 
 abbrev from-Then6-to-After-pins-then : Then6 → After-pins-then
 from-Then6-to-After-pins-then c = c .before .before .before .before .before .before
@@ -1084,7 +1198,7 @@ abbrev from-Then6-to-In-collected : Then6 → In-collected
 from-Then6-to-In-collected c = c .before .before .before
 
 abbrev from-Then7-to-After-no-checkpoint : Then7 → After-no-checkpoint
-from-Then7-to-After-no-checkpoint c = c .before .before .before .before .before .before .before .before .before .before .before .before .before .before .before .before .before .before .before .before .before .before .before .before .before .before .before .before .before .before .before
+from-Then7-to-After-no-checkpoint c = c .before .before .before .before .before .before .before .before .before .before .before .before .before .before .before .before .before .before .before .before .before .before .before .before .before .before .before .before .before .before .before .before
 
 abbrev from-Then7-to-At-left : Then7 → At-left
 from-Then7-to-At-left c = c .before .before .before .before
@@ -1097,6 +1211,15 @@ from-Then7-to-In-left c = c .before .before .before
 
 abbrev from-Then7-to-In-restored : Then7 → In-restored
 from-Then7-to-In-restored c = c .before .before .before .before .before .before .before .before .before .before .before .before .before
+
+abbrev from-Then8-to-At-records : Then8 → At-records
+from-Then8-to-At-records c = c .before .before .before .before .before .before .before .before .before .before .before .before .before .before .before .before .before .before .before .before .before .before
+
+abbrev from-Then8-to-At-sifted : Then8 → At-sifted
+from-Then8-to-At-sifted c = c .before .before .before .before
+
+abbrev from-Then8-to-In-sifted : Then8 → In-sifted
+from-Then8-to-In-sifted c = c .before .before .before
 
 -- The state that the parts are at the start of a turn, and what is known of it.
 abbrev whole : (c : At-records) → Run
@@ -1141,35 +1264,35 @@ is-event c =
     ∙ ap eventIn (c .before .record-after .ensures)
     ∙ record-there (now (from-After-decode-to-Start c .args .trace)) (from-After-decode-to-At-records c .records .taken) (sym (from-After-decode-to-After-record-left c .record-left .ensures) ∙ from-After-decode-to-Then2 c .if2 .taken)
 
-sub-if3 : tie.Need-sub-if3 Inv-collected μ-collected Inv-allowed μ-allowed Inv-returned μ-returned Inv-found μ-found Inv-left μ-left Inv-restored μ-restored Inv-records μ-records
+sub-if3 : tie.Need-sub-if3 Inv-collected μ-collected Inv-allowed μ-allowed Inv-returned μ-returned Inv-found μ-found Inv-left μ-left Inv-restored μ-restored Inv-sifted μ-sifted Inv-records μ-records
 sub-if3 c = omega (arith, from-Then2-to-At-records c .records .inv .fits, from-Then2-to-At-records c .records .inv .long)
 
-add-if1 : tie.Need-add-if1 Inv-collected μ-collected Inv-allowed μ-allowed Inv-returned μ-returned Inv-found μ-found Inv-left μ-left Inv-restored μ-restored Inv-records μ-records
+add-if1 : tie.Need-add-if1 Inv-collected μ-collected Inv-allowed μ-allowed Inv-returned μ-returned Inv-found μ-found Inv-left μ-left Inv-restored μ-restored Inv-sifted μ-sifted Inv-records μ-records
 add-if1 c = omega (arith, c .before .records .inv .few)
 
-add-taken : tie.Need-add-taken Inv-collected μ-collected Inv-allowed μ-allowed Inv-returned μ-returned Inv-found μ-found Inv-left μ-left Inv-restored μ-restored Inv-records μ-records
+add-taken : tie.Need-add-taken Inv-collected μ-collected Inv-allowed μ-allowed Inv-returned μ-returned Inv-found μ-found Inv-left μ-left Inv-restored μ-restored Inv-sifted μ-sifted Inv-records μ-records
 add-taken c = omega (arith, few (c .before .before))
 
-add-number : tie.Need-add-number Inv-collected μ-collected Inv-allowed μ-allowed Inv-returned μ-returned Inv-found μ-found Inv-left μ-left Inv-restored μ-restored Inv-records μ-records
+add-number : tie.Need-add-number Inv-collected μ-collected Inv-allowed μ-allowed Inv-returned μ-returned Inv-found μ-found Inv-left μ-left Inv-restored μ-restored Inv-sifted μ-sifted Inv-records μ-records
 add-number c = omega (arith, few (c .before .before))
 
-recovery-of-requires : tie.Need-recovery-of-requires Inv-collected μ-collected Inv-allowed μ-allowed Inv-returned μ-returned Inv-found μ-found Inv-left μ-left Inv-restored μ-restored Inv-records μ-records
+recovery-of-requires : tie.Need-recovery-of-requires Inv-collected μ-collected Inv-allowed μ-allowed Inv-returned μ-returned Inv-found μ-found Inv-left μ-left Inv-restored μ-restored Inv-sifted μ-sifted Inv-records μ-records
 recovery-of-requires c κs = most (from-After-decode-to-At-records c)
 
 -- A record that asks for no recovery.
 not-asked : (c : Then4) → recoveryOf (from-Then4-to-Start c .args .s .count) (event (from-Then4-to-After-decode c)) .asked ≡ false
 not-asked c = ap (λ (r : Recovery). r .asked) (sym (c .before .before .recovery-of .ensures)) ∙ not-true _ (c .if4 .taken)
 
-place-in-requires : tie.Need-place-in-requires Inv-collected μ-collected Inv-allowed μ-allowed Inv-returned μ-returned Inv-found μ-found Inv-left μ-left Inv-restored μ-restored Inv-records μ-records
+place-in-requires : tie.Need-place-in-requires Inv-collected μ-collected Inv-allowed μ-allowed Inv-returned μ-returned Inv-found μ-found Inv-left μ-left Inv-restored μ-restored Inv-sifted μ-sifted Inv-records μ-records
 place-in-requires c κs = from-After-sought-to-At-records c .records .inv .windowed .numbers-long
 
 in-window : (c : After-place-in) → c .place-in .result < 576
 in-window c = omega (arith, windows.place-most (from-After-place-in-to-At-records c .records .inv .windowed) (c .before .sought .result), c .place-in .ensures, from-After-place-in-to-In-records c .records-test .taken)
 
-mul-message : tie.Need-mul-message Inv-collected μ-collected Inv-allowed μ-allowed Inv-returned μ-returned Inv-found μ-found Inv-left μ-left Inv-restored μ-restored Inv-records μ-records
+mul-message : tie.Need-mul-message Inv-collected μ-collected Inv-allowed μ-allowed Inv-returned μ-returned Inv-found μ-found Inv-left μ-left Inv-restored μ-restored Inv-sifted μ-sifted Inv-records μ-records
 mul-message c = omega (arith, in-window c)
 
-array-copy-out-message : tie.Need-array-copy-out-message Inv-collected μ-collected Inv-allowed μ-allowed Inv-returned μ-returned Inv-found μ-found Inv-left μ-left Inv-restored μ-restored Inv-records μ-records
+array-copy-out-message : tie.Need-array-copy-out-message Inv-collected μ-collected Inv-allowed μ-allowed Inv-returned μ-returned Inv-found μ-found Inv-left μ-left Inv-restored μ-restored Inv-sifted μ-sifted Inv-records μ-records
 array-copy-out-message c = omega (arith, in-window c)
 
 -- What was read there is the message in the window, whatever stands for one past its end.
@@ -1180,65 +1303,65 @@ message-is c d = any-default (from-After-place-in-to-At-records c .records .wind
 in-rows : (c : After-row-of) → c .row-of .result < 16
 in-rows c = turn.row-there (whole (from-After-row-of-to-At-records c)) (reach (from-After-row-of-to-At-records c)) (event (from-After-row-of-to-After-decode c)) (not-asked (from-After-row-of-to-Then4 c)) (from-After-row-of-to-At-records c .records .inv .windowed) (from-After-row-of-to-In-records c .records-test .taken) (holds (from-After-row-of-to-At-records c)) refl (from-After-row-of-to-After-sought c .sought .ensures) (from-After-row-of-to-After-place-in c .place-in .ensures) (message-is (from-After-row-of-to-After-place-in c) _) (c .before .is-there .ensures) (c .row-of .ensures)
 
-mul-vector : tie.Need-mul-vector Inv-collected μ-collected Inv-allowed μ-allowed Inv-returned μ-returned Inv-found μ-found Inv-left μ-left Inv-restored μ-restored Inv-records μ-records
+mul-vector : tie.Need-mul-vector Inv-collected μ-collected Inv-allowed μ-allowed Inv-returned μ-returned Inv-found μ-found Inv-left μ-left Inv-restored μ-restored Inv-sifted μ-sifted Inv-records μ-records
 mul-vector c = omega (arith, in-rows (c))
 
-array-copy-out-vector : tie.Need-array-copy-out-vector Inv-collected μ-collected Inv-allowed μ-allowed Inv-returned μ-returned Inv-found μ-found Inv-left μ-left Inv-restored μ-restored Inv-records μ-records
+array-copy-out-vector : tie.Need-array-copy-out-vector Inv-collected μ-collected Inv-allowed μ-allowed Inv-returned μ-returned Inv-found μ-found Inv-left μ-left Inv-restored μ-restored Inv-sifted μ-sifted Inv-records μ-records
 array-copy-out-vector c = omega (arith, in-rows (c))
 
-array-read-mark : tie.Need-array-read-mark Inv-collected μ-collected Inv-allowed μ-allowed Inv-returned μ-returned Inv-found μ-found Inv-left μ-left Inv-restored μ-restored Inv-records μ-records
+array-read-mark : tie.Need-array-read-mark Inv-collected μ-collected Inv-allowed μ-allowed Inv-returned μ-returned Inv-found μ-found Inv-left μ-left Inv-restored μ-restored Inv-sifted μ-sifted Inv-records μ-records
 array-read-mark c = omega (arith, in-rows (c .before))
 
-mul-own : tie.Need-mul-own Inv-collected μ-collected Inv-allowed μ-allowed Inv-returned μ-returned Inv-found μ-found Inv-left μ-left Inv-restored μ-restored Inv-records μ-records
+mul-own : tie.Need-mul-own Inv-collected μ-collected Inv-allowed μ-allowed Inv-returned μ-returned Inv-found μ-found Inv-left μ-left Inv-restored μ-restored Inv-sifted μ-sifted Inv-records μ-records
 mul-own c = omega (arith, in-rows (c .before))
 
-array-copy-out-own : tie.Need-array-copy-out-own Inv-collected μ-collected Inv-allowed μ-allowed Inv-returned μ-returned Inv-found μ-found Inv-left μ-left Inv-restored μ-restored Inv-records μ-records
+array-copy-out-own : tie.Need-array-copy-out-own Inv-collected μ-collected Inv-allowed μ-allowed Inv-returned μ-returned Inv-found μ-found Inv-left μ-left Inv-restored μ-restored Inv-sifted μ-sifted Inv-records μ-records
 array-copy-out-own c = omega (arith, in-rows (c .before))
 
-array-write-sent : tie.Need-array-write-sent Inv-collected μ-collected Inv-allowed μ-allowed Inv-returned μ-returned Inv-found μ-found Inv-left μ-left Inv-restored μ-restored Inv-records μ-records
+array-write-sent : tie.Need-array-write-sent Inv-collected μ-collected Inv-allowed μ-allowed Inv-returned μ-returned Inv-found μ-found Inv-left μ-left Inv-restored μ-restored Inv-sifted μ-sifted Inv-records μ-records
 array-write-sent c = omega (arith, in-rows (from-After-plan-of-to-After-row-of c))
 
-plan-of-requires : tie.Need-plan-of-requires Inv-collected μ-collected Inv-allowed μ-allowed Inv-returned μ-returned Inv-found μ-found Inv-left μ-left Inv-restored μ-restored Inv-records μ-records
+plan-of-requires : tie.Need-plan-of-requires Inv-collected μ-collected Inv-allowed μ-allowed Inv-returned μ-returned Inv-found μ-found Inv-left μ-left Inv-restored μ-restored Inv-sifted μ-sifted Inv-records μ-records
 plan-of-requires c κs = (turn.some-there (whole (from-After-own-to-At-records c)) (reach (from-After-own-to-At-records c)) (event (from-After-own-to-After-decode c)) (not-asked (from-After-own-to-Then4 c)) (from-After-own-to-At-records c .records .inv .windowed) (from-After-own-to-In-records c .records-test .taken) (holds (from-After-own-to-At-records c)) refl (from-After-own-to-After-sought c .sought .ensures) (from-After-own-to-After-place-in c .place-in .ensures) (message-is (from-After-own-to-After-place-in c) _) (from-After-own-to-After-is-there c .is-there .ensures) (c .before .before .row-of .ensures), omega (arith, from-After-own-to-In-records c .records-test .taken))
 
-mul-window : tie.Need-mul-window Inv-collected μ-collected Inv-allowed μ-allowed Inv-returned μ-returned Inv-found μ-found Inv-left μ-left Inv-restored μ-restored Inv-records μ-records
+mul-window : tie.Need-mul-window Inv-collected μ-collected Inv-allowed μ-allowed Inv-returned μ-returned Inv-found μ-found Inv-left μ-left Inv-restored μ-restored Inv-sifted μ-sifted Inv-records μ-records
 mul-window c = omega (arith, turn.place-there (whole (from-After-put-to-At-records c)) (reach (from-After-put-to-At-records c)) (event (from-After-put-to-After-decode c)) (not-asked (from-After-put-to-Then4 c)) (from-After-put-to-At-records c .records .inv .windowed) (from-After-put-to-In-records c .records-test .taken) (holds (from-After-put-to-At-records c)) refl (from-After-put-to-After-sought c .sought .ensures) (from-After-put-to-After-place-in c .place-in .ensures) (message-is (from-After-put-to-After-place-in c) _) (from-After-put-to-After-is-there c .is-there .ensures) (from-After-put-to-After-row-of c .row-of .ensures) (c .before .plan-of .ensures))
 
-array-set-from-window : tie.Need-array-set-from-window Inv-collected μ-collected Inv-allowed μ-allowed Inv-returned μ-returned Inv-found μ-found Inv-left μ-left Inv-restored μ-restored Inv-records μ-records
+array-set-from-window : tie.Need-array-set-from-window Inv-collected μ-collected Inv-allowed μ-allowed Inv-returned μ-returned Inv-found μ-found Inv-left μ-left Inv-restored μ-restored Inv-sifted μ-sifted Inv-records μ-records
 array-set-from-window c = omega (arith, turn.place-there (whole (from-After-put-to-At-records c)) (reach (from-After-put-to-At-records c)) (event (from-After-put-to-After-decode c)) (not-asked (from-After-put-to-Then4 c)) (from-After-put-to-At-records c .records .inv .windowed) (from-After-put-to-In-records c .records-test .taken) (holds (from-After-put-to-At-records c)) refl (from-After-put-to-After-sought c .sought .ensures) (from-After-put-to-After-place-in c .place-in .ensures) (message-is (from-After-put-to-After-place-in c) _) (from-After-put-to-After-is-there c .is-there .ensures) (from-After-put-to-After-row-of c .row-of .ensures) (c .before .plan-of .ensures))
 
 -- The pins of its process move.
-mul-pins-before : tie.Need-mul-pins-before Inv-collected μ-collected Inv-allowed μ-allowed Inv-returned μ-returned Inv-found μ-found Inv-left μ-left Inv-restored μ-restored Inv-records μ-records
+mul-pins-before : tie.Need-mul-pins-before Inv-collected μ-collected Inv-allowed μ-allowed Inv-returned μ-returned Inv-found μ-found Inv-left μ-left Inv-restored μ-restored Inv-sifted μ-sifted Inv-records μ-records
 mul-pins-before c = omega (arith, in-rows (from-After-live-from-to-After-row-of c))
 
-array-copy-out-pins-before : tie.Need-array-copy-out-pins-before Inv-collected μ-collected Inv-allowed μ-allowed Inv-returned μ-returned Inv-found μ-found Inv-left μ-left Inv-restored μ-restored Inv-records μ-records
+array-copy-out-pins-before : tie.Need-array-copy-out-pins-before Inv-collected μ-collected Inv-allowed μ-allowed Inv-returned μ-returned Inv-found μ-found Inv-left μ-left Inv-restored μ-restored Inv-sifted μ-sifted Inv-records μ-records
 array-copy-out-pins-before c = omega (arith, in-rows (from-After-live-from-to-After-row-of c))
 
-mul-vectors : tie.Need-mul-vectors Inv-collected μ-collected Inv-allowed μ-allowed Inv-returned μ-returned Inv-found μ-found Inv-left μ-left Inv-restored μ-restored Inv-records μ-records
+mul-vectors : tie.Need-mul-vectors Inv-collected μ-collected Inv-allowed μ-allowed Inv-returned μ-returned Inv-found μ-found Inv-left μ-left Inv-restored μ-restored Inv-sifted μ-sifted Inv-records μ-records
 mul-vectors c = omega (arith, in-rows (from-After-vector-then-to-After-row-of c))
 
-array-set-from-vectors : tie.Need-array-set-from-vectors Inv-collected μ-collected Inv-allowed μ-allowed Inv-returned μ-returned Inv-found μ-found Inv-left μ-left Inv-restored μ-restored Inv-records μ-records
+array-set-from-vectors : tie.Need-array-set-from-vectors Inv-collected μ-collected Inv-allowed μ-allowed Inv-returned μ-returned Inv-found μ-found Inv-left μ-left Inv-restored μ-restored Inv-sifted μ-sifted Inv-records μ-records
 array-set-from-vectors c = omega (arith, in-rows (from-After-vector-then-to-After-row-of c))
 
-mul-pins : tie.Need-mul-pins Inv-collected μ-collected Inv-allowed μ-allowed Inv-returned μ-returned Inv-found μ-found Inv-left μ-left Inv-restored μ-restored Inv-records μ-records
+mul-pins : tie.Need-mul-pins Inv-collected μ-collected Inv-allowed μ-allowed Inv-returned μ-returned Inv-found μ-found Inv-left μ-left Inv-restored μ-restored Inv-sifted μ-sifted Inv-records μ-records
 mul-pins c = omega (arith, in-rows (from-After-vector-then-to-After-row-of c))
 
-array-set-from-pins : tie.Need-array-set-from-pins Inv-collected μ-collected Inv-allowed μ-allowed Inv-returned μ-returned Inv-found μ-found Inv-left μ-left Inv-restored μ-restored Inv-records μ-records
+array-set-from-pins : tie.Need-array-set-from-pins Inv-collected μ-collected Inv-allowed μ-allowed Inv-returned μ-returned Inv-found μ-found Inv-left μ-left Inv-restored μ-restored Inv-sifted μ-sifted Inv-records μ-records
 array-set-from-pins c = omega (arith, in-rows (from-After-vector-then-to-After-row-of c))
 
-mul-many : tie.Need-mul-many Inv-collected μ-collected Inv-allowed μ-allowed Inv-returned μ-returned Inv-found μ-found Inv-left μ-left Inv-restored μ-restored Inv-records μ-records
+mul-many : tie.Need-mul-many Inv-collected μ-collected Inv-allowed μ-allowed Inv-returned μ-returned Inv-found μ-found Inv-left μ-left Inv-restored μ-restored Inv-sifted μ-sifted Inv-records μ-records
 mul-many c = omega (arith, in-rows (from-After-vector-then-to-After-row-of c))
 
-array-read-many : tie.Need-array-read-many Inv-collected μ-collected Inv-allowed μ-allowed Inv-returned μ-returned Inv-found μ-found Inv-left μ-left Inv-restored μ-restored Inv-records μ-records
+array-read-many : tie.Need-array-read-many Inv-collected μ-collected Inv-allowed μ-allowed Inv-returned μ-returned Inv-found μ-found Inv-left μ-left Inv-restored μ-restored Inv-sifted μ-sifted Inv-records μ-records
 array-read-many c = omega (arith, in-rows (from-After-vector-then-to-After-row-of c))
 
-live-from-requires : tie.Need-live-from-requires Inv-collected μ-collected Inv-allowed μ-allowed Inv-returned μ-returned Inv-found μ-found Inv-left μ-left Inv-restored μ-restored Inv-records μ-records
+live-from-requires : tie.Need-live-from-requires Inv-collected μ-collected Inv-allowed μ-allowed Inv-returned μ-returned Inv-found μ-found Inv-left μ-left Inv-restored μ-restored Inv-sifted μ-sifted Inv-records μ-records
 live-from-requires c κs = (in-rows (from-Then5-to-After-row-of c), turn.moved-own (whole (from-Then5-to-At-records c)) (reach (from-Then5-to-At-records c)) (event (from-Then5-to-After-decode c)) (not-asked (from-Then5-to-Then4 c)) (from-Then5-to-At-records c .records .inv .windowed) (from-Then5-to-In-records c .records-test .taken) (holds (from-Then5-to-At-records c)) refl (from-Then5-to-After-sought c .sought .ensures) (from-Then5-to-After-place-in c .place-in .ensures) (message-is (from-Then5-to-After-place-in c) _) (from-Then5-to-After-is-there c .is-there .ensures) (from-Then5-to-After-row-of c .row-of .ensures) (from-Then5-to-After-plan-of c .plan-of .ensures) (c .if5 .taken))
 
-pins-then-requires : tie.Need-pins-then-requires Inv-collected μ-collected Inv-allowed μ-allowed Inv-returned μ-returned Inv-found μ-found Inv-left μ-left Inv-restored μ-restored Inv-records μ-records
+pins-then-requires : tie.Need-pins-then-requires Inv-collected μ-collected Inv-allowed μ-allowed Inv-returned μ-returned Inv-found μ-found Inv-left μ-left Inv-restored μ-restored Inv-sifted μ-sifted Inv-records μ-records
 pins-then-requires c κs = (in-rows (from-After-carried-to-After-row-of c), turn.moved-room (whole (from-After-carried-to-At-records c)) (reach (from-After-carried-to-At-records c)) (event (from-After-carried-to-After-decode c)) (not-asked (from-After-carried-to-Then4 c)) (from-After-carried-to-At-records c .records .inv .windowed) (from-After-carried-to-In-records c .records-test .taken) (holds (from-After-carried-to-At-records c)) refl (from-After-carried-to-After-sought c .sought .ensures) (from-After-carried-to-After-place-in c .place-in .ensures) (message-is (from-After-carried-to-After-place-in c) _) (from-After-carried-to-After-is-there c .is-there .ensures) (from-After-carried-to-After-row-of c .row-of .ensures) (from-After-carried-to-After-plan-of c .plan-of .ensures) (from-After-carried-to-Then5 c .if5 .taken))
 
-vector-then-requires : tie.Need-vector-then-requires Inv-collected μ-collected Inv-allowed μ-allowed Inv-returned μ-returned Inv-found μ-found Inv-left μ-left Inv-restored μ-restored Inv-records μ-records
+vector-then-requires : tie.Need-vector-then-requires Inv-collected μ-collected Inv-allowed μ-allowed Inv-returned μ-returned Inv-found μ-found Inv-left μ-left Inv-restored μ-restored Inv-sifted μ-sifted Inv-records μ-records
 vector-then-requires c κs = (in-rows (from-After-pins-then-to-After-row-of c), turn.moved-room (whole (from-After-pins-then-to-At-records c)) (reach (from-After-pins-then-to-At-records c)) (event (from-After-pins-then-to-After-decode c)) (not-asked (from-After-pins-then-to-Then4 c)) (from-After-pins-then-to-At-records c .records .inv .windowed) (from-After-pins-then-to-In-records c .records-test .taken) (holds (from-After-pins-then-to-At-records c)) refl (from-After-pins-then-to-After-sought c .sought .ensures) (from-After-pins-then-to-After-place-in c .place-in .ensures) (message-is (from-After-pins-then-to-After-place-in c) _) (from-After-pins-then-to-After-is-there c .is-there .ensures) (from-After-pins-then-to-After-row-of c .row-of .ensures) (from-After-pins-then-to-After-plan-of c .plan-of .ensures) (from-After-pins-then-to-Then5 c .if5 .taken))
 
 -- Its row has a place, is filled behind what it keeps, and keeps 16 at most.
@@ -1251,7 +1374,7 @@ row-long c = sized (from-After-row-of-to-At-records c) .kept-row (c .row-of .res
 many-most : (c : Then5) → getD (from-Then5-to-At-records c .records .held) (from-Then5-to-After-row-of c .row-of .result) 0 ≤ 16
 many-most c = turn.moved-held (whole (from-Then5-to-At-records c)) (reach (from-Then5-to-At-records c)) (event (from-Then5-to-After-decode c)) (not-asked (from-Then5-to-Then4 c)) (from-Then5-to-At-records c .records .inv .windowed) (from-Then5-to-In-records c .records-test .taken) (holds (from-Then5-to-At-records c)) refl (from-Then5-to-After-sought c .sought .ensures) (from-Then5-to-After-place-in c .place-in .ensures) (message-is (from-Then5-to-After-place-in c) _) (from-Then5-to-After-is-there c .is-there .ensures) (from-Then5-to-After-row-of c .row-of .ensures) (from-Then5-to-After-plan-of c .plan-of .ensures) (c .if5 .taken)
 
-collected-holds : tie.Need-collected-holds Inv-collected μ-collected Inv-allowed μ-allowed Inv-returned μ-returned Inv-found μ-found Inv-left μ-left Inv-restored μ-restored Inv-records μ-records
+collected-holds : tie.Need-collected-holds Inv-collected μ-collected Inv-allowed μ-allowed Inv-returned μ-returned Inv-found μ-found Inv-left μ-left Inv-restored μ-restored Inv-sifted μ-sifted Inv-records μ-records
 collected-holds c =
     (collected.none (named (c .before .pins-then .result)) (from-After-vector-then-to-At-records c .records .kept) (from-After-vector-then-to-After-row-of c .row-of .result) (there (from-After-vector-then-to-After-row-of c)) (from-After-vector-then-to-At-records c .records .deleted) 0, omega arith)
 
@@ -1267,88 +1390,88 @@ inside c =
       few = omega (arith, v .gone-most);
     }
 
-mul-c : tie.Need-mul-c Inv-collected μ-collected Inv-allowed μ-allowed Inv-returned μ-returned Inv-found μ-found Inv-left μ-left Inv-restored μ-restored Inv-records μ-records
+mul-c : tie.Need-mul-c Inv-collected μ-collected Inv-allowed μ-allowed Inv-returned μ-returned Inv-found μ-found Inv-left μ-left Inv-restored μ-restored Inv-sifted μ-sifted Inv-records μ-records
 mul-c c = let b = inside (c) in omega arith
 
-mul-c-2 : tie.Need-mul-c-2 Inv-collected μ-collected Inv-allowed μ-allowed Inv-returned μ-returned Inv-found μ-found Inv-left μ-left Inv-restored μ-restored Inv-records μ-records
+mul-c-2 : tie.Need-mul-c-2 Inv-collected μ-collected Inv-allowed μ-allowed Inv-returned μ-returned Inv-found μ-found Inv-left μ-left Inv-restored μ-restored Inv-sifted μ-sifted Inv-records μ-records
 mul-c-2 c = let b = inside (c) in omega arith
 
-index-1-c : tie.Need-index-1-c Inv-collected μ-collected Inv-allowed μ-allowed Inv-returned μ-returned Inv-found μ-found Inv-left μ-left Inv-restored μ-restored Inv-records μ-records
+index-1-c : tie.Need-index-1-c Inv-collected μ-collected Inv-allowed μ-allowed Inv-returned μ-returned Inv-found μ-found Inv-left μ-left Inv-restored μ-restored Inv-sifted μ-sifted Inv-records μ-records
 index-1-c c = let b = inside (c) in omega arith
 
-index-2-c : tie.Need-index-2-c Inv-collected μ-collected Inv-allowed μ-allowed Inv-returned μ-returned Inv-found μ-found Inv-left μ-left Inv-restored μ-restored Inv-records μ-records
+index-2-c : tie.Need-index-2-c Inv-collected μ-collected Inv-allowed μ-allowed Inv-returned μ-returned Inv-found μ-found Inv-left μ-left Inv-restored μ-restored Inv-sifted μ-sifted Inv-records μ-records
 index-2-c c = let b = inside (c) in omega arith
 
-mul-empty : tie.Need-mul-empty Inv-collected μ-collected Inv-allowed μ-allowed Inv-returned μ-returned Inv-found μ-found Inv-left μ-left Inv-restored μ-restored Inv-records μ-records
+mul-empty : tie.Need-mul-empty Inv-collected μ-collected Inv-allowed μ-allowed Inv-returned μ-returned Inv-found μ-found Inv-left μ-left Inv-restored μ-restored Inv-sifted μ-sifted Inv-records μ-records
 mul-empty c = let b = inside (c .before) in omega arith
 
-mul-empty-2 : tie.Need-mul-empty-2 Inv-collected μ-collected Inv-allowed μ-allowed Inv-returned μ-returned Inv-found μ-found Inv-left μ-left Inv-restored μ-restored Inv-records μ-records
+mul-empty-2 : tie.Need-mul-empty-2 Inv-collected μ-collected Inv-allowed μ-allowed Inv-returned μ-returned Inv-found μ-found Inv-left μ-left Inv-restored μ-restored Inv-sifted μ-sifted Inv-records μ-records
 mul-empty-2 c = let b = inside (c .before) in omega arith
 
-index-1-empty : tie.Need-index-1-empty Inv-collected μ-collected Inv-allowed μ-allowed Inv-returned μ-returned Inv-found μ-found Inv-left μ-left Inv-restored μ-restored Inv-records μ-records
+index-1-empty : tie.Need-index-1-empty Inv-collected μ-collected Inv-allowed μ-allowed Inv-returned μ-returned Inv-found μ-found Inv-left μ-left Inv-restored μ-restored Inv-sifted μ-sifted Inv-records μ-records
 index-1-empty c = let b = inside (c .before) in omega arith
 
-index-2-empty : tie.Need-index-2-empty Inv-collected μ-collected Inv-allowed μ-allowed Inv-returned μ-returned Inv-found μ-found Inv-left μ-left Inv-restored μ-restored Inv-records μ-records
+index-2-empty : tie.Need-index-2-empty Inv-collected μ-collected Inv-allowed μ-allowed Inv-returned μ-returned Inv-found μ-found Inv-left μ-left Inv-restored μ-restored Inv-sifted μ-sifted Inv-records μ-records
 index-2-empty c = let b = inside (c .before) in omega arith
 
-add-j : tie.Need-add-j Inv-collected μ-collected Inv-allowed μ-allowed Inv-returned μ-returned Inv-found μ-found Inv-left μ-left Inv-restored μ-restored Inv-records μ-records
+add-j : tie.Need-add-j Inv-collected μ-collected Inv-allowed μ-allowed Inv-returned μ-returned Inv-found μ-found Inv-left μ-left Inv-restored μ-restored Inv-sifted μ-sifted Inv-records μ-records
 add-j c = let b = inside (c .before) in omega arith
 
-mul-c-3 : tie.Need-mul-c-3 Inv-collected μ-collected Inv-allowed μ-allowed Inv-returned μ-returned Inv-found μ-found Inv-left μ-left Inv-restored μ-restored Inv-records μ-records
+mul-c-3 : tie.Need-mul-c-3 Inv-collected μ-collected Inv-allowed μ-allowed Inv-returned μ-returned Inv-found μ-found Inv-left μ-left Inv-restored μ-restored Inv-sifted μ-sifted Inv-records μ-records
 mul-c-3 c = let b = inside (from-Then6-to-In-collected c) in omega arith
 
-mul-c-4 : tie.Need-mul-c-4 Inv-collected μ-collected Inv-allowed μ-allowed Inv-returned μ-returned Inv-found μ-found Inv-left μ-left Inv-restored μ-restored Inv-records μ-records
+mul-c-4 : tie.Need-mul-c-4 Inv-collected μ-collected Inv-allowed μ-allowed Inv-returned μ-returned Inv-found μ-found Inv-left μ-left Inv-restored μ-restored Inv-sifted μ-sifted Inv-records μ-records
 mul-c-4 c = let b = inside (from-Then6-to-In-collected c) in omega arith
 
-index-1-c-2 : tie.Need-index-1-c-2 Inv-collected μ-collected Inv-allowed μ-allowed Inv-returned μ-returned Inv-found μ-found Inv-left μ-left Inv-restored μ-restored Inv-records μ-records
+index-1-c-2 : tie.Need-index-1-c-2 Inv-collected μ-collected Inv-allowed μ-allowed Inv-returned μ-returned Inv-found μ-found Inv-left μ-left Inv-restored μ-restored Inv-sifted μ-sifted Inv-records μ-records
 index-1-c-2 c = let b = inside (from-Then6-to-In-collected c) in omega arith
 
-index-2-c-2 : tie.Need-index-2-c-2 Inv-collected μ-collected Inv-allowed μ-allowed Inv-returned μ-returned Inv-found μ-found Inv-left μ-left Inv-restored μ-restored Inv-records μ-records
+index-2-c-2 : tie.Need-index-2-c-2 Inv-collected μ-collected Inv-allowed μ-allowed Inv-returned μ-returned Inv-found μ-found Inv-left μ-left Inv-restored μ-restored Inv-sifted μ-sifted Inv-records μ-records
 index-2-c-2 c = let b = inside (from-Then6-to-In-collected c) in omega arith
 
-add-to : tie.Need-add-to Inv-collected μ-collected Inv-allowed μ-allowed Inv-returned μ-returned Inv-found μ-found Inv-left μ-left Inv-restored μ-restored Inv-records μ-records
+add-to : tie.Need-add-to Inv-collected μ-collected Inv-allowed μ-allowed Inv-returned μ-returned Inv-found μ-found Inv-left μ-left Inv-restored μ-restored Inv-sifted μ-sifted Inv-records μ-records
 add-to c = let b = inside (from-Then6-to-In-collected c) in omega arith
 
-cast-deleted : tie.Need-cast-deleted Inv-collected μ-collected Inv-allowed μ-allowed Inv-returned μ-returned Inv-found μ-found Inv-left μ-left Inv-restored μ-restored Inv-records μ-records
+cast-deleted : tie.Need-cast-deleted Inv-collected μ-collected Inv-allowed μ-allowed Inv-returned μ-returned Inv-found μ-found Inv-left μ-left Inv-restored μ-restored Inv-sifted μ-sifted Inv-records μ-records
 cast-deleted c =
     let b = inside (from-Else6-to-In-collected c) in omega arith
 
-mul-deleted : tie.Need-mul-deleted Inv-collected μ-collected Inv-allowed μ-allowed Inv-returned μ-returned Inv-found μ-found Inv-left μ-left Inv-restored μ-restored Inv-records μ-records
+mul-deleted : tie.Need-mul-deleted Inv-collected μ-collected Inv-allowed μ-allowed Inv-returned μ-returned Inv-found μ-found Inv-left μ-left Inv-restored μ-restored Inv-sifted μ-sifted Inv-records μ-records
 mul-deleted c =
     let b = inside (from-Else6-to-In-collected c) in omega arith
 
-mul-deleted-2 : tie.Need-mul-deleted-2 Inv-collected μ-collected Inv-allowed μ-allowed Inv-returned μ-returned Inv-found μ-found Inv-left μ-left Inv-restored μ-restored Inv-records μ-records
+mul-deleted-2 : tie.Need-mul-deleted-2 Inv-collected μ-collected Inv-allowed μ-allowed Inv-returned μ-returned Inv-found μ-found Inv-left μ-left Inv-restored μ-restored Inv-sifted μ-sifted Inv-records μ-records
 mul-deleted-2 c =
     let b = inside (from-Else6-to-In-collected c) in omega arith
 
-mul-deleted-3 : tie.Need-mul-deleted-3 Inv-collected μ-collected Inv-allowed μ-allowed Inv-returned μ-returned Inv-found μ-found Inv-left μ-left Inv-restored μ-restored Inv-records μ-records
+mul-deleted-3 : tie.Need-mul-deleted-3 Inv-collected μ-collected Inv-allowed μ-allowed Inv-returned μ-returned Inv-found μ-found Inv-left μ-left Inv-restored μ-restored Inv-sifted μ-sifted Inv-records μ-records
 mul-deleted-3 c =
     let b = inside (from-Else6-to-In-collected c) in omega arith
 
-mul-deleted-4 : tie.Need-mul-deleted-4 Inv-collected μ-collected Inv-allowed μ-allowed Inv-returned μ-returned Inv-found μ-found Inv-left μ-left Inv-restored μ-restored Inv-records μ-records
+mul-deleted-4 : tie.Need-mul-deleted-4 Inv-collected μ-collected Inv-allowed μ-allowed Inv-returned μ-returned Inv-found μ-found Inv-left μ-left Inv-restored μ-restored Inv-sifted μ-sifted Inv-records μ-records
 mul-deleted-4 c =
     let b = inside (from-Else6-to-In-collected c) in omega arith
 
-slice-write-deleted : tie.Need-slice-write-deleted Inv-collected μ-collected Inv-allowed μ-allowed Inv-returned μ-returned Inv-found μ-found Inv-left μ-left Inv-restored μ-restored Inv-records μ-records
+slice-write-deleted : tie.Need-slice-write-deleted Inv-collected μ-collected Inv-allowed μ-allowed Inv-returned μ-returned Inv-found μ-found Inv-left μ-left Inv-restored μ-restored Inv-sifted μ-sifted Inv-records μ-records
 slice-write-deleted c =
     let b = inside (from-Else6-to-In-collected c) in omega arith
 
-add-deleted : tie.Need-add-deleted Inv-collected μ-collected Inv-allowed μ-allowed Inv-returned μ-returned Inv-found μ-found Inv-left μ-left Inv-restored μ-restored Inv-records μ-records
+add-deleted : tie.Need-add-deleted Inv-collected μ-collected Inv-allowed μ-allowed Inv-returned μ-returned Inv-found μ-found Inv-left μ-left Inv-restored μ-restored Inv-sifted μ-sifted Inv-records μ-records
 add-deleted c =
     let b = inside (from-Else6-to-In-collected c) in omega arith
 
-add-gone : tie.Need-add-gone Inv-collected μ-collected Inv-allowed μ-allowed Inv-returned μ-returned Inv-found μ-found Inv-left μ-left Inv-restored μ-restored Inv-records μ-records
+add-gone : tie.Need-add-gone Inv-collected μ-collected Inv-allowed μ-allowed Inv-returned μ-returned Inv-found μ-found Inv-left μ-left Inv-restored μ-restored Inv-sifted μ-sifted Inv-records μ-records
 add-gone c =
     let b = inside (from-Else6-to-In-collected c) in omega arith
 
-slice-write-deleted-2 : tie.Need-slice-write-deleted-2 Inv-collected μ-collected Inv-allowed μ-allowed Inv-returned μ-returned Inv-found μ-found Inv-left μ-left Inv-restored μ-restored Inv-records μ-records
+slice-write-deleted-2 : tie.Need-slice-write-deleted-2 Inv-collected μ-collected Inv-allowed μ-allowed Inv-returned μ-returned Inv-found μ-found Inv-left μ-left Inv-restored μ-restored Inv-sifted μ-sifted Inv-records μ-records
 slice-write-deleted-2 c =
     let b = inside (from-Else6-to-In-collected c) in omega (arith, length-set (from-Else6-to-At-collected c .collected .deleted) (2 * from-Else6-to-At-collected c .collected .gone) (from-Else6-to-After-row-of c .row-of .result))
 
-collected-less : tie.Need-collected-less Inv-collected μ-collected Inv-allowed μ-allowed Inv-returned μ-returned Inv-found μ-found Inv-left μ-left Inv-restored μ-restored Inv-records μ-records
+collected-less : tie.Need-collected-less Inv-collected μ-collected Inv-allowed μ-allowed Inv-returned μ-returned Inv-found μ-found Inv-left μ-left Inv-restored μ-restored Inv-sifted μ-sifted Inv-records μ-records
 collected-less c = omega (arith, from-Then6-to-In-collected c .collected-test .taken)
 
-collected-less-2 : tie.Need-collected-less-2 Inv-collected μ-collected Inv-allowed μ-allowed Inv-returned μ-returned Inv-found μ-found Inv-left μ-left Inv-restored μ-restored Inv-records μ-records
+collected-less-2 : tie.Need-collected-less-2 Inv-collected μ-collected Inv-allowed μ-allowed Inv-returned μ-returned Inv-found μ-found Inv-left μ-left Inv-restored μ-restored Inv-sifted μ-sifted Inv-records μ-records
 collected-less-2 c = omega (arith, from-Else6-to-In-collected c .collected-test .taken)
 
 in-row : (c : In-collected) → c .before .collected .j < length (getD (from-In-collected-to-At-records c .records .kept) (from-In-collected-to-After-row-of c .row-of .result) [])
@@ -1359,7 +1482,7 @@ in-row-now c =
     let l = in-row c in
     rw (collected.row-length _ _ _ (there (from-In-collected-to-After-row-of c)) _ _ (c .before .collected .inv .0) (omega arith)) l
 
-collected-again : tie.Need-collected-again Inv-collected μ-collected Inv-allowed μ-allowed Inv-returned μ-returned Inv-found μ-found Inv-left μ-left Inv-restored μ-restored Inv-records μ-records
+collected-again : tie.Need-collected-again Inv-collected μ-collected Inv-allowed μ-allowed Inv-returned μ-returned Inv-found μ-found Inv-left μ-left Inv-restored μ-restored Inv-sifted μ-sifted Inv-records μ-records
 unfolding named
 collected-again c =
     let l = from-Then6-to-At-collected c .collected in
@@ -1370,7 +1493,7 @@ collected-again c =
       omega (arith, from-Then6-to-In-collected c .collected-test .taken),
     )
 
-collected-again-2 : tie.Need-collected-again-2 Inv-collected μ-collected Inv-allowed μ-allowed Inv-returned μ-returned Inv-found μ-found Inv-left μ-left Inv-restored μ-restored Inv-records μ-records
+collected-again-2 : tie.Need-collected-again-2 Inv-collected μ-collected Inv-allowed μ-allowed Inv-returned μ-returned Inv-found μ-found Inv-left μ-left Inv-restored μ-restored Inv-sifted μ-sifted Inv-records μ-records
 unfolding named
 collected-again-2 c =
     let l = from-Else6-to-At-collected c .collected in
@@ -1388,22 +1511,22 @@ over c = omega (arith, c .before .collected .inv .1, c .collected-test .left)
 to-most : (c : After-collected) → c .before .collected .to ≤ 16
 to-most c = omega (arith, c .before .collected .inv .0 .to-most, over c, many-most (from-After-collected-to-Then5 c))
 
-mul-first-kept : tie.Need-mul-first-kept Inv-collected μ-collected Inv-allowed μ-allowed Inv-returned μ-returned Inv-found μ-found Inv-left μ-left Inv-restored μ-restored Inv-records μ-records
+mul-first-kept : tie.Need-mul-first-kept Inv-collected μ-collected Inv-allowed μ-allowed Inv-returned μ-returned Inv-found μ-found Inv-left μ-left Inv-restored μ-restored Inv-sifted μ-sifted Inv-records μ-records
 mul-first-kept c = omega (arith, in-rows (from-After-collected-to-After-row-of c))
 
-index-1-first-kept : tie.Need-index-1-first-kept Inv-collected μ-collected Inv-allowed μ-allowed Inv-returned μ-returned Inv-found μ-found Inv-left μ-left Inv-restored μ-restored Inv-records μ-records
+index-1-first-kept : tie.Need-index-1-first-kept Inv-collected μ-collected Inv-allowed μ-allowed Inv-returned μ-returned Inv-found μ-found Inv-left μ-left Inv-restored μ-restored Inv-sifted μ-sifted Inv-records μ-records
 index-1-first-kept c = omega (arith, in-rows (from-After-collected-to-After-row-of c))
 
-index-2-first-kept : tie.Need-index-2-first-kept Inv-collected μ-collected Inv-allowed μ-allowed Inv-returned μ-returned Inv-found μ-found Inv-left μ-left Inv-restored μ-restored Inv-records μ-records
+index-2-first-kept : tie.Need-index-2-first-kept Inv-collected μ-collected Inv-allowed μ-allowed Inv-returned μ-returned Inv-found μ-found Inv-left μ-left Inv-restored μ-restored Inv-sifted μ-sifted Inv-records μ-records
 index-2-first-kept c = omega (arith, in-rows (from-After-collected-to-After-row-of c))
 
-count-requires : tie.Need-count-requires Inv-collected μ-collected Inv-allowed μ-allowed Inv-returned μ-returned Inv-found μ-found Inv-left μ-left Inv-restored μ-restored Inv-records μ-records
+count-requires : tie.Need-count-requires Inv-collected μ-collected Inv-allowed μ-allowed Inv-returned μ-returned Inv-found μ-found Inv-left μ-left Inv-restored μ-restored Inv-sifted μ-sifted Inv-records μ-records
 count-requires c κs = to-most (from-After-place-to-After-collected c)
 
-mul-held : tie.Need-mul-held Inv-collected μ-collected Inv-allowed μ-allowed Inv-returned μ-returned Inv-found μ-found Inv-left μ-left Inv-restored μ-restored Inv-records μ-records
+mul-held : tie.Need-mul-held Inv-collected μ-collected Inv-allowed μ-allowed Inv-returned μ-returned Inv-found μ-found Inv-left μ-left Inv-restored μ-restored Inv-sifted μ-sifted Inv-records μ-records
 mul-held c = omega (arith, in-rows (from-After-count-to-After-row-of c))
 
-array-write-held : tie.Need-array-write-held Inv-collected μ-collected Inv-allowed μ-allowed Inv-returned μ-returned Inv-found μ-found Inv-left μ-left Inv-restored μ-restored Inv-records μ-records
+array-write-held : tie.Need-array-write-held Inv-collected μ-collected Inv-allowed μ-allowed Inv-returned μ-returned Inv-found μ-found Inv-left μ-left Inv-restored μ-restored Inv-sifted μ-sifted Inv-records μ-records
 array-write-held c = omega (arith, in-rows (from-After-count-to-After-row-of c))
 
 -- The pins that have moved, as the laws of a plan say them.
@@ -1439,19 +1562,19 @@ places c = turn.moved-places (whole (from-After-collected-to-At-records c)) (rea
 to-room : (c : After-collected) → from-After-collected-to-After-plan-of c .plan-of .result .stores ≡ true → c .before .collected .to < 16
 to-room c stores = omega (arith, places c stores, to-is c)
 
-mul-stored : tie.Need-mul-stored Inv-collected μ-collected Inv-allowed μ-allowed Inv-returned μ-returned Inv-found μ-found Inv-left μ-left Inv-restored μ-restored Inv-records μ-records
+mul-stored : tie.Need-mul-stored Inv-collected μ-collected Inv-allowed μ-allowed Inv-returned μ-returned Inv-found μ-found Inv-left μ-left Inv-restored μ-restored Inv-sifted μ-sifted Inv-records μ-records
 mul-stored c =
     omega (arith, in-rows (from-After-place-to-After-row-of c), c .place .ensures, collected.stored-there (from-After-place-to-After-plan-of c .plan-of .result .stores) (from-After-place-to-At-collected c .collected .to) (to-room (from-After-place-to-After-collected c)))
 
-mul-stored-2 : tie.Need-mul-stored-2 Inv-collected μ-collected Inv-allowed μ-allowed Inv-returned μ-returned Inv-found μ-found Inv-left μ-left Inv-restored μ-restored Inv-records μ-records
+mul-stored-2 : tie.Need-mul-stored-2 Inv-collected μ-collected Inv-allowed μ-allowed Inv-returned μ-returned Inv-found μ-found Inv-left μ-left Inv-restored μ-restored Inv-sifted μ-sifted Inv-records μ-records
 mul-stored-2 c =
     omega (arith, in-rows (from-After-place-to-After-row-of c), c .place .ensures, collected.stored-there (from-After-place-to-After-plan-of c .plan-of .result .stores) (from-After-place-to-At-collected c .collected .to) (to-room (from-After-place-to-After-collected c)))
 
-index-1-stored : tie.Need-index-1-stored Inv-collected μ-collected Inv-allowed μ-allowed Inv-returned μ-returned Inv-found μ-found Inv-left μ-left Inv-restored μ-restored Inv-records μ-records
+index-1-stored : tie.Need-index-1-stored Inv-collected μ-collected Inv-allowed μ-allowed Inv-returned μ-returned Inv-found μ-found Inv-left μ-left Inv-restored μ-restored Inv-sifted μ-sifted Inv-records μ-records
 index-1-stored c =
     omega (arith, in-rows (from-After-place-to-After-row-of c), c .place .ensures, collected.stored-there (from-After-place-to-After-plan-of c .plan-of .result .stores) (from-After-place-to-At-collected c .collected .to) (to-room (from-After-place-to-After-collected c)))
 
-index-2-stored : tie.Need-index-2-stored Inv-collected μ-collected Inv-allowed μ-allowed Inv-returned μ-returned Inv-found μ-found Inv-left μ-left Inv-restored μ-restored Inv-records μ-records
+index-2-stored : tie.Need-index-2-stored Inv-collected μ-collected Inv-allowed μ-allowed Inv-returned μ-returned Inv-found μ-found Inv-left μ-left Inv-restored μ-restored Inv-sifted μ-sifted Inv-records μ-records
 index-2-stored c =
     omega (arith, in-rows (from-After-place-to-After-row-of c), c .place .ensures, collected.stored-there (from-After-place-to-After-plan-of c .plan-of .result .stores) (from-After-place-to-At-collected c .collected .to) (to-room (from-After-place-to-After-collected c)))
 
@@ -1498,21 +1621,21 @@ moved-says c =
 lent-moved : (c : After-collected) → length (c .before .collected .deleted) ≡ 512
 lent-moved c = collected.list-length _ _ _ (there (from-After-collected-to-After-row-of c)) _ _ (c .before .collected .inv .0) ∙ from-After-collected-to-At-records c .records .inv .lent
 
-print-requires : tie.Need-print-requires Inv-collected μ-collected Inv-allowed μ-allowed Inv-returned μ-returned Inv-found μ-found Inv-left μ-left Inv-restored μ-restored Inv-records μ-records
+print-requires : tie.Need-print-requires Inv-collected μ-collected Inv-allowed μ-allowed Inv-returned μ-returned Inv-found μ-found Inv-left μ-left Inv-restored μ-restored Inv-sifted μ-sifted Inv-records μ-records
 print-requires c κs =
     let fits = said-fits (whole (from-After-print-arg2-to-At-records c)) (event (from-After-print-arg2-to-After-decode c)) _ _ (moved-says (from-After-print-arg2-to-After-collected c)) in
     (fits .0, omega (arith, fits .1, lent-moved (from-After-print-arg2-to-After-collected c)), omega (arith, few (from-After-print-arg2-to-Then3 c)), room (from-After-print-arg2-to-Then3 c))
 
-records-less : tie.Need-records-less Inv-collected μ-collected Inv-allowed μ-allowed Inv-returned μ-returned Inv-found μ-found Inv-left μ-left Inv-restored μ-restored Inv-records μ-records
+records-less : tie.Need-records-less Inv-collected μ-collected Inv-allowed μ-allowed Inv-returned μ-returned Inv-found μ-found Inv-left μ-left Inv-restored μ-restored Inv-sifted μ-sifted Inv-records μ-records
 records-less c = omega (arith, left (from-After-slice-known3-to-Then3 c))
 
-records-less-2 : tie.Need-records-less-2 Inv-collected μ-collected Inv-allowed μ-allowed Inv-returned μ-returned Inv-found μ-found Inv-left μ-left Inv-restored μ-restored Inv-records μ-records
+records-less-2 : tie.Need-records-less-2 Inv-collected μ-collected Inv-allowed μ-allowed Inv-returned μ-returned Inv-found μ-found Inv-left μ-left Inv-restored μ-restored Inv-sifted μ-sifted Inv-records μ-records
 records-less-2 c = omega (arith, left (from-After-slice-known4-to-Then3 c))
 
-records-less-3 : tie.Need-records-less-3 Inv-collected μ-collected Inv-allowed μ-allowed Inv-returned μ-returned Inv-found μ-found Inv-left μ-left Inv-restored μ-restored Inv-records μ-records
+records-less-3 : tie.Need-records-less-3 Inv-collected μ-collected Inv-allowed μ-allowed Inv-returned μ-returned Inv-found μ-found Inv-left μ-left Inv-restored μ-restored Inv-sifted μ-sifted Inv-records μ-records
 records-less-3 c = omega (arith, left (from-After-slice-known5-to-Then3 c))
 
-records-again : tie.Need-records-again Inv-collected μ-collected Inv-allowed μ-allowed Inv-returned μ-returned Inv-found μ-found Inv-left μ-left Inv-restored μ-restored Inv-records μ-records
+records-again : tie.Need-records-again Inv-collected μ-collected Inv-allowed μ-allowed Inv-returned μ-returned Inv-found μ-found Inv-left μ-left Inv-restored μ-restored Inv-sifted μ-sifted Inv-records μ-records
 records-again c =
     one-more (from-After-slice-known3-to-At-records c .records .inv) (left (from-After-slice-known3-to-Then3 c)) (room (from-After-slice-known3-to-Then3 c)) (few (from-After-slice-known3-to-Then3 c)) (event (from-After-slice-known3-to-After-decode c)) (is-event (from-After-slice-known3-to-After-decode c))
     (moved-state (from-After-slice-known3-to-After-count c))
@@ -1523,12 +1646,12 @@ records-again c =
 unmoved-says : (c : Else5) → Says (record { refused = c .before .number-of .result; value = c .before .before .value-of .result; deletions = 0 }) (from-Else5-to-At-records c .records .deleted) (perform (whole (from-Else5-to-At-records c)) (event (from-Else5-to-After-decode c)) .reply)
 unmoved-says c = same-words (c .before .number-of .ensures) (c .before .before .value-of .ensures) refl refl (turn.unmoved-says (whole (from-Else5-to-At-records c)) (reach (from-Else5-to-At-records c)) (event (from-Else5-to-After-decode c)) (not-asked (from-Else5-to-Then4 c)) (from-Else5-to-At-records c .records .inv .windowed) (from-Else5-to-In-records c .records-test .taken) (holds (from-Else5-to-At-records c)) refl (from-Else5-to-After-sought c .sought .ensures) (from-Else5-to-After-place-in c .place-in .ensures) (message-is (from-Else5-to-After-place-in c) _) (from-Else5-to-After-is-there c .is-there .ensures) (from-Else5-to-After-row-of c .row-of .ensures) (from-Else5-to-After-plan-of c .plan-of .ensures) (c .if5 .left) (from-Else5-to-At-records c .records .deleted))
 
-print-requires-2 : tie.Need-print-requires-2 Inv-collected μ-collected Inv-allowed μ-allowed Inv-returned μ-returned Inv-found μ-found Inv-left μ-left Inv-restored μ-restored Inv-records μ-records
+print-requires-2 : tie.Need-print-requires-2 Inv-collected μ-collected Inv-allowed μ-allowed Inv-returned μ-returned Inv-found μ-found Inv-left μ-left Inv-restored μ-restored Inv-sifted μ-sifted Inv-records μ-records
 print-requires-2 c κs =
     let fits = said-fits (whole (from-After-print-arg4-to-At-records c)) (event (from-After-print-arg4-to-After-decode c)) _ _ (unmoved-says (c .before .before)) in
     (fits .0, omega (arith, from-After-print-arg4-to-At-records c .records .inv .lent), omega (arith, few (from-After-print-arg4-to-Then3 c)), room (from-After-print-arg4-to-Then3 c))
 
-records-again-2 : tie.Need-records-again-2 Inv-collected μ-collected Inv-allowed μ-allowed Inv-returned μ-returned Inv-found μ-found Inv-left μ-left Inv-restored μ-restored Inv-records μ-records
+records-again-2 : tie.Need-records-again-2 Inv-collected μ-collected Inv-allowed μ-allowed Inv-returned μ-returned Inv-found μ-found Inv-left μ-left Inv-restored μ-restored Inv-sifted μ-sifted Inv-records μ-records
 records-again-2 c =
     one-more (from-After-slice-known4-to-At-records c .records .inv) (left (from-After-slice-known4-to-Then3 c)) (room (from-After-slice-known4-to-Then3 c)) (few (from-After-slice-known4-to-Then3 c)) (event (from-After-slice-known4-to-After-decode c)) (is-event (from-After-slice-known4-to-After-decode c))
     (turn.unmoved-state (whole (from-After-slice-known4-to-At-records c)) (reach (from-After-slice-known4-to-At-records c)) (event (from-After-slice-known4-to-After-decode c)) (not-asked (from-After-slice-known4-to-Then4 c)) (from-After-slice-known4-to-At-records c .records .inv .windowed) (from-After-slice-known4-to-In-records c .records-test .taken) (holds (from-After-slice-known4-to-At-records c)) refl (from-After-slice-known4-to-After-sought c .sought .ensures) (from-After-slice-known4-to-After-place-in c .place-in .ensures) (message-is (from-After-slice-known4-to-After-place-in c) _) (from-After-slice-known4-to-After-is-there c .is-there .ensures) (from-After-slice-known4-to-After-row-of c .row-of .ensures) (from-After-slice-known4-to-After-plan-of c .plan-of .ensures) (from-After-slice-known4-to-Else5 c .if5 .left)) (unmoved-says (from-After-slice-known4-to-Else5 c)) (from-After-slice-known4-to-At-records c .records .inv .lent) (c .before .before .print2 .ensures .0) (c .before .before .print2 .ensures .1)
@@ -1538,10 +1661,10 @@ records-again-2 c =
 asked : (c : Else4) → (event (from-Else4-to-After-decode c) ≡ some (Recover (c .before .before .recovery-of .result .failed))) × (recoveryVerdict (from-Else4-to-Start c .args .s .count) (c .before .before .recovery-of .result .failed) ≡ Accepted)
 asked c = same-asked (from-Else4-to-Start c .args .s .count) (event (from-Else4-to-After-decode c)) (c .before .before .recovery-of .result) (c .before .before .recovery-of .ensures) (not-false _ (c .if4 .left))
 
-failed-marks-requires : tie.Need-failed-marks-requires Inv-collected μ-collected Inv-allowed μ-allowed Inv-returned μ-returned Inv-found μ-found Inv-left μ-left Inv-restored μ-restored Inv-records μ-records
+failed-marks-requires : tie.Need-failed-marks-requires Inv-collected μ-collected Inv-allowed μ-allowed Inv-returned μ-returned Inv-found μ-found Inv-left μ-left Inv-restored μ-restored Inv-sifted μ-sifted Inv-records μ-records
 failed-marks-requires c κs = most (from-After-own-entries-to-At-records c)
 
-returned-holds : tie.Need-returned-holds Inv-collected μ-collected Inv-allowed μ-allowed Inv-returned μ-returned Inv-found μ-found Inv-left μ-left Inv-restored μ-restored Inv-records μ-records
+returned-holds : tie.Need-returned-holds Inv-collected μ-collected Inv-allowed μ-allowed Inv-returned μ-returned Inv-found μ-found Inv-left μ-left Inv-restored μ-restored Inv-sifted μ-sifted Inv-records μ-records
 returned-holds c = none-returned
 
 -- Each process goes back to its member.
@@ -1553,76 +1676,76 @@ searched-most c =
     let f = from-After-to-search-to-At-returned c .returned .f in
     omega (arith, held-places (whole (from-After-to-search-to-At-records c)) (fine (from-After-to-search-to-At-records c)) f (from-After-to-search-to-In-returned c .returned-test .taken), search-most (not (c .before .is-allowed .result)) (getD (from-After-to-search-to-At-records c .records .held) f 0) (c .to-search .result) (c .to-search .ensures))
 
-mul-current : tie.Need-mul-current Inv-collected μ-collected Inv-allowed μ-allowed Inv-returned μ-returned Inv-found μ-found Inv-left μ-left Inv-restored μ-restored Inv-records μ-records
+mul-current : tie.Need-mul-current Inv-collected μ-collected Inv-allowed μ-allowed Inv-returned μ-returned Inv-found μ-found Inv-left μ-left Inv-restored μ-restored Inv-sifted μ-sifted Inv-records μ-records
 mul-current c =
     omega (arith, below-f (c))
 
-array-copy-out-current : tie.Need-array-copy-out-current Inv-collected μ-collected Inv-allowed μ-allowed Inv-returned μ-returned Inv-found μ-found Inv-left μ-left Inv-restored μ-restored Inv-records μ-records
+array-copy-out-current : tie.Need-array-copy-out-current Inv-collected μ-collected Inv-allowed μ-allowed Inv-returned μ-returned Inv-found μ-found Inv-left μ-left Inv-restored μ-restored Inv-sifted μ-sifted Inv-records μ-records
 array-copy-out-current c =
     omega (arith, below-f (c))
 
-mul-held-now : tie.Need-mul-held-now Inv-collected μ-collected Inv-allowed μ-allowed Inv-returned μ-returned Inv-found μ-found Inv-left μ-left Inv-restored μ-restored Inv-records μ-records
+mul-held-now : tie.Need-mul-held-now Inv-collected μ-collected Inv-allowed μ-allowed Inv-returned μ-returned Inv-found μ-found Inv-left μ-left Inv-restored μ-restored Inv-sifted μ-sifted Inv-records μ-records
 mul-held-now c =
     omega (arith, below-f (c .before))
 
-array-read-held-now : tie.Need-array-read-held-now Inv-collected μ-collected Inv-allowed μ-allowed Inv-returned μ-returned Inv-found μ-found Inv-left μ-left Inv-restored μ-restored Inv-records μ-records
+array-read-held-now : tie.Need-array-read-held-now Inv-collected μ-collected Inv-allowed μ-allowed Inv-returned μ-returned Inv-found μ-found Inv-left μ-left Inv-restored μ-restored Inv-sifted μ-sifted Inv-records μ-records
 array-read-held-now c =
     omega (arith, below-f (c .before))
 
-array-read-sent-now : tie.Need-array-read-sent-now Inv-collected μ-collected Inv-allowed μ-allowed Inv-returned μ-returned Inv-found μ-found Inv-left μ-left Inv-restored μ-restored Inv-records μ-records
+array-read-sent-now : tie.Need-array-read-sent-now Inv-collected μ-collected Inv-allowed μ-allowed Inv-returned μ-returned Inv-found μ-found Inv-left μ-left Inv-restored μ-restored Inv-sifted μ-sifted Inv-records μ-records
 array-read-sent-now c =
     omega (arith, below-f (from-After-member-to-In-returned c))
 
-mul-vectors-2 : tie.Need-mul-vectors-2 Inv-collected μ-collected Inv-allowed μ-allowed Inv-returned μ-returned Inv-found μ-found Inv-left μ-left Inv-restored μ-restored Inv-records μ-records
+mul-vectors-2 : tie.Need-mul-vectors-2 Inv-collected μ-collected Inv-allowed μ-allowed Inv-returned μ-returned Inv-found μ-found Inv-left μ-left Inv-restored μ-restored Inv-sifted μ-sifted Inv-records μ-records
 mul-vectors-2 c =
     omega (arith, below-f (from-After-went-back-to-In-returned c))
 
-array-set-from-vectors-2 : tie.Need-array-set-from-vectors-2 Inv-collected μ-collected Inv-allowed μ-allowed Inv-returned μ-returned Inv-found μ-found Inv-left μ-left Inv-restored μ-restored Inv-records μ-records
+array-set-from-vectors-2 : tie.Need-array-set-from-vectors-2 Inv-collected μ-collected Inv-allowed μ-allowed Inv-returned μ-returned Inv-found μ-found Inv-left μ-left Inv-restored μ-restored Inv-sifted μ-sifted Inv-records μ-records
 array-set-from-vectors-2 c =
     omega (arith, below-f (from-After-went-back-to-In-returned c))
 
-array-write-sent-2 : tie.Need-array-write-sent-2 Inv-collected μ-collected Inv-allowed μ-allowed Inv-returned μ-returned Inv-found μ-found Inv-left μ-left Inv-restored μ-restored Inv-records μ-records
+array-write-sent-2 : tie.Need-array-write-sent-2 Inv-collected μ-collected Inv-allowed μ-allowed Inv-returned μ-returned Inv-found μ-found Inv-left μ-left Inv-restored μ-restored Inv-sifted μ-sifted Inv-records μ-records
 array-write-sent-2 c =
     omega (arith, below-f (from-After-went-back-to-In-returned c))
 
-array-write-rolled : tie.Need-array-write-rolled Inv-collected μ-collected Inv-allowed μ-allowed Inv-returned μ-returned Inv-found μ-found Inv-left μ-left Inv-restored μ-restored Inv-records μ-records
+array-write-rolled : tie.Need-array-write-rolled Inv-collected μ-collected Inv-allowed μ-allowed Inv-returned μ-returned Inv-found μ-found Inv-left μ-left Inv-restored μ-restored Inv-sifted μ-sifted Inv-records μ-records
 array-write-rolled c =
     omega (arith, below-f (from-After-went-back-to-In-returned c))
 
-mul-members : tie.Need-mul-members Inv-collected μ-collected Inv-allowed μ-allowed Inv-returned μ-returned Inv-found μ-found Inv-left μ-left Inv-restored μ-restored Inv-records μ-records
+mul-members : tie.Need-mul-members Inv-collected μ-collected Inv-allowed μ-allowed Inv-returned μ-returned Inv-found μ-found Inv-left μ-left Inv-restored μ-restored Inv-sifted μ-sifted Inv-records μ-records
 mul-members c =
     omega (arith, below-f (from-After-index-to-In-returned c))
 
-array-set-from-members : tie.Need-array-set-from-members Inv-collected μ-collected Inv-allowed μ-allowed Inv-returned μ-returned Inv-found μ-found Inv-left μ-left Inv-restored μ-restored Inv-records μ-records
+array-set-from-members : tie.Need-array-set-from-members Inv-collected μ-collected Inv-allowed μ-allowed Inv-returned μ-returned Inv-found μ-found Inv-left μ-left Inv-restored μ-restored Inv-sifted μ-sifted Inv-records μ-records
 array-set-from-members c =
     omega (arith, below-f (from-After-index-to-In-returned c))
 
-add-f : tie.Need-add-f Inv-collected μ-collected Inv-allowed μ-allowed Inv-returned μ-returned Inv-found μ-found Inv-left μ-left Inv-restored μ-restored Inv-records μ-records
+add-f : tie.Need-add-f Inv-collected μ-collected Inv-allowed μ-allowed Inv-returned μ-returned Inv-found μ-found Inv-left μ-left Inv-restored μ-restored Inv-sifted μ-sifted Inv-records μ-records
 add-f c =
     omega (arith, below-f (from-After-index-to-In-returned c))
 
-allowed-holds : tie.Need-allowed-holds Inv-collected μ-collected Inv-allowed μ-allowed Inv-returned μ-returned Inv-found μ-found Inv-left μ-left Inv-restored μ-restored Inv-records μ-records
+allowed-holds : tie.Need-allowed-holds Inv-collected μ-collected Inv-allowed μ-allowed Inv-returned μ-returned Inv-found μ-found Inv-left μ-left Inv-restored μ-restored Inv-sifted μ-sifted Inv-records μ-records
 allowed-holds c = (omega arith, c .none-allowed .ensures ∙ latest-none _ _)
 
-mul-candidate : tie.Need-mul-candidate Inv-collected μ-collected Inv-allowed μ-allowed Inv-returned μ-returned Inv-found μ-found Inv-left μ-left Inv-restored μ-restored Inv-records μ-records
+mul-candidate : tie.Need-mul-candidate Inv-collected μ-collected Inv-allowed μ-allowed Inv-returned μ-returned Inv-found μ-found Inv-left μ-left Inv-restored μ-restored Inv-sifted μ-sifted Inv-records μ-records
 mul-candidate c = omega (arith, below-f (from-In-allowed-to-In-returned c), c .allowed-test .taken, searched-most (from-In-allowed-to-After-to-search c))
 
-mul-candidate-2 : tie.Need-mul-candidate-2 Inv-collected μ-collected Inv-allowed μ-allowed Inv-returned μ-returned Inv-found μ-found Inv-left μ-left Inv-restored μ-restored Inv-records μ-records
+mul-candidate-2 : tie.Need-mul-candidate-2 Inv-collected μ-collected Inv-allowed μ-allowed Inv-returned μ-returned Inv-found μ-found Inv-left μ-left Inv-restored μ-restored Inv-sifted μ-sifted Inv-records μ-records
 mul-candidate-2 c = omega (arith, below-f (from-In-allowed-to-In-returned c), c .allowed-test .taken, searched-most (from-In-allowed-to-After-to-search c))
 
-index-1-candidate : tie.Need-index-1-candidate Inv-collected μ-collected Inv-allowed μ-allowed Inv-returned μ-returned Inv-found μ-found Inv-left μ-left Inv-restored μ-restored Inv-records μ-records
+index-1-candidate : tie.Need-index-1-candidate Inv-collected μ-collected Inv-allowed μ-allowed Inv-returned μ-returned Inv-found μ-found Inv-left μ-left Inv-restored μ-restored Inv-sifted μ-sifted Inv-records μ-records
 index-1-candidate c = omega (arith, below-f (from-In-allowed-to-In-returned c), c .allowed-test .taken, searched-most (from-In-allowed-to-After-to-search c))
 
-index-2-candidate : tie.Need-index-2-candidate Inv-collected μ-collected Inv-allowed μ-allowed Inv-returned μ-returned Inv-found μ-found Inv-left μ-left Inv-restored μ-restored Inv-records μ-records
+index-2-candidate : tie.Need-index-2-candidate Inv-collected μ-collected Inv-allowed μ-allowed Inv-returned μ-returned Inv-found μ-found Inv-left μ-left Inv-restored μ-restored Inv-sifted μ-sifted Inv-records μ-records
 index-2-candidate c = omega (arith, below-f (from-In-allowed-to-In-returned c), c .allowed-test .taken, searched-most (from-In-allowed-to-After-to-search c))
 
-add-a : tie.Need-add-a Inv-collected μ-collected Inv-allowed μ-allowed Inv-returned μ-returned Inv-found μ-found Inv-left μ-left Inv-restored μ-restored Inv-records μ-records
+add-a : tie.Need-add-a Inv-collected μ-collected Inv-allowed μ-allowed Inv-returned μ-returned Inv-found μ-found Inv-left μ-left Inv-restored μ-restored Inv-sifted μ-sifted Inv-records μ-records
 add-a c = omega (arith, below-f (from-After-latest-with-to-In-returned c), c .before .before .allowed-test .taken, searched-most (from-After-latest-with-to-After-to-search c))
 
-allowed-less : tie.Need-allowed-less Inv-collected μ-collected Inv-allowed μ-allowed Inv-returned μ-returned Inv-found μ-found Inv-left μ-left Inv-restored μ-restored Inv-records μ-records
+allowed-less : tie.Need-allowed-less Inv-collected μ-collected Inv-allowed μ-allowed Inv-returned μ-returned Inv-found μ-found Inv-left μ-left Inv-restored μ-restored Inv-sifted μ-sifted Inv-records μ-records
 allowed-less c = omega (arith, c .before .before .allowed-test .taken)
 
-allowed-again : tie.Need-allowed-again Inv-collected μ-collected Inv-allowed μ-allowed Inv-returned μ-returned Inv-found μ-found Inv-left μ-left Inv-restored μ-restored Inv-records μ-records
+allowed-again : tie.Need-allowed-again Inv-collected μ-collected Inv-allowed μ-allowed Inv-returned μ-returned Inv-found μ-found Inv-left μ-left Inv-restored μ-restored Inv-sifted μ-sifted Inv-records μ-records
 allowed-again c =
     let l = from-After-latest-with-to-At-allowed c .allowed in
     let f = from-After-latest-with-to-At-returned c .returned .f in (
@@ -1631,18 +1754,18 @@ allowed-again c =
           (omega (arith, c .before .before .allowed-test .taken, searched-most (from-After-latest-with-to-After-to-search c), sized (from-After-latest-with-to-At-records c) .kept-row f (below-f (from-After-latest-with-to-In-returned c)))) _ _ (l .inv .1) (c .latest-with .ensures),
     )
 
-member-requires : tie.Need-member-requires Inv-collected μ-collected Inv-allowed μ-allowed Inv-returned μ-returned Inv-found μ-found Inv-left μ-left Inv-restored μ-restored Inv-records μ-records
+member-requires : tie.Need-member-requires Inv-collected μ-collected Inv-allowed μ-allowed Inv-returned μ-returned Inv-found μ-found Inv-left μ-left Inv-restored μ-restored Inv-sifted μ-sifted Inv-records μ-records
 member-requires c κs =
     let at = from-After-allowed-to-At-records c in
     (below-f (from-After-allowed-to-In-returned c), rw (same-vector (from-After-allowed-to-At-returned c .returned .inv)) (own-least (whole at) (fine at) (from-After-allowed-to-At-returned c .returned .f) (from-After-allowed-to-In-returned c .returned-test .taken)))
 
-step-back-requires : tie.Need-step-back-requires Inv-collected μ-collected Inv-allowed μ-allowed Inv-returned μ-returned Inv-found μ-found Inv-left μ-left Inv-restored μ-restored Inv-records μ-records
+step-back-requires : tie.Need-step-back-requires Inv-collected μ-collected Inv-allowed μ-allowed Inv-returned μ-returned Inv-found μ-found Inv-left μ-left Inv-restored μ-restored Inv-sifted μ-sifted Inv-records μ-records
 step-back-requires c κs = (below-f (from-After-member-to-In-returned c), omega (arith, back-few (from-After-member-to-At-returned c .returned .inv), below-f (from-After-member-to-In-returned c)))
 
-returned-less : tie.Need-returned-less Inv-collected μ-collected Inv-allowed μ-allowed Inv-returned μ-returned Inv-found μ-found Inv-left μ-left Inv-restored μ-restored Inv-records μ-records
+returned-less : tie.Need-returned-less Inv-collected μ-collected Inv-allowed μ-allowed Inv-returned μ-returned Inv-found μ-found Inv-left μ-left Inv-restored μ-restored Inv-sifted μ-sifted Inv-records μ-records
 returned-less c = omega (arith, from-After-index-to-In-returned c .returned-test .taken)
 
-returned-again : tie.Need-returned-again Inv-collected μ-collected Inv-allowed μ-allowed Inv-returned μ-returned Inv-found μ-found Inv-left μ-left Inv-restored μ-restored Inv-records μ-records
+returned-again : tie.Need-returned-again Inv-collected μ-collected Inv-allowed μ-allowed Inv-returned μ-returned Inv-found μ-found Inv-left μ-left Inv-restored μ-restored Inv-sifted μ-sifted Inv-records μ-records
 returned-again c =
     let l = from-After-index-to-At-allowed c .allowed in
     let t = from-After-index-to-At-returned c .returned in
@@ -1653,7 +1776,7 @@ returned-again c =
     (c .before .before .step-back .result) (c .before .before .step-back .ensures)
 
 -- The rows of each process.
-restored-holds : tie.Need-restored-holds Inv-collected μ-collected Inv-allowed μ-allowed Inv-returned μ-returned Inv-found μ-found Inv-left μ-left Inv-restored μ-restored Inv-records μ-records
+restored-holds : tie.Need-restored-holds Inv-collected μ-collected Inv-allowed μ-allowed Inv-returned μ-returned Inv-found μ-found Inv-left μ-left Inv-restored μ-restored Inv-sifted μ-sifted Inv-records μ-records
 restored-holds c = none-done
 
 below-q : (c : In-restored) → c .before .restored .q < 16
@@ -1677,84 +1800,84 @@ row-filled c =
 find-few : (c : After-to-search2) → c .to-search2 .result ≤ 16
 find-few c = omega (arith, held-most (from-After-to-search2-to-In-restored c), search-most (getD (from-After-to-search2-to-At-returned c .returned .rolled) (from-After-to-search2-to-At-restored c .restored .q) false) (getD (from-After-to-search2-to-At-restored c .restored .held) (from-After-to-search2-to-At-restored c .restored .q) 0) (c .to-search2 .result) (c .to-search2 .ensures))
 
-array-read-has-rolled : tie.Need-array-read-has-rolled Inv-collected μ-collected Inv-allowed μ-allowed Inv-returned μ-returned Inv-found μ-found Inv-left μ-left Inv-restored μ-restored Inv-records μ-records
+array-read-has-rolled : tie.Need-array-read-has-rolled Inv-collected μ-collected Inv-allowed μ-allowed Inv-returned μ-returned Inv-found μ-found Inv-left μ-left Inv-restored μ-restored Inv-sifted μ-sifted Inv-records μ-records
 array-read-has-rolled c =
     omega (arith, below-q (c))
 
-mul-known : tie.Need-mul-known Inv-collected μ-collected Inv-allowed μ-allowed Inv-returned μ-returned Inv-found μ-found Inv-left μ-left Inv-restored μ-restored Inv-records μ-records
+mul-known : tie.Need-mul-known Inv-collected μ-collected Inv-allowed μ-allowed Inv-returned μ-returned Inv-found μ-found Inv-left μ-left Inv-restored μ-restored Inv-sifted μ-sifted Inv-records μ-records
 mul-known c =
     omega (arith, below-q (c))
 
-array-copy-out-known : tie.Need-array-copy-out-known Inv-collected μ-collected Inv-allowed μ-allowed Inv-returned μ-returned Inv-found μ-found Inv-left μ-left Inv-restored μ-restored Inv-records μ-records
+array-copy-out-known : tie.Need-array-copy-out-known Inv-collected μ-collected Inv-allowed μ-allowed Inv-returned μ-returned Inv-found μ-found Inv-left μ-left Inv-restored μ-restored Inv-sifted μ-sifted Inv-records μ-records
 array-copy-out-known c =
     omega (arith, below-q (c))
 
-mul-held-then : tie.Need-mul-held-then Inv-collected μ-collected Inv-allowed μ-allowed Inv-returned μ-returned Inv-found μ-found Inv-left μ-left Inv-restored μ-restored Inv-records μ-records
+mul-held-then : tie.Need-mul-held-then Inv-collected μ-collected Inv-allowed μ-allowed Inv-returned μ-returned Inv-found μ-found Inv-left μ-left Inv-restored μ-restored Inv-sifted μ-sifted Inv-records μ-records
 mul-held-then c =
     omega (arith, below-q (c .before))
 
-array-read-held-then : tie.Need-array-read-held-then Inv-collected μ-collected Inv-allowed μ-allowed Inv-returned μ-returned Inv-found μ-found Inv-left μ-left Inv-restored μ-restored Inv-records μ-records
+array-read-held-then : tie.Need-array-read-held-then Inv-collected μ-collected Inv-allowed μ-allowed Inv-returned μ-returned Inv-found μ-found Inv-left μ-left Inv-restored μ-restored Inv-sifted μ-sifted Inv-records μ-records
 array-read-held-then c =
     omega (arith, below-q (c .before))
 
-mul-pins-now : tie.Need-mul-pins-now Inv-collected μ-collected Inv-allowed μ-allowed Inv-returned μ-returned Inv-found μ-found Inv-left μ-left Inv-restored μ-restored Inv-records μ-records
+mul-pins-now : tie.Need-mul-pins-now Inv-collected μ-collected Inv-allowed μ-allowed Inv-returned μ-returned Inv-found μ-found Inv-left μ-left Inv-restored μ-restored Inv-sifted μ-sifted Inv-records μ-records
 mul-pins-now c =
     omega (arith, below-q (c .before))
 
-array-copy-out-pins-now : tie.Need-array-copy-out-pins-now Inv-collected μ-collected Inv-allowed μ-allowed Inv-returned μ-returned Inv-found μ-found Inv-left μ-left Inv-restored μ-restored Inv-records μ-records
+array-copy-out-pins-now : tie.Need-array-copy-out-pins-now Inv-collected μ-collected Inv-allowed μ-allowed Inv-returned μ-returned Inv-found μ-found Inv-left μ-left Inv-restored μ-restored Inv-sifted μ-sifted Inv-records μ-records
 array-copy-out-pins-now c =
     omega (arith, below-q (c .before))
 
-mul-last-kept : tie.Need-mul-last-kept Inv-collected μ-collected Inv-allowed μ-allowed Inv-returned μ-returned Inv-found μ-found Inv-left μ-left Inv-restored μ-restored Inv-records μ-records
+mul-last-kept : tie.Need-mul-last-kept Inv-collected μ-collected Inv-allowed μ-allowed Inv-returned μ-returned Inv-found μ-found Inv-left μ-left Inv-restored μ-restored Inv-sifted μ-sifted Inv-records μ-records
 mul-last-kept c =
     omega (arith, below-q (c .before .before))
 
-array-copy-out-last-kept : tie.Need-array-copy-out-last-kept Inv-collected μ-collected Inv-allowed μ-allowed Inv-returned μ-returned Inv-found μ-found Inv-left μ-left Inv-restored μ-restored Inv-records μ-records
+array-copy-out-last-kept : tie.Need-array-copy-out-last-kept Inv-collected μ-collected Inv-allowed μ-allowed Inv-returned μ-returned Inv-found μ-found Inv-left μ-left Inv-restored μ-restored Inv-sifted μ-sifted Inv-records μ-records
 array-copy-out-last-kept c =
     omega (arith, below-q (c .before .before))
 
-mul-pins-2 : tie.Need-mul-pins-2 Inv-collected μ-collected Inv-allowed μ-allowed Inv-returned μ-returned Inv-found μ-found Inv-left μ-left Inv-restored μ-restored Inv-records μ-records
+mul-pins-2 : tie.Need-mul-pins-2 Inv-collected μ-collected Inv-allowed μ-allowed Inv-returned μ-returned Inv-found μ-found Inv-left μ-left Inv-restored μ-restored Inv-sifted μ-sifted Inv-records μ-records
 mul-pins-2 c =
     omega (arith, below-q (from-After-pins-found-to-In-restored c))
 
-array-set-from-pins-2 : tie.Need-array-set-from-pins-2 Inv-collected μ-collected Inv-allowed μ-allowed Inv-returned μ-returned Inv-found μ-found Inv-left μ-left Inv-restored μ-restored Inv-records μ-records
+array-set-from-pins-2 : tie.Need-array-set-from-pins-2 Inv-collected μ-collected Inv-allowed μ-allowed Inv-returned μ-returned Inv-found μ-found Inv-left μ-left Inv-restored μ-restored Inv-sifted μ-sifted Inv-records μ-records
 array-set-from-pins-2 c =
     omega (arith, below-q (from-After-pins-found-to-In-restored c))
 
-mul-held-2 : tie.Need-mul-held-2 Inv-collected μ-collected Inv-allowed μ-allowed Inv-returned μ-returned Inv-found μ-found Inv-left μ-left Inv-restored μ-restored Inv-records μ-records
+mul-held-2 : tie.Need-mul-held-2 Inv-collected μ-collected Inv-allowed μ-allowed Inv-returned μ-returned Inv-found μ-found Inv-left μ-left Inv-restored μ-restored Inv-sifted μ-sifted Inv-records μ-records
 mul-held-2 c =
     omega (arith, below-q (from-After-left-to-In-restored c))
 
-array-write-held-2 : tie.Need-array-write-held-2 Inv-collected μ-collected Inv-allowed μ-allowed Inv-returned μ-returned Inv-found μ-found Inv-left μ-left Inv-restored μ-restored Inv-records μ-records
+array-write-held-2 : tie.Need-array-write-held-2 Inv-collected μ-collected Inv-allowed μ-allowed Inv-returned μ-returned Inv-found μ-found Inv-left μ-left Inv-restored μ-restored Inv-sifted μ-sifted Inv-records μ-records
 array-write-held-2 c =
     omega (arith, below-q (from-After-left-to-In-restored c))
 
-add-q : tie.Need-add-q Inv-collected μ-collected Inv-allowed μ-allowed Inv-returned μ-returned Inv-found μ-found Inv-left μ-left Inv-restored μ-restored Inv-records μ-records
+add-q : tie.Need-add-q Inv-collected μ-collected Inv-allowed μ-allowed Inv-returned μ-returned Inv-found μ-found Inv-left μ-left Inv-restored μ-restored Inv-sifted μ-sifted Inv-records μ-records
 add-q c =
     omega (arith, below-q (from-After-left-to-In-restored c))
 
-found-holds : tie.Need-found-holds Inv-collected μ-collected Inv-allowed μ-allowed Inv-returned μ-returned Inv-found μ-found Inv-left μ-left Inv-restored μ-restored Inv-records μ-records
+found-holds : tie.Need-found-holds Inv-collected μ-collected Inv-allowed μ-allowed Inv-returned μ-returned Inv-found μ-found Inv-left μ-left Inv-restored μ-restored Inv-sifted μ-sifted Inv-records μ-records
 found-holds c = (omega arith, c .nothing-found .ensures ∙ sym (found-none _ _))
 
-mul-seen : tie.Need-mul-seen Inv-collected μ-collected Inv-allowed μ-allowed Inv-returned μ-returned Inv-found μ-found Inv-left μ-left Inv-restored μ-restored Inv-records μ-records
+mul-seen : tie.Need-mul-seen Inv-collected μ-collected Inv-allowed μ-allowed Inv-returned μ-returned Inv-found μ-found Inv-left μ-left Inv-restored μ-restored Inv-sifted μ-sifted Inv-records μ-records
 mul-seen c = omega (arith, below-q (from-In-found-to-In-restored c), c .found-test .taken, find-few (from-In-found-to-After-to-search2 c))
 
-mul-seen-2 : tie.Need-mul-seen-2 Inv-collected μ-collected Inv-allowed μ-allowed Inv-returned μ-returned Inv-found μ-found Inv-left μ-left Inv-restored μ-restored Inv-records μ-records
+mul-seen-2 : tie.Need-mul-seen-2 Inv-collected μ-collected Inv-allowed μ-allowed Inv-returned μ-returned Inv-found μ-found Inv-left μ-left Inv-restored μ-restored Inv-sifted μ-sifted Inv-records μ-records
 mul-seen-2 c = omega (arith, below-q (from-In-found-to-In-restored c), c .found-test .taken, find-few (from-In-found-to-After-to-search2 c))
 
-index-1-seen : tie.Need-index-1-seen Inv-collected μ-collected Inv-allowed μ-allowed Inv-returned μ-returned Inv-found μ-found Inv-left μ-left Inv-restored μ-restored Inv-records μ-records
+index-1-seen : tie.Need-index-1-seen Inv-collected μ-collected Inv-allowed μ-allowed Inv-returned μ-returned Inv-found μ-found Inv-left μ-left Inv-restored μ-restored Inv-sifted μ-sifted Inv-records μ-records
 index-1-seen c = omega (arith, below-q (from-In-found-to-In-restored c), c .found-test .taken, find-few (from-In-found-to-After-to-search2 c))
 
-index-2-seen : tie.Need-index-2-seen Inv-collected μ-collected Inv-allowed μ-allowed Inv-returned μ-returned Inv-found μ-found Inv-left μ-left Inv-restored μ-restored Inv-records μ-records
+index-2-seen : tie.Need-index-2-seen Inv-collected μ-collected Inv-allowed μ-allowed Inv-returned μ-returned Inv-found μ-found Inv-left μ-left Inv-restored μ-restored Inv-sifted μ-sifted Inv-records μ-records
 index-2-seen c = omega (arith, below-q (from-In-found-to-In-restored c), c .found-test .taken, find-few (from-In-found-to-After-to-search2 c))
 
-add-b : tie.Need-add-b Inv-collected μ-collected Inv-allowed μ-allowed Inv-returned μ-returned Inv-found μ-found Inv-left μ-left Inv-restored μ-restored Inv-records μ-records
+add-b : tie.Need-add-b Inv-collected μ-collected Inv-allowed μ-allowed Inv-returned μ-returned Inv-found μ-found Inv-left μ-left Inv-restored μ-restored Inv-sifted μ-sifted Inv-records μ-records
 add-b c = omega (arith, below-q (from-After-found-with-to-In-restored c), c .before .before .found-test .taken, find-few (from-After-found-with-to-After-to-search2 c))
 
-found-less : tie.Need-found-less Inv-collected μ-collected Inv-allowed μ-allowed Inv-returned μ-returned Inv-found μ-found Inv-left μ-left Inv-restored μ-restored Inv-records μ-records
+found-less : tie.Need-found-less Inv-collected μ-collected Inv-allowed μ-allowed Inv-returned μ-returned Inv-found μ-found Inv-left μ-left Inv-restored μ-restored Inv-sifted μ-sifted Inv-records μ-records
 found-less c = omega (arith, c .before .before .found-test .taken)
 
-found-again : tie.Need-found-again Inv-collected μ-collected Inv-allowed μ-allowed Inv-returned μ-returned Inv-found μ-found Inv-left μ-left Inv-restored μ-restored Inv-records μ-records
+found-again : tie.Need-found-again Inv-collected μ-collected Inv-allowed μ-allowed Inv-returned μ-returned Inv-found μ-found Inv-left μ-left Inv-restored μ-restored Inv-sifted μ-sifted Inv-records μ-records
 found-again c =
     let l = from-After-found-with-to-At-found c .found in (
       omega (arith, c .before .before .found-test .taken),
@@ -1762,7 +1885,7 @@ found-again c =
           (omega (arith, c .before .before .found-test .taken, find-few (from-After-found-with-to-After-to-search2 c), kept-long (from-After-found-with-to-In-restored c))) _ _ (l .inv .1) (c .found-with .ensures),
     )
 
-restored-less : tie.Need-restored-less Inv-collected μ-collected Inv-allowed μ-allowed Inv-returned μ-returned Inv-found μ-found Inv-left μ-left Inv-restored μ-restored Inv-records μ-records
+restored-less : tie.Need-restored-less Inv-collected μ-collected Inv-allowed μ-allowed Inv-returned μ-returned Inv-found μ-found Inv-left μ-left Inv-restored μ-restored Inv-sifted μ-sifted Inv-records μ-records
 restored-less c = omega (arith, from-After-left-to-In-restored c .restored-test .taken)
 
 -- The pins that it has then.
@@ -1778,7 +1901,7 @@ new-pins c = c .pins-found .ensures _ (pins-searched _ _ _ (c .before .before .f
 row-there : (c : In-restored) → c .before .restored .q < length (c .before .restored .kept)
 row-there c = omega (arith, below-q c, ap length (c .before .restored .inv .in-kept) ∙ below-length _ (from-In-restored-to-At-records c .records .kept) (c .before .restored .q), sized (from-In-restored-to-At-records c) .kept)
 
-left-holds : tie.Need-left-holds Inv-collected μ-collected Inv-allowed μ-allowed Inv-returned μ-returned Inv-found μ-found Inv-left μ-left Inv-restored μ-restored Inv-records μ-records
+left-holds : tie.Need-left-holds Inv-collected μ-collected Inv-allowed μ-allowed Inv-returned μ-returned Inv-found μ-found Inv-left μ-left Inv-restored μ-restored Inv-sifted μ-sifted Inv-records μ-records
 left-holds c = (
   collected.none (stays (getD (from-After-pins-found-to-At-returned c .returned .members) (from-After-pins-found-to-At-restored c .restored .q) noIndex) (c .pins-found .result)) (from-After-pins-found-to-At-restored c .restored .kept) (from-After-pins-found-to-At-restored c .restored .q) (row-there (from-After-pins-found-to-In-restored c)) (from-After-pins-found-to-At-restored c .restored .deleted) (from-After-pins-found-to-At-restored c .restored .all-gone),
   omega arith,
@@ -1800,88 +1923,88 @@ inside-left c =
       few = omega (arith, c .left-test .taken, v .gone-most, r .few, most at, lt);
     }
 
-mul-x : tie.Need-mul-x Inv-collected μ-collected Inv-allowed μ-allowed Inv-returned μ-returned Inv-found μ-found Inv-left μ-left Inv-restored μ-restored Inv-records μ-records
+mul-x : tie.Need-mul-x Inv-collected μ-collected Inv-allowed μ-allowed Inv-returned μ-returned Inv-found μ-found Inv-left μ-left Inv-restored μ-restored Inv-sifted μ-sifted Inv-records μ-records
 mul-x c = let b = inside-left (c) in omega arith
 
-mul-x-2 : tie.Need-mul-x-2 Inv-collected μ-collected Inv-allowed μ-allowed Inv-returned μ-returned Inv-found μ-found Inv-left μ-left Inv-restored μ-restored Inv-records μ-records
+mul-x-2 : tie.Need-mul-x-2 Inv-collected μ-collected Inv-allowed μ-allowed Inv-returned μ-returned Inv-found μ-found Inv-left μ-left Inv-restored μ-restored Inv-sifted μ-sifted Inv-records μ-records
 mul-x-2 c = let b = inside-left (c) in omega arith
 
-index-1-x : tie.Need-index-1-x Inv-collected μ-collected Inv-allowed μ-allowed Inv-returned μ-returned Inv-found μ-found Inv-left μ-left Inv-restored μ-restored Inv-records μ-records
+index-1-x : tie.Need-index-1-x Inv-collected μ-collected Inv-allowed μ-allowed Inv-returned μ-returned Inv-found μ-found Inv-left μ-left Inv-restored μ-restored Inv-sifted μ-sifted Inv-records μ-records
 index-1-x c = let b = inside-left (c) in omega arith
 
-index-2-x : tie.Need-index-2-x Inv-collected μ-collected Inv-allowed μ-allowed Inv-returned μ-returned Inv-found μ-found Inv-left μ-left Inv-restored μ-restored Inv-records μ-records
+index-2-x : tie.Need-index-2-x Inv-collected μ-collected Inv-allowed μ-allowed Inv-returned μ-returned Inv-found μ-found Inv-left μ-left Inv-restored μ-restored Inv-sifted μ-sifted Inv-records μ-records
 index-2-x c = let b = inside-left (c) in omega arith
 
-mul-empty-3 : tie.Need-mul-empty-3 Inv-collected μ-collected Inv-allowed μ-allowed Inv-returned μ-returned Inv-found μ-found Inv-left μ-left Inv-restored μ-restored Inv-records μ-records
+mul-empty-3 : tie.Need-mul-empty-3 Inv-collected μ-collected Inv-allowed μ-allowed Inv-returned μ-returned Inv-found μ-found Inv-left μ-left Inv-restored μ-restored Inv-sifted μ-sifted Inv-records μ-records
 mul-empty-3 c = let b = inside-left (c .before) in omega arith
 
-mul-empty-4 : tie.Need-mul-empty-4 Inv-collected μ-collected Inv-allowed μ-allowed Inv-returned μ-returned Inv-found μ-found Inv-left μ-left Inv-restored μ-restored Inv-records μ-records
+mul-empty-4 : tie.Need-mul-empty-4 Inv-collected μ-collected Inv-allowed μ-allowed Inv-returned μ-returned Inv-found μ-found Inv-left μ-left Inv-restored μ-restored Inv-sifted μ-sifted Inv-records μ-records
 mul-empty-4 c = let b = inside-left (c .before) in omega arith
 
-index-1-empty-2 : tie.Need-index-1-empty-2 Inv-collected μ-collected Inv-allowed μ-allowed Inv-returned μ-returned Inv-found μ-found Inv-left μ-left Inv-restored μ-restored Inv-records μ-records
+index-1-empty-2 : tie.Need-index-1-empty-2 Inv-collected μ-collected Inv-allowed μ-allowed Inv-returned μ-returned Inv-found μ-found Inv-left μ-left Inv-restored μ-restored Inv-sifted μ-sifted Inv-records μ-records
 index-1-empty-2 c = let b = inside-left (c .before) in omega arith
 
-index-2-empty-2 : tie.Need-index-2-empty-2 Inv-collected μ-collected Inv-allowed μ-allowed Inv-returned μ-returned Inv-found μ-found Inv-left μ-left Inv-restored μ-restored Inv-records μ-records
+index-2-empty-2 : tie.Need-index-2-empty-2 Inv-collected μ-collected Inv-allowed μ-allowed Inv-returned μ-returned Inv-found μ-found Inv-left μ-left Inv-restored μ-restored Inv-sifted μ-sifted Inv-records μ-records
 index-2-empty-2 c = let b = inside-left (c .before) in omega arith
 
-add-k : tie.Need-add-k Inv-collected μ-collected Inv-allowed μ-allowed Inv-returned μ-returned Inv-found μ-found Inv-left μ-left Inv-restored μ-restored Inv-records μ-records
+add-k : tie.Need-add-k Inv-collected μ-collected Inv-allowed μ-allowed Inv-returned μ-returned Inv-found μ-found Inv-left μ-left Inv-restored μ-restored Inv-sifted μ-sifted Inv-records μ-records
 add-k c = let b = inside-left (c .before) in omega arith
 
-mul-x-3 : tie.Need-mul-x-3 Inv-collected μ-collected Inv-allowed μ-allowed Inv-returned μ-returned Inv-found μ-found Inv-left μ-left Inv-restored μ-restored Inv-records μ-records
+mul-x-3 : tie.Need-mul-x-3 Inv-collected μ-collected Inv-allowed μ-allowed Inv-returned μ-returned Inv-found μ-found Inv-left μ-left Inv-restored μ-restored Inv-sifted μ-sifted Inv-records μ-records
 mul-x-3 c = let b = inside-left (from-Then7-to-In-left c) in omega arith
 
-mul-x-4 : tie.Need-mul-x-4 Inv-collected μ-collected Inv-allowed μ-allowed Inv-returned μ-returned Inv-found μ-found Inv-left μ-left Inv-restored μ-restored Inv-records μ-records
+mul-x-4 : tie.Need-mul-x-4 Inv-collected μ-collected Inv-allowed μ-allowed Inv-returned μ-returned Inv-found μ-found Inv-left μ-left Inv-restored μ-restored Inv-sifted μ-sifted Inv-records μ-records
 mul-x-4 c = let b = inside-left (from-Then7-to-In-left c) in omega arith
 
-index-1-x-2 : tie.Need-index-1-x-2 Inv-collected μ-collected Inv-allowed μ-allowed Inv-returned μ-returned Inv-found μ-found Inv-left μ-left Inv-restored μ-restored Inv-records μ-records
+index-1-x-2 : tie.Need-index-1-x-2 Inv-collected μ-collected Inv-allowed μ-allowed Inv-returned μ-returned Inv-found μ-found Inv-left μ-left Inv-restored μ-restored Inv-sifted μ-sifted Inv-records μ-records
 index-1-x-2 c = let b = inside-left (from-Then7-to-In-left c) in omega arith
 
-index-2-x-2 : tie.Need-index-2-x-2 Inv-collected μ-collected Inv-allowed μ-allowed Inv-returned μ-returned Inv-found μ-found Inv-left μ-left Inv-restored μ-restored Inv-records μ-records
+index-2-x-2 : tie.Need-index-2-x-2 Inv-collected μ-collected Inv-allowed μ-allowed Inv-returned μ-returned Inv-found μ-found Inv-left μ-left Inv-restored μ-restored Inv-sifted μ-sifted Inv-records μ-records
 index-2-x-2 c = let b = inside-left (from-Then7-to-In-left c) in omega arith
 
-add-stay : tie.Need-add-stay Inv-collected μ-collected Inv-allowed μ-allowed Inv-returned μ-returned Inv-found μ-found Inv-left μ-left Inv-restored μ-restored Inv-records μ-records
+add-stay : tie.Need-add-stay Inv-collected μ-collected Inv-allowed μ-allowed Inv-returned μ-returned Inv-found μ-found Inv-left μ-left Inv-restored μ-restored Inv-sifted μ-sifted Inv-records μ-records
 add-stay c = let b = inside-left (from-Then7-to-In-left c) in omega arith
 
-cast-deleted-2 : tie.Need-cast-deleted-2 Inv-collected μ-collected Inv-allowed μ-allowed Inv-returned μ-returned Inv-found μ-found Inv-left μ-left Inv-restored μ-restored Inv-records μ-records
+cast-deleted-2 : tie.Need-cast-deleted-2 Inv-collected μ-collected Inv-allowed μ-allowed Inv-returned μ-returned Inv-found μ-found Inv-left μ-left Inv-restored μ-restored Inv-sifted μ-sifted Inv-records μ-records
 cast-deleted-2 c =
     let b = inside-left (from-Else7-to-In-left c) in omega arith
 
-mul-deleted-5 : tie.Need-mul-deleted-5 Inv-collected μ-collected Inv-allowed μ-allowed Inv-returned μ-returned Inv-found μ-found Inv-left μ-left Inv-restored μ-restored Inv-records μ-records
+mul-deleted-5 : tie.Need-mul-deleted-5 Inv-collected μ-collected Inv-allowed μ-allowed Inv-returned μ-returned Inv-found μ-found Inv-left μ-left Inv-restored μ-restored Inv-sifted μ-sifted Inv-records μ-records
 mul-deleted-5 c =
     let b = inside-left (from-Else7-to-In-left c) in omega arith
 
-mul-deleted-6 : tie.Need-mul-deleted-6 Inv-collected μ-collected Inv-allowed μ-allowed Inv-returned μ-returned Inv-found μ-found Inv-left μ-left Inv-restored μ-restored Inv-records μ-records
+mul-deleted-6 : tie.Need-mul-deleted-6 Inv-collected μ-collected Inv-allowed μ-allowed Inv-returned μ-returned Inv-found μ-found Inv-left μ-left Inv-restored μ-restored Inv-sifted μ-sifted Inv-records μ-records
 mul-deleted-6 c =
     let b = inside-left (from-Else7-to-In-left c) in omega arith
 
-mul-deleted-7 : tie.Need-mul-deleted-7 Inv-collected μ-collected Inv-allowed μ-allowed Inv-returned μ-returned Inv-found μ-found Inv-left μ-left Inv-restored μ-restored Inv-records μ-records
+mul-deleted-7 : tie.Need-mul-deleted-7 Inv-collected μ-collected Inv-allowed μ-allowed Inv-returned μ-returned Inv-found μ-found Inv-left μ-left Inv-restored μ-restored Inv-sifted μ-sifted Inv-records μ-records
 mul-deleted-7 c =
     let b = inside-left (from-Else7-to-In-left c) in omega arith
 
-mul-deleted-8 : tie.Need-mul-deleted-8 Inv-collected μ-collected Inv-allowed μ-allowed Inv-returned μ-returned Inv-found μ-found Inv-left μ-left Inv-restored μ-restored Inv-records μ-records
+mul-deleted-8 : tie.Need-mul-deleted-8 Inv-collected μ-collected Inv-allowed μ-allowed Inv-returned μ-returned Inv-found μ-found Inv-left μ-left Inv-restored μ-restored Inv-sifted μ-sifted Inv-records μ-records
 mul-deleted-8 c =
     let b = inside-left (from-Else7-to-In-left c) in omega arith
 
-slice-write-deleted-3 : tie.Need-slice-write-deleted-3 Inv-collected μ-collected Inv-allowed μ-allowed Inv-returned μ-returned Inv-found μ-found Inv-left μ-left Inv-restored μ-restored Inv-records μ-records
+slice-write-deleted-3 : tie.Need-slice-write-deleted-3 Inv-collected μ-collected Inv-allowed μ-allowed Inv-returned μ-returned Inv-found μ-found Inv-left μ-left Inv-restored μ-restored Inv-sifted μ-sifted Inv-records μ-records
 slice-write-deleted-3 c =
     let b = inside-left (from-Else7-to-In-left c) in omega arith
 
-add-deleted-2 : tie.Need-add-deleted-2 Inv-collected μ-collected Inv-allowed μ-allowed Inv-returned μ-returned Inv-found μ-found Inv-left μ-left Inv-restored μ-restored Inv-records μ-records
+add-deleted-2 : tie.Need-add-deleted-2 Inv-collected μ-collected Inv-allowed μ-allowed Inv-returned μ-returned Inv-found μ-found Inv-left μ-left Inv-restored μ-restored Inv-sifted μ-sifted Inv-records μ-records
 add-deleted-2 c =
     let b = inside-left (from-Else7-to-In-left c) in omega arith
 
-add-all-gone : tie.Need-add-all-gone Inv-collected μ-collected Inv-allowed μ-allowed Inv-returned μ-returned Inv-found μ-found Inv-left μ-left Inv-restored μ-restored Inv-records μ-records
+add-all-gone : tie.Need-add-all-gone Inv-collected μ-collected Inv-allowed μ-allowed Inv-returned μ-returned Inv-found μ-found Inv-left μ-left Inv-restored μ-restored Inv-sifted μ-sifted Inv-records μ-records
 add-all-gone c =
     let b = inside-left (from-Else7-to-In-left c) in omega arith
 
-slice-write-deleted-4 : tie.Need-slice-write-deleted-4 Inv-collected μ-collected Inv-allowed μ-allowed Inv-returned μ-returned Inv-found μ-found Inv-left μ-left Inv-restored μ-restored Inv-records μ-records
+slice-write-deleted-4 : tie.Need-slice-write-deleted-4 Inv-collected μ-collected Inv-allowed μ-allowed Inv-returned μ-returned Inv-found μ-found Inv-left μ-left Inv-restored μ-restored Inv-sifted μ-sifted Inv-records μ-records
 slice-write-deleted-4 c =
     let b = inside-left (from-Else7-to-In-left c) in omega (arith, length-set (from-Else7-to-At-left c .left .deleted) (2 * from-Else7-to-At-left c .left .all-gone) (from-Else7-to-At-restored c .restored .q))
 
-left-less : tie.Need-left-less Inv-collected μ-collected Inv-allowed μ-allowed Inv-returned μ-returned Inv-found μ-found Inv-left μ-left Inv-restored μ-restored Inv-records μ-records
+left-less : tie.Need-left-less Inv-collected μ-collected Inv-allowed μ-allowed Inv-returned μ-returned Inv-found μ-found Inv-left μ-left Inv-restored μ-restored Inv-sifted μ-sifted Inv-records μ-records
 left-less c = omega (arith, from-Then7-to-In-left c .left-test .taken)
 
-left-less-2 : tie.Need-left-less-2 Inv-collected μ-collected Inv-allowed μ-allowed Inv-returned μ-returned Inv-found μ-found Inv-left μ-left Inv-restored μ-restored Inv-records μ-records
+left-less-2 : tie.Need-left-less-2 Inv-collected μ-collected Inv-allowed μ-allowed Inv-returned μ-returned Inv-found μ-found Inv-left μ-left Inv-restored μ-restored Inv-sifted μ-sifted Inv-records μ-records
 left-less-2 c = omega (arith, from-Else7-to-In-left c .left-test .taken)
 
 in-left : (c : In-left) → c .before .left .k < length (getD (from-In-left-to-At-restored c .restored .kept) (from-In-left-to-At-restored c .restored .q) [])
@@ -1892,7 +2015,7 @@ in-left-now c =
     let l = in-left c in
     rw (collected.row-length _ _ _ (row-there (from-In-left-to-In-restored c)) _ _ (c .before .left .inv .0) (omega arith)) l
 
-left-again : tie.Need-left-again Inv-collected μ-collected Inv-allowed μ-allowed Inv-returned μ-returned Inv-found μ-found Inv-left μ-left Inv-restored μ-restored Inv-records μ-records
+left-again : tie.Need-left-again Inv-collected μ-collected Inv-allowed μ-allowed Inv-returned μ-returned Inv-found μ-found Inv-left μ-left Inv-restored μ-restored Inv-sifted μ-sifted Inv-records μ-records
 unfolding stays named
 left-again c =
     let l = from-Then7-to-At-left c .left in
@@ -1903,7 +2026,7 @@ left-again c =
       omega (arith, from-Then7-to-In-left c .left-test .taken),
     )
 
-left-again-2 : tie.Need-left-again-2 Inv-collected μ-collected Inv-allowed μ-allowed Inv-returned μ-returned Inv-found μ-found Inv-left μ-left Inv-restored μ-restored Inv-records μ-records
+left-again-2 : tie.Need-left-again-2 Inv-collected μ-collected Inv-allowed μ-allowed Inv-returned μ-returned Inv-found μ-found Inv-left μ-left Inv-restored μ-restored Inv-sifted μ-sifted Inv-records μ-records
 unfolding stays named
 left-again-2 c =
     let l = from-Else7-to-At-left c .left in
@@ -1918,7 +2041,7 @@ left-again-2 c =
 left-over : (c : After-left) → c .before .left .k ≡ getD (from-After-left-to-At-restored c .restored .held) (from-After-left-to-At-restored c .restored .q) 0
 left-over c = omega (arith, c .before .left .inv .1, c .left-test .left)
 
-restored-again : tie.Need-restored-again Inv-collected μ-collected Inv-allowed μ-allowed Inv-returned μ-returned Inv-found μ-found Inv-left μ-left Inv-restored μ-restored Inv-records μ-records
+restored-again : tie.Need-restored-again Inv-collected μ-collected Inv-allowed μ-allowed Inv-returned μ-returned Inv-found μ-found Inv-left μ-left Inv-restored μ-restored Inv-sifted μ-sifted Inv-records μ-records
 restored-again c =
     let at = from-After-left-to-At-records c in
     let r = from-After-left-to-At-restored c .restored in
@@ -1943,7 +2066,7 @@ all-done : (c : After-restored) → c .before .restored .q ≡ from-After-restor
 all-done c = omega (arith, c .before .restored .inv .within, c .restored-test .left)
 
 restores : (c : After-restored) → Restores (whole (from-After-restored-to-At-records c)) (from-After-restored-to-After-recovery-of c .recovery-of .result .failed)
-    (record { vectors = record { 0 = from-After-restored-to-At-returned c .returned .vectors }; pins = record { 0 = c .before .restored .pins }; sent = from-After-restored-to-At-returned c .returned .sent; kept = record { 0 = c .before .restored .kept }; held = c .before .restored .held; rolled = from-After-restored-to-At-returned c .returned .back; gone = c .before .restored .all-gone })
+    (record { vectors = record { 0 = from-After-restored-to-At-returned c .returned .vectors }; pins = record { 0 = c .before .restored .pins }; sent = from-After-restored-to-At-returned c .returned .sent; kept = record { 0 = c .before .restored .kept }; held = c .before .restored .held; under = select (outlives (from-After-restored-to-At-returned c .returned .members)) (underWay (whole (from-After-restored-to-At-records c))); rolled = from-After-restored-to-At-returned c .returned .back; gone = c .before .restored .all-gone })
     (from-After-restored-to-At-records c .records .deleted) (c .before .restored .deleted)
 restores c =
     let at = from-After-restored-to-At-records c in
@@ -1957,33 +2080,93 @@ recovery-says c =
     let at = from-After-restored-to-At-records c in
     recovered-says (whole at) (reach at) (event (from-After-restored-to-After-decode c)) (from-After-restored-to-After-recovery-of c .recovery-of .result .failed) (asked (from-After-restored-to-Else4 c) .0) (asked (from-After-restored-to-Else4 c) .1) _ (from-After-restored-to-At-records c .records .deleted) (c .before .restored .deleted) (restores c) (from-After-restored-to-At-records c .records .inv .lent)
 
-recovery-state : (c : After-restored) → perform (whole (from-After-restored-to-At-records c)) (event (from-After-restored-to-After-decode c)) .run
-    ≡ stateInPlace (from-After-restored-to-Start c .args .s .count) (from-After-restored-to-At-returned c .returned .vectors) (c .before .restored .pins) (c .before .restored .kept) (from-After-restored-to-At-returned c .returned .sent) (c .before .restored .held) (messagesIn (from-After-restored-to-At-records c .records .window) 64 64) (from-After-restored-to-At-records c .records .last)
+-- The messages that were sent behind the line leave the window.
+sifted-holds : tie.Need-sifted-holds Inv-collected μ-collected Inv-allowed μ-allowed Inv-returned μ-returned Inv-found μ-found Inv-left μ-left Inv-restored μ-restored Inv-sifted μ-sifted Inv-records μ-records
+sifted-holds c = none-sifted (from-After-restored-to-At-records c .records .inv .windowed)
+
+long-before : (c : At-records) → length (c .records .window) ≡ 576
+long-before c = c .records .inv .windowed .long
+
+-- What the laws of a turn take: what holds before it, and the message in place z.
+place-at : (c : In-sifted) → c .before .sifted .z < 576
+place-at c = sifted.place-there (c .before .sifted .inv) (long-before (from-In-sifted-to-At-records c)) (c .sifted-test .taken) _ refl
+
+few-met : (c : In-sifted) → c .before .sifted .outlived < 576
+few-met c = sifted.few-outlived (c .before .sifted .inv) (long-before (from-In-sifted-to-At-records c)) (c .sifted-test .taken) _ refl
+
+mul-y : tie.Need-mul-y Inv-collected μ-collected Inv-allowed μ-allowed Inv-returned μ-returned Inv-found μ-found Inv-left μ-left Inv-restored μ-restored Inv-sifted μ-sifted Inv-records μ-records
+mul-y c = omega (arith, place-at (c))
+
+array-copy-out-y : tie.Need-array-copy-out-y Inv-collected μ-collected Inv-allowed μ-allowed Inv-returned μ-returned Inv-found μ-found Inv-left μ-left Inv-restored μ-restored Inv-sifted μ-sifted Inv-records μ-records
+array-copy-out-y c = omega (arith, place-at (c))
+
+add-z : tie.Need-add-z Inv-collected μ-collected Inv-allowed μ-allowed Inv-returned μ-returned Inv-found μ-found Inv-left μ-left Inv-restored μ-restored Inv-sifted μ-sifted Inv-records μ-records
+add-z c = omega (arith, place-at (c .before))
+
+mul-window-2 : tie.Need-mul-window-2 Inv-collected μ-collected Inv-allowed μ-allowed Inv-returned μ-returned Inv-found μ-found Inv-left μ-left Inv-restored μ-restored Inv-sifted μ-sifted Inv-records μ-records
+mul-window-2 c = omega (arith, place-at (from-Else9-to-In-sifted c))
+
+array-set-from-window-2 : tie.Need-array-set-from-window-2 Inv-collected μ-collected Inv-allowed μ-allowed Inv-returned μ-returned Inv-found μ-found Inv-left μ-left Inv-restored μ-restored Inv-sifted μ-sifted Inv-records μ-records
+array-set-from-window-2 c = omega (arith, place-at (from-Else9-to-In-sifted c))
+
+does-outlive-requires : tie.Need-does-outlive-requires Inv-collected μ-collected Inv-allowed μ-allowed Inv-returned μ-returned Inv-found μ-found Inv-left μ-left Inv-restored μ-restored Inv-sifted μ-sifted Inv-records μ-records
+does-outlive-requires c κs = sifted.sender-there (from-Then8-to-At-sifted c .sifted .inv) (long-before (from-Then8-to-At-records c)) (from-Then8-to-In-sifted c .sifted-test .taken) _ (any-default (from-Then8-to-At-sifted c .sifted .window) (from-Then8-to-At-sifted c .sifted .z) _ noMessage (rw (from-Then8-to-At-sifted c .sifted .inv .windowed .long) (place-at (from-Then8-to-In-sifted c)))) (c .if8 .taken) (whole (from-Then8-to-At-records c)) (fine (from-Then8-to-At-records c)) (holds (from-Then8-to-At-records c))
+
+add-outlived : tie.Need-add-outlived Inv-collected μ-collected Inv-allowed μ-allowed Inv-returned μ-returned Inv-found μ-found Inv-left μ-left Inv-restored μ-restored Inv-sifted μ-sifted Inv-records μ-records
+add-outlived c = omega (arith, few-met (from-After-first-from-to-In-sifted c))
+
+sub-underway : tie.Need-sub-underway Inv-collected μ-collected Inv-allowed μ-allowed Inv-returned μ-returned Inv-found μ-found Inv-left μ-left Inv-restored μ-restored Inv-sifted μ-sifted Inv-records μ-records
+sub-underway c = omega (arith, from-Else9-to-In-sifted c .sifted-test .taken)
+
+sifted-less : tie.Need-sifted-less Inv-collected μ-collected Inv-allowed μ-allowed Inv-returned μ-returned Inv-found μ-found Inv-left μ-left Inv-restored μ-restored Inv-sifted μ-sifted Inv-records μ-records
+sifted-less c = omega (arith, sifted.more-left (from-After-first-from-to-At-sifted c .sifted .inv) (long-before (from-After-first-from-to-At-records c)) (from-After-first-from-to-In-sifted c .sifted-test .taken))
+
+sifted-less-2 : tie.Need-sifted-less-2 Inv-collected μ-collected Inv-allowed μ-allowed Inv-returned μ-returned Inv-found μ-found Inv-left μ-left Inv-restored μ-restored Inv-sifted μ-sifted Inv-records μ-records
+sifted-less-2 c = omega (arith, sifted.more-left (from-Else9-to-At-sifted c .sifted .inv) (long-before (from-Else9-to-At-records c)) (from-Else9-to-In-sifted c .sifted-test .taken))
+
+sifted-less-3 : tie.Need-sifted-less-3 Inv-collected μ-collected Inv-allowed μ-allowed Inv-returned μ-returned Inv-found μ-found Inv-left μ-left Inv-restored μ-restored Inv-sifted μ-sifted Inv-records μ-records
+sifted-less-3 c = omega (arith, sifted.more-left (from-Else8-to-At-sifted c .sifted .inv) (long-before (from-Else8-to-At-records c)) (from-Else8-to-In-sifted c .sifted-test .taken))
+
+sifted-again : tie.Need-sifted-again Inv-collected μ-collected Inv-allowed μ-allowed Inv-returned μ-returned Inv-found μ-found Inv-left μ-left Inv-restored μ-restored Inv-sifted μ-sifted Inv-records μ-records
+sifted-again c = sifted.stays-there (from-After-first-from-to-At-sifted c .sifted .inv) (long-before (from-After-first-from-to-At-records c)) (from-After-first-from-to-In-sifted c .sifted-test .taken) _ (any-default (from-After-first-from-to-At-sifted c .sifted .window) (from-After-first-from-to-At-sifted c .sifted .z) _ noMessage (rw (from-After-first-from-to-At-sifted c .sifted .inv .windowed .long) (place-at (from-After-first-from-to-In-sifted c)))) (from-After-first-from-to-Then8 c .if8 .taken) (sym (c .before .before .does-outlive .ensures) ∙ c .before .if9 .taken) (c .first-from .ensures)
+
+sifted-again-2 : tie.Need-sifted-again-2 Inv-collected μ-collected Inv-allowed μ-allowed Inv-returned μ-returned Inv-found μ-found Inv-left μ-left Inv-restored μ-restored Inv-sifted μ-sifted Inv-records μ-records
+sifted-again-2 c = sifted.goes (from-Else9-to-At-sifted c .sifted .inv) (long-before (from-Else9-to-At-records c)) (from-Else9-to-In-sifted c .sifted-test .taken) _ (any-default (from-Else9-to-At-sifted c .sifted .window) (from-Else9-to-At-sifted c .sifted .z) _ noMessage (rw (from-Else9-to-At-sifted c .sifted .inv .windowed .long) (place-at (from-Else9-to-In-sifted c)))) (c .before .before .if8 .taken) (sym (c .before .does-outlive .ensures) ∙ c .if9 .left) (from-Else9-to-After-no-message c .no-message .ensures)
+
+sifted-again-3 : tie.Need-sifted-again-3 Inv-collected μ-collected Inv-allowed μ-allowed Inv-returned μ-returned Inv-found μ-found Inv-left μ-left Inv-restored μ-restored Inv-sifted μ-sifted Inv-records μ-records
+sifted-again-3 c = sifted.passed (from-Else8-to-At-sifted c .sifted .inv) (long-before (from-Else8-to-At-records c)) (from-Else8-to-In-sifted c .sifted-test .taken) _ (any-default (from-Else8-to-At-sifted c .sifted .window) (from-Else8-to-At-sifted c .sifted .z) _ noMessage (rw (from-Else8-to-At-sifted c .sifted .inv .windowed .long) (place-at (from-Else8-to-In-sifted c)))) (c .if8 .left)
+
+-- All are met: those left in the window are the ones that the model leaves.
+still : (c : After-sifted) → messagesIn (c .before .sifted .window) (c .before .sifted .first) (from-After-sifted-to-At-records c .records .tail) ≡ select (outlives (from-After-sifted-to-At-returned c .returned .members)) (underWay (whole (from-After-sifted-to-At-records c)))
+still c = sifted.all-sifted (c .before .sifted .inv) (long-before (from-After-sifted-to-At-records c)) (c .sifted-test .left) ∙ ap (select (outlives (from-After-sifted-to-At-returned c .returned .members))) (holds (from-After-sifted-to-At-records c))
+
+recovery-state : (c : After-sifted) → perform (whole (from-After-sifted-to-At-records c)) (event (from-After-sifted-to-After-decode c)) .run
+    ≡ stateInPlace (from-After-sifted-to-Start c .args .s .count) (from-After-sifted-to-At-returned c .returned .vectors) (from-After-sifted-to-At-restored c .restored .pins) (from-After-sifted-to-At-restored c .restored .kept) (from-After-sifted-to-At-returned c .returned .sent) (from-After-sifted-to-At-restored c .restored .held) (messagesIn (c .before .sifted .window) (c .before .sifted .first) (from-After-sifted-to-At-records c .records .tail)) (from-After-sifted-to-At-records c .records .last)
 unfolding stillOf
 recovery-state c =
-    let at = from-After-restored-to-At-records c in
-    rw (windows.none-left (from-After-restored-to-At-records c .records .window))
-    (recovered-state (whole at) (reach at) (event (from-After-restored-to-After-decode c)) (from-After-restored-to-After-recovery-of c .recovery-of .result .failed) (asked (from-After-restored-to-Else4 c) .0) (asked (from-After-restored-to-Else4 c) .1) _ (from-After-restored-to-At-records c .records .deleted) (c .before .restored .deleted) (restores c))
+    let at = from-After-sifted-to-At-records c in
+    recovered-state (whole at) (reach at) (event (from-After-sifted-to-After-decode c)) (from-After-sifted-to-After-recovery-of c .recovery-of .result .failed) (asked (from-After-sifted-to-Else4 c) .0) (asked (from-After-sifted-to-Else4 c) .1) _ (from-After-sifted-to-At-records c .records .deleted) (from-After-sifted-to-At-restored c .restored .deleted) (restores (c .before .before))
+    ∙ ap (λ (l : List Message). stateInPlace (from-After-sifted-to-Start c .args .s .count) (from-After-sifted-to-At-returned c .returned .vectors) (from-After-sifted-to-At-restored c .restored .pins) (from-After-sifted-to-At-restored c .restored .kept) (from-After-sifted-to-At-returned c .returned .sent) (from-After-sifted-to-At-restored c .restored .held) l (from-After-sifted-to-At-records c .records .last)) (sym (still c))
 
-print-requires-3 : tie.Need-print-requires-3 Inv-collected μ-collected Inv-allowed μ-allowed Inv-returned μ-returned Inv-found μ-found Inv-left μ-left Inv-restored μ-restored Inv-records μ-records
+print-requires-3 : tie.Need-print-requires-3 Inv-collected μ-collected Inv-allowed μ-allowed Inv-returned μ-returned Inv-found μ-found Inv-left μ-left Inv-restored μ-restored Inv-sifted μ-sifted Inv-records μ-records
 print-requires-3 c κs =
-    let fits = said-fits (whole (from-After-print-arg6-to-At-records c)) (event (from-After-print-arg6-to-After-decode c)) _ _ (recovery-says (c .before .before)) in
+    let fits = said-fits (whole (from-After-print-arg6-to-At-records c)) (event (from-After-print-arg6-to-After-decode c)) _ _ (recovery-says (from-After-print-arg6-to-After-restored c)) in
     (fits .0, omega (arith, fits .1, from-After-print-arg6-to-At-restored c .restored .inv .long, from-After-print-arg6-to-At-records c .records .inv .lent), omega (arith, few (from-After-print-arg6-to-Then3 c)), room (from-After-print-arg6-to-Then3 c))
 
-records-again-3 : tie.Need-records-again-3 Inv-collected μ-collected Inv-allowed μ-allowed Inv-returned μ-returned Inv-found μ-found Inv-left μ-left Inv-restored μ-restored Inv-records μ-records
+records-again-3 : tie.Need-records-again-3 Inv-collected μ-collected Inv-allowed μ-allowed Inv-returned μ-returned Inv-found μ-found Inv-left μ-left Inv-restored μ-restored Inv-sifted μ-sifted Inv-records μ-records
 records-again-3 c =
     one-more (from-After-slice-known5-to-At-records c .records .inv) (left (from-After-slice-known5-to-Then3 c)) (room (from-After-slice-known5-to-Then3 c)) (few (from-After-slice-known5-to-Then3 c)) (event (from-After-slice-known5-to-After-decode c)) (is-event (from-After-slice-known5-to-After-decode c))
-    (recovery-state (from-After-slice-known5-to-After-restored c)) (recovery-says (from-After-slice-known5-to-After-restored c)) (from-After-slice-known5-to-At-restored c .restored .inv .long ∙ from-After-slice-known5-to-At-records c .records .inv .lent) (c .before .before .print3 .ensures .0) (c .before .before .print3 .ensures .1)
-    (c .before .before .print3 .kept .1 .1 .1 .0) (windows.forgotten (from-After-slice-known5-to-At-records c .records .inv .windowed)) (omega arith)
+    (recovery-state (from-After-slice-known5-to-After-sifted c)) (recovery-says (from-After-slice-known5-to-After-restored c)) (from-After-slice-known5-to-At-restored c .restored .inv .long ∙ from-After-slice-known5-to-At-records c .records .inv .lent) (c .before .before .print3 .ensures .0) (c .before .before .print3 .ensures .1)
+    (c .before .before .print3 .kept .1 .1 .1 .0) (from-After-slice-known5-to-At-sifted c .sifted .inv .windowed) (omega (arith, from-After-slice-known5-to-At-records c .records .inv .sends))
 
 -- The start and the end of the block.
 same-begin : (c : After-no-checkpoint) → stateInPlace (from-After-no-checkpoint-to-Start c .args .s .count) (from-After-no-checkpoint-to-After-vector-rows c .vector-rows .result) (from-After-no-checkpoint-to-After-pin-rows c .pin-rows .result) (from-After-no-checkpoint-to-After-kept-rows c .kept-rows .result) (from-After-no-checkpoint-to-Start c .args .s .sent) (from-After-no-checkpoint-to-Start c .args .s .held) (messagesIn (c .before .opened .result) 0 64) (from-After-no-checkpoint-to-Start c .args .s .last) ≡ from-After-no-checkpoint-to-Start c .args .s
 same-begin c = same-start (from-After-no-checkpoint-to-Start c .args .s) (from-After-no-checkpoint-to-Start c .pre .0) (from-After-no-checkpoint-to-After-vector-rows c .vector-rows .ensures) (from-After-no-checkpoint-to-After-pin-rows c .pin-rows .ensures) (from-After-no-checkpoint-to-After-kept-rows c .kept-rows .ensures) (c .before .opened .ensures)
 
-records-holds : tie.Need-records-holds Inv-collected μ-collected Inv-allowed μ-allowed Inv-returned μ-returned Inv-found μ-found Inv-left μ-left Inv-restored μ-restored Inv-records μ-records
+records-holds : tie.Need-records-holds Inv-collected μ-collected Inv-allowed μ-allowed Inv-returned μ-returned Inv-found μ-found Inv-left μ-left Inv-restored μ-restored Inv-sifted μ-sifted Inv-records μ-records
 records-holds c =
-    none-yet (from-After-no-checkpoint-to-Start c .args .s) (from-After-no-checkpoint-to-Start c .pre .0) (from-After-no-checkpoint-to-After-vector-rows c .vector-rows .ensures) (from-After-no-checkpoint-to-After-pin-rows c .pin-rows .ensures) (from-After-no-checkpoint-to-After-kept-rows c .kept-rows .ensures) (c .before .opened .ensures) (from-After-no-checkpoint-to-Start c .pre .3) (from-After-no-checkpoint-to-Start c .args .done) (from-After-no-checkpoint-to-Start c .pre .1)
-    (drop 1 (now (from-After-no-checkpoint-to-Start c .args .trace))) (now (from-After-no-checkpoint-to-Start c .args .out)) (now (from-After-no-checkpoint-to-Start c .args .deleted)) (from-After-no-checkpoint-to-Start c .pre .2) (same-begin c)
+    none-yet (from-After-no-message-to-Start c .args .s) (from-After-no-message-to-Start c .pre .0) (from-After-no-message-to-After-vector-rows c .vector-rows .ensures) (from-After-no-message-to-After-pin-rows c .pin-rows .ensures) (from-After-no-message-to-After-kept-rows c .kept-rows .ensures) (c .before .before .opened .ensures) (from-After-no-message-to-Start c .pre .3) (from-After-no-message-to-Start c .args .done) (from-After-no-message-to-Start c .pre .1)
+    (drop 1 (now (from-After-no-message-to-Start c .args .trace))) (now (from-After-no-message-to-Start c .args .out)) (now (from-After-no-message-to-Start c .args .deleted)) (from-After-no-message-to-Start c .pre .2) (same-begin (c .before))
 
 -- Why the loop has stopped.
 stops : (c : Left-records) → Stops (from-Left-records-to-Start c .args .done) (length (drop 1 (now (from-Left-records-to-Start c .args .trace)))) (c .before .records .taken) (length (now (from-Left-records-to-Start c .args .out))) (c .before .records .written)
@@ -2004,12 +2187,15 @@ stops c =
     by-four (inr (inr (inl x))) f g h k = h x
     by-four (inr (inr (inr d))) f g h k = k d
 
-closed-requires : tie.Need-closed-requires Inv-collected μ-collected Inv-allowed μ-allowed Inv-returned μ-returned Inv-found μ-found Inv-left μ-left Inv-restored μ-restored Inv-records μ-records
+closed-requires : tie.Need-closed-requires Inv-collected μ-collected Inv-allowed μ-allowed Inv-returned μ-returned Inv-found μ-found Inv-left μ-left Inv-restored μ-restored Inv-sifted μ-sifted Inv-records μ-records
 closed-requires c κs =
     let w = c .before .records .inv .windowed in
     (omega (arith, w .from, w .least), w .most, windows.few w (whole (c .before)) (fine (c .before)) (sized (c .before)) (holds (c .before)) refl)
 
-returns : tie.Need-returns Inv-collected μ-collected Inv-allowed μ-allowed Inv-returned μ-returned Inv-found μ-found Inv-left μ-left Inv-restored μ-restored Inv-records μ-records
+same-length-2 : tie.Need-same-length-2 Inv-collected μ-collected Inv-allowed μ-allowed Inv-returned μ-returned Inv-found μ-found Inv-left μ-left Inv-restored μ-restored Inv-sifted μ-sifted Inv-records μ-records
+same-length-2 c = from-After-kept-from-to-At-records c .records .inv .lent ∙ sym (from-After-kept-from-to-Start c .pre .2)
+
+returns : tie.Need-returns Inv-collected μ-collected Inv-allowed μ-allowed Inv-returned μ-returned Inv-found μ-found Inv-left μ-left Inv-restored μ-restored Inv-sifted μ-sifted Inv-records μ-records
 returns c =
     let l = from-After-kept-from-to-At-records c .records in
     let e = ends (same-begin (from-After-kept-from-to-After-no-checkpoint c)) (same-end (messagesIn (l .window) (l .first) (l .tail)) (c .before .before .vectors-from .ensures) (c .before .pins-from .ensures) (c .kept-from .ensures) (from-After-kept-from-to-After-closed c .closed .ensures) (l .inv .windowed .many)) (l .inv) in
@@ -2018,8 +2204,8 @@ returns c =
 pub replay-beside-spec : {M : Type 1} → statement M
 replay-beside-spec =
     tie.close
-    (tie.spec Inv-collected μ-collected Inv-allowed μ-allowed Inv-returned μ-returned Inv-found μ-found Inv-left μ-left Inv-restored μ-restored Inv-records μ-records
-    (λ c κs. search needs) (λ c κs. search needs) (λ c κs. search needs) (λ c κs. search needs) (λ c κs. search needs)
+    (tie.spec Inv-collected μ-collected Inv-allowed μ-allowed Inv-returned μ-returned Inv-found μ-found Inv-left μ-left Inv-restored μ-restored Inv-sifted μ-sifted Inv-records μ-records
+    (λ c κs. search needs) (λ c κs. search needs) (λ c κs. search needs) (λ c κs. search needs) (λ c κs. search needs) (λ c κs. search needs)
     records-holds
     add-if1
     (λ c κs. search needs)
@@ -2187,9 +2373,26 @@ replay-beside-spec =
     add-q
     restored-less
     restored-again
+    sifted-holds
+    mul-y
+    array-copy-out-y
+    add-z
+    does-outlive-requires
+    (λ c κs. search needs)
+    add-outlived
+    sifted-less
+    sifted-again
+    mul-window-2
+    array-set-from-window-2
+    sub-underway
+    sifted-less-2
+    sifted-again-2
+    sifted-less-3
+    sifted-again-3
     print-requires-3
     records-less-3
     records-again-3
     closed-requires
-    (λ c κs. search needs) (λ c κs. search needs) (λ c κs. search needs) (λ c. search needs) (λ c. search needs)
+    (λ c κs. search needs) (λ c κs. search needs) (λ c κs. search needs) (λ c. search needs)
+    same-length-2
     returns)

@@ -1,18 +1,29 @@
 -- `rollback::recover::run_after` meets its contract: the parts, put together.
 -- Assumes nothing.
 use mathlib.Core.Path.{_≡_, refl}
+use mathlib.Core.Bool.{true}
 use mathlib.Core.List.{List}
 use Prim.Native.Nat.{ℕ}
 use borrow.Author.Needs.{needs}
+use lib.Dec.{ltb}
+use lib.ListN.{getD, take}
 use lib.Seq.{sets}
+use native.Mathlib.Omega.{arith}
+use borrow.Author.Tests.{lt-ltb}
+use Rattle.laws.specs.Lists.{select}
+use Rattle.laws.specs.Rows.{every-at, every-by}
+use Rattle.laws.specs.Tests.{every}
 use Rattle.model.specs.declared.Interval.{Interval}
 use Rattle.model.specs.declared.Pin.{Pin}
 use Rattle.model.specs.declared.Checkpoint.{Checkpoint}
 use Rattle.model.specs.declared.Run.{Run}
 use Rattle.model.specs.declared.RecoverAnswer.the-variants.{Recovered}
 use Rattle.model.specs.Outcomes.{pairs}
-use Rattle.model.specs.laws.Sound.{sound-state}
+use Rattle.model.specs.Words.{noMessage, underWay}
+use Rattle.model.specs.Sound.{messageSound, sound}
+use Rattle.model.specs.laws.Sound.{sound-state, sound-message}
 use Rattle.rows.specs.Line.{ownRow}
+use Rattle.rows.specs.Recovery.{outlives}
 use Rattle.rollback.specs.declared.recover.RecoverOutcome.{RecoverOutcome}
 use Rattle.rollback.specs.declared.recover.Returned.{Returned}
 use Rattle.rollback.specs.declared.recover.RowsAfter.{RowsAfter}
@@ -32,7 +43,7 @@ run-done : (s : Run) (states : List Checkpoint) (v₀ v₁ : List (List Interval
     → owns ≡ ownRow v₁
     → all ≡ rowsOf (s .count) p₀ v₁ owns (r .rolled) k₀ (s .held) (r .members)
     → l₁ ≡ sets l₀ 0 (pairs (lossesOf (s .count) k₀ (s .held) (r .members) (pinsAt p₀ v₁ owns (r .rolled) k₀ (s .held) (r .members))))
-    → still ≡ stillOf
+    → still ≡ stillOf (select (outlives (r .members)) (take (s .underway) (s .messages)))
     → (_≡_ {A = RecoverOutcome} (record {
       run = record {
         count = s .count;
@@ -49,23 +60,36 @@ run-done : (s : Run) (states : List Checkpoint) (v₀ v₁ : List (List Interval
     })
     (record { run = restored s (restoredIn s states); answer = Recovered (restoredIn s states .rolled) (restoredIn s states .gone) }))
     × (l₁ ≡ sets l₀ 0 (pairs (lossesIn s states)))
-unfolding restoredIn restoredFrom rowsIn lossesIn lossesFrom pinsIn
+unfolding restoredIn restoredFrom rowsIn lossesIn lossesFrom pinsIn underWay
 run-done s states v₀ v₁ p₀ k₀ r owns all still l₀ l₁ a b c d e f g h i = rw (i, h, g, f, e, d, c, b, a) (refl, refl)
 
 go-back-requires : tie.Need-go-back-requires
-go-back-requires c κs = let st = c .before .before .before .before .before .before in sound-state (st .args .s) (st .pre .0) .count-most
+go-back-requires c κs = let st = c .before .before .before .before .before .before .before in sound-state (st .args .s) (st .pre .0) .count-most
 
 rows-after-requires : tie.Need-rows-after-requires
 rows-after-requires c κs =
-    let st = c .before .before .before .before .before .before .before .before .before .before .before .before .before .before in
+    let st = c .before .before .before .before .before .before .before .before .before .before .before .before .before .before .before in
     let parts = sound-state (st .args .s) (st .pre .0) in
     (parts .count-most, st .pre .1, λ p lt. parts .processes p lt .held-most)
+
+-- A message under way has its sender in the run, which has 16 processes at most.
+senders-there : (s : Run) → sound s ≡ true → every (λ x. ltb (x .sender) 16) (take (s .underway) (s .messages)) ≡ true
+unfolding underWay
+senders-there s h = every-by (λ x. ltb (x .sender) 16) (underWay s) noMessage (λ k lt.
+    let fine = sound-message s (getD (underWay s) k noMessage) (every-at (messageSound s) (underWay s) k noMessage lt (sound-state s h .messages-sound)) in
+    lt-ltb (getD (underWay s) k noMessage .sender) 16 (omega (arith, fine .from, sound-state s h .count-most)))
+
+still-under-way-requires : tie.Need-still-under-way-requires
+still-under-way-requires c κs =
+    let all = c .before .before .before .before .before in
+    let st = all .before .before .before .before .before .before .before .before .before .before .before .before .before .before .before .before in
+    (sound-state (st .args .s) (st .pre .0) .underway-most, senders-there (st .args .s) (st .pre .0))
 
 returns : tie.Need-returns
 returns c =
     let rows = c .before .before .before .before .before .before .before in
     let back = rows .before .before .before .before .before .before .before .before in
-    let kept = back .before .before .before in
+    let kept = back .before .before .before .before in
     let a = kept .before .before .before .before .args in
     run-done (a .s) (a .states) _ _ _ _ _ _ _ _ (a .deleted .now) _
     (kept .before .before .vector-rows .ensures)
@@ -89,6 +113,6 @@ run-after-spec =
     (λ c κs. search needs)
     (λ c κs. search needs)
     rows-after-requires
-    (λ c κs. search needs)
+    still-under-way-requires
     (λ c. search needs)
     returns)
