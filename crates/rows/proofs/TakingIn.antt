@@ -1,48 +1,83 @@
--- Taking a carried vector in, entry by entry (specs/TakingIn): before the first, one more, and behind all.
+-- Taking a carried vector in, entry by entry (specs/TakingIn): before the first step, one step more, and behind all; and the marks of the set.
 -- Assumes nothing.
-use mathlib.Core.Path.{_≡_}
-use mathlib.Core.Bool.{Bool}
+use mathlib.Core.Path.{_≡_, refl, ap, sym, _∙_}
+use mathlib.Core.Bool.{Bool, false}
 use mathlib.Core.List.{List}
 use Prim.Native.Nat.{ℕ, _+_, _^_, _<_}
+use native.Mathlib.Nat.{pow-suc}
+use native.Mathlib.Numerals.{add-one}
 use native.Mathlib.Omega.{arith}
-use lib.ListN.{length, set}
+use lib.ListN.{length, getD, set}
 use lib.Pow.{pow-mono}
-use Rattle.laws.specs.Bits.{bits-zero, bits-more, bits-less}
-use Rattle.laws.specs.Choice.{pick}
-use Rattle.laws.specs.Loops.{below-none, below-all, turn-set}
+use Rattle.laws.specs.Bits.{bitsOf, bits-zero, bits-more, bits-at}
+use Rattle.laws.specs.Choice.{pick, by-bool}
+use Rattle.laws.specs.Loops.{below-none, below-all, turn-old, turn-set}
+use Rattle.laws.specs.Lists.{table}
+use Rattle.laws.specs.Tables.{getD-table, table-same}
 use Rattle.model.specs.declared.Interval.{Interval}
-use Rattle.model.specs.Words.{entry, below}
-use Rattle.model.specs.Steps.{takenEntry, takenVector, risen}
+use Rattle.model.specs.declared.Pin.{Pin}
+use Rattle.model.specs.declared.Pin.the-variants.{Nothing}
+use Rattle.model.specs.Words.{entry, below, inSet}
+use Rattle.model.specs.Steps.{takenEntry, takenVector, takenPin, takenPins, risen}
 use Rattle.rows.specs.declared.vector.Taken.{Taken}
-use Rattle.rows.specs.TakingIn.{takenWhole, takenUpTo}
+use Rattle.rows.specs.Receipt.{pinBy, pinsBy}
+use Rattle.rows.specs.TakingIn.{takenWhole, takenUpTo, entryTaken, risenMarks}
+
+both : {v w : List Interval} {r s : ℕ} → v ≡ w → r ≡ s → _≡_ {A = Taken} (record { vector = v; rose = r }) (record { vector = w; rose = s })
+both p q = rw (p, q)
+
+-- What a step makes of its entry and of its bit is the step's definition.
+module _ (carried : List Interval) (f : ℕ) (t : Taken) where
+  abbrev rises-now : Bool
+  rises-now = below (entry (t .vector) f) (entry carried f)
+
+  pub step-is : {x : Interval} {bit : ℕ} → x ≡ pick rises-now (entry carried f) (entry (t .vector) f) → bit ≡ pick rises-now (2 ^ f) 0
+      → _≡_ {A = Taken} (record { vector = set (t .vector) f x; rose = t .rose + bit }) (entryTaken carried f t)
+  unfolding entryTaken takenEntry
+  step-is e d = both (ap (λ (x : Interval). set (t .vector) f x) e) (ap (λ (b : ℕ). t .rose + b) d)
+
+  -- The set has no bit above the entry of its last step, so that sixteen bits hold it.
+  module _ {bit : ℕ} (e : bit ≡ pick rises-now (2 ^ f) 0) (less : t .rose < 2 ^ f) where
+    pub step-less : t .rose + bit < 2 ^ (f + 1)
+    step-less = by-bool rises-now
+        (λ h. rw (e, h, add-one, pow-suc) (omega (arith, less)))
+        (λ h. rw (e, h, add-one, pow-suc) (omega (arith, less)))
+
+    pub step-room : f < 16 → t .rose + bit < 65536
+    step-room lt = omega (arith, step-less, pow-mono {i = f + 1} {j = 16} (omega arith))
 
 module _ (own carried : List Interval) where
-  abbrev rises : ℕ → Bool
+  abbrev pub rises : ℕ → Bool
   rises f = below (entry own f) (entry carried f)
 
-  -- Before the first entry: the own vector, and no entry rose.
-  pub up-none : (own ≡ takenUpTo 0 own carried .vector) × (0 ≡ takenUpTo 0 own carried .rose)
+  -- Before the first step: the own vector, and no entry rose.
+  pub up-none : _≡_ {A = Taken} (record { vector = own; rose = 0 }) (takenUpTo 0 own carried)
   unfolding takenUpTo
-  up-none = (below-none _ _, bits-zero _)
+  up-none = both (below-none _ _) (bits-zero _)
 
-  -- Entry f: it takes the greater of the two, and its bit comes to the set if it rises.
-  module _ (f : ℕ) {rose bit : ℕ} (so-far : rose ≡ takenUpTo f own carried .rose) (e : bit ≡ pick (rises f) (2 ^ f) 0) where
-    pub up-rose : rose + bit ≡ takenUpTo (f + 1) own carried .rose
-    unfolding takenUpTo
-    up-rose = bits-more rises f rose bit so-far e
+  -- The step for entry f: the entry is still the old one, so that the greater of the two, and whether it rises, are those of the old vector.
+  pub up-more : (f : ℕ) (t : Taken) → t ≡ takenUpTo f own carried → entryTaken carried f t ≡ takenUpTo (f + 1) own carried
+  unfolding takenUpTo entryTaken takenEntry
+  up-more f t so-far =
+      let v = ap (λ (u : Taken). u .vector) so-far in
+      let old = turn-old (takenEntry own carried) own (t .vector) f v _ in
+      both
+      (turn-set (takenEntry own carried) own (t .vector) f v _ (ap (λ (x : Interval). pick (below x (entry carried f)) (entry carried f) x) old))
+      (bits-more rises f (t .rose) _ (ap (λ (u : Taken). u .rose) so-far) (ap (λ (x : Interval). pick (below x (entry carried f)) (2 ^ f) 0) old))
 
-    -- Sixteen bits hold the set.
-    pub up-room : f < 16 → rose + bit < 65536
-    unfolding takenUpTo
-    up-room lt = omega (arith, up-rose, bits-less rises (f + 1), pow-mono {i = f + 1} {j = 16} (omega arith))
-
-  pub up-vector : (f : ℕ) {vector : List Interval} → vector ≡ takenUpTo f own carried .vector → {x : Interval} → x ≡ pick (rises f) (entry carried f) (entry own f)
-      → set vector f x ≡ takenUpTo (f + 1) own carried .vector
-  unfolding takenUpTo takenEntry
-  up-vector f {vector} so-far {x} e = turn-set (takenEntry own carried) own vector f so-far x e
-
-  -- Behind the last entry.
-  pub up-all : (k : ℕ) → k ≡ 16 → length own ≡ 16 → {vector : List Interval} {rose : ℕ} → vector ≡ takenUpTo k own carried .vector → rose ≡ takenUpTo k own carried .rose
-      → _≡_ {A = Taken} (record { vector = vector; rose = rose }) (takenWhole own carried)
+  -- Behind the last step.
+  pub up-all : length own ≡ 16 → takenUpTo 16 own carried ≡ takenWhole own carried
   unfolding takenUpTo takenVector risen
-  up-all k e long v r = rw (v, r, e, below-all (takenEntry own carried) own 16 long)
+  up-all long = both (below-all (takenEntry own carried) own 16 long) refl
+
+  -- Mark f of the set is whether entry f rises.
+  pub marks-are : table 16 rises ≡ risenMarks own carried
+  unfolding risenMarks risen
+  marks-are = table-same 16 rises _ (λ f lt. sym (bits-at rises 16 f lt))
+
+  -- Pins that move by the set move where the entry is smaller than the carried one.
+  pub pins-by-set : (i : ℕ) (pins : List Pin) → pinsBy i (risenMarks own carried) pins ≡ takenPins i own carried pins
+  unfolding risenMarks risen pinsBy pinBy takenPins takenPin
+  pins-by-set i pins = table-same 16 _ _
+      (λ f lt. ap (λ (rose : Bool). pick rose (getD pins i Nothing) (getD pins f Nothing))
+      (getD-table 16 (inSet (bitsOf 16 rises)) f false lt ∙ bits-at rises 16 f lt))

@@ -55,7 +55,7 @@ pub fn collect(row: [Checkpoint; 16], held: usize, pins: [Pin; 16]) -> KeptRow
 }
 
 // The row with c behind the others. One of the 16 places is free, once the pins have moved and what they no longer name is collected: of the 16 pins the
-// own one names c, so the others name at most 15 (specs/Settling).
+// own one names c, so the others name at most 15 (plans: proofs/Settling).
 pub fn store(kept: KeptRow, c: Checkpoint) -> KeptRow
     requires { ⌜ kept .held < 16 ⌝ }
     ensures { λ r. ⌜ r ≡ withStored kept c ⌝ }

@@ -65,7 +65,8 @@ pub fn vector_then(
     taken.vector
 }
 
-// The pins of process i after the receipt; `index` is the live state's before it.
+// The pins of process i after the receipt; `index` is the live state's before it. They move by the set of the entries that rise, before the vector takes the carried
+// one in.
 pub fn pins_then(
     stores: bool,
     index: CheckpointIndex,
@@ -77,13 +78,14 @@ pub fn pins_then(
     requires { ⌜ (i < 16) × (stores ≡ true → entry vector i .0 < 65535) ⌝ }
     ensures { λ r. ⌜ r ≡ pinsThen stores i index vector carried pins ⌝ }
 {
-    let first = vector_first(stores, vector, i);
-    let moved = pins_first(stores, index, pins, i);
-    super::pins::take_pins(first, carried, moved, i)
+    let own = vector_first(stores, vector, i);
+    let marks = super::vector::risen_marks(own, carried);
+    let first = pins_first(stores, index, pins, i);
+    super::pins::take_pins(marks, first, i)
 }
 
 // The checkpoints that the process keeps once its pins have moved: of the first `held` those that a pin names, and the stored one behind them. Then there is a
-// place for it (specs/Settling).
+// place for it (plans: proofs/Settling).
 pub fn kept_then(
     stores: bool,
     row: [Checkpoint; 16],

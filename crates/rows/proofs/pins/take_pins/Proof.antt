@@ -5,28 +5,28 @@ use mathlib.Core.Path.{_≡_, _∙_}
 use native.Mathlib.Omega.{arith}
 use borrow.Author.Needs.{needs}
 use Rattle.laws.specs.Loops.{setBelow, below-none, below-all, turn-set}
-use Rattle.model.specs.Steps.{takenPin, takenPins}
+use Rattle.rows.specs.Receipt.{pinBy, pinsBy}
 use Rattle.rows.proofs.pins.take_pins.Statement.{statement}
 use Rattle.rows.proofs.pins.take_pins.Tie as tie
 
 abbrev Inv-loop : tie.InvT-loop
-Inv-loop i own carried pins own-pin taken₀ f₀ taken f = (f ≤ 16) × (taken ≡ setBelow f (takenPin i own carried pins) taken₀)
+Inv-loop i marks pins own-pin taken₀ f₀ taken f = (f ≤ 16) × (taken ≡ setBelow f (pinBy i marks pins) taken₀)
 
 abbrev μ-loop : tie.MeasureT-loop
-μ-loop i own carried pins own-pin taken₀ f₀ taken f = 16 - f
+μ-loop i marks pins own-pin taken₀ f₀ taken f = 16 - f
 
 loop-holds : tie.Need-loop-holds Inv-loop μ-loop
 loop-holds c = (search needs, below-none _ _)
 
 loop-again : tie.Need-loop-again Inv-loop μ-loop
-unfolding takenPin
+unfolding pinBy
 loop-again c =
-    let b = c .before .before .before .before .before in
+    let b = c .before .before .before in
     let a = b .before .before .args in
-    (search needs, turn-set (takenPin (a .i) (a .t1) (a .t2) (a .t3)) _ _ _ (b .loop .inv .1) _ (c .taken-pin .ensures))
+    (search needs, turn-set (pinBy (a .i) (a .t1) (a .t2)) _ _ _ (b .loop .inv .1) _ (c .taken-pin .ensures))
 
 returns : tie.Need-returns Inv-loop μ-loop
-unfolding takenPins
+unfolding pinsBy
 returns c = let e : c .before .loop .f ≡ 16 = omega arith in rw e at (c .before .loop .inv .1) ∙ below-all _ _ 16 (search needs)
 
 pub take-pins-spec : {M : Type 1} → statement M
@@ -38,9 +38,6 @@ take-pins-spec =
     (λ c. search needs)
     (λ c. search needs)
     loop-holds
-    (λ c. search needs)
-    (λ c. search needs)
-    (λ c. search needs)
     (λ c. search needs)
     (λ c. search needs)
     (λ c. search needs)

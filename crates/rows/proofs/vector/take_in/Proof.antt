@@ -1,60 +1,73 @@
--- `rows::vector::take_in` meets its contract. The loop's invariant: the entries passed so far are taken in, the others are as they were, and the set has those
--- of the passed ones that rose (specs/TakingIn).
+-- `rows::vector::take_in` meets its contract: sixteen steps lead from the own vector to the whole (proofs/TakingIn).
 -- Assumes nothing.
-use Prim.Native.Nat.{_≤_, _-_}
-use mathlib.Core.Path.{_≡_}
-use native.Mathlib.Omega.{arith}
 use borrow.Author.Needs.{needs}
-use Rattle.rows.specs.TakingIn.{takenUpTo}
-use Rattle.rows.proofs.TakingIn.{up-none, up-rose, up-room, up-vector, up-all}
+use mathlib.Core.Path.{_≡_, _∙_}
+use lib.ListN.{length}
+use Rattle.rows.proofs.TakingIn.{up-none, up-all}
 use Rattle.rows.proofs.vector.take_in.Statement.{statement}
 use Rattle.rows.proofs.vector.take_in.Tie as tie
 
-abbrev Inv-loop : tie.InvT-loop
-Inv-loop own carried vector₀ rose₀ f₀ vector rose f = (f ≤ 16) × (vector ≡ takenUpTo f own carried .vector) × (rose ≡ takenUpTo f own carried .rose)
+-- A vector has 16 entries: said at the start, since the search does not look behind sixteen calls.
+long : (c : tie.Start) → length (c .args .own) ≡ 16
+long c = search needs
 
-abbrev μ-loop : tie.MeasureT-loop
-μ-loop own carried vector₀ rose₀ f₀ vector rose f = 16 - f
-
-loop-holds : tie.Need-loop-holds Inv-loop μ-loop
-loop-holds c = let a = c .args in (search needs, up-none (a .t1) (a .t2) .0, up-none (a .t1) (a .t2) .1)
-
-add-rose : tie.Need-add-rose Inv-loop μ-loop
-add-rose c =
-    let l = c .before .before .before .before .before in
-    let a = l .before .args in
-    let less = up-room (a .t1) (a .t2) _ (l .loop .inv .2) (c .bit-if-risen .ensures) (c .before .before .before .before .loop-test .taken) in
-    search needs
-
-loop-again : tie.Need-loop-again Inv-loop μ-loop
-loop-again c =
-    let l = c .before .before .before .before .before in
-    let a = l .before .args in (
-      search needs,
-      up-vector (a .t1) (a .t2) _ (l .loop .inv .1) (c .before .greater .ensures),
-      up-rose (a .t1) (a .t2) _ (l .loop .inv .2) (c .bit-if-risen .ensures),
-    )
-
-returns : tie.Need-returns Inv-loop μ-loop
-returns c = let l = c .before in up-all (l .before .args .t1) (l .before .args .t2) (l .loop .f) (omega arith) (search needs) (l .loop .inv .1) (l .loop .inv .2)
+returns : tie.Need-returns
+returns c =
+    let c15 = c in
+    let c14 = c15 .before in
+    let c13 = c14 .before in
+    let c12 = c13 .before in
+    let c11 = c12 .before in
+    let c10 = c11 .before in
+    let c9 = c10 .before in
+    let c8 = c9 .before in
+    let c7 = c8 .before in
+    let c6 = c7 .before in
+    let c5 = c6 .before in
+    let c4 = c5 .before in
+    let c3 = c4 .before in
+    let c2 = c3 .before in
+    let c1 = c2 .before in
+    let c0 = c1 .before in
+    let own = c0 .before .args .own in
+    let carried = c0 .before .args .carried in
+    let u0 = up-none own carried in
+    let u1 = c0 .take-entry .ensures .1 .1 own u0 in
+    let u2 = c1 .take-entry2 .ensures .1 .1 own u1 in
+    let u3 = c2 .take-entry3 .ensures .1 .1 own u2 in
+    let u4 = c3 .take-entry4 .ensures .1 .1 own u3 in
+    let u5 = c4 .take-entry5 .ensures .1 .1 own u4 in
+    let u6 = c5 .take-entry6 .ensures .1 .1 own u5 in
+    let u7 = c6 .take-entry7 .ensures .1 .1 own u6 in
+    let u8 = c7 .take-entry8 .ensures .1 .1 own u7 in
+    let u9 = c8 .take-entry9 .ensures .1 .1 own u8 in
+    let u10 = c9 .take-entry10 .ensures .1 .1 own u9 in
+    let u11 = c10 .take-entry11 .ensures .1 .1 own u10 in
+    let u12 = c11 .take-entry12 .ensures .1 .1 own u11 in
+    let u13 = c12 .take-entry13 .ensures .1 .1 own u12 in
+    let u14 = c13 .take-entry14 .ensures .1 .1 own u13 in
+    let u15 = c14 .take-entry15 .ensures .1 .1 own u14 in
+    let u16 = c15 .take-entry16 .ensures .1 .1 own u15 in
+    u16 ∙ up-all own carried (long (c0 .before))
 
 pub take-in-spec : {M : Type 1} → statement M
 take-in-spec =
     tie.close
     (tie.spec
-    Inv-loop
-    μ-loop
-    loop-holds
-    (λ c. search needs)
-    (λ c. search needs)
-    (λ c. search needs)
-    (λ c. search needs)
     (λ c κs. search needs)
     (λ c κs. search needs)
-    (λ c. search needs)
-    (λ c. search needs)
-    add-rose
-    (λ c. search needs)
-    (λ c. search needs)
-    loop-again
+    (λ c κs. search needs)
+    (λ c κs. search needs)
+    (λ c κs. search needs)
+    (λ c κs. search needs)
+    (λ c κs. search needs)
+    (λ c κs. search needs)
+    (λ c κs. search needs)
+    (λ c κs. search needs)
+    (λ c κs. search needs)
+    (λ c κs. search needs)
+    (λ c κs. search needs)
+    (λ c κs. search needs)
+    (λ c κs. search needs)
+    (λ c κs. search needs)
     returns)
