@@ -133,9 +133,9 @@ fn line(s: Run, failed: u16) -> bool {
     }
 }
 
-// The failed sets of a run are the numbers from 1 up to the first that is refused, for a bit at the count or above.
+// The failed sets of a run are the numbers from 0, that of the empty set, up to the first that is refused, for a bit at the count or above.
 fn lines(s: Run) {
-    let mut failed: u16 = 1;
+    let mut failed: u16 = 0;
     while failed < 65535 && line(s, failed) {
         failed += 1;
     }

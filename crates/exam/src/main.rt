@@ -111,6 +111,21 @@ fn lost_2() {
     facts::state(delivered);
 }
 
+// Nobody failed: a sweep that deletes, what it leaves, and behind it the delivery of a message that was under way.
+fn sweep_0() {
+    say::sweep(0);
+    let start = act::start(2);
+    let first = act::send(start, 0, 1);
+    let second = act::checkpoint(first, 1, 512);
+    let third = act::deliver(second, 1, 512);
+    let fourth = act::checkpoint(third, 1, 512);
+    let fifth = act::checkpoint(fourth, 0, 512);
+    let sixth = act::send(fifth, 0, 1);
+    let swept = facts::recover(sixth, 0);
+    facts::state(swept);
+    facts::deliver(swept, 2);
+}
+
 fn main() {
     let fourth = cases_1_to_3();
     cases_4_to_6(fourth);
@@ -121,4 +136,5 @@ fn main() {
     mark_2();
     lost_1();
     lost_2();
+    sweep_0();
 }

@@ -47,6 +47,13 @@ pub(crate) fn lost(message: u64) {
     end();
 }
 
+// A case about a recovery of an empty failed set.
+pub(crate) fn sweep(failed: u64) {
+    text(b"sweep");
+    value(failed);
+    end();
+}
+
 // The answer of a call: 0, or the refusal number.
 pub(crate) fn answer(call: &[u8], refused: u8) {
     text(call);

@@ -4,6 +4,7 @@ pub mod Exam
 pub mod Records
 pub mod Risen
 pub mod Sizes
+pub mod Sweep
 pub mod WholeRuns
 pub mod ideal
 pub mod simulation

@@ -119,11 +119,11 @@ calls-reached n s h r v [] = v
 calls-reached n s h r v (c ∷ calls) =
     calls-reached n (call s c .run) (after n h (exchange s c)) (unlessRefused (refusal (stateOf r) c) r (stepped r c)) (call-reached n s h r v c) calls
 
--- The line of a reached state is right, for every non-empty failed set.
-pub reached-line : (n : ℕ) (s : Run) (h : Surviving) (r : Ideal) → Reached n s h r → (F : ℕ) → 1 ≤ F → F < 2 ^ n → LineIsRight n s h F
-reached-line n s h r v F pos less = rw (← v .size, v .state)
+-- The line of a reached state is right, for every failed set.
+pub reached-line : (n : ℕ) (s : Run) (h : Surviving) (r : Ideal) → Reached n s h r → (F : ℕ) → F < 2 ^ n → LineIsRight n s h F
+reached-line n s h r v F less = rw (← v .size, v .state)
     (line-right r (v .inv) (stateOf r) h (v .agrees) F (count-is r) (state-sound r (v .inv) (v .limits))
-    (line-is r (v .inv) (v .limits .few-processes) F) (members-found r (v .inv) (v .limits) F) pos (rw (v .size) less))
+    (line-is r (v .inv) (v .limits .few-processes) F) (members-found r (v .inv) (v .limits) F) (rw (v .size) less))
 
 -- What a reached state keeps is right.
 pub reached-kept : (n : ℕ) (s : Run) (h : Surviving) (r : Ideal) → Reached n s h r → KeptIsRight n s h
@@ -146,8 +146,8 @@ reached-sound n s h r v = rw (v .state) (state-sound r (v .inv) (v .limits))
 pub reached-answer : (n : ℕ) (s : Run) (h : Surviving) (r : Ideal) → Reached n s h r → (c : Call) → AnswerIsRight n h (exchange s c)
 reached-answer n s h r v c =
     rw (← v .size, v .state) (answer-right h r (v .inv) (v .limits) (v .memory) (v .agrees)
-    (λ F pos less. line-right r (v .inv) (stateOf r) h (v .agrees) F (count-is r) (state-sound r (v .inv) (v .limits))
-    (line-is r (v .inv) (v .limits .few-processes) F) (members-found r (v .inv) (v .limits) F) pos less) c
+    (λ F less. line-right r (v .inv) (stateOf r) h (v .agrees) F (count-is r) (state-sound r (v .inv) (v .limits))
+    (line-is r (v .inv) (v .limits .few-processes) F) (members-found r (v .inv) (v .limits) F) less) c
     (step (r .n) h r (v .inv) (v .limits) (v .memory) refl (v .agrees) c))
 
 -- Two transcripts that are the same have the same first exchange and the same rest.
@@ -210,9 +210,9 @@ reachable-sound s v =
 -- Demand 3 as a line or recover call says it of the state that it is handed,
 pub line-promise : (s : Run) (F : ℕ) → LinePromise s F
 unfolding RightOverWholeRuns LinePromise
-line-promise s F n pos few calls e some-failed inside =
+line-promise s F n pos few calls e inside =
     let w = right-over-whole-runs n pos few calls in
-    rw e (w .3 F some-failed inside, w .2)
+    rw e (w .3 F inside, w .2)
 
 -- and as a call says it of the state that it returns.
 state-promise : (s : Run) (c : Call) (t : Run) → t ≡ call s c .run → StatePromise s c t

@@ -40,7 +40,7 @@ liveOf h p = checkpoints (h .lists p)
 abbrev pub tooShort : ℕ → List ℕ → Bool
 tooShort n deleted = ltb (length deleted) (2 * n * n)
 
--- "4: process not below n. 5: sender is receiver. 6: failed set empty. 7: failed set has a bit at n or above." "8: message not under way.
+-- "4: process not below n. 5: sender is receiver." "7: failed set has a bit at n or above. 8: message not under way.
 -- 9: send with 64 under way. 10: send with number 1,000,000 used. 11: a checkpoint, or a delivery that forces one, where the own entry is 65,535."
 -- Number 2 is never given on such a list of calls. `forcing` says whether the delivery would force a checkpoint.
 unfoldable pub reasons : ℕ → Surviving → Bool → Call → List Reason
@@ -63,12 +63,10 @@ reasons n h forcing (deliver m deleted) =
 reasons n h forcing (lose m) = record { holds = not (h .underway m); number = 8 } ∷ []
 reasons n h forcing (recover F deleted lent) =
     record { holds = tooShort n deleted || ltb (length lent) n; number = 3 }
-    ∷ record { holds = eqb F 0; number = 6 }
     ∷ record { holds = leb (2 ^ n) F; number = 7 }
     ∷ []
 reasons n h forcing (line F lent) =
     record { holds = ltb (length lent) n; number = 3 }
-    ∷ record { holds = eqb F 0; number = 6 }
     ∷ record { holds = leb (2 ^ n) F; number = 7 }
     ∷ []
 

@@ -128,7 +128,32 @@ traceAnswers =
     ∷ record { refused = 8; value = []; rose = 0; deleted = []; line = [] }
     ∷ []
 
--- Cases 1 to 9, in the order of the exam sheet, and two for Note 2 behind them. Pins are written 0 for none and k + 1 for checkpoint k.
+-- Note 4: calls up to a sweep that deletes, and the delivery of a message that was under way.
+unfoldable pub sweepCalls : List Call
+sweepCalls =
+    send 0 1
+    ∷ checkpoint 1 (deletionList 2)
+    ∷ deliver 1 (deletionList 2)
+    ∷ checkpoint 1 (deletionList 2)
+    ∷ checkpoint 0 (deletionList 2)
+    ∷ send 0 1
+    ∷ recover 0 (deletionList 2) (lineList 2)
+    ∷ deliver 2 (deletionList 2)
+    ∷ []
+
+unfoldable pub sweepAnswers : List Expected
+sweepAnswers =
+    record { refused = 0; value = 1 ∷ []; rose = 0; deleted = []; line = [] }
+    ∷ record { refused = 0; value = 1 ∷ []; rose = 0; deleted = 1 ∷ 0 ∷ []; line = [] }
+    ∷ record { refused = 0; value = []; rose = 1; deleted = []; line = [] }
+    ∷ record { refused = 0; value = 2 ∷ []; rose = 0; deleted = []; line = [] }
+    ∷ record { refused = 0; value = 1 ∷ []; rose = 0; deleted = 0 ∷ 0 ∷ []; line = [] }
+    ∷ record { refused = 0; value = 2 ∷ []; rose = 0; deleted = []; line = [] }
+    ∷ record { refused = 0; value = 0 ∷ []; rose = 0; deleted = 1 ∷ 1 ∷ []; line = 2 ∷ 3 ∷ [] }
+    ∷ record { refused = 0; value = []; rose = 1; deleted = []; line = [] }
+    ∷ []
+
+-- Cases 1 to 9, in the order of the exam sheet, and behind them two for Note 2 and two for Note 4. Pins are written 0 for none and k + 1 for checkpoint k.
 unfoldable pub exam : List Case
 exam =
     -- 1. "After record 2: vectors (1,0) and (1,1); 1's pins 0, 0. Failed {0}: line (0,0). Failed {1}: (1,0)."
@@ -281,6 +306,32 @@ exam =
       pins = (2 ∷ 0 ∷ []) ∷ (1 ∷ 1 ∷ []) ∷ [];
       kept = (1 ∷ []) ∷ (0 ∷ []) ∷ [];
       lines = record { failed = 1; indexes = 1 ∷ 1 ∷ [] } ∷ record { failed = 2; indexes = 2 ∷ 0 ∷ [] } ∷ record { failed = 3; indexes = 1 ∷ 0 ∷ [] } ∷ [];
+    }
+    -- Note 4, a sweep that deletes, with the lines of all four failed sets behind it: process 1 learnt of interval 1 of process 0, which is now in interval 2,
+    -- so no failure could use checkpoint 1 of process 1.
+    ∷ record {
+      count = 2;
+      calls = take 7 sweepCalls;
+      answers = take 7 sweepAnswers;
+      vectors = (2 ∷ 0 ∷ []) ∷ (1 ∷ 3 ∷ []) ∷ [];
+      pins = (2 ∷ 0 ∷ []) ∷ (0 ∷ 3 ∷ []) ∷ [];
+      kept = (1 ∷ []) ∷ (2 ∷ []) ∷ [];
+      lines =
+          record { failed = 0; indexes = 2 ∷ 3 ∷ [] }
+          ∷ record { failed = 1; indexes = 1 ∷ 3 ∷ [] }
+          ∷ record { failed = 2; indexes = 2 ∷ 2 ∷ [] }
+          ∷ record { failed = 3; indexes = 1 ∷ 2 ∷ [] }
+          ∷ [];
+    }
+    -- "Messages under way stay": message 2, sent before the sweep, is then delivered.
+    ∷ record {
+      count = 2;
+      calls = sweepCalls;
+      answers = sweepAnswers;
+      vectors = (2 ∷ 0 ∷ []) ∷ (2 ∷ 3 ∷ []) ∷ [];
+      pins = (2 ∷ 0 ∷ []) ∷ (3 ∷ 3 ∷ []) ∷ [];
+      kept = (1 ∷ []) ∷ (2 ∷ []) ∷ [];
+      lines = [];
     }
     -- For the wrong mark "Forcing whenever the sent mark is set, though nothing carried is newer": process 1 has sent, and message 2 brings it nothing.
     ∷ record {

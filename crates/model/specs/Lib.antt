@@ -11,6 +11,7 @@ pub mod Risen
 pub mod Sound
 pub mod Steps
 pub mod Survival
+pub mod Sweep
 pub mod Trace
 pub mod WholeRuns
 pub mod Words

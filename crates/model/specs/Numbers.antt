@@ -118,6 +118,7 @@ calls =
     ∷ record { state = knowing; made = line 1 (lineList 2); meets = 2 }
     ∷ record { state = knowing; made = recover 1 (deletionList 2) (lineList 2); meets = 2 }
     ∷ record { state = knowing; made = line 2 (lineList 2); meets = 0 }
+    ∷ record { state = knowing; made = recover 0 (deletionList 2) (lineList 2); meets = 0 }
     ∷ record { state = knowing; made = line 1 (lineList 1); meets = 3 }
     -- "3: deletion list below 2 × n × n entries, or line list below n."
     ∷ record { state = begun; made = checkpoint 0 (replicate 7 9); meets = 3 }
@@ -138,10 +139,9 @@ calls =
     ∷ record { state = begun; made = send 1 1; meets = 5 }
     ∷ record { state = begun; made = send 1 0; meets = 0 }
     ∷ record { state = begun; made = send 2 2; meets = 4 }
-    -- "6: failed set empty. 7: failed set has a bit at n or above."
-    ∷ record { state = begun; made = line 0 (lineList 2); meets = 6 }
-    ∷ record { state = begun; made = line 1 (lineList 2); meets = 0 }
-    ∷ record { state = begun; made = recover 0 (deletionList 2) (lineList 2); meets = 6 }
+    -- Note 4: "Refusal 6 never occurs any more": the empty set is accepted. "7: failed set has a bit at n or above."
+    ∷ record { state = begun; made = line 0 (lineList 2); meets = 0 }
+    ∷ record { state = begun; made = recover 0 (deletionList 2) (lineList 2); meets = 0 }
     ∷ record { state = begun; made = line 3 (lineList 2); meets = 0 }
     ∷ record { state = begun; made = line 4 (lineList 2); meets = 7 }
     ∷ record { state = begun; made = recover 4 (deletionList 2) (lineList 2); meets = 7 }
@@ -186,6 +186,10 @@ traces =
     ∷ record { bytes = 2 ∷ 0xA0 ∷ 0 ∷ 0 ∷ 1 ∷ []; prints = 49 ∷ 32 ∷ 49 ∷ 52 ∷ 10 ∷ [] }
     ∷ record { bytes = 2 ∷ 0xE0 ∷ 0 ∷ 0 ∷ 1 ∷ []; prints = 49 ∷ 32 ∷ 49 ∷ 52 ∷ 10 ∷ [] }
     ∷ record { bytes = 2 ∷ 0x80 ∷ 0 ∷ 0 ∷ 1 ∷ []; prints = 49 ∷ 32 ∷ 48 ∷ 32 ∷ 49 ∷ 32 ∷ 48 ∷ 10 ∷ [] }
+    -- with the argument 0 it is a sweep, "1 0 0 0"; a set with bits at 16 and above only is not empty, "1 7"
+    ∷ record { bytes = 2 ∷ 0x80 ∷ 0 ∷ 0 ∷ 0 ∷ []; prints = 49 ∷ 32 ∷ 48 ∷ 32 ∷ 48 ∷ 32 ∷ 48 ∷ 10 ∷ [] }
+    ∷ record { bytes = 2 ∷ 0x80 ∷ 1 ∷ 0 ∷ 0 ∷ []; prints = 49 ∷ 32 ∷ 55 ∷ 10 ∷ [] }
+    ∷ record { bytes = 2 ∷ 0x81 ∷ 0 ∷ 0 ∷ 0 ∷ []; prints = 49 ∷ 32 ∷ 55 ∷ 10 ∷ [] }
     -- "or a field that must be zero is not": the argument of a checkpoint, the process of a delivery, a loss, a recovery; "given before any other number
     -- for that record", and after it the replay goes on: a checkpoint at 0, "1 14" and "2 0 1 1 0:0"; with the fields zero the delivery gets its 8, "1 8"
     ∷ record { bytes = 2 ∷ 0 ∷ 0 ∷ 0 ∷ 1 ∷ 0 ∷ 0 ∷ 0 ∷ 0 ∷ []; prints = 49 ∷ 32 ∷ 49 ∷ 52 ∷ 10 ∷ 50 ∷ 32 ∷ 48 ∷ 32 ∷ 49 ∷ 32 ∷ 49 ∷ 32 ∷ 48 ∷ 58 ∷ 48 ∷ 10 ∷ [] }

@@ -11,19 +11,18 @@ use Rattle.laws.specs.Search.{anyBelow}
 use Rattle.model.specs.declared.Message.{Message}
 use Rattle.model.specs.declared.Run.{Run}
 use Rattle.model.specs.declared.Refusal.{Refusal}
-use Rattle.model.specs.declared.Refusal.the-variants.{CountOutsideRange, UnsoundState, ListTooShort, NoSuchProcess, SenderIsReceiver, NobodyFailed, NoSuchFailedProcess, NotUnderWay, TooManyUnderWay, MessageNumbersUsed, IntervalsUsed, NoFirstByte, LeftOverBytes, MalformedRecord}
+use Rattle.model.specs.declared.Refusal.the-variants.{CountOutsideRange, UnsoundState, ListTooShort, NoSuchProcess, SenderIsReceiver, NoSuchFailedProcess, NotUnderWay, TooManyUnderWay, MessageNumbersUsed, IntervalsUsed, NoFirstByte, LeftOverBytes, MalformedRecord}
 use Rattle.model.specs.Words.{places, mostUnderWay, mostMessages, mostInterval, process, own}
 use Rattle.model.specs.Steps.{found, forces, latestAllowed}
 use Rattle.model.specs.Sound.{sound}
 
--- The number that document 01 gives each refusal.
+-- The number that document 01 gives each refusal. Note 4: "Refusal 6 never occurs any more." No refusal has it.
 unfoldable pub number : Refusal → ℕ
 number CountOutsideRange = 1
 number UnsoundState = 2
 number ListTooShort = 3
 number NoSuchProcess = 4
 number SenderIsReceiver = 5
-number NobodyFailed = 6
 number NoSuchFailedProcess = 7
 number NotUnderWay = 8
 number TooManyUnderWay = 9
@@ -108,10 +107,7 @@ loseRefusal s m = firstOf (unsound s ∷ record { holds = missing (found s m); g
 unfoldable pub noMember : Run → ℕ → Bool
 noMember s F = anyBelow (s .count) (λ p. missing (latestAllowed s F p))
 
--- "6: failed set empty. 7: failed set has a bit at n or above."
-abbrev pub emptySet : ℕ → Bool
-emptySet F = eqb F 0
-
+-- "7: failed set has a bit at n or above." Note 4: "An empty failed set now means a sweep"; it has no bit.
 abbrev pub outside : Run → ℕ → Bool
 outside s F = leb (2 ^ s .count) F
 
@@ -119,7 +115,6 @@ unfoldable pub lineRefusal : Run → ℕ → List ℕ → Option Refusal
 lineRefusal s F line = firstOf (
     unsound s
     ∷ record { holds = shortLine s line; gives = ListTooShort }
-    ∷ record { holds = emptySet F; gives = NobodyFailed }
     ∷ record { holds = outside s F; gives = NoSuchFailedProcess }
     ∷ record { holds = noMember s F; gives = UnsoundState }
     ∷ [])
@@ -128,7 +123,6 @@ unfoldable pub recoverRefusal : Run → ℕ → List ℕ → List ℕ → Option
 recoverRefusal s F deleted line = firstOf (
     unsound s
     ∷ record { holds = shortDeletions s deleted || shortLine s line; gives = ListTooShort }
-    ∷ record { holds = emptySet F; gives = NobodyFailed }
     ∷ record { holds = outside s F; gives = NoSuchFailedProcess }
     ∷ record { holds = noMember s F; gives = UnsoundState }
     ∷ [])

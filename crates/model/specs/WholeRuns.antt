@@ -56,15 +56,15 @@ pub record KeptIsRight (n : ℕ) (s : Run) (h : Surviving) : Type 0 where
   pub needed : (p k : ℕ) → p < n → h .kept p k ≡ true → Needed n h p k
   pub kept-if-needed : (p k : ℕ) → p < n → Needed n h p k → h .kept p k ≡ true
 
--- Demand 3: for every n from 1 to 16, every list of calls from the state that an accepted start returned, and every non-empty failed set. What every
--- answer is, by the surviving history before it, is in Answers; which checkpoints are kept, by the lists alone, is in Needed. Together they leave nothing
--- in an answer free.
+-- Demand 3: for every n from 1 to 16, every list of calls from the state that an accepted start returned, and every failed set, the empty one of
+-- a sweep too. "A restart after a sweep is owed the same line as after any other call": a sweep is one of the calls. What every answer is, by the surviving
+-- history before it, is in Answers; which checkpoints are kept, by the lists alone, is in Needed. Together they leave nothing in an answer free.
 unfoldable pub RightOverWholeRuns : Type 0
 RightOverWholeRuns = (n : ℕ) → 1 ≤ n → n ≤ 16 → (calls : List Call) →
     let s₀ = startOutcome n .run in
     let s = stateAfter s₀ calls in
     let h = surviving n (transcript s₀ calls) in
-    (startOutcome n .answer ≡ Started) × (AnswersAreRight n (transcript s₀ calls)) × (KeptIsRight n s h) × ((F : ℕ) → 1 ≤ F → F < 2 ^ n → LineIsRight n s h F)
+    (startOutcome n .answer ≡ Started) × (AnswersAreRight n (transcript s₀ calls)) × (KeptIsRight n s h) × ((F : ℕ) → F < 2 ^ n → LineIsRight n s h F)
 
 -- A state that calls from an accepted start reach. The replay of a trace has no other states.
 unfoldable pub Reachable : Run → Type 0
@@ -73,7 +73,7 @@ Reachable s = (n : ℕ) × (1 ≤ n) × (n ≤ 16) × (calls : List Call) × (s 
 -- Demand 3 as a line or recover call says it of the state s that it is handed: whatever calls from an accepted start led to s, the line for the
 -- failed set F and the checkpoints that are kept are right, judged by the surviving history of those calls.
 unfoldable pub LinePromise : Run → ℕ → Type 0
-LinePromise s F = (n : ℕ) → 1 ≤ n → n ≤ 16 → (calls : List Call) → s ≡ stateAfter (startOutcome n .run) calls → 1 ≤ F → F < 2 ^ n →
+LinePromise s F = (n : ℕ) → 1 ≤ n → n ≤ 16 → (calls : List Call) → s ≡ stateAfter (startOutcome n .run) calls → F < 2 ^ n →
     let h = surviving n (transcript (startOutcome n .run) calls) in
     (LineIsRight n s h F) × (KeptIsRight n s h)
 

@@ -55,14 +55,13 @@ pub struct Run {
     pub last: u32,
 }
 
-// Why a call or a record is refused. specs/Refusals gives each its number, 1 to 14, in this order.
+// Why a call or a record is refused. specs/Refusals gives each its number, 1 to 14, in this order; 6 is free since Note 4.
 pub enum Refusal {
     CountOutsideRange,
     UnsoundState,
     ListTooShort,
     NoSuchProcess,
     SenderIsReceiver,
-    NobodyFailed,
     NoSuchFailedProcess,
     NotUnderWay,
     TooManyUnderWay,

@@ -23,7 +23,6 @@ pub fn number_of(r: Refusal) -> u8
         Refusal::ListTooShort => 3,
         Refusal::NoSuchProcess => 4,
         Refusal::SenderIsReceiver => 5,
-        Refusal::NobodyFailed => 6,
         Refusal::NoSuchFailedProcess => 7,
         Refusal::NotUnderWay => 8,
         Refusal::TooManyUnderWay => 9,

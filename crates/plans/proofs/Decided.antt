@@ -19,12 +19,12 @@ use Rattle.laws.specs.Choice.{pick, by-bool}
 use Rattle.laws.specs.Truth.{never-both, or-left, or-in-right}
 use Rattle.model.specs.declared.Message.{Message}
 use Rattle.model.specs.declared.Refusal.{Refusal}
-use Rattle.model.specs.declared.Refusal.the-variants.{UnsoundState, NoSuchProcess, SenderIsReceiver, NobodyFailed, NoSuchFailedProcess, NotUnderWay, TooManyUnderWay, MessageNumbersUsed, IntervalsUsed}
+use Rattle.model.specs.declared.Refusal.the-variants.{UnsoundState, NoSuchProcess, SenderIsReceiver, NoSuchFailedProcess, NotUnderWay, TooManyUnderWay, MessageNumbersUsed, IntervalsUsed}
 use Rattle.model.specs.declared.Run.{Run}
 use Rattle.model.specs.Words.{process, own}
 use Rattle.model.specs.Steps.{checkpointDeletions, found, newer, forces, deliverState, deliverRisen, deliverDeletions, loseState}
 use Rattle.model.specs.Sound.{sound}
-use Rattle.model.specs.Refusals.{firstOf, checkpointRefusal, sendRefusal, forcesPast, deliverRefusal, loseRefusal, noMember, emptySet, outside, lineRefusal, recoverRefusal}
+use Rattle.model.specs.Refusals.{firstOf, checkpointRefusal, sendRefusal, forcesPast, deliverRefusal, loseRefusal, noMember, outside, lineRefusal, recoverRefusal}
 use Rattle.model.specs.Outcomes.{judged, checkpointOutcome, sendOutcome, message, deliverOutcome, loseOutcome}
 use Rattle.model.specs.laws.Refusals.{refusal-in}
 use Rattle.model.proofs.Risen.{risen-is-exact}
@@ -296,10 +296,10 @@ module _ (s : Run) (h : sound s ≡ true) (F : ℕ) where
   ofVerdict Accepted = withoutMember
   ofVerdict (Refused why) = some why
 
-  set-judged : firstOf (record { holds = emptySet F; gives = NobodyFailed } ∷ record { holds = outside s F; gives = NoSuchFailedProcess }
-      ∷ record { holds = noMember s F; gives = UnsoundState } ∷ []) ≡ ofVerdict (recoveryVerdict (s .count) F)
+  set-judged : firstOf (record { holds = outside s F; gives = NoSuchFailedProcess } ∷ record { holds = noMember s F; gives = UnsoundState } ∷ [])
+      ≡ ofVerdict (recoveryVerdict (s .count) F)
   unfolding firstOf recoveryVerdict
-  set-judged = by-bool (eqb F 0) (λ e. rw e) (λ e. rw e (by-bool (leb (2 ^ s .count) F) (λ q. rw q) (λ q. rw q)))
+  set-judged = by-bool (leb (2 ^ s .count) F) (λ q. rw q) (λ q. rw q)
 
   module _ (line : List ℕ) (long : s .count ≤ length line) where
     line-judged : lineRefusal s F line ≡ ofVerdict (recoveryVerdict (s .count) F)

@@ -9,11 +9,12 @@ use lib.Dec.{eqb, ltb, leb}
 use Rattle.laws.specs.Choice.{pick}
 use Rattle.model.specs.declared.Interval.{Interval}
 use Rattle.model.specs.declared.Refusal.{Refusal}
-use Rattle.model.specs.declared.Refusal.the-variants.{NoSuchProcess, SenderIsReceiver, NobodyFailed, NoSuchFailedProcess, NotUnderWay, TooManyUnderWay, MessageNumbersUsed, IntervalsUsed}
+use Rattle.model.specs.declared.Refusal.the-variants.{NoSuchProcess, SenderIsReceiver, NoSuchFailedProcess, NotUnderWay, TooManyUnderWay, MessageNumbersUsed, IntervalsUsed}
 use Rattle.model.specs.Words.{zeroVector, noMessage}
 use Rattle.model.specs.Steps.{newer}
 use Rattle.plans.specs.declared.Lookup.{Lookup}
 use Rattle.plans.specs.declared.Plan.{Plan}
+use Rattle.plans.specs.declared.Recovery.{Recovery}
 use Rattle.plans.specs.declared.Verdict.{Verdict}
 use Rattle.plans.specs.declared.Verdict.the-variants.{Accepted, Refused}
 
@@ -132,6 +133,14 @@ deliverPlan vector ownEntry mark t =
 unfoldable pub losePlan : Bool → Lookup → Plan
 losePlan mark t = pick (t .found) (withoutIt mark t) (unchanged NotUnderWay mark t)
 
--- A line or a recovery for failed set F in a run of n processes.
+-- A line or a recovery for failed set F in a run of n processes, whether somebody failed or nobody.
 unfoldable pub recoveryVerdict : ℕ → ℕ → Verdict
-recoveryVerdict n F = pick (eqb F 0) (Refused NobodyFailed) (pick (leb (2 ^ n) F) (Refused NoSuchFailedProcess) Accepted)
+recoveryVerdict n F = pick (leb (2 ^ n) F) (Refused NoSuchFailedProcess) Accepted
+
+-- The recovery that it asks for, if it is not refused.
+unfoldable pub noRecovery : Recovery
+noRecovery = record { asked = false; failed = 0 }
+
+unfoldable pub recoveryIf : Verdict → ℕ → Recovery
+recoveryIf Accepted F = record { asked = true; failed = F }
+recoveryIf (Refused why) F = noRecovery

@@ -10,7 +10,7 @@ ghost use Prim.Native.Nat.{_≤_};
 ghost use lib.Dec.{leb};
 ghost use Prim.Native.Nat.{_^_};
 ghost use Rattle.model.specs.Words.{noMessage};
-ghost use Rattle.plans.specs.Planned.{rowOf, unchanged, checkpointPlan, sendPlan, withoutIt, receiptPlan, deliverPlan, losePlan, recoveryVerdict};
+ghost use Rattle.plans.specs.Planned.{rowOf, unchanged, checkpointPlan, sendPlan, withoutIt, receiptPlan, deliverPlan, losePlan, recoveryVerdict, recoveryIf};
 
 pub enum Verdict {
     Accepted,
@@ -43,6 +43,12 @@ pub struct Plan {
     pub underway: usize,
     pub last: u32,
     pub tail: usize,
+}
+
+// The recovery that is carried out for a failed set, and whether there is one at all. That nobody failed is a set as any other: it asks for a sweep.
+pub struct Recovery {
+    pub asked: bool,
+    pub failed: u16,
 }
 
 // What an unused place of a table of messages holds.
@@ -262,12 +268,27 @@ fn is_outside(failed: u32, n: usize) -> bool
 pub fn recovery_verdict(failed: u32, n: usize) -> Verdict
     ensures { λ r. ⌜ r ≡ recoveryVerdict n failed ⌝ }
 {
-    if failed == 0 {
-        return Verdict::Refused(Refusal::NobodyFailed);
-    }
     let outside = is_outside(failed, n);
     if outside {
         return Verdict::Refused(Refusal::NoSuchFailedProcess);
     }
     Verdict::Accepted
+}
+
+// A failed set asks for a recovery exactly if it is not refused. Its bits are then below n.
+pub fn recovery_asked(failed: u32, n: usize) -> Recovery
+    requires { ⌜ n ≤ 16 ⌝ }
+    ensures { λ r. ⌜ r ≡ recoveryIf (recoveryVerdict n failed) failed ⌝ }
+{
+    let verdict = recovery_verdict(failed, n);
+    match verdict {
+        Verdict::Refused(why) => Recovery {
+            asked: false,
+            failed: 0,
+        },
+        Verdict::Accepted => Recovery {
+            asked: true,
+            failed: failed as u16,
+        },
+    }
 }

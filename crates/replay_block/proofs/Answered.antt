@@ -34,14 +34,14 @@ use Rattle.plans.specs.declared.Plan.{Plan}
 use Rattle.plans.specs.declared.Verdict.{Verdict}
 use Rattle.plans.specs.declared.Verdict.the-variants.{Accepted, Refused}
 use Rattle.plans.specs.Carried.{vectorAt, ownAt, Fulfils}
-use Rattle.plans.specs.Planned.{rowOf, refusalOf, unchanged, recoveryVerdict}
+use Rattle.plans.specs.Planned.{rowOf, refusalOf, unchanged, recoveryVerdict, recoveryIf}
 use Rattle.plans.specs.Sized.{Sized}
 use Rattle.plans.specs.Tables.{LooksUp}
 use Rattle.plans.proofs.Facts.{row-is, square-most}
 use Rattle.plans.proofs.Decided as decided
 use Rattle.listing.specs.Lines.{valueIn}
 use Rattle.listing.specs.Said.{reportIn}
-use Rattle.replay_block.specs.Record.{recoveryIf, recoveryOf, sought, rowFor, refusedPlan, planOf, numberOf, valueBy}
+use Rattle.replay_block.specs.Record.{recoveryOf, sought, rowFor, refusedPlan, planOf, numberOf, valueBy}
 use Rattle.replay_block.proofs.Planned.{refused-quiet}
 
 -- A verdict from its refusal.

@@ -38,13 +38,13 @@ use Rattle.listing.specs.declared.Summary.{Summary}
 use Rattle.rows.specs.Kept.{keptRow}
 use Rattle.rows.specs.Receipt.{keptThen}
 use Rattle.plans.specs.Tables.{messagesIn}
+use Rattle.plans.specs.declared.Recovery.{Recovery}
 use Rattle.plans.specs.declared.Verdict.the-variants.{Accepted}
 use Rattle.plans.specs.Planned.{recoveryVerdict}
 use Rattle.rollback.specs.Restored.{Restored, Restores, restored}
 use Rattle.rollback.proofs.Recovering.{Recovering}
 use Rattle.rollback.proofs.Performed.{recovery-performed, deletions-most}
 use Rattle.replay_block.specs.Blocks.{Replays}
-use Rattle.replay_block.specs.declared.record.Recovery.{Recovery}
 use Rattle.replay_block.specs.Record.{recoveryOf}
 use Rattle.replay_block.specs.Window.{openedWindow, numbersOf, stateInPlace, Windowed}
 use Rattle.replay_block.proofs.Asked.{recovery-asked}

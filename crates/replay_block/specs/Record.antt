@@ -1,6 +1,6 @@
 -- What a record asks for, and the plan of one that asks for no recovery, or for one that is refused: the decision is that of its call.
 -- Assumes nothing.
-use mathlib.Core.Bool.{Bool, true, false}
+use mathlib.Core.Bool.{Bool}
 use mathlib.Core.List.{List}
 use mathlib.Core.Option.{Option, none, some}
 use Prim.Native.Nat.{ℕ}
@@ -12,21 +12,14 @@ use Rattle.model.specs.declared.Refusal.the-variants.{NoSuchFailedProcess, Malf
 use Rattle.model.specs.Refusals.{number}
 use Rattle.plans.specs.declared.Lookup.{Lookup}
 use Rattle.plans.specs.declared.Plan.{Plan}
+use Rattle.plans.specs.declared.Recovery.{Recovery}
 use Rattle.plans.specs.declared.Verdict.{Verdict}
 use Rattle.plans.specs.declared.Verdict.the-variants.{Accepted, Refused}
-use Rattle.plans.specs.Planned.{rowOf, unchanged, checkpointPlan, sendPlan, deliverPlan, losePlan, recoveryVerdict}
+use Rattle.plans.specs.Planned.{rowOf, unchanged, checkpointPlan, sendPlan, deliverPlan, losePlan, recoveryVerdict, noRecovery, recoveryIf}
 use Rattle.listing.specs.declared.Value.{Value}
 use Rattle.listing.specs.declared.Value.the-variants.{Hyphen, Number}
-use Rattle.replay_block.specs.declared.record.Recovery.{Recovery}
 
 -- A record that asks for a recovery which is not refused says so, with its failed set.
-unfoldable pub noRecovery : Recovery
-noRecovery = record { asked = false; failed = 0 }
-
-unfoldable pub recoveryIf : Verdict → ℕ → Recovery
-recoveryIf Accepted F = record { asked = true; failed = F }
-recoveryIf (Refused why) F = noRecovery
-
 unfoldable pub recoveryOf : ℕ → Option Event → Recovery
 recoveryOf n none = noRecovery
 recoveryOf n (some (CheckpointEvent i)) = noRecovery

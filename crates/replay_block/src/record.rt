@@ -6,6 +6,7 @@ use model::Interval;
 use model::Refusal;
 use plans::Lookup;
 use plans::Plan;
+use plans::Recovery;
 use plans::Verdict;
 use trace::Decoded;
 ghost use mathlib.Core.Path.{_≡_};
@@ -17,11 +18,6 @@ ghost use Rattle.plans.specs.Planned.{recoveryVerdict};
 ghost use Rattle.replay_block.specs.Record.{recoveryOf, sought, rowFor, refusedPlan, planOf, numberOf, valueBy};
 
 // Whether a record asks for a recovery that is not refused, and for which failed set.
-pub struct Recovery {
-    pub asked: bool,
-    pub failed: u16,
-}
-
 pub fn recovery_of(d: Decoded, n: usize) -> Recovery
     requires { ⌜ n ≤ 16 ⌝ }
     ensures { λ r. ⌜ r ≡ recoveryOf n (eventRead d) ⌝ }
@@ -48,19 +44,7 @@ pub fn recovery_of(d: Decoded, n: usize) -> Recovery
                 asked: false,
                 failed: 0,
             },
-            Event::Recover(failed) => {
-                let verdict = plans::recovery_verdict(failed, n);
-                match verdict {
-                    Verdict::Refused(why) => Recovery {
-                        asked: false,
-                        failed: 0,
-                    },
-                    Verdict::Accepted => Recovery {
-                        asked: true,
-                        failed: failed as u16,
-                    },
-                }
-            }
+            Event::Recover(failed) => plans::recovery_asked(failed, n),
         },
     }
 }

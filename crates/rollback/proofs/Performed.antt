@@ -2,17 +2,14 @@
 -- answers is said by the parts that the two loops leave.
 -- Assumes nothing.
 use mathlib.Core.Path.{_≡_, _∙_, ap}
-use mathlib.Core.Bool.{Bool, true, false, false≢true}
+use mathlib.Core.Bool.{Bool, true}
 use mathlib.Core.List.{List, [], _∷_}
 use mathlib.Core.Option.{none, some}
-use Prim.Native.Nat.{ℕ, zero, suc, _+_, _*_, _^_, _≤_, _<_}
+use Prim.Native.Nat.{ℕ, zero, suc, _+_, _*_, _≤_, _<_}
 use native.Mathlib.Nat.{suc-mul}
 use native.Mathlib.Omega.{arith}
-use borrow.Author.Tests.{eqb-false, leb-false}
-use lib.Dec.{eqb, leb}
 use lib.ListN.{length, getD, take, replicate, length-append, length-map, length-replicate}
 use lib.Seq.{sets}
-use Rattle.laws.specs.Choice.{by-bool}
 use Rattle.laws.specs.Lists.{select, gather}
 use Rattle.laws.specs.Select.{select-length}
 use Rattle.model.specs.declared.Checkpoint.{Checkpoint}
@@ -32,21 +29,11 @@ use Rattle.model.proofs.ideal.Run.{begin}
 use Rattle.model.proofs.whole.Runs.{runAfter}
 use Rattle.model.proofs.WholeRuns.{start-reached, calls-reached, line-promise}
 use Rattle.model.proofs.simulation.Reads.{count-is}
-use Rattle.plans.specs.declared.Verdict.the-variants.{Accepted, Refused}
+use Rattle.plans.specs.declared.Verdict.the-variants.{Accepted}
 use Rattle.plans.specs.Planned.{recoveryVerdict}
+use Rattle.plans.proofs.Outside.{accepted-inside}
 use Rattle.rollback.specs.Restored.{Restored, Restores, restored}
 use Rattle.rollback.proofs.RecoverCall.{twice-square}
-
--- A failed set that is not refused: somebody has failed, and nobody outside the run.
-failed-inside : (n F : ℕ) → recoveryVerdict n F ≡ Accepted → (1 ≤ F) × (F < 2 ^ n)
-unfolding recoveryVerdict
-failed-inside n F v = by-bool (eqb F 0)
-    (λ e. let no : Refused _ ≡ Accepted = rw e at v in absurd (false≢true cc))
-    (λ e.
-    let rest = rw e at v in
-    by-bool (leb (2 ^ n) F)
-    (λ g. let no : Refused _ ≡ Accepted = rw g at rest in absurd (false≢true cc))
-    (λ g. let some-bit = eqb-false F 0 e in (omega arith, leb-false _ _ g)))
 
 -- The call is accepted, with lists that are long enough.
 accepted : (s : Run) → Reachable s → (F : ℕ) → recoveryVerdict (s .count) F ≡ Accepted → recoverRefusal s F (replicate 512 0) (replicate 16 0) ≡ none
@@ -54,8 +41,7 @@ unfolding Reachable LinePromise
 accepted s v F verdict =
     let r = calls-reached (v .0) (startOutcome (v .0) .run) beginning (begin (v .0)) (start-reached (v .0) (v .1) (v .2)) (v .3) in
     let same : s .count ≡ v .0 = ap (λ (t : Run). t .count) (v .4 ∙ r .state) ∙ count-is (runAfter (begin (v .0)) (v .3)) ∙ r .size in
-    let inside = failed-inside (s .count) F verdict in
-    line-promise s F (v .0) (v .1) (v .2) (v .3) (v .4) (inside .0) (rw (← same) (inside .1)) .0 .recover-accepted (replicate 512 0) (replicate 16 0)
+    line-promise s F (v .0) (v .1) (v .2) (v .3) (v .4) (rw (← same) (accepted-inside (s .count) F verdict)) .0 .recover-accepted (replicate 512 0) (replicate 16 0)
     (omega (arith, twice-square (v .0) (v .2), length-replicate {A = ℕ} 512 0))
     (omega (arith, v .2, length-replicate {A = ℕ} 16 0))
 

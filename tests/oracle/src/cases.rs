@@ -1,6 +1,6 @@
 //! The exam text: the cases 1 to 10 of the exam sheet, one of the wrong marks
-//! on past papers, and two cases of messages that a recovery loses, by real
-//! calls.
+//! on past papers, two cases of messages that a recovery loses, and a sweep, by
+//! real calls.
 
 use crate::run::{Run, MAX_PROCESSES};
 use std::fmt::{Display, Write as _};
@@ -23,7 +23,7 @@ const DELETIONS: usize = 2 * MAX_PROCESSES * MAX_PROCESSES;
 ///   `vector P: e0 e1 ..`  the n entries of P's vector;
 ///   `pins P: x0 x1 ..`    P's pins for 0 .. n-1, a hyphen for none;
 ///   `kept P: i0 i1 ..`    the indexes of P's kept checkpoints, ascending;
-/// * for F = 1 .. 2^n - 1, one line:
+/// * for F = 0 .. 2^n - 1, one line:
 ///   `line F: m0 m1 ..`    the n indexes that a line call for F writes.
 ///
 /// "The facts of a delivery", of message M, are two lines:
@@ -108,6 +108,14 @@ const DELETIONS: usize = 2 * MAX_PROCESSES * MAX_PROCESSES;
 ///   rolls back behind its send.
 /// * `lost 2`: send 0 to 1 (message 1), checkpoint 0, send 0 to 1 (message 2),
 ///   recover 1, deliver 2, deliver 1. Message 1 outlives the recovery.
+///
+/// # Sweep 0
+///
+/// Note 4. n = 2. Send 0 to 1 (message 1), checkpoint 1, deliver 1,
+/// checkpoint 1, checkpoint 0, send 0 to 1 (message 2), then recover 0, the
+/// empty set: a sweep that deletes. Prints `sweep 0`, `written 0: ..` and
+/// `recover 0: ..` as in case 7, the facts of the state, and then the facts of
+/// delivery 2: messages under way stay.
 pub fn print<W: io::Write>(output: &mut W) -> io::Result<()> {
     output.write_all(text().as_bytes())?;
     output.flush()
@@ -124,6 +132,7 @@ pub fn text() -> String {
     mark_2(&mut text);
     lost_1(&mut text);
     lost_2(&mut text);
+    sweep(&mut text);
     text
 }
 
@@ -306,6 +315,20 @@ fn lost_2(text: &mut String) {
     facts_of_state(text, &run);
 }
 
+fn sweep(text: &mut String) {
+    let mut run = new_run(2);
+    fact(text, "sweep", [0]);
+    send(&mut run, 0, 1);
+    checkpoint(&mut run, 1);
+    deliver(&mut run, 1);
+    checkpoint(&mut run, 1);
+    checkpoint(&mut run, 0);
+    send(&mut run, 0, 1);
+    facts_of_recover(text, &mut run, 0);
+    facts_of_state(text, &run);
+    facts_of_delivery(text, &mut run, 2);
+}
+
 fn facts_of_state(text: &mut String, run: &Run) {
     let count = run.count();
     for process in 0..count {
@@ -318,7 +341,7 @@ fn facts_of_state(text: &mut String, run: &Run) {
         let kept = run.kept(process).map(|(index, _)| index);
         fact(text, &format!("kept {process}:"), kept);
     }
-    for failed in 1..1 << count {
+    for failed in 0..1 << count {
         let mut line = [0; MAX_PROCESSES];
         must(run.line(failed, &mut line));
         fact(text, &format!("line {failed}:"), &line[..count]);

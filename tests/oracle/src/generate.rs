@@ -7,7 +7,8 @@
 //!
 //! * valid: nearly every record is accepted; the others deliver or lose a
 //!   message that a recovery has lost. How often each kind comes, and in which
-//!   order messages are taken, is drawn from the seed.
+//!   order messages are taken, is drawn from the seed. One recovery in eight is
+//!   of nobody.
 //! * recovering: as valid, with a recovery every few records, and deliveries
 //!   behind each.
 //! * mixed: also records that a run refuses.
@@ -354,7 +355,8 @@ impl<W: Write> Trace<W> {
     /// A failed process goes back to a checkpoint, so what it sent since its
     /// last one is lost. Every other message may be lost or not, and stays in
     /// the list: it never has fewer than are under way, so no send that is
-    /// counted here is refused, and the numbers stay right.
+    /// counted here is refused, and the numbers stay right. Where nobody failed
+    /// none is lost.
     fn recover(&mut self, failed: u32) -> io::Result<()> {
         let stored = &self.stored;
         self.under_way.retain(|message| {
@@ -362,7 +364,7 @@ impl<W: Write> Trace<W> {
             failed >> sender & 1 == 0 || message.stored_before < stored[sender]
         });
         for message in &mut self.under_way {
-            message.sure = false;
+            message.sure &= failed == 0;
         }
         self.record(RECOVER, 0, failed)
     }
@@ -394,11 +396,12 @@ impl<W: Write> Trace<W> {
         Ok(())
     }
 
+    /// The empty set is a sweep.
     fn any_failed_set(&mut self) -> u32 {
-        if self.random.once_in(2) {
-            1 << self.any_process()
-        } else {
-            1 + self.random.below((1 << self.n) - 1)
+        match self.random.below(8) {
+            0 => 0,
+            1..=4 => 1 << self.any_process(),
+            _ => 1 + self.random.below((1 << self.n) - 1),
         }
     }
 }
@@ -592,15 +595,17 @@ impl<W: Write> Trace<W> {
         drawn
     }
 
-    /// An empty set, or one with a bit at n or above.
+    /// A set with a bit at n or above: often bits at 16 and above alone, which
+    /// is no empty set.
     fn failed_set_outside(&mut self) -> u32 {
         let outside = 1 << (self.n + self.random.below(25 - self.n));
-        let high = 1 << (16 + self.random.below(9));
+        let high = (1 + self.random.below((ARGUMENTS >> 16) - 1)) << 16;
         match self.random.below(6) {
-            0 | 1 => 0,
-            2 => 1 << self.n,
-            3 => outside,
-            4 => high,
+            0 => 1 << self.n,
+            1 => outside,
+            2 => 1 << (16 + self.random.below(9)),
+            3 => high,
+            4 => high | 1 << self.any_process(),
             _ => outside | self.random.below(ARGUMENTS),
         }
     }

@@ -30,7 +30,6 @@ pub mod refusal {
     pub const LIST_TOO_SHORT: u8 = 3;
     pub const NO_SUCH_PROCESS: u8 = 4;
     pub const SENDER_IS_RECEIVER: u8 = 5;
-    pub const FAILED_SET_EMPTY: u8 = 6;
     pub const FAILED_SET_OUTSIDE: u8 = 7;
     pub const NOT_UNDER_WAY: u8 = 8;
     pub const TOO_MANY_UNDER_WAY: u8 = 9;
@@ -297,7 +296,10 @@ impl Run {
         Ok(())
     }
 
-    /// "Recover."
+    /// "Recover." Of an empty set it is a sweep (Note 4): no rule below needs
+    /// another word for it. No state is ruled out by a failed process, so "the
+    /// line has every process live, nobody rolls back", and the pin step and
+    /// the messages go by the same rules.
     pub fn recover(
         &mut self,
         failed: u32,
@@ -362,12 +364,10 @@ impl Run {
         Ok(())
     }
 
-    /// "6: failed set empty. 7: failed set has a bit at n or above." A set
-    /// whose only bits are at n and above is not empty.
+    /// "7: failed set has a bit at n or above." Note 4: "An empty failed set
+    /// now means a sweep"; "Refusal 6 never occurs any more." A set whose only
+    /// bits are at n and above is not empty.
     fn judge_failed(&self, failed: u32) -> Result<(), u8> {
-        if failed == 0 {
-            return Err(FAILED_SET_EMPTY);
-        }
         if failed >> self.count != 0 {
             return Err(FAILED_SET_OUTSIDE);
         }

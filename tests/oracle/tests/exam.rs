@@ -25,7 +25,7 @@ const EXAMPLE_LISTING: &str = "\
 ";
 
 fn sets(run: &Run) -> Vec<Vec<u16>> {
-    (1..1 << run.count())
+    (0..1 << run.count())
         .map(|failed| line(run, failed))
         .collect()
 }
@@ -209,6 +209,49 @@ fn what_a_recovery_loses() {
     run.recover(0b011, &mut [0; 18], &mut line).unwrap();
     assert_eq!(line, [2, 0, 1]);
     assert_eq!(numbers_under_way(&run), [1, 2]);
+    common::assert_sound(&run);
+}
+
+/// Note 4: "the line has every process live, nobody rolls back, and recover's
+/// pin step deletes what no failure could use. Messages under way stay".
+#[test]
+fn a_sweep() {
+    let mut run = Run::start(2).unwrap();
+    run.send(0, 1).unwrap();
+    run.checkpoint(1, &mut [0; 8]).unwrap();
+    run.deliver(1, &mut [0; 8]).unwrap();
+    run.checkpoint(1, &mut [0; 8]).unwrap();
+    run.checkpoint(0, &mut [0; 8]).unwrap();
+    run.send(0, 1).unwrap();
+    assert_eq!(kept(&run, 1), [1, 2]);
+    let before = run.clone();
+
+    let (mut deletions, mut written) = ([77; 9], [77; 3]);
+    let answer = run.recover(0, &mut deletions, &mut written);
+    assert_eq!(
+        answer,
+        Ok(Recovered {
+            rolled_back: 0,
+            deletions: 1
+        })
+    );
+    assert_eq!(written, [2, 3, 77]);
+    assert_eq!(deletions[..3], [1, 1, 77]);
+    assert_eq!(kept(&run, 0), [1]);
+    assert_eq!(kept(&run, 1), [2]);
+    for i in 0..2 {
+        assert_eq!(run.vector(i), before.vector(i));
+        assert_eq!(run.sent_mark(i), before.sent_mark(i));
+    }
+    assert_eq!(run.under_way(), before.under_way());
+    assert_eq!(sets(&run), sets(&before), "the same lines as without it");
+    // A second one finds nothing more.
+    let swept = run.clone();
+    assert_eq!(
+        run.recover(0, &mut [0; 8], &mut [0; 2]).unwrap().deletions,
+        0
+    );
+    assert_eq!(run, swept);
     common::assert_sound(&run);
 }
 
@@ -418,6 +461,7 @@ fn the_exam_text() {
     let [mark, lost_1, lost_2] = parts[..] else {
         panic!("one mark and two cases of lost messages");
     };
+    let (lost_2, sweep) = lost_2.split_once("sweep ").unwrap();
     let cases: Vec<&str> = cases.split("case ").skip(1).collect();
     assert_eq!(cases.len(), 10);
 
@@ -425,7 +469,7 @@ fn the_exam_text() {
         cases[0],
         "1\ndeliver 1: 0\nrisen 1: 1\n\
          vector 0: 1 0\npins 0: 0 -\nkept 0: 0\nvector 1: 1 1\npins 1: 0 0\nkept 1: 0\n\
-         line 1: 0 0\nline 2: 1 0\nline 3: 0 0\n"
+         line 0: 1 1\nline 1: 0 0\nline 2: 1 0\nline 3: 0 0\n"
     );
     let holds = |case: usize, facts: &[&str]| {
         for fact in facts {
@@ -490,20 +534,27 @@ fn the_exam_text() {
         mark,
         "2\ndeliver 1: 0\nrisen 1: 1\ndeliver 2: 0\nrisen 2: 0\n\
          vector 0: 1 0\npins 0: 0 -\nkept 0: 0\nvector 1: 1 1\npins 1: 0 0\nkept 1: 0\n\
-         line 1: 0 0\nline 2: 1 0\nline 3: 0 0\n"
+         line 0: 1 1\nline 1: 0 0\nline 2: 1 0\nline 3: 0 0\n"
     );
     assert_eq!(
         lost_1,
         "1\nwritten 1: 0 1\nrecover 1: 1 0\ndeliver 1: 8\nrisen 1: 0\n\
          vector 0: 1 0\npins 0: 0 -\nkept 0: 0\nvector 1: 0 1\npins 1: - 0\nkept 1: 0\n\
-         line 1: 0 1\nline 2: 1 0\nline 3: 0 0\n"
+         line 0: 1 1\nline 1: 0 1\nline 2: 1 0\nline 3: 0 0\n"
     );
     assert_eq!(
         lost_2,
         "2\nwritten 1: 1 1\nrecover 1: 1 0\n\
          deliver 2: 8\nrisen 2: 0\ndeliver 1: 0\nrisen 1: 1\n\
          vector 0: 2 0\npins 0: 1 -\nkept 0: 1\nvector 1: 1 1\npins 1: 0 0\nkept 1: 0\n\
-         line 1: 1 1\nline 2: 2 0\nline 3: 1 0\n"
+         line 0: 2 1\nline 1: 1 1\nline 2: 2 0\nline 3: 1 0\n"
+    );
+    assert_eq!(
+        sweep,
+        "0\nwritten 0: 2 3\nrecover 0: 0 1 1:1\n\
+         vector 0: 2 0\npins 0: 1 -\nkept 0: 1\nvector 1: 1 3\npins 1: - 2\nkept 1: 2\n\
+         line 0: 2 3\nline 1: 1 3\nline 2: 2 2\nline 3: 1 2\n\
+         deliver 2: 0\nrisen 2: 1\n"
     );
 }
 
@@ -511,6 +562,10 @@ fn the_exam_text() {
 #[test]
 fn every_failed_set_has_a_line() {
     for records in 0..=9 {
-        assert_eq!(sets(&example(records)).len(), 3);
+        let run = example(records);
+        let lines = sets(&run);
+        assert_eq!(lines.len(), 4);
+        // Note 4: of the empty set "the line has every process live".
+        assert_eq!(lines[0], [run.own_entry(0), run.own_entry(1)]);
     }
 }

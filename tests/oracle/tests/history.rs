@@ -287,8 +287,9 @@ fn check_messages(run: &Run, history: &History) {
     }
 }
 
-/// The demands on the reported lines and on what is kept.
-fn check(run: &Run, history: &History) {
+/// The demands on the reported lines and on what is kept. Straight after a
+/// recovery or sweep, nothing is kept that no failure could use.
+fn check(run: &Run, history: &History, after_recover: bool) {
     let n = run.count();
     check_messages(run, history);
     let states: Vec<Vec<State>> = (0..n).map(|i| history.states(i)).collect();
@@ -314,7 +315,7 @@ fn check(run: &Run, history: &History) {
         if !consistent(line, &messages) {
             return;
         }
-        for failed in 1..1 << n {
+        for failed in 0..1 << n {
             if (0..n).any(|i| failed >> i & 1 == 1 && line[i].live) {
                 continue;
             }
@@ -324,7 +325,8 @@ fn check(run: &Run, history: &History) {
         }
     });
 
-    for failed in 1..1 << n {
+    let mut used: Vec<Vec<u16>> = vec![Vec::new(); n];
+    for failed in 0..1 << n {
         let reported = common::line(run, failed as u32);
         let line: Vec<State> = (0..n)
             .map(|i| {
@@ -341,11 +343,20 @@ fn check(run: &Run, history: &History) {
         for i in 0..n {
             let has_failed = failed >> i & 1 == 1;
             assert!(line[i].kept || line[i].live && !has_failed);
+            if line[i].kept {
+                used[i].push(line[i].index);
+            }
         }
         assert_eq!(
             reported, latest[failed],
             "no consistent line is later anywhere"
         );
+    }
+    if after_recover {
+        for i in 0..n {
+            let kept = common::kept(run, i);
+            assert!(kept.iter().all(|index| used[i].contains(index)));
+        }
     }
 }
 
@@ -383,6 +394,9 @@ struct Met {
     /// messages with a rollback since they were sent.
     sifted: usize,
     outlived: usize,
+    /// Sweeps, and those that deleted.
+    sweeps: usize,
+    deleting: usize,
 }
 
 impl Met {
@@ -393,6 +407,16 @@ impl Met {
         assert!(self.forced > 100, "met {} times", self.forced);
         assert!(self.sifted > 100, "met {} times", self.sifted);
         assert!(self.outlived > 300, "met {} times", self.outlived);
+        assert!(self.sweeps > 200, "met {} times", self.sweeps);
+        assert!(self.deleting > 30, "met {} times", self.deleting);
+    }
+}
+
+/// One recovery in four is a sweep.
+fn any_failed_set(n: usize, random: &mut Random) -> u32 {
+    match random.below(4) {
+        0 => 0,
+        _ => 1 + random.below((1 << n) - 1) as u32,
     }
 }
 
@@ -406,19 +430,21 @@ fn any_number(history: &History, random: &mut Random) -> u32 {
 }
 
 /// One call, drawn at random (some are refused), and its place in the history.
+/// Says whether it was a recovery or sweep.
 fn step(
     run: &mut Run,
     history: &mut History,
     random: &mut Random,
     weights: &[usize; 5],
     met: &mut Met,
-) {
+) -> bool {
     let n = run.count();
     let (p, q) = (random.below(n), random.below(n));
     let number = any_number(history, random);
     let mut deletions = [0; DELETIONS];
     let mut line = [0; LINE];
-    match draw_kind(random, weights) {
+    let kind = draw_kind(random, weights);
+    match kind {
         0 => {
             let answer = run.checkpoint(p, &mut deletions).unwrap();
             assert_eq!(history.add_checkpoint(p), answer.index);
@@ -452,7 +478,7 @@ fn step(
             history.no_longer_under_way(number);
         }
         _ => {
-            let failed = 1 + random.below((1 << n) - 1) as u32;
+            let failed = any_failed_set(n, random);
             let reported = common::line(run, failed);
             let answer = run.recover(failed, &mut deletions, &mut line).unwrap();
             assert_eq!(
@@ -465,8 +491,15 @@ fn step(
             assert_eq!(history.recover(&line[..n]), answer.rolled_back);
             let after = history.under_way.len();
             met.sifted += (0 < after && after < before) as usize;
+            if failed == 0 {
+                // Note 4: "nobody rolls back", "Messages under way stay".
+                assert_eq!((answer.rolled_back, after), (0, before));
+                met.sweeps += 1;
+                met.deleting += (answer.deletions > 0) as usize;
+            }
         }
     }
+    kind == 4
 }
 
 /// Note 1, by the events alone: whose later interval the receiver knows after
@@ -486,12 +519,12 @@ fn brute_force(seed: u64, n: usize, every_step: bool, met: &mut Met) {
     let mut run = Run::start(n).unwrap();
     let mut history = History::start(n);
     for _ in 0..events {
-        step(&mut run, &mut history, &mut random, &weights, met);
+        let after_recover = step(&mut run, &mut history, &mut random, &weights, met);
         if every_step {
-            check(&run, &history);
+            check(&run, &history, after_recover);
         }
     }
-    check(&run, &history);
+    check(&run, &history, false);
 }
 
 #[test]

@@ -144,13 +144,14 @@ fn a_long_valid_trace_is_accepted() {
 }
 
 /// Messages outlive recoveries and are delivered: of the deliveries accepted,
-/// these are those with a recovery since the send.
+/// these are those with a recovery since the send. And sweeps delete.
 #[test]
 fn recovering_traces_deliver_behind_recoveries() {
     for n in ["2", "3", "16"] {
         let trace = generate(&["1", "--n", n, "--records", "20000", "--mix", "recovering"]);
         let listing = String::from_utf8(oracle(&trace).stdout).unwrap();
         let (mut recoveries, mut deliveries, mut outlived) = (0, 0, 0);
+        let (mut sweeps, mut deleting) = (0, 0);
         // How many recoveries came before each send, by number.
         let mut before = vec![0];
         for (record, line) in trace[1..].chunks_exact(4).zip(listing.lines()) {
@@ -162,12 +163,18 @@ fn recovering_traces_deliver_behind_recoveries() {
                     deliveries += 1;
                     outlived += (before[argument as usize] < recoveries) as usize;
                 }
+                (4, Some("0")) if argument == 0 => {
+                    let deletions = line.split(' ').nth(3);
+                    sweeps += 1;
+                    deleting += (deletions != Some("0")) as usize;
+                }
                 (4, Some("0")) => recoveries += 1,
                 (2 | 3, Some("8")) => {}
                 _ => assert_eq!(line.split(' ').nth(1), Some("0")),
             }
         }
         assert!(recoveries > 2000 && deliveries > 4000 && 3 * outlived > deliveries);
+        assert!(sweeps > 200 && deleting > 20, "{deleting} of {sweeps}");
     }
 }
 
@@ -177,10 +184,10 @@ fn mixed_traces_are_refused_in_many_ways() {
     for seed in 0..400 {
         all.extend(numbers(&generate(&[&seed.to_string(), "--mix", "mixed"])));
     }
-    for number in [0, 4, 5, 6, 7, 8, 9] {
+    for number in [0, 4, 5, 7, 8, 9] {
         assert!(count(&all, number) > 20, "{number}");
     }
-    for number in [1, 2, 3, 12, 13, 14] {
+    for number in [1, 2, 3, 6, 12, 13, 14] {
         assert_eq!(count(&all, number), 0, "{number}");
     }
 }
@@ -195,9 +202,10 @@ fn damaged_traces_are_damaged_in_many_ways() {
         all.extend(numbers(&trace));
     }
     assert!(empty > 5);
-    for number in [0, 1, 4, 5, 6, 7, 8, 12, 13, 14] {
+    for number in [0, 1, 4, 5, 7, 8, 12, 13, 14] {
         assert!(count(&all, number) > 5, "{number}");
     }
+    assert_eq!(count(&all, 6), 0);
 }
 
 /// The limits: what is refused, and the few that must be accepted there.

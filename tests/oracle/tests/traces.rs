@@ -61,10 +61,10 @@ fn a_bad_record_comes_before_any_other_number() {
         // Also 8.
         (DELIVER, 1, 5),
         (LOSE, 15, 0),
-        // Also 6 and 7.
-        (RECOVER, 1, 0),
+        // Also 7.
         (RECOVER, 8, 1 << 24),
         // Fine but for one field.
+        (RECOVER, 1, 0),
         (RECOVER, 1, 1),
     ];
     for (place, line) in listing(&trace(2, &records)).lines().enumerate() {
@@ -89,21 +89,24 @@ fn it_goes_on_after_a_refusal() {
         (LOSE, 0, 1 << 16 | 1),
         (RECOVER, 0, 0),
         (RECOVER, 0, 4),
+        // Not empty, though 16 bits of it are.
         (RECOVER, 0, 1 << 16),
+        (RECOVER, 0, 0x1FF_0000),
         (RECOVER, 0, 1 << 24 | 1),
         (LOSE, 0, 1),
         (LOSE, 0, 1),
         (RECOVER, 0, 3),
     ];
-    let numbers = [4, 5, 4, 4, 4, 4, 4, 0, 8, 8, 8, 6, 7, 7, 7, 0, 8, 0];
+    let numbers = [4, 5, 4, 4, 4, 4, 4, 0, 8, 8, 8, 0, 7, 7, 7, 7, 0, 8, 0];
     let listing = listing(&trace(2, &records));
     let lines: Vec<&str> = listing.lines().collect();
     assert_eq!(lines.len(), records.len());
     for (place, number) in numbers.into_iter().enumerate() {
         let expected = match (place + 1, number) {
             (8, 0) => "8 0 1 0".to_string(),
-            (16, 0) => "16 0 - 0".to_string(),
-            (18, 0) => "18 0 2 0".to_string(),
+            (12, 0) => "12 0 0 0".to_string(),
+            (17, 0) => "17 0 - 0".to_string(),
+            (19, 0) => "19 0 2 0".to_string(),
             (record, number) => format!("{record} {number}"),
         };
         assert_eq!(lines[place], expected);
@@ -128,6 +131,29 @@ fn deletions_ascend_by_process_then_index() {
     assert_eq!(
         listing,
         "1 0 1 0\n2 0 - 0\n3 0 1 0\n4 0 2 0\n5 0 1 1 0:0\n6 0 2 0\n7 0 2 1 1:1\n8 0 2 2 0:1 1:0\n"
+    );
+}
+
+/// Note 4: a recover record of the empty set deletes what no failure could use,
+/// and the message under way can still be delivered.
+#[test]
+fn a_sweep() {
+    let records = [
+        (SEND, 0, 1),
+        (CHECKPOINT, 1, 0),
+        (DELIVER, 0, 1),
+        (CHECKPOINT, 1, 0),
+        (CHECKPOINT, 0, 0),
+        (SEND, 0, 1),
+        (RECOVER, 0, 0),
+        (RECOVER, 0, 0),
+        (DELIVER, 0, 2),
+    ];
+    let listing = listing(&trace(2, &records));
+    assert_eq!(
+        listing,
+        "1 0 1 0\n2 0 1 1 1:0\n3 0 - 0\n4 0 2 0\n5 0 1 1 0:0\n6 0 2 0\n\
+         7 0 0 1 1:1\n8 0 0 0\n9 0 - 0\n"
     );
 }
 

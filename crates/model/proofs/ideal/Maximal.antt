@@ -1,5 +1,6 @@
--- No consistent line that gives up the live state of each failed process is later than the line of the rule, at any process.
-use mathlib.Core.Path.{_≡_}
+-- No consistent line that gives up the live state of each failed process is later than the line of the rule, at any process. So the line follows from
+-- the history.
+use mathlib.Core.Path.{_≡_, sym, ap}
 use mathlib.Core.Bool.{true}
 use Prim.Native.Nat.{ℕ, zero, suc, _≤_, _<_}
 use native.Mathlib.Nat.{not-suc-le-zero}
@@ -7,12 +8,12 @@ use native.Mathlib.Omega.{arith}
 use lib.Dec.{leb}
 use borrow.Author.Tests.{leb-true, leb-false}
 use Rattle.laws.specs.Choice.{by-bool, by-eq}
-use Rattle.model.specs.History.{sent, received, checkpoints, Line, Consistent}
+use Rattle.model.specs.History.{Lists, sent, received, checkpoints, Line, Consistent}
 use Rattle.model.proofs.ideal.Places.{Stands}
 use Rattle.model.proofs.ideal.Cuts.{stands-member, upTo-in, behind-in}
 use Rattle.model.proofs.ideal.Run.{Ideal, Failed, line, rolled}
 use Rattle.model.proofs.ideal.Invariant.{Inv}
-use Rattle.model.proofs.ideal.Line.{rising, line-back, line-live}
+use Rattle.model.proofs.ideal.Line.{rising, line-back, line-live, line-le, failed-back, line-consistent}
 
 module _ (r : Ideal) (v : Inv r) where
   -- A line M that is consistent, with a state of each process.
@@ -74,3 +75,18 @@ module _ (r : Ideal) (v : Inv r) where
     where
       inside : (p : ℕ) → p < r .n → M p ≤ r .own p
       inside p hp = omega (arith, within p hp, v .counted p)
+
+-- The line follows from the history: two runs of as many processes with the same events have the same line.
+same-history : (n m : ℕ) (a b : Lists) (M : Line) → n ≡ m → a ≡ b → Consistent n a M → Consistent m b M
+same-history n m a b M size same c = rw (← size, ← same) c
+
+one-history : (r s : Ideal) → Inv r → Inv s → r .n ≡ s .n → r .events ≡ s .events → (F : Failed) (p : ℕ) → p < s .n → line r F p ≤ line s F p
+one-history r s v w size same F p hp = line-maximal s w F (line r F)
+    (λ q hq. omega (arith, line-le r v F q, v .counted q, ap (λ (l : Lists). checkpoints (l q)) same))
+    (same-history (r .n) (s .n) (r .events) (s .events) (line r F) size same (line-consistent r v F))
+    (λ f hf e. omega (arith, failed-back r v F f (rw size hf) e, v .counted f, ap (λ (l : Lists). checkpoints (l f)) same))
+    p hp
+
+pub line-by-history : (r s : Ideal) → Inv r → Inv s → r .n ≡ s .n → r .events ≡ s .events → (F : Failed) (p : ℕ) → p < s .n → line r F p ≡ line s F p
+line-by-history r s v w size same F p hp =
+    omega (arith, one-history r s v w size same F p hp, one-history s r w v (sym size) (sym same) F p (rw size hp))

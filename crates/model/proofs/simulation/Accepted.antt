@@ -18,7 +18,7 @@ use Rattle.model.specs.declared.Run.{Run}
 use Rattle.model.specs.Words.{places, mostUnderWay, mostMessages, mostInterval, process, own, failed}
 use Rattle.model.specs.Steps.{found, forces}
 use Rattle.model.specs.Sound.{sound}
-use Rattle.model.specs.Refusals.{startRefusal, shortDeletions, shortLine, absent, checkpointRefusal, sendRefusal, missing, forcesPast, deliverRefusal, loseRefusal, noMember, emptySet, outside, lineRefusal, recoverRefusal}
+use Rattle.model.specs.Refusals.{startRefusal, shortDeletions, shortLine, absent, checkpointRefusal, sendRefusal, missing, forcesPast, deliverRefusal, loseRefusal, noMember, outside, lineRefusal, recoverRefusal}
 use Rattle.model.specs.laws.Refusals.{refusal-in, no-rule}
 
 -- A disjunction that fails.
@@ -190,17 +190,12 @@ pub lose-in : (s : Run) (m : ℕ) → LoseFine s m → loseRefusal s m ≡ none
 unfolding loseRefusal
 lose-in s m h = refusal-in _ none (not-in _ (h .whole), (rw (h .here), tt))
 
--- A failed set that is neither empty nor has a bit at n or above.
+-- A failed set that has no bit at n or above; it may be empty.
 abbrev pub SetFine : ℕ → ℕ → Type 0
-SetFine n F = (1 ≤ F) × (F < 2 ^ n)
+SetFine n F = F < 2 ^ n
 
--- It is not empty.
-pub set-some : (n F : ℕ) → SetFine n F → emptySet F ≡ false
-set-some n F h = ne-eqb F 0 (omega (arith, h .0))
-
--- It has no bit at n or above.
 pub set-inside : (s : Run) (F : ℕ) → SetFine (s .count) F → outside s F ≡ false
-set-inside s F h = lt-leb _ _ (h .1)
+set-inside s F h = lt-leb _ _ h
 
 -- No process at n or above is in it.
 pub set-above : (n F f : ℕ) → F < 2 ^ n → n ≤ f → failed F f ≡ false
@@ -220,8 +215,7 @@ pub line-out : (s : Run) (F : ℕ) (line : List ℕ) → lineRefusal s F line �
 unfolding lineRefusal
 line-out s F line e =
     let fails = no-rule _ e in
-    let some-bit : F ≡ 0 → ⊥ = eqb-false F 0 (fails 2) in
-    record { whole = not-false _ (fails 0); room = ltb-false _ _ (fails 1); set = (omega (arith, some-bit), leb-false _ _ (fails 3)); members = fails 4 }
+    record { whole = not-false _ (fails 0); room = ltb-false _ _ (fails 1); set = leb-false _ _ (fails 2); members = fails 3 }
 
 -- and each of these is accepted.
 pub line-in : (s : Run) (F : ℕ) (line : List ℕ) → LineFine s F line → lineRefusal s F line ≡ none
@@ -232,11 +226,8 @@ line-in s F line h =
       (
         le-ltb _ _ (h .room),
         (
-          set-some (s .count) F (h .set),
-          (
-            set-inside s F (h .set),
-            (h .members, tt),
-          ),
+          set-inside s F (h .set),
+          (h .members, tt),
         ),
       ),
     )
@@ -255,13 +246,12 @@ unfolding recoverRefusal
 recover-out s F deleted line e =
     let fails = no-rule _ e in
     let g = or-out (shortDeletions s deleted) (shortLine s line) (fails 1) in
-    let some-bit : F ≡ 0 → ⊥ = eqb-false F 0 (fails 2) in
     record {
       whole = not-false _ (fails 0);
       room = ltb-false _ _ (g .0);
       line-room = ltb-false _ _ (g .1);
-      set = (omega (arith, some-bit), leb-false _ _ (fails 3));
-      members = fails 4;
+      set = leb-false _ _ (fails 2);
+      members = fails 3;
     }
 
 -- and each of these is accepted.
@@ -273,11 +263,8 @@ recover-in s F deleted line h =
       (
         or-in (shortDeletions s deleted) (shortLine s line) (le-ltb _ _ (h .room)) (le-ltb _ _ (h .line-room)),
         (
-          set-some (s .count) F (h .set),
-          (
-            set-inside s F (h .set),
-            (h .members, tt),
-          ),
+          set-inside s F (h .set),
+          (h .members, tt),
         ),
       ),
     )

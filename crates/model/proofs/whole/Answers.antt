@@ -4,7 +4,7 @@ use mathlib.Core.Path.{_≡_, sym, _∙_}
 use mathlib.Core.Bool.{true}
 use mathlib.Core.List.{List}
 use mathlib.Core.Option.{Option, none, some}
-use Prim.Native.Nat.{ℕ, _^_, _≤_, _<_}
+use Prim.Native.Nat.{ℕ, _^_, _<_}
 use native.Mathlib.Omega.{arith}
 use lib.ListN.{getD}
 use borrow.Author.Tests.{eqb-false, lt-ltb, ltb-true}
@@ -89,7 +89,7 @@ module _ (h : Surviving) (r : Ideal) (v : Inv r) (fit : Limits r) (memory : Memo
   rose-answer c e m deleted q = rw q (risen-right m deleted (rw q at e))
 
   -- The line that an accepted call wrote.
-  line-answer : ((F : ℕ) → 1 ≤ F → F < 2 ^ r .n → LineIsRight (r .n) (stateOf r) h F) → (c : Call) → refusal (stateOf r) c ≡ none → (F : ℕ) → failedSet c ≡ some F
+  line-answer : ((F : ℕ) → F < 2 ^ r .n → LineIsRight (r .n) (stateOf r) h F) → (c : Call) → refusal (stateOf r) c ≡ none → (F : ℕ) → failedSet c ≡ some F
       → RightLine (r .n) h F (λ p. getD (call (stateOf r) c .reply .line) p 0)
   unfolding refusal failedSet call answered
   line-answer lines (checkpoint i deleted) e F q = absurd (let z : _≡_ {A = ℕ} 0 1 = cc in omega arith)
@@ -98,20 +98,20 @@ module _ (h : Surviving) (r : Ideal) (v : Inv r) (fit : Limits r) (memory : Memo
   line-answer lines (lose m) e F q = absurd (let z : _≡_ {A = ℕ} 0 1 = cc in omega arith)
   line-answer lines (recover G deleted lent) e F q =
       let w = recover-run r v fit G deleted lent e in
-      let right = lines G (w .0 .0) (w .0 .1) in
+      let right = lines G (w .0) in
       rw (← same-set G F q) (same-line (r .n) h G (reported (stateOf r) G) _ (right .right) (right .recover-writes deleted lent (w .1) (w .2)))
     where
       same-set : (a b : ℕ) → _≡_ {A = Option ℕ} (some a) (some b) → a ≡ b
       same-set a b q = cc
   line-answer lines (line G lent) e F q =
       let w = line-run r v fit G lent e in
-      let right = lines G (w .0 .0) (w .0 .1) in
+      let right = lines G (w .0) in
       rw (← same-set G F q) (same-line (r .n) h G (reported (stateOf r) G) _ (right .right) (right .line-writes lent (w .1)))
     where
       same-set : (a b : ℕ) → _≡_ {A = Option ℕ} (some a) (some b) → a ≡ b
       same-set a b q = cc
 
-  pub answer-right : ((F : ℕ) → 1 ≤ F → F < 2 ^ r .n → LineIsRight (r .n) (stateOf r) h F) → (c : Call) → (refusal (stateOf r) c ≡ none → Step (r .n) h r c)
+  pub answer-right : ((F : ℕ) → F < 2 ^ r .n → LineIsRight (r .n) (stateOf r) h F) → (c : Call) → (refusal (stateOf r) c ≡ none → Step (r .n) h r c)
       → AnswerIsRight (r .n) h (exchange (stateOf r) c)
   answer-right lines c steps = by-refusal (refusal (stateOf r) c)
       (λ e.

@@ -78,7 +78,7 @@ same-line n h F a b right e = record {
 
 -- A run as functions for which the state stands, and whose history agrees; what the state's own line rule gives is its line.
 module _ (r : Ideal) (v : Inv r) (s : Run) (h : Surviving) (g : Agrees h r) (F : ℕ) (count : s .count ≡ r .n) (whole : sound s ≡ true)
-    (lines : lineOf s F ≡ table (r .n) (line r (failed F))) (members : noMember s F ≡ false) (some-bit : 1 ≤ F) (inside : F < 2 ^ r .n) where
+    (lines : lineOf s F ≡ table (r .n) (line r (failed F))) (members : noMember s F ≡ false) (inside : F < 2 ^ r .n) where
   -- The reported line is the line of the run as functions.
   pub reported-is : (p : ℕ) → p < r .n → reported s F p ≡ line r (failed F) p
   reported-is p hp = rw lines (getD-table (r .n) (line r (failed F)) p 0 hp)
@@ -93,11 +93,11 @@ module _ (r : Ideal) (v : Inv r) (s : Run) (h : Surviving) (g : Agrees h r) (F :
   set-inside = rw count inside
 
   accepted-line : (lent : List ℕ) → r .n ≤ length lent → lineRefusal s F lent ≡ none
-  accepted-line lent room = line-in s F lent (record { whole = whole; room = omega arith; set = (some-bit, set-inside); members = members })
+  accepted-line lent room = line-in s F lent (record { whole = whole; room = omega arith; set = set-inside; members = members })
 
   accepted-recover : (deleted lent : List ℕ) → 2 * r .n * r .n ≤ length deleted → r .n ≤ length lent → recoverRefusal s F deleted lent ≡ none
   accepted-recover deleted lent pairs room =
-      recover-in s F deleted lent (record { whole = whole; room = rw count pairs; line-room = omega arith; set = (some-bit, set-inside); members = members })
+      recover-in s F deleted lent (record { whole = whole; room = rw count pairs; line-room = omega arith; set = set-inside; members = members })
 
   writes-line : (lent : List ℕ) → r .n ≤ length lent → (p : ℕ) → p < r .n → getD (lineOutcome s F lent .line) p 0 ≡ reported s F p
   unfolding lineOutcome

@@ -161,18 +161,16 @@ module _ (h : Surviving) (r : Ideal) (v : Inv r) (fit : Limits r) (g : Agrees h 
   line-number b F lent =
       never _ _ _ whole
       (alike _ _ _ _ (line-same lent) refl (λ z.
-      alike _ _ _ _ refl refl (λ z.
       alike _ _ _ _ (outside-same F) refl (λ z.
-      never _ _ _ (members-found r v fit F) no-more))))
+      never _ _ _ (members-found r v fit F) no-more)))
 
   recover-number : (b : Bool) (F : ℕ) (deleted lent : List ℕ) → numberOf (recoverRefusal (stateOf r) F deleted lent) ≡ lowest (reasons (r .n) h b (recover F deleted lent))
   unfolding recoverRefusal reasons number
   recover-number b F deleted lent =
       never _ _ _ whole
       (alike _ _ _ _ (rw (count-is r)) refl (λ z.
-      alike _ _ _ _ refl refl (λ z.
       alike _ _ _ _ (outside-same F) refl (λ z.
-      never _ _ _ (members-found r v fit F) no-more))))
+      never _ _ _ (members-found r v fit F) no-more)))
 
   pub number-right : (c : Call) → numberOf (refusal (stateOf r) c) ≡ lowest (reasons (r .n) h (forcingOf r c) c)
   unfolding refusal forcingOf

@@ -11,7 +11,7 @@ use lib.ListN.{getD, take}
 use Rattle.laws.specs.Choice.{by-bool}
 use Rattle.laws.specs.Truth.{never-both}
 use Rattle.model.specs.declared.Refusal.{Refusal}
-use Rattle.model.specs.declared.Refusal.the-variants.{CountOutsideRange, UnsoundState, ListTooShort, NoSuchProcess, SenderIsReceiver, NobodyFailed, NoSuchFailedProcess, NotUnderWay, TooManyUnderWay, MessageNumbersUsed, IntervalsUsed, NoFirstByte, LeftOverBytes, MalformedRecord}
+use Rattle.model.specs.declared.Refusal.the-variants.{CountOutsideRange, UnsoundState, ListTooShort, NoSuchProcess, SenderIsReceiver, NoSuchFailedProcess, NotUnderWay, TooManyUnderWay, MessageNumbersUsed, IntervalsUsed, NoFirstByte, LeftOverBytes, MalformedRecord}
 use Rattle.model.specs.Refusals.{number, Rule, firstOf}
 
 -- No rule of a list holds.
@@ -80,7 +80,6 @@ number-range UnsoundState = (omega arith, omega arith)
 number-range ListTooShort = (omega arith, omega arith)
 number-range NoSuchProcess = (omega arith, omega arith)
 number-range SenderIsReceiver = (omega arith, omega arith)
-number-range NobodyFailed = (omega arith, omega arith)
 number-range NoSuchFailedProcess = (omega arith, omega arith)
 number-range NotUnderWay = (omega arith, omega arith)
 number-range TooManyUnderWay = (omega arith, omega arith)

@@ -39,6 +39,7 @@ use Rattle.rows.specs.Line.{latestBy, latestIs, liveFrom}
 use Rattle.rows.specs.Recovery.{notLater, latestFound, restoredPins, stays, outlives}
 use Rattle.rows.proofs.LineRule.{latest-none, latest-more}
 use Rattle.rows.proofs.Restoring.{found-none, found-more}
+use Rattle.plans.specs.declared.Recovery.{Recovery}
 use Rattle.plans.specs.declared.Verdict.the-variants.{Accepted}
 use Rattle.plans.specs.Planned.{recoveryVerdict}
 use Rattle.plans.specs.Sized.{Sized}
@@ -57,7 +58,6 @@ use Rattle.rollback.specs.Restored.{Restores, stillOf}
 use Rattle.rollback.proofs.Returning.{Returning, none-returned, back-few, same-vector, one-returned, next-member}
 use Rattle.rollback.proofs.Recovering.{Recovering, none-done, same-row, same-held, row-most, row-room, gone-few, one-done}
 use Rattle.rollback.proofs.Restores.{in-place-restores}
-use Rattle.replay_block.specs.declared.record.Recovery.{Recovery}
 use Rattle.replay_block.specs.Blocks.{Stops}
 use Rattle.replay_block.specs.Record.{recoveryOf}
 use Rattle.replay_block.specs.Window.{numbersOf, stateInPlace, Windowed}
