@@ -1,7 +1,8 @@
--- How many numbers below a bound pass a test, and tests of the elements of a list. Search has the tests of all numbers and of some number.
+-- How many numbers below a bound pass a test, tests of the elements of a list, and whether two lists are the same. Search has the tests of all numbers and of some number.
 use mathlib.Core.Bool.{Bool, true, false, _&&_, _||_}
 use mathlib.Core.List.{List, [], _∷_}
 use Prim.Native.Nat.{ℕ, zero, suc, _+_}
+use lib.Dec.{eqb}
 use Rattle.laws.specs.Choice.{pick}
 
 -- how many indexes below n pass
@@ -22,3 +23,10 @@ some-of t (x ∷ l) = t x || some-of t l
 -- all tests of a list hold
 abbrev pub allOf : List Bool → Bool
 allOf tests = every (λ b. b) tests
+
+-- two lists of numbers are the same
+unfoldable pub same : List ℕ → List ℕ → Bool
+same [] [] = true
+same [] (b ∷ m) = false
+same (a ∷ l) [] = false
+same (a ∷ l) (b ∷ m) = eqb a b && same l m

@@ -1,12 +1,12 @@
--- The exam table: cases 1 to 9 hold of the definitions, and the example trace gives the listing that document 01 prints. The table of the numbers.
+-- The exam table: cases 1 to 9 hold of the definitions, and the example trace gives the listing that document 01 prints, both ways. The table of the numbers.
 -- All by computation.
 -- Assumes nothing.
 use mathlib.Core.Path.{_≡_, refl}
-use mathlib.Core.Bool.{true, _&&_}
+use mathlib.Core.Bool.{true, false, _&&_}
 use Rattle.laws.specs.Bits.{bitsOf}
 use Rattle.laws.specs.Lists.{select, lastOf, table, gather, placed}
 use Rattle.laws.specs.Search.{allBelow, anyBelow}
-use Rattle.laws.specs.Tests.{countBelow, every, some-of}
+use Rattle.laws.specs.Tests.{countBelow, every, some-of, same}
 use Rattle.model.specs.Words.{named, live, blank, process, withProcess, own, underWay, withMessages}
 use Rattle.model.specs.Steps.{settled, listed, deletions, withProcesses, started, startState, advanced, checkpointed, checkpointState, checkpointDeletions, sentMessage, marked, sendState, found, others, newer, forces, takenEntry, takenVector, takenPin, takenPins, risen, takenIn, delivered, deliverState, deliverRisen, deliverDeletions, loseState, allowed, states, latestAllowed, member, lineOf, rolledBack, vectorAfter, notLost, ownAfter, latestPin, movedPin, pinAfter, pinsAfter, recovered, lostBy, stillUnderWay, recoverState, deletedAt, recoverDeletions, rolledBackCount}
 use Rattle.model.specs.Sound.{countSound, ownSound, within, vectorsSound, ascending, keptSound, pinSound, pinsSound, messageSound, messagesSound, zeroFrom, unusedCheckpoint, unusedMessage, isNothing, nothingFrom, rowUnused, unusedSound, sound}
@@ -14,16 +14,16 @@ use Rattle.model.specs.Refusals.{number, firstOf, startRefusal, checkpoi
 use Rattle.model.specs.Outcomes.{pairs, startOutcome, checkpointOutcome, sendOutcome, deliverAnswer, deliverOutcome, loseOutcome, lineOutcome, recoverOutcome, startReport, checkpointReport, sendReport, deliverReport, loseReport, lineReport, recoverReport}
 use Rattle.model.specs.Calls.{answered, call, stateAfter, transcript}
 use Rattle.model.specs.Trace.{word, fields, ifZero, eventOf, decoded, isRecord, stands, wellFormed, fieldsOf, fits, wordOf, bytesOf, encoded}
-use Rattle.model.specs.Listing.{digits, decimal, valueText, deletionsText, acceptedText, lineText, refusalText, callOf, perform, records, started as startedListing, listing}
-use Rattle.model.specs.Exam.{same, sameRows, optional, pinNumber, answerRight, answersRight, lineRight, right, traceCalls, traceAnswers, sweepCalls, sweepAnswers, exam, exampleTrace, exampleListing}
-use Rattle.model.specs.Numbers.{startMeets, callMeets, tracePrints, ofZeros, starts, calls, traces, numbersRight}
+use Rattle.model.specs.Listing.{digits, decimal, valueText, deletionsText, acceptedText, lineText, refusalText, callOf, perform, asksForAll, goesOn, records, started as startedListing, listing}
+use Rattle.model.specs.Exam.{sameRows, optional, pinNumber, answerRight, answersRight, lineRight, right, traceCalls, traceAnswers, sweepCalls, sweepAnswers, exam, exampleTrace, exampleListing}
+use Rattle.model.specs.Numbers.{startMeets, callMeets, tracePrints, stopPrints, argumentAsks, ofZeros, starts, calls, traces, stops, arguments, numbersRight}
 
 -- Every case of the exam table with the example trace, and the whole table of the numbers.
-computed : ((every right exam && same (listing exampleTrace) exampleListing) ≡ true) × (numbersRight ≡ true)
-unfolding named live blank process withProcess own underWay withMessages settled listed deletions withProcesses started startState advanced checkpointed checkpointState checkpointDeletions sentMessage marked sendState found others newer forces takenEntry takenVector takenPin takenPins risen takenIn delivered deliverState deliverRisen deliverDeletions loseState allowed states latestAllowed member lineOf rolledBack vectorAfter notLost ownAfter latestPin movedPin pinAfter pinsAfter recovered lostBy stillUnderWay recoverState deletedAt recoverDeletions rolledBackCount countSound ownSound within vectorsSound ascending keptSound pinSound pinsSound messageSound messagesSound zeroFrom unusedCheckpoint unusedMessage isNothing nothingFrom rowUnused unusedSound sound number firstOf startRefusal checkpointRefusal sendRefusal forcesPast deliverRefusal loseRefusal noMember lineRefusal recoverRefusal pairs startOutcome checkpointOutcome sendOutcome deliverAnswer deliverOutcome loseOutcome lineOutcome recoverOutcome startReport checkpointReport sendReport deliverReport loseReport lineReport recoverReport answered call stateAfter transcript word fields ifZero eventOf decoded isRecord stands wellFormed fieldsOf fits wordOf bytesOf encoded digits decimal valueText deletionsText acceptedText lineText refusalText callOf perform records startedListing listing same sameRows optional pinNumber answerRight answersRight lineRight right traceCalls traceAnswers sweepCalls sweepAnswers exam exampleTrace exampleListing bitsOf select lastOf table gather placed allBelow anyBelow countBelow every some-of startMeets callMeets tracePrints ofZeros starts calls traces numbersRight
+computed : ((every right exam && same (listing true exampleTrace) exampleListing && same (listing false exampleTrace) exampleListing) ≡ true) × (numbersRight ≡ true)
+unfolding named live blank process withProcess own underWay withMessages settled listed deletions withProcesses started startState advanced checkpointed checkpointState checkpointDeletions sentMessage marked sendState found others newer forces takenEntry takenVector takenPin takenPins risen takenIn delivered deliverState deliverRisen deliverDeletions loseState allowed states latestAllowed member lineOf rolledBack vectorAfter notLost ownAfter latestPin movedPin pinAfter pinsAfter recovered lostBy stillUnderWay recoverState deletedAt recoverDeletions rolledBackCount countSound ownSound within vectorsSound ascending keptSound pinSound pinsSound messageSound messagesSound zeroFrom unusedCheckpoint unusedMessage isNothing nothingFrom rowUnused unusedSound sound number firstOf startRefusal checkpointRefusal sendRefusal forcesPast deliverRefusal loseRefusal noMember lineRefusal recoverRefusal pairs startOutcome checkpointOutcome sendOutcome deliverAnswer deliverOutcome loseOutcome lineOutcome recoverOutcome startReport checkpointReport sendReport deliverReport loseReport lineReport recoverReport answered call stateAfter transcript word fields ifZero eventOf decoded isRecord stands wellFormed fieldsOf fits wordOf bytesOf encoded digits decimal valueText deletionsText acceptedText lineText refusalText callOf perform asksForAll goesOn records startedListing listing same sameRows optional pinNumber answerRight answersRight lineRight right traceCalls traceAnswers sweepCalls sweepAnswers exam exampleTrace exampleListing bitsOf select lastOf table gather placed allBelow anyBelow countBelow every some-of startMeets callMeets tracePrints stopPrints argumentAsks ofZeros starts calls traces stops arguments numbersRight
 computed = (refl, refl)
 
-pub exam-right : (every right exam && same (listing exampleTrace) exampleListing) ≡ true
+pub exam-right : (every right exam && same (listing true exampleTrace) exampleListing && same (listing false exampleTrace) exampleListing) ≡ true
 exam-right = computed .0
 
 pub numbers-right : numbersRight ≡ true

@@ -7,7 +7,7 @@ use Prim.Native.Nat.{ℕ, suc, _*_}
 use lib.Dec.{eqb}
 use lib.ListN.{length, getD, replicate, take, drop}
 use Rattle.laws.specs.Lists.{table}
-use Rattle.laws.specs.Tests.{every}
+use Rattle.laws.specs.Tests.{every, same}
 use Rattle.model.specs.declared.Pin.{Pin}
 use Rattle.model.specs.declared.Pin.the-variants.{Nothing, At}
 use Rattle.model.specs.declared.Run.{Run}
@@ -15,13 +15,7 @@ use Rattle.model.specs.Words.{entry, process}
 use Rattle.model.specs.Outcomes.{startOutcome}
 use Rattle.model.specs.Calls.{Call, checkpoint, send, deliver, recover, line, Reply, Exchange, call, stateAfter, transcript}
 
--- Two lists of numbers are the same.
-unfoldable pub same : List ℕ → List ℕ → Bool
-same [] [] = true
-same [] (b ∷ m) = false
-same (a ∷ l) [] = false
-same (a ∷ l) (b ∷ m) = eqb a b && same l m
-
+-- Two lists of rows are the same.
 unfoldable pub sameRows : List (List ℕ) → List (List ℕ) → Bool
 sameRows [] [] = true
 sameRows [] (b ∷ m) = false

@@ -1,11 +1,13 @@
--- Document 01, "The trace": what the replay program prints, byte by byte.
+-- Document 01, "The trace": what the replay program prints, byte by byte, and Note 11 of document 02: where it stops.
 -- Assumes nothing.
+use mathlib.Core.Bool.{Bool, true, _&&_, _||_}
 use mathlib.Core.List.{List, [], _∷_, _++_}
 use mathlib.Core.Option.{Option, none, some}
 use Prim.Native.Nat.{ℕ, zero, suc, _+_, _/_, _%_}
 use lib.Dec.{eqb, ltb}
 use lib.ListN.{replicate}
 use Rattle.laws.specs.Choice.{pick}
+use Rattle.laws.specs.Tests.{same}
 use Rattle.model.specs.declared.Run.{Run}
 use Rattle.model.specs.declared.Event.{Event}
 use Rattle.model.specs.declared.Event.the-variants.{Checkpoint, Send, Deliver, Lose, Recover}
@@ -81,18 +83,36 @@ perform s (some e) = call s (callOf e)
 abbrev pub mostRecords : ℕ
 mostRecords = 1_000_000_000
 
--- The lines of the records of a trace, where `done` records were taken before. "13 prints under the next record number and ends;
--- after any other refusal it goes on."
-unfoldable pub records : ℕ → Run → List ℕ → List ℕ
-records done s [] = []
-records done s (a ∷ []) = pick (ltb done mostRecords) (refusalText (done + 1) LeftOverBytes) []
-records done s (a ∷ b ∷ []) = pick (ltb done mostRecords) (refusalText (done + 1) LeftOverBytes) []
-records done s (a ∷ b ∷ c ∷ []) = pick (ltb done mostRecords) (refusalText (done + 1) LeftOverBytes) []
-records done s (a ∷ b ∷ c ∷ d ∷ l) =
+-- Note 11: "The course exercises rely on the old way and start it with the argument `all`, which goes on as before. Any other argument, or more than
+-- one, counts as none." `words` is how many words the program was started with, its own name the first of them, and `argument` is the word behind that.
+unfoldable pub asksForAll : ℕ → List ℕ → Bool
+asksForAll words argument = eqb words 2 && same argument (97 ∷ 108 ∷ 108 ∷ [])
+
+-- Note 11: "The replay program now stops after printing the first refusal." In the old way, `all`, "after any other refusal it goes on."
+-- By the number that a record's line says: "0 or the refusal number".
+unfoldable pub goesOn : Bool → ℕ → Bool
+goesOn all refused = all || eqb refused 0
+
+-- The lines of the records of a trace, where `done` records were taken before. "13 prints under the next record number and ends". Behind the record where
+-- it stops nothing is judged, left-over bytes included.
+unfoldable pub records : Bool → ℕ → Run → List ℕ → List ℕ
+records all done s [] = []
+records all done s (a ∷ []) = pick (ltb done mostRecords) (refusalText (done + 1) LeftOverBytes) []
+records all done s (a ∷ b ∷ []) = pick (ltb done mostRecords) (refusalText (done + 1) LeftOverBytes) []
+records all done s (a ∷ b ∷ c ∷ []) = pick (ltb done mostRecords) (refusalText (done + 1) LeftOverBytes) []
+records all done s (a ∷ b ∷ c ∷ d ∷ l) =
     let o = perform s (decoded (a ∷ b ∷ c ∷ d ∷ [])) in
     let line = lineText (done + 1) (o .reply) in
-    let rest = records (done + 1) (o .run) l in
+    let rest = pick (goesOn all (o .reply .report .refused)) (records all (done + 1) (o .run) l) [] in
     pick (ltb done mostRecords) (line ++ rest) []
+
+-- Whether the replay goes on behind a part of a trace: it stops at no record of it.
+unfoldable pub goesOnBehind : Bool → Run → List ℕ → Bool
+goesOnBehind all s [] = true
+goesOnBehind all s (a ∷ []) = true
+goesOnBehind all s (a ∷ b ∷ []) = true
+goesOnBehind all s (a ∷ b ∷ c ∷ []) = true
+goesOnBehind all s (a ∷ b ∷ c ∷ d ∷ l) = let o = perform s (decoded (a ∷ b ∷ c ∷ d ∷ [])) in goesOn all (o .reply .report .refused) && goesOnBehind all (o .run) l
 
 -- The state after the records of a part of a trace. Left-over bytes are no record and change nothing.
 unfoldable pub stateAfterRecords : Run → List ℕ → Run
@@ -103,10 +123,10 @@ stateAfterRecords s (a ∷ b ∷ c ∷ []) = s
 stateAfterRecords s (a ∷ b ∷ c ∷ d ∷ l) = stateAfterRecords (perform s (decoded (a ∷ b ∷ c ∷ d ∷ [])) .run) l
 
 -- "The first byte is n." "12: no first byte." "A bad first byte prints record number 0 and the refusal and ends".
-unfoldable pub started : Option Refusal → ℕ → List ℕ → List ℕ
-started (some r) n l = refusalText 0 r
-started none n l = records 0 (startState n) l
+unfoldable pub started : Bool → Option Refusal → ℕ → List ℕ → List ℕ
+started all (some r) n l = refusalText 0 r
+started all none n l = records all 0 (startState n) l
 
-unfoldable pub listing : List ℕ → List ℕ
-listing [] = refusalText 0 NoFirstByte
-listing (n ∷ l) = started (startRefusal n) n l
+unfoldable pub listing : Bool → List ℕ → List ℕ
+listing all [] = refusalText 0 NoFirstByte
+listing all (n ∷ l) = started all (startRefusal n) n l

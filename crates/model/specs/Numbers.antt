@@ -1,12 +1,14 @@
 -- A table of the numbers of document 01, "Who can cause which refusal": for each number a start, a call or a trace that meets it, and beside it one at the
--- limit that does not. What a refused start returns, and under which record number 13 prints. proofs/Exam has the theorem.
+-- limit that does not. What a refused start returns, and under which record number 13 prints. Note 11 of document 02: what is printed where a replay
+-- stops, and which words ask for all. proofs/Exam has the theorem.
 -- Assumes nothing.
 use mathlib.Core.Bool.{Bool, true, false, _&&_, not}
 use mathlib.Core.List.{List, [], _∷_}
 use Prim.Native.Nat.{ℕ, _-_}
 use lib.Dec.{eqb}
 use lib.ListN.{length, replicate, set}
-use Rattle.laws.specs.Tests.{every}
+use Rattle.laws.specs.Choice.{pick}
+use Rattle.laws.specs.Tests.{every, same}
 use Rattle.model.specs.declared.Interval.{Interval}
 use Rattle.model.specs.declared.Pin.the-variants.{At}
 use Rattle.model.specs.declared.Run.{Run}
@@ -15,8 +17,8 @@ use Rattle.model.specs.Steps.{startState}
 use Rattle.model.specs.Sound.{zeroFrom, nothingFrom, unusedCheckpoint, unusedMessage}
 use Rattle.model.specs.Outcomes.{startOutcome, startReport}
 use Rattle.model.specs.Calls.{Call, checkpoint, send, deliver, lose, recover, line, call, stateAfter}
-use Rattle.model.specs.Listing.{listing}
-use Rattle.model.specs.Exam.{same, deletionList, lineList}
+use Rattle.model.specs.Listing.{asksForAll, listing}
+use Rattle.model.specs.Exam.{deletionList, lineList}
 
 -- A count, and the number that a start with it meets; 0: accepted.
 pub record StartNumber : Type 0 where
@@ -29,10 +31,22 @@ pub record CallNumber : Type 0 where
   pub made : Call
   pub meets : ℕ
 
--- The bytes of a trace, and what the replay prints of it.
+-- The bytes of a trace, and what the replay prints of it, whether it stops at a refusal or not.
 pub record TraceNumber : Type 0 where
   pub bytes : List ℕ
   pub prints : List ℕ
+
+-- Note 11: the bytes of a trace, what the replay prints of it, and what it prints in the old way.
+pub record Stop : Type 0 where
+  pub bytes : List ℕ
+  pub prints : List ℕ
+  pub prints-all : List ℕ
+
+-- Note 11: how many words the program was started with, the one behind its name, and whether they ask for all.
+pub record Argument : Type 0 where
+  pub words : ℕ
+  pub argument : List ℕ
+  pub all : Bool
 
 unfoldable pub startMeets : StartNumber → Bool
 startMeets c = eqb (startReport (startOutcome (c .count) .answer) .refused) (c .meets)
@@ -41,7 +55,13 @@ unfoldable pub callMeets : CallNumber → Bool
 callMeets c = eqb (call (c .state) (c .made) .reply .report .refused) (c .meets)
 
 unfoldable pub tracePrints : TraceNumber → Bool
-tracePrints c = same (listing (c .bytes)) (c .prints)
+tracePrints c = same (listing false (c .bytes)) (c .prints) && same (listing true (c .bytes)) (c .prints)
+
+unfoldable pub stopPrints : Stop → Bool
+stopPrints c = same (listing false (c .bytes)) (c .prints) && same (listing true (c .bytes)) (c .prints-all)
+
+unfoldable pub argumentAsks : Argument → Bool
+argumentAsks c = eqb (pick (asksForAll (c .words) (c .argument)) 1 0) (pick (c .all) 1 0)
 
 -- "a state of zeros with every pin none", of 16 rows of 16 places and 64 places for messages.
 unfoldable pub ofZeros : Run → Bool
@@ -191,14 +211,44 @@ traces =
     ∷ record { bytes = 2 ∷ 0x80 ∷ 1 ∷ 0 ∷ 0 ∷ []; prints = 49 ∷ 32 ∷ 55 ∷ 10 ∷ [] }
     ∷ record { bytes = 2 ∷ 0x81 ∷ 0 ∷ 0 ∷ 0 ∷ []; prints = 49 ∷ 32 ∷ 55 ∷ 10 ∷ [] }
     -- "or a field that must be zero is not": the argument of a checkpoint, the process of a delivery, a loss, a recovery; "given before any other number
-    -- for that record", and after it the replay goes on: a checkpoint at 0, "1 14" and "2 0 1 1 0:0"; with the fields zero the delivery gets its 8, "1 8"
-    ∷ record { bytes = 2 ∷ 0 ∷ 0 ∷ 0 ∷ 1 ∷ 0 ∷ 0 ∷ 0 ∷ 0 ∷ []; prints = 49 ∷ 32 ∷ 49 ∷ 52 ∷ 10 ∷ 50 ∷ 32 ∷ 48 ∷ 32 ∷ 49 ∷ 32 ∷ 49 ∷ 32 ∷ 48 ∷ 58 ∷ 48 ∷ 10 ∷ [] }
+    -- for that record": with the fields zero the delivery gets its 8, "1 8"
+    ∷ record { bytes = 2 ∷ 0 ∷ 0 ∷ 0 ∷ 1 ∷ []; prints = 49 ∷ 32 ∷ 49 ∷ 52 ∷ 10 ∷ [] }
     ∷ record { bytes = 2 ∷ 0x42 ∷ 0 ∷ 0 ∷ 1 ∷ []; prints = 49 ∷ 32 ∷ 49 ∷ 52 ∷ 10 ∷ [] }
     ∷ record { bytes = 2 ∷ 0x62 ∷ 0 ∷ 0 ∷ 1 ∷ []; prints = 49 ∷ 32 ∷ 49 ∷ 52 ∷ 10 ∷ [] }
     ∷ record { bytes = 2 ∷ 0x82 ∷ 0 ∷ 0 ∷ 1 ∷ []; prints = 49 ∷ 32 ∷ 49 ∷ 52 ∷ 10 ∷ [] }
     ∷ record { bytes = 2 ∷ 0x40 ∷ 0 ∷ 0 ∷ 1 ∷ []; prints = 49 ∷ 32 ∷ 56 ∷ 10 ∷ [] }
     ∷ []
 
--- The whole table: the starts, and what a refused one returns; the traces; the calls.
+-- Note 11: "stops after printing the first refusal", in the old way "after any other refusal it goes on".
+unfoldable pub stops : List Stop
+stops =
+    -- a checkpoint with an argument, "1 14", then one without, "2 0 1 1 0:0"
+    record { bytes = 2 ∷ 0 ∷ 0 ∷ 0 ∷ 1 ∷ 0 ∷ 0 ∷ 0 ∷ 0 ∷ []; prints = 49 ∷ 32 ∷ 49 ∷ 52 ∷ 10 ∷ []; prints-all = 49 ∷ 32 ∷ 49 ∷ 52 ∷ 10 ∷ 50 ∷ 32 ∷ 48 ∷ 32 ∷ 49 ∷ 32 ∷ 49 ∷ 32 ∷ 48 ∷ 58 ∷ 48 ∷ 10 ∷ [] }
+    -- a sweep, "1 0 0 0", a send from 0 to 0, "2 5", and a byte that is left over, "3 13"
+    ∷ record {
+      bytes = 2 ∷ 0x80 ∷ 0 ∷ 0 ∷ 0 ∷ 0x20 ∷ 0 ∷ 0 ∷ 0 ∷ 7 ∷ [];
+      prints = 49 ∷ 32 ∷ 48 ∷ 32 ∷ 48 ∷ 32 ∷ 48 ∷ 10 ∷ 50 ∷ 32 ∷ 53 ∷ 10 ∷ [];
+      prints-all = 49 ∷ 32 ∷ 48 ∷ 32 ∷ 48 ∷ 32 ∷ 48 ∷ 10 ∷ 50 ∷ 32 ∷ 53 ∷ 10 ∷ 51 ∷ 32 ∷ 49 ∷ 51 ∷ 10 ∷ [];
+    }
+    -- two deliveries of a message that was not sent, "1 8" and "2 8"
+    ∷ record { bytes = 2 ∷ 0x40 ∷ 0 ∷ 0 ∷ 1 ∷ 0x40 ∷ 0 ∷ 0 ∷ 1 ∷ []; prints = 49 ∷ 32 ∷ 56 ∷ 10 ∷ []; prints-all = 49 ∷ 32 ∷ 56 ∷ 10 ∷ 50 ∷ 32 ∷ 56 ∷ 10 ∷ [] }
+    ∷ []
+
+-- Note 11: no argument; `all`; "any other argument": an empty one, `al`, `ALL`, `allx`, `xall`; "or more than one": `all all`, and a second one that is any.
+unfoldable pub arguments : List Argument
+arguments =
+    record { words = 1; argument = []; all = false }
+    ∷ record { words = 2; argument = 97 ∷ 108 ∷ 108 ∷ []; all = true }
+    ∷ record { words = 2; argument = []; all = false }
+    ∷ record { words = 2; argument = 97 ∷ 108 ∷ []; all = false }
+    ∷ record { words = 2; argument = 65 ∷ 76 ∷ 76 ∷ []; all = false }
+    ∷ record { words = 2; argument = 97 ∷ 108 ∷ 108 ∷ 120 ∷ []; all = false }
+    ∷ record { words = 2; argument = 120 ∷ 97 ∷ 108 ∷ 108 ∷ []; all = false }
+    ∷ record { words = 3; argument = 97 ∷ 108 ∷ 108 ∷ []; all = false }
+    ∷ []
+
+-- The whole table: the starts, and what a refused one returns; the traces; the calls; where a replay stops, and which words ask it not to.
 unfoldable pub numbersRight : Bool
-numbersRight = every startMeets starts && ofZeros (startOutcome 0 .run) && ofZeros (startOutcome 17 .run) && every tracePrints traces && every callMeets calls
+numbersRight =
+    every startMeets starts && ofZeros (startOutcome 0 .run) && ofZeros (startOutcome 17 .run) && every tracePrints traces && every callMeets calls
+    && every stopPrints stops && every argumentAsks arguments

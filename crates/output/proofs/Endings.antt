@@ -25,22 +25,22 @@ use Rattle.listing.proofs.Texts.{nothing}
 use Rattle.output.specs.Ends.{Starts, Refused}
 
 -- One to three bytes that are left over below the limit.
-pub left-over : (done : ℕ) (s : Run) (l : List ℕ) → 1 ≤ length l → length l < 4 → done < mostRecords → records done s l ≡ refusalText (done + 1) LeftOverBytes
+pub left-over : (all : Bool) (done : ℕ) (s : Run) (l : List ℕ) → 1 ≤ length l → length l < 4 → done < mostRecords → records all done s l ≡ refusalText (done + 1) LeftOverBytes
 unfolding records
-left-over done s [] h g lt = absurd (omega arith)
-left-over done s (a ∷ []) h g lt = rw (lt-ltb done mostRecords lt)
-left-over done s (a ∷ b ∷ []) h g lt = rw (lt-ltb done mostRecords lt)
-left-over done s (a ∷ b ∷ c ∷ []) h g lt = rw (lt-ltb done mostRecords lt)
-left-over done s (a ∷ b ∷ c ∷ d ∷ l) h g lt = absurd (omega arith)
+left-over all done s [] h g lt = absurd (omega arith)
+left-over all done s (a ∷ []) h g lt = rw (lt-ltb done mostRecords lt)
+left-over all done s (a ∷ b ∷ []) h g lt = rw (lt-ltb done mostRecords lt)
+left-over all done s (a ∷ b ∷ c ∷ []) h g lt = rw (lt-ltb done mostRecords lt)
+left-over all done s (a ∷ b ∷ c ∷ d ∷ l) h g lt = absurd (omega arith)
 
 -- Nothing is left over.
-pub none-left : (done : ℕ) (s : Run) (l out : List ℕ) → length l ≡ 0 → Printed out 0 (records done s l) out 0
+pub none-left : (all : Bool) (done : ℕ) (s : Run) (l out : List ℕ) → length l ≡ 0 → Printed out 0 (records all done s l) out 0
 unfolding records
-none-left done s [] out h = nothing out 0
-none-left done s (a ∷ l) out h = absurd (omega arith)
+none-left all done s [] out h = nothing out 0
+none-left all done s (a ∷ l) out h = absurd (omega arith)
 
-pub past-left : (done : ℕ) (s : Run) (l out : List ℕ) → mostRecords ≤ done → Printed out 0 (records done s l) out 0
-past-left done s l out h = rw (past-limit done s l h) (nothing out 0)
+pub past-left : (all : Bool) (done : ℕ) (s : Run) (l out : List ℕ) → mostRecords ≤ done → Printed out 0 (records all done s l) out 0
+past-left all done s l out h = rw (past-limit all done s l h) (nothing out 0)
 
 -- The two ways to start, by the answer.
 by-refusal : {P : Type 0} (o : Option Refusal) → (o ≡ none → P) → ((x : Refusal) → o ≡ some x → P) → P
@@ -53,9 +53,9 @@ started-not-refused w e = absurd (let z : _≡_ {A = ℕ} 0 1 = cc in omega arit
 refusal-same : (w x : Refusal) → start-answer.Refused w ≡ start-answer.Refused x → w ≡ x
 refusal-same w x e = cc
 
-start-refuses : (n : ℕ) (w : Refusal) → start-answer.Refused w ≡ startOutcome n .answer → (l : List ℕ) → listing (n ∷ l) ≡ refusalText 0 w
+start-refuses : (n : ℕ) (w : Refusal) → start-answer.Refused w ≡ startOutcome n .answer → (all : Bool) (l : List ℕ) → listing all (n ∷ l) ≡ refusalText 0 w
 unfolding startOutcome listing started
-start-refuses n w e l = by-refusal (startRefusal n)
+start-refuses n w e all l = by-refusal (startRefusal n)
     (λ h. started-not-refused w (sym (rw h at e)))
     (λ x h. rw h (ap (refusalText 0) (sym (refusal-same w x (rw h at e)))))
 
@@ -69,7 +69,7 @@ pub start-refused : (n : ℕ) (w : Refusal) (run : Run) (out now-out : List ℕ)
     → Printed out 0 (refusalText 0 w) now-out written → Refused n run out now-out written
 start-refused n w run out now-out written a e printed = record {
   state = start-blank n w run a e;
-  line = λ l. rw (start-refuses n w e l) printed;
+  line = λ all l. rw (start-refuses n w e all l) printed;
 }
 
 pub start-starts : (n : ℕ) (run : Run) (out : List ℕ) → run ≡ startOutcome n .run → start-answer.Started ≡ startOutcome n .answer → Starts n run out out 0
@@ -78,7 +78,7 @@ start-starts n run out a e = by-refusal (startRefusal n)
     (λ h. record {
       state = rw h at a;
       reached = rw a (reachable-start n (start-out n h .0) (start-out n h .1));
-      rest = λ l. rw (a, h);
+      rest = λ all l. rw (a, h);
       silent = nothing out 0;
     })
     (λ x h. started-not-refused x (rw h at e))

@@ -2,3 +2,4 @@
 pub mod Endings
 pub mod Lines
 pub mod Moves
+pub mod Words

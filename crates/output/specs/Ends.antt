@@ -16,13 +16,13 @@ use Rattle.listing.specs.Printed.{Printed}
 pub record Starts (n : ℕ) (run : Run) (out now-out : List ℕ) (written : ℕ) : Type 0 where
   pub state : run ≡ startState n
   pub reached : Reachable run
-  pub rest : (l : List ℕ) → listing (n ∷ l) ≡ records 0 run l
+  pub rest : (all : Bool) (l : List ℕ) → listing all (n ∷ l) ≡ records all 0 run l
   pub silent : Printed out 0 [] now-out written
 
 -- A run that is refused leaves a state of zeros, and one line is what every trace with this first byte prints.
 pub record Refused (n : ℕ) (run : Run) (out now-out : List ℕ) (written : ℕ) : Type 0 where
   pub state : run ≡ blank 0
-  pub line : (l : List ℕ) → Printed out 0 (listing (n ∷ l)) now-out written
+  pub line : (all : Bool) (l : List ℕ) → Printed out 0 (listing all (n ∷ l)) now-out written
 
 unfoldable pub Begins : ℕ → Bool → Run → List ℕ → List ℕ → ℕ → Type 0
 Begins n true run out now-out written = Starts n run out now-out written

@@ -3,6 +3,7 @@ use crate::line;
 use model::Refusal;
 use model::Run;
 use model::StartAnswer;
+ghost use mathlib.Core.Bool.{Bool};
 ghost use mathlib.Core.List.{[]};
 ghost use Prim.Native.Nat.{_≤_, _<_};
 ghost use lib.ListN.{length};
@@ -47,7 +48,7 @@ pub fn first(n: u8, out: &mut [u8]) -> Beginning
 // "13 prints under the next record number and ends": what is left behind the last whole record prints this, and nothing behind record 1,000,000,000.
 pub fn end(done: u64, rest: &[u8], out: &mut [u8]) -> usize
     requires { ⌜ (length (now rest) < 4) × (longestLine ≤ length (now out)) ⌝ }
-    ensures { λ r. ⌜ ((s : model-run.Run) → Printed (now (out .entry)) 0 (records done s (now (rest .entry))) (now (out .exit)) r) × (r ≤ length (now (out .entry))) ⌝ }
+    ensures { λ r. ⌜ ((all : Bool) (s : model-run.Run) → Printed (now (out .entry)) 0 (records all done s (now (rest .entry))) (now (out .exit)) r) × (r ≤ length (now (out .entry))) ⌝ }
 {
     if rest.len() == 0 {
         return 0;
@@ -61,7 +62,7 @@ pub fn end(done: u64, rest: &[u8], out: &mut [u8]) -> usize
 // "12: no first byte."
 pub fn empty(out: &mut [u8]) -> usize
     requires { ⌜ longestLine ≤ length (now out) ⌝ }
-    ensures { λ r. ⌜ Printed (now (out .entry)) 0 (listing []) (now (out .exit)) r × (r ≤ length (now (out .entry))) ⌝ }
+    ensures { λ r. ⌜ ((all : Bool) → Printed (now (out .entry)) 0 (listing all []) (now (out .exit)) r) × (r ≤ length (now (out .entry))) ⌝ }
 {
     line::refuse(0, Refusal::NoFirstByte, out)
 }

@@ -12,3 +12,6 @@ pub mod ends;
 
 // buffer.rt: the buffer that blocks are read into
 pub mod buffer;
+
+// arguments.rt: the words that the program is started with
+pub mod arguments;

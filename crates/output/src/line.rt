@@ -1,10 +1,11 @@
-// A line printed into a lent buffer that has room for the longest one.
+// A line printed into a lent buffer that has room for the longest one, and whether the replay goes on behind it.
 use crate::say;
 use listing::Summary;
 use model::Refusal;
+ghost use mathlib.Core.Path.{_≡_};
 ghost use Prim.Native.Nat.{_+_, _*_, _≤_};
 ghost use lib.ListN.{length};
-ghost use Rattle.model.specs.Listing.{lineText, refusalText};
+ghost use Rattle.model.specs.Listing.{lineText, refusalText, goesOn};
 ghost use Rattle.listing.specs.Lines.{replyOf, longestLine};
 ghost use Rattle.listing.specs.Printed.{Printed};
 ghost use Rattle.model.proofs.Sizes.{Small};
@@ -26,4 +27,14 @@ pub(crate) fn refuse(number: u64, why: Refusal, out: &mut [u8]) -> usize
     let none = [0u16; 1];
     let said = say::refused(why);
     print(said, &none, number, out, 0)
+}
+
+// Whether the replay goes on behind a record whose line says this refusal number, 0 if none: "stops after printing the first refusal", unless `all` is asked for.
+pub fn goes_on(all: bool, refused: u8) -> bool
+    ensures { λ r. ⌜ r ≡ goesOn all refused ⌝ }
+{
+    if all {
+        return true;
+    }
+    refused == 0
 }

@@ -1,7 +1,7 @@
 -- A reader hands on the four-byte parts of its trace, in their order, each once, and stops at the left-over bytes.
 -- Assumes nothing.
 use mathlib.Core.Path.{_≡_, refl, sym, _∙_, ap}
-use mathlib.Core.Bool.{true, false}
+use mathlib.Core.Bool.{Bool, true, false}
 use mathlib.Core.List.{List, [], _∷_, _++_}
 use Prim.Native.Nat.{ℕ, zero, suc, _+_, _*_, _≤_, _<_}
 use native.Mathlib.Omega.{arith}
@@ -79,13 +79,13 @@ fewer-than-four (a ∷ b ∷ c ∷ []) = omega arith
 fewer-than-four (a ∷ b ∷ c ∷ d ∷ l) = fewer-than-four l
 
 -- What the model says of the bytes, it says of the parts.
-same-lines : (l : List ℕ) (done : ℕ) (s : Run) → records done s l ≡ linesOfParts done s (parts l) (leftOver l)
+same-lines : (l : List ℕ) (all : Bool) (done : ℕ) (s : Run) → records all done s l ≡ linesOfParts all done s (parts l) (leftOver l)
 unfolding parts leftOver records linesOfParts
-same-lines [] done s = refl
-same-lines (a ∷ []) done s = refl
-same-lines (a ∷ b ∷ []) done s = refl
-same-lines (a ∷ b ∷ c ∷ []) done s = refl
-same-lines (a ∷ b ∷ c ∷ d ∷ l) done s = rw (same-lines l (done + 1) (perform s (decoded (a ∷ b ∷ c ∷ d ∷ [])) .run))
+same-lines [] all done s = refl
+same-lines (a ∷ []) all done s = refl
+same-lines (a ∷ b ∷ []) all done s = refl
+same-lines (a ∷ b ∷ c ∷ []) all done s = refl
+same-lines (a ∷ b ∷ c ∷ d ∷ l) all done s = rw (same-lines l all (done + 1) (perform s (decoded (a ∷ b ∷ c ∷ d ∷ [])) .run))
 
 same-state : (l : List ℕ) (s : Run) → stateAfterRecords s l ≡ stateAfterParts s (parts l)
 unfolding parts stateAfterRecords stateAfterParts

@@ -1,6 +1,6 @@
 -- A whole trace taken record by record: which records a reader hands on, how far it comes, and what this is in the words of the model.
 -- Assumes nothing.
-use mathlib.Core.Bool.{true}
+use mathlib.Core.Bool.{Bool, true}
 use mathlib.Core.List.{List, [], _∷_, _++_}
 use mathlib.Core.Path.{_≡_}
 use Prim.Native.Nat.{ℕ, zero, suc, _+_, _*_, _≤_, _<_}
@@ -12,7 +12,7 @@ use Rattle.laws.specs.Tests.{every}
 use Rattle.model.specs.declared.Run.{Run}
 use Rattle.model.specs.declared.Refusal.the-variants.{LeftOverBytes}
 use Rattle.model.specs.Trace.{decoded}
-use Rattle.model.specs.Listing.{perform, lineText, refusalText, mostRecords, records, stateAfterRecords}
+use Rattle.model.specs.Listing.{perform, lineText, refusalText, mostRecords, goesOn, records, stateAfterRecords}
 use Rattle.reader.specs.declared.Reader.{Reader}
 use Rattle.reader.specs.Reading.{recordAfter, recordLeft, newReader, readerAfter}
 
@@ -44,13 +44,14 @@ unfoldable pub joined : List (List ℕ) → List ℕ
 joined [] = []
 joined (p ∷ ps) = p ++ joined ps
 
--- The replay of parts one by one: the lines, where `done` records were taken before, and the state.
-unfoldable pub linesOfParts : ℕ → Run → List (List ℕ) → List ℕ → List ℕ
-linesOfParts done s [] [] = []
-linesOfParts done s [] (b ∷ over) = pick (ltb done mostRecords) (refusalText (done + 1) LeftOverBytes) []
-linesOfParts done s (p ∷ ps) over =
+-- The replay of parts one by one, to the end (`all`) or to the first refusal: the lines, where `done` records were taken before, and the state.
+unfoldable pub linesOfParts : Bool → ℕ → Run → List (List ℕ) → List ℕ → List ℕ
+linesOfParts all done s [] [] = []
+linesOfParts all done s [] (b ∷ over) = pick (ltb done mostRecords) (refusalText (done + 1) LeftOverBytes) []
+linesOfParts all done s (p ∷ ps) over =
     let o = perform s (decoded p) in
-    pick (ltb done mostRecords) (lineText (done + 1) (o .reply) ++ linesOfParts (done + 1) (o .run) ps over) []
+    let rest = pick (goesOn all (o .reply .report .refused)) (linesOfParts all (done + 1) (o .run) ps over) [] in
+    pick (ltb done mostRecords) (lineText (done + 1) (o .reply) ++ rest) []
 
 unfoldable pub stateAfterParts : Run → List (List ℕ) → Run
 stateAfterParts s [] = s
@@ -61,7 +62,7 @@ pub record Partition (l : List ℕ) : Type 0 where
   pub nothing-lost : joined (parts l) ++ leftOver l ≡ l
   pub four-bytes : every (λ p. eqb (length p) 4) (parts l) ≡ true
   pub fewer-than-four : length (leftOver l) < 4
-  pub same-lines : (done : ℕ) (s : Run) → records done s l ≡ linesOfParts done s (parts l) (leftOver l)
+  pub same-lines : (all : Bool) (done : ℕ) (s : Run) → records all done s l ≡ linesOfParts all done s (parts l) (leftOver l)
   pub same-state : (s : Run) → stateAfterRecords s l ≡ stateAfterParts s (parts l)
 
 -- A reader opened on a trace, after as many turns as the trace has records or more.

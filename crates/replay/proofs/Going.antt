@@ -7,12 +7,13 @@ use Prim.Native.Nat.{ℕ, _+_, _-_, _*_, _≤_, _<_}
 use native.Mathlib.Omega.{arith}
 use lib.ListN.{length, take, drop, length-append, length-drop}
 use lib.Seq.{sets, sets-eq, length-take-le, take-append-le, drop-append-le, take-add, drop-drop, take-at, drop-at, take-nil, drop-nil}
+use Rattle.laws.specs.Choice.{pick}
 use Rattle.model.specs.declared.Run.{Run}
-use Rattle.model.specs.Listing.{mostRecords, stateAfterRecords}
+use Rattle.model.specs.Listing.{mostRecords, records, goesOnBehind, stateAfterRecords}
 use Rattle.model.specs.WholeRuns.{Reachable}
 use Rattle.model.proofs.Blocks.{states-by-block}
 use Rattle.replay.specs.declared.position.Position.{Position}
-use Rattle.replay.specs.Positions.{filled, passed, bytesHeld, Behind, Stands, Fills, Passes, Finished, ReplaysHeld}
+use Rattle.replay.specs.Positions.{filled, due, passed, bytesHeld, Behind, Stands, Fills, Passes, Finished, ReplaysHeld}
 
 -- Nothing is read yet.
 pub stands-first : (p : Position) (input : List ℕ) → p .done ≡ 0 → p .held ≡ 0 → Stands (p .run) p input
@@ -50,10 +51,15 @@ module _ (s : Run) (read : List ℕ) (p : Position) (held : List ℕ) (at : Behi
         many = omega (arith, at .many, length-drop (4 * k) held);
       }
 
+-- What is due where the replay goes on.
+pub due-going : (p : Position) (part : List ℕ) → p .going ≡ true → due p part ≡ records (p .all) (p .done) (p .run) part
+unfolding due
+due-going p part going = ap (λ (b : Bool). pick b (records (p .all) (p .done) (p .run) part) []) going
+
 -- The position that `put` answers.
-pub put-there : (p : Position) (taken : ℕ) (part : List ℕ) (next : Run) → next ≡ stateAfterRecords (p .run) part
-    → _≡_ {A = Position} (record { run = next; done = p .done + taken; held = p .held - 4 * taken }) (passed p taken part)
-put-there p taken part next e = rw e
+pub put-there : (p : Position) (taken : ℕ) (part : List ℕ) (next : Run) (going : Bool) → next ≡ stateAfterRecords (p .run) part → going ≡ goesOnBehind (p .all) (p .run) part
+    → _≡_ {A = Position} (record { all = p .all; run = next; done = p .done + taken; held = p .held - 4 * taken; going = going }) (passed p taken part)
+put-there p taken part next going e g = rw (e, g)
 
 -- What lies behind the first bytes of a longer part.
 drop-taken : (a k : ℕ) (l : List ℕ) → a ≤ length l → drop a (take (a + k) l) ≡ take k (drop a l)
@@ -111,18 +117,22 @@ passes-then p q next block part there first second =
           (second .onward s read (rw (there, drop-drop 1 used block, ← one) (first .onward s read at)));
     }
 
--- Why no more records of a block are taken: lines could not be written, less than a record is left, or the last that a replay takes was taken.
+-- Why no more records of a block are taken: lines could not be written, the replay stops at a refusal, less than a record is left, or the last that it takes was taken.
 pub unfinished : (p next : Position) (failed : Bool) → failed ≡ true → Finished p failed next
 unfolding Finished
 unfinished p next failed t f = absurd (let z : _≡_ {A = ℕ} 0 1 = cc in omega arith)
 
+pub stopped : (p next : Position) → next .going ≡ false → Finished p false next
+unfolding Finished
+stopped p next e f g = absurd (let z : _≡_ {A = ℕ} 0 1 = cc in omega arith)
+
 pub none-left : (p next : Position) → next .held < 4 → Finished p false next
 unfolding Finished
-none-left p next few f h = few
+none-left p next few f g h = few
 
 pub at-last : (p next : Position) → next .held + 4 * next .done ≡ p .held + 4 * p .done → mostRecords ≤ next .done → Finished p false next
 unfolding Finished
-at-last p next same last f h = omega arith
+at-last p next same last f g h = omega arith
 
 -- What is left of the block is moved to the front of the buffer, behind the first byte.
 module _ (p next : Position) (input now-input : List ℕ) (failed : Bool) (passes : Passes p (take (1 + p .held) input) next) (finished : Finished p failed next)
@@ -152,5 +162,5 @@ module _ (p next : Position) (input now-input : List ℕ) (failed : Bool) (passe
     most = passes .most;
     same = passes .same;
     onward = λ s read at. rw (front-rest, ← same-rest) (passes .onward s read (rw (drop-taken 1 (p .held) input (omega arith)) at));
-    few = λ f. finished f below;
+    few = λ f g. finished f g below;
   }

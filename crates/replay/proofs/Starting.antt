@@ -21,8 +21,8 @@ module _ (n : ℕ) (started : Bool) (run : Run) (out now-out : List ℕ) (writte
   unfolding Begins
   not-begun h e = rw e at h
 
-  pub reached-first : (p : Position) → p ≡ beginning n → Starts n run out now-out written → Reachable (p .run)
-  reached-first p e h = rw (e, ← h .state) (h .reached)
+  pub reached-first : (p : Position) (all : Bool) → p ≡ beginning all n → Starts n run out now-out written → Reachable (p .run)
+  reached-first p all e h = rw (e, ← h .state) (h .reached)
 
 pub first-byte : (l : List ℕ) → 1 ≤ length l → take 1 l ≡ getD l 0 0 ∷ []
 first-byte [] h = absurd (omega arith)

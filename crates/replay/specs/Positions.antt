@@ -1,31 +1,38 @@
 -- Where a replay stands, and how it goes on: by the bytes that a read brings, and by the records whose lines are put.
 -- Assumes nothing.
 use mathlib.Core.Path.{_≡_}
-use mathlib.Core.Bool.{Bool, false}
-use mathlib.Core.List.{List, _++_}
+use mathlib.Core.Bool.{Bool, true, false}
+use mathlib.Core.List.{List, [], _++_}
 use Prim.Native.Nat.{ℕ, _+_, _-_, _*_, _≤_, _<_}
 use lib.ListN.{length, take, drop}
+use Rattle.laws.specs.Choice.{pick}
 use Rattle.model.specs.declared.Run.{Run}
 use Rattle.model.specs.Steps.{startState}
-use Rattle.model.specs.Listing.{mostRecords, records, stateAfterRecords}
+use Rattle.model.specs.Listing.{mostRecords, records, goesOnBehind, stateAfterRecords}
 use Rattle.model.specs.WholeRuns.{Reachable}
 use Rattle.replay.specs.declared.position.Position.{Position}
 
--- Before the first record of a trace whose first byte is n.
-abbrev pub beginning : ℕ → Position
-beginning n = record { run = startState n; done = 0; held = 0 }
+-- Before the first record of a trace whose first byte is n, to be replayed to its end (`all`) or to the first refusal.
+abbrev pub beginning : Bool → ℕ → Position
+beginning all n = record { all = all; run = startState n; done = 0; held = 0; going = true }
 
 -- A read has brought `more` bytes.
 abbrev pub filled : Position → ℕ → Position
-filled p more = record { run = p .run; done = p .done; held = p .held + more }
+filled p more = record { all = p .all; run = p .run; done = p .done; held = p .held + more; going = p .going }
 
--- The lines of a part of the trace that begins at this position.
+-- The lines of a part of the trace that begins at this position: none where the replay has stopped.
 unfoldable pub due : Position → List ℕ → List ℕ
-due p part = records (p .done) (p .run) part
+due p part = pick (p .going) (records (p .all) (p .done) (p .run) part) []
 
--- The lines of the next records are put; their bytes are `part`.
+-- The lines of the next records are put, where the replay goes on; their bytes are `part`.
 abbrev pub passed : Position → ℕ → List ℕ → Position
-passed p taken part = record { run = stateAfterRecords (p .run) part; done = p .done + taken; held = p .held - 4 * taken }
+passed p taken part = record {
+  all = p .all;
+  run = stateAfterRecords (p .run) part;
+  done = p .done + taken;
+  held = p .held - 4 * taken;
+  going = goesOnBehind (p .all) (p .run) part;
+}
 
 -- The bytes held stand in the buffer behind the first byte of the trace.
 abbrev pub bytesHeld : Position → List ℕ → List ℕ
@@ -60,9 +67,9 @@ pub record Passes (p : Position) (block : List ℕ) (next : Position) : Type 0 w
   pub same : next .held + 4 * next .done ≡ p .held + 4 * p .done
   pub onward : (s : Run) (read : List ℕ) → Behind s read p (drop 1 block) → Behind s read next (drop (1 + (p .held - next .held)) block)
 
--- No whole record is left, where the bytes held do not reach past the last that a replay takes; unless lines could not be written.
+-- No whole record is left, where the bytes held do not reach past the last that a replay takes; unless lines could not be written, or the replay has stopped.
 unfoldable pub Finished : Position → Bool → Position → Type 0
-Finished p failed next = failed ≡ false → p .held + 4 * p .done ≤ 4 * mostRecords → next .held < 4
+Finished p failed next = failed ≡ false → next .going ≡ true → p .held + 4 * p .done ≤ 4 * mostRecords → next .held < 4
 
 -- The same of the buffer, which then holds what is left of the block.
 pub record ReplaysHeld (p : Position) (input : List ℕ) (failed : Bool) (next : Position) (now-input : List ℕ) : Type 0 where
@@ -70,4 +77,4 @@ pub record ReplaysHeld (p : Position) (input : List ℕ) (failed : Bool) (next :
   pub most : next .done ≤ mostRecords
   pub same : next .held + 4 * next .done ≡ p .held + 4 * p .done
   pub onward : (s : Run) (read : List ℕ) → Behind s read p (bytesHeld p input) → Behind s read next (bytesHeld next now-input)
-  pub few : failed ≡ false → next .held < 4
+  pub few : failed ≡ false → next .going ≡ true → next .held < 4

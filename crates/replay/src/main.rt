@@ -1,6 +1,7 @@
 // Replays the trace on standard input: a line on standard output for each record. It only moves bytes between the two; what they mean is said and
 // proved in `replay_block`. Memory does not grow with the trace. What was replayed is written before more is read, so that no line that is due is lost
-// when the input fails or stalls. An error of the system is said on standard error, and ends the replay.
+// when the input fails or stalls. It stops after the line of the first refusal, unless it is started with the one argument `all`. An error of the system is said on
+// standard error, and ends the replay.
 
 // position.rt: where the replay stands, and what it asks of the system
 mod position;
@@ -10,6 +11,7 @@ use position::Ended;
 use position::Passed;
 use position::Position;
 ghost use mathlib.Core.Path.{_≡_};
+ghost use mathlib.Core.Bool.{true};
 ghost use Prim.Native.Nat.{_+_, _*_, _≤_, _<_};
 ghost use lib.ListN.{length};
 ghost use Rattle.model.specs.WholeRuns.{Reachable};
@@ -18,26 +20,26 @@ ghost use Rattle.replay.specs.Positions.{Passes, Finished, ReplaysHeld};
 
 // The next records of a block, as many as `replay_block` takes at once: their lines are put. The block is the first byte of the trace and the bytes held.
 fn pass(p: Position, block: &[u8], out: &mut [u8]) -> Passed
-    requires { ⌜ Reachable (p .run) × (p .done < 1000000000) × (4 ≤ p .held) × (length (now block) ≡ 1 + p .held) × (longestLine ≤ length (now out)) ⌝ }
+    requires { ⌜ (p .going ≡ true) × Reachable (p .run) × (p .done < 1000000000) × (4 ≤ p .held) × (length (now block) ≡ 1 + p .held) × (longestLine ≤ length (now out)) ⌝ }
     ensures { λ r. ⌜ Passes p (now (block .entry)) (r .position) × (r .position .held < p .held) ⌝ }
 {
     let run = p.run();
-    let step = replay_block::block::replay(run, p.done(), block, out);
+    let step = replay_block::block::replay(run, p.all(), p.done(), block, out);
     let next = step.run;
     let taken = step.taken;
     let written = step.written;
     let to = 1 + 4 * taken;
-    position::put(p, &block[1..to], taken, next, &out[..written])
+    position::put(p, &block[1..to], taken, next, step.going, &out[..written])
 }
 
-// Every whole record of a block, up to the last that a replay takes.
+// Every whole record of a block, as long as the replay goes on, and up to the last that it takes.
 fn pass_all(p: Position, block: &[u8], out: &mut [u8]) -> Passed
     requires { ⌜ Reachable (p .run) × (p .done ≤ 1000000000) × (length (now block) ≡ 1 + p .held) × (longestLine ≤ length (now out)) ⌝ }
     ensures { λ r. ⌜ Passes p (now (block .entry)) (r .position) × Finished p (r .failed) (r .position) ⌝ }
 {
     let held = p.held();
     let mut at = p;
-    while at.done() < 1000000000 && 4 <= at.held() {
+    while at.done() < 1000000000 && 4 <= at.held() && at.going() {
         let used = held - at.held();
         let passed = pass(at, &block[used..], out);
         at = passed.position;
@@ -66,7 +68,7 @@ fn replay_held(p: Position, input: &mut [u8], out: &mut [u8]) -> Passed
 
 // The end of the input: 13 where bytes are left over, or nothing.
 fn finish(p: Position, input: &[u8], out: &mut [u8]) -> Ended
-    requires { ⌜ (p .held < 4) × (1 + p .held ≤ length (now input)) × (longestLine ≤ length (now out)) ⌝ }
+    requires { ⌜ (p .going ≡ true) × (p .held < 4) × (1 + p .held ≤ length (now input)) × (longestLine ≤ length (now out)) ⌝ }
 {
     let size = 1 + p.held();
     let written = output::ends::end(p.done(), &input[1..size], out);
@@ -75,7 +77,7 @@ fn finish(p: Position, input: &[u8], out: &mut [u8]) -> Ended
 
 // The records of a trace, read by read. Each read brings a byte or more, and a replay reads 4,000,000,000 of them at most.
 fn replay(from: Position, input: &mut [u8], out: &mut [u8]) -> Ended
-    requires { ⌜ Reachable (from .run) × (from .done ≡ 0) × (from .held ≡ 0) × (longestLine ≤ length (now input)) × (longestLine ≤ length (now out)) ⌝ }
+    requires { ⌜ (from .going ≡ true) × Reachable (from .run) × (from .done ≡ 0) × (from .held ≡ 0) × (longestLine ≤ length (now input)) × (longestLine ≤ length (now out)) ⌝ }
 {
     let mut at = from;
     while at.done() < 1000000000 {
@@ -92,12 +94,15 @@ fn replay(from: Position, input: &mut [u8], out: &mut [u8]) -> Ended
             return position::end_by_error(behind.failed);
         }
         at = behind.position;
+        if !at.going() {
+            return position::end_at_a_refusal(at);
+        }
     }
     position::end_at_the_last(at)
 }
 
 // The first byte, and what follows from it.
-fn start(input: &mut [u8], out: &mut [u8]) -> Ended
+fn start(all: bool, input: &mut [u8], out: &mut [u8]) -> Ended
     requires { ⌜ (longestLine ≤ length (now input)) × (longestLine ≤ length (now out)) ⌝ }
 {
     let got = libc::read(STDIN_FILENO, &mut input[..1]);
@@ -108,22 +113,30 @@ fn start(input: &mut [u8], out: &mut [u8]) -> Ended
     }
     if got == 0 {
         let size = output::ends::empty(out);
-        return position::put_whole(&input[..0], &out[..size]);
+        return position::put_whole(all, &input[..0], &out[..size]);
     }
     let n = input[0];
     let first = output::ends::first(n, out);
     let run = first.run;
     if first.started {
-        return replay(position::begin(n, run), input, out);
+        return replay(position::begin(all, n, run), input, out);
     }
     let written = first.written;
-    position::put_whole(&input[..1], &out[..written])
+    position::put_whole(all, &input[..1], &out[..written])
+}
+
+// Whether the program was started with the one argument `all`. A word that is longer than the room for it counts as an empty one.
+fn is_all_asked() -> bool {
+    let mut word = [0u8; 4];
+    let size = os::arg(1, &mut word);
+    output::arguments::asks_for_all(os::arg_count(), &word[..size])
 }
 
 fn main() {
+    let all = is_all_asked();
     let mut block = io::large_buffer();
     let mut lines = io::large_buffer();
     let input: &mut [u8] = &mut block;
     let out: &mut [u8] = &mut lines;
-    start(input, out);
+    start(all, input, out);
 }

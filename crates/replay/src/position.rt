@@ -5,21 +5,30 @@ use libc::STDIN_FILENO;
 use libc::STDOUT_FILENO;
 use model::Run;
 ghost use mathlib.Core.Path.{_≡_};
-ghost use mathlib.Core.Bool.{true};
+ghost use mathlib.Core.Bool.{true, false};
 ghost use Prim.Native.Nat.{_+_, _*_, _≤_, _<_};
 ghost use lib.ListN.{length};
 ghost use Rattle.model.specs.Steps.{startState};
-ghost use Rattle.model.specs.Listing.{stateAfterRecords, listing};
+ghost use Rattle.model.specs.Listing.{goesOnBehind, stateAfterRecords, listing};
 ghost use Rattle.replay.specs.Positions.{beginning, due, passed, Fills};
 
-// The state after the records that were taken, how many they are, and how many bytes are held behind them: they were read, and belong to no record taken.
+// Whether all is asked for; the state after the records that were taken, how many they are, and how many bytes are held behind them: they were read, and belong to no
+// record taken; whether the replay goes on behind these records.
 pub struct Position {
+    all: bool,
     run: Run,
     done: u64,
     held: usize,
+    going: bool,
 }
 
 impl Position {
+    pub fn all(self) -> bool
+        ensures { λ r. ⌜ r ≡ self .all ⌝ }
+    {
+        self.all
+    }
+
     pub fn run(self) -> Run
         ensures { λ r. ⌜ r ≡ self .run ⌝ }
     {
@@ -37,17 +46,25 @@ impl Position {
     {
         self.held
     }
+
+    pub fn going(self) -> bool
+        ensures { λ r. ⌜ r ≡ self .going ⌝ }
+    {
+        self.going
+    }
 }
 
 // Before the first record of a trace whose first byte is n.
-pub fn begin(n: u8, run: Run) -> Position
+pub fn begin(all: bool, n: u8, run: Run) -> Position
     requires { ⌜ run ≡ startState n ⌝ }
-    ensures { λ r. ⌜ r ≡ beginning n ⌝ }
+    ensures { λ r. ⌜ r ≡ beginning all n ⌝ }
 {
     Position {
+        all,
         run,
         done: 0,
         held: 0,
+        going: true,
     }
 }
 
@@ -58,9 +75,9 @@ pub struct Filled {
     pub position: Position,
 }
 
-// One read behind the bytes held, and not past the last record that a replay takes.
+// One read behind the bytes held, where the replay goes on, and not past the last record that it takes.
 pub fn fill(p: Position, input: &mut [u8]) -> Filled
-    requires { ⌜ (p .done < 1000000000) × (p .held < 4) × (5 ≤ length (now input)) ⌝ }
+    requires { ⌜ (p .going ≡ true) × (p .done < 1000000000) × (p .held < 4) × (5 ≤ length (now input)) ⌝ }
     ensures { λ r. ⌜ Fills p (now (input .entry)) (r .more) (r .position) (now (input .exit)) ⌝ }
 {
     let from = 1 + p.held;
@@ -68,11 +85,13 @@ pub fn fill(p: Position, input: &mut [u8]) -> Filled
     let got = libc::read(STDIN_FILENO, &mut input[from..to]);
     let more = io::count(got, &input[from..to]);
     let run = p.run;
-    let all = p.held + more;
+    let sum = p.held + more;
     let position = Position {
+        all: p.all,
         run,
         done: p.done,
-        held: all,
+        held: sum,
+        going: p.going,
     };
     Filled {
         failed: got < 0,
@@ -96,18 +115,21 @@ pub struct Passed {
     pub position: Position,
 }
 
-// The lines of the next records, which are the bytes of `part`; `next` is the state after them.
-pub fn put(p: Position, part: &[u8], taken: usize, next: Run, lines: &[u8]) -> Passed
-    requires { ⌜ (length (now part) ≡ 4 * taken) × (4 * taken ≤ p .held) × (p .done + taken ≤ 1000000000) × (next ≡ stateAfterRecords (p .run) (now part)) × (now lines ≡ due p (now part)) ⌝ }
+// The lines of the next records, which are the bytes of `part`; `next` is the state after them, and `going` says whether the replay goes on behind them.
+pub fn put(p: Position, part: &[u8], taken: usize, next: Run, going: bool, lines: &[u8]) -> Passed
+    requires { ⌜ (p .going ≡ true) × (length (now part) ≡ 4 * taken) × (4 * taken ≤ p .held) × (p .done + taken ≤ 1000000000) ⌝ }
+    requires { ⌜ (next ≡ stateAfterRecords (p .run) (now part)) × (going ≡ goesOnBehind (p .all) (p .run) (now part)) × (now lines ≡ due p (now part)) ⌝ }
     ensures { λ r. ⌜ r .position ≡ passed p taken (now (part .entry)) ⌝ }
 {
     let is_written = write(lines);
     let count = p.done + taken as u64;
     let left = p.held - 4 * taken;
     let position = Position {
+        all: p.all,
         run: next,
         done: count,
         held: left,
+        going,
     };
     Passed {
         failed: !is_written,
@@ -131,13 +153,20 @@ pub fn put_rest(p: Position, rest: &[u8], lines: &[u8]) -> Ended
 }
 
 // The only line of a listing: that of a trace of no bytes, or of a first byte that is refused.
-pub fn put_whole(trace: &[u8], lines: &[u8]) -> Ended
-    requires { ⌜ now lines ≡ listing (now trace) ⌝ }
+pub fn put_whole(all: bool, trace: &[u8], lines: &[u8]) -> Ended
+    requires { ⌜ now lines ≡ listing all (now trace) ⌝ }
 {
     let is_written = write(lines);
     Ended {
         failed: !is_written,
     }
+}
+
+// "stops after printing the first refusal": nothing is read or put behind it, unless all is asked for.
+pub fn end_at_a_refusal(p: Position) -> Ended
+    requires { ⌜ p .going ≡ false ⌝ }
+{
+    Ended { failed: false }
 }
 
 // Nothing is read or put behind the last record that a replay takes.

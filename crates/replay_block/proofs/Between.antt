@@ -23,7 +23,7 @@ use Rattle.model.specs.declared.Event.{Event}
 use Rattle.model.specs.declared.Event.the-variants.{Recover}
 use Rattle.model.specs.declared.Message.{Message}
 use Rattle.model.specs.Calls.{Reply}
-use Rattle.model.specs.Listing.{lineText, perform}
+use Rattle.model.specs.Listing.{lineText, perform, goesOn}
 use Rattle.model.specs.Trace.{decoded}
 use Rattle.model.specs.Sound.{sound}
 use Rattle.model.specs.Steps.{recoverDeletions}
@@ -55,9 +55,9 @@ use Rattle.replay_block.proofs.Turns.{none-taken, one-said}
 use Rattle.replay_block.proofs.Windows.{opened, opened-state}
 
 -- Of a block that began in state s, `taken` records are replayed: `run` is the state that the parts in place are.
-pub record Between (s : Run) (done : ℕ) (block out₀ numbers : List ℕ) (run : Run) (taken : ℕ) (out deleted : List ℕ) (written : ℕ)
+pub record Between (all : Bool) (s : Run) (done : ℕ) (block out₀ numbers : List ℕ) (run : Run) (taken : ℕ) (out deleted : List ℕ) (written : ℕ) (going : Bool)
     (window : List Message) (base first tail underway last : ℕ) : Type 0 where
-  pub so-far : Replays s done block out₀ run taken out written
+  pub so-far : Replays all s done block out₀ run taken out written going
   pub reached : Reachable run
   pub windowed : Windowed numbers window base first tail underway last
   pub sends : tail ≤ 64 + taken
@@ -67,17 +67,18 @@ pub record Between (s : Run) (done : ℕ) (block out₀ numbers : List ℕ) (run
   pub lent : length deleted ≡ 512
 
 -- One record more: the state after it and the words said of it are the model's, its line is printed, and the window is that of the state.
-pub one-more : {s : Run} {done : ℕ} {block out₀ numbers : List ℕ} {run : Run} {taken : ℕ} {out deleted : List ℕ} {written : ℕ} {window : List Message} {base first tail underway last : ℕ}
-    → Between s done block out₀ numbers run taken out deleted written window base first tail underway last
-    → 4 * taken + 4 ≤ length block → written + longestLine ≤ length out → done + taken < 1000000000
+pub one-more : {all : Bool} {s : Run} {done : ℕ} {block out₀ numbers : List ℕ} {run : Run} {taken : ℕ} {out deleted : List ℕ} {written : ℕ} {going : Bool} {window : List Message} {base first tail underway last : ℕ}
+    → Between all s done block out₀ numbers run taken out deleted written going window base first tail underway last
+    → 4 * taken + 4 ≤ length block → going ≡ true → written + longestLine ≤ length out → done + taken < 1000000000
     → (e : Option Event) → e ≡ decoded (take 4 (drop (4 * taken) block)) → {run₁ : Run} → perform run e .run ≡ run₁
     → {said : Summary} {deleted₁ : List ℕ} → Says said deleted₁ (perform run e .reply) → length deleted₁ ≡ 512
     → {out₁ : List ℕ} {written₁ : ℕ} → Printed out written (lineText (done + (taken + 1)) (replyOf said deleted₁)) out₁ written₁ → written₁ ≤ length out → length out₁ ≡ length out
+    → {going₁ : Bool} → going₁ ≡ goesOn all (said .refused)
     → {window₁ : List Message} {base₁ first₁ tail₁ underway₁ last₁ : ℕ} → Windowed numbers window₁ base₁ first₁ tail₁ underway₁ last₁ → tail₁ ≤ 64 + (taken + 1)
-    → Between s done block out₀ numbers run₁ (taken + 1) out₁ deleted₁ written₁ window₁ base₁ first₁ tail₁ underway₁ last₁
-one-more {s} {done} {block} {out₀} {numbers} {run} {taken} {out} {deleted} {written} b left room below e is-e {run₁} after {said} {deleted₁} says lent {out₁} {written₁} printed fits long w sends =
+    → Between all s done block out₀ numbers run₁ (taken + 1) out₁ deleted₁ written₁ going₁ window₁ base₁ first₁ tail₁ underway₁ last₁
+one-more {all} {s} {done} {block} {out₀} {numbers} {run} {taken} {out} {deleted} {written} {going} b left still room below e is-e {run₁} after {said} {deleted₁} says lent {out₁} {written₁} printed fits long {going₁} goes w sends =
     let next : done + (taken + 1) ≡ done + taken + 1 = omega arith in
-    let t = one-said s done block out₀ run taken out written (b .so-far) left (omega (arith, b .long)) below (b .reached) e is-e run₁ after said deleted₁ says out₁ written₁ (rw next at printed) in record {
+    let t = one-said all s done block out₀ run taken out written going (b .so-far) left still (omega (arith, b .long)) below (b .reached) e is-e run₁ after said deleted₁ says out₁ written₁ (rw next at printed) going₁ goes in record {
       so-far = t .0;
       reached = t .1;
       windowed = w;
@@ -127,9 +128,9 @@ module _ (s : Run) (reach : Reachable s) {vectors : List (List Interval)} {pins 
   same-start = rw (ev, ep, ek, ew) (sym (opened-state s (reachable-sound s reach) (reachable-sized s reach)))
 
   pub none-yet : {numbers : List ℕ} → numbers ≡ numbersOf (s .messages) → (done : ℕ) → done ≤ 1000000000 → (block out deleted : List ℕ) → length deleted ≡ 512
-      → {run : Run} → run ≡ s → Between run done block out numbers run 0 out deleted 0 window (s .last) 0 64 (s .underway) (s .last)
-  none-yet en done few block out deleted lent is = rw (is, ew, en) (record {
-    so-far = none-taken s done block out;
+      → {run : Run} → run ≡ s → (all : Bool) → Between all run done block out numbers run 0 out deleted 0 true window (s .last) 0 64 (s .underway) (s .last)
+  none-yet en done few block out deleted lent is all = rw (is, ew, en) (record {
+    so-far = none-taken all s done block out;
     reached = reach;
     windowed = opened s (reachable-sound s reach) (reachable-sized s reach);
     sends = omega arith;
@@ -147,9 +148,9 @@ pub same-end : (messages : List Message) {n : ℕ} {vectors : List (List Interva
     (stateInPlace n vectors pins kept sent held messages last)
 same-end messages a b c d e = rw (a, b, c, d, e)
 
-pub ends : {s s₁ : Run} {done : ℕ} {block out₀ numbers : List ℕ} {run run₁ : Run} {taken : ℕ} {out deleted : List ℕ} {written : ℕ} {window : List Message} {base first tail underway last : ℕ}
-    → s ≡ s₁ → run₁ ≡ run → Between s done block out₀ numbers run taken out deleted written window base first tail underway last
-    → Replays s₁ done block out₀ run₁ taken out written × (Reachable run₁ × (done + taken ≤ 1000000000) × (written ≤ length out₀))
+pub ends : {all : Bool} {s s₁ : Run} {done : ℕ} {block out₀ numbers : List ℕ} {run run₁ : Run} {taken : ℕ} {out deleted : List ℕ} {written : ℕ} {going : Bool} {window : List Message} {base first tail underway last : ℕ}
+    → s ≡ s₁ → run₁ ≡ run → Between all s done block out₀ numbers run taken out deleted written going window base first tail underway last
+    → Replays all s₁ done block out₀ run₁ taken out written going × (Reachable run₁ × (done + taken ≤ 1000000000) × (written ≤ length out₀))
 ends e f b = rw (← e, f) (b .so-far, (b .reached, b .few, b .fits))
 
 -- What is chosen and what is not are all.

@@ -1,7 +1,7 @@
 -- The plan of a record is one of five: a refusal, a checkpoint, a send, a message taken out, a receipt. What holds of these holds of every plan.
 -- Assumes nothing.
 use mathlib.Core.Path.{_≡_, refl}
-use mathlib.Core.Bool.{Bool, false, false≢true}
+use mathlib.Core.Bool.{Bool, true, false, false≢true}
 use mathlib.Core.List.{List}
 use mathlib.Core.Logic.{_⊎_, inl, inr}
 use mathlib.Core.Option.{Option, none, some}
@@ -21,7 +21,7 @@ use Rattle.plans.specs.declared.Verdict.{Verdict}
 use Rattle.plans.specs.declared.Verdict.the-variants.{Accepted, Refused}
 use Rattle.plans.specs.Planned.{unchanged, storedPlan, checkpointPlan, sentPlan, sendPlan, withoutIt, receiptPlan, losePlan, recoveryVerdict}
 use Rattle.plans.proofs.Cases.{either-plan, deliver-cases}
-use Rattle.replay_block.specs.Record.{refusedPlan, planOf}
+use Rattle.replay_block.specs.Record.{refusedPlan, planOf, numberOf}
 
 module _ (mark : Bool) (t : Lookup) where
   refused-only : (Q : Plan → Type 0) → ((why : Refusal) → Q (unchanged why mark t)) → (v : Verdict) → Q (refusedPlan v mark t)
@@ -75,3 +75,9 @@ module _ (mark : Bool) (t : Lookup) where
       where
         accepted : {P : Type 0} → Accepted ≡ Refused why → P
         accepted q = absurd (false≢true cc)
+
+    -- One that moves pins is accepted.
+    pub moves-accepted : planOf e n vector own mark t .moves ≡ true → numberOf (planOf e n vector own mark t .verdict) ≡ 0
+    unfolding unchanged storedPlan sentPlan withoutIt receiptPlan numberOf
+    moves-accepted = every-plan n vector own (λ p. p .moves ≡ true → numberOf (p .verdict) ≡ 0)
+        (λ why q. absurd (false≢true q)) (λ q. refl) (λ i j q. refl) (λ q. refl) (λ q. refl) e

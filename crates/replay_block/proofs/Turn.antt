@@ -48,7 +48,7 @@ use Rattle.replay_block.specs.Record.{recoveryOf, sought, rowFor, planOf
 use Rattle.replay_block.specs.Window.{placeIn, isThere, stateInPlace, Windowed}
 use Rattle.replay_block.proofs.Answered.{Does, planFor, does}
 use Rattle.replay_block.proofs.Deleted.{deleted-text}
-use Rattle.replay_block.proofs.Planned.{Puts, plan-puts, tail-next as plan-tail}
+use Rattle.replay_block.proofs.Planned.{Puts, plan-puts, tail-next as plan-tail, moves-accepted}
 use Rattle.replay_block.proofs.Sizes.{reachable-sized}
 use Rattle.replay_block.proofs.Windows.{looks-up, put-there, put-behind}
 
@@ -225,6 +225,9 @@ module _ (s : Run) (reach : Reachable s) (e : Option Event) (asks : recoveryOf (
       module _ (move : p .moves ≡ true) where
         pub moved-process : i < s .count
         moved-process = rw (ei, eg, ep, em) (present₀ (rw (eq, ei, ef, eg, ep, em) at move))
+
+        pub moved-accepted : numberOf (p .verdict) ≡ 0
+        moved-accepted = rw (eq, ei, ef, eg, ep, em) (moves-accepted (getD (s .sent) i₀ false) lookup (s .count) (vectorAt s i₀) (ownAt s i₀) e (rw (eq, ei, ef, eg, ep, em) at move))
 
         pub moved-own : 1 ≤ ownAt s i .0
         moved-own = rw (ei, eg, ep, em) (own₀ (rw (eq, ei, ef, eg, ep, em) at move))

@@ -1,7 +1,7 @@
 -- The turns of the loop over a block: nothing taken yet, one record more, and why it stops.
 -- Assumes nothing.
 use mathlib.Core.Path.{_≡_, refl, sym, _∙_, ap}
-use mathlib.Core.Bool.{true, false}
+use mathlib.Core.Bool.{Bool, true, false}
 use mathlib.Core.List.{List}
 use mathlib.Core.Logic.{inl, inr}
 use mathlib.Core.Option.{Option}
@@ -13,10 +13,11 @@ use borrow.Author.Tests.{leb-true, leb-false}
 use Rattle.laws.specs.Choice.{by-eq}
 use Rattle.model.specs.declared.Event.{Event}
 use Rattle.model.specs.declared.Run.{Run}
-use Rattle.model.specs.Listing.{lineText, perform, mostRecords, records, stateAfterRecords}
+use Rattle.model.specs.Outcomes.{Report}
+use Rattle.model.specs.Listing.{lineText, perform, mostRecords, goesOn, records, goesOnBehind, stateAfterRecords}
 use Rattle.model.specs.Trace.{decoded}
 use Rattle.model.specs.WholeRuns.{Reachable}
-use Rattle.model.proofs.Blocks.{next-line, next-state, reachable-record}
+use Rattle.model.proofs.Blocks.{next-line, next-goes-on, next-state, reachable-record}
 use Rattle.model.proofs.Sizes.{Small}
 use Rattle.trace.specs.Answers.{recordAt, eventIn}
 use Rattle.reader.specs.Reading.{recordAfter, recordLeft}
@@ -29,27 +30,35 @@ use Rattle.listing.proofs.Texts.{then, nothing}
 use Rattle.replay_block.specs.Blocks.{Replays, Stops}
 use Rattle.replay_block.proofs.Lines.{performed-small, performed-deletions, four-read}
 
-pub none-taken : (s : Run) (done : ℕ) (block out : List ℕ) → Replays s done block out s 0 out 0
-unfolding records stateAfterRecords
-none-taken s done block out = record {
+pub none-taken : (all : Bool) (s : Run) (done : ℕ) (block out : List ℕ) → Replays all s done block out s 0 out 0 true
+unfolding records goesOnBehind stateAfterRecords
+none-taken all s done block out = record {
   within = omega arith;
   room = λ k lt. absurd (omega arith);
+  went-on = λ k lt. absurd (omega arith);
   state = refl;
   lines = nothing out 0;
+  goes-on = refl;
 }
 
 -- The record behind those taken.
-module _ (s : Run) (done : ℕ) (block out : List ℕ) (run : Run) (taken : ℕ) (now-out : List ℕ) (written : ℕ) (so-far : Replays s done block out run taken now-out written)
-    (more : 4 * taken + 4 ≤ length block) where
-  one-taken : written + longestLine ≤ length out → done + taken < mostRecords → (next-run : Run) (next-out : List ℕ) (next : ℕ)
+module _ (all : Bool) (s : Run) (done : ℕ) (block out : List ℕ) (run : Run) (taken : ℕ) (now-out : List ℕ) (written : ℕ) (going : Bool)
+    (so-far : Replays all s done block out run taken now-out written going) (more : 4 * taken + 4 ≤ length block) (still : going ≡ true) where
+  still-going : goesOnBehind all s (take (4 * taken) block) ≡ true
+  still-going = sym (so-far .goes-on) ∙ still
+
+  one-taken : written + longestLine ≤ length out → done + taken < mostRecords → (next-run : Run) (next-out : List ℕ) (next : ℕ) (next-going : Bool)
       → next-run ≡ perform run (decoded (take 4 (drop (4 * taken) block))) .run
       → Printed now-out written (lineText (done + taken + 1) (perform run (decoded (take 4 (drop (4 * taken) block))) .reply)) next-out next
-      → Replays s done block out next-run (taken + 1) next-out next
-  one-taken space few next-run next-out next e p = record {
+      → next-going ≡ goesOn all (perform run (decoded (take 4 (drop (4 * taken) block))) .reply .report .refused)
+      → Replays all s done block out next-run (taken + 1) next-out next next-going
+  one-taken space few next-run next-out next next-going e p g = record {
     within = omega arith;
     room = λ j lt. by-eq j taken (λ q. rw q (omega (arith, so-far .lines .next-place))) (λ ne. so-far .room j (omega arith));
+    went-on = λ j lt. by-eq j taken (λ q. rw q still-going) (λ ne. so-far .went-on j (omega arith));
     state = e ∙ rw (so-far .state, four-more) (sym (next-state taken done s block more));
-    lines = rw (four-more, next-line taken done s block more few) (then (so-far .lines) (rw (so-far .state) at p));
+    lines = rw (four-more, next-line taken done s block more all few still-going) (then (so-far .lines) (rw (so-far .state) at p));
+    goes-on = g ∙ rw (so-far .state, four-more) (sym (next-goes-on taken done s block more all still-going));
   }
     where
       four-more : 4 * (taken + 1) ≡ 4 * taken + 4
@@ -73,23 +82,27 @@ module _ (trace : List ℕ) (taken : ℕ) where
       (omega (arith, leb-true (1 + 4 * taken + 4) (length trace) e, length-drop (1 + 4 * taken) trace))))
 
 -- Why the loop stops.
-module _ (done block taken out written : ℕ) where
-  pub at-limit : done + taken ≤ mostRecords → mostRecords ≤ done + taken → Stops done block taken out written
+module _ (done block taken out written : ℕ) (going : Bool) where
+  pub at-limit : done + taken ≤ mostRecords → mostRecords ≤ done + taken → Stops done block taken out written going
   unfolding Stops
   at-limit h g = inl (omega arith)
 
-  pub no-record : block < 4 * taken + 4 → Stops done block taken out written
+  pub no-record : block < 4 * taken + 4 → Stops done block taken out written going
   unfolding Stops
   no-record h = inr (inl h)
 
-  pub no-room : written ≤ out → out - written < longestLine → Stops done block taken out written
+  pub no-room : written ≤ out → out - written < longestLine → Stops done block taken out written going
   unfolding Stops
   no-room h g = inr (inr (inl (omega arith)))
 
-  -- each record takes one place at most
-  pub no-place : (tail : ℕ) → tail ≤ 64 + taken → 576 ≤ tail → Stops done block taken out written
+  pub at-a-refusal : going ≡ false → Stops done block taken out written going
   unfolding Stops
-  no-place tail h g = inr (inr (inr (omega arith)))
+  at-a-refusal h = inr (inr (inr (inl h)))
+
+  -- each record takes one place at most
+  pub no-place : (tail : ℕ) → tail ≤ 64 + taken → 576 ≤ tail → Stops done block taken out written going
+  unfolding Stops
+  no-place tail h g = inr (inr (inr (inr (omega arith))))
 
 -- What is said of a record is small.
 pub said-fits : (s : Run) (e : Option Event) (said : Summary) (deleted : List ℕ) → Says said deleted (perform s e .reply) → Small (reportIn said) × (said .deletions ≤ 256)
@@ -97,16 +110,29 @@ said-fits s e said deleted h =
     let whole : Performs s e (perform s e .run) said deleted = record { state = refl; says = h } in
     (performed-small s e (perform s e .run) said deleted whole, performed-deletions s e (perform s e .run) said deleted whole)
 
+-- The replay goes on as the number that is said of a record has it; where one is accepted it goes on as before.
+says-goes-on : (all : Bool) (said : Summary) (deleted : List ℕ) (s : Run) (e : Option Event) → Says said deleted (perform s e .reply)
+    → goesOn all (said .refused) ≡ goesOn all (perform s e .reply .report .refused)
+unfolding reportIn
+says-goes-on all said deleted s e h = ap (λ (r : Report). goesOn all (r .refused)) (h .report)
+
+pub accepted-goes-on : (all : Bool) {refused : ℕ} → refused ≡ 0 → {going : Bool} → going ≡ true → going ≡ goesOn all refused
+unfolding goesOn
+accepted-goes-on true e still = still
+accepted-goes-on false e still = still ∙ rw e
+
 -- One record more, where the state t after it and the words said of it are the model's and its line is printed.
-pub one-said : (s : Run) (done : ℕ) (block out : List ℕ) (run : Run) (taken : ℕ) (now-out : List ℕ) (written : ℕ) → Replays s done block out run taken now-out written
-    → 4 * taken + 4 ≤ length block → written + longestLine ≤ length out → done + taken < mostRecords → Reachable run
+pub one-said : (all : Bool) (s : Run) (done : ℕ) (block out : List ℕ) (run : Run) (taken : ℕ) (now-out : List ℕ) (written : ℕ) (going : Bool)
+    → Replays all s done block out run taken now-out written going → 4 * taken + 4 ≤ length block → going ≡ true → written + longestLine ≤ length out → done + taken < mostRecords → Reachable run
     → (e : Option Event) → e ≡ decoded (take 4 (drop (4 * taken) block)) → (t : Run) → perform run e .run ≡ t
     → (said : Summary) (deleted : List ℕ) → Says said deleted (perform run e .reply)
     → (next-out : List ℕ) (next : ℕ) → Printed now-out written (lineText (done + taken + 1) (replyOf said deleted)) next-out next
-    → Replays s done block out t (taken + 1) next-out next × Reachable t
-one-said s done block out run taken now-out written so-far more space few reach e read t after said deleted says next-out next printed = (
-  one-taken s done block out run taken now-out written so-far more space few t next-out next
+    → (next-going : Bool) → next-going ≡ goesOn all (said .refused)
+    → Replays all s done block out t (taken + 1) next-out next next-going × Reachable t
+one-said all s done block out run taken now-out written going so-far more still space few reach e read t after said deleted says next-out next printed next-going goes = (
+  one-taken all s done block out run taken now-out written going so-far more still space few t next-out next next-going
       (sym after ∙ ap (λ (o : Option Event). perform run o .run) read)
-      (rw (says-line said deleted (perform run e .reply) says (done + taken + 1) ∙ ap (λ (o : Option Event). lineText (done + taken + 1) (perform run o .reply)) read) at printed),
+      (rw (says-line said deleted (perform run e .reply) says (done + taken + 1) ∙ ap (λ (o : Option Event). lineText (done + taken + 1) (perform run o .reply)) read) at printed)
+      (goes ∙ says-goes-on all said deleted run e says ∙ ap (λ (o : Option Event). goesOn all (perform run o .reply .report .refused)) read),
   rw (sym after) (reachable-record run reach e),
 )

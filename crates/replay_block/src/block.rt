@@ -14,18 +14,20 @@ ghost use Rattle.model.specs.WholeRuns.{Reachable};
 ghost use Rattle.replay_block.specs.Blocks.{Replays, Stops};
 ghost use Rattle.replay_block.specs.Window.{numbersOf};
 
-// The state after the records that were taken of a block, how many they are, and how many bytes of lines were written.
+// The state after the records that were taken of a block, how many they are, how many bytes of lines were written, and whether the replay goes on behind them.
 pub struct Progress {
     pub run: Run,
     pub taken: usize,
     pub written: usize,
+    pub going: bool,
 }
 
-// It stops where no whole record is left, where the longest line might not fit, and behind record 1,000,000,000. The state is kept in place: a record
-// stores single elements, rows and messages. A recovery goes over all processes, and looks at the checkpoints that they keep one at a time: a row is
-// copied only where something in it is deleted. So these loops stand here, where the table is, and what they do in a turn stands in rows and plans.
+// It stops where no whole record is left, where the longest line might not fit, behind record 1,000,000,000, and behind a refusal unless `all` is asked for. The
+// state is kept in place: a record stores single elements, rows and messages. A recovery goes over all processes, and looks at the checkpoints that they keep one
+// at a time: a row is copied only where something in it is deleted. So these loops stand here, where the table is, and what they do in a turn stands in rows and plans.
 fn replay_beside(
     s: Run,
+    all: bool,
     done: u64,
     trace: &[u8],
     out: &mut [u8],
@@ -33,9 +35,9 @@ fn replay_beside(
     numbers: &[u32],
 ) -> Progress
     requires { ⌜ Reachable s × (done ≤ 1000000000) × (length (now deleted) ≡ 512) × (now numbers ≡ numbersOf (s .messages)) ⌝ }
-    ensures { λ r. ⌜ Replays s done (drop 1 (now (trace .entry))) (now (out .entry)) (r .run) (r .taken) (now (out .exit)) (r .written) ⌝ }
+    ensures { λ r. ⌜ Replays all s done (drop 1 (now (trace .entry))) (now (out .entry)) (r .run) (r .taken) (now (out .exit)) (r .written) (r .going) ⌝ }
     ensures { λ r. ⌜ Reachable (r .run) × (done + r .taken ≤ 1000000000) × (r .written ≤ length (now (out .entry))) ⌝ }
-    ensures { λ r. ⌜ Stops done (length (drop 1 (now (trace .entry)))) (r .taken) (length (now (out .entry))) (r .written) ⌝ }
+    ensures { λ r. ⌜ Stops done (length (drop 1 (now (trace .entry)))) (r .taken) (length (now (out .entry))) (r .written) (r .going) ⌝ }
 {
     let n = s.count;
     let mut vectors = rows::squares::vector_rows(s.vectors);
@@ -54,10 +56,12 @@ fn replay_beside(
     let unused = plans::no_message();
     let mut taken = 0;
     let mut written = 0;
+    let mut going = true;
     'records: while tail < 576
         && done + (taken as u64) < 1000000000
         && reader::record_left(trace, taken)
         && 3102 <= out.len() - written
+        && going
     {
         let part = reader::record_after(trace, taken);
         let d = trace::decode(part);
@@ -143,6 +147,8 @@ fn replay_beside(
                     deletions: 0,
                 };
                 written = output::line::print(said_only, deleted, number, out, written);
+                // what moves pins is accepted, and so is a recovery, so a refusal is met here alone
+                going = output::line::goes_on(all, refused);
             }
         } else {
             // each process goes back to its member of the line
@@ -267,20 +273,21 @@ fn replay_beside(
         run,
         taken,
         written,
+        going,
     }
 }
 
 // The same with a deletion list of its own.
-pub fn replay(s: Run, done: u64, trace: &[u8], out: &mut [u8]) -> Progress
+pub fn replay(s: Run, all: bool, done: u64, trace: &[u8], out: &mut [u8]) -> Progress
     requires { ⌜ Reachable s × (done ≤ 1000000000) ⌝ }
-    ensures { λ r. ⌜ Replays s done (drop 1 (now (trace .entry))) (now (out .entry)) (r .run) (r .taken) (now (out .exit)) (r .written) ⌝ }
+    ensures { λ r. ⌜ Replays all s done (drop 1 (now (trace .entry))) (now (out .entry)) (r .run) (r .taken) (now (out .exit)) (r .written) (r .going) ⌝ }
     ensures { λ r. ⌜ Reachable (r .run) × (done + r .taken ≤ 1000000000) × (r .written ≤ length (now (out .entry))) ⌝ }
-    ensures { λ r. ⌜ Stops done (length (drop 1 (now (trace .entry)))) (r .taken) (length (now (out .entry))) (r .written) ⌝ }
+    ensures { λ r. ⌜ Stops done (length (drop 1 (now (trace .entry)))) (r .taken) (length (now (out .entry))) (r .written) (r .going) ⌝ }
 {
     let mut list = [0u16; 512];
     let deleted: &mut [u16] = &mut list;
     let started = s.messages;
     let numbers = window::numbers_of(started);
     let old: &[u32] = &numbers;
-    replay_beside(s, done, trace, out, deleted, old)
+    replay_beside(s, all, done, trace, out, deleted, old)
 }

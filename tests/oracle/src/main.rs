@@ -1,6 +1,8 @@
-//! `oracle` replays the trace on standard input and prints the listing.
-//! `oracle --cases` prints the exam text.
+//! `oracle` replays the trace on standard input and prints the listing up to
+//! the first refusal, `oracle all` the whole listing. `oracle --cases` prints
+//! the exam text.
 
+use oracle::replay::AfterRefusal;
 use std::fs::File;
 use std::io;
 use std::os::fd::AsFd;
@@ -9,12 +11,8 @@ use std::process::ExitCode;
 fn main() -> ExitCode {
     let arguments: Vec<_> = std::env::args_os().skip(1).collect();
     let outcome = match arguments.as_slice() {
-        [] => replay(),
         [option] if option == "--cases" => print_cases(),
-        _ => {
-            eprintln!("usage: oracle < TRACE\n       oracle --cases");
-            return ExitCode::from(2);
-        }
+        words => replay(AfterRefusal::asked_by(words)),
     };
     // A reader of the listing that has gone away is no news to anyone: no
     // message, only the status tells.
@@ -24,8 +22,8 @@ fn main() -> ExitCode {
     }
 }
 
-fn replay() -> io::Result<()> {
-    oracle::replay::replay(standard_input()?, standard_output()?)
+fn replay(after_refusal: AfterRefusal) -> io::Result<()> {
+    oracle::replay::replay(after_refusal, standard_input()?, standard_output()?)
 }
 
 fn print_cases() -> io::Result<()> {

@@ -1,6 +1,7 @@
 //! The replay: a trace in, a listing out, in constant memory.
 
 use crate::run::{Run, MAX_PROCESSES};
+use std::ffi::OsString;
 use std::io::{self, ErrorKind, Read, Write};
 
 /// "The program ends after record 1,000,000,000 and reads nothing past it."
@@ -16,25 +17,53 @@ const BAD_RECORD: u8 = 14;
 const INPUT_BUFFER: usize = 1 << 16;
 const OUTPUT_BUFFER: usize = 1 << 16;
 
+/// Note 11: "The replay program now stops after printing the first refusal."
+/// With the argument `all` it "goes on as before."
+#[derive(Clone, Copy, Debug, PartialEq, Eq)]
+pub enum AfterRefusal {
+    Stop,
+    GoOn,
+}
+
+impl AfterRefusal {
+    /// "Any other argument, or more than one, counts as none."
+    pub fn asked_by(arguments: &[OsString]) -> AfterRefusal {
+        match arguments {
+            [word] if word == "all" => AfterRefusal::GoOn,
+            _ => AfterRefusal::Stop,
+        }
+    }
+}
+
 /// "The replay program reads a trace from standard input. Each record gives
 /// one line".
-pub fn replay<R: Read, W: Write>(input: R, output: W) -> io::Result<()> {
-    replay_up_to(LAST_RECORD, input, output)
+pub fn replay<R: Read, W: Write>(
+    after_refusal: AfterRefusal,
+    input: R,
+    output: W,
+) -> io::Result<()> {
+    replay_up_to(LAST_RECORD, after_refusal, input, output)
 }
 
 /// The same, ending after the given record.
 ///
 /// After a reading error the listing so far is still written.
-pub fn replay_up_to<R: Read, W: Write>(last: u32, input: R, output: W) -> io::Result<()> {
+pub fn replay_up_to<R: Read, W: Write>(
+    last: u32,
+    after_refusal: AfterRefusal,
+    input: R,
+    output: W,
+) -> io::Result<()> {
     let mut source = Source::new(last, input);
     let mut listing = Listing::new(output);
-    let outcome = list_trace(last, &mut source, &mut listing);
+    let outcome = list_trace(last, after_refusal, &mut source, &mut listing);
     listing.flush()?;
     outcome
 }
 
 fn list_trace<R: Read, W: Write>(
     last: u32,
+    after_refusal: AfterRefusal,
     source: &mut Source<R>,
     listing: &mut Listing<W>,
 ) -> io::Result<()> {
@@ -54,8 +83,13 @@ fn list_trace<R: Read, W: Write>(
         match source.next_record()? {
             Part::Record(record) => match apply(&mut run, record, &mut lists) {
                 Ok(answer) => listing.accepted(record_number, &answer, &lists)?,
-                // "after any other refusal it goes on."
-                Err(number) => listing.refused(record_number, number)?,
+                Err(number) => {
+                    listing.refused(record_number, number)?;
+                    // What lies behind is neither judged nor read on for.
+                    if after_refusal == AfterRefusal::Stop {
+                        return Ok(());
+                    }
+                }
             },
             // "13 prints under the next record number and ends".
             Part::LeftOver => return listing.refused(record_number, BYTES_LEFT_OVER),

@@ -37,6 +37,8 @@ fn the_ten_record_example() {
         trace.extend_from_slice(&record.to_be_bytes());
     }
     assert_eq!(common::listing(&trace), EXAMPLE_LISTING);
+    // Its only refusal is its last record.
+    assert_eq!(common::stopped_listing(&trace), EXAMPLE_LISTING);
 }
 
 #[test]

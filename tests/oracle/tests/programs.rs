@@ -1,6 +1,9 @@
 //! The two programs as they are run.
 
+use oracle::replay::AfterRefusal;
+use std::ffi::OsStr;
 use std::io::{Read, Write};
+use std::os::unix::ffi::OsStrExt;
 use std::process::{Child, Command, Output, Stdio};
 use std::thread;
 
@@ -14,8 +17,9 @@ fn generate(arguments: &[&str]) -> Vec<u8> {
 }
 
 /// The program with its input, output and messages at hand.
-fn running_oracle() -> Child {
+fn running_oracle(arguments: &[&OsStr]) -> Child {
     Command::new(env!("CARGO_BIN_EXE_oracle"))
+        .args(arguments)
         .stdin(Stdio::piped())
         .stdout(Stdio::piped())
         .stderr(Stdio::piped())
@@ -23,12 +27,17 @@ fn running_oracle() -> Child {
         .unwrap()
 }
 
+/// The program with the argument `all`.
 fn oracle(trace: &[u8]) -> Output {
-    let mut program = running_oracle();
+    oracle_with(&[OsStr::new("all")], trace)
+}
+
+fn oracle_with(arguments: &[&OsStr], trace: &[u8]) -> Output {
+    let mut program = running_oracle(arguments);
     let mut input = program.stdin.take().unwrap();
     thread::scope(|scope| {
         scope.spawn(move || {
-            // A bad first byte ends the program before all is read.
+            // A bad first byte or a stop ends the program before all is read.
             let _ = input.write_all(trace);
         });
         program.wait_with_output().unwrap()
@@ -67,10 +76,67 @@ fn the_program_prints_the_cases() {
 fn the_program_and_the_function_agree() {
     for seed in 0..50 {
         let trace = generate(&[&seed.to_string(), "--mix", "damaged"]);
-        let mut expected = Vec::new();
-        oracle::replay::replay(&trace[..], &mut expected).unwrap();
-        assert_eq!(oracle(&trace).stdout, expected);
+        for (after_refusal, arguments) in [
+            (AfterRefusal::GoOn, &[OsStr::new("all")][..]),
+            (AfterRefusal::Stop, &[]),
+        ] {
+            let mut expected = Vec::new();
+            oracle::replay::replay(after_refusal, &trace[..], &mut expected).unwrap();
+            assert_eq!(oracle_with(arguments, &trace).stdout, expected);
+        }
     }
+}
+
+/// Note 11: "start it with the argument `all`, which goes on as before. Any
+/// other argument, or more than one, counts as none."
+#[test]
+fn only_the_one_word_all_goes_on() {
+    // The second of three records is refused.
+    let mut trace = vec![1];
+    for record in [0u32, 7 << 29, 0] {
+        trace.extend(record.to_be_bytes());
+    }
+    let whole = b"1 0 1 1 0:0\n2 14\n3 0 2 1 0:1\n";
+    let stopped = b"1 0 1 1 0:0\n2 14\n";
+    assert_eq!(oracle(&trace).stdout, whole);
+    let others: [&[&[u8]]; 16] = [
+        &[],
+        &[b""],
+        &[b"a"],
+        &[b"al"],
+        &[b"allx"],
+        &[b"xall"],
+        &[b"ALL"],
+        &[b"All"],
+        &[b" all"],
+        &[b"all "],
+        &[b"--all"],
+        &[b"al\xFF"],
+        &[b"all", b"all"],
+        &[b"all", b""],
+        &[b"", b"all"],
+        &[b"all", b"--cases"],
+    ];
+    for words in others {
+        let arguments: Vec<&OsStr> = words.iter().map(|word| OsStr::from_bytes(word)).collect();
+        let output = oracle_with(&arguments, &trace);
+        assert_eq!(output.stdout, stopped, "{arguments:?}");
+        assert!(output.status.success() && output.stderr.is_empty());
+    }
+}
+
+/// The input is still open when the program ends.
+#[test]
+fn it_ends_at_the_stop_while_the_input_goes_on() {
+    let mut program = running_oracle(&[]);
+    let mut input = program.stdin.take().unwrap();
+    input.write_all(&[1, 0, 0, 0, 0, 0xE0, 0, 0, 0, 0]).unwrap();
+    let mut listing = String::new();
+    let mut output = program.stdout.take().unwrap();
+    output.read_to_string(&mut listing).unwrap();
+    assert_eq!(listing, "1 0 1 1 0:0\n2 14\n");
+    assert!(program.wait().unwrap().success());
+    drop(input);
 }
 
 #[test]
@@ -80,7 +146,7 @@ fn no_input_at_all() {
 
 #[test]
 fn a_reader_that_goes_away_ends_it_quietly() {
-    let mut program = running_oracle();
+    let mut program = running_oracle(&[]);
     drop(program.stdout.take());
     let mut input = program.stdin.take().unwrap();
     let mut trace = vec![1];
@@ -259,10 +325,4 @@ fn wrong_arguments() {
             .unwrap();
         assert_eq!(status.code(), Some(2), "{arguments:?}");
     }
-    let status = Command::new(env!("CARGO_BIN_EXE_oracle"))
-        .arg("--what")
-        .stderr(Stdio::null())
-        .status()
-        .unwrap();
-    assert_eq!(status.code(), Some(2));
 }

@@ -3,8 +3,8 @@
 
 mod common;
 
-use common::{listing, trace};
-use oracle::replay::{replay, replay_up_to};
+use common::{listing, stopped_listing, trace};
+use oracle::replay::{replay, replay_up_to, AfterRefusal};
 use std::io::{self, ErrorKind, Read, Write};
 
 const CHECKPOINT: u32 = 0;
@@ -16,6 +16,7 @@ const RECOVER: u32 = 4;
 #[test]
 fn no_first_byte() {
     assert_eq!(listing(&[]), "0 12\n");
+    assert_eq!(stopped_listing(&[]), "0 12\n");
 }
 
 #[test]
@@ -25,6 +26,7 @@ fn a_bad_first_byte() {
         // What follows is not looked at.
         assert_eq!(listing(&trace(first, &[(CHECKPOINT, 0, 0)])), "0 1\n");
         assert_eq!(listing(&[first, 0, 0]), "0 1\n");
+        assert_eq!(stopped_listing(&[first, 0, 0]), "0 1\n");
     }
 }
 
@@ -41,11 +43,14 @@ fn left_over_bytes() {
         let mut bytes = vec![1];
         bytes.extend(vec![0; left]);
         assert_eq!(listing(&bytes), "1 13\n");
+        assert_eq!(stopped_listing(&bytes), "1 13\n");
 
         let mut bytes = trace(1, &[(CHECKPOINT, 0, 0), (7, 0, 0)]);
         // Also where the bytes begin a record of an unused kind.
         bytes.extend(vec![255; left]);
         assert_eq!(listing(&bytes), "1 0 1 1 0:0\n2 14\n3 13\n");
+        // Behind the stop they are not judged.
+        assert_eq!(stopped_listing(&bytes), "1 0 1 1 0:0\n2 14\n");
     }
 }
 
@@ -110,6 +115,71 @@ fn it_goes_on_after_a_refusal() {
             (record, number) => format!("{record} {number}"),
         };
         assert_eq!(lines[place], expected);
+    }
+}
+
+/// Note 11: "The replay program now stops after printing the first refusal."
+#[test]
+fn it_stops_after_the_first_refusal() {
+    let refused = [
+        (CHECKPOINT, 2, 0),
+        (SEND, 1, 1),
+        (SEND, 0, 2),
+        (DELIVER, 0, 9),
+        (LOSE, 0, 0),
+        (RECOVER, 0, 4),
+        (RECOVER, 1, 0),
+        (7, 0, 0),
+    ];
+    for bad in refused {
+        let records = [(CHECKPOINT, 0, 0), bad, (CHECKPOINT, 0, 0), bad];
+        let whole = listing(&trace(2, &records));
+        let stopped = stopped_listing(&trace(2, &records));
+        assert_eq!(whole.lines().count(), 4);
+        assert_eq!(stopped.lines().count(), 2);
+        assert!(whole.starts_with(&stopped));
+        // As the last record it makes no difference.
+        let last = trace(2, &records[..2]);
+        assert_eq!(stopped_listing(&last), listing(&last));
+    }
+}
+
+#[test]
+fn both_ways_agree_up_to_the_first_refusal() {
+    let (mut stopped, mut whole) = (0, 0);
+    for seed in 0..300 {
+        let arguments = [seed.to_string()];
+        let plan = oracle::generate::Plan::from_arguments(&arguments).unwrap();
+        let mut bytes = Vec::new();
+        oracle::generate::write_trace(plan, &mut bytes).unwrap();
+        let all = listing(&bytes);
+        let first = stopped_listing(&bytes);
+        assert_eq!(first, common::up_to_first_refusal(&all));
+        stopped += (first != all) as usize;
+        whole += (first == all) as usize;
+    }
+    assert!(stopped > 50 && whole > 50);
+}
+
+/// Hands over some bytes at once, and must not be asked again.
+struct Once<'a>(Option<&'a [u8]>);
+
+impl Read for Once<'_> {
+    fn read(&mut self, buffer: &mut [u8]) -> io::Result<usize> {
+        let bytes = self.0.take().expect("reads on behind the stop");
+        buffer[..bytes.len()].copy_from_slice(bytes);
+        Ok(bytes.len())
+    }
+}
+
+#[test]
+fn nothing_is_read_behind_the_stop() {
+    for left in 0..=5 {
+        let mut bytes = trace(1, &[(CHECKPOINT, 0, 0), (CHECKPOINT, 1, 0)]);
+        bytes.extend(vec![0; left]);
+        let mut output = Vec::new();
+        replay(AfterRefusal::Stop, Once(Some(&bytes)), &mut output).unwrap();
+        assert_eq!(output, b"1 0 1 1 0:0\n2 4\n");
     }
 }
 
@@ -201,7 +271,7 @@ fn short_reads_change_nothing() {
                 interrupted: false,
             };
             let mut output = Vec::new();
-            replay(input, &mut output).unwrap();
+            replay(AfterRefusal::GoOn, input, &mut output).unwrap();
             assert_eq!(String::from_utf8(output).unwrap(), whole);
         }
     }
@@ -229,7 +299,7 @@ fn nothing_is_read_past_the_last_record() {
             allowed: 1 + 4 * last as usize,
         };
         let mut output = Vec::new();
-        replay_up_to(last, input, &mut output).unwrap();
+        replay_up_to(last, AfterRefusal::GoOn, input, &mut output).unwrap();
         let output = String::from_utf8(output).unwrap();
         assert_eq!(output.lines().count(), last as usize);
         assert_eq!(output.lines().last().unwrap(), format!("{last} 14"));
@@ -253,7 +323,7 @@ impl Read for Failing<'_> {
 fn after_a_reading_error_the_listing_so_far_is_written() {
     let bytes = trace(1, &[(CHECKPOINT, 0, 0)]);
     let mut output = Vec::new();
-    assert!(replay(Failing(&bytes), &mut output).is_err());
+    assert!(replay(AfterRefusal::Stop, Failing(&bytes), &mut output).is_err());
     assert_eq!(output, b"1 0 1 1 0:0\n");
 }
 
@@ -273,6 +343,6 @@ impl Write for Full {
 fn a_writing_error_is_handed_on() {
     let mut bytes = trace(1, &[]);
     bytes.extend(vec![0; 4 * 100_000]);
-    assert!(replay(&bytes[..], Full).is_err());
-    assert!(replay(&[][..], Full).is_err());
+    assert!(replay(AfterRefusal::Stop, &bytes[..], Full).is_err());
+    assert!(replay(AfterRefusal::Stop, &[][..], Full).is_err());
 }

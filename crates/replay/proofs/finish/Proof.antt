@@ -1,11 +1,12 @@
 -- `replay::finish` meets what `put_rest` requires: the line is that of the bytes held.
 -- Assumes nothing.
 use borrow.Author.Needs.{needs}
+use mathlib.Core.Path.{sym, _∙_}
 use Prim.Native.Nat.{_≤_}
 use native.Mathlib.Omega.{arith}
 use lib.ListN.{length}
 use lib.Seq.{length-take-le}
-use Rattle.replay.specs.Positions.{due}
+use Rattle.replay.proofs.Going.{due-going}
 use Rattle.replay.proofs.Texts.{front-text}
 use Rattle.replay.proofs.finish.Statement.{statement}
 use Rattle.replay.proofs.finish.Tie as tie
@@ -17,11 +18,11 @@ slice-aggregate-put-rest c =
     search (needs, length-take-le (called .result) (called .last .1 .1 .0) fits)
 
 put-rest-requires : tie.Need-put-rest-requires
-unfolding due
 put-rest-requires c κs =
     let called = c .before .before .before .before .end in
     let start = c .before .before .before .before .before .before .before .before .before .before .before in
-    rw (c .before .before .before .before .before .before .before .done .ensures) at (front-text _ _ _ (called .result) (called .ensures .0 (start .args .p .run)) (called .ensures .1))
+    let printed = front-text _ _ _ (called .result) (called .ensures .0 (start .args .p .all) (start .args .p .run)) (called .ensures .1) in
+    (rw (c .before .before .before .before .before .before .before .done .ensures) at printed) ∙ sym (due-going (start .args .p) _ (start .pre .0))
 
 pub finish-spec : {M : Type 1} → statement M
 finish-spec =

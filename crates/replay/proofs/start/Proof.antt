@@ -40,7 +40,7 @@ slice-aggregate-put-whole-2 c =
 put-whole-requires : tie.Need-put-whole-requires
 put-whole-requires c κs =
     let called = c .before .before .before .before .empty in
-    front-text _ (listing []) _ (called .result) (called .ensures .0) (called .ensures .1)
+    front-text _ _ _ (called .result) (called .ensures .0 _) (called .ensures .1)
 
 begin-requires : tie.Need-begin-requires
 begin-requires c κs =
@@ -51,7 +51,8 @@ replay-requires : tie.Need-replay-requires
 replay-requires c κs =
     let called = c .before .before .before .before .before .before .before .first in
     let at = c .before .before .begin in (
-      reached-first _ (called .result .started) (called .result .run) _ _ _ (at .result) (at .ensures) (begun _ (called .result .started) (called .result .run) _ _ _ (called .ensures .0) (c .before .before .before .if3 .taken)),
+      ap (λ (q : Position). q .going) (at .ensures),
+      reached-first _ (called .result .started) (called .result .run) _ _ _ (at .result) _ (at .ensures) (begun _ (called .result .started) (called .result .run) _ _ _ (called .ensures .0) (c .before .before .before .if3 .taken)),
       ap (λ (q : Position). q .done) (at .ensures),
       ap (λ (q : Position). q .held) (at .ensures),
       omega (arith, many (c .before .before .before .before .before .before .before .before .before .before .before .before .before .before), begin (c .before .before .before .before .before .before .before .before .before .before .before .before .before .before) .pre .0),
@@ -71,7 +72,7 @@ put-whole-requires-2 c κs =
     let called = c .before .before .before .before .before .before .first in
     let read = c .before .before .before .before .before .before .before .before .before .before .before .before .before in
     rw (first-byte (bytes read) (some-bytes read))
-    (front-text _ _ _ (called .result .written) (not-begun _ (called .result .started) (called .result .run) _ _ _ (called .ensures .0) (c .before .before .if3 .left) .line []) (called .ensures .1))
+    (front-text _ _ _ (called .result .written) (not-begun _ (called .result .started) (called .result .run) _ _ _ (called .ensures .0) (c .before .before .if3 .left) .line _ []) (called .ensures .1))
 
 pub start-spec : {M : Type 1} → statement M
 start-spec =

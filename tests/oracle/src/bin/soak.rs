@@ -4,13 +4,14 @@
 //! damaged or up to the limits.
 //!
 //! The traces and what is expected are made in this process; only PROGRAM is
-//! started for each trace. It must print the oracle's listing byte for byte,
-//! nothing on standard error, and end with status 0. At the first trace where
-//! it does not, the arguments of `generate` and the first line that differs
-//! are printed, and the status is 1.
+//! started, twice for each trace: with the argument `all`, for the whole
+//! listing, and without, for the listing up to the first refusal. It must print
+//! the oracle's listing byte for byte, nothing on standard error, and end with
+//! status 0. At the first trace where it does not, the arguments of `generate`
+//! and the first line that differs are printed, and the status is 1.
 
 use oracle::generate::{write_trace, Plan};
-use oracle::replay::replay;
+use oracle::replay::{replay, AfterRefusal};
 use std::fs::File;
 use std::io;
 use std::path::{Path, PathBuf};
@@ -35,7 +36,7 @@ fn main() -> ExitCode {
         return ExitCode::FAILURE;
     }
     println!(
-        "replay and oracle agree on {} traces, {} of them damaged by choice: {} records, {} bytes of text",
+        "replay and oracle agree on {} traces, {} of them damaged by choice: {} records, {} bytes of text; up to the first refusal too",
         soak.count,
         soak.count / 2,
         soak.records.load(Ordering::Relaxed),
@@ -102,17 +103,29 @@ impl Soak {
         let plan = Plan::from_arguments(arguments).expect("the arguments are in the usage");
         let mut trace = Vec::new();
         write_trace(plan, &mut trace)?;
-        let mut expected = Vec::new();
-        replay(trace.as_slice(), &mut expected)?;
         std::fs::write(file, &trace)?;
-        let got = Command::new(&self.program)
-            .stdin(File::open(file)?)
-            .output()?;
-        let lines = expected.iter().filter(|byte| **byte == b'\n').count();
+
+        let mut whole = Vec::new();
+        replay(AfterRefusal::GoOn, trace.as_slice(), &mut whole)?;
+        let lines = whole.iter().filter(|byte| **byte == b'\n').count();
         self.records.fetch_add(lines as u64, Ordering::Relaxed);
-        self.bytes
-            .fetch_add(expected.len() as u64, Ordering::Relaxed);
-        Ok(difference(&expected, &got))
+        self.bytes.fetch_add(whole.len() as u64, Ordering::Relaxed);
+        let got = self.output(&["all"], file)?;
+        if let Some(difference) = difference(&whole, &got) {
+            return Ok(Some(format!("with the argument all: {difference}")));
+        }
+
+        let mut stopped = Vec::new();
+        replay(AfterRefusal::Stop, trace.as_slice(), &mut stopped)?;
+        let got = self.output(&[], file)?;
+        Ok(difference(&stopped, &got))
+    }
+
+    fn output(&self, arguments: &[&str], trace: &Path) -> io::Result<Output> {
+        Command::new(&self.program)
+            .args(arguments)
+            .stdin(File::open(trace)?)
+            .output()
     }
 }
 

@@ -1,6 +1,7 @@
 //! What several tests use.
 #![allow(dead_code)]
 
+use oracle::replay::{replay, AfterRefusal};
 use oracle::run::Run;
 
 /// Lists that are long enough for every run.
@@ -20,10 +21,33 @@ pub fn trace(first: u8, records: &[(u32, u32, u32)]) -> Vec<u8> {
     bytes
 }
 
+/// The whole listing.
 pub fn listing(trace: &[u8]) -> String {
+    listing_of(AfterRefusal::GoOn, trace)
+}
+
+/// The listing up to the first refusal.
+pub fn stopped_listing(trace: &[u8]) -> String {
+    listing_of(AfterRefusal::Stop, trace)
+}
+
+fn listing_of(after_refusal: AfterRefusal, trace: &[u8]) -> String {
     let mut output = Vec::new();
-    oracle::replay::replay(trace, &mut output).expect("neither reading nor writing fails");
+    replay(after_refusal, trace, &mut output).expect("neither reading nor writing fails");
     String::from_utf8(output).expect("the listing is ASCII")
+}
+
+/// The lines of a listing up to the first that says a refusal.
+pub fn up_to_first_refusal(listing: &str) -> String {
+    let mut refused = false;
+    listing
+        .split_inclusive('\n')
+        .take_while(|line| {
+            let stopped = refused;
+            refused = line.trim_end().split(' ').nth(1) != Some("0");
+            !stopped
+        })
+        .collect()
 }
 
 pub fn line(run: &Run, failed: u32) -> Vec<u16> {

@@ -7,7 +7,7 @@ use Rattle.output.proofs.ends.empty.Tie as tie
 
 returns : tie.Need-returns
 unfolding listing
-returns c = c .before .before .refuse .ensures
+returns c = (λ all. c .before .before .refuse .ensures .0, c .before .before .refuse .ensures .1)
 
 pub empty-spec : {M : Type 1} → statement M
 empty-spec = tie.close (tie.spec (λ c κs. search needs) (λ c. search needs) returns)

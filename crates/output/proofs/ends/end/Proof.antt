@@ -12,7 +12,7 @@ use Rattle.output.proofs.ends.end.Tie as tie
 returns : tie.Need-returns
 returns c =
     let start = c .before .before .before in
-    (λ s. none-left (start .args .done) s (now (start .args .rest)) (now (start .args .out)) (c .if1 .taken), omega arith)
+    (λ all s. none-left all (start .args .done) s (now (start .args .rest)) (now (start .args .out)) (c .if1 .taken), omega arith)
 
 returns-2 : tie.Need-returns-2
 returns-2 c =
@@ -20,12 +20,12 @@ returns-2 c =
     let below = c .before .before .before .before in
     let start = below .before .before .before .before in
     let some-left : 1 ≤ length (now (start .args .rest)) = search needs in
-    (λ s. rw (left-over (start .args .done) s (now (start .args .rest)) some-left (start .pre .0) (below .if2 .taken)) (called .ensures .0), called .ensures .1)
+    (λ all s. rw (left-over all (start .args .done) s (now (start .args .rest)) some-left (start .pre .0) (below .if2 .taken)) (called .ensures .0), called .ensures .1)
 
 returns-3 : tie.Need-returns-3
 returns-3 c =
     let start = c .before .before .before .before in
-    (λ s. past-left (start .args .done) s (now (start .args .rest)) (now (start .args .out)) (c .if2 .left), omega arith)
+    (λ all s. past-left all (start .args .done) s (now (start .args .rest)) (now (start .args .out)) (c .if2 .left), omega arith)
 
 pub end-spec : {M : Type 1} → statement M
 end-spec = tie.close (tie.spec returns (λ c. search needs) (λ c κs. search needs) (λ c. search needs) returns-2 returns-3)

@@ -9,7 +9,7 @@ use Rattle.replay.proofs.position.put.Tie as tie
 returns : tie.Need-returns
 returns c =
     let start = c .before .before .before .before .before in
-    put-there (start .args .p) (start .args .taken) (now (start .args .part)) (start .args .next) (start .pre .3)
+    put-there (start .args .p) (start .args .taken) (now (start .args .part)) (start .args .next) (start .args .going) (start .pre .1 .0) (start .pre .1 .1)
 
 pub put-spec : {M : Type 1} → statement M
 put-spec =

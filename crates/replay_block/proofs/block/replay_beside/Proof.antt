@@ -69,67 +69,67 @@ use Rattle.replay_block.proofs.Sifted as sifted
 use Rattle.replay_block.proofs.Sifted.{Sifting, none-sifted}
 use Rattle.replay_block.proofs.Sizes.{reachable-sized}
 use Rattle.replay_block.proofs.Turn as turn
-use Rattle.replay_block.proofs.Turns.{none-taken, left-more, left-none, record-there, one-said, said-fits, at-limit, no-record, no-room, no-place}
+use Rattle.replay_block.proofs.Turns.{none-taken, left-more, left-none, record-there, one-said, said-fits, accepted-goes-on, at-limit, no-record, no-room, at-a-refusal, no-place}
 use Rattle.replay_block.proofs.Windows as windows
 use Rattle.replay_block.proofs.block.replay_beside.Statement.{statement}
 use Rattle.replay_block.proofs.block.replay_beside.Tie as tie
 
 -- The row of a process whose pins move: its first j checkpoints are collected.
 abbrev Inv-collected : tie.InvT-collected
-Inv-collected done trace out deleted₀ numbers n vectors pins kept₀ sent held underway last window base first tail empty unused taken written number m place found i mark p at value refused live moved many gone₀ to₀ j₀ deleted kept gone to j = collected.Collecting (named moved) kept₀ i deleted₀ gone₀ j to gone kept deleted × (j ≤ many)
+Inv-collected all done trace out deleted₀ numbers n vectors pins kept₀ sent held underway last window base first tail empty unused taken written going number m place found i mark p at value refused live moved many gone₀ to₀ j₀ deleted kept gone to j = collected.Collecting (named moved) kept₀ i deleted₀ gone₀ j to gone kept deleted × (j ≤ many)
 
 abbrev μ-collected : tie.MeasureT-collected
-μ-collected done trace out deleted₀ numbers n vectors pins kept₀ sent held underway last window base first tail empty unused taken written number m place found i mark p at value refused live moved many gone₀ to₀ j₀ deleted kept gone to j = many - j
+μ-collected all done trace out deleted₀ numbers n vectors pins kept₀ sent held underway last window base first tail empty unused taken written going number m place found i mark p at value refused live moved many gone₀ to₀ j₀ deleted kept gone to j = many - j
 
 -- The member of process f: the latest allowed one of the first a that it keeps.
 abbrev Inv-allowed : tie.InvT-allowed
-Inv-allowed done trace out deleted numbers n vectors pins kept sent held underway last window base first tail empty unused taken written number owns failed marks rolled members back f current held-now allowed searched latest₀ a₀ latest a = (a ≤ searched) × (latest ≡ latestIs (latestBy marks owns (take a (getD kept f []))))
+Inv-allowed all done trace out deleted numbers n vectors pins kept sent held underway last window base first tail empty unused taken written going number owns failed marks rolled members back f current held-now allowed searched latest₀ a₀ latest a = (a ≤ searched) × (latest ≡ latestIs (latestBy marks owns (take a (getD kept f []))))
 
 abbrev μ-allowed : tie.MeasureT-allowed
-μ-allowed done trace out deleted numbers n vectors pins kept sent held underway last window base first tail empty unused taken written number owns failed marks rolled members back f current held-now allowed searched latest₀ a₀ latest a = searched - a
+μ-allowed all done trace out deleted numbers n vectors pins kept sent held underway last window base first tail empty unused taken written going number owns failed marks rolled members back f current held-now allowed searched latest₀ a₀ latest a = searched - a
 
 -- The first f processes have gone back to their members.
 abbrev Inv-returned : tie.InvT-returned
-Inv-returned done trace out deleted numbers n vectors₀ pins kept sent₀ held underway last window base first tail empty unused taken written number owns failed marks rolled₀ members₀ back₀ f₀ vectors sent rolled members back f = Returning n (statesOf n failed vectors₀ kept held) vectors₀ sent₀ vectors sent rolled members back f
+Inv-returned all done trace out deleted numbers n vectors₀ pins kept sent₀ held underway last window base first tail empty unused taken written going number owns failed marks rolled₀ members₀ back₀ f₀ vectors sent rolled members back f = Returning n (statesOf n failed vectors₀ kept held) vectors₀ sent₀ vectors sent rolled members back f
 
 abbrev μ-returned : tie.MeasureT-returned
-μ-returned done trace out deleted numbers n vectors₀ pins kept sent₀ held underway last window base first tail empty unused taken written number owns failed marks rolled₀ members₀ back₀ f₀ vectors sent rolled members back f = n - f
+μ-returned all done trace out deleted numbers n vectors₀ pins kept sent₀ held underway last window base first tail empty unused taken written going number owns failed marks rolled₀ members₀ back₀ f₀ vectors sent rolled members back f = n - f
 
 -- The pins of process q: what is found among the first b that it keeps.
 abbrev Inv-found : tie.InvT-found
-Inv-found done trace out deleted numbers n vectors pins kept sent held underway last window base first tail empty unused taken written number failed rolled members back f owns-then all-gone q has-rolled known held-then pins-now last-kept to-find known-last₀ b₀ known-last b = (b ≤ to-find) × (known-last ≡ latestFound owns-then (notLater last-kept (take b (getD kept q []))))
+Inv-found all done trace out deleted numbers n vectors pins kept sent held underway last window base first tail empty unused taken written going number failed rolled members back f owns-then all-gone q has-rolled known held-then pins-now last-kept to-find known-last₀ b₀ known-last b = (b ≤ to-find) × (known-last ≡ latestFound owns-then (notLater last-kept (take b (getD kept q []))))
 
 abbrev μ-found : tie.MeasureT-found
-μ-found done trace out deleted numbers n vectors pins kept sent held underway last window base first tail empty unused taken written number failed rolled members back f owns-then all-gone q has-rolled known held-then pins-now last-kept to-find known-last₀ b₀ known-last b = to-find - b
+μ-found all done trace out deleted numbers n vectors pins kept sent held underway last window base first tail empty unused taken written going number failed rolled members back f owns-then all-gone q has-rolled known held-then pins-now last-kept to-find known-last₀ b₀ known-last b = to-find - b
 
 -- Its row: the first k checkpoints are collected.
 abbrev Inv-left : tie.InvT-left
-Inv-left done trace out deleted₀ numbers n vectors pins kept₀ sent held underway last window base first tail empty unused taken written number failed rolled members back f owns-then all-gone₀ q has-rolled held-then last-kept to-find b pins-then stay₀ k₀ deleted kept all-gone stay k = collected.Collecting (stays last-kept pins-then) kept₀ q deleted₀ all-gone₀ k stay all-gone kept deleted × (k ≤ held-then)
+Inv-left all done trace out deleted₀ numbers n vectors pins kept₀ sent held underway last window base first tail empty unused taken written going number failed rolled members back f owns-then all-gone₀ q has-rolled held-then last-kept to-find b pins-then stay₀ k₀ deleted kept all-gone stay k = collected.Collecting (stays last-kept pins-then) kept₀ q deleted₀ all-gone₀ k stay all-gone kept deleted × (k ≤ held-then)
 
 abbrev μ-left : tie.MeasureT-left
-μ-left done trace out deleted₀ numbers n vectors pins kept₀ sent held underway last window base first tail empty unused taken written number failed rolled members back f owns-then all-gone₀ q has-rolled held-then last-kept to-find b pins-then stay₀ k₀ deleted kept all-gone stay k = held-then - k
+μ-left all done trace out deleted₀ numbers n vectors pins kept₀ sent held underway last window base first tail empty unused taken written going number failed rolled members back f owns-then all-gone₀ q has-rolled held-then last-kept to-find b pins-then stay₀ k₀ deleted kept all-gone stay k = held-then - k
 
 -- The rows of the first q processes are as they are after the recovery.
 abbrev Inv-restored : tie.InvT-restored
-Inv-restored done trace out deleted₀ numbers n vectors pins₀ kept₀ sent held₀ underway last window base first tail empty unused taken written number failed rolled members back f owns-then all-gone₀ q₀ deleted pins kept held all-gone q = Recovering n vectors owns-then rolled members pins₀ kept₀ held₀ deleted₀ pins kept held deleted all-gone q
+Inv-restored all done trace out deleted₀ numbers n vectors pins₀ kept₀ sent held₀ underway last window base first tail empty unused taken written going number failed rolled members back f owns-then all-gone₀ q₀ deleted pins kept held all-gone q = Recovering n vectors owns-then rolled members pins₀ kept₀ held₀ deleted₀ pins kept held deleted all-gone q
 
 abbrev μ-restored : tie.MeasureT-restored
-μ-restored done trace out deleted₀ numbers n vectors pins₀ kept₀ sent held₀ underway last window base first tail empty unused taken written number failed rolled members back f owns-then all-gone₀ q₀ deleted pins kept held all-gone q = n - q
+μ-restored all done trace out deleted₀ numbers n vectors pins₀ kept₀ sent held₀ underway last window base first tail empty unused taken written going number failed rolled members back f owns-then all-gone₀ q₀ deleted pins kept held all-gone q = n - q
 
 -- The messages before place z: those that were sent up to the line are left.
 abbrev Inv-sifted : tie.InvT-sifted
-Inv-sifted done trace out deleted numbers n vectors pins kept sent held underway₀ last window₀ base first₀ tail empty unused taken written number failed members back f all-gone q outlived₀ z₀ underway window first outlived z = Sifting (outlives members) numbers window₀ first₀ base tail last window first underway outlived z
+Inv-sifted all done trace out deleted numbers n vectors pins kept sent held underway₀ last window₀ base first₀ tail empty unused taken written going number failed members back f all-gone q outlived₀ z₀ underway window first outlived z = Sifting (outlives members) numbers window₀ first₀ base tail last window first underway outlived z
 
 abbrev μ-sifted : tie.MeasureT-sifted
-μ-sifted done trace out deleted numbers n vectors pins kept sent held underway₀ last window₀ base first₀ tail empty unused taken written number failed members back f all-gone q outlived₀ z₀ underway window first outlived z = tail - z
+μ-sifted all done trace out deleted numbers n vectors pins kept sent held underway₀ last window₀ base first₀ tail empty unused taken written going number failed members back f all-gone q outlived₀ z₀ underway window first outlived z = tail - z
 
 abbrev Inv-records : tie.InvT-records
-Inv-records done trace out₀ deleted₀ numbers n vectors₀ pins₀ kept₀ sent₀ held₀ underway₀ last₀ window₀ base first₀ tail₀ empty unused taken₀ written₀ out deleted vectors pins kept sent held underway last window first tail taken written =
-    Between (stateInPlace n vectors₀ pins₀ kept₀ sent₀ held₀ (messagesIn window₀ first₀ tail₀) last₀) done (drop 1 trace) out₀ numbers
-    (stateInPlace n vectors pins kept sent held (messagesIn window first tail) last) taken out deleted written window base first tail underway last
+Inv-records all done trace out₀ deleted₀ numbers n vectors₀ pins₀ kept₀ sent₀ held₀ underway₀ last₀ window₀ base first₀ tail₀ empty unused taken₀ written₀ going₀ out deleted vectors pins kept sent held underway last window first tail taken written going =
+    Between all (stateInPlace n vectors₀ pins₀ kept₀ sent₀ held₀ (messagesIn window₀ first₀ tail₀) last₀) done (drop 1 trace) out₀ numbers
+    (stateInPlace n vectors pins kept sent held (messagesIn window first tail) last) taken out deleted written going window base first tail underway last
 
 abbrev μ-records : tie.MeasureT-records
-μ-records done trace out₀ deleted₀ numbers n vectors₀ pins₀ kept₀ sent₀ held₀ underway₀ last₀ window₀ base first₀ tail₀ empty unused taken₀ written₀ out deleted vectors pins kept sent held underway last window first tail taken written = length (drop 1 trace) - 4 * taken
+μ-records all done trace out₀ deleted₀ numbers n vectors₀ pins₀ kept₀ sent₀ held₀ underway₀ last₀ window₀ base first₀ tail₀ empty unused taken₀ written₀ going₀ out deleted vectors pins kept sent held underway last window first tail taken written going = length (drop 1 trace) - 4 * taken
 
 -- The places that are named below, and the roads between them.
 abbrev Start : Type 0
@@ -168,14 +168,17 @@ Then2 = tie.Then2 Inv-collected μ-collected Inv-allowed μ-allowed Inv-returned
 abbrev Then3 : Type 0
 Then3 = tie.Then3 Inv-collected μ-collected Inv-allowed μ-allowed Inv-returned μ-returned Inv-found μ-found Inv-left μ-left Inv-restored μ-restored Inv-sifted μ-sifted Inv-records μ-records
 
+abbrev Then4 : Type 0
+Then4 = tie.Then4 Inv-collected μ-collected Inv-allowed μ-allowed Inv-returned μ-returned Inv-found μ-found Inv-left μ-left Inv-restored μ-restored Inv-sifted μ-sifted Inv-records μ-records
+
 abbrev After-decode : Type 0
 After-decode = tie.After-decode Inv-collected μ-collected Inv-allowed μ-allowed Inv-returned μ-returned Inv-found μ-found Inv-left μ-left Inv-restored μ-restored Inv-sifted μ-sifted Inv-records μ-records
 
 abbrev After-recovery-of : Type 0
 After-recovery-of = tie.After-recovery-of Inv-collected μ-collected Inv-allowed μ-allowed Inv-returned μ-returned Inv-found μ-found Inv-left μ-left Inv-restored μ-restored Inv-sifted μ-sifted Inv-records μ-records
 
-abbrev Then4 : Type 0
-Then4 = tie.Then4 Inv-collected μ-collected Inv-allowed μ-allowed Inv-returned μ-returned Inv-found μ-found Inv-left μ-left Inv-restored μ-restored Inv-sifted μ-sifted Inv-records μ-records
+abbrev Then5 : Type 0
+Then5 = tie.Then5 Inv-collected μ-collected Inv-allowed μ-allowed Inv-returned μ-returned Inv-found μ-found Inv-left μ-left Inv-restored μ-restored Inv-sifted μ-sifted Inv-records μ-records
 
 abbrev After-sought : Type 0
 After-sought = tie.After-sought Inv-collected μ-collected Inv-allowed μ-allowed Inv-returned μ-returned Inv-found μ-found Inv-left μ-left Inv-restored μ-restored Inv-sifted μ-sifted Inv-records μ-records
@@ -204,8 +207,8 @@ After-value-of = tie.After-value-of Inv-collected μ-collected Inv-allowed μ-al
 abbrev After-number-of : Type 0
 After-number-of = tie.After-number-of Inv-collected μ-collected Inv-allowed μ-allowed Inv-returned μ-returned Inv-found μ-found Inv-left μ-left Inv-restored μ-restored Inv-sifted μ-sifted Inv-records μ-records
 
-abbrev Then5 : Type 0
-Then5 = tie.Then5 Inv-collected μ-collected Inv-allowed μ-allowed Inv-returned μ-returned Inv-found μ-found Inv-left μ-left Inv-restored μ-restored Inv-sifted μ-sifted Inv-records μ-records
+abbrev Then6 : Type 0
+Then6 = tie.Then6 Inv-collected μ-collected Inv-allowed μ-allowed Inv-returned μ-returned Inv-found μ-found Inv-left μ-left Inv-restored μ-restored Inv-sifted μ-sifted Inv-records μ-records
 
 abbrev After-live-from : Type 0
 After-live-from = tie.After-live-from Inv-collected μ-collected Inv-allowed μ-allowed Inv-returned μ-returned Inv-found μ-found Inv-left μ-left Inv-restored μ-restored Inv-sifted μ-sifted Inv-records μ-records
@@ -228,11 +231,11 @@ In-collected = tie.In-collected Inv-collected μ-collected Inv-allowed μ-allowe
 abbrev After-collected : Type 0
 After-collected = tie.After-collected Inv-collected μ-collected Inv-allowed μ-allowed Inv-returned μ-returned Inv-found μ-found Inv-left μ-left Inv-restored μ-restored Inv-sifted μ-sifted Inv-records μ-records
 
-abbrev Then6 : Type 0
-Then6 = tie.Then6 Inv-collected μ-collected Inv-allowed μ-allowed Inv-returned μ-returned Inv-found μ-found Inv-left μ-left Inv-restored μ-restored Inv-sifted μ-sifted Inv-records μ-records
+abbrev Then7 : Type 0
+Then7 = tie.Then7 Inv-collected μ-collected Inv-allowed μ-allowed Inv-returned μ-returned Inv-found μ-found Inv-left μ-left Inv-restored μ-restored Inv-sifted μ-sifted Inv-records μ-records
 
-abbrev Else6 : Type 0
-Else6 = tie.Else6 Inv-collected μ-collected Inv-allowed μ-allowed Inv-returned μ-returned Inv-found μ-found Inv-left μ-left Inv-restored μ-restored Inv-sifted μ-sifted Inv-records μ-records
+abbrev Else7 : Type 0
+Else7 = tie.Else7 Inv-collected μ-collected Inv-allowed μ-allowed Inv-returned μ-returned Inv-found μ-found Inv-left μ-left Inv-restored μ-restored Inv-sifted μ-sifted Inv-records μ-records
 
 abbrev After-place : Type 0
 After-place = tie.After-place Inv-collected μ-collected Inv-allowed μ-allowed Inv-returned μ-returned Inv-found μ-found Inv-left μ-left Inv-restored μ-restored Inv-sifted μ-sifted Inv-records μ-records
@@ -246,17 +249,20 @@ After-print-arg2 = tie.After-print-arg2 Inv-collected μ-collected Inv-allowed �
 abbrev After-slice-known3 : Type 0
 After-slice-known3 = tie.After-slice-known3 Inv-collected μ-collected Inv-allowed μ-allowed Inv-returned μ-returned Inv-found μ-found Inv-left μ-left Inv-restored μ-restored Inv-sifted μ-sifted Inv-records μ-records
 
-abbrev Else5 : Type 0
-Else5 = tie.Else5 Inv-collected μ-collected Inv-allowed μ-allowed Inv-returned μ-returned Inv-found μ-found Inv-left μ-left Inv-restored μ-restored Inv-sifted μ-sifted Inv-records μ-records
+abbrev Else6 : Type 0
+Else6 = tie.Else6 Inv-collected μ-collected Inv-allowed μ-allowed Inv-returned μ-returned Inv-found μ-found Inv-left μ-left Inv-restored μ-restored Inv-sifted μ-sifted Inv-records μ-records
 
 abbrev After-print-arg4 : Type 0
 After-print-arg4 = tie.After-print-arg4 Inv-collected μ-collected Inv-allowed μ-allowed Inv-returned μ-returned Inv-found μ-found Inv-left μ-left Inv-restored μ-restored Inv-sifted μ-sifted Inv-records μ-records
 
-abbrev After-slice-known4 : Type 0
-After-slice-known4 = tie.After-slice-known4 Inv-collected μ-collected Inv-allowed μ-allowed Inv-returned μ-returned Inv-found μ-found Inv-left μ-left Inv-restored μ-restored Inv-sifted μ-sifted Inv-records μ-records
+abbrev After-print2 : Type 0
+After-print2 = tie.After-print2 Inv-collected μ-collected Inv-allowed μ-allowed Inv-returned μ-returned Inv-found μ-found Inv-left μ-left Inv-restored μ-restored Inv-sifted μ-sifted Inv-records μ-records
 
-abbrev Else4 : Type 0
-Else4 = tie.Else4 Inv-collected μ-collected Inv-allowed μ-allowed Inv-returned μ-returned Inv-found μ-found Inv-left μ-left Inv-restored μ-restored Inv-sifted μ-sifted Inv-records μ-records
+abbrev After-goes-on : Type 0
+After-goes-on = tie.After-goes-on Inv-collected μ-collected Inv-allowed μ-allowed Inv-returned μ-returned Inv-found μ-found Inv-left μ-left Inv-restored μ-restored Inv-sifted μ-sifted Inv-records μ-records
+
+abbrev Else5 : Type 0
+Else5 = tie.Else5 Inv-collected μ-collected Inv-allowed μ-allowed Inv-returned μ-returned Inv-found μ-found Inv-left μ-left Inv-restored μ-restored Inv-sifted μ-sifted Inv-records μ-records
 
 abbrev After-own-entries : Type 0
 After-own-entries = tie.After-own-entries Inv-collected μ-collected Inv-allowed μ-allowed Inv-returned μ-returned Inv-found μ-found Inv-left μ-left Inv-restored μ-restored Inv-sifted μ-sifted Inv-records μ-records
@@ -339,11 +345,11 @@ In-left = tie.In-left Inv-collected μ-collected Inv-allowed μ-allowed Inv-retu
 abbrev After-left : Type 0
 After-left = tie.After-left Inv-collected μ-collected Inv-allowed μ-allowed Inv-returned μ-returned Inv-found μ-found Inv-left μ-left Inv-restored μ-restored Inv-sifted μ-sifted Inv-records μ-records
 
-abbrev Then7 : Type 0
-Then7 = tie.Then7 Inv-collected μ-collected Inv-allowed μ-allowed Inv-returned μ-returned Inv-found μ-found Inv-left μ-left Inv-restored μ-restored Inv-sifted μ-sifted Inv-records μ-records
+abbrev Then8 : Type 0
+Then8 = tie.Then8 Inv-collected μ-collected Inv-allowed μ-allowed Inv-returned μ-returned Inv-found μ-found Inv-left μ-left Inv-restored μ-restored Inv-sifted μ-sifted Inv-records μ-records
 
-abbrev Else7 : Type 0
-Else7 = tie.Else7 Inv-collected μ-collected Inv-allowed μ-allowed Inv-returned μ-returned Inv-found μ-found Inv-left μ-left Inv-restored μ-restored Inv-sifted μ-sifted Inv-records μ-records
+abbrev Else8 : Type 0
+Else8 = tie.Else8 Inv-collected μ-collected Inv-allowed μ-allowed Inv-returned μ-returned Inv-found μ-found Inv-left μ-left Inv-restored μ-restored Inv-sifted μ-sifted Inv-records μ-records
 
 abbrev At-sifted : Type 0
 At-sifted = tie.At-sifted Inv-collected μ-collected Inv-allowed μ-allowed Inv-returned μ-returned Inv-found μ-found Inv-left μ-left Inv-restored μ-restored Inv-sifted μ-sifted Inv-records μ-records
@@ -354,17 +360,17 @@ In-sifted = tie.In-sifted Inv-collected μ-collected Inv-allowed μ-allowed Inv-
 abbrev After-sifted : Type 0
 After-sifted = tie.After-sifted Inv-collected μ-collected Inv-allowed μ-allowed Inv-returned μ-returned Inv-found μ-found Inv-left μ-left Inv-restored μ-restored Inv-sifted μ-sifted Inv-records μ-records
 
-abbrev Then8 : Type 0
-Then8 = tie.Then8 Inv-collected μ-collected Inv-allowed μ-allowed Inv-returned μ-returned Inv-found μ-found Inv-left μ-left Inv-restored μ-restored Inv-sifted μ-sifted Inv-records μ-records
+abbrev Then9 : Type 0
+Then9 = tie.Then9 Inv-collected μ-collected Inv-allowed μ-allowed Inv-returned μ-returned Inv-found μ-found Inv-left μ-left Inv-restored μ-restored Inv-sifted μ-sifted Inv-records μ-records
 
 abbrev After-first-from : Type 0
 After-first-from = tie.After-first-from Inv-collected μ-collected Inv-allowed μ-allowed Inv-returned μ-returned Inv-found μ-found Inv-left μ-left Inv-restored μ-restored Inv-sifted μ-sifted Inv-records μ-records
 
+abbrev Else10 : Type 0
+Else10 = tie.Else10 Inv-collected μ-collected Inv-allowed μ-allowed Inv-returned μ-returned Inv-found μ-found Inv-left μ-left Inv-restored μ-restored Inv-sifted μ-sifted Inv-records μ-records
+
 abbrev Else9 : Type 0
 Else9 = tie.Else9 Inv-collected μ-collected Inv-allowed μ-allowed Inv-returned μ-returned Inv-found μ-found Inv-left μ-left Inv-restored μ-restored Inv-sifted μ-sifted Inv-records μ-records
-
-abbrev Else8 : Type 0
-Else8 = tie.Else8 Inv-collected μ-collected Inv-allowed μ-allowed Inv-returned μ-returned Inv-found μ-found Inv-left μ-left Inv-restored μ-restored Inv-sifted μ-sifted Inv-records μ-records
 
 abbrev After-print-arg6 : Type 0
 After-print-arg6 = tie.After-print-arg6 Inv-collected μ-collected Inv-allowed μ-allowed Inv-returned μ-returned Inv-found μ-found Inv-left μ-left Inv-restored μ-restored Inv-sifted μ-sifted Inv-records μ-records
@@ -382,7 +388,7 @@ abbrev After-kept-from : Type 0
 After-kept-from = tie.After-kept-from Inv-collected μ-collected Inv-allowed μ-allowed Inv-returned μ-returned Inv-found μ-found Inv-left μ-left Inv-restored μ-restored Inv-sifted μ-sifted Inv-records μ-records
 
 abbrev from-After-allowed-to-At-records : After-allowed → At-records
-from-After-allowed-to-At-records c = c .before .before .before .before .before .before .before .before .before .before .before .before .before .before .before .before .before .before .before .before
+from-After-allowed-to-At-records c = c .before .before .before .before .before .before .before .before .before .before .before .before .before .before .before .before .before .before .before .before .before
 
 abbrev from-After-allowed-to-At-returned : After-allowed → At-returned
 from-After-allowed-to-At-returned c = c .before .before .before .before .before .before .before
@@ -409,16 +415,16 @@ abbrev from-After-carried-to-After-sought : After-carried → After-sought
 from-After-carried-to-After-sought c = c .before .before .before .before .before .before .before .before .before .before .before .before .before .before
 
 abbrev from-After-carried-to-At-records : After-carried → At-records
-from-After-carried-to-At-records c = c .before .before .before .before .before .before .before .before .before .before .before .before .before .before .before .before .before .before .before .before .before .before .before .before .before
+from-After-carried-to-At-records c = c .before .before .before .before .before .before .before .before .before .before .before .before .before .before .before .before .before .before .before .before .before .before .before .before .before .before
 
 abbrev from-After-carried-to-In-records : After-carried → In-records
-from-After-carried-to-In-records c = c .before .before .before .before .before .before .before .before .before .before .before .before .before .before .before .before .before .before .before .before .before .before .before .before
-
-abbrev from-After-carried-to-Then4 : After-carried → Then4
-from-After-carried-to-Then4 c = c .before .before .before .before .before .before .before .before .before .before .before .before .before .before .before
+from-After-carried-to-In-records c = c .before .before .before .before .before .before .before .before .before .before .before .before .before .before .before .before .before .before .before .before .before .before .before .before .before
 
 abbrev from-After-carried-to-Then5 : After-carried → Then5
-from-After-carried-to-Then5 c = c .before .before .before
+from-After-carried-to-Then5 c = c .before .before .before .before .before .before .before .before .before .before .before .before .before .before .before
+
+abbrev from-After-carried-to-Then6 : After-carried → Then6
+from-After-carried-to-Then6 c = c .before .before .before
 
 abbrev from-After-collected-to-After-decode : After-collected → After-decode
 from-After-collected-to-After-decode c = c .before .before .before .before .before .before .before .before .before .before .before .before .before .before .before .before .before .before .before .before .before .before
@@ -448,16 +454,16 @@ abbrev from-After-collected-to-After-value-of : After-collected → After-value-
 from-After-collected-to-After-value-of c = c .before .before .before .before .before .before .before .before .before
 
 abbrev from-After-collected-to-At-records : After-collected → At-records
-from-After-collected-to-At-records c = c .before .before .before .before .before .before .before .before .before .before .before .before .before .before .before .before .before .before .before .before .before .before .before .before .before .before .before .before .before
+from-After-collected-to-At-records c = c .before .before .before .before .before .before .before .before .before .before .before .before .before .before .before .before .before .before .before .before .before .before .before .before .before .before .before .before .before .before
 
 abbrev from-After-collected-to-In-records : After-collected → In-records
-from-After-collected-to-In-records c = c .before .before .before .before .before .before .before .before .before .before .before .before .before .before .before .before .before .before .before .before .before .before .before .before .before .before .before .before
-
-abbrev from-After-collected-to-Then4 : After-collected → Then4
-from-After-collected-to-Then4 c = c .before .before .before .before .before .before .before .before .before .before .before .before .before .before .before .before .before .before .before
+from-After-collected-to-In-records c = c .before .before .before .before .before .before .before .before .before .before .before .before .before .before .before .before .before .before .before .before .before .before .before .before .before .before .before .before .before
 
 abbrev from-After-collected-to-Then5 : After-collected → Then5
-from-After-collected-to-Then5 c = c .before .before .before .before .before .before .before
+from-After-collected-to-Then5 c = c .before .before .before .before .before .before .before .before .before .before .before .before .before .before .before .before .before .before .before
+
+abbrev from-After-collected-to-Then6 : After-collected → Then6
+from-After-collected-to-Then6 c = c .before .before .before .before .before .before .before
 
 abbrev from-After-count-to-After-collected : After-count → After-collected
 from-After-count-to-After-collected c = c .before .before .before .before
@@ -493,34 +499,37 @@ abbrev from-After-count-to-At-collected : After-count → At-collected
 from-After-count-to-At-collected c = c .before .before .before .before .before
 
 abbrev from-After-count-to-At-records : After-count → At-records
-from-After-count-to-At-records c = c .before .before .before .before .before .before .before .before .before .before .before .before .before .before .before .before .before .before .before .before .before .before .before .before .before .before .before .before .before .before .before .before .before
+from-After-count-to-At-records c = c .before .before .before .before .before .before .before .before .before .before .before .before .before .before .before .before .before .before .before .before .before .before .before .before .before .before .before .before .before .before .before .before .before .before
 
 abbrev from-After-count-to-In-records : After-count → In-records
-from-After-count-to-In-records c = c .before .before .before .before .before .before .before .before .before .before .before .before .before .before .before .before .before .before .before .before .before .before .before .before .before .before .before .before .before .before .before .before
+from-After-count-to-In-records c = c .before .before .before .before .before .before .before .before .before .before .before .before .before .before .before .before .before .before .before .before .before .before .before .before .before .before .before .before .before .before .before .before .before
 
 abbrev from-After-count-to-Start : After-count → Start
-from-After-count-to-Start c = c .before .before .before .before .before .before .before .before .before .before .before .before .before .before .before .before .before .before .before .before .before .before .before .before .before .before .before .before .before .before .before .before .before .before .before .before .before .before .before .before .before .before .before .before .before .before .before
-
-abbrev from-After-count-to-Then4 : After-count → Then4
-from-After-count-to-Then4 c = c .before .before .before .before .before .before .before .before .before .before .before .before .before .before .before .before .before .before .before .before .before .before .before
+from-After-count-to-Start c = c .before .before .before .before .before .before .before .before .before .before .before .before .before .before .before .before .before .before .before .before .before .before .before .before .before .before .before .before .before .before .before .before .before .before .before .before .before .before .before .before .before .before .before .before .before .before .before .before
 
 abbrev from-After-count-to-Then5 : After-count → Then5
-from-After-count-to-Then5 c = c .before .before .before .before .before .before .before .before .before .before .before
+from-After-count-to-Then5 c = c .before .before .before .before .before .before .before .before .before .before .before .before .before .before .before .before .before .before .before .before .before .before .before
+
+abbrev from-After-count-to-Then6 : After-count → Then6
+from-After-count-to-Then6 c = c .before .before .before .before .before .before .before .before .before .before .before
 
 abbrev from-After-decode-to-After-record-left : After-decode → After-record-left
-from-After-decode-to-After-record-left c = c .before .before .before .before
+from-After-decode-to-After-record-left c = c .before .before .before .before .before
 
 abbrev from-After-decode-to-At-records : After-decode → At-records
-from-After-decode-to-At-records c = c .before .before .before .before .before .before .before
+from-After-decode-to-At-records c = c .before .before .before .before .before .before .before .before
 
 abbrev from-After-decode-to-Start : After-decode → Start
-from-After-decode-to-Start c = c .before .before .before .before .before .before .before .before .before .before .before .before .before .before .before .before .before .before .before .before .before
+from-After-decode-to-Start c = c .before .before .before .before .before .before .before .before .before .before .before .before .before .before .before .before .before .before .before .before .before .before
 
 abbrev from-After-decode-to-Then2 : After-decode → Then2
-from-After-decode-to-Then2 c = c .before .before .before
+from-After-decode-to-Then2 c = c .before .before .before .before
+
+abbrev from-After-decode-to-Then3 : After-decode → Then3
+from-After-decode-to-Then3 c = c .before .before .before
 
 abbrev from-After-first-from-to-At-records : After-first-from → At-records
-from-After-first-from-to-At-records c = c .before .before .before .before .before .before .before .before .before .before .before .before .before .before .before .before .before .before .before .before .before .before .before .before .before
+from-After-first-from-to-At-records c = c .before .before .before .before .before .before .before .before .before .before .before .before .before .before .before .before .before .before .before .before .before .before .before .before .before .before
 
 abbrev from-After-first-from-to-At-sifted : After-first-from → At-sifted
 from-After-first-from-to-At-sifted c = c .before .before .before .before .before .before .before
@@ -528,8 +537,8 @@ from-After-first-from-to-At-sifted c = c .before .before .before .before .before
 abbrev from-After-first-from-to-In-sifted : After-first-from → In-sifted
 from-After-first-from-to-In-sifted c = c .before .before .before .before .before .before
 
-abbrev from-After-first-from-to-Then8 : After-first-from → Then8
-from-After-first-from-to-Then8 c = c .before .before .before
+abbrev from-After-first-from-to-Then9 : After-first-from → Then9
+from-After-first-from-to-Then9 c = c .before .before .before
 
 abbrev from-After-found-to-After-to-search2 : After-found → After-to-search2
 from-After-found-to-After-to-search2 c = c .before .before .before
@@ -545,6 +554,45 @@ from-After-found-with-to-At-restored c = c .before .before .before .before .befo
 
 abbrev from-After-found-with-to-In-restored : After-found-with → In-restored
 from-After-found-with-to-In-restored c = c .before .before .before .before .before .before .before .before .before
+
+abbrev from-After-goes-on-to-After-decode : After-goes-on → After-decode
+from-After-goes-on-to-After-decode c = c .before .before .before .before .before .before .before .before .before .before .before .before .before .before .before .before .before .before .before .before .before
+
+abbrev from-After-goes-on-to-After-is-there : After-goes-on → After-is-there
+from-After-goes-on-to-After-is-there c = c .before .before .before .before .before .before .before .before .before .before .before .before .before .before
+
+abbrev from-After-goes-on-to-After-place-in : After-goes-on → After-place-in
+from-After-goes-on-to-After-place-in c = c .before .before .before .before .before .before .before .before .before .before .before .before .before .before .before .before
+
+abbrev from-After-goes-on-to-After-plan-of : After-goes-on → After-plan-of
+from-After-goes-on-to-After-plan-of c = c .before .before .before .before .before .before .before .before .before .before
+
+abbrev from-After-goes-on-to-After-print2 : After-goes-on → After-print2
+from-After-goes-on-to-After-print2 c = c .before .before .before
+
+abbrev from-After-goes-on-to-After-row-of : After-goes-on → After-row-of
+from-After-goes-on-to-After-row-of c = c .before .before .before .before .before .before .before .before .before .before .before .before .before
+
+abbrev from-After-goes-on-to-After-sought : After-goes-on → After-sought
+from-After-goes-on-to-After-sought c = c .before .before .before .before .before .before .before .before .before .before .before .before .before .before .before .before .before
+
+abbrev from-After-goes-on-to-At-records : After-goes-on → At-records
+from-After-goes-on-to-At-records c = c .before .before .before .before .before .before .before .before .before .before .before .before .before .before .before .before .before .before .before .before .before .before .before .before .before .before .before .before .before
+
+abbrev from-After-goes-on-to-Else6 : After-goes-on → Else6
+from-After-goes-on-to-Else6 c = c .before .before .before .before .before .before
+
+abbrev from-After-goes-on-to-In-records : After-goes-on → In-records
+from-After-goes-on-to-In-records c = c .before .before .before .before .before .before .before .before .before .before .before .before .before .before .before .before .before .before .before .before .before .before .before .before .before .before .before .before
+
+abbrev from-After-goes-on-to-Then3 : After-goes-on → Then3
+from-After-goes-on-to-Then3 c = c .before .before .before .before .before .before .before .before .before .before .before .before .before .before .before .before .before .before .before .before .before .before .before .before
+
+abbrev from-After-goes-on-to-Then4 : After-goes-on → Then4
+from-After-goes-on-to-Then4 c = c .before .before .before .before .before .before .before .before .before .before .before .before .before .before .before .before .before .before .before .before .before .before .before
+
+abbrev from-After-goes-on-to-Then5 : After-goes-on → Then5
+from-After-goes-on-to-Then5 c = c .before .before .before .before .before .before .before .before .before .before .before .before .before .before .before .before .before .before
 
 abbrev from-After-index-to-After-allowed : After-index → After-allowed
 from-After-index-to-After-allowed c = c .before .before .before .before
@@ -571,7 +619,7 @@ abbrev from-After-index-to-At-allowed : After-index → At-allowed
 from-After-index-to-At-allowed c = c .before .before .before .before .before
 
 abbrev from-After-index-to-At-records : After-index → At-records
-from-After-index-to-At-records c = c .before .before .before .before .before .before .before .before .before .before .before .before .before .before .before .before .before .before .before .before .before .before .before .before
+from-After-index-to-At-records c = c .before .before .before .before .before .before .before .before .before .before .before .before .before .before .before .before .before .before .before .before .before .before .before .before .before
 
 abbrev from-After-index-to-At-returned : After-index → At-returned
 from-After-index-to-At-returned c = c .before .before .before .before .before .before .before .before .before .before .before
@@ -601,7 +649,7 @@ abbrev from-After-latest-with-to-At-allowed : After-latest-with → At-allowed
 from-After-latest-with-to-At-allowed c = c .before .before .before
 
 abbrev from-After-latest-with-to-At-records : After-latest-with → At-records
-from-After-latest-with-to-At-records c = c .before .before .before .before .before .before .before .before .before .before .before .before .before .before .before .before .before .before .before .before .before .before
+from-After-latest-with-to-At-records c = c .before .before .before .before .before .before .before .before .before .before .before .before .before .before .before .before .before .before .before .before .before .before .before
 
 abbrev from-After-latest-with-to-At-returned : After-latest-with → At-returned
 from-After-latest-with-to-At-returned c = c .before .before .before .before .before .before .before .before .before
@@ -610,7 +658,7 @@ abbrev from-After-latest-with-to-In-returned : After-latest-with → In-returned
 from-After-latest-with-to-In-returned c = c .before .before .before .before .before .before .before .before
 
 abbrev from-After-left-to-At-records : After-left → At-records
-from-After-left-to-At-records c = c .before .before .before .before .before .before .before .before .before .before .before .before .before .before .before .before .before .before .before .before .before .before .before .before .before .before .before
+from-After-left-to-At-records c = c .before .before .before .before .before .before .before .before .before .before .before .before .before .before .before .before .before .before .before .before .before .before .before .before .before .before .before .before
 
 abbrev from-After-left-to-At-restored : After-left → At-restored
 from-After-left-to-At-restored c = c .before .before .before .before .before .before .before .before .before .before .before
@@ -625,7 +673,7 @@ abbrev from-After-live-from-to-After-row-of : After-live-from → After-row-of
 from-After-live-from-to-After-row-of c = c .before .before .before .before .before .before .before .before
 
 abbrev from-After-live-from-to-At-records : After-live-from → At-records
-from-After-live-from-to-At-records c = c .before .before .before .before .before .before .before .before .before .before .before .before .before .before .before .before .before .before .before .before .before .before .before
+from-After-live-from-to-At-records c = c .before .before .before .before .before .before .before .before .before .before .before .before .before .before .before .before .before .before .before .before .before .before .before .before
 
 abbrev from-After-member-to-At-returned : After-member → At-returned
 from-After-member-to-At-returned c = c .before .before .before .before .before .before .before .before
@@ -658,7 +706,7 @@ abbrev from-After-no-message-to-Start : After-no-message → Start
 from-After-no-message-to-Start c = c .before .before .before .before .before .before .before .before .before .before .before .before .before
 
 abbrev from-After-own-entries-to-At-records : After-own-entries → At-records
-from-After-own-entries-to-At-records c = c .before .before .before .before .before .before .before .before .before .before .before
+from-After-own-entries-to-At-records c = c .before .before .before .before .before .before .before .before .before .before .before .before
 
 abbrev from-After-own-to-After-decode : After-own → After-decode
 from-After-own-to-After-decode c = c .before .before .before .before .before .before .before .before .before .before
@@ -673,13 +721,13 @@ abbrev from-After-own-to-After-sought : After-own → After-sought
 from-After-own-to-After-sought c = c .before .before .before .before .before .before
 
 abbrev from-After-own-to-At-records : After-own → At-records
-from-After-own-to-At-records c = c .before .before .before .before .before .before .before .before .before .before .before .before .before .before .before .before .before
+from-After-own-to-At-records c = c .before .before .before .before .before .before .before .before .before .before .before .before .before .before .before .before .before .before
 
 abbrev from-After-own-to-In-records : After-own → In-records
-from-After-own-to-In-records c = c .before .before .before .before .before .before .before .before .before .before .before .before .before .before .before .before
+from-After-own-to-In-records c = c .before .before .before .before .before .before .before .before .before .before .before .before .before .before .before .before .before
 
-abbrev from-After-own-to-Then4 : After-own → Then4
-from-After-own-to-Then4 c = c .before .before .before .before .before .before .before
+abbrev from-After-own-to-Then5 : After-own → Then5
+from-After-own-to-Then5 c = c .before .before .before .before .before .before .before
 
 abbrev from-After-pins-found-to-After-own-entries2 : After-pins-found → After-own-entries2
 from-After-pins-found-to-After-own-entries2 c = c .before .before .before .before .before .before .before .before .before .before
@@ -718,22 +766,22 @@ abbrev from-After-pins-then-to-After-sought : After-pins-then → After-sought
 from-After-pins-then-to-After-sought c = c .before .before .before .before .before .before .before .before .before .before .before .before .before .before .before
 
 abbrev from-After-pins-then-to-At-records : After-pins-then → At-records
-from-After-pins-then-to-At-records c = c .before .before .before .before .before .before .before .before .before .before .before .before .before .before .before .before .before .before .before .before .before .before .before .before .before .before
+from-After-pins-then-to-At-records c = c .before .before .before .before .before .before .before .before .before .before .before .before .before .before .before .before .before .before .before .before .before .before .before .before .before .before .before
 
 abbrev from-After-pins-then-to-In-records : After-pins-then → In-records
-from-After-pins-then-to-In-records c = c .before .before .before .before .before .before .before .before .before .before .before .before .before .before .before .before .before .before .before .before .before .before .before .before .before
-
-abbrev from-After-pins-then-to-Then4 : After-pins-then → Then4
-from-After-pins-then-to-Then4 c = c .before .before .before .before .before .before .before .before .before .before .before .before .before .before .before .before
+from-After-pins-then-to-In-records c = c .before .before .before .before .before .before .before .before .before .before .before .before .before .before .before .before .before .before .before .before .before .before .before .before .before .before
 
 abbrev from-After-pins-then-to-Then5 : After-pins-then → Then5
-from-After-pins-then-to-Then5 c = c .before .before .before .before
+from-After-pins-then-to-Then5 c = c .before .before .before .before .before .before .before .before .before .before .before .before .before .before .before .before
+
+abbrev from-After-pins-then-to-Then6 : After-pins-then → Then6
+from-After-pins-then-to-Then6 c = c .before .before .before .before
 
 abbrev from-After-place-in-to-At-records : After-place-in → At-records
-from-After-place-in-to-At-records c = c .before .before .before .before .before .before .before .before .before .before .before .before
+from-After-place-in-to-At-records c = c .before .before .before .before .before .before .before .before .before .before .before .before .before
 
 abbrev from-After-place-in-to-In-records : After-place-in → In-records
-from-After-place-in-to-In-records c = c .before .before .before .before .before .before .before .before .before .before .before
+from-After-place-in-to-In-records c = c .before .before .before .before .before .before .before .before .before .before .before .before
 
 abbrev from-After-place-to-After-collected : After-place → After-collected
 from-After-place-to-After-collected c = c .before .before .before
@@ -754,7 +802,7 @@ abbrev from-After-place-to-At-collected : After-place → At-collected
 from-After-place-to-At-collected c = c .before .before .before .before
 
 abbrev from-After-place-to-At-records : After-place → At-records
-from-After-place-to-At-records c = c .before .before .before .before .before .before .before .before .before .before .before .before .before .before .before .before .before .before .before .before .before .before .before .before .before .before .before .before .before .before .before .before
+from-After-place-to-At-records c = c .before .before .before .before .before .before .before .before .before .before .before .before .before .before .before .before .before .before .before .before .before .before .before .before .before .before .before .before .before .before .before .before .before
 
 abbrev from-After-plan-of-to-After-row-of : After-plan-of → After-row-of
 from-After-plan-of-to-After-row-of c = c .before .before .before
@@ -766,19 +814,19 @@ abbrev from-After-print-arg2-to-After-decode : After-print-arg2 → After-decode
 from-After-print-arg2-to-After-decode c = c .before .before .before .before .before .before .before .before .before .before .before .before .before .before .before .before .before .before .before .before .before .before .before .before .before .before .before .before
 
 abbrev from-After-print-arg2-to-At-records : After-print-arg2 → At-records
-from-After-print-arg2-to-At-records c = c .before .before .before .before .before .before .before .before .before .before .before .before .before .before .before .before .before .before .before .before .before .before .before .before .before .before .before .before .before .before .before .before .before .before .before
+from-After-print-arg2-to-At-records c = c .before .before .before .before .before .before .before .before .before .before .before .before .before .before .before .before .before .before .before .before .before .before .before .before .before .before .before .before .before .before .before .before .before .before .before .before
 
 abbrev from-After-print-arg2-to-Then3 : After-print-arg2 → Then3
-from-After-print-arg2-to-Then3 c = c .before .before .before .before .before .before .before .before .before .before .before .before .before .before .before .before .before .before .before .before .before .before .before .before .before .before .before .before .before .before
+from-After-print-arg2-to-Then3 c = c .before .before .before .before .before .before .before .before .before .before .before .before .before .before .before .before .before .before .before .before .before .before .before .before .before .before .before .before .before .before .before
 
 abbrev from-After-print-arg4-to-After-decode : After-print-arg4 → After-decode
 from-After-print-arg4-to-After-decode c = c .before .before .before .before .before .before .before .before .before .before .before .before .before .before .before .before .before
 
 abbrev from-After-print-arg4-to-At-records : After-print-arg4 → At-records
-from-After-print-arg4-to-At-records c = c .before .before .before .before .before .before .before .before .before .before .before .before .before .before .before .before .before .before .before .before .before .before .before .before
+from-After-print-arg4-to-At-records c = c .before .before .before .before .before .before .before .before .before .before .before .before .before .before .before .before .before .before .before .before .before .before .before .before .before
 
 abbrev from-After-print-arg4-to-Then3 : After-print-arg4 → Then3
-from-After-print-arg4-to-Then3 c = c .before .before .before .before .before .before .before .before .before .before .before .before .before .before .before .before .before .before .before
+from-After-print-arg4-to-Then3 c = c .before .before .before .before .before .before .before .before .before .before .before .before .before .before .before .before .before .before .before .before
 
 abbrev from-After-print-arg6-to-After-decode : After-print-arg6 → After-decode
 from-After-print-arg6-to-After-decode c = c .before .before .before .before .before .before .before .before .before .before .before .before .before .before
@@ -787,13 +835,13 @@ abbrev from-After-print-arg6-to-After-restored : After-print-arg6 → After-rest
 from-After-print-arg6-to-After-restored c = c .before .before .before .before
 
 abbrev from-After-print-arg6-to-At-records : After-print-arg6 → At-records
-from-After-print-arg6-to-At-records c = c .before .before .before .before .before .before .before .before .before .before .before .before .before .before .before .before .before .before .before .before .before
+from-After-print-arg6-to-At-records c = c .before .before .before .before .before .before .before .before .before .before .before .before .before .before .before .before .before .before .before .before .before .before
 
 abbrev from-After-print-arg6-to-At-restored : After-print-arg6 → At-restored
 from-After-print-arg6-to-At-restored c = c .before .before .before .before .before
 
 abbrev from-After-print-arg6-to-Then3 : After-print-arg6 → Then3
-from-After-print-arg6-to-Then3 c = c .before .before .before .before .before .before .before .before .before .before .before .before .before .before .before .before
+from-After-print-arg6-to-Then3 c = c .before .before .before .before .before .before .before .before .before .before .before .before .before .before .before .before .before
 
 abbrev from-After-put-to-After-decode : After-put → After-decode
 from-After-put-to-After-decode c = c .before .before .before .before .before .before .before .before .before .before .before .before
@@ -811,13 +859,13 @@ abbrev from-After-put-to-After-sought : After-put → After-sought
 from-After-put-to-After-sought c = c .before .before .before .before .before .before .before .before
 
 abbrev from-After-put-to-At-records : After-put → At-records
-from-After-put-to-At-records c = c .before .before .before .before .before .before .before .before .before .before .before .before .before .before .before .before .before .before .before
+from-After-put-to-At-records c = c .before .before .before .before .before .before .before .before .before .before .before .before .before .before .before .before .before .before .before .before
 
 abbrev from-After-put-to-In-records : After-put → In-records
-from-After-put-to-In-records c = c .before .before .before .before .before .before .before .before .before .before .before .before .before .before .before .before .before .before
+from-After-put-to-In-records c = c .before .before .before .before .before .before .before .before .before .before .before .before .before .before .before .before .before .before .before
 
-abbrev from-After-put-to-Then4 : After-put → Then4
-from-After-put-to-Then4 c = c .before .before .before .before .before .before .before .before .before
+abbrev from-After-put-to-Then5 : After-put → Then5
+from-After-put-to-Then5 c = c .before .before .before .before .before .before .before .before .before
 
 abbrev from-After-restored-to-After-decode : After-restored → After-decode
 from-After-restored-to-After-decode c = c .before .before .before .before .before .before .before .before .before .before
@@ -829,19 +877,19 @@ abbrev from-After-restored-to-After-returned : After-restored → After-returned
 from-After-restored-to-After-returned c = c .before .before .before
 
 abbrev from-After-restored-to-At-records : After-restored → At-records
-from-After-restored-to-At-records c = c .before .before .before .before .before .before .before .before .before .before .before .before .before .before .before .before .before
+from-After-restored-to-At-records c = c .before .before .before .before .before .before .before .before .before .before .before .before .before .before .before .before .before .before
 
 abbrev from-After-restored-to-At-returned : After-restored → At-returned
 from-After-restored-to-At-returned c = c .before .before .before .before
 
-abbrev from-After-restored-to-Else4 : After-restored → Else4
-from-After-restored-to-Else4 c = c .before .before .before .before .before .before .before
+abbrev from-After-restored-to-Else5 : After-restored → Else5
+from-After-restored-to-Else5 c = c .before .before .before .before .before .before .before
 
 abbrev from-After-restored-to-Start : After-restored → Start
-from-After-restored-to-Start c = c .before .before .before .before .before .before .before .before .before .before .before .before .before .before .before .before .before .before .before .before .before .before .before .before .before .before .before .before .before .before .before
+from-After-restored-to-Start c = c .before .before .before .before .before .before .before .before .before .before .before .before .before .before .before .before .before .before .before .before .before .before .before .before .before .before .before .before .before .before .before .before
 
 abbrev from-After-returned-to-Start : After-returned → Start
-from-After-returned-to-Start c = c .before .before .before .before .before .before .before .before .before .before .before .before .before .before .before .before .before .before .before .before .before .before .before .before .before .before .before .before
+from-After-returned-to-Start c = c .before .before .before .before .before .before .before .before .before .before .before .before .before .before .before .before .before .before .before .before .before .before .before .before .before .before .before .before .before
 
 abbrev from-After-row-of-to-After-decode : After-row-of → After-decode
 from-After-row-of-to-After-decode c = c .before .before .before .before .before .before .before .before
@@ -853,13 +901,13 @@ abbrev from-After-row-of-to-After-sought : After-row-of → After-sought
 from-After-row-of-to-After-sought c = c .before .before .before .before
 
 abbrev from-After-row-of-to-At-records : After-row-of → At-records
-from-After-row-of-to-At-records c = c .before .before .before .before .before .before .before .before .before .before .before .before .before .before .before
+from-After-row-of-to-At-records c = c .before .before .before .before .before .before .before .before .before .before .before .before .before .before .before .before
 
 abbrev from-After-row-of-to-In-records : After-row-of → In-records
-from-After-row-of-to-In-records c = c .before .before .before .before .before .before .before .before .before .before .before .before .before .before
+from-After-row-of-to-In-records c = c .before .before .before .before .before .before .before .before .before .before .before .before .before .before .before
 
-abbrev from-After-row-of-to-Then4 : After-row-of → Then4
-from-After-row-of-to-Then4 c = c .before .before .before .before .before
+abbrev from-After-row-of-to-Then5 : After-row-of → Then5
+from-After-row-of-to-Then5 c = c .before .before .before .before .before
 
 abbrev from-After-sifted-to-After-decode : After-sifted → After-decode
 from-After-sifted-to-After-decode c = c .before .before .before .before .before .before .before .before .before .before .before .before
@@ -868,7 +916,7 @@ abbrev from-After-sifted-to-After-recovery-of : After-sifted → After-recovery-
 from-After-sifted-to-After-recovery-of c = c .before .before .before .before .before .before .before .before .before .before .before
 
 abbrev from-After-sifted-to-At-records : After-sifted → At-records
-from-After-sifted-to-At-records c = c .before .before .before .before .before .before .before .before .before .before .before .before .before .before .before .before .before .before .before
+from-After-sifted-to-At-records c = c .before .before .before .before .before .before .before .before .before .before .before .before .before .before .before .before .before .before .before .before
 
 abbrev from-After-sifted-to-At-restored : After-sifted → At-restored
 from-After-sifted-to-At-restored c = c .before .before .before
@@ -876,11 +924,11 @@ from-After-sifted-to-At-restored c = c .before .before .before
 abbrev from-After-sifted-to-At-returned : After-sifted → At-returned
 from-After-sifted-to-At-returned c = c .before .before .before .before .before .before
 
-abbrev from-After-sifted-to-Else4 : After-sifted → Else4
-from-After-sifted-to-Else4 c = c .before .before .before .before .before .before .before .before .before
+abbrev from-After-sifted-to-Else5 : After-sifted → Else5
+from-After-sifted-to-Else5 c = c .before .before .before .before .before .before .before .before .before
 
 abbrev from-After-sifted-to-Start : After-sifted → Start
-from-After-sifted-to-Start c = c .before .before .before .before .before .before .before .before .before .before .before .before .before .before .before .before .before .before .before .before .before .before .before .before .before .before .before .before .before .before .before .before .before
+from-After-sifted-to-Start c = c .before .before .before .before .before .before .before .before .before .before .before .before .before .before .before .before .before .before .before .before .before .before .before .before .before .before .before .before .before .before .before .before .before .before
 
 abbrev from-After-slice-known3-to-After-collected : After-slice-known3 → After-collected
 from-After-slice-known3-to-After-collected c = c .before .before .before .before .before .before .before .before .before
@@ -893,6 +941,9 @@ from-After-slice-known3-to-After-decode c = c .before .before .before .before .b
 
 abbrev from-After-slice-known3-to-After-is-there : After-slice-known3 → After-is-there
 from-After-slice-known3-to-After-is-there c = c .before .before .before .before .before .before .before .before .before .before .before .before .before .before .before .before .before .before .before .before .before .before .before .before
+
+abbrev from-After-slice-known3-to-After-number-of : After-slice-known3 → After-number-of
+from-After-slice-known3-to-After-number-of c = c .before .before .before .before .before .before .before .before .before .before .before .before .before .before .before .before .before
 
 abbrev from-After-slice-known3-to-After-place-in : After-slice-known3 → After-place-in
 from-After-slice-known3-to-After-place-in c = c .before .before .before .before .before .before .before .before .before .before .before .before .before .before .before .before .before .before .before .before .before .before .before .before .before .before
@@ -907,49 +958,25 @@ abbrev from-After-slice-known3-to-After-sought : After-slice-known3 → After-so
 from-After-slice-known3-to-After-sought c = c .before .before .before .before .before .before .before .before .before .before .before .before .before .before .before .before .before .before .before .before .before .before .before .before .before .before .before
 
 abbrev from-After-slice-known3-to-At-records : After-slice-known3 → At-records
-from-After-slice-known3-to-At-records c = c .before .before .before .before .before .before .before .before .before .before .before .before .before .before .before .before .before .before .before .before .before .before .before .before .before .before .before .before .before .before .before .before .before .before .before .before .before .before
+from-After-slice-known3-to-At-records c = c .before .before .before .before .before .before .before .before .before .before .before .before .before .before .before .before .before .before .before .before .before .before .before .before .before .before .before .before .before .before .before .before .before .before .before .before .before .before .before
 
 abbrev from-After-slice-known3-to-In-records : After-slice-known3 → In-records
-from-After-slice-known3-to-In-records c = c .before .before .before .before .before .before .before .before .before .before .before .before .before .before .before .before .before .before .before .before .before .before .before .before .before .before .before .before .before .before .before .before .before .before .before .before .before
+from-After-slice-known3-to-In-records c = c .before .before .before .before .before .before .before .before .before .before .before .before .before .before .before .before .before .before .before .before .before .before .before .before .before .before .before .before .before .before .before .before .before .before .before .before .before .before
+
+abbrev from-After-slice-known3-to-Start : After-slice-known3 → Start
+from-After-slice-known3-to-Start c = c .before .before .before .before .before .before .before .before .before .before .before .before .before .before .before .before .before .before .before .before .before .before .before .before .before .before .before .before .before .before .before .before .before .before .before .before .before .before .before .before .before .before .before .before .before .before .before .before .before .before .before .before .before
 
 abbrev from-After-slice-known3-to-Then3 : After-slice-known3 → Then3
-from-After-slice-known3-to-Then3 c = c .before .before .before .before .before .before .before .before .before .before .before .before .before .before .before .before .before .before .before .before .before .before .before .before .before .before .before .before .before .before .before .before .before
+from-After-slice-known3-to-Then3 c = c .before .before .before .before .before .before .before .before .before .before .before .before .before .before .before .before .before .before .before .before .before .before .before .before .before .before .before .before .before .before .before .before .before .before
 
 abbrev from-After-slice-known3-to-Then4 : After-slice-known3 → Then4
-from-After-slice-known3-to-Then4 c = c .before .before .before .before .before .before .before .before .before .before .before .before .before .before .before .before .before .before .before .before .before .before .before .before .before .before .before .before
+from-After-slice-known3-to-Then4 c = c .before .before .before .before .before .before .before .before .before .before .before .before .before .before .before .before .before .before .before .before .before .before .before .before .before .before .before .before .before .before .before .before .before
 
-abbrev from-After-slice-known4-to-After-decode : After-slice-known4 → After-decode
-from-After-slice-known4-to-After-decode c = c .before .before .before .before .before .before .before .before .before .before .before .before .before .before .before .before .before .before .before .before
+abbrev from-After-slice-known3-to-Then5 : After-slice-known3 → Then5
+from-After-slice-known3-to-Then5 c = c .before .before .before .before .before .before .before .before .before .before .before .before .before .before .before .before .before .before .before .before .before .before .before .before .before .before .before .before
 
-abbrev from-After-slice-known4-to-After-is-there : After-slice-known4 → After-is-there
-from-After-slice-known4-to-After-is-there c = c .before .before .before .before .before .before .before .before .before .before .before .before .before
-
-abbrev from-After-slice-known4-to-After-place-in : After-slice-known4 → After-place-in
-from-After-slice-known4-to-After-place-in c = c .before .before .before .before .before .before .before .before .before .before .before .before .before .before .before
-
-abbrev from-After-slice-known4-to-After-plan-of : After-slice-known4 → After-plan-of
-from-After-slice-known4-to-After-plan-of c = c .before .before .before .before .before .before .before .before .before
-
-abbrev from-After-slice-known4-to-After-row-of : After-slice-known4 → After-row-of
-from-After-slice-known4-to-After-row-of c = c .before .before .before .before .before .before .before .before .before .before .before .before
-
-abbrev from-After-slice-known4-to-After-sought : After-slice-known4 → After-sought
-from-After-slice-known4-to-After-sought c = c .before .before .before .before .before .before .before .before .before .before .before .before .before .before .before .before
-
-abbrev from-After-slice-known4-to-At-records : After-slice-known4 → At-records
-from-After-slice-known4-to-At-records c = c .before .before .before .before .before .before .before .before .before .before .before .before .before .before .before .before .before .before .before .before .before .before .before .before .before .before .before
-
-abbrev from-After-slice-known4-to-Else5 : After-slice-known4 → Else5
-from-After-slice-known4-to-Else5 c = c .before .before .before .before .before
-
-abbrev from-After-slice-known4-to-In-records : After-slice-known4 → In-records
-from-After-slice-known4-to-In-records c = c .before .before .before .before .before .before .before .before .before .before .before .before .before .before .before .before .before .before .before .before .before .before .before .before .before .before
-
-abbrev from-After-slice-known4-to-Then3 : After-slice-known4 → Then3
-from-After-slice-known4-to-Then3 c = c .before .before .before .before .before .before .before .before .before .before .before .before .before .before .before .before .before .before .before .before .before .before
-
-abbrev from-After-slice-known4-to-Then4 : After-slice-known4 → Then4
-from-After-slice-known4-to-Then4 c = c .before .before .before .before .before .before .before .before .before .before .before .before .before .before .before .before .before
+abbrev from-After-slice-known3-to-Then6 : After-slice-known3 → Then6
+from-After-slice-known3-to-Then6 c = c .before .before .before .before .before .before .before .before .before .before .before .before .before .before .before .before
 
 abbrev from-After-slice-known5-to-After-decode : After-slice-known5 → After-decode
 from-After-slice-known5-to-After-decode c = c .before .before .before .before .before .before .before .before .before .before .before .before .before .before .before .before .before
@@ -961,7 +988,7 @@ abbrev from-After-slice-known5-to-After-sifted : After-slice-known5 → After-si
 from-After-slice-known5-to-After-sifted c = c .before .before .before .before .before
 
 abbrev from-After-slice-known5-to-At-records : After-slice-known5 → At-records
-from-After-slice-known5-to-At-records c = c .before .before .before .before .before .before .before .before .before .before .before .before .before .before .before .before .before .before .before .before .before .before .before .before
+from-After-slice-known5-to-At-records c = c .before .before .before .before .before .before .before .before .before .before .before .before .before .before .before .before .before .before .before .before .before .before .before .before .before
 
 abbrev from-After-slice-known5-to-At-restored : After-slice-known5 → At-restored
 from-After-slice-known5-to-At-restored c = c .before .before .before .before .before .before .before .before
@@ -969,14 +996,20 @@ from-After-slice-known5-to-At-restored c = c .before .before .before .before .be
 abbrev from-After-slice-known5-to-At-sifted : After-slice-known5 → At-sifted
 from-After-slice-known5-to-At-sifted c = c .before .before .before .before .before .before
 
+abbrev from-After-slice-known5-to-Start : After-slice-known5 → Start
+from-After-slice-known5-to-Start c = c .before .before .before .before .before .before .before .before .before .before .before .before .before .before .before .before .before .before .before .before .before .before .before .before .before .before .before .before .before .before .before .before .before .before .before .before .before .before .before
+
 abbrev from-After-slice-known5-to-Then3 : After-slice-known5 → Then3
-from-After-slice-known5-to-Then3 c = c .before .before .before .before .before .before .before .before .before .before .before .before .before .before .before .before .before .before .before
+from-After-slice-known5-to-Then3 c = c .before .before .before .before .before .before .before .before .before .before .before .before .before .before .before .before .before .before .before .before
+
+abbrev from-After-slice-known5-to-Then4 : After-slice-known5 → Then4
+from-After-slice-known5-to-Then4 c = c .before .before .before .before .before .before .before .before .before .before .before .before .before .before .before .before .before .before .before
 
 abbrev from-After-sought-to-At-records : After-sought → At-records
-from-After-sought-to-At-records c = c .before .before .before .before .before .before .before .before .before .before .before
+from-After-sought-to-At-records c = c .before .before .before .before .before .before .before .before .before .before .before .before
 
 abbrev from-After-to-search-to-At-records : After-to-search → At-records
-from-After-to-search-to-At-records c = c .before .before .before .before .before .before .before .before .before .before .before .before .before .before .before .before .before
+from-After-to-search-to-At-records c = c .before .before .before .before .before .before .before .before .before .before .before .before .before .before .before .before .before .before
 
 abbrev from-After-to-search-to-At-returned : After-to-search → At-returned
 from-After-to-search-to-At-returned c = c .before .before .before .before
@@ -997,7 +1030,7 @@ abbrev from-After-vector-then-to-After-row-of : After-vector-then → After-row-
 from-After-vector-then-to-After-row-of c = c .before .before .before .before .before .before .before .before .before .before .before .before
 
 abbrev from-After-vector-then-to-At-records : After-vector-then → At-records
-from-After-vector-then-to-At-records c = c .before .before .before .before .before .before .before .before .before .before .before .before .before .before .before .before .before .before .before .before .before .before .before .before .before .before .before
+from-After-vector-then-to-At-records c = c .before .before .before .before .before .before .before .before .before .before .before .before .before .before .before .before .before .before .before .before .before .before .before .before .before .before .before .before
 
 abbrev from-After-went-back-to-In-returned : After-went-back → In-returned
 from-After-went-back-to-In-returned c = c .before .before .before .before .before .before .before .before .before
@@ -1005,92 +1038,92 @@ from-After-went-back-to-In-returned c = c .before .before .before .before .befor
 abbrev from-At-records-to-Start : At-records → Start
 from-At-records-to-Start c = c .before .before .before .before .before .before .before .before .before .before .before .before .before .before
 
-abbrev from-Else4-to-After-decode : Else4 → After-decode
-from-Else4-to-After-decode c = c .before .before .before
+abbrev from-Else10-to-After-no-message : Else10 → After-no-message
+from-Else10-to-After-no-message c = c .before .before .before .before .before .before .before .before .before .before .before .before .before .before .before .before .before .before .before .before .before .before .before .before .before .before
 
-abbrev from-Else4-to-Start : Else4 → Start
-from-Else4-to-Start c = c .before .before .before .before .before .before .before .before .before .before .before .before .before .before .before .before .before .before .before .before .before .before .before .before
+abbrev from-Else10-to-At-records : Else10 → At-records
+from-Else10-to-At-records c = c .before .before .before .before .before .before .before .before .before .before .before .before .before .before .before .before .before .before .before .before .before .before .before .before .before
+
+abbrev from-Else10-to-At-sifted : Else10 → At-sifted
+from-Else10-to-At-sifted c = c .before .before .before .before .before .before
+
+abbrev from-Else10-to-In-sifted : Else10 → In-sifted
+from-Else10-to-In-sifted c = c .before .before .before .before .before
 
 abbrev from-Else5-to-After-decode : Else5 → After-decode
-from-Else5-to-After-decode c = c .before .before .before .before .before .before .before .before .before .before .before .before .before .before .before
+from-Else5-to-After-decode c = c .before .before .before
 
-abbrev from-Else5-to-After-is-there : Else5 → After-is-there
-from-Else5-to-After-is-there c = c .before .before .before .before .before .before .before .before
+abbrev from-Else5-to-Start : Else5 → Start
+from-Else5-to-Start c = c .before .before .before .before .before .before .before .before .before .before .before .before .before .before .before .before .before .before .before .before .before .before .before .before .before
 
-abbrev from-Else5-to-After-place-in : Else5 → After-place-in
-from-Else5-to-After-place-in c = c .before .before .before .before .before .before .before .before .before .before
+abbrev from-Else6-to-After-decode : Else6 → After-decode
+from-Else6-to-After-decode c = c .before .before .before .before .before .before .before .before .before .before .before .before .before .before .before
 
-abbrev from-Else5-to-After-plan-of : Else5 → After-plan-of
-from-Else5-to-After-plan-of c = c .before .before .before .before
+abbrev from-Else6-to-After-is-there : Else6 → After-is-there
+from-Else6-to-After-is-there c = c .before .before .before .before .before .before .before .before
 
-abbrev from-Else5-to-After-row-of : Else5 → After-row-of
-from-Else5-to-After-row-of c = c .before .before .before .before .before .before .before
+abbrev from-Else6-to-After-place-in : Else6 → After-place-in
+from-Else6-to-After-place-in c = c .before .before .before .before .before .before .before .before .before .before
 
-abbrev from-Else5-to-After-sought : Else5 → After-sought
-from-Else5-to-After-sought c = c .before .before .before .before .before .before .before .before .before .before .before
-
-abbrev from-Else5-to-At-records : Else5 → At-records
-from-Else5-to-At-records c = c .before .before .before .before .before .before .before .before .before .before .before .before .before .before .before .before .before .before .before .before .before .before
-
-abbrev from-Else5-to-In-records : Else5 → In-records
-from-Else5-to-In-records c = c .before .before .before .before .before .before .before .before .before .before .before .before .before .before .before .before .before .before .before .before .before
-
-abbrev from-Else5-to-Then4 : Else5 → Then4
-from-Else5-to-Then4 c = c .before .before .before .before .before .before .before .before .before .before .before .before
-
-abbrev from-Else6-to-After-no-checkpoint : Else6 → After-no-checkpoint
-from-Else6-to-After-no-checkpoint c = c .before .before .before .before .before .before .before .before .before .before .before .before .before .before .before .before .before .before .before .before .before .before .before .before .before .before .before .before .before .before .before .before .before .before
-
-abbrev from-Else6-to-After-pins-then : Else6 → After-pins-then
-from-Else6-to-After-pins-then c = c .before .before .before .before .before .before
+abbrev from-Else6-to-After-plan-of : Else6 → After-plan-of
+from-Else6-to-After-plan-of c = c .before .before .before .before
 
 abbrev from-Else6-to-After-row-of : Else6 → After-row-of
-from-Else6-to-After-row-of c = c .before .before .before .before .before .before .before .before .before .before .before .before .before .before .before .before .before
+from-Else6-to-After-row-of c = c .before .before .before .before .before .before .before
 
-abbrev from-Else6-to-At-collected : Else6 → At-collected
-from-Else6-to-At-collected c = c .before .before .before .before
+abbrev from-Else6-to-After-sought : Else6 → After-sought
+from-Else6-to-After-sought c = c .before .before .before .before .before .before .before .before .before .before .before
 
 abbrev from-Else6-to-At-records : Else6 → At-records
-from-Else6-to-At-records c = c .before .before .before .before .before .before .before .before .before .before .before .before .before .before .before .before .before .before .before .before .before .before .before .before .before .before .before .before .before .before .before .before
+from-Else6-to-At-records c = c .before .before .before .before .before .before .before .before .before .before .before .before .before .before .before .before .before .before .before .before .before .before .before
 
-abbrev from-Else6-to-In-collected : Else6 → In-collected
-from-Else6-to-In-collected c = c .before .before .before
+abbrev from-Else6-to-In-records : Else6 → In-records
+from-Else6-to-In-records c = c .before .before .before .before .before .before .before .before .before .before .before .before .before .before .before .before .before .before .before .before .before .before
+
+abbrev from-Else6-to-Then5 : Else6 → Then5
+from-Else6-to-Then5 c = c .before .before .before .before .before .before .before .before .before .before .before .before
 
 abbrev from-Else7-to-After-no-checkpoint : Else7 → After-no-checkpoint
-from-Else7-to-After-no-checkpoint c = c .before .before .before .before .before .before .before .before .before .before .before .before .before .before .before .before .before .before .before .before .before .before .before .before .before .before .before .before .before .before .before .before
+from-Else7-to-After-no-checkpoint c = c .before .before .before .before .before .before .before .before .before .before .before .before .before .before .before .before .before .before .before .before .before .before .before .before .before .before .before .before .before .before .before .before .before .before .before
 
-abbrev from-Else7-to-At-left : Else7 → At-left
-from-Else7-to-At-left c = c .before .before .before .before
+abbrev from-Else7-to-After-pins-then : Else7 → After-pins-then
+from-Else7-to-After-pins-then c = c .before .before .before .before .before .before
 
-abbrev from-Else7-to-At-restored : Else7 → At-restored
-from-Else7-to-At-restored c = c .before .before .before .before .before .before .before .before .before .before .before .before .before .before
+abbrev from-Else7-to-After-row-of : Else7 → After-row-of
+from-Else7-to-After-row-of c = c .before .before .before .before .before .before .before .before .before .before .before .before .before .before .before .before .before
 
-abbrev from-Else7-to-In-left : Else7 → In-left
-from-Else7-to-In-left c = c .before .before .before
+abbrev from-Else7-to-At-collected : Else7 → At-collected
+from-Else7-to-At-collected c = c .before .before .before .before
 
-abbrev from-Else7-to-In-restored : Else7 → In-restored
-from-Else7-to-In-restored c = c .before .before .before .before .before .before .before .before .before .before .before .before .before
+abbrev from-Else7-to-At-records : Else7 → At-records
+from-Else7-to-At-records c = c .before .before .before .before .before .before .before .before .before .before .before .before .before .before .before .before .before .before .before .before .before .before .before .before .before .before .before .before .before .before .before .before .before
 
-abbrev from-Else8-to-At-records : Else8 → At-records
-from-Else8-to-At-records c = c .before .before .before .before .before .before .before .before .before .before .before .before .before .before .before .before .before .before .before .before .before .before
+abbrev from-Else7-to-In-collected : Else7 → In-collected
+from-Else7-to-In-collected c = c .before .before .before
 
-abbrev from-Else8-to-At-sifted : Else8 → At-sifted
-from-Else8-to-At-sifted c = c .before .before .before .before
+abbrev from-Else8-to-After-no-checkpoint : Else8 → After-no-checkpoint
+from-Else8-to-After-no-checkpoint c = c .before .before .before .before .before .before .before .before .before .before .before .before .before .before .before .before .before .before .before .before .before .before .before .before .before .before .before .before .before .before .before .before .before
 
-abbrev from-Else8-to-In-sifted : Else8 → In-sifted
-from-Else8-to-In-sifted c = c .before .before .before
+abbrev from-Else8-to-At-left : Else8 → At-left
+from-Else8-to-At-left c = c .before .before .before .before
 
-abbrev from-Else9-to-After-no-message : Else9 → After-no-message
-from-Else9-to-After-no-message c = c .before .before .before .before .before .before .before .before .before .before .before .before .before .before .before .before .before .before .before .before .before .before .before .before .before
+abbrev from-Else8-to-At-restored : Else8 → At-restored
+from-Else8-to-At-restored c = c .before .before .before .before .before .before .before .before .before .before .before .before .before .before
+
+abbrev from-Else8-to-In-left : Else8 → In-left
+from-Else8-to-In-left c = c .before .before .before
+
+abbrev from-Else8-to-In-restored : Else8 → In-restored
+from-Else8-to-In-restored c = c .before .before .before .before .before .before .before .before .before .before .before .before .before
 
 abbrev from-Else9-to-At-records : Else9 → At-records
-from-Else9-to-At-records c = c .before .before .before .before .before .before .before .before .before .before .before .before .before .before .before .before .before .before .before .before .before .before .before .before
+from-Else9-to-At-records c = c .before .before .before .before .before .before .before .before .before .before .before .before .before .before .before .before .before .before .before .before .before .before .before
 
 abbrev from-Else9-to-At-sifted : Else9 → At-sifted
-from-Else9-to-At-sifted c = c .before .before .before .before .before .before
+from-Else9-to-At-sifted c = c .before .before .before .before
 
 abbrev from-Else9-to-In-sifted : Else9 → In-sifted
-from-Else9-to-In-sifted c = c .before .before .before .before .before
+from-Else9-to-In-sifted c = c .before .before .before
 
 abbrev from-In-allowed-to-After-to-search : In-allowed → After-to-search
 from-In-allowed-to-After-to-search c = c .before .before .before
@@ -1102,10 +1135,10 @@ abbrev from-In-collected-to-After-row-of : In-collected → After-row-of
 from-In-collected-to-After-row-of c = c .before .before .before .before .before .before .before .before .before .before .before .before .before .before
 
 abbrev from-In-collected-to-At-records : In-collected → At-records
-from-In-collected-to-At-records c = c .before .before .before .before .before .before .before .before .before .before .before .before .before .before .before .before .before .before .before .before .before .before .before .before .before .before .before .before .before
+from-In-collected-to-At-records c = c .before .before .before .before .before .before .before .before .before .before .before .before .before .before .before .before .before .before .before .before .before .before .before .before .before .before .before .before .before .before
 
-abbrev from-In-collected-to-Then5 : In-collected → Then5
-from-In-collected-to-Then5 c = c .before .before .before .before .before .before .before
+abbrev from-In-collected-to-Then6 : In-collected → Then6
+from-In-collected-to-Then6 c = c .before .before .before .before .before .before .before
 
 abbrev from-In-found-to-After-to-search2 : In-found → After-to-search2
 from-In-found-to-After-to-search2 c = c .before .before .before
@@ -1114,7 +1147,7 @@ abbrev from-In-found-to-In-restored : In-found → In-restored
 from-In-found-to-In-restored c = c .before .before .before .before .before .before .before
 
 abbrev from-In-left-to-At-records : In-left → At-records
-from-In-left-to-At-records c = c .before .before .before .before .before .before .before .before .before .before .before .before .before .before .before .before .before .before .before .before .before .before .before .before .before .before .before
+from-In-left-to-At-records c = c .before .before .before .before .before .before .before .before .before .before .before .before .before .before .before .before .before .before .before .before .before .before .before .before .before .before .before .before
 
 abbrev from-In-left-to-At-restored : In-left → At-restored
 from-In-left-to-At-restored c = c .before .before .before .before .before .before .before .before .before .before .before
@@ -1123,13 +1156,13 @@ abbrev from-In-left-to-In-restored : In-left → In-restored
 from-In-left-to-In-restored c = c .before .before .before .before .before .before .before .before .before .before
 
 abbrev from-In-restored-to-At-records : In-restored → At-records
-from-In-restored-to-At-records c = c .before .before .before .before .before .before .before .before .before .before .before .before .before .before .before .before .before
+from-In-restored-to-At-records c = c .before .before .before .before .before .before .before .before .before .before .before .before .before .before .before .before .before .before
 
 abbrev from-In-returned-to-At-records : In-returned → At-records
-from-In-returned-to-At-records c = c .before .before .before .before .before .before .before .before .before .before .before .before .before .before
+from-In-returned-to-At-records c = c .before .before .before .before .before .before .before .before .before .before .before .before .before .before .before
 
 abbrev from-In-sifted-to-At-records : In-sifted → At-records
-from-In-sifted-to-At-records c = c .before .before .before .before .before .before .before .before .before .before .before .before .before .before .before .before .before .before .before
+from-In-sifted-to-At-records c = c .before .before .before .before .before .before .before .before .before .before .before .before .before .before .before .before .before .before .before .before
 
 abbrev from-Left-records-to-Start : Left-records → Start
 from-Left-records-to-Start c = c .before .before .before .before .before .before .before .before .before .before .before .before .before .before .before
@@ -1146,80 +1179,80 @@ from-Then3-to-Start c = c .before .before .before .before .before .before .befor
 abbrev from-Then3-to-Then1 : Then3 → Then1
 from-Then3-to-Then1 c = c .before .before .before
 
-abbrev from-Then4-to-After-decode : Then4 → After-decode
-from-Then4-to-After-decode c = c .before .before .before
-
-abbrev from-Then4-to-Start : Then4 → Start
-from-Then4-to-Start c = c .before .before .before .before .before .before .before .before .before .before .before .before .before .before .before .before .before .before .before .before .before .before .before .before
-
 abbrev from-Then5-to-After-decode : Then5 → After-decode
-from-Then5-to-After-decode c = c .before .before .before .before .before .before .before .before .before .before .before .before .before .before .before
+from-Then5-to-After-decode c = c .before .before .before
 
-abbrev from-Then5-to-After-is-there : Then5 → After-is-there
-from-Then5-to-After-is-there c = c .before .before .before .before .before .before .before .before
+abbrev from-Then5-to-Start : Then5 → Start
+from-Then5-to-Start c = c .before .before .before .before .before .before .before .before .before .before .before .before .before .before .before .before .before .before .before .before .before .before .before .before .before
 
-abbrev from-Then5-to-After-place-in : Then5 → After-place-in
-from-Then5-to-After-place-in c = c .before .before .before .before .before .before .before .before .before .before
+abbrev from-Then6-to-After-decode : Then6 → After-decode
+from-Then6-to-After-decode c = c .before .before .before .before .before .before .before .before .before .before .before .before .before .before .before
 
-abbrev from-Then5-to-After-plan-of : Then5 → After-plan-of
-from-Then5-to-After-plan-of c = c .before .before .before .before
+abbrev from-Then6-to-After-is-there : Then6 → After-is-there
+from-Then6-to-After-is-there c = c .before .before .before .before .before .before .before .before
 
-abbrev from-Then5-to-After-row-of : Then5 → After-row-of
-from-Then5-to-After-row-of c = c .before .before .before .before .before .before .before
+abbrev from-Then6-to-After-place-in : Then6 → After-place-in
+from-Then6-to-After-place-in c = c .before .before .before .before .before .before .before .before .before .before
 
-abbrev from-Then5-to-After-sought : Then5 → After-sought
-from-Then5-to-After-sought c = c .before .before .before .before .before .before .before .before .before .before .before
-
-abbrev from-Then5-to-At-records : Then5 → At-records
-from-Then5-to-At-records c = c .before .before .before .before .before .before .before .before .before .before .before .before .before .before .before .before .before .before .before .before .before .before
-
-abbrev from-Then5-to-In-records : Then5 → In-records
-from-Then5-to-In-records c = c .before .before .before .before .before .before .before .before .before .before .before .before .before .before .before .before .before .before .before .before .before
-
-abbrev from-Then5-to-Then4 : Then5 → Then4
-from-Then5-to-Then4 c = c .before .before .before .before .before .before .before .before .before .before .before .before
-
-abbrev from-Then6-to-After-no-checkpoint : Then6 → After-no-checkpoint
-from-Then6-to-After-no-checkpoint c = c .before .before .before .before .before .before .before .before .before .before .before .before .before .before .before .before .before .before .before .before .before .before .before .before .before .before .before .before .before .before .before .before .before .before
-
-abbrev from-Then6-to-After-pins-then : Then6 → After-pins-then
-from-Then6-to-After-pins-then c = c .before .before .before .before .before .before
+abbrev from-Then6-to-After-plan-of : Then6 → After-plan-of
+from-Then6-to-After-plan-of c = c .before .before .before .before
 
 abbrev from-Then6-to-After-row-of : Then6 → After-row-of
-from-Then6-to-After-row-of c = c .before .before .before .before .before .before .before .before .before .before .before .before .before .before .before .before .before
+from-Then6-to-After-row-of c = c .before .before .before .before .before .before .before
 
-abbrev from-Then6-to-At-collected : Then6 → At-collected
-from-Then6-to-At-collected c = c .before .before .before .before
+abbrev from-Then6-to-After-sought : Then6 → After-sought
+from-Then6-to-After-sought c = c .before .before .before .before .before .before .before .before .before .before .before
 
 abbrev from-Then6-to-At-records : Then6 → At-records
-from-Then6-to-At-records c = c .before .before .before .before .before .before .before .before .before .before .before .before .before .before .before .before .before .before .before .before .before .before .before .before .before .before .before .before .before .before .before .before
+from-Then6-to-At-records c = c .before .before .before .before .before .before .before .before .before .before .before .before .before .before .before .before .before .before .before .before .before .before .before
 
-abbrev from-Then6-to-In-collected : Then6 → In-collected
-from-Then6-to-In-collected c = c .before .before .before
+abbrev from-Then6-to-In-records : Then6 → In-records
+from-Then6-to-In-records c = c .before .before .before .before .before .before .before .before .before .before .before .before .before .before .before .before .before .before .before .before .before .before
+
+abbrev from-Then6-to-Then5 : Then6 → Then5
+from-Then6-to-Then5 c = c .before .before .before .before .before .before .before .before .before .before .before .before
 
 abbrev from-Then7-to-After-no-checkpoint : Then7 → After-no-checkpoint
-from-Then7-to-After-no-checkpoint c = c .before .before .before .before .before .before .before .before .before .before .before .before .before .before .before .before .before .before .before .before .before .before .before .before .before .before .before .before .before .before .before .before
+from-Then7-to-After-no-checkpoint c = c .before .before .before .before .before .before .before .before .before .before .before .before .before .before .before .before .before .before .before .before .before .before .before .before .before .before .before .before .before .before .before .before .before .before .before
 
-abbrev from-Then7-to-At-left : Then7 → At-left
-from-Then7-to-At-left c = c .before .before .before .before
+abbrev from-Then7-to-After-pins-then : Then7 → After-pins-then
+from-Then7-to-After-pins-then c = c .before .before .before .before .before .before
 
-abbrev from-Then7-to-At-restored : Then7 → At-restored
-from-Then7-to-At-restored c = c .before .before .before .before .before .before .before .before .before .before .before .before .before .before
+abbrev from-Then7-to-After-row-of : Then7 → After-row-of
+from-Then7-to-After-row-of c = c .before .before .before .before .before .before .before .before .before .before .before .before .before .before .before .before .before
 
-abbrev from-Then7-to-In-left : Then7 → In-left
-from-Then7-to-In-left c = c .before .before .before
+abbrev from-Then7-to-At-collected : Then7 → At-collected
+from-Then7-to-At-collected c = c .before .before .before .before
 
-abbrev from-Then7-to-In-restored : Then7 → In-restored
-from-Then7-to-In-restored c = c .before .before .before .before .before .before .before .before .before .before .before .before .before
+abbrev from-Then7-to-At-records : Then7 → At-records
+from-Then7-to-At-records c = c .before .before .before .before .before .before .before .before .before .before .before .before .before .before .before .before .before .before .before .before .before .before .before .before .before .before .before .before .before .before .before .before .before
 
-abbrev from-Then8-to-At-records : Then8 → At-records
-from-Then8-to-At-records c = c .before .before .before .before .before .before .before .before .before .before .before .before .before .before .before .before .before .before .before .before .before .before
+abbrev from-Then7-to-In-collected : Then7 → In-collected
+from-Then7-to-In-collected c = c .before .before .before
 
-abbrev from-Then8-to-At-sifted : Then8 → At-sifted
-from-Then8-to-At-sifted c = c .before .before .before .before
+abbrev from-Then8-to-After-no-checkpoint : Then8 → After-no-checkpoint
+from-Then8-to-After-no-checkpoint c = c .before .before .before .before .before .before .before .before .before .before .before .before .before .before .before .before .before .before .before .before .before .before .before .before .before .before .before .before .before .before .before .before .before
 
-abbrev from-Then8-to-In-sifted : Then8 → In-sifted
-from-Then8-to-In-sifted c = c .before .before .before
+abbrev from-Then8-to-At-left : Then8 → At-left
+from-Then8-to-At-left c = c .before .before .before .before
+
+abbrev from-Then8-to-At-restored : Then8 → At-restored
+from-Then8-to-At-restored c = c .before .before .before .before .before .before .before .before .before .before .before .before .before .before
+
+abbrev from-Then8-to-In-left : Then8 → In-left
+from-Then8-to-In-left c = c .before .before .before
+
+abbrev from-Then8-to-In-restored : Then8 → In-restored
+from-Then8-to-In-restored c = c .before .before .before .before .before .before .before .before .before .before .before .before .before
+
+abbrev from-Then9-to-At-records : Then9 → At-records
+from-Then9-to-At-records c = c .before .before .before .before .before .before .before .before .before .before .before .before .before .before .before .before .before .before .before .before .before .before .before
+
+abbrev from-Then9-to-At-sifted : Then9 → At-sifted
+from-Then9-to-At-sifted c = c .before .before .before .before
+
+abbrev from-Then9-to-In-sifted : Then9 → In-sifted
+from-Then9-to-In-sifted c = c .before .before .before
 
 -- The state that the parts are at the start of a turn, and what is known of it.
 abbrev whole : (c : At-records) → Run
@@ -1271,17 +1304,17 @@ add-if1 : tie.Need-add-if1 Inv-collected μ-collected Inv-allowed μ-allowed Inv
 add-if1 c = omega (arith, c .before .records .inv .few)
 
 add-taken : tie.Need-add-taken Inv-collected μ-collected Inv-allowed μ-allowed Inv-returned μ-returned Inv-found μ-found Inv-left μ-left Inv-restored μ-restored Inv-sifted μ-sifted Inv-records μ-records
-add-taken c = omega (arith, few (c .before .before))
+add-taken c = omega (arith, few (from-After-decode-to-Then3 c))
 
 add-number : tie.Need-add-number Inv-collected μ-collected Inv-allowed μ-allowed Inv-returned μ-returned Inv-found μ-found Inv-left μ-left Inv-restored μ-restored Inv-sifted μ-sifted Inv-records μ-records
-add-number c = omega (arith, few (c .before .before))
+add-number c = omega (arith, few (from-After-decode-to-Then3 c))
 
 recovery-of-requires : tie.Need-recovery-of-requires Inv-collected μ-collected Inv-allowed μ-allowed Inv-returned μ-returned Inv-found μ-found Inv-left μ-left Inv-restored μ-restored Inv-sifted μ-sifted Inv-records μ-records
 recovery-of-requires c κs = most (from-After-decode-to-At-records c)
 
 -- A record that asks for no recovery.
-not-asked : (c : Then4) → recoveryOf (from-Then4-to-Start c .args .s .count) (event (from-Then4-to-After-decode c)) .asked ≡ false
-not-asked c = ap (λ (r : Recovery). r .asked) (sym (c .before .before .recovery-of .ensures)) ∙ not-true _ (c .if4 .taken)
+not-asked : (c : Then5) → recoveryOf (from-Then5-to-Start c .args .s .count) (event (from-Then5-to-After-decode c)) .asked ≡ false
+not-asked c = ap (λ (r : Recovery). r .asked) (sym (c .before .before .recovery-of .ensures)) ∙ not-true _ (c .if5 .taken)
 
 place-in-requires : tie.Need-place-in-requires Inv-collected μ-collected Inv-allowed μ-allowed Inv-returned μ-returned Inv-found μ-found Inv-left μ-left Inv-restored μ-restored Inv-sifted μ-sifted Inv-records μ-records
 place-in-requires c κs = from-After-sought-to-At-records c .records .inv .windowed .numbers-long
@@ -1301,7 +1334,7 @@ message-is c d = any-default (from-After-place-in-to-At-records c .records .wind
 
 -- What the laws of a plan take: the state, the event, the window, and what was looked up.
 in-rows : (c : After-row-of) → c .row-of .result < 16
-in-rows c = turn.row-there (whole (from-After-row-of-to-At-records c)) (reach (from-After-row-of-to-At-records c)) (event (from-After-row-of-to-After-decode c)) (not-asked (from-After-row-of-to-Then4 c)) (from-After-row-of-to-At-records c .records .inv .windowed) (from-After-row-of-to-In-records c .records-test .taken) (holds (from-After-row-of-to-At-records c)) refl (from-After-row-of-to-After-sought c .sought .ensures) (from-After-row-of-to-After-place-in c .place-in .ensures) (message-is (from-After-row-of-to-After-place-in c) _) (c .before .is-there .ensures) (c .row-of .ensures)
+in-rows c = turn.row-there (whole (from-After-row-of-to-At-records c)) (reach (from-After-row-of-to-At-records c)) (event (from-After-row-of-to-After-decode c)) (not-asked (from-After-row-of-to-Then5 c)) (from-After-row-of-to-At-records c .records .inv .windowed) (from-After-row-of-to-In-records c .records-test .taken) (holds (from-After-row-of-to-At-records c)) refl (from-After-row-of-to-After-sought c .sought .ensures) (from-After-row-of-to-After-place-in c .place-in .ensures) (message-is (from-After-row-of-to-After-place-in c) _) (c .before .is-there .ensures) (c .row-of .ensures)
 
 mul-vector : tie.Need-mul-vector Inv-collected μ-collected Inv-allowed μ-allowed Inv-returned μ-returned Inv-found μ-found Inv-left μ-left Inv-restored μ-restored Inv-sifted μ-sifted Inv-records μ-records
 mul-vector c = omega (arith, in-rows (c))
@@ -1322,13 +1355,13 @@ array-write-sent : tie.Need-array-write-sent Inv-collected μ-collected Inv-allo
 array-write-sent c = omega (arith, in-rows (from-After-plan-of-to-After-row-of c))
 
 plan-of-requires : tie.Need-plan-of-requires Inv-collected μ-collected Inv-allowed μ-allowed Inv-returned μ-returned Inv-found μ-found Inv-left μ-left Inv-restored μ-restored Inv-sifted μ-sifted Inv-records μ-records
-plan-of-requires c κs = (turn.some-there (whole (from-After-own-to-At-records c)) (reach (from-After-own-to-At-records c)) (event (from-After-own-to-After-decode c)) (not-asked (from-After-own-to-Then4 c)) (from-After-own-to-At-records c .records .inv .windowed) (from-After-own-to-In-records c .records-test .taken) (holds (from-After-own-to-At-records c)) refl (from-After-own-to-After-sought c .sought .ensures) (from-After-own-to-After-place-in c .place-in .ensures) (message-is (from-After-own-to-After-place-in c) _) (from-After-own-to-After-is-there c .is-there .ensures) (c .before .before .row-of .ensures), omega (arith, from-After-own-to-In-records c .records-test .taken))
+plan-of-requires c κs = (turn.some-there (whole (from-After-own-to-At-records c)) (reach (from-After-own-to-At-records c)) (event (from-After-own-to-After-decode c)) (not-asked (from-After-own-to-Then5 c)) (from-After-own-to-At-records c .records .inv .windowed) (from-After-own-to-In-records c .records-test .taken) (holds (from-After-own-to-At-records c)) refl (from-After-own-to-After-sought c .sought .ensures) (from-After-own-to-After-place-in c .place-in .ensures) (message-is (from-After-own-to-After-place-in c) _) (from-After-own-to-After-is-there c .is-there .ensures) (c .before .before .row-of .ensures), omega (arith, from-After-own-to-In-records c .records-test .taken))
 
 mul-window : tie.Need-mul-window Inv-collected μ-collected Inv-allowed μ-allowed Inv-returned μ-returned Inv-found μ-found Inv-left μ-left Inv-restored μ-restored Inv-sifted μ-sifted Inv-records μ-records
-mul-window c = omega (arith, turn.place-there (whole (from-After-put-to-At-records c)) (reach (from-After-put-to-At-records c)) (event (from-After-put-to-After-decode c)) (not-asked (from-After-put-to-Then4 c)) (from-After-put-to-At-records c .records .inv .windowed) (from-After-put-to-In-records c .records-test .taken) (holds (from-After-put-to-At-records c)) refl (from-After-put-to-After-sought c .sought .ensures) (from-After-put-to-After-place-in c .place-in .ensures) (message-is (from-After-put-to-After-place-in c) _) (from-After-put-to-After-is-there c .is-there .ensures) (from-After-put-to-After-row-of c .row-of .ensures) (c .before .plan-of .ensures))
+mul-window c = omega (arith, turn.place-there (whole (from-After-put-to-At-records c)) (reach (from-After-put-to-At-records c)) (event (from-After-put-to-After-decode c)) (not-asked (from-After-put-to-Then5 c)) (from-After-put-to-At-records c .records .inv .windowed) (from-After-put-to-In-records c .records-test .taken) (holds (from-After-put-to-At-records c)) refl (from-After-put-to-After-sought c .sought .ensures) (from-After-put-to-After-place-in c .place-in .ensures) (message-is (from-After-put-to-After-place-in c) _) (from-After-put-to-After-is-there c .is-there .ensures) (from-After-put-to-After-row-of c .row-of .ensures) (c .before .plan-of .ensures))
 
 array-set-from-window : tie.Need-array-set-from-window Inv-collected μ-collected Inv-allowed μ-allowed Inv-returned μ-returned Inv-found μ-found Inv-left μ-left Inv-restored μ-restored Inv-sifted μ-sifted Inv-records μ-records
-array-set-from-window c = omega (arith, turn.place-there (whole (from-After-put-to-At-records c)) (reach (from-After-put-to-At-records c)) (event (from-After-put-to-After-decode c)) (not-asked (from-After-put-to-Then4 c)) (from-After-put-to-At-records c .records .inv .windowed) (from-After-put-to-In-records c .records-test .taken) (holds (from-After-put-to-At-records c)) refl (from-After-put-to-After-sought c .sought .ensures) (from-After-put-to-After-place-in c .place-in .ensures) (message-is (from-After-put-to-After-place-in c) _) (from-After-put-to-After-is-there c .is-there .ensures) (from-After-put-to-After-row-of c .row-of .ensures) (c .before .plan-of .ensures))
+array-set-from-window c = omega (arith, turn.place-there (whole (from-After-put-to-At-records c)) (reach (from-After-put-to-At-records c)) (event (from-After-put-to-After-decode c)) (not-asked (from-After-put-to-Then5 c)) (from-After-put-to-At-records c .records .inv .windowed) (from-After-put-to-In-records c .records-test .taken) (holds (from-After-put-to-At-records c)) refl (from-After-put-to-After-sought c .sought .ensures) (from-After-put-to-After-place-in c .place-in .ensures) (message-is (from-After-put-to-After-place-in c) _) (from-After-put-to-After-is-there c .is-there .ensures) (from-After-put-to-After-row-of c .row-of .ensures) (c .before .plan-of .ensures))
 
 -- The pins of its process move.
 mul-pins-before : tie.Need-mul-pins-before Inv-collected μ-collected Inv-allowed μ-allowed Inv-returned μ-returned Inv-found μ-found Inv-left μ-left Inv-restored μ-restored Inv-sifted μ-sifted Inv-records μ-records
@@ -1356,13 +1389,13 @@ array-read-many : tie.Need-array-read-many Inv-collected μ-collected Inv-allowe
 array-read-many c = omega (arith, in-rows (from-After-vector-then-to-After-row-of c))
 
 live-from-requires : tie.Need-live-from-requires Inv-collected μ-collected Inv-allowed μ-allowed Inv-returned μ-returned Inv-found μ-found Inv-left μ-left Inv-restored μ-restored Inv-sifted μ-sifted Inv-records μ-records
-live-from-requires c κs = (in-rows (from-Then5-to-After-row-of c), turn.moved-own (whole (from-Then5-to-At-records c)) (reach (from-Then5-to-At-records c)) (event (from-Then5-to-After-decode c)) (not-asked (from-Then5-to-Then4 c)) (from-Then5-to-At-records c .records .inv .windowed) (from-Then5-to-In-records c .records-test .taken) (holds (from-Then5-to-At-records c)) refl (from-Then5-to-After-sought c .sought .ensures) (from-Then5-to-After-place-in c .place-in .ensures) (message-is (from-Then5-to-After-place-in c) _) (from-Then5-to-After-is-there c .is-there .ensures) (from-Then5-to-After-row-of c .row-of .ensures) (from-Then5-to-After-plan-of c .plan-of .ensures) (c .if5 .taken))
+live-from-requires c κs = (in-rows (from-Then6-to-After-row-of c), turn.moved-own (whole (from-Then6-to-At-records c)) (reach (from-Then6-to-At-records c)) (event (from-Then6-to-After-decode c)) (not-asked (from-Then6-to-Then5 c)) (from-Then6-to-At-records c .records .inv .windowed) (from-Then6-to-In-records c .records-test .taken) (holds (from-Then6-to-At-records c)) refl (from-Then6-to-After-sought c .sought .ensures) (from-Then6-to-After-place-in c .place-in .ensures) (message-is (from-Then6-to-After-place-in c) _) (from-Then6-to-After-is-there c .is-there .ensures) (from-Then6-to-After-row-of c .row-of .ensures) (from-Then6-to-After-plan-of c .plan-of .ensures) (c .if6 .taken))
 
 pins-then-requires : tie.Need-pins-then-requires Inv-collected μ-collected Inv-allowed μ-allowed Inv-returned μ-returned Inv-found μ-found Inv-left μ-left Inv-restored μ-restored Inv-sifted μ-sifted Inv-records μ-records
-pins-then-requires c κs = (in-rows (from-After-carried-to-After-row-of c), turn.moved-room (whole (from-After-carried-to-At-records c)) (reach (from-After-carried-to-At-records c)) (event (from-After-carried-to-After-decode c)) (not-asked (from-After-carried-to-Then4 c)) (from-After-carried-to-At-records c .records .inv .windowed) (from-After-carried-to-In-records c .records-test .taken) (holds (from-After-carried-to-At-records c)) refl (from-After-carried-to-After-sought c .sought .ensures) (from-After-carried-to-After-place-in c .place-in .ensures) (message-is (from-After-carried-to-After-place-in c) _) (from-After-carried-to-After-is-there c .is-there .ensures) (from-After-carried-to-After-row-of c .row-of .ensures) (from-After-carried-to-After-plan-of c .plan-of .ensures) (from-After-carried-to-Then5 c .if5 .taken))
+pins-then-requires c κs = (in-rows (from-After-carried-to-After-row-of c), turn.moved-room (whole (from-After-carried-to-At-records c)) (reach (from-After-carried-to-At-records c)) (event (from-After-carried-to-After-decode c)) (not-asked (from-After-carried-to-Then5 c)) (from-After-carried-to-At-records c .records .inv .windowed) (from-After-carried-to-In-records c .records-test .taken) (holds (from-After-carried-to-At-records c)) refl (from-After-carried-to-After-sought c .sought .ensures) (from-After-carried-to-After-place-in c .place-in .ensures) (message-is (from-After-carried-to-After-place-in c) _) (from-After-carried-to-After-is-there c .is-there .ensures) (from-After-carried-to-After-row-of c .row-of .ensures) (from-After-carried-to-After-plan-of c .plan-of .ensures) (from-After-carried-to-Then6 c .if6 .taken))
 
 vector-then-requires : tie.Need-vector-then-requires Inv-collected μ-collected Inv-allowed μ-allowed Inv-returned μ-returned Inv-found μ-found Inv-left μ-left Inv-restored μ-restored Inv-sifted μ-sifted Inv-records μ-records
-vector-then-requires c κs = (in-rows (from-After-pins-then-to-After-row-of c), turn.moved-room (whole (from-After-pins-then-to-At-records c)) (reach (from-After-pins-then-to-At-records c)) (event (from-After-pins-then-to-After-decode c)) (not-asked (from-After-pins-then-to-Then4 c)) (from-After-pins-then-to-At-records c .records .inv .windowed) (from-After-pins-then-to-In-records c .records-test .taken) (holds (from-After-pins-then-to-At-records c)) refl (from-After-pins-then-to-After-sought c .sought .ensures) (from-After-pins-then-to-After-place-in c .place-in .ensures) (message-is (from-After-pins-then-to-After-place-in c) _) (from-After-pins-then-to-After-is-there c .is-there .ensures) (from-After-pins-then-to-After-row-of c .row-of .ensures) (from-After-pins-then-to-After-plan-of c .plan-of .ensures) (from-After-pins-then-to-Then5 c .if5 .taken))
+vector-then-requires c κs = (in-rows (from-After-pins-then-to-After-row-of c), turn.moved-room (whole (from-After-pins-then-to-At-records c)) (reach (from-After-pins-then-to-At-records c)) (event (from-After-pins-then-to-After-decode c)) (not-asked (from-After-pins-then-to-Then5 c)) (from-After-pins-then-to-At-records c .records .inv .windowed) (from-After-pins-then-to-In-records c .records-test .taken) (holds (from-After-pins-then-to-At-records c)) refl (from-After-pins-then-to-After-sought c .sought .ensures) (from-After-pins-then-to-After-place-in c .place-in .ensures) (message-is (from-After-pins-then-to-After-place-in c) _) (from-After-pins-then-to-After-is-there c .is-there .ensures) (from-After-pins-then-to-After-row-of c .row-of .ensures) (from-After-pins-then-to-After-plan-of c .plan-of .ensures) (from-After-pins-then-to-Then6 c .if6 .taken))
 
 -- Its row has a place, is filled behind what it keeps, and keeps 16 at most.
 there : (c : After-row-of) → c .row-of .result < length (from-After-row-of-to-At-records c .records .kept)
@@ -1371,8 +1404,8 @@ there c = omega (arith, in-rows c, sized (from-After-row-of-to-At-records c) .ke
 row-long : (c : After-row-of) → length (getD (from-After-row-of-to-At-records c .records .kept) (c .row-of .result) []) ≡ 16
 row-long c = sized (from-After-row-of-to-At-records c) .kept-row (c .row-of .result) (in-rows c)
 
-many-most : (c : Then5) → getD (from-Then5-to-At-records c .records .held) (from-Then5-to-After-row-of c .row-of .result) 0 ≤ 16
-many-most c = turn.moved-held (whole (from-Then5-to-At-records c)) (reach (from-Then5-to-At-records c)) (event (from-Then5-to-After-decode c)) (not-asked (from-Then5-to-Then4 c)) (from-Then5-to-At-records c .records .inv .windowed) (from-Then5-to-In-records c .records-test .taken) (holds (from-Then5-to-At-records c)) refl (from-Then5-to-After-sought c .sought .ensures) (from-Then5-to-After-place-in c .place-in .ensures) (message-is (from-Then5-to-After-place-in c) _) (from-Then5-to-After-is-there c .is-there .ensures) (from-Then5-to-After-row-of c .row-of .ensures) (from-Then5-to-After-plan-of c .plan-of .ensures) (c .if5 .taken)
+many-most : (c : Then6) → getD (from-Then6-to-At-records c .records .held) (from-Then6-to-After-row-of c .row-of .result) 0 ≤ 16
+many-most c = turn.moved-held (whole (from-Then6-to-At-records c)) (reach (from-Then6-to-At-records c)) (event (from-Then6-to-After-decode c)) (not-asked (from-Then6-to-Then5 c)) (from-Then6-to-At-records c .records .inv .windowed) (from-Then6-to-In-records c .records-test .taken) (holds (from-Then6-to-At-records c)) refl (from-Then6-to-After-sought c .sought .ensures) (from-Then6-to-After-place-in c .place-in .ensures) (message-is (from-Then6-to-After-place-in c) _) (from-Then6-to-After-is-there c .is-there .ensures) (from-Then6-to-After-row-of c .row-of .ensures) (from-Then6-to-After-plan-of c .plan-of .ensures) (c .if6 .taken)
 
 collected-holds : tie.Need-collected-holds Inv-collected μ-collected Inv-allowed μ-allowed Inv-returned μ-returned Inv-found μ-found Inv-left μ-left Inv-restored μ-restored Inv-sifted μ-sifted Inv-records μ-records
 collected-holds c =
@@ -1381,7 +1414,7 @@ collected-holds c =
 inside : (c : In-collected) → Inside (from-In-collected-to-After-row-of c .row-of .result) (c .before .collected .j) (c .before .collected .to) (c .before .collected .gone) (c .before .collected .deleted)
 inside c =
     let v = c .before .collected .inv .0 in
-    let least : c .before .collected .j < 16 = omega (arith, c .collected-test .taken, many-most (from-In-collected-to-Then5 c)) in
+    let least : c .before .collected .j < 16 = omega (arith, c .collected-test .taken, many-most (from-In-collected-to-Then6 c)) in
     let long : length (c .before .collected .deleted) ≡ length (from-In-collected-to-At-records c .records .deleted) = collected.list-length _ _ _ (there (from-In-collected-to-After-row-of c)) _ _ v in record {
       row = in-rows (from-In-collected-to-After-row-of c);
       place = least;
@@ -1418,61 +1451,61 @@ add-j : tie.Need-add-j Inv-collected μ-collected Inv-allowed μ-allowed Inv-ret
 add-j c = let b = inside (c .before) in omega arith
 
 mul-c-3 : tie.Need-mul-c-3 Inv-collected μ-collected Inv-allowed μ-allowed Inv-returned μ-returned Inv-found μ-found Inv-left μ-left Inv-restored μ-restored Inv-sifted μ-sifted Inv-records μ-records
-mul-c-3 c = let b = inside (from-Then6-to-In-collected c) in omega arith
+mul-c-3 c = let b = inside (from-Then7-to-In-collected c) in omega arith
 
 mul-c-4 : tie.Need-mul-c-4 Inv-collected μ-collected Inv-allowed μ-allowed Inv-returned μ-returned Inv-found μ-found Inv-left μ-left Inv-restored μ-restored Inv-sifted μ-sifted Inv-records μ-records
-mul-c-4 c = let b = inside (from-Then6-to-In-collected c) in omega arith
+mul-c-4 c = let b = inside (from-Then7-to-In-collected c) in omega arith
 
 index-1-c-2 : tie.Need-index-1-c-2 Inv-collected μ-collected Inv-allowed μ-allowed Inv-returned μ-returned Inv-found μ-found Inv-left μ-left Inv-restored μ-restored Inv-sifted μ-sifted Inv-records μ-records
-index-1-c-2 c = let b = inside (from-Then6-to-In-collected c) in omega arith
+index-1-c-2 c = let b = inside (from-Then7-to-In-collected c) in omega arith
 
 index-2-c-2 : tie.Need-index-2-c-2 Inv-collected μ-collected Inv-allowed μ-allowed Inv-returned μ-returned Inv-found μ-found Inv-left μ-left Inv-restored μ-restored Inv-sifted μ-sifted Inv-records μ-records
-index-2-c-2 c = let b = inside (from-Then6-to-In-collected c) in omega arith
+index-2-c-2 c = let b = inside (from-Then7-to-In-collected c) in omega arith
 
 add-to : tie.Need-add-to Inv-collected μ-collected Inv-allowed μ-allowed Inv-returned μ-returned Inv-found μ-found Inv-left μ-left Inv-restored μ-restored Inv-sifted μ-sifted Inv-records μ-records
-add-to c = let b = inside (from-Then6-to-In-collected c) in omega arith
+add-to c = let b = inside (from-Then7-to-In-collected c) in omega arith
 
 cast-deleted : tie.Need-cast-deleted Inv-collected μ-collected Inv-allowed μ-allowed Inv-returned μ-returned Inv-found μ-found Inv-left μ-left Inv-restored μ-restored Inv-sifted μ-sifted Inv-records μ-records
 cast-deleted c =
-    let b = inside (from-Else6-to-In-collected c) in omega arith
+    let b = inside (from-Else7-to-In-collected c) in omega arith
 
 mul-deleted : tie.Need-mul-deleted Inv-collected μ-collected Inv-allowed μ-allowed Inv-returned μ-returned Inv-found μ-found Inv-left μ-left Inv-restored μ-restored Inv-sifted μ-sifted Inv-records μ-records
 mul-deleted c =
-    let b = inside (from-Else6-to-In-collected c) in omega arith
+    let b = inside (from-Else7-to-In-collected c) in omega arith
 
 mul-deleted-2 : tie.Need-mul-deleted-2 Inv-collected μ-collected Inv-allowed μ-allowed Inv-returned μ-returned Inv-found μ-found Inv-left μ-left Inv-restored μ-restored Inv-sifted μ-sifted Inv-records μ-records
 mul-deleted-2 c =
-    let b = inside (from-Else6-to-In-collected c) in omega arith
+    let b = inside (from-Else7-to-In-collected c) in omega arith
 
 mul-deleted-3 : tie.Need-mul-deleted-3 Inv-collected μ-collected Inv-allowed μ-allowed Inv-returned μ-returned Inv-found μ-found Inv-left μ-left Inv-restored μ-restored Inv-sifted μ-sifted Inv-records μ-records
 mul-deleted-3 c =
-    let b = inside (from-Else6-to-In-collected c) in omega arith
+    let b = inside (from-Else7-to-In-collected c) in omega arith
 
 mul-deleted-4 : tie.Need-mul-deleted-4 Inv-collected μ-collected Inv-allowed μ-allowed Inv-returned μ-returned Inv-found μ-found Inv-left μ-left Inv-restored μ-restored Inv-sifted μ-sifted Inv-records μ-records
 mul-deleted-4 c =
-    let b = inside (from-Else6-to-In-collected c) in omega arith
+    let b = inside (from-Else7-to-In-collected c) in omega arith
 
 slice-write-deleted : tie.Need-slice-write-deleted Inv-collected μ-collected Inv-allowed μ-allowed Inv-returned μ-returned Inv-found μ-found Inv-left μ-left Inv-restored μ-restored Inv-sifted μ-sifted Inv-records μ-records
 slice-write-deleted c =
-    let b = inside (from-Else6-to-In-collected c) in omega arith
+    let b = inside (from-Else7-to-In-collected c) in omega arith
 
 add-deleted : tie.Need-add-deleted Inv-collected μ-collected Inv-allowed μ-allowed Inv-returned μ-returned Inv-found μ-found Inv-left μ-left Inv-restored μ-restored Inv-sifted μ-sifted Inv-records μ-records
 add-deleted c =
-    let b = inside (from-Else6-to-In-collected c) in omega arith
+    let b = inside (from-Else7-to-In-collected c) in omega arith
 
 add-gone : tie.Need-add-gone Inv-collected μ-collected Inv-allowed μ-allowed Inv-returned μ-returned Inv-found μ-found Inv-left μ-left Inv-restored μ-restored Inv-sifted μ-sifted Inv-records μ-records
 add-gone c =
-    let b = inside (from-Else6-to-In-collected c) in omega arith
+    let b = inside (from-Else7-to-In-collected c) in omega arith
 
 slice-write-deleted-2 : tie.Need-slice-write-deleted-2 Inv-collected μ-collected Inv-allowed μ-allowed Inv-returned μ-returned Inv-found μ-found Inv-left μ-left Inv-restored μ-restored Inv-sifted μ-sifted Inv-records μ-records
 slice-write-deleted-2 c =
-    let b = inside (from-Else6-to-In-collected c) in omega (arith, length-set (from-Else6-to-At-collected c .collected .deleted) (2 * from-Else6-to-At-collected c .collected .gone) (from-Else6-to-After-row-of c .row-of .result))
+    let b = inside (from-Else7-to-In-collected c) in omega (arith, length-set (from-Else7-to-At-collected c .collected .deleted) (2 * from-Else7-to-At-collected c .collected .gone) (from-Else7-to-After-row-of c .row-of .result))
 
 collected-less : tie.Need-collected-less Inv-collected μ-collected Inv-allowed μ-allowed Inv-returned μ-returned Inv-found μ-found Inv-left μ-left Inv-restored μ-restored Inv-sifted μ-sifted Inv-records μ-records
-collected-less c = omega (arith, from-Then6-to-In-collected c .collected-test .taken)
+collected-less c = omega (arith, from-Then7-to-In-collected c .collected-test .taken)
 
 collected-less-2 : tie.Need-collected-less-2 Inv-collected μ-collected Inv-allowed μ-allowed Inv-returned μ-returned Inv-found μ-found Inv-left μ-left Inv-restored μ-restored Inv-sifted μ-sifted Inv-records μ-records
-collected-less-2 c = omega (arith, from-Else6-to-In-collected c .collected-test .taken)
+collected-less-2 c = omega (arith, from-Else7-to-In-collected c .collected-test .taken)
 
 in-row : (c : In-collected) → c .before .collected .j < length (getD (from-In-collected-to-At-records c .records .kept) (from-In-collected-to-After-row-of c .row-of .result) [])
 in-row c = omega (arith, inside c .place, row-long (from-In-collected-to-After-row-of c))
@@ -1485,23 +1518,23 @@ in-row-now c =
 collected-again : tie.Need-collected-again Inv-collected μ-collected Inv-allowed μ-allowed Inv-returned μ-returned Inv-found μ-found Inv-left μ-left Inv-restored μ-restored Inv-sifted μ-sifted Inv-records μ-records
 unfolding named
 collected-again c =
-    let l = from-Then6-to-At-collected c .collected in
-    let i = from-Then6-to-After-row-of c .row-of .result in (
-      collected.stays (named (from-Then6-to-After-pins-then c .pins-then .result)) (from-Then6-to-At-records c .records .kept) i (there (from-Then6-to-After-row-of c)) (from-Then6-to-At-records c .records .deleted) 0 (l .inv .0) (in-row (from-Then6-to-In-collected c))
-          (any-default (getD (l .kept) i []) (l .j) _ noCheckpoint (in-row-now (from-Then6-to-In-collected c))) (ap (λ (x : Checkpoint). set (l .kept) i (set (getD (l .kept) i []) (l .j) x)) (from-Then6-to-After-no-checkpoint c .no-checkpoint .ensures))
-          (sym (c .before .is-named .ensures) ∙ c .if6 .taken),
-      omega (arith, from-Then6-to-In-collected c .collected-test .taken),
+    let l = from-Then7-to-At-collected c .collected in
+    let i = from-Then7-to-After-row-of c .row-of .result in (
+      collected.stays (named (from-Then7-to-After-pins-then c .pins-then .result)) (from-Then7-to-At-records c .records .kept) i (there (from-Then7-to-After-row-of c)) (from-Then7-to-At-records c .records .deleted) 0 (l .inv .0) (in-row (from-Then7-to-In-collected c))
+          (any-default (getD (l .kept) i []) (l .j) _ noCheckpoint (in-row-now (from-Then7-to-In-collected c))) (ap (λ (x : Checkpoint). set (l .kept) i (set (getD (l .kept) i []) (l .j) x)) (from-Then7-to-After-no-checkpoint c .no-checkpoint .ensures))
+          (sym (c .before .is-named .ensures) ∙ c .if7 .taken),
+      omega (arith, from-Then7-to-In-collected c .collected-test .taken),
     )
 
 collected-again-2 : tie.Need-collected-again-2 Inv-collected μ-collected Inv-allowed μ-allowed Inv-returned μ-returned Inv-found μ-found Inv-left μ-left Inv-restored μ-restored Inv-sifted μ-sifted Inv-records μ-records
 unfolding named
 collected-again-2 c =
-    let l = from-Else6-to-At-collected c .collected in
-    let i = from-Else6-to-After-row-of c .row-of .result in (
-      collected.goes (named (from-Else6-to-After-pins-then c .pins-then .result)) (from-Else6-to-At-records c .records .kept) i (there (from-Else6-to-After-row-of c)) (from-Else6-to-At-records c .records .deleted) 0 (l .inv .0) (in-row (from-Else6-to-In-collected c))
-          (any-default (getD (l .kept) i []) (l .j) _ noCheckpoint (in-row-now (from-Else6-to-In-collected c))) (ap (λ (x : Checkpoint). set (l .kept) i (set (getD (l .kept) i []) (l .j) x)) (from-Else6-to-After-no-checkpoint c .no-checkpoint .ensures))
-          (sym (c .before .is-named .ensures) ∙ c .if6 .left),
-      omega (arith, from-Else6-to-In-collected c .collected-test .taken),
+    let l = from-Else7-to-At-collected c .collected in
+    let i = from-Else7-to-After-row-of c .row-of .result in (
+      collected.goes (named (from-Else7-to-After-pins-then c .pins-then .result)) (from-Else7-to-At-records c .records .kept) i (there (from-Else7-to-After-row-of c)) (from-Else7-to-At-records c .records .deleted) 0 (l .inv .0) (in-row (from-Else7-to-In-collected c))
+          (any-default (getD (l .kept) i []) (l .j) _ noCheckpoint (in-row-now (from-Else7-to-In-collected c))) (ap (λ (x : Checkpoint). set (l .kept) i (set (getD (l .kept) i []) (l .j) x)) (from-Else7-to-After-no-checkpoint c .no-checkpoint .ensures))
+          (sym (c .before .is-named .ensures) ∙ c .if7 .left),
+      omega (arith, from-Else7-to-In-collected c .collected-test .taken),
     )
 
 -- The row is collected.
@@ -1509,7 +1542,7 @@ over : (c : After-collected) → c .before .collected .j ≡ getD (from-After-co
 over c = omega (arith, c .before .collected .inv .1, c .collected-test .left)
 
 to-most : (c : After-collected) → c .before .collected .to ≤ 16
-to-most c = omega (arith, c .before .collected .inv .0 .to-most, over c, many-most (from-After-collected-to-Then5 c))
+to-most c = omega (arith, c .before .collected .inv .0 .to-most, over c, many-most (from-After-collected-to-Then6 c))
 
 mul-first-kept : tie.Need-mul-first-kept Inv-collected μ-collected Inv-allowed μ-allowed Inv-returned μ-returned Inv-found μ-found Inv-left μ-left Inv-restored μ-restored Inv-sifted μ-sifted Inv-records μ-records
 mul-first-kept c = omega (arith, in-rows (from-After-collected-to-After-row-of c))
@@ -1544,11 +1577,11 @@ pinned c =
 kept-done : (c : After-collected) → c .before .collected .kept
     ≡ set (from-After-collected-to-At-records c .records .kept) (from-After-collected-to-After-row-of c .row-of .result) (placed 16 noCheckpoint (select (named (from-After-collected-to-After-pins-then c .pins-then .result)) (take (getD (from-After-collected-to-At-records c .records .held) (from-After-collected-to-After-row-of c .row-of .result) 0) (getD (from-After-collected-to-At-records c .records .kept) (from-After-collected-to-After-row-of c .row-of .result) []))))
 kept-done c =
-    collected.done _ _ _ (there (from-After-collected-to-After-row-of c)) _ _ (rw (over c) at (c .before .collected .inv .0)) (many-most (from-After-collected-to-Then5 c)) (turn.moved-filled (whole (from-After-collected-to-At-records c)) (reach (from-After-collected-to-At-records c)) (event (from-After-collected-to-After-decode c)) (not-asked (from-After-collected-to-Then4 c)) (from-After-collected-to-At-records c .records .inv .windowed) (from-After-collected-to-In-records c .records-test .taken) (holds (from-After-collected-to-At-records c)) refl (from-After-collected-to-After-sought c .sought .ensures) (from-After-collected-to-After-place-in c .place-in .ensures) (message-is (from-After-collected-to-After-place-in c) _) (from-After-collected-to-After-is-there c .is-there .ensures) (from-After-collected-to-After-row-of c .row-of .ensures) (from-After-collected-to-After-plan-of c .plan-of .ensures) (from-After-collected-to-Then5 c .if5 .taken)) (row-long (from-After-collected-to-After-row-of c))
+    collected.done _ _ _ (there (from-After-collected-to-After-row-of c)) _ _ (rw (over c) at (c .before .collected .inv .0)) (many-most (from-After-collected-to-Then6 c)) (turn.moved-filled (whole (from-After-collected-to-At-records c)) (reach (from-After-collected-to-At-records c)) (event (from-After-collected-to-After-decode c)) (not-asked (from-After-collected-to-Then5 c)) (from-After-collected-to-At-records c .records .inv .windowed) (from-After-collected-to-In-records c .records-test .taken) (holds (from-After-collected-to-At-records c)) refl (from-After-collected-to-After-sought c .sought .ensures) (from-After-collected-to-After-place-in c .place-in .ensures) (message-is (from-After-collected-to-After-place-in c) _) (from-After-collected-to-After-is-there c .is-there .ensures) (from-After-collected-to-After-row-of c .row-of .ensures) (from-After-collected-to-After-plan-of c .plan-of .ensures) (from-After-collected-to-Then6 c .if6 .taken)) (row-long (from-After-collected-to-After-row-of c))
 
 row-long-then : (c : After-collected) → length (getD (c .before .collected .kept) (from-After-collected-to-After-row-of c .row-of .result) []) ≡ 16
 row-long-then c =
-    collected.row-length _ _ _ (there (from-After-collected-to-After-row-of c)) _ _ (c .before .collected .inv .0) (omega (arith, over c, many-most (from-After-collected-to-Then5 c), row-long (from-After-collected-to-After-row-of c)))
+    collected.row-length _ _ _ (there (from-After-collected-to-After-row-of c)) _ _ (c .before .collected .inv .0) (omega (arith, over c, many-most (from-After-collected-to-Then6 c), row-long (from-After-collected-to-After-row-of c)))
     ∙ row-long (from-After-collected-to-After-row-of c)
 
 to-is : (c : After-collected) → c .before .collected .to
@@ -1557,7 +1590,7 @@ to-is c = c .before .collected .inv .0 .stayed ∙ ap (λ (k : ℕ). length (sel
 
 places : (c : After-collected) → from-After-collected-to-After-plan-of c .plan-of .result .stores ≡ true
     → length (select (named (from-After-collected-to-After-pins-then c .pins-then .result)) (take (getD (from-After-collected-to-At-records c .records .held) (from-After-collected-to-After-row-of c .row-of .result) 0) (getD (from-After-collected-to-At-records c .records .kept) (from-After-collected-to-After-row-of c .row-of .result) []))) < 16
-places c = turn.moved-places (whole (from-After-collected-to-At-records c)) (reach (from-After-collected-to-At-records c)) (event (from-After-collected-to-After-decode c)) (not-asked (from-After-collected-to-Then4 c)) (from-After-collected-to-At-records c .records .inv .windowed) (from-After-collected-to-In-records c .records-test .taken) (holds (from-After-collected-to-At-records c)) refl (from-After-collected-to-After-sought c .sought .ensures) (from-After-collected-to-After-place-in c .place-in .ensures) (message-is (from-After-collected-to-After-place-in c) _) (from-After-collected-to-After-is-there c .is-there .ensures) (from-After-collected-to-After-row-of c .row-of .ensures) (from-After-collected-to-After-plan-of c .plan-of .ensures) (from-After-collected-to-Then5 c .if5 .taken) (pinned (from-After-collected-to-After-pins-then c))
+places c = turn.moved-places (whole (from-After-collected-to-At-records c)) (reach (from-After-collected-to-At-records c)) (event (from-After-collected-to-After-decode c)) (not-asked (from-After-collected-to-Then5 c)) (from-After-collected-to-At-records c .records .inv .windowed) (from-After-collected-to-In-records c .records-test .taken) (holds (from-After-collected-to-At-records c)) refl (from-After-collected-to-After-sought c .sought .ensures) (from-After-collected-to-After-place-in c .place-in .ensures) (message-is (from-After-collected-to-After-place-in c) _) (from-After-collected-to-After-is-there c .is-there .ensures) (from-After-collected-to-After-row-of c .row-of .ensures) (from-After-collected-to-After-plan-of c .plan-of .ensures) (from-After-collected-to-Then6 c .if6 .taken) (pinned (from-After-collected-to-After-pins-then c))
 
 to-room : (c : After-collected) → from-After-collected-to-After-plan-of c .plan-of .result .stores ≡ true → c .before .collected .to < 16
 to-room c stores = omega (arith, places c stores, to-is c)
@@ -1606,7 +1639,7 @@ moved-state c =
     same-parts (messagesIn (set (from-After-count-to-At-records c .records .window) (from-After-count-to-After-plan-of c .plan-of .result .place) (from-After-count-to-After-plan-of c .plan-of .result .message)) (from-After-count-to-At-records c .records .first) (from-After-count-to-After-plan-of c .plan-of .result .tail))
     (ap (set (from-After-count-to-At-records c .records .vectors) i) (from-After-count-to-After-vector-then c .vector-then .ensures)) (row-then (c .before) ∙ ap (λ (live : Checkpoint). set (from-After-count-to-At-records c .records .kept) i (left live .row)) (live-is (from-After-count-to-After-live-from c)))
     (ap (set (from-After-count-to-At-records c .records .held) i) (held-then c ∙ ap (λ (live : Checkpoint). left live .held) (live-is (from-After-count-to-After-live-from c))))
-    (turn.moved-state (whole (from-After-count-to-At-records c)) (reach (from-After-count-to-At-records c)) (event (from-After-count-to-After-decode c)) (not-asked (from-After-count-to-Then4 c)) (from-After-count-to-At-records c .records .inv .windowed) (from-After-count-to-In-records c .records-test .taken) (holds (from-After-count-to-At-records c)) refl (from-After-count-to-After-sought c .sought .ensures) (from-After-count-to-After-place-in c .place-in .ensures) (message-is (from-After-count-to-After-place-in c) _) (from-After-count-to-After-is-there c .is-there .ensures) (from-After-count-to-After-row-of c .row-of .ensures) (from-After-count-to-After-plan-of c .plan-of .ensures) (from-After-count-to-Then5 c .if5 .taken) (pinned (from-After-count-to-After-pins-then c)))
+    (turn.moved-state (whole (from-After-count-to-At-records c)) (reach (from-After-count-to-At-records c)) (event (from-After-count-to-After-decode c)) (not-asked (from-After-count-to-Then5 c)) (from-After-count-to-At-records c .records .inv .windowed) (from-After-count-to-In-records c .records-test .taken) (holds (from-After-count-to-At-records c)) refl (from-After-count-to-After-sought c .sought .ensures) (from-After-count-to-After-place-in c .place-in .ensures) (message-is (from-After-count-to-After-place-in c) _) (from-After-count-to-After-is-there c .is-there .ensures) (from-After-count-to-After-row-of c .row-of .ensures) (from-After-count-to-After-plan-of c .plan-of .ensures) (from-After-count-to-Then6 c .if6 .taken) (pinned (from-After-count-to-After-pins-then c)))
 
 moved-says : (c : After-collected) → Says (record { refused = from-After-collected-to-After-number-of c .number-of .result; value = from-After-collected-to-After-value-of c .value-of .result; deletions = c .before .collected .gone }) (c .before .collected .deleted) (perform (whole (from-After-collected-to-At-records c)) (event (from-After-collected-to-After-decode c)) .reply)
 moved-says c =
@@ -1616,7 +1649,7 @@ moved-says c =
     let gone : ℕ → List Checkpoint = λ k. select (λ x. not (named (from-After-collected-to-After-pins-then c .pins-then .result) x)) (take k row) in
     let went : c .before .collected .gone ≡ length (gone (c .before .collected .j)) = omega (arith, v .went) in
     same-words (from-After-collected-to-After-number-of c .number-of .ensures) (from-After-collected-to-After-value-of c .value-of .ensures) (went ∙ ap (λ (k : ℕ). length (gone k)) (over c)) (v .list ∙ ap (λ (k : ℕ). sets (from-After-collected-to-At-records c .records .deleted) 0 (pairs (listed i (gone k)))) (over c))
-    (turn.moved-says (whole (from-After-collected-to-At-records c)) (reach (from-After-collected-to-At-records c)) (event (from-After-collected-to-After-decode c)) (not-asked (from-After-collected-to-Then4 c)) (from-After-collected-to-At-records c .records .inv .windowed) (from-After-collected-to-In-records c .records-test .taken) (holds (from-After-collected-to-At-records c)) refl (from-After-collected-to-After-sought c .sought .ensures) (from-After-collected-to-After-place-in c .place-in .ensures) (message-is (from-After-collected-to-After-place-in c) _) (from-After-collected-to-After-is-there c .is-there .ensures) (from-After-collected-to-After-row-of c .row-of .ensures) (from-After-collected-to-After-plan-of c .plan-of .ensures) (from-After-collected-to-Then5 c .if5 .taken) (pinned (from-After-collected-to-After-pins-then c)) (from-After-collected-to-At-records c .records .deleted) (from-After-collected-to-At-records c .records .inv .lent))
+    (turn.moved-says (whole (from-After-collected-to-At-records c)) (reach (from-After-collected-to-At-records c)) (event (from-After-collected-to-After-decode c)) (not-asked (from-After-collected-to-Then5 c)) (from-After-collected-to-At-records c .records .inv .windowed) (from-After-collected-to-In-records c .records-test .taken) (holds (from-After-collected-to-At-records c)) refl (from-After-collected-to-After-sought c .sought .ensures) (from-After-collected-to-After-place-in c .place-in .ensures) (message-is (from-After-collected-to-After-place-in c) _) (from-After-collected-to-After-is-there c .is-there .ensures) (from-After-collected-to-After-row-of c .row-of .ensures) (from-After-collected-to-After-plan-of c .plan-of .ensures) (from-After-collected-to-Then6 c .if6 .taken) (pinned (from-After-collected-to-After-pins-then c)) (from-After-collected-to-At-records c .records .deleted) (from-After-collected-to-At-records c .records .inv .lent))
 
 lent-moved : (c : After-collected) → length (c .before .collected .deleted) ≡ 512
 lent-moved c = collected.list-length _ _ _ (there (from-After-collected-to-After-row-of c)) _ _ (c .before .collected .inv .0) ∙ from-After-collected-to-At-records c .records .inv .lent
@@ -1630,21 +1663,22 @@ records-less : tie.Need-records-less Inv-collected μ-collected Inv-allowed μ-a
 records-less c = omega (arith, left (from-After-slice-known3-to-Then3 c))
 
 records-less-2 : tie.Need-records-less-2 Inv-collected μ-collected Inv-allowed μ-allowed Inv-returned μ-returned Inv-found μ-found Inv-left μ-left Inv-restored μ-restored Inv-sifted μ-sifted Inv-records μ-records
-records-less-2 c = omega (arith, left (from-After-slice-known4-to-Then3 c))
+records-less-2 c = omega (arith, left (from-After-goes-on-to-Then3 c))
 
 records-less-3 : tie.Need-records-less-3 Inv-collected μ-collected Inv-allowed μ-allowed Inv-returned μ-returned Inv-found μ-found Inv-left μ-left Inv-restored μ-restored Inv-sifted μ-sifted Inv-records μ-records
 records-less-3 c = omega (arith, left (from-After-slice-known5-to-Then3 c))
 
 records-again : tie.Need-records-again Inv-collected μ-collected Inv-allowed μ-allowed Inv-returned μ-returned Inv-found μ-found Inv-left μ-left Inv-restored μ-restored Inv-sifted μ-sifted Inv-records μ-records
 records-again c =
-    one-more (from-After-slice-known3-to-At-records c .records .inv) (left (from-After-slice-known3-to-Then3 c)) (room (from-After-slice-known3-to-Then3 c)) (few (from-After-slice-known3-to-Then3 c)) (event (from-After-slice-known3-to-After-decode c)) (is-event (from-After-slice-known3-to-After-decode c))
+    one-more (from-After-slice-known3-to-At-records c .records .inv) (left (from-After-slice-known3-to-Then3 c)) (from-After-slice-known3-to-Then4 c .if4 .taken) (room (from-After-slice-known3-to-Then3 c)) (few (from-After-slice-known3-to-Then3 c)) (event (from-After-slice-known3-to-After-decode c)) (is-event (from-After-slice-known3-to-After-decode c))
     (moved-state (from-After-slice-known3-to-After-count c))
     (moved-says (from-After-slice-known3-to-After-collected c)) (lent-moved (from-After-slice-known3-to-After-collected c)) (c .before .before .print .ensures .0) (c .before .before .print .ensures .1) (c .before .before .print .kept .1 .1 .1 .0)
-    (turn.planned (whole (from-After-slice-known3-to-At-records c)) (reach (from-After-slice-known3-to-At-records c)) (event (from-After-slice-known3-to-After-decode c)) (not-asked (from-After-slice-known3-to-Then4 c)) (from-After-slice-known3-to-At-records c .records .inv .windowed) (from-After-slice-known3-to-In-records c .records-test .taken) (holds (from-After-slice-known3-to-At-records c)) refl (from-After-slice-known3-to-After-sought c .sought .ensures) (from-After-slice-known3-to-After-place-in c .place-in .ensures) (message-is (from-After-slice-known3-to-After-place-in c) _) (from-After-slice-known3-to-After-is-there c .is-there .ensures) (from-After-slice-known3-to-After-row-of c .row-of .ensures) (from-After-slice-known3-to-After-plan-of c .plan-of .ensures)) (omega (arith, turn.tail-next (whole (from-After-slice-known3-to-At-records c)) (reach (from-After-slice-known3-to-At-records c)) (event (from-After-slice-known3-to-After-decode c)) (not-asked (from-After-slice-known3-to-Then4 c)) (from-After-slice-known3-to-At-records c .records .inv .windowed) (from-After-slice-known3-to-In-records c .records-test .taken) (holds (from-After-slice-known3-to-At-records c)) refl (from-After-slice-known3-to-After-sought c .sought .ensures) (from-After-slice-known3-to-After-place-in c .place-in .ensures) (message-is (from-After-slice-known3-to-After-place-in c) _) (from-After-slice-known3-to-After-is-there c .is-there .ensures) (from-After-slice-known3-to-After-row-of c .row-of .ensures) (from-After-slice-known3-to-After-plan-of c .plan-of .ensures), from-After-slice-known3-to-At-records c .records .inv .sends))
+    (accepted-goes-on (from-After-slice-known3-to-Start c .args .all) (from-After-slice-known3-to-After-number-of c .number-of .ensures ∙ turn.moved-accepted (whole (from-After-slice-known3-to-At-records c)) (reach (from-After-slice-known3-to-At-records c)) (event (from-After-slice-known3-to-After-decode c)) (not-asked (from-After-slice-known3-to-Then5 c)) (from-After-slice-known3-to-At-records c .records .inv .windowed) (from-After-slice-known3-to-In-records c .records-test .taken) (holds (from-After-slice-known3-to-At-records c)) refl (from-After-slice-known3-to-After-sought c .sought .ensures) (from-After-slice-known3-to-After-place-in c .place-in .ensures) (message-is (from-After-slice-known3-to-After-place-in c) _) (from-After-slice-known3-to-After-is-there c .is-there .ensures) (from-After-slice-known3-to-After-row-of c .row-of .ensures) (from-After-slice-known3-to-After-plan-of c .plan-of .ensures) (from-After-slice-known3-to-Then6 c .if6 .taken)) (from-After-slice-known3-to-Then4 c .if4 .taken))
+    (turn.planned (whole (from-After-slice-known3-to-At-records c)) (reach (from-After-slice-known3-to-At-records c)) (event (from-After-slice-known3-to-After-decode c)) (not-asked (from-After-slice-known3-to-Then5 c)) (from-After-slice-known3-to-At-records c .records .inv .windowed) (from-After-slice-known3-to-In-records c .records-test .taken) (holds (from-After-slice-known3-to-At-records c)) refl (from-After-slice-known3-to-After-sought c .sought .ensures) (from-After-slice-known3-to-After-place-in c .place-in .ensures) (message-is (from-After-slice-known3-to-After-place-in c) _) (from-After-slice-known3-to-After-is-there c .is-there .ensures) (from-After-slice-known3-to-After-row-of c .row-of .ensures) (from-After-slice-known3-to-After-plan-of c .plan-of .ensures)) (omega (arith, turn.tail-next (whole (from-After-slice-known3-to-At-records c)) (reach (from-After-slice-known3-to-At-records c)) (event (from-After-slice-known3-to-After-decode c)) (not-asked (from-After-slice-known3-to-Then5 c)) (from-After-slice-known3-to-At-records c .records .inv .windowed) (from-After-slice-known3-to-In-records c .records-test .taken) (holds (from-After-slice-known3-to-At-records c)) refl (from-After-slice-known3-to-After-sought c .sought .ensures) (from-After-slice-known3-to-After-place-in c .place-in .ensures) (message-is (from-After-slice-known3-to-After-place-in c) _) (from-After-slice-known3-to-After-is-there c .is-there .ensures) (from-After-slice-known3-to-After-row-of c .row-of .ensures) (from-After-slice-known3-to-After-plan-of c .plan-of .ensures), from-After-slice-known3-to-At-records c .records .inv .sends))
 
 -- Nothing moves.
-unmoved-says : (c : Else5) → Says (record { refused = c .before .number-of .result; value = c .before .before .value-of .result; deletions = 0 }) (from-Else5-to-At-records c .records .deleted) (perform (whole (from-Else5-to-At-records c)) (event (from-Else5-to-After-decode c)) .reply)
-unmoved-says c = same-words (c .before .number-of .ensures) (c .before .before .value-of .ensures) refl refl (turn.unmoved-says (whole (from-Else5-to-At-records c)) (reach (from-Else5-to-At-records c)) (event (from-Else5-to-After-decode c)) (not-asked (from-Else5-to-Then4 c)) (from-Else5-to-At-records c .records .inv .windowed) (from-Else5-to-In-records c .records-test .taken) (holds (from-Else5-to-At-records c)) refl (from-Else5-to-After-sought c .sought .ensures) (from-Else5-to-After-place-in c .place-in .ensures) (message-is (from-Else5-to-After-place-in c) _) (from-Else5-to-After-is-there c .is-there .ensures) (from-Else5-to-After-row-of c .row-of .ensures) (from-Else5-to-After-plan-of c .plan-of .ensures) (c .if5 .left) (from-Else5-to-At-records c .records .deleted))
+unmoved-says : (c : Else6) → Says (record { refused = c .before .number-of .result; value = c .before .before .value-of .result; deletions = 0 }) (from-Else6-to-At-records c .records .deleted) (perform (whole (from-Else6-to-At-records c)) (event (from-Else6-to-After-decode c)) .reply)
+unmoved-says c = same-words (c .before .number-of .ensures) (c .before .before .value-of .ensures) refl refl (turn.unmoved-says (whole (from-Else6-to-At-records c)) (reach (from-Else6-to-At-records c)) (event (from-Else6-to-After-decode c)) (not-asked (from-Else6-to-Then5 c)) (from-Else6-to-At-records c .records .inv .windowed) (from-Else6-to-In-records c .records-test .taken) (holds (from-Else6-to-At-records c)) refl (from-Else6-to-After-sought c .sought .ensures) (from-Else6-to-After-place-in c .place-in .ensures) (message-is (from-Else6-to-After-place-in c) _) (from-Else6-to-After-is-there c .is-there .ensures) (from-Else6-to-After-row-of c .row-of .ensures) (from-Else6-to-After-plan-of c .plan-of .ensures) (c .if6 .left) (from-Else6-to-At-records c .records .deleted))
 
 print-requires-2 : tie.Need-print-requires-2 Inv-collected μ-collected Inv-allowed μ-allowed Inv-returned μ-returned Inv-found μ-found Inv-left μ-left Inv-restored μ-restored Inv-sifted μ-sifted Inv-records μ-records
 print-requires-2 c κs =
@@ -1653,13 +1687,13 @@ print-requires-2 c κs =
 
 records-again-2 : tie.Need-records-again-2 Inv-collected μ-collected Inv-allowed μ-allowed Inv-returned μ-returned Inv-found μ-found Inv-left μ-left Inv-restored μ-restored Inv-sifted μ-sifted Inv-records μ-records
 records-again-2 c =
-    one-more (from-After-slice-known4-to-At-records c .records .inv) (left (from-After-slice-known4-to-Then3 c)) (room (from-After-slice-known4-to-Then3 c)) (few (from-After-slice-known4-to-Then3 c)) (event (from-After-slice-known4-to-After-decode c)) (is-event (from-After-slice-known4-to-After-decode c))
-    (turn.unmoved-state (whole (from-After-slice-known4-to-At-records c)) (reach (from-After-slice-known4-to-At-records c)) (event (from-After-slice-known4-to-After-decode c)) (not-asked (from-After-slice-known4-to-Then4 c)) (from-After-slice-known4-to-At-records c .records .inv .windowed) (from-After-slice-known4-to-In-records c .records-test .taken) (holds (from-After-slice-known4-to-At-records c)) refl (from-After-slice-known4-to-After-sought c .sought .ensures) (from-After-slice-known4-to-After-place-in c .place-in .ensures) (message-is (from-After-slice-known4-to-After-place-in c) _) (from-After-slice-known4-to-After-is-there c .is-there .ensures) (from-After-slice-known4-to-After-row-of c .row-of .ensures) (from-After-slice-known4-to-After-plan-of c .plan-of .ensures) (from-After-slice-known4-to-Else5 c .if5 .left)) (unmoved-says (from-After-slice-known4-to-Else5 c)) (from-After-slice-known4-to-At-records c .records .inv .lent) (c .before .before .print2 .ensures .0) (c .before .before .print2 .ensures .1)
-    (c .before .before .print2 .kept .1 .1 .1 .0) (turn.planned (whole (from-After-slice-known4-to-At-records c)) (reach (from-After-slice-known4-to-At-records c)) (event (from-After-slice-known4-to-After-decode c)) (not-asked (from-After-slice-known4-to-Then4 c)) (from-After-slice-known4-to-At-records c .records .inv .windowed) (from-After-slice-known4-to-In-records c .records-test .taken) (holds (from-After-slice-known4-to-At-records c)) refl (from-After-slice-known4-to-After-sought c .sought .ensures) (from-After-slice-known4-to-After-place-in c .place-in .ensures) (message-is (from-After-slice-known4-to-After-place-in c) _) (from-After-slice-known4-to-After-is-there c .is-there .ensures) (from-After-slice-known4-to-After-row-of c .row-of .ensures) (from-After-slice-known4-to-After-plan-of c .plan-of .ensures)) (omega (arith, turn.tail-next (whole (from-After-slice-known4-to-At-records c)) (reach (from-After-slice-known4-to-At-records c)) (event (from-After-slice-known4-to-After-decode c)) (not-asked (from-After-slice-known4-to-Then4 c)) (from-After-slice-known4-to-At-records c .records .inv .windowed) (from-After-slice-known4-to-In-records c .records-test .taken) (holds (from-After-slice-known4-to-At-records c)) refl (from-After-slice-known4-to-After-sought c .sought .ensures) (from-After-slice-known4-to-After-place-in c .place-in .ensures) (message-is (from-After-slice-known4-to-After-place-in c) _) (from-After-slice-known4-to-After-is-there c .is-there .ensures) (from-After-slice-known4-to-After-row-of c .row-of .ensures) (from-After-slice-known4-to-After-plan-of c .plan-of .ensures), from-After-slice-known4-to-At-records c .records .inv .sends))
+    one-more (from-After-goes-on-to-At-records c .records .inv) (left (from-After-goes-on-to-Then3 c)) (from-After-goes-on-to-Then4 c .if4 .taken) (room (from-After-goes-on-to-Then3 c)) (few (from-After-goes-on-to-Then3 c)) (event (from-After-goes-on-to-After-decode c)) (is-event (from-After-goes-on-to-After-decode c))
+    (turn.unmoved-state (whole (from-After-goes-on-to-At-records c)) (reach (from-After-goes-on-to-At-records c)) (event (from-After-goes-on-to-After-decode c)) (not-asked (from-After-goes-on-to-Then5 c)) (from-After-goes-on-to-At-records c .records .inv .windowed) (from-After-goes-on-to-In-records c .records-test .taken) (holds (from-After-goes-on-to-At-records c)) refl (from-After-goes-on-to-After-sought c .sought .ensures) (from-After-goes-on-to-After-place-in c .place-in .ensures) (message-is (from-After-goes-on-to-After-place-in c) _) (from-After-goes-on-to-After-is-there c .is-there .ensures) (from-After-goes-on-to-After-row-of c .row-of .ensures) (from-After-goes-on-to-After-plan-of c .plan-of .ensures) (from-After-goes-on-to-Else6 c .if6 .left)) (unmoved-says (from-After-goes-on-to-Else6 c)) (from-After-goes-on-to-At-records c .records .inv .lent) (from-After-goes-on-to-After-print2 c .print2 .ensures .0) (from-After-goes-on-to-After-print2 c .print2 .ensures .1)
+    (from-After-goes-on-to-After-print2 c .print2 .kept .1 .1 .1 .0) (c .goes-on .ensures) (turn.planned (whole (from-After-goes-on-to-At-records c)) (reach (from-After-goes-on-to-At-records c)) (event (from-After-goes-on-to-After-decode c)) (not-asked (from-After-goes-on-to-Then5 c)) (from-After-goes-on-to-At-records c .records .inv .windowed) (from-After-goes-on-to-In-records c .records-test .taken) (holds (from-After-goes-on-to-At-records c)) refl (from-After-goes-on-to-After-sought c .sought .ensures) (from-After-goes-on-to-After-place-in c .place-in .ensures) (message-is (from-After-goes-on-to-After-place-in c) _) (from-After-goes-on-to-After-is-there c .is-there .ensures) (from-After-goes-on-to-After-row-of c .row-of .ensures) (from-After-goes-on-to-After-plan-of c .plan-of .ensures)) (omega (arith, turn.tail-next (whole (from-After-goes-on-to-At-records c)) (reach (from-After-goes-on-to-At-records c)) (event (from-After-goes-on-to-After-decode c)) (not-asked (from-After-goes-on-to-Then5 c)) (from-After-goes-on-to-At-records c .records .inv .windowed) (from-After-goes-on-to-In-records c .records-test .taken) (holds (from-After-goes-on-to-At-records c)) refl (from-After-goes-on-to-After-sought c .sought .ensures) (from-After-goes-on-to-After-place-in c .place-in .ensures) (message-is (from-After-goes-on-to-After-place-in c) _) (from-After-goes-on-to-After-is-there c .is-there .ensures) (from-After-goes-on-to-After-row-of c .row-of .ensures) (from-After-goes-on-to-After-plan-of c .plan-of .ensures), from-After-goes-on-to-At-records c .records .inv .sends))
 
 -- A recovery: the record asks for it, and it is not refused.
-asked : (c : Else4) → (event (from-Else4-to-After-decode c) ≡ some (Recover (c .before .before .recovery-of .result .failed))) × (recoveryVerdict (from-Else4-to-Start c .args .s .count) (c .before .before .recovery-of .result .failed) ≡ Accepted)
-asked c = same-asked (from-Else4-to-Start c .args .s .count) (event (from-Else4-to-After-decode c)) (c .before .before .recovery-of .result) (c .before .before .recovery-of .ensures) (not-false _ (c .if4 .left))
+asked : (c : Else5) → (event (from-Else5-to-After-decode c) ≡ some (Recover (c .before .before .recovery-of .result .failed))) × (recoveryVerdict (from-Else5-to-Start c .args .s .count) (c .before .before .recovery-of .result .failed) ≡ Accepted)
+asked c = same-asked (from-Else5-to-Start c .args .s .count) (event (from-Else5-to-After-decode c)) (c .before .before .recovery-of .result) (c .before .before .recovery-of .ensures) (not-false _ (c .if5 .left))
 
 failed-marks-requires : tie.Need-failed-marks-requires Inv-collected μ-collected Inv-allowed μ-allowed Inv-returned μ-returned Inv-found μ-found Inv-left μ-left Inv-restored μ-restored Inv-sifted μ-sifted Inv-records μ-records
 failed-marks-requires c κs = most (from-After-own-entries-to-At-records c)
@@ -1951,61 +1985,61 @@ add-k : tie.Need-add-k Inv-collected μ-collected Inv-allowed μ-allowed Inv-ret
 add-k c = let b = inside-left (c .before) in omega arith
 
 mul-x-3 : tie.Need-mul-x-3 Inv-collected μ-collected Inv-allowed μ-allowed Inv-returned μ-returned Inv-found μ-found Inv-left μ-left Inv-restored μ-restored Inv-sifted μ-sifted Inv-records μ-records
-mul-x-3 c = let b = inside-left (from-Then7-to-In-left c) in omega arith
+mul-x-3 c = let b = inside-left (from-Then8-to-In-left c) in omega arith
 
 mul-x-4 : tie.Need-mul-x-4 Inv-collected μ-collected Inv-allowed μ-allowed Inv-returned μ-returned Inv-found μ-found Inv-left μ-left Inv-restored μ-restored Inv-sifted μ-sifted Inv-records μ-records
-mul-x-4 c = let b = inside-left (from-Then7-to-In-left c) in omega arith
+mul-x-4 c = let b = inside-left (from-Then8-to-In-left c) in omega arith
 
 index-1-x-2 : tie.Need-index-1-x-2 Inv-collected μ-collected Inv-allowed μ-allowed Inv-returned μ-returned Inv-found μ-found Inv-left μ-left Inv-restored μ-restored Inv-sifted μ-sifted Inv-records μ-records
-index-1-x-2 c = let b = inside-left (from-Then7-to-In-left c) in omega arith
+index-1-x-2 c = let b = inside-left (from-Then8-to-In-left c) in omega arith
 
 index-2-x-2 : tie.Need-index-2-x-2 Inv-collected μ-collected Inv-allowed μ-allowed Inv-returned μ-returned Inv-found μ-found Inv-left μ-left Inv-restored μ-restored Inv-sifted μ-sifted Inv-records μ-records
-index-2-x-2 c = let b = inside-left (from-Then7-to-In-left c) in omega arith
+index-2-x-2 c = let b = inside-left (from-Then8-to-In-left c) in omega arith
 
 add-stay : tie.Need-add-stay Inv-collected μ-collected Inv-allowed μ-allowed Inv-returned μ-returned Inv-found μ-found Inv-left μ-left Inv-restored μ-restored Inv-sifted μ-sifted Inv-records μ-records
-add-stay c = let b = inside-left (from-Then7-to-In-left c) in omega arith
+add-stay c = let b = inside-left (from-Then8-to-In-left c) in omega arith
 
 cast-deleted-2 : tie.Need-cast-deleted-2 Inv-collected μ-collected Inv-allowed μ-allowed Inv-returned μ-returned Inv-found μ-found Inv-left μ-left Inv-restored μ-restored Inv-sifted μ-sifted Inv-records μ-records
 cast-deleted-2 c =
-    let b = inside-left (from-Else7-to-In-left c) in omega arith
+    let b = inside-left (from-Else8-to-In-left c) in omega arith
 
 mul-deleted-5 : tie.Need-mul-deleted-5 Inv-collected μ-collected Inv-allowed μ-allowed Inv-returned μ-returned Inv-found μ-found Inv-left μ-left Inv-restored μ-restored Inv-sifted μ-sifted Inv-records μ-records
 mul-deleted-5 c =
-    let b = inside-left (from-Else7-to-In-left c) in omega arith
+    let b = inside-left (from-Else8-to-In-left c) in omega arith
 
 mul-deleted-6 : tie.Need-mul-deleted-6 Inv-collected μ-collected Inv-allowed μ-allowed Inv-returned μ-returned Inv-found μ-found Inv-left μ-left Inv-restored μ-restored Inv-sifted μ-sifted Inv-records μ-records
 mul-deleted-6 c =
-    let b = inside-left (from-Else7-to-In-left c) in omega arith
+    let b = inside-left (from-Else8-to-In-left c) in omega arith
 
 mul-deleted-7 : tie.Need-mul-deleted-7 Inv-collected μ-collected Inv-allowed μ-allowed Inv-returned μ-returned Inv-found μ-found Inv-left μ-left Inv-restored μ-restored Inv-sifted μ-sifted Inv-records μ-records
 mul-deleted-7 c =
-    let b = inside-left (from-Else7-to-In-left c) in omega arith
+    let b = inside-left (from-Else8-to-In-left c) in omega arith
 
 mul-deleted-8 : tie.Need-mul-deleted-8 Inv-collected μ-collected Inv-allowed μ-allowed Inv-returned μ-returned Inv-found μ-found Inv-left μ-left Inv-restored μ-restored Inv-sifted μ-sifted Inv-records μ-records
 mul-deleted-8 c =
-    let b = inside-left (from-Else7-to-In-left c) in omega arith
+    let b = inside-left (from-Else8-to-In-left c) in omega arith
 
 slice-write-deleted-3 : tie.Need-slice-write-deleted-3 Inv-collected μ-collected Inv-allowed μ-allowed Inv-returned μ-returned Inv-found μ-found Inv-left μ-left Inv-restored μ-restored Inv-sifted μ-sifted Inv-records μ-records
 slice-write-deleted-3 c =
-    let b = inside-left (from-Else7-to-In-left c) in omega arith
+    let b = inside-left (from-Else8-to-In-left c) in omega arith
 
 add-deleted-2 : tie.Need-add-deleted-2 Inv-collected μ-collected Inv-allowed μ-allowed Inv-returned μ-returned Inv-found μ-found Inv-left μ-left Inv-restored μ-restored Inv-sifted μ-sifted Inv-records μ-records
 add-deleted-2 c =
-    let b = inside-left (from-Else7-to-In-left c) in omega arith
+    let b = inside-left (from-Else8-to-In-left c) in omega arith
 
 add-all-gone : tie.Need-add-all-gone Inv-collected μ-collected Inv-allowed μ-allowed Inv-returned μ-returned Inv-found μ-found Inv-left μ-left Inv-restored μ-restored Inv-sifted μ-sifted Inv-records μ-records
 add-all-gone c =
-    let b = inside-left (from-Else7-to-In-left c) in omega arith
+    let b = inside-left (from-Else8-to-In-left c) in omega arith
 
 slice-write-deleted-4 : tie.Need-slice-write-deleted-4 Inv-collected μ-collected Inv-allowed μ-allowed Inv-returned μ-returned Inv-found μ-found Inv-left μ-left Inv-restored μ-restored Inv-sifted μ-sifted Inv-records μ-records
 slice-write-deleted-4 c =
-    let b = inside-left (from-Else7-to-In-left c) in omega (arith, length-set (from-Else7-to-At-left c .left .deleted) (2 * from-Else7-to-At-left c .left .all-gone) (from-Else7-to-At-restored c .restored .q))
+    let b = inside-left (from-Else8-to-In-left c) in omega (arith, length-set (from-Else8-to-At-left c .left .deleted) (2 * from-Else8-to-At-left c .left .all-gone) (from-Else8-to-At-restored c .restored .q))
 
 left-less : tie.Need-left-less Inv-collected μ-collected Inv-allowed μ-allowed Inv-returned μ-returned Inv-found μ-found Inv-left μ-left Inv-restored μ-restored Inv-sifted μ-sifted Inv-records μ-records
-left-less c = omega (arith, from-Then7-to-In-left c .left-test .taken)
+left-less c = omega (arith, from-Then8-to-In-left c .left-test .taken)
 
 left-less-2 : tie.Need-left-less-2 Inv-collected μ-collected Inv-allowed μ-allowed Inv-returned μ-returned Inv-found μ-found Inv-left μ-left Inv-restored μ-restored Inv-sifted μ-sifted Inv-records μ-records
-left-less-2 c = omega (arith, from-Else7-to-In-left c .left-test .taken)
+left-less-2 c = omega (arith, from-Else8-to-In-left c .left-test .taken)
 
 in-left : (c : In-left) → c .before .left .k < length (getD (from-In-left-to-At-restored c .restored .kept) (from-In-left-to-At-restored c .restored .q) [])
 in-left c = omega (arith, inside-left c .place, kept-long (from-In-left-to-In-restored c))
@@ -2018,23 +2052,23 @@ in-left-now c =
 left-again : tie.Need-left-again Inv-collected μ-collected Inv-allowed μ-allowed Inv-returned μ-returned Inv-found μ-found Inv-left μ-left Inv-restored μ-restored Inv-sifted μ-sifted Inv-records μ-records
 unfolding stays named
 left-again c =
-    let l = from-Then7-to-At-left c .left in
-    let q = from-Then7-to-At-restored c .restored .q in (
-      collected.stays _ (from-Then7-to-At-restored c .restored .kept) q (row-there (from-Then7-to-In-restored c)) (from-Then7-to-At-restored c .restored .deleted) (from-Then7-to-At-restored c .restored .all-gone) (l .inv .0) (in-left (from-Then7-to-In-left c))
-          (any-default (getD (l .kept) q []) (l .k) _ noCheckpoint (in-left-now (from-Then7-to-In-left c))) (ap (λ (x : Checkpoint). set (l .kept) q (set (getD (l .kept) q []) (l .k) x)) (from-Then7-to-After-no-checkpoint c .no-checkpoint .ensures))
-          (sym (c .before .does-stay .ensures) ∙ c .if7 .taken),
-      omega (arith, from-Then7-to-In-left c .left-test .taken),
+    let l = from-Then8-to-At-left c .left in
+    let q = from-Then8-to-At-restored c .restored .q in (
+      collected.stays _ (from-Then8-to-At-restored c .restored .kept) q (row-there (from-Then8-to-In-restored c)) (from-Then8-to-At-restored c .restored .deleted) (from-Then8-to-At-restored c .restored .all-gone) (l .inv .0) (in-left (from-Then8-to-In-left c))
+          (any-default (getD (l .kept) q []) (l .k) _ noCheckpoint (in-left-now (from-Then8-to-In-left c))) (ap (λ (x : Checkpoint). set (l .kept) q (set (getD (l .kept) q []) (l .k) x)) (from-Then8-to-After-no-checkpoint c .no-checkpoint .ensures))
+          (sym (c .before .does-stay .ensures) ∙ c .if8 .taken),
+      omega (arith, from-Then8-to-In-left c .left-test .taken),
     )
 
 left-again-2 : tie.Need-left-again-2 Inv-collected μ-collected Inv-allowed μ-allowed Inv-returned μ-returned Inv-found μ-found Inv-left μ-left Inv-restored μ-restored Inv-sifted μ-sifted Inv-records μ-records
 unfolding stays named
 left-again-2 c =
-    let l = from-Else7-to-At-left c .left in
-    let q = from-Else7-to-At-restored c .restored .q in (
-      collected.goes _ (from-Else7-to-At-restored c .restored .kept) q (row-there (from-Else7-to-In-restored c)) (from-Else7-to-At-restored c .restored .deleted) (from-Else7-to-At-restored c .restored .all-gone) (l .inv .0) (in-left (from-Else7-to-In-left c))
-          (any-default (getD (l .kept) q []) (l .k) _ noCheckpoint (in-left-now (from-Else7-to-In-left c))) (ap (λ (x : Checkpoint). set (l .kept) q (set (getD (l .kept) q []) (l .k) x)) (from-Else7-to-After-no-checkpoint c .no-checkpoint .ensures))
-          (sym (c .before .does-stay .ensures) ∙ c .if7 .left),
-      omega (arith, from-Else7-to-In-left c .left-test .taken),
+    let l = from-Else8-to-At-left c .left in
+    let q = from-Else8-to-At-restored c .restored .q in (
+      collected.goes _ (from-Else8-to-At-restored c .restored .kept) q (row-there (from-Else8-to-In-restored c)) (from-Else8-to-At-restored c .restored .deleted) (from-Else8-to-At-restored c .restored .all-gone) (l .inv .0) (in-left (from-Else8-to-In-left c))
+          (any-default (getD (l .kept) q []) (l .k) _ noCheckpoint (in-left-now (from-Else8-to-In-left c))) (ap (λ (x : Checkpoint). set (l .kept) q (set (getD (l .kept) q []) (l .k) x)) (from-Else8-to-After-no-checkpoint c .no-checkpoint .ensures))
+          (sym (c .before .does-stay .ensures) ∙ c .if8 .left),
+      omega (arith, from-Else8-to-In-left c .left-test .taken),
     )
 
 -- One process more is done.
@@ -2078,7 +2112,7 @@ restores c =
 recovery-says : (c : After-restored) → Says (record { refused = 0; value = Number (from-After-restored-to-At-returned c .returned .back); deletions = c .before .restored .all-gone }) (c .before .restored .deleted) (perform (whole (from-After-restored-to-At-records c)) (event (from-After-restored-to-After-decode c)) .reply)
 recovery-says c =
     let at = from-After-restored-to-At-records c in
-    recovered-says (whole at) (reach at) (event (from-After-restored-to-After-decode c)) (from-After-restored-to-After-recovery-of c .recovery-of .result .failed) (asked (from-After-restored-to-Else4 c) .0) (asked (from-After-restored-to-Else4 c) .1) _ (from-After-restored-to-At-records c .records .deleted) (c .before .restored .deleted) (restores c) (from-After-restored-to-At-records c .records .inv .lent)
+    recovered-says (whole at) (reach at) (event (from-After-restored-to-After-decode c)) (from-After-restored-to-After-recovery-of c .recovery-of .result .failed) (asked (from-After-restored-to-Else5 c) .0) (asked (from-After-restored-to-Else5 c) .1) _ (from-After-restored-to-At-records c .records .deleted) (c .before .restored .deleted) (restores c) (from-After-restored-to-At-records c .records .inv .lent)
 
 -- The messages that were sent behind the line leave the window.
 sifted-holds : tie.Need-sifted-holds Inv-collected μ-collected Inv-allowed μ-allowed Inv-returned μ-returned Inv-found μ-found Inv-left μ-left Inv-restored μ-restored Inv-sifted μ-sifted Inv-records μ-records
@@ -2104,37 +2138,37 @@ add-z : tie.Need-add-z Inv-collected μ-collected Inv-allowed μ-allowed Inv-ret
 add-z c = omega (arith, place-at (c .before))
 
 mul-window-2 : tie.Need-mul-window-2 Inv-collected μ-collected Inv-allowed μ-allowed Inv-returned μ-returned Inv-found μ-found Inv-left μ-left Inv-restored μ-restored Inv-sifted μ-sifted Inv-records μ-records
-mul-window-2 c = omega (arith, place-at (from-Else9-to-In-sifted c))
+mul-window-2 c = omega (arith, place-at (from-Else10-to-In-sifted c))
 
 array-set-from-window-2 : tie.Need-array-set-from-window-2 Inv-collected μ-collected Inv-allowed μ-allowed Inv-returned μ-returned Inv-found μ-found Inv-left μ-left Inv-restored μ-restored Inv-sifted μ-sifted Inv-records μ-records
-array-set-from-window-2 c = omega (arith, place-at (from-Else9-to-In-sifted c))
+array-set-from-window-2 c = omega (arith, place-at (from-Else10-to-In-sifted c))
 
 does-outlive-requires : tie.Need-does-outlive-requires Inv-collected μ-collected Inv-allowed μ-allowed Inv-returned μ-returned Inv-found μ-found Inv-left μ-left Inv-restored μ-restored Inv-sifted μ-sifted Inv-records μ-records
-does-outlive-requires c κs = sifted.sender-there (from-Then8-to-At-sifted c .sifted .inv) (long-before (from-Then8-to-At-records c)) (from-Then8-to-In-sifted c .sifted-test .taken) _ (any-default (from-Then8-to-At-sifted c .sifted .window) (from-Then8-to-At-sifted c .sifted .z) _ noMessage (rw (from-Then8-to-At-sifted c .sifted .inv .windowed .long) (place-at (from-Then8-to-In-sifted c)))) (c .if8 .taken) (whole (from-Then8-to-At-records c)) (fine (from-Then8-to-At-records c)) (holds (from-Then8-to-At-records c))
+does-outlive-requires c κs = sifted.sender-there (from-Then9-to-At-sifted c .sifted .inv) (long-before (from-Then9-to-At-records c)) (from-Then9-to-In-sifted c .sifted-test .taken) _ (any-default (from-Then9-to-At-sifted c .sifted .window) (from-Then9-to-At-sifted c .sifted .z) _ noMessage (rw (from-Then9-to-At-sifted c .sifted .inv .windowed .long) (place-at (from-Then9-to-In-sifted c)))) (c .if9 .taken) (whole (from-Then9-to-At-records c)) (fine (from-Then9-to-At-records c)) (holds (from-Then9-to-At-records c))
 
 add-outlived : tie.Need-add-outlived Inv-collected μ-collected Inv-allowed μ-allowed Inv-returned μ-returned Inv-found μ-found Inv-left μ-left Inv-restored μ-restored Inv-sifted μ-sifted Inv-records μ-records
 add-outlived c = omega (arith, few-met (from-After-first-from-to-In-sifted c))
 
 sub-underway : tie.Need-sub-underway Inv-collected μ-collected Inv-allowed μ-allowed Inv-returned μ-returned Inv-found μ-found Inv-left μ-left Inv-restored μ-restored Inv-sifted μ-sifted Inv-records μ-records
-sub-underway c = omega (arith, from-Else9-to-In-sifted c .sifted-test .taken)
+sub-underway c = omega (arith, from-Else10-to-In-sifted c .sifted-test .taken)
 
 sifted-less : tie.Need-sifted-less Inv-collected μ-collected Inv-allowed μ-allowed Inv-returned μ-returned Inv-found μ-found Inv-left μ-left Inv-restored μ-restored Inv-sifted μ-sifted Inv-records μ-records
 sifted-less c = omega (arith, sifted.more-left (from-After-first-from-to-At-sifted c .sifted .inv) (long-before (from-After-first-from-to-At-records c)) (from-After-first-from-to-In-sifted c .sifted-test .taken))
 
 sifted-less-2 : tie.Need-sifted-less-2 Inv-collected μ-collected Inv-allowed μ-allowed Inv-returned μ-returned Inv-found μ-found Inv-left μ-left Inv-restored μ-restored Inv-sifted μ-sifted Inv-records μ-records
-sifted-less-2 c = omega (arith, sifted.more-left (from-Else9-to-At-sifted c .sifted .inv) (long-before (from-Else9-to-At-records c)) (from-Else9-to-In-sifted c .sifted-test .taken))
+sifted-less-2 c = omega (arith, sifted.more-left (from-Else10-to-At-sifted c .sifted .inv) (long-before (from-Else10-to-At-records c)) (from-Else10-to-In-sifted c .sifted-test .taken))
 
 sifted-less-3 : tie.Need-sifted-less-3 Inv-collected μ-collected Inv-allowed μ-allowed Inv-returned μ-returned Inv-found μ-found Inv-left μ-left Inv-restored μ-restored Inv-sifted μ-sifted Inv-records μ-records
-sifted-less-3 c = omega (arith, sifted.more-left (from-Else8-to-At-sifted c .sifted .inv) (long-before (from-Else8-to-At-records c)) (from-Else8-to-In-sifted c .sifted-test .taken))
+sifted-less-3 c = omega (arith, sifted.more-left (from-Else9-to-At-sifted c .sifted .inv) (long-before (from-Else9-to-At-records c)) (from-Else9-to-In-sifted c .sifted-test .taken))
 
 sifted-again : tie.Need-sifted-again Inv-collected μ-collected Inv-allowed μ-allowed Inv-returned μ-returned Inv-found μ-found Inv-left μ-left Inv-restored μ-restored Inv-sifted μ-sifted Inv-records μ-records
-sifted-again c = sifted.stays-there (from-After-first-from-to-At-sifted c .sifted .inv) (long-before (from-After-first-from-to-At-records c)) (from-After-first-from-to-In-sifted c .sifted-test .taken) _ (any-default (from-After-first-from-to-At-sifted c .sifted .window) (from-After-first-from-to-At-sifted c .sifted .z) _ noMessage (rw (from-After-first-from-to-At-sifted c .sifted .inv .windowed .long) (place-at (from-After-first-from-to-In-sifted c)))) (from-After-first-from-to-Then8 c .if8 .taken) (sym (c .before .before .does-outlive .ensures) ∙ c .before .if9 .taken) (c .first-from .ensures)
+sifted-again c = sifted.stays-there (from-After-first-from-to-At-sifted c .sifted .inv) (long-before (from-After-first-from-to-At-records c)) (from-After-first-from-to-In-sifted c .sifted-test .taken) _ (any-default (from-After-first-from-to-At-sifted c .sifted .window) (from-After-first-from-to-At-sifted c .sifted .z) _ noMessage (rw (from-After-first-from-to-At-sifted c .sifted .inv .windowed .long) (place-at (from-After-first-from-to-In-sifted c)))) (from-After-first-from-to-Then9 c .if9 .taken) (sym (c .before .before .does-outlive .ensures) ∙ c .before .if10 .taken) (c .first-from .ensures)
 
 sifted-again-2 : tie.Need-sifted-again-2 Inv-collected μ-collected Inv-allowed μ-allowed Inv-returned μ-returned Inv-found μ-found Inv-left μ-left Inv-restored μ-restored Inv-sifted μ-sifted Inv-records μ-records
-sifted-again-2 c = sifted.goes (from-Else9-to-At-sifted c .sifted .inv) (long-before (from-Else9-to-At-records c)) (from-Else9-to-In-sifted c .sifted-test .taken) _ (any-default (from-Else9-to-At-sifted c .sifted .window) (from-Else9-to-At-sifted c .sifted .z) _ noMessage (rw (from-Else9-to-At-sifted c .sifted .inv .windowed .long) (place-at (from-Else9-to-In-sifted c)))) (c .before .before .if8 .taken) (sym (c .before .does-outlive .ensures) ∙ c .if9 .left) (from-Else9-to-After-no-message c .no-message .ensures)
+sifted-again-2 c = sifted.goes (from-Else10-to-At-sifted c .sifted .inv) (long-before (from-Else10-to-At-records c)) (from-Else10-to-In-sifted c .sifted-test .taken) _ (any-default (from-Else10-to-At-sifted c .sifted .window) (from-Else10-to-At-sifted c .sifted .z) _ noMessage (rw (from-Else10-to-At-sifted c .sifted .inv .windowed .long) (place-at (from-Else10-to-In-sifted c)))) (c .before .before .if9 .taken) (sym (c .before .does-outlive .ensures) ∙ c .if10 .left) (from-Else10-to-After-no-message c .no-message .ensures)
 
 sifted-again-3 : tie.Need-sifted-again-3 Inv-collected μ-collected Inv-allowed μ-allowed Inv-returned μ-returned Inv-found μ-found Inv-left μ-left Inv-restored μ-restored Inv-sifted μ-sifted Inv-records μ-records
-sifted-again-3 c = sifted.passed (from-Else8-to-At-sifted c .sifted .inv) (long-before (from-Else8-to-At-records c)) (from-Else8-to-In-sifted c .sifted-test .taken) _ (any-default (from-Else8-to-At-sifted c .sifted .window) (from-Else8-to-At-sifted c .sifted .z) _ noMessage (rw (from-Else8-to-At-sifted c .sifted .inv .windowed .long) (place-at (from-Else8-to-In-sifted c)))) (c .if8 .left)
+sifted-again-3 c = sifted.passed (from-Else9-to-At-sifted c .sifted .inv) (long-before (from-Else9-to-At-records c)) (from-Else9-to-In-sifted c .sifted-test .taken) _ (any-default (from-Else9-to-At-sifted c .sifted .window) (from-Else9-to-At-sifted c .sifted .z) _ noMessage (rw (from-Else9-to-At-sifted c .sifted .inv .windowed .long) (place-at (from-Else9-to-In-sifted c)))) (c .if9 .left)
 
 -- All are met: those left in the window are the ones that the model leaves.
 still : (c : After-sifted) → messagesIn (c .before .sifted .window) (c .before .sifted .first) (from-After-sifted-to-At-records c .records .tail) ≡ select (outlives (from-After-sifted-to-At-returned c .returned .members)) (underWay (whole (from-After-sifted-to-At-records c)))
@@ -2145,7 +2179,7 @@ recovery-state : (c : After-sifted) → perform (whole (from-After-sifted-to-At-
 unfolding stillOf
 recovery-state c =
     let at = from-After-sifted-to-At-records c in
-    recovered-state (whole at) (reach at) (event (from-After-sifted-to-After-decode c)) (from-After-sifted-to-After-recovery-of c .recovery-of .result .failed) (asked (from-After-sifted-to-Else4 c) .0) (asked (from-After-sifted-to-Else4 c) .1) _ (from-After-sifted-to-At-records c .records .deleted) (from-After-sifted-to-At-restored c .restored .deleted) (restores (c .before .before))
+    recovered-state (whole at) (reach at) (event (from-After-sifted-to-After-decode c)) (from-After-sifted-to-After-recovery-of c .recovery-of .result .failed) (asked (from-After-sifted-to-Else5 c) .0) (asked (from-After-sifted-to-Else5 c) .1) _ (from-After-sifted-to-At-records c .records .deleted) (from-After-sifted-to-At-restored c .restored .deleted) (restores (c .before .before))
     ∙ ap (λ (l : List Message). stateInPlace (from-After-sifted-to-Start c .args .s .count) (from-After-sifted-to-At-returned c .returned .vectors) (from-After-sifted-to-At-restored c .restored .pins) (from-After-sifted-to-At-restored c .restored .kept) (from-After-sifted-to-At-returned c .returned .sent) (from-After-sifted-to-At-restored c .restored .held) l (from-After-sifted-to-At-records c .records .last)) (sym (still c))
 
 print-requires-3 : tie.Need-print-requires-3 Inv-collected μ-collected Inv-allowed μ-allowed Inv-returned μ-returned Inv-found μ-found Inv-left μ-left Inv-restored μ-restored Inv-sifted μ-sifted Inv-records μ-records
@@ -2155,9 +2189,9 @@ print-requires-3 c κs =
 
 records-again-3 : tie.Need-records-again-3 Inv-collected μ-collected Inv-allowed μ-allowed Inv-returned μ-returned Inv-found μ-found Inv-left μ-left Inv-restored μ-restored Inv-sifted μ-sifted Inv-records μ-records
 records-again-3 c =
-    one-more (from-After-slice-known5-to-At-records c .records .inv) (left (from-After-slice-known5-to-Then3 c)) (room (from-After-slice-known5-to-Then3 c)) (few (from-After-slice-known5-to-Then3 c)) (event (from-After-slice-known5-to-After-decode c)) (is-event (from-After-slice-known5-to-After-decode c))
+    one-more (from-After-slice-known5-to-At-records c .records .inv) (left (from-After-slice-known5-to-Then3 c)) (from-After-slice-known5-to-Then4 c .if4 .taken) (room (from-After-slice-known5-to-Then3 c)) (few (from-After-slice-known5-to-Then3 c)) (event (from-After-slice-known5-to-After-decode c)) (is-event (from-After-slice-known5-to-After-decode c))
     (recovery-state (from-After-slice-known5-to-After-sifted c)) (recovery-says (from-After-slice-known5-to-After-restored c)) (from-After-slice-known5-to-At-restored c .restored .inv .long ∙ from-After-slice-known5-to-At-records c .records .inv .lent) (c .before .before .print3 .ensures .0) (c .before .before .print3 .ensures .1)
-    (c .before .before .print3 .kept .1 .1 .1 .0) (from-After-slice-known5-to-At-sifted c .sifted .inv .windowed) (omega (arith, from-After-slice-known5-to-At-records c .records .inv .sends))
+    (c .before .before .print3 .kept .1 .1 .1 .0) (accepted-goes-on (from-After-slice-known5-to-Start c .args .all) refl (from-After-slice-known5-to-Then4 c .if4 .taken)) (from-After-slice-known5-to-At-sifted c .sifted .inv .windowed) (omega (arith, from-After-slice-known5-to-At-records c .records .inv .sends))
 
 -- The start and the end of the block.
 same-begin : (c : After-no-checkpoint) → stateInPlace (from-After-no-checkpoint-to-Start c .args .s .count) (from-After-no-checkpoint-to-After-vector-rows c .vector-rows .result) (from-After-no-checkpoint-to-After-pin-rows c .pin-rows .result) (from-After-no-checkpoint-to-After-kept-rows c .kept-rows .result) (from-After-no-checkpoint-to-Start c .args .s .sent) (from-After-no-checkpoint-to-Start c .args .s .held) (messagesIn (c .before .opened .result) 0 64) (from-After-no-checkpoint-to-Start c .args .s .last) ≡ from-After-no-checkpoint-to-Start c .args .s
@@ -2166,26 +2200,28 @@ same-begin c = same-start (from-After-no-checkpoint-to-Start c .args .s) (from-A
 records-holds : tie.Need-records-holds Inv-collected μ-collected Inv-allowed μ-allowed Inv-returned μ-returned Inv-found μ-found Inv-left μ-left Inv-restored μ-restored Inv-sifted μ-sifted Inv-records μ-records
 records-holds c =
     none-yet (from-After-no-message-to-Start c .args .s) (from-After-no-message-to-Start c .pre .0) (from-After-no-message-to-After-vector-rows c .vector-rows .ensures) (from-After-no-message-to-After-pin-rows c .pin-rows .ensures) (from-After-no-message-to-After-kept-rows c .kept-rows .ensures) (c .before .before .opened .ensures) (from-After-no-message-to-Start c .pre .3) (from-After-no-message-to-Start c .args .done) (from-After-no-message-to-Start c .pre .1)
-    (drop 1 (now (from-After-no-message-to-Start c .args .trace))) (now (from-After-no-message-to-Start c .args .out)) (now (from-After-no-message-to-Start c .args .deleted)) (from-After-no-message-to-Start c .pre .2) (same-begin (c .before))
+    (drop 1 (now (from-After-no-message-to-Start c .args .trace))) (now (from-After-no-message-to-Start c .args .out)) (now (from-After-no-message-to-Start c .args .deleted)) (from-After-no-message-to-Start c .pre .2) (same-begin (c .before)) (from-After-no-message-to-Start c .args .all)
 
 -- Why the loop has stopped.
-stops : (c : Left-records) → Stops (from-Left-records-to-Start c .args .done) (length (drop 1 (now (from-Left-records-to-Start c .args .trace)))) (c .before .records .taken) (length (now (from-Left-records-to-Start c .args .out))) (c .before .records .written)
+stops : (c : Left-records) → Stops (from-Left-records-to-Start c .args .done) (length (drop 1 (now (from-Left-records-to-Start c .args .trace)))) (c .before .records .taken) (length (now (from-Left-records-to-Start c .args .out))) (c .before .records .written) (c .before .records .going)
 stops c =
     let l = c .before .records in
     let block = length (drop 1 (now (from-Left-records-to-Start c .args .trace))) in
     let done = from-Left-records-to-Start c .args .done in
     let out = length (now (from-Left-records-to-Start c .args .out)) in
-    by-four (c .records-test .came)
-    (λ t. no-room done block (l .taken) out (l .written) (l .inv .fits) (omega (arith, l .inv .long, leb-false longestLine (length (l .out) - l .written) (t .4 .left))))
-    (λ t. no-record done block (l .taken) out (l .written) (left-none (now (from-Left-records-to-Start c .args .trace)) (l .taken) (sym (t .2 .ensures) ∙ t .3 .left)))
-    (λ t. at-limit done block (l .taken) out (l .written) (l .inv .few) (ltb-false (done + l .taken) 1000000000 (t .1 .left)))
-    (λ t. no-place done block (l .taken) out (l .written) (l .tail) (l .inv .sends) (t .left))
+    by-five (c .records-test .came)
+    (λ t. at-a-refusal done block (l .taken) out (l .written) (l .going) (t .5 .left))
+    (λ t. no-room done block (l .taken) out (l .written) (l .going) (l .inv .fits) (omega (arith, l .inv .long, leb-false longestLine (length (l .out) - l .written) (t .4 .left))))
+    (λ t. no-record done block (l .taken) out (l .written) (l .going) (left-none (now (from-Left-records-to-Start c .args .trace)) (l .taken) (sym (t .2 .ensures) ∙ t .3 .left)))
+    (λ t. at-limit done block (l .taken) out (l .written) (l .going) (l .inv .few) (ltb-false (done + l .taken) 1000000000 (t .1 .left)))
+    (λ t. no-place done block (l .taken) out (l .written) (l .going) (l .tail) (l .inv .sends) (t .left))
   where
-    by-four : {A B C D E : Type 0} → A ⊎ (B ⊎ (C ⊎ D)) → (A → E) → (B → E) → (C → E) → (D → E) → E
-    by-four (inl a) f g h k = f a
-    by-four (inr (inl b)) f g h k = g b
-    by-four (inr (inr (inl x))) f g h k = h x
-    by-four (inr (inr (inr d))) f g h k = k d
+    by-five : {A B C D E F : Type 0} → A ⊎ (B ⊎ (C ⊎ (D ⊎ E))) → (A → F) → (B → F) → (C → F) → (D → F) → (E → F) → F
+    by-five (inl a) f g h k m = f a
+    by-five (inr (inl b)) f g h k m = g b
+    by-five (inr (inr (inl x))) f g h k m = h x
+    by-five (inr (inr (inr (inl d)))) f g h k m = k d
+    by-five (inr (inr (inr (inr e)))) f g h k m = m e
 
 closed-requires : tie.Need-closed-requires Inv-collected μ-collected Inv-allowed μ-allowed Inv-returned μ-returned Inv-found μ-found Inv-left μ-left Inv-restored μ-restored Inv-sifted μ-sifted Inv-records μ-records
 closed-requires c κs =
@@ -2284,6 +2320,7 @@ replay-beside-spec =
     records-less
     records-again
     print-requires-2
+    (λ c κs. search needs)
     records-less-2
     records-again-2
     (λ c κs. search needs)
