@@ -28,7 +28,7 @@ use Rattle.model.specs.Refusals.{firstOf, checkpointRefusal, sendRefusal, force
 use Rattle.model.specs.Outcomes.{judged, checkpointOutcome, sendOutcome, message, deliverOutcome, loseOutcome}
 use Rattle.model.specs.laws.Refusals.{refusal-in}
 use Rattle.model.proofs.Risen.{risen-is-exact}
-use Rattle.rows.specs.Receipt.{vectorFirst, takenThen}
+use Rattle.retention.specs.Receipt.{vectorFirst, takenThen}
 use Rattle.plans.specs.declared.Lookup.{Lookup}
 use Rattle.plans.specs.declared.Plan.{Plan}
 use Rattle.plans.specs.declared.Verdict.{Verdict}

@@ -14,7 +14,7 @@ use Rattle.model.specs.declared.Run.{Run}
 use Rattle.model.specs.Words.{Process, withProcess, underWay, withMessages}
 use Rattle.model.specs.Steps.{Deletion, listed}
 use Rattle.model.specs.Sound.{sound}
-use Rattle.rows.specs.Receipt.{vectorThen, keptThen}
+use Rattle.retention.specs.Receipt.{vectorThen, keptThen}
 use Rattle.plans.specs.declared.Lookup.{Lookup}
 use Rattle.plans.specs.declared.Plan.{Plan}
 use Rattle.plans.specs.Carried.{vectorAt, ownAt, liveAt, keptAt, pinsBy, unnamedBy, unmoved, moved, messagesThen, Fulfils}

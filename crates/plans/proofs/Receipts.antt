@@ -16,7 +16,7 @@ use Rattle.model.specs.declared.Checkpoint.{Checkpoint}
 use Rattle.model.specs.Words.{named, noCheckpoint, Process, live}
 use Rattle.model.specs.Steps.{listed, settled, deletions, checkpointed, takenIn}
 use Rattle.model.specs.Sound.{ascending}
-use Rattle.rows.specs.Receipt.{vectorFirst, pinsFirst, vectorThen, pinsThen, keptThen}
+use Rattle.retention.specs.Receipt.{vectorFirst, pinsFirst, vectorThen, pinsThen, keptThen}
 use Rattle.plans.proofs.Settling.{indexes, room-behind, stays-behind, deleted-before, moved-own, taken-own, taken-length}
 
 module _ (i : ℕ) (carried : List Interval) (P : Process) where

@@ -16,9 +16,9 @@ use Rattle.model.specs.declared.Refusal.{Refusal}
 use Rattle.model.specs.declared.Run.{Run}
 use Rattle.model.specs.Words.{mostUnderWay, entry, liveIndex, named, noMessage}
 use Rattle.model.specs.Steps.{Deletion, listed}
-use Rattle.rows.specs.declared.kept.KeptRow.{KeptRow}
-use Rattle.rows.specs.Kept.{keptRow}
-use Rattle.rows.specs.Receipt.{takenThen, vectorThen, pinsThen, keptThen}
+use Rattle.retention.specs.declared.kept.KeptRow.{KeptRow}
+use Rattle.retention.specs.Kept.{keptRow}
+use Rattle.retention.specs.Receipt.{takenThen, vectorThen, pinsThen, keptThen}
 use Rattle.plans.specs.declared.Plan.{Plan}
 use Rattle.plans.specs.Planned.{refusalOf}
 use Rattle.plans.specs.Tables.{messagesIn}

@@ -35,8 +35,8 @@ use Rattle.listing.specs.Said.{reportIn, Says}
 use Rattle.listing.specs.Lines.{longestLine, replyOf, valueIn}
 use Rattle.listing.specs.Printed.{Printed}
 use Rattle.listing.specs.declared.Summary.{Summary}
-use Rattle.rows.specs.Kept.{keptRow}
-use Rattle.rows.specs.Receipt.{keptThen}
+use Rattle.retention.specs.Kept.{keptRow}
+use Rattle.retention.specs.Receipt.{keptThen}
 use Rattle.plans.specs.Tables.{messagesIn}
 use Rattle.plans.specs.declared.Recovery.{Recovery}
 use Rattle.plans.specs.declared.Verdict.the-variants.{Accepted}

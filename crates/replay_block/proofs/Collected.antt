@@ -17,10 +17,10 @@ use Rattle.model.specs.declared.Checkpoint.{Checkpoint}
 use Rattle.model.specs.Words.{noCheckpoint, named}
 use Rattle.model.specs.Steps.{listed}
 use Rattle.model.specs.Outcomes.{pairs}
-use Rattle.rows.specs.Deletions.{pairsOf}
-use Rattle.rows.specs.Kept.{keptRow}
-use Rattle.rows.specs.Receipt.{keptThen}
-use Rattle.rows.proofs.Deletions.{pair-yes, pair-no}
+use Rattle.retention.specs.Deletions.{pairsOf}
+use Rattle.retention.specs.Kept.{keptRow}
+use Rattle.retention.specs.Receipt.{keptThen}
+use Rattle.retention.proofs.Deletions.{pair-yes, pair-no}
 
 -- A row of which the first j entries are gone through: those that stay, then unused places, then the rest.
 abbrev pub halfway : {A : Type 0} → A → List A → ℕ → List A → ℕ → List A

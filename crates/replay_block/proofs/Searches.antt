@@ -13,12 +13,12 @@ use Rattle.laws.specs.Truth.{and-left, and-right}
 use Rattle.model.specs.declared.Interval.{Interval}
 use Rattle.model.specs.declared.CheckpointIndex.{CheckpointIndex}
 use Rattle.model.specs.declared.Checkpoint.{Checkpoint}
-use Rattle.rows.specs.declared.line.Latest.{Latest}
-use Rattle.rows.specs.declared.recovery.Found.{Found}
-use Rattle.rows.specs.Line.{allowedBy, latestBy, latestIs}
-use Rattle.rows.specs.Recovery.{notLater, latestFound}
-use Rattle.rows.specs.Turn.{memberBy, memberFrom}
-use Rattle.rows.proofs.Turn.{member-from, search-most as most}
+use Rattle.members.specs.declared.line.Latest.{Latest}
+use Rattle.members.specs.Line.{allowedBy, latestBy, latestIs}
+use Rattle.members.specs.Turn.{memberBy, memberFrom}
+use Rattle.members.proofs.Member.{member-from, search-most as most}
+use Rattle.recovery.specs.declared.pins.Found.{Found}
+use Rattle.recovery.specs.Recovery.{notLater, latestFound}
 
 -- None are searched, or as many as there are.
 pub search-most : (wanted : Bool) (held upto : ℕ) → upto ≡ pick wanted held 0 → upto ≤ held

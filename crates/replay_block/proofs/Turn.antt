@@ -30,8 +30,8 @@ use Rattle.model.specs.Calls.{Answered}
 use Rattle.model.specs.Listing.{deletionsText, perform}
 use Rattle.model.specs.WholeRuns.{Reachable}
 use Rattle.model.proofs.WholeRuns.{reachable-sound}
-use Rattle.rows.specs.Kept.{keptRow}
-use Rattle.rows.specs.Receipt.{vectorThen, pinsThen, keptThen}
+use Rattle.retention.specs.Kept.{keptRow}
+use Rattle.retention.specs.Receipt.{vectorThen, pinsThen, keptThen}
 use Rattle.plans.specs.declared.Lookup.{Lookup}
 use Rattle.plans.specs.declared.Plan.{Plan}
 use Rattle.plans.specs.Carried.{vectorAt, ownAt, liveAt, keptAt, pinsBy, unnamedBy, unmoved, moved, messagesThen}

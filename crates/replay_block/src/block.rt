@@ -52,7 +52,7 @@ fn replay_beside(
     let base = last;
     let mut first = 0;
     let mut tail = 64;
-    let empty = rows::kept::no_checkpoint();
+    let empty = rows::start::no_checkpoint();
     let unused = plans::no_message();
     let mut taken = 0;
     let mut written = 0;
@@ -97,10 +97,10 @@ fn replay_beside(
             let verdict = p.verdict;
             let refused = record::number_of(verdict);
             if p.moves {
-                let live = rows::line::live_from(vector, i);
+                let live = members::line::live_from(vector, i);
                 let pins_before = pins[i];
                 let carried = p.carried;
-                let moved = rows::receipt::pins_then(
+                let moved = retention::receipt::pins_then(
                     p.stores,
                     live.index,
                     vector,
@@ -108,7 +108,7 @@ fn replay_beside(
                     pins_before,
                     i,
                 );
-                let received = rows::receipt::vector_then(p.stores, vector, carried, i);
+                let received = retention::receipt::vector_then(p.stores, vector, carried, i);
                 vectors[i] = received;
                 pins[i] = moved;
                 let many = held[i];
@@ -119,7 +119,7 @@ fn replay_beside(
                     let c = kept[i][j];
                     kept[i][j] = empty;
                     j += 1;
-                    let stays = rows::pins::is_named(moved, c.index);
+                    let stays = retention::pins::is_named(moved, c.index);
                     if stays {
                         kept[i][to] = c;
                         to += 1;
@@ -152,9 +152,9 @@ fn replay_beside(
             }
         } else {
             // each process goes back to its member of the line
-            let owns = rows::line::own_entries(vectors);
+            let owns = members::line::own_entries(vectors);
             let failed = recovery.failed;
-            let marks = rows::line::failed_marks(failed, n);
+            let marks = members::line::failed_marks(failed, n);
             let mut rolled = [false; 16];
             let mut members = [CheckpointIndex(0); 16];
             let mut back = 0;
@@ -162,18 +162,18 @@ fn replay_beside(
             'returned: while f < n {
                 let current = vectors[f];
                 let held_now = held[f];
-                let allowed = rows::line::is_allowed(current, owns, marks);
-                let searched = rows::recovery::to_search(!allowed, held_now);
-                let mut latest = rows::line::none_allowed();
+                let allowed = members::line::is_allowed(current, owns, marks);
+                let searched = members::turn::to_search(!allowed, held_now);
+                let mut latest = members::line::none_allowed();
                 let mut a = 0;
                 'allowed: while a < searched {
                     let candidate = kept[f][a];
-                    latest = rows::line::latest_with(latest, candidate, owns, marks);
+                    latest = members::line::latest_with(latest, candidate, owns, marks);
                     a += 1;
                 }
-                let member = rows::recovery::member(current, f, latest, allowed);
+                let member = members::turn::member(current, f, latest, allowed);
                 let sent_now = sent[f];
-                let step = rows::recovery::step_back(member, current, sent_now, f, back);
+                let step = members::turn::step_back(member, current, sent_now, f, back);
                 let went_back = step.vector;
                 vectors[f] = went_back;
                 sent[f] = step.sent;
@@ -184,7 +184,7 @@ fn replay_beside(
                 f += 1;
             }
             // then its pins are moved, and what no pin names is deleted
-            let owns_then = rows::line::own_entries(vectors);
+            let owns_then = members::line::own_entries(vectors);
             let mut all_gone = 0;
             let mut q = 0;
             'restored: while q < n {
@@ -193,15 +193,15 @@ fn replay_beside(
                 let held_then = held[q];
                 let pins_now = pins[q];
                 let last_kept = members[q];
-                let to_find = rows::recovery::to_search(has_rolled, held_then);
-                let mut known_last = rows::recovery::nothing_found();
+                let to_find = members::turn::to_search(has_rolled, held_then);
+                let mut known_last = recovery::pins::nothing_found();
                 let mut b = 0;
                 'found: while b < to_find {
                     let seen = kept[q][b];
-                    known_last = rows::recovery::found_with(known_last, seen, last_kept, owns_then);
+                    known_last = recovery::pins::found_with(known_last, seen, last_kept, owns_then);
                     b += 1;
                 }
-                let pins_then = rows::recovery::pins_found(
+                let pins_then = recovery::pins::pins_found(
                     has_rolled,
                     known,
                     owns_then,
@@ -215,7 +215,7 @@ fn replay_beside(
                     let x = kept[q][k];
                     kept[q][k] = empty;
                     k += 1;
-                    let keeps = rows::recovery::does_stay(x.index, last_kept, pins_then);
+                    let keeps = recovery::kept::does_stay(x.index, last_kept, pins_then);
                     if keeps {
                         kept[q][stay] = x;
                         stay += 1;
@@ -236,7 +236,7 @@ fn replay_beside(
                 let here = z;
                 z += 1;
                 if y.number != 0 {
-                    let outlives = rows::recovery::does_outlive(y, members);
+                    let outlives = members::turn::does_outlive(y, members);
                     if outlives {
                         first = window::first_from(outlived, first, here);
                         outlived += 1;

@@ -17,11 +17,11 @@ use Rattle.model.specs.declared.Run.{Run}
 use Rattle.model.specs.Words.{noCheckpoint, live, process}
 use Rattle.model.specs.Steps.{latestAllowed, member, lineOf}
 use Rattle.model.specs.Refusals.{missing, noMember}
-use Rattle.rows.specs.declared.line.Latest.{Latest}
-use Rattle.rows.specs.Line.{liveFrom, ownRow, failedRow, allowedBy, latestBy, latestIs}
-use Rattle.rows.specs.Turn.{memberBy, memberFrom}
-use Rattle.rows.proofs.LineRule.{own-row-at, latest-by-row}
-use Rattle.rows.proofs.Turn.{member-from, found-from}
+use Rattle.members.specs.declared.line.Latest.{Latest}
+use Rattle.members.specs.Line.{liveFrom, ownRow, failedRow, allowedBy, latestBy, latestIs}
+use Rattle.members.specs.Turn.{memberBy, memberFrom}
+use Rattle.members.proofs.LineRule.{own-row-at, latest-by-row}
+use Rattle.members.proofs.Member.{member-from, found-from}
 use Rattle.rollback.specs.declared.line.Members.{Members}
 use Rattle.rollback.specs.Members.{latestAt, memberAt, noState, unusedRow, membersOf, statesOf, membersIn}
 

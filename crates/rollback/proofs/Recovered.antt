@@ -25,11 +25,11 @@ use Rattle.model.specs.Words.{places, entry, below, noCheckpoint, named, Proces
 use Rattle.model.specs.Steps.{Deletion, withProcesses, member, rolledBack, vectorAfter, notLost, ownAfter, pinsAfter, recovered, lostBy, stillUnderWay, recoverState, deletedAt, recoverDeletions, rolledBackCount}
 use Rattle.model.specs.Sound.{messageSound, sound}
 use Rattle.model.specs.laws.Sound.{sound-state, sound-message}
-use Rattle.rows.specs.declared.recovery.Stepped.{Stepped}
-use Rattle.rows.specs.Line.{ownRow}
-use Rattle.rows.specs.Recovery.{notLater, stays, outlives}
-use Rattle.rows.specs.Turn.{steppedOf}
-use Rattle.rows.proofs.Restoring.{stored-in-state, vector-in-state, pins-in-state, deleted-in-state, unused-own, member-own}
+use Rattle.members.specs.declared.turn.Stepped.{Stepped}
+use Rattle.members.specs.Line.{ownRow}
+use Rattle.members.specs.Turn.{steppedOf, outlives}
+use Rattle.recovery.specs.Recovery.{notLater, stays}
+use Rattle.recovery.proofs.Restoring.{stored-in-state, vector-in-state, pins-in-state, deleted-in-state, unused-own, member-own}
 use Rattle.plans.proofs.SoundFacts.{vector-there, own-unused}
 use Rattle.rollback.specs.declared.recover.Returned.{Returned}
 use Rattle.rollback.specs.Members.{membersIn}

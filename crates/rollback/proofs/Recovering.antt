@@ -24,9 +24,9 @@ use Rattle.model.specs.declared.Checkpoint.{Checkpoint}
 use Rattle.model.specs.Words.{noCheckpoint}
 use Rattle.model.specs.Steps.{Deletion, listed}
 use Rattle.model.specs.Outcomes.{pairs}
-use Rattle.rows.specs.declared.kept.KeptRow.{KeptRow}
-use Rattle.rows.specs.Kept.{keptRow}
-use Rattle.rows.specs.Recovery.{notLater, restoredPins, stays}
+use Rattle.retention.specs.declared.kept.KeptRow.{KeptRow}
+use Rattle.retention.specs.Kept.{keptRow}
+use Rattle.recovery.specs.Recovery.{notLater, restoredPins, stays}
 use Rattle.rollback.specs.declared.recover.RowsAfter.{RowsAfter}
 use Rattle.rollback.specs.Members.{HeldAtMost}
 use Rattle.rollback.specs.Returned.{noIndex}

@@ -15,8 +15,8 @@ use Rattle.model.specs.Words.{underWay}
 use Rattle.model.specs.Sound.{sound}
 use Rattle.model.specs.laws.Sound.{sound-state}
 use Rattle.model.specs.Outcomes.{pairs}
-use Rattle.rows.specs.Line.{ownRow}
-use Rattle.rows.specs.Recovery.{outlives}
+use Rattle.members.specs.Line.{ownRow}
+use Rattle.members.specs.Turn.{outlives}
 use Rattle.rollback.specs.declared.line.Members.{Members}
 use Rattle.rollback.specs.declared.recover.Returned.{Returned}
 use Rattle.rollback.specs.declared.recover.RowsAfter.{RowsAfter}

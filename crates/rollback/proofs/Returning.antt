@@ -15,9 +15,9 @@ use Rattle.model.specs.declared.Interval.{Interval}
 use Rattle.model.specs.declared.CheckpointIndex.{CheckpointIndex}
 use Rattle.model.specs.declared.Checkpoint.{Checkpoint}
 use Rattle.model.specs.declared.Vectors.{Vectors}
-use Rattle.rows.specs.declared.recovery.Stepped.{Stepped}
-use Rattle.rows.specs.Line.{ownRow, failedRow}
-use Rattle.rows.specs.Turn.{memberBy, steppedOf}
+use Rattle.members.specs.declared.turn.Stepped.{Stepped}
+use Rattle.members.specs.Line.{ownRow, failedRow}
+use Rattle.members.specs.Turn.{memberBy, steppedOf}
 use Rattle.rollback.specs.declared.recover.Returned.{Returned}
 use Rattle.rollback.specs.Members.{noState, statesOf}
 use Rattle.rollback.specs.Returned.{noIndex, stepAt, returnedOf}

@@ -13,7 +13,7 @@ use Rattle.model.specs.declared.Pin.{Pin}
 use Rattle.model.specs.declared.Checkpoint.{Checkpoint}
 use Rattle.model.specs.Words.{places, noCheckpoint}
 use Rattle.model.specs.Steps.{Deletion, listed}
-use Rattle.rows.specs.Recovery.{notLater, restoredPins, stays}
+use Rattle.recovery.specs.Recovery.{notLater, restoredPins, stays}
 use Rattle.rollback.specs.declared.recover.RowsAfter.{RowsAfter}
 use Rattle.rollback.specs.Returned.{noIndex}
 

@@ -13,8 +13,8 @@ use Rattle.model.specs.declared.Run.{Run}
 use Rattle.model.specs.Words.{places, entry, noCheckpoint}
 use Rattle.model.specs.Steps.{member}
 use Rattle.model.specs.Refusals.{missing, noMember}
-use Rattle.rows.specs.Line.{liveFrom, ownRow, failedRow, latestBy}
-use Rattle.rows.specs.Turn.{memberBy}
+use Rattle.members.specs.Line.{liveFrom, ownRow, failedRow, latestBy}
+use Rattle.members.specs.Turn.{memberBy}
 use Rattle.rollback.specs.declared.line.Members.{Members}
 
 -- the latest allowed state of process p, if there is one

@@ -18,8 +18,8 @@ use Rattle.model.specs.declared.Vectors.{Vectors}
 use Rattle.model.specs.Words.{mostUnderWay, noMessage, underWay}
 use Rattle.model.specs.Steps.{Deletion, recoverState, recoverDeletions, rolledBackCount}
 use Rattle.model.specs.Outcomes.{pairs}
-use Rattle.rows.specs.Line.{ownRow}
-use Rattle.rows.specs.Recovery.{outlives}
+use Rattle.members.specs.Line.{ownRow}
+use Rattle.members.specs.Turn.{outlives}
 use Rattle.rollback.specs.declared.recover.Returned.{Returned}
 use Rattle.rollback.specs.declared.recover.RowsAfter.{RowsAfter}
 use Rattle.rollback.specs.declared.recover.UnderWay.{UnderWay}

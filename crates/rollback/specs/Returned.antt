@@ -10,8 +10,8 @@ use Rattle.model.specs.declared.Interval.{Interval}
 use Rattle.model.specs.declared.CheckpointIndex.{CheckpointIndex}
 use Rattle.model.specs.declared.Checkpoint.{Checkpoint}
 use Rattle.model.specs.Words.{places}
-use Rattle.rows.specs.declared.recovery.Stepped.{Stepped}
-use Rattle.rows.specs.Turn.{steppedOf}
+use Rattle.members.specs.declared.turn.Stepped.{Stepped}
+use Rattle.members.specs.Turn.{steppedOf}
 use Rattle.rollback.specs.declared.recover.Returned.{Returned}
 use Rattle.rollback.specs.Members.{noState}
 

@@ -1,11 +1,11 @@
 // The line for a failed set: the member of every process, and the call that writes their indexes.
+use members::line::Latest;
 use model::Checkpoint;
 use model::Interval;
 use model::LineAnswer;
 use model::Refusal;
 use model::Run;
 use plans::Verdict;
-use rows::line::Latest;
 ghost use mathlib.Core.Path.{_≡_};
 ghost use mathlib.Core.Bool.{true, false};
 ghost use Prim.Native.Nat.{_≤_};
@@ -14,7 +14,7 @@ ghost use lib.Seq.{sets};
 ghost use Rattle.laws.specs.Lists.{table};
 ghost use Rattle.model.specs.Sound.{sound};
 ghost use Rattle.model.specs.Outcomes.{lineOutcome};
-ghost use Rattle.rows.specs.Line.{latestBy, latestIs};
+ghost use Rattle.members.specs.Line.{latestBy, latestIs};
 ghost use Rattle.rollback.specs.Members.{membersOf, membersIn, noState, OwnAtLeastOne, HeldAtMost};
 
 // What a line call returns beside the lent list.
@@ -43,9 +43,9 @@ fn latest_unless(
     ensures { λ r. ⌜ (allowed ≡ false → r ≡ latestIs (latestBy marks owns (take held row))) ⌝ }
 {
     if allowed {
-        rows::line::none_allowed()
+        members::line::none_allowed()
     } else {
-        rows::line::latest_kept(row, held, owns, marks)
+        members::line::latest_kept(row, held, owns, marks)
     }
 }
 
@@ -61,17 +61,17 @@ fn find_members(
     requires { ⌜ (n ≤ 16) × OwnAtLeastOne n vectors × HeldAtMost n held ⌝ }
     ensures { λ r. ⌜ r ≡ membersOf n owns failed vectors kept held ⌝ }
 {
-    let none = rows::kept::no_checkpoint();
+    let none = rows::start::no_checkpoint();
     let mut states = [none; 16];
     let mut all = true;
-    let marks = rows::line::failed_marks(failed, n);
+    let marks = members::line::failed_marks(failed, n);
     for p in 0..n {
         let vector = vectors[p];
         let row = kept[p];
         let count = held[p];
-        let allowed = rows::line::is_allowed(vector, owns, marks);
+        let allowed = members::line::is_allowed(vector, owns, marks);
         let latest = latest_unless(allowed, row, count, owns, marks);
-        let member = rows::recovery::member(vector, p, latest, allowed);
+        let member = members::turn::member(vector, p, latest, allowed);
         states[p] = member;
         let found = allowed | latest.found;
         all = all & found;
@@ -88,7 +88,7 @@ pub(crate) fn members_of(s: Run, failed: u16) -> Members
     let kept = rows::squares::kept_rows(s.kept);
     let held = s.held;
     let n = s.count;
-    let owns = rows::line::own_entries(vectors);
+    let owns = members::line::own_entries(vectors);
     find_members(vectors, kept, held, owns, failed, n)
 }
 

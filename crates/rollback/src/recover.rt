@@ -22,7 +22,7 @@ ghost use Rattle.laws.specs.Lists.{select};
 ghost use Rattle.laws.specs.Tests.{every};
 ghost use Rattle.model.specs.Sound.{sound};
 ghost use Rattle.model.specs.Outcomes.{pairs, recoverOutcome};
-ghost use Rattle.rows.specs.Recovery.{outlives};
+ghost use Rattle.members.specs.Turn.{outlives};
 ghost use Rattle.rollback.specs.Members.{HeldAtMost};
 ghost use Rattle.rollback.specs.Returned.{returnedOf};
 ghost use Rattle.rollback.specs.After.{pinsAt, rowsOf, lossesOf};
@@ -76,7 +76,7 @@ fn go_back(
         let member = states[p];
         let current = after[p];
         let mark = marks[p];
-        let step = rows::recovery::step_back(member, current, mark, p, back);
+        let step = members::turn::step_back(member, current, mark, p, back);
         let vector = step.vector;
         let index = step.index;
         after[p] = vector;
@@ -124,8 +124,8 @@ fn rows_after(
         let count = held_left[p];
         let old = pins_left[p];
         let last = members[p];
-        let moved = rows::recovery::pins_after(back, vector, owns, row, count, last, old);
-        let left = rows::recovery::split_kept(deleted, 2 * gone, p, row, count, moved, last);
+        let moved = recovery::pins::pins_after(back, vector, owns, row, count, last, old);
+        let left = recovery::kept::split_kept(deleted, 2 * gone, p, row, count, moved, last);
         let left_row = left.row;
         let left_held = left.held;
         pins_left[p] = moved;
@@ -157,7 +157,7 @@ fn still_under_way(
     let mut count = 0;
     for k in 0..underway {
         let x = messages[k];
-        let stays = rows::recovery::does_outlive(x, members);
+        let stays = members::turn::does_outlive(x, members);
         if stays {
             left[count] = x;
             count += 1;
@@ -188,7 +188,7 @@ fn run_after(s: Run, states: [Checkpoint; 16], deleted: &mut [u16]) -> RecoverOu
     let rolled = returned.rolled;
     let members = returned.members;
     let vector_rows = rows::squares::vector_rows(vectors);
-    let owns = rows::line::own_entries(vector_rows);
+    let owns = members::line::own_entries(vector_rows);
     let all = rows_after(
         deleted,
         old_pins,

@@ -1,26 +1,23 @@
 -- Taking a carried vector in, entry by entry (specs/TakingIn): before the first step, one step more, and behind all; and the marks of the set.
 -- Assumes nothing.
-use mathlib.Core.Path.{_≡_, refl, ap, sym, _∙_}
-use mathlib.Core.Bool.{Bool, false}
+use mathlib.Core.Path.{_≡_, refl, ap, sym}
+use mathlib.Core.Bool.{Bool}
 use mathlib.Core.List.{List}
 use Prim.Native.Nat.{ℕ, _+_, _^_, _<_}
 use native.Mathlib.Nat.{pow-suc}
 use native.Mathlib.Numerals.{add-one}
 use native.Mathlib.Omega.{arith}
-use lib.ListN.{length, getD, set}
+use lib.ListN.{length, set}
 use lib.Pow.{pow-mono}
-use Rattle.laws.specs.Bits.{bitsOf, bits-zero, bits-more, bits-at}
+use Rattle.laws.specs.Bits.{bits-zero, bits-more, bits-at}
 use Rattle.laws.specs.Choice.{pick, by-bool}
 use Rattle.laws.specs.Loops.{below-none, below-all, turn-old, turn-set}
 use Rattle.laws.specs.Lists.{table}
-use Rattle.laws.specs.Tables.{getD-table, table-same}
+use Rattle.laws.specs.Tables.{table-same}
 use Rattle.model.specs.declared.Interval.{Interval}
-use Rattle.model.specs.declared.Pin.{Pin}
-use Rattle.model.specs.declared.Pin.the-variants.{Nothing}
-use Rattle.model.specs.Words.{entry, below, inSet}
-use Rattle.model.specs.Steps.{takenEntry, takenVector, takenPin, takenPins, risen}
+use Rattle.model.specs.Words.{entry, below}
+use Rattle.model.specs.Steps.{takenEntry, takenVector, risen}
 use Rattle.rows.specs.declared.vector.Taken.{Taken}
-use Rattle.rows.specs.Receipt.{pinBy, pinsBy}
 use Rattle.rows.specs.TakingIn.{takenWhole, takenUpTo, entryTaken, risenMarks}
 
 both : {v w : List Interval} {r s : ℕ} → v ≡ w → r ≡ s → _≡_ {A = Taken} (record { vector = v; rose = r }) (record { vector = w; rose = s })
@@ -74,10 +71,3 @@ module _ (own carried : List Interval) where
   pub marks-are : table 16 rises ≡ risenMarks own carried
   unfolding risenMarks risen
   marks-are = table-same 16 rises _ (λ f lt. sym (bits-at rises 16 f lt))
-
-  -- Pins that move by the set move where the entry is smaller than the carried one.
-  pub pins-by-set : (i : ℕ) (pins : List Pin) → pinsBy i (risenMarks own carried) pins ≡ takenPins i own carried pins
-  unfolding risenMarks risen pinsBy pinBy takenPins takenPin
-  pins-by-set i pins = table-same 16 _ _
-      (λ f lt. ap (λ (rose : Bool). pick rose (getD pins i Nothing) (getD pins f Nothing))
-      (getD-table 16 (inSet (bitsOf 16 rises)) f false lt ∙ bits-at rises 16 f lt))

@@ -1,7 +1,1 @@
-pub mod Deletions
-pub mod Kept
-pub mod Line
-pub mod Receipt
-pub mod Recovery
 pub mod TakingIn
-pub mod Turn

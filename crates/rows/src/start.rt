@@ -1,10 +1,11 @@
 // The rows of a process at the start of a run, and rows that nobody uses.
+use model::Checkpoint;
 use model::CheckpointIndex;
 use model::Interval;
 use model::Pin;
 ghost use mathlib.Core.Path.{_≡_};
 ghost use Prim.Native.Nat.{_<_};
-ghost use Rattle.model.specs.Words.{zeroVector, noPins};
+ghost use Rattle.model.specs.Words.{zeroVector, noPins, noCheckpoint};
 ghost use Rattle.model.specs.Steps.{started};
 
 pub fn zero_vector() -> [Interval; 16]
@@ -19,6 +20,18 @@ pub fn no_pins() -> [Pin; 16]
 {
     let none = Pin::Nothing;
     [none; 16]
+}
+
+// What an unused place of a row of kept checkpoints holds.
+pub fn no_checkpoint() -> Checkpoint
+    ensures { λ r. ⌜ r ≡ noCheckpoint ⌝ }
+{
+    let zero = Interval(0);
+    let vector = [zero; 16];
+    Checkpoint {
+        index: CheckpointIndex(0),
+        vector,
+    }
 }
 
 // The vector of process p, one of 16: its own entry is 1, the others are 0.

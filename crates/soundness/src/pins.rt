@@ -35,7 +35,7 @@ pub fn is_fit(pins: [Pin; 16], last: CheckpointIndex, held: usize, n: usize, p: 
     ensures { λ r. ⌜ r ≡ fit n p last pins held ⌝ }
 {
     let pin = pins[p];
-    let named = rows::pins::names(pin, last);
+    let named = retention::pins::names(pin, last);
     let nothing = nothing_from(pins, n);
     (1 <= held) & (held <= n) & named & nothing
 }

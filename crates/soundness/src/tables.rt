@@ -108,7 +108,7 @@ pub fn are_processes_sound(
             return false;
         }
     }
-    let mut unused = rows::kept::no_checkpoint();
+    let mut unused = rows::start::no_checkpoint();
     'rows: for q in 0..16 {
         let from = held[q];
         'places: for j in from..16 {

@@ -18,11 +18,11 @@ use Rattle.model.specs.declared.Run.{Run}
 use Rattle.model.specs.Words.{named}
 use Rattle.model.specs.Steps.{listed}
 use Rattle.model.specs.Outcomes.{pairs}
-use Rattle.rows.specs.declared.kept.KeptRow.{KeptRow}
-use Rattle.rows.specs.Kept.{keptRow}
-use Rattle.rows.specs.Line.{liveFrom}
 use Rattle.rows.specs.declared.vector.Taken.{Taken}
-use Rattle.rows.specs.Receipt.{takenThen, vectorThen, pinsThen, keptThen}
+use Rattle.retention.specs.declared.kept.KeptRow.{KeptRow}
+use Rattle.retention.specs.Kept.{keptRow}
+use Rattle.retention.specs.Receipt.{takenThen, vectorThen, pinsThen, keptThen}
+use Rattle.members.specs.Line.{liveFrom}
 use Rattle.plans.specs.declared.Plan.{Plan}
 use Rattle.plans.specs.Carried.{unnamedBy, roseBy, moved}
 use Rattle.steps.specs.Messages.{Closed}

@@ -72,11 +72,11 @@ pub(crate) fn move_rows(
     let row = all_kept[i];
     let before = held[i];
     let carried = p.carried;
-    let live = rows::line::live_from(vector, i);
-    let pins = rows::receipt::pins_then(p.stores, live.index, vector, carried, old, i);
-    let gone = rows::kept::write_deletions(deleted, 0, i, row, before, pins);
-    let kept = rows::receipt::kept_then(p.stores, row, before, pins, live);
-    let taken = rows::receipt::taken_then(p.stores, vector, carried, i);
+    let live = members::line::live_from(vector, i);
+    let pins = retention::receipt::pins_then(p.stores, live.index, vector, carried, old, i);
+    let gone = retention::kept::write_deletions(deleted, 0, i, row, before, pins);
+    let kept = retention::receipt::kept_then(p.stores, row, before, pins, live);
+    let taken = retention::receipt::taken_then(p.stores, vector, carried, i);
     let received = taken.vector;
     let left = kept.row;
     vectors[i] = received;

@@ -20,7 +20,7 @@ fn started(n: usize) -> Run
 {
     let zeros = rows::start::zero_vector();
     let none = rows::start::no_pins();
-    let no_checkpoint = rows::kept::no_checkpoint();
+    let no_checkpoint = rows::start::no_checkpoint();
     let no_message = plans::no_message();
     let row = [no_checkpoint; 16];
     let mut vectors = [zeros; 16];

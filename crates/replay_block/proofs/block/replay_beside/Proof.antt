@@ -32,13 +32,14 @@ use Rattle.model.specs.Trace.{decoded}
 use Rattle.model.specs.Listing.{perform}
 use Rattle.model.specs.WholeRuns.{Reachable}
 use Rattle.model.proofs.WholeRuns.{reachable-sound}
-use Rattle.rows.specs.declared.kept.KeptRow.{KeptRow}
-use Rattle.rows.specs.Kept.{keptRow}
-use Rattle.rows.specs.Receipt.{pinsThen, keptThen}
-use Rattle.rows.specs.Line.{latestBy, latestIs, liveFrom}
-use Rattle.rows.specs.Recovery.{notLater, latestFound, restoredPins, stays, outlives}
-use Rattle.rows.proofs.LineRule.{latest-none, latest-more}
-use Rattle.rows.proofs.Restoring.{found-none, found-more}
+use Rattle.retention.specs.declared.kept.KeptRow.{KeptRow}
+use Rattle.retention.specs.Kept.{keptRow}
+use Rattle.retention.specs.Receipt.{pinsThen, keptThen}
+use Rattle.members.specs.Line.{latestBy, latestIs, liveFrom}
+use Rattle.members.specs.Turn.{outlives}
+use Rattle.members.proofs.LineRule.{latest-none, latest-more}
+use Rattle.recovery.specs.Recovery.{notLater, latestFound, restoredPins, stays}
+use Rattle.recovery.proofs.Restoring.{found-none, found-more}
 use Rattle.plans.specs.declared.Recovery.{Recovery}
 use Rattle.plans.specs.declared.Verdict.the-variants.{Accepted}
 use Rattle.plans.specs.Planned.{recoveryVerdict}

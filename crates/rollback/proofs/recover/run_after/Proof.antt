@@ -22,8 +22,8 @@ use Rattle.model.specs.Outcomes.{pairs}
 use Rattle.model.specs.Words.{noMessage, underWay}
 use Rattle.model.specs.Sound.{messageSound, sound}
 use Rattle.model.specs.laws.Sound.{sound-state, sound-message}
-use Rattle.rows.specs.Line.{ownRow}
-use Rattle.rows.specs.Recovery.{outlives}
+use Rattle.members.specs.Line.{ownRow}
+use Rattle.members.specs.Turn.{outlives}
 use Rattle.rollback.specs.declared.recover.RecoverOutcome.{RecoverOutcome}
 use Rattle.rollback.specs.declared.recover.Returned.{Returned}
 use Rattle.rollback.specs.declared.recover.RowsAfter.{RowsAfter}

@@ -17,7 +17,7 @@ use Rattle.laws.specs.Rows.{every-at}
 use Rattle.laws.specs.Tests.{every}
 use Rattle.model.specs.Words.{noMessage}
 use Rattle.model.specs.declared.Message.{Message}
-use Rattle.rows.specs.Recovery.{outlives}
+use Rattle.members.specs.Turn.{outlives}
 use Rattle.rollback.specs.declared.recover.UnderWay.{UnderWay}
 use Rattle.rollback.specs.Restored.{stillOf}
 use Rattle.rollback.proofs.recover.still_under_way.Statement.{statement}

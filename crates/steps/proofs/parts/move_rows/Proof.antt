@@ -1,7 +1,7 @@
 -- `steps::parts::move_rows` meets its contract: what its callees ensure, put together, is a plan carried out (plans: specs/Carried). Assumes nothing.
 use Prim.Native.Nat.{_<_}
 use native.Mathlib.Omega.{arith}
-use Rattle.rows.specs.Line.{liveFrom}
+use Rattle.members.specs.Line.{liveFrom}
 use Rattle.plans.proofs.Facts.{held-places, held-room}
 use Rattle.plans.proofs.SoundFacts.{own-least}
 use Rattle.plans.proofs.Room.{stored-room}

@@ -1,0 +1,4 @@
+-- Laws that belong to no one function.
+pub mod Deletions
+pub mod KeptRows
+pub mod PinsBySet

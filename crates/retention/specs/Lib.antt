@@ -1,0 +1,3 @@
+pub mod Deletions
+pub mod Kept
+pub mod Receipt
