@@ -20,6 +20,7 @@ ghost use mathlib.Core.Path.{_≡_};
 ghost use Rattle.model.specs.Outcomes.{startOutcome, checkpointOutcome, sendOutcome, deliverOutcome, loseOutcome, lineOutcome, recoverOutcome};
 ghost use Rattle.model.specs.Calls as made;
 ghost use Rattle.model.specs.WholeRuns.{LinePromise, StatePromise};
+ghost use Rattle.model.specs.Clean.{CleanPromise};
 
 // A run of n processes: the state in which it starts.
 pub fn start(n: usize) -> StartOutcome
@@ -109,7 +110,8 @@ pub fn line(s: Run, failed: u16, line: &mut [u16]) -> LineOutcome
 }
 
 // Everyone goes back to the line for a failed set: its indexes go to the front of the one lent list, what is deleted to the front of the other.
-// Wherever calls from an accepted start led to s, the line is right, and so is what s and the returned state keep (demand 3).
+// Wherever calls from an accepted start led to s, the line is right, and so is what s and the returned state keep (demand 3); if the call is accepted,
+// the returned state keeps a checkpoint exactly if some failure would use it (Note 6).
 pub fn recover(s: Run, failed: u16, deleted: &mut [u16], line: &mut [u16]) -> RecoverOutcome
     ensures { λ r. ⌜ r .run ≡ recoverOutcome s failed (now (deleted .entry)) (now (line .entry)) .run ⌝ }
     ensures { λ r. ⌜ r .answer ≡ recoverOutcome s failed (now (deleted .entry)) (now (line .entry)) .answer ⌝ }
@@ -117,6 +119,7 @@ pub fn recover(s: Run, failed: u16, deleted: &mut [u16], line: &mut [u16]) -> Re
     ensures { λ r. ⌜ now (line .exit) ≡ recoverOutcome s failed (now (deleted .entry)) (now (line .entry)) .line ⌝ }
     ensures { λ r. ⌜ LinePromise s failed ⌝ }
     ensures { λ r. ⌜ StatePromise s (made.recover failed (now (deleted .entry)) (now (line .entry))) (r .run) ⌝ }
+    ensures { λ r. ⌜ CleanPromise s failed (now (deleted .entry)) (now (line .entry)) (r .run) ⌝ }
 {
     let sound = soundness::is_sound(s);
     if !sound {

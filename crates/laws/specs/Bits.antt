@@ -2,12 +2,14 @@
 use mathlib.Core.Path.{_≡_, refl, sym, _∙_, ap}
 use mathlib.Core.Bool.{Bool, true, false}
 use Prim.Native.Nat.{ℕ, zero, suc, _+_, _-_, _*_, _/_, _%_, _^_, _≤_, _<_}
-use native.Mathlib.Nat.{div-one, div-div-eq-div-mul, div-eq-of-lt, add-mul-div-left, add-mul-mod-self-left, add-div-right, add-zero, pow-suc}
+use native.Mathlib.Nat.{div-one, div-div-eq-div-mul, div-eq-of-lt, add-mul-div-left, add-mul-mod-self-left, add-div-right, add-zero, zero-add, pow-suc}
 use native.Mathlib.Numerals.{add-one}
 use native.Mathlib.Omega.{arith}
-use lib.Dec.{eqb}
+use lib.Dec.{eqb, ltb}
+use borrow.Author.Tests.{ltb-true, ltb-false}
 use lib.Pow.{pow-pos, pow-mono, pow-add}
 use Rattle.laws.specs.Choice.{pick, by-bool, by-eq}
+use Rattle.laws.specs.Truth.{never-both}
 
 -- Before the first bit, the number itself is left.
 pub bits-all : (F : ℕ) → F ≡ F / (2 ^ 0)
@@ -16,6 +18,10 @@ bits-all F = sym (div-one F)
 -- Behind bit i, half of what was left is left.
 pub bits-next : (F i r : ℕ) → r ≡ F / (2 ^ i) → r / 2 ≡ F / (2 ^ (i + 1))
 bits-next F i r e = rw (e, add-one, pow-suc) (div-div-eq-div-mul F (2 ^ i) 2)
+
+-- Powers of two ascend.
+pub pow-less : (i j : ℕ) → i < j → 2 ^ i < 2 ^ j
+pow-less i j lt = omega (arith, pow-mono {i = suc i} {j = j} lt, pow-suc 2 i, pow-pos i)
 
 -- The number whose bit f, for each f below n, is set exactly where the test holds; it has no other bits.
 unfoldable pub bitsOf : ℕ → (ℕ → Bool) → ℕ
@@ -43,6 +49,15 @@ bit-under S f k lt =
 bit-added : (S k : ℕ) → S < 2 ^ k → bit (S + 2 ^ k) k ≡ true
 bit-added S k less =
     ap (λ (x : ℕ). eqb (x % 2) 1) (add-div-right S (pow-pos k) ∙ ap (λ (x : ℕ). x + 1) (div-eq-of-lt less))
+
+-- A power of two has one bit alone.
+pub bit-one : (f : ℕ) → bit (2 ^ f) f ≡ true
+bit-one f = ap (λ (x : ℕ). bit x f) (sym (zero-add (2 ^ f))) ∙ bit-added 0 f (pow-pos f)
+
+pub bit-alone : (f q : ℕ) → bit (2 ^ f) q ≡ true → q ≡ f
+bit-alone f q e = by-eq q f (λ c. c) (λ ne. absurd (by-bool (ltb q f)
+    (λ d. never-both (bit (2 ^ f) q) e (ap (λ (x : ℕ). bit x q) (sym (zero-add (2 ^ f))) ∙ bit-under 0 q f (ltb-true q f d) ∙ bit-past 0 q (pow-pos q)))
+    (λ d. never-both (bit (2 ^ f) q) e (bit-past (2 ^ f) q (pow-less f q (omega (arith, ltb-false q f d)))))))
 
 module _ (t : ℕ → Bool) where
   -- A number of n bits.

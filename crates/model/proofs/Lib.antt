@@ -1,5 +1,7 @@
 -- Laws that belong to no one function.
+pub mod Best
 pub mod Blocks
+pub mod Clean
 pub mod Exam
 pub mod Records
 pub mod Risen

@@ -16,6 +16,7 @@ use Rattle.model.specs.Words.{inSet, failed}
 use Rattle.model.specs.History.{HistoryEvent, stored, sent, received, Lists, Line, checkpoints, behind, Consistent}
 use Rattle.model.specs.Calls.{Call, checkpoint, send, deliver, lose, recover, line, Exchange}
 use Rattle.model.specs.Survival.{Surviving, after, surviving}
+use Rattle.model.specs.Best.{Possible}
 
 -- A reason to refuse a call, with its number.
 pub record Reason : Type 0 where
@@ -169,8 +170,7 @@ pub record RightLine (n : ℕ) (h : Surviving) (F : ℕ) (written : Line) : Type
   pub consistent : Consistent n (h .lists) written
   -- "no other consistent line with the failed processes at stored checkpoints is later anywhere": of every line whose members are
   -- checkpoints of the lists, deleted or not, or live states
-  pub maximal : (other : Line) → ((p : ℕ) → p < n → other p ≤ liveOf h p) → Consistent n (h .lists) other
-      → ((f : ℕ) → f < n → failed F f ≡ true → other f < liveOf h f) → (p : ℕ) → p < n → other p ≤ written p
+  pub maximal : (other : Line) → Possible n (h .lists) F other → (p : ℕ) → p < n → other p ≤ written p
   -- "each member is a live state of a process that has not failed, or a kept checkpoint", kept by the pairs handed out
   pub members : (p : ℕ) → p < n → ((written p ≡ liveOf h p) × (failed F p ≡ false)) ⊎ ((written p < liveOf h p) × (h .kept p (written p) ≡ true))
 

@@ -1,5 +1,7 @@
 pub mod Answers
+pub mod Best
 pub mod Calls
+pub mod Clean
 pub mod Exam
 pub mod History
 pub mod Listing

@@ -1,7 +1,7 @@
 -- Demand 3, "Right over whole runs", as one type. Its proof is in proofs/.
 -- Assumes nothing.
 use mathlib.Core.Path.{_≡_}
-use mathlib.Core.Bool.{true, _&&_, not}
+use mathlib.Core.Bool.{Bool, true, _&&_, not}
 use mathlib.Core.List.{List, [], _∷_, _++_}
 use mathlib.Core.Logic.{_⊎_}
 use mathlib.Core.Option.{none, some}
@@ -46,10 +46,14 @@ pub record LineIsRight (n : ℕ) (s : Run) (h : Surviving) (F : ℕ) : Type 0 wh
   -- the line is right by the history
   pub right : RightLine n h F (reported s F)
 
+-- The state keeps checkpoint k of process p.
+abbrev pub keepsIn : Run → ℕ → ℕ → Bool
+keepsIn s p k = some-of (λ c. eqb (c .index .0) k) (process s p .kept)
+
 -- What is promised of a state and its surviving history whoever fails: kept by the pairs handed out are exactly the checkpoints that the state keeps,
 -- "the pins name exactly the kept ones", and "no process keeps more than n".
 pub record KeptIsRight (n : ℕ) (s : Run) (h : Surviving) : Type 0 where
-  pub kept-in-state : (p k : ℕ) → p < n → some-of (λ c. eqb (c .index .0) k) (process s p .kept) ≡ h .kept p k
+  pub kept-in-state : (p k : ℕ) → p < n → keepsIn s p k ≡ h .kept p k
   pub kept-by-pins : (p k : ℕ) → p < n → some-of (λ pin. names pin (record { 0 = k })) (process s p .pins) ≡ h .kept p k
   pub at-most-n : (p : ℕ) → p < n → countBelow (checkpoints (h .lists p)) (h .kept p) ≤ n
   -- and they are exactly those that the lists need, so that the pairs handed out are fixed by the history before them and the call

@@ -287,9 +287,36 @@ fn check_messages(run: &Run, history: &History) {
     }
 }
 
-/// The demands on the reported lines and on what is kept. Straight after a
-/// recovery or sweep, nothing is kept that no failure could use.
-fn check(run: &Run, history: &History, after_recover: bool) {
+/// The best line for each failed set, as indexes: of the consistent lines in
+/// which the failed processes are at stored checkpoints, the one that is
+/// nowhere earlier than any of them. By the lists alone: all lines are tried.
+fn best_lines(states: &[Vec<State>], messages: &[Received]) -> Vec<Vec<u16>> {
+    let n = states.len();
+    let mut latest = vec![vec![0; n]; 1 << n];
+    let mut possible = vec![Vec::new(); 1 << n];
+    for_every_line(states, |line| {
+        if !consistent(line, messages) {
+            return;
+        }
+        for failed in 0..1 << n {
+            if (0..n).any(|i| failed >> i & 1 == 1 && line[i].live) {
+                continue;
+            }
+            for i in 0..n {
+                latest[failed][i] = line[i].index.max(latest[failed][i]);
+            }
+            if (0..n).all(|i| line[i].index == latest[failed][i]) {
+                possible[failed] = latest[failed].clone();
+            }
+        }
+    });
+    // The latest index of each process makes a line that is itself possible.
+    assert_eq!(possible, latest, "one line is the latest everywhere");
+    latest
+}
+
+/// The demands on the reported lines and on what is kept.
+fn check(run: &Run, history: &History, after_recover: bool, met: &mut Met) {
     let n = run.count();
     check_messages(run, history);
     let states: Vec<Vec<State>> = (0..n).map(|i| history.states(i)).collect();
@@ -308,54 +335,38 @@ fn check(run: &Run, history: &History, after_recover: bool) {
     }
     common::assert_sound(run);
 
-    // The latest index of each process in any consistent line in which the
-    // failed processes are at stored checkpoints.
-    let mut latest = vec![vec![0; n]; 1 << n];
-    for_every_line(&states, |line| {
-        if !consistent(line, &messages) {
-            return;
-        }
-        for failed in 0..1 << n {
-            if (0..n).any(|i| failed >> i & 1 == 1 && line[i].live) {
-                continue;
-            }
-            for i in 0..n {
-                latest[failed][i] = line[i].index.max(latest[failed][i]);
-            }
-        }
-    });
-
-    let mut used: Vec<Vec<u16>> = vec![Vec::new(); n];
+    let best = best_lines(&states, &messages);
     for failed in 0..1 << n {
         let reported = common::line(run, failed as u32);
-        let line: Vec<State> = (0..n)
-            .map(|i| {
-                *states[i]
-                    .iter()
-                    .find(|state| state.index == reported[i])
-                    .unwrap()
-            })
-            .collect();
-        assert!(
-            consistent(&line, &messages),
-            "the reported line is consistent"
-        );
+        assert_eq!(reported, best[failed], "the reported line is the best line");
         for i in 0..n {
+            let member = states[i]
+                .iter()
+                .find(|state| state.index == reported[i])
+                .unwrap();
             let has_failed = failed >> i & 1 == 1;
-            assert!(line[i].kept || line[i].live && !has_failed);
-            if line[i].kept {
-                used[i].push(line[i].index);
-            }
+            assert!(member.kept || member.live && !has_failed);
         }
-        assert_eq!(
-            reported, latest[failed],
-            "no consistent line is later anywhere"
-        );
     }
-    if after_recover {
-        for i in 0..n {
-            let kept = common::kept(run, i);
-            assert!(kept.iter().all(|index| used[i].contains(index)));
+    check_kept(&states, &best, after_recover, met);
+}
+
+/// Note 6: "straight after an accepted recovery or sweep, a checkpoint is kept
+/// exactly if some non-empty failed set would have it in its best line". After
+/// other calls more may be kept; how often is counted.
+fn check_kept(states: &[Vec<State>], best: &[Vec<u16>], after_recover: bool, met: &mut Met) {
+    for (i, of_one) in states.iter().enumerate() {
+        for checkpoint in of_one.iter().filter(|state| !state.live) {
+            let used = best[1..].iter().any(|line| line[i] == checkpoint.index);
+            if after_recover {
+                assert_eq!(
+                    checkpoint.kept, used,
+                    "kept exactly if some failure would use it"
+                );
+                met.cleaned += 1;
+            } else {
+                met.in_vain += (checkpoint.kept && !used) as usize;
+            }
         }
     }
 }
@@ -397,6 +408,10 @@ struct Met {
     /// Sweeps, and those that deleted.
     sweeps: usize,
     deleting: usize,
+    /// Checkpoints that were judged straight after a recovery or sweep, and
+    /// those that were kept after another call though no failure would use them.
+    cleaned: usize,
+    in_vain: usize,
 }
 
 impl Met {
@@ -409,6 +424,13 @@ impl Met {
         assert!(self.outlived > 300, "met {} times", self.outlived);
         assert!(self.sweeps > 200, "met {} times", self.sweeps);
         assert!(self.deleting > 30, "met {} times", self.deleting);
+    }
+
+    /// Where the lines are tried out: what Note 6 says was asked, and does not
+    /// hold by itself.
+    fn assert_judged(&self) {
+        assert!(self.cleaned > 10_000, "met {} times", self.cleaned);
+        assert!(self.in_vain > 1_000, "met {} times", self.in_vain);
     }
 }
 
@@ -520,11 +542,13 @@ fn brute_force(seed: u64, n: usize, every_step: bool, met: &mut Met) {
     let mut history = History::start(n);
     for _ in 0..events {
         let after_recover = step(&mut run, &mut history, &mut random, &weights, met);
-        if every_step {
-            check(&run, &history, after_recover);
+        if every_step || after_recover {
+            check(&run, &history, after_recover, met);
         }
     }
-    check(&run, &history, false);
+    if !every_step {
+        check(&run, &history, false, met);
+    }
 }
 
 #[test]
@@ -534,6 +558,7 @@ fn two_processes() {
         brute_force(seed, 2, true, &mut met);
     }
     met.assert_all(2);
+    met.assert_judged();
 }
 
 #[test]
@@ -543,6 +568,7 @@ fn three_processes() {
         brute_force(seed, 3, true, &mut met);
     }
     met.assert_all(3);
+    met.assert_judged();
 }
 
 #[test]
@@ -552,6 +578,7 @@ fn four_processes() {
         brute_force(seed, 4, seed % 4 == 0, &mut met);
     }
     met.assert_all(4);
+    met.assert_judged();
 }
 
 /// More processes have too many lines: here only what each call answers and

@@ -2,6 +2,7 @@
 -- Assumes nothing.
 use borrow.Author.Needs.{needs}
 use Rattle.model.proofs.WholeRuns.{line-promise, recover-promise}
+use Rattle.model.proofs.Clean.{clean-promise}
 use Rattle.calls.proofs.Unsound.{is-sound, is-unsound, recover-unsound}
 use Rattle.calls.proofs.recover.Statement.{statement}
 use Rattle.calls.proofs.recover.Tie as tie
@@ -10,7 +11,7 @@ returns : tie.Need-returns
 returns c =
     let a = c .before .before .before .before .args in
     let g = recover-unsound (a .s) (is-unsound (a .s) (c .before .is-sound .ensures) (c .if1 .taken)) (a .failed) (a .deleted .now) (a .line .now) in
-    (g .0, (g .1 .0, (g .1 .1 .0, (g .1 .1 .1, (line-promise (a .s) (a .failed), recover-promise (a .s) (a .failed) (a .deleted .now) (a .line .now) (a .s) (g .0))))))
+    (g .0, (g .1 .0, (g .1 .1 .0, (g .1 .1 .1, (line-promise (a .s) (a .failed), (recover-promise (a .s) (a .failed) (a .deleted .now) (a .line .now) (a .s) (g .0), clean-promise (a .s) (a .failed) (a .deleted .now) (a .line .now) (a .s) (g .0)))))))
 
 recover-requires : tie.Need-recover-requires
 recover-requires c κs =
@@ -22,7 +23,7 @@ returns-2 c =
     let w = c .before .before .before .before in
     let g = w .recover .ensures in
     let a = w .before .before .before .before .before .before .before .args in
-    (g .0, (g .1 .0, (g .1 .1 .0, (g .1 .1 .1, (line-promise (a .s) (a .failed), recover-promise (a .s) (a .failed) (a .deleted .now) (a .line .now) (w .recover .result .run) (g .0))))))
+    (g .0, (g .1 .0, (g .1 .1 .0, (g .1 .1 .1, (line-promise (a .s) (a .failed), (recover-promise (a .s) (a .failed) (a .deleted .now) (a .line .now) (w .recover .result .run) (g .0), clean-promise (a .s) (a .failed) (a .deleted .now) (a .line .now) (w .recover .result .run) (g .0)))))))
 
 pub recover-spec : {M : Type 1} → statement M
 recover-spec = tie.close (tie.spec (λ c κs. search needs) returns recover-requires (λ c. search needs) (λ c. search needs) returns-2)

@@ -205,3 +205,15 @@ module _ (r : Ideal) (v : Inv r) where
         let b = member-stands _ t in
         let c = upTo-out (line r F p) (r .events p) (b .1) in
         omega (arith, a .2, line-sent q (a .0) p (b .0) m (a .1) (c .0) (c .1))
+
+    -- Where a single process f failed, the member at p is the checkpoint right behind which p learnt f's current interval.
+    pub line-at : (p f k : ℕ) → f < r .n → F f ≡ true → ((q : ℕ) → F q ≡ true → q ≡ f)
+        → k < r .own p → r .vector p k f < r .own f → r .own f ≤ r .vector p (suc k) f → line r F p ≡ k
+    line-at p f k hf failed alone lt low high =
+        let e : rolled r F p ≡ true = by-bool (rolled r F p) (λ d. d)
+        (λ d. absurd (omega (arith, safe-out r F p (r .own p) (stays-out r F p d) f hf failed, rising p f (suc k) (r .own p) lt (omega arith)))) in
+        let b = line-back p e in
+        let w = b .next in
+        let same : w .0 ≡ f = alone (w .0) (w .2) in
+        let up : r .own f ≤ r .vector p (suc (line r F p)) f = rw (← same) (w .3) in
+        one-rise p f (line r F p) k (r .own f) lt low high (b .below) (b .fine f hf failed) up

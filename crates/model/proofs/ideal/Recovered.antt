@@ -115,13 +115,16 @@ module _ (r : Ideal) (v : Inv r) (F : Failed) where
       (λ ne. found-other p f hf ne d)
 
   -- A pin that names something is of a current entry.
-  found-pin : (p f k : ℕ) → f < r .n → r′ .pin p f ≡ some k → Found p f
-  found-pin p f k hf e = by-eq (r′ .vector p (r′ .own p) f) (r′ .own f)
-      (λ d. found p f hf d)
+  pub recovered-current : (p f k : ℕ) → r′ .pin p f ≡ some k → r′ .vector p (r′ .own p) f ≡ r′ .own f
+  recovered-current p f k e = by-eq (r′ .vector p (r′ .own p) f) (r′ .own f)
+      (λ d. d)
       (λ nd. absurd (none-some k (sym (recovered-pin-none r F p f nd) ∙ e)))
     where
       none-some : (k : ℕ) → _≡_ {A = Option ℕ} none (some k) → ⊥
       none-some k e = let z : _≡_ {A = ℕ} 0 1 = cc in omega arith
+
+  found-pin : (p f k : ℕ) → f < r .n → r′ .pin p f ≡ some k → Found p f
+  found-pin p f k hf e = found p f hf (recovered-current p f k e)
 
   -- Where a process knows the current interval of f, its pin for f names a checkpoint.
   pinned′ : (p f : ℕ) → f < r .n → r′ .vector p (r′ .own p) f ≡ r′ .own f → (k : ℕ) × (r′ .pin p f ≡ some k)

@@ -72,7 +72,7 @@ pub same-line : (n : ℕ) (h : Surviving) (F : ℕ) (a b : Line) → RightLine n
 unfolding Consistent
 same-line n h F a b right e = record {
   consistent = λ q p m hq hp. rw (e q hq, e p hp) (right .consistent q p m hq hp);
-  maximal = λ other is-line consistent back p hp. rw (e p hp) (right .maximal other is-line consistent back p hp);
+  maximal = λ other possible p hp. rw (e p hp) (right .maximal other possible p hp);
   members = λ p hp. rw (e p hp) (right .members p hp);
 }
 
@@ -113,7 +113,7 @@ module _ (r : Ideal) (v : Inv r) (s : Run) (h : Surviving) (g : Agrees h r) (F :
   ideal-right : RightLine (r .n) h F (line r (failed F))
   ideal-right = record {
     consistent = rw (g .lists) (line-consistent r v (failed F));
-    maximal = rw (g .lists) (line-maximal r v (failed F));
+    maximal = rw (g .lists) (λ other possible. line-maximal r v (failed F) other (possible .within) (possible .consistent) (possible .back));
     members = λ p hp. rw (own-is p) (by-bool (ltb (line r (failed F) p) (r .own p))
         (λ e. let back : line r (failed F) p < r .own p = ltb-true _ _ e in inr (back, g .kept p (line r (failed F) p) hp ∙ below-kept r v (failed F) p back))
         (λ e. let stays : r .own p ≤ line r (failed F) p = ltb-false _ _ e in
