@@ -66,3 +66,11 @@ pub count-any : (n k : ℕ) (t : ℕ → ℕ → Bool) → ((f i j : ℕ) → t 
 unfolding anyBelow
 count-any zero k t h = omega (arith, count-none k (λ j. false) (λ j lt. refl))
 count-any (suc n) k t h = omega (arith, count-or k (t n) (λ j. anyBelow n (λ f. t f j)), count-one k (t n) (h n), count-any n k t h)
+
+-- A number that passes, taken off, makes the count one less.
+pub count-off : (k : ℕ) (t u : ℕ → Bool) (i : ℕ) → i < k → t i ≡ true → u i ≡ false → ((j : ℕ) → j < k → (j ≡ i → ⊥) → t j ≡ u j) → countBelow k t ≡ suc (countBelow k u)
+unfolding countBelow
+count-off zero t u i h a b same = absurd (omega arith)
+count-off (suc k) t u i h a b same = by-eq i k
+    (λ e. rw (rw e at a, rw e at b, count-same k t u (λ j lt. same j (omega arith) (omega arith))) (omega arith))
+    (λ ne. rw (same k (omega arith) (omega arith), count-off k t u i (omega arith) a b (λ j lt. same j (omega arith))) (omega arith))

@@ -1,10 +1,9 @@
 -- Note 6, proved: straight after an accepted recovery or sweep a checkpoint is kept exactly if some failure would use it.
 -- Assumes nothing.
 use mathlib.Core.Path.{_≡_, refl, sym, _∙_}
-use mathlib.Core.Bool.{true}
 use mathlib.Core.List.{List, [], _∷_, _++_}
 use mathlib.Core.Option.{none}
-use Prim.Native.Nat.{ℕ, _^_, _≤_, _<_}
+use Prim.Native.Nat.{ℕ, _^_, _<_}
 use native.Mathlib.Omega.{arith}
 use lib.Pow.{pow-pos}
 use Rattle.laws.specs.Bits.{pow-less}
@@ -14,13 +13,12 @@ use Rattle.model.specs.Refusals.{recoverRefusal}
 use Rattle.model.specs.Outcomes.{startOutcome, recoverOutcome}
 use Rattle.model.specs.Calls.{Call, recover, call, stateAfter, transcript}
 use Rattle.model.specs.Survival.{Surviving, beginning, after, survivingFrom, surviving}
-use Rattle.model.specs.WholeRuns.{keepsIn, StatePromise}
+use Rattle.model.specs.WholeRuns.{StatePromise}
 use Rattle.model.specs.Clean.{OnlyNeededKept, CleanAfterRecovery, CleanPromise}
 use Rattle.model.proofs.ideal.Run.{Ideal, begin, recovered}
 use Rattle.model.proofs.ideal.Invariant.{Inv}
 use Rattle.model.proofs.ideal.Rule.{keeps-out}
 use Rattle.model.proofs.ideal.Recovered.{recovered-current}
-use Rattle.model.proofs.simulation.View.{stateOf}
 use Rattle.model.proofs.whole.Reached.{Reached, exchange, refusal}
 use Rattle.model.proofs.whole.Runs.{stepped, runAfter}
 use Rattle.model.proofs.WholeRuns.{start-reached, accepted-reached, calls-reached, recover-promise}

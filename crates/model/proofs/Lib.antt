@@ -3,6 +3,7 @@ pub mod Best
 pub mod Blocks
 pub mod Clean
 pub mod Exam
+pub mod NothingMore
 pub mod Records
 pub mod Risen
 pub mod Sizes

@@ -29,3 +29,6 @@ pub mod Sources
 pub mod Memory
 pub mod Knowledge
 pub mod Standing
+pub mod Local
+pub mod SubMessages
+pub mod SubRun

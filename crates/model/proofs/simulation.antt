@@ -1,4 +1,5 @@
 pub mod Accepted
+pub mod Admitted
 pub mod Checkpoint
 pub mod Deliver
 pub mod Handed

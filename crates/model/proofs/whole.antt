@@ -1,6 +1,7 @@
 pub mod Agreement
 pub mod Accepted
 pub mod Answers
+pub mod Follow
 pub mod Gone
 pub mod LineRight
 pub mod Listed

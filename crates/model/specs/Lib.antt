@@ -10,6 +10,7 @@ pub mod Numbers
 pub mod Outcomes
 pub mod Refusals
 pub mod Risen
+pub mod Seen
 pub mod Sound
 pub mod Steps
 pub mod Survival
