@@ -1,13 +1,13 @@
--- `replay::position::fill` meets its contract: the read changes nothing in front of the place that it is given.
+-- `position::fill` meets its contract: the read changes nothing in front of the place that it is given.
 -- Assumes nothing.
 use borrow.Author.Needs.{needs}
 use denote.Ref.{now}
 use Prim.Native.Nat.{_+_, _-_}
 use native.Mathlib.Omega.{arith}
 use borrow.Rule.Slice.PartMut.{putMid, take-put, same-len-mid}
-use Rattle.replay.proofs.Going.{fills}
-use Rattle.replay.proofs.position.fill.Statement.{statement}
-use Rattle.replay.proofs.position.fill.Tie as tie
+use Rattle.position.proofs.Going.{fills}
+use Rattle.position.proofs.fill.Statement.{statement}
+use Rattle.position.proofs.fill.Tie as tie
 
 add-from : tie.Need-add-from
 add-from c = search needs
