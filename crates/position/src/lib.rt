@@ -1,6 +1,6 @@
-// Where a replay stands, and the only ways to go on: bytes are read, or the lines of records are put. The fields are this file's own, so that no other file makes a
+// Where a replay stands, and the only ways to go on: bytes are read, or the lines of records are put. The fields are this crate's own, so that no other makes a
 // position: a byte counts as held once it is read, and a record as taken once its lines are put. What the system is asked for stands in `fill` and `write`, and in
-// `start` for the first byte.
+// `replay`'s `start` for the first byte.
 use libc::STDIN_FILENO;
 use libc::STDOUT_FILENO;
 use model::Run;
@@ -137,7 +137,7 @@ pub fn put(p: Position, part: &[u8], taken: usize, next: Run, going: bool, lines
     }
 }
 
-// A replay has ended, in one of the ways below, and in no other: this file makes the only values of this type.
+// A replay has ended, in one of the ways below, and in no other: this crate makes the only values of this type.
 pub struct Ended {
     failed: bool,
 }
