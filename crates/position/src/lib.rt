@@ -165,6 +165,7 @@ pub fn put_whole(all: bool, trace: &[u8], lines: &[u8]) -> Ended
 // "stops after printing the first refusal": nothing is read or put behind it, unless all is asked for.
 pub fn end_at_a_refusal(p: Position) -> Ended
     requires { ⌜ p .going ≡ false ⌝ }
+    ensures { λ r. ⌜ r .failed ≡ false ⌝ }
 {
     Ended { failed: false }
 }
@@ -172,6 +173,7 @@ pub fn end_at_a_refusal(p: Position) -> Ended
 // Nothing is read or put behind the last record that a replay takes.
 pub fn end_at_the_last(p: Position) -> Ended
     requires { ⌜ 1000000000 ≤ p .done ⌝ }
+    ensures { λ r. ⌜ r .failed ≡ false ⌝ }
 {
     Ended { failed: false }
 }
@@ -179,6 +181,7 @@ pub fn end_at_the_last(p: Position) -> Ended
 // The system failed to read or to write.
 pub fn end_by_error(failed: bool) -> Ended
     requires { ⌜ failed ≡ true ⌝ }
+    ensures { λ r. ⌜ r .failed ≡ true ⌝ }
 {
     Ended { failed }
 }
