@@ -13,9 +13,9 @@ use Rattle.model.specs.WholeRuns.{Reachable}
 use Rattle.listing.specs.Lines.{longestLine}
 use Rattle.replay_block.specs.Blocks.{Replays, Stops}
 use Rattle.replay_block.proofs.Onward.{onward}
-use Rattle.replay.specs.declared.position.Position.{Position}
-use Rattle.replay.specs.Positions.{due, passed, Passes}
-use Rattle.replay.proofs.Going.{due-going, behind-passed}
+use Rattle.position.specs.declared.Position.{Position}
+use Rattle.position.specs.Positions.{due, passed, Passes}
+use Rattle.position.proofs.Going.{due-going, behind-passed}
 use Rattle.replay.proofs.Texts.{front-text}
 
 -- What is known of the records that were taken: they are the bytes of `part`, `run` is the state after them, `lines` are theirs, and `going` says whether the replay

@@ -9,8 +9,8 @@ use lib.ListN.{length, getD, take}
 use Rattle.model.specs.declared.Run.{Run}
 use Rattle.model.specs.WholeRuns.{Reachable}
 use Rattle.output.specs.Ends.{Starts, Refused, Begins}
-use Rattle.replay.specs.declared.position.Position.{Position}
-use Rattle.replay.specs.Positions.{beginning}
+use Rattle.position.specs.declared.Position.{Position}
+use Rattle.position.specs.Positions.{beginning}
 
 module _ (n : ℕ) (started : Bool) (run : Run) (out now-out : List ℕ) (written : ℕ) where
   pub begun : Begins n started run out now-out written → started ≡ true → Starts n run out now-out written

@@ -3,9 +3,6 @@
 // when the input fails or stalls. It stops after the line of the first refusal, unless it is started with the one argument `all`. An error of the system is said on
 // standard error, and ends the replay.
 
-// position.rt: where the replay stands, and what it asks of the system
-mod position;
-
 use libc::STDIN_FILENO;
 use position::Ended;
 use position::Passed;
@@ -16,7 +13,7 @@ ghost use Prim.Native.Nat.{_+_, _*_, _≤_, _<_};
 ghost use lib.ListN.{length};
 ghost use Rattle.model.specs.WholeRuns.{Reachable};
 ghost use Rattle.listing.specs.Lines.{longestLine};
-ghost use Rattle.replay.specs.Positions.{Passes, Finished, ReplaysHeld};
+ghost use Rattle.position.specs.Positions.{Passes, Finished, ReplaysHeld};
 
 // The next records of a block, as many as `replay_block` takes at once: their lines are put. The block is the first byte of the trace and the bytes held.
 fn pass(p: Position, block: &[u8], out: &mut [u8]) -> Passed

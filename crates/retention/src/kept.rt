@@ -70,7 +70,7 @@ pub fn write_deletions(
     ensures { λ r. ⌜ now (deleted .exit) ≡ sets (now (deleted .entry)) at (pairs (listed p (select (λ c. not (named pins c)) (take held row)))) ⌝ }
 {
     let process = p as u16;
-    let mut count = 0;
+    let mut gone = 0;
     let mut next = at;
     for k in 0..held {
         let c = row[k];
@@ -80,8 +80,8 @@ pub fn write_deletions(
             deleted[next] = process;
             deleted[next + 1] = index.0;
             next += 2;
-            count += 1;
+            gone += 1;
         }
     }
-    count
+    gone
 }

@@ -9,8 +9,8 @@ use denote.Ref.{now}
 use lib.ListN.{length, take, drop, length-drop}
 use borrow.Rule.Slice.PartAt.{part-to-end}
 use borrow.Author.Tests.{leb-true, leb-false}
-use Rattle.replay.specs.Positions.{Passes}
-use Rattle.replay.proofs.Going.{passes-none, passes-then, unfinished, none-left, stopped, at-last}
+use Rattle.position.specs.Positions.{Passes}
+use Rattle.position.proofs.Going.{passes-none, passes-then, unfinished, none-left, stopped, at-last}
 use Rattle.replay.proofs.pass_all.Statement.{statement}
 use Rattle.replay.proofs.pass_all.Tie as tie
 

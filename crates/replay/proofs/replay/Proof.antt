@@ -11,9 +11,9 @@ use native.Mathlib.Omega.{arith}
 use denote.Ref.{now}
 use lib.ListN.{length, drop}
 use Rattle.model.specs.WholeRuns.{Reachable}
-use Rattle.replay.specs.declared.position.Position.{Position}
-use Rattle.replay.specs.Positions.{bytesHeld, Stands}
-use Rattle.replay.proofs.Going.{stands-first}
+use Rattle.position.specs.declared.Position.{Position}
+use Rattle.position.specs.Positions.{bytesHeld, Stands}
+use Rattle.position.proofs.Going.{stands-first}
 use Rattle.replay.proofs.replay.Statement.{statement}
 use Rattle.replay.proofs.replay.Tie as tie
 

@@ -8,8 +8,8 @@ use native.Mathlib.Omega.{arith}
 use denote.Ref.{now}
 use lib.ListN.{length, take}
 use lib.Seq.{length-take-le}
-use Rattle.replay.specs.Positions.{Passes}
-use Rattle.replay.proofs.Going.{replays-held}
+use Rattle.position.specs.Positions.{Passes}
+use Rattle.position.proofs.Going.{replays-held}
 use Rattle.replay.proofs.replay_held.Statement.{statement}
 use Rattle.replay.proofs.replay_held.Tie as tie
 

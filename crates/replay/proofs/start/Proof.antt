@@ -9,7 +9,7 @@ use denote.Ref.{now}
 use lib.ListN.{length, drop}
 use lib.Seq.{length-take-le, length-front}
 use Rattle.model.specs.Listing.{listing}
-use Rattle.replay.specs.declared.position.Position.{Position}
+use Rattle.position.specs.declared.Position.{Position}
 use Rattle.replay.proofs.Texts.{front-text}
 use Rattle.replay.proofs.Starting.{begun, not-begun, reached-first, first-byte}
 use Rattle.replay.proofs.start.Statement.{statement}

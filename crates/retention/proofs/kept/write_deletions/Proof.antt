@@ -19,16 +19,16 @@ use Rattle.retention.proofs.kept.write_deletions.Statement.{statement}
 use Rattle.retention.proofs.kept.write_deletions.Tie as tie
 
 abbrev Inv-loop : tie.InvT-loop
-Inv-loop deleted₀ at p held pins row process count₀ next₀ k₀ deleted count next k =
+Inv-loop deleted₀ at p held pins row process gone₀ next₀ k₀ deleted gone next k =
     (k ≤ held)
-    × (count ≤ k)
-    × (next ≡ at + 2 * count)
+    × (gone ≤ k)
+    × (next ≡ at + 2 * gone)
     × (length deleted ≡ length deleted₀)
-    × (count ≡ length (select (λ c. not (named pins c)) (take k row)))
+    × (gone ≡ length (select (λ c. not (named pins c)) (take k row)))
     × (deleted ≡ sets deleted₀ at (pairsOf p (select (λ c. not (named pins c)) (take k row))))
 
 abbrev μ-loop : tie.MeasureT-loop
-μ-loop deleted₀ at p held pins row process count₀ next₀ k₀ deleted count next k = held - k
+μ-loop deleted₀ at p held pins row process gone₀ next₀ k₀ deleted gone next k = held - k
 
 loop-holds : tie.Need-loop-holds Inv-loop μ-loop
 unfolding select
@@ -48,11 +48,11 @@ loop-again c =
     either (c .if1 .came)
     (λ w.
     let n = pair-yes t (a .t4) (l .k) z (search needs) (a .p) (a .at) (a .deleted .now) (l .deleted)
-    (l .count) (l .next) (l .inv .4) (l .inv .2) (l .inv .5) (ap not (sym (c .before .is-named .ensures)) ∙ w .0 .taken) in
+    (l .gone) (l .next) (l .inv .4) (l .inv .2) (l .inv .5) (ap not (sym (c .before .is-named .ensures)) ∙ w .0 .taken) in
     (search needs, omega (arith, w .2), omega (arith, w .2, w .3), ap length (w .1) ∙ simp length-set (l .inv .3), w .2 ∙ n .0, w .1 ∙ n .1))
     (λ w.
     let n = pair-no t (a .t4) (l .k) z (search needs) (a .p) (a .at) (a .deleted .now) (l .deleted)
-    (l .count) (l .next) (l .inv .4) (l .inv .2) (l .inv .5) (ap not (sym (c .before .is-named .ensures)) ∙ w .0 .left) in
+    (l .gone) (l .next) (l .inv .4) (l .inv .2) (l .inv .5) (ap not (sym (c .before .is-named .ensures)) ∙ w .0 .left) in
     (search needs, omega (arith, w .2), omega (arith, w .2, w .3), ap length (w .1) ∙ l .inv .3, w .2 ∙ n .0, w .1 ∙ n .1))
 
 returns : tie.Need-returns Inv-loop μ-loop

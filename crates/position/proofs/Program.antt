@@ -11,10 +11,10 @@ use Rattle.laws.specs.Choice.{pick, pick-same}
 use Rattle.model.specs.Refusals.{startRefusal}
 use Rattle.model.specs.Listing.{mostRecords, records, started, listing}
 use Rattle.model.proofs.Blocks.{past-limit, block-by-block}
-use Rattle.replay.specs.declared.position.Position.{Position}
-use Rattle.replay.specs.Positions.{beginning, filled, due, passed}
-use Rattle.replay.specs.Program.{Step, reads, puts, allRead, Fitting, allPut, standing, holding, PrintsTheListing}
-use Rattle.replay.proofs.Going.{due-going}
+use Rattle.position.specs.declared.Position.{Position}
+use Rattle.position.specs.Positions.{beginning, filled, due, passed}
+use Rattle.position.specs.Program.{Step, reads, puts, allRead, Fitting, allPut, standing, holding, PrintsTheListing}
+use Rattle.position.proofs.Going.{due-going}
 
 -- From any position: the lines of the bytes held, of all that is read, and of what is not read yet.
 put-so-far : (unread : List ℕ) (steps : List Step) (p : Position) (held : List ℕ) → Fitting p held steps

@@ -9,8 +9,8 @@ use lib.ListN.{length, take, drop}
 use Rattle.model.specs.declared.Refusal.{Refusal}
 use Rattle.model.specs.Refusals.{startRefusal}
 use Rattle.model.specs.Listing.{mostRecords, listing}
-use Rattle.replay.specs.declared.position.Position.{Position}
-use Rattle.replay.specs.Positions.{beginning, filled, due, passed}
+use Rattle.position.specs.declared.Position.{Position}
+use Rattle.position.specs.Positions.{beginning, filled, due, passed}
 
 -- What the program does behind the first byte: it reads some bytes, or puts the lines of some records.
 pub data Step : Type 0 where

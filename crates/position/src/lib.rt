@@ -1,6 +1,6 @@
-// Where a replay stands, and the only ways to go on: bytes are read, or the lines of records are put. The fields are this file's own, so that no other file makes a
+// Where a replay stands, and the only ways to go on: bytes are read, or the lines of records are put. The fields are this crate's own, so that no other makes a
 // position: a byte counts as held once it is read, and a record as taken once its lines are put. What the system is asked for stands in `fill` and `write`, and in
-// `start` for the first byte.
+// `replay`'s `start` for the first byte.
 use libc::STDIN_FILENO;
 use libc::STDOUT_FILENO;
 use model::Run;
@@ -10,7 +10,7 @@ ghost use Prim.Native.Nat.{_+_, _*_, _≤_, _<_};
 ghost use lib.ListN.{length};
 ghost use Rattle.model.specs.Steps.{startState};
 ghost use Rattle.model.specs.Listing.{goesOnBehind, stateAfterRecords, listing};
-ghost use Rattle.replay.specs.Positions.{beginning, due, passed, Fills};
+ghost use Rattle.position.specs.Positions.{beginning, due, passed, Fills};
 
 // Whether all is asked for; the state after the records that were taken, how many they are, and how many bytes are held behind them: they were read, and belong to no
 // record taken; whether the replay goes on behind these records.
@@ -137,7 +137,7 @@ pub fn put(p: Position, part: &[u8], taken: usize, next: Run, going: bool, lines
     }
 }
 
-// A replay has ended, in one of the ways below, and in no other: this file makes the only values of this type.
+// A replay has ended, in one of the ways below, and in no other: this crate makes the only values of this type.
 pub struct Ended {
     failed: bool,
 }
@@ -165,6 +165,7 @@ pub fn put_whole(all: bool, trace: &[u8], lines: &[u8]) -> Ended
 // "stops after printing the first refusal": nothing is read or put behind it, unless all is asked for.
 pub fn end_at_a_refusal(p: Position) -> Ended
     requires { ⌜ p .going ≡ false ⌝ }
+    ensures { λ r. ⌜ r .failed ≡ false ⌝ }
 {
     Ended { failed: false }
 }
@@ -172,6 +173,7 @@ pub fn end_at_a_refusal(p: Position) -> Ended
 // Nothing is read or put behind the last record that a replay takes.
 pub fn end_at_the_last(p: Position) -> Ended
     requires { ⌜ 1000000000 ≤ p .done ⌝ }
+    ensures { λ r. ⌜ r .failed ≡ false ⌝ }
 {
     Ended { failed: false }
 }
@@ -179,6 +181,7 @@ pub fn end_at_the_last(p: Position) -> Ended
 // The system failed to read or to write.
 pub fn end_by_error(failed: bool) -> Ended
     requires { ⌜ failed ≡ true ⌝ }
+    ensures { λ r. ⌜ r .failed ≡ true ⌝ }
 {
     Ended { failed }
 }

@@ -12,8 +12,8 @@ use Rattle.model.specs.declared.Run.{Run}
 use Rattle.model.specs.Listing.{mostRecords, records, goesOnBehind, stateAfterRecords}
 use Rattle.model.specs.WholeRuns.{Reachable}
 use Rattle.model.proofs.Blocks.{states-by-block}
-use Rattle.replay.specs.declared.position.Position.{Position}
-use Rattle.replay.specs.Positions.{filled, due, passed, bytesHeld, Behind, Stands, Fills, Passes, Finished, ReplaysHeld}
+use Rattle.position.specs.declared.Position.{Position}
+use Rattle.position.specs.Positions.{filled, due, passed, bytesHeld, Behind, Stands, Fills, Passes, Finished, ReplaysHeld}
 
 -- Nothing is read yet.
 pub stands-first : (p : Position) (input : List ℕ) → p .done ≡ 0 → p .held ≡ 0 → Stands (p .run) p input

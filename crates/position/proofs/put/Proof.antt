@@ -1,10 +1,10 @@
--- `replay::position::put` meets its contract: the position behind the records, by the state that is handed in.
+-- `position::put` meets its contract: the position behind the records, by the state that is handed in.
 -- Assumes nothing.
 use borrow.Author.Needs.{needs}
 use denote.Ref.{now}
-use Rattle.replay.proofs.Going.{put-there}
-use Rattle.replay.proofs.position.put.Statement.{statement}
-use Rattle.replay.proofs.position.put.Tie as tie
+use Rattle.position.proofs.Going.{put-there}
+use Rattle.position.proofs.put.Statement.{statement}
+use Rattle.position.proofs.put.Tie as tie
 
 returns : tie.Need-returns
 returns c =

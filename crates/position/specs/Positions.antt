@@ -10,7 +10,7 @@ use Rattle.model.specs.declared.Run.{Run}
 use Rattle.model.specs.Steps.{startState}
 use Rattle.model.specs.Listing.{mostRecords, records, goesOnBehind, stateAfterRecords}
 use Rattle.model.specs.WholeRuns.{Reachable}
-use Rattle.replay.specs.declared.position.Position.{Position}
+use Rattle.position.specs.declared.Position.{Position}
 
 -- Before the first record of a trace whose first byte is n, to be replayed to its end (`all`) or to the first refusal.
 abbrev pub beginning : Bool → ℕ → Position
