@@ -22,12 +22,12 @@ ghost use Rattle.model.specs.Calls as made;
 ghost use Rattle.model.specs.WholeRuns.{LinePromise, StatePromise};
 ghost use Rattle.model.specs.Clean.{CleanPromise};
 
-// A run of n processes: the state in which it starts.
-pub fn start(n: usize) -> StartOutcome
-    ensures { λ r. ⌜ r .run ≡ startOutcome n .run ⌝ }
-    ensures { λ r. ⌜ r .answer ≡ startOutcome n .answer ⌝ }
+// A run of n processes, with the block count of each: the state in which it starts. The counts at n and above are neither judged nor stored.
+pub fn start(n: usize, counts: [u32; 16]) -> StartOutcome
+    ensures { λ r. ⌜ r .run ≡ startOutcome n counts .run ⌝ }
+    ensures { λ r. ⌜ r .answer ≡ startOutcome n counts .answer ⌝ }
 {
-    steps::start::start(n)
+    steps::start::start(n, counts)
 }
 
 // Process i takes a checkpoint. What is deleted goes to the front of the lent list.

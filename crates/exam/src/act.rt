@@ -1,9 +1,11 @@
 // Each call of the library on the state behind the call before it, with lists of a given length that hold zeros. What comes back is the state and
 // the number of the answer: 0 if the call is accepted, else the refusal number. A deletion list of 512 entries and a line list of 16 do for every run.
+use model::Disk;
 use model::Run;
 ghost use Prim.Native.Nat.{_≤_};
 ghost use mathlib.Core.Path.{_≡_};
 ghost use lib.ListN.{replicate, take};
+ghost use Rattle.model.specs.Words.{ones};
 ghost use Rattle.model.specs.Outcomes.{startOutcome, checkpointOutcome, sendOutcome, deliverOutcome, recoverOutcome, startReport, checkpointReport, sendReport, deliverReport, recoverReport};
 
 // The state behind a call, and the number of its answer.
@@ -12,15 +14,31 @@ pub struct After {
     pub refused: u8,
 }
 
-pub(crate) fn start(n: usize) -> After
-    ensures { λ r. ⌜ (r .run ≡ startOutcome n .run) × (r .refused ≡ startReport (startOutcome n .answer) .refused) ⌝ }
+// A start with these block counts.
+pub(crate) fn start_with(n: usize, counts: [u32; 16]) -> After
+    ensures { λ r. ⌜ (r .run ≡ startOutcome n counts .run) × (r .refused ≡ startReport (startOutcome n counts .answer) .refused) ⌝ }
 {
-    let outcome = calls::start(n);
+    let outcome = calls::start(n, counts);
     let run = outcome.run;
     let answer = outcome.answer;
     let said = output::say::of_start(answer);
     let refused = said.refused;
     After { run, refused }
+}
+
+// A start with a block count of 1 for every process.
+pub(crate) fn start(n: usize) -> After
+    ensures { λ r. ⌜ (r .run ≡ startOutcome n ones .run) × (r .refused ≡ startReport (startOutcome n ones .answer) .refused) ⌝ }
+{
+    start_with(n, [1; 16])
+}
+
+// The same state with other blocks written and deleted, put in by hand: a state that no call need have returned.
+pub(crate) fn forged(before: After, written: u64, deleted: u64) -> After {
+    let mut run = before.run;
+    let disk = Disk { written, deleted };
+    run.disk = disk;
+    After { run, refused: 0 }
 }
 
 pub(crate) fn checkpoint(before: After, i: usize, length: usize) -> After
@@ -78,4 +96,13 @@ pub(crate) fn recover(before: After, failed: u16, length: usize, members: usize)
     let said = output::say::of_recover(answer);
     let refused = said.refused;
     After { run, refused }
+}
+
+// So many checkpoints of process i, one after the other.
+pub(crate) fn checkpoints(before: After, i: usize, times: usize) -> After {
+    let mut s = before;
+    for k in 0..times {
+        s = checkpoint(s, i, 512);
+    }
+    s
 }

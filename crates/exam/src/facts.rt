@@ -1,8 +1,9 @@
-// What is printed of a state: vector, pins and kept checkpoints of each process, and the line for every failed set that the run has; of a delivery; and of a
-// recovery. Nothing is assumed of a state but that its rows have 16 places.
+// What is printed of a state: vector, pins and kept checkpoints of each process with their causes and block counts, the blocks written and deleted, and the line for
+// every failed set that the run has; of a delivery; and of a recovery. Nothing is assumed of a state but that its rows have 16 places.
 use crate::act::After;
 use crate::say;
 use model::Checkpoint;
+use model::Disk;
 use model::Interval;
 use model::Kept;
 use model::LineAnswer;
@@ -76,6 +77,27 @@ fn stored(row: [Checkpoint; 16], held: usize)
     say::end();
 }
 
+fn causes(row: [Checkpoint; 16], held: usize)
+    requires { ⌜ held ≤ 16 ⌝ }
+{
+    for k in 0..held {
+        let c = row[k];
+        say::value(c.cause as u64);
+    }
+    say::end();
+}
+
+fn counts(row: [Checkpoint; 16], held: usize)
+    requires { ⌜ held ≤ 16 ⌝ }
+{
+    for k in 0..held {
+        let c = row[k];
+        say::value(c.blocks as u64);
+    }
+    say::end();
+}
+
+// What process p keeps: indexes, causes and block counts.
 fn kept(all: Kept, p: usize, held: usize)
     requires { ⌜ p < 16 ⌝ }
     requires { ⌜ held ≤ 16 ⌝ }
@@ -83,9 +105,13 @@ fn kept(all: Kept, p: usize, held: usize)
     let rows = rows::squares::kept_rows(all);
     say::heading(b"kept", p as u64);
     stored(rows[p], held);
+    say::heading(b"causes", p as u64);
+    causes(rows[p], held);
+    say::heading(b"counts", p as u64);
+    counts(rows[p], held);
 }
 
-// The three lines of process p.
+// The five lines of process p.
 fn process(s: Run, p: usize)
     requires { ⌜ p < 16 ⌝ }
 {
@@ -94,6 +120,14 @@ fn process(s: Run, p: usize)
     vector(s.vectors, p, n);
     pins(s.pins, p, n);
     kept(s.kept, p, within(16, held[p]));
+}
+
+// Blocks written and blocks deleted.
+fn blocks(disk: Disk) {
+    say::text(b"blocks:");
+    say::value(disk.written);
+    say::value(disk.deleted);
+    say::end();
 }
 
 fn processes(s: Run) {
@@ -134,7 +168,7 @@ fn line(s: Run, failed: u16) -> bool {
 }
 
 // The failed sets of a run are the numbers from 0, that of the empty set, up to the first that is refused, for a bit at the count or above.
-fn lines(s: Run) {
+pub(crate) fn lines(s: Run) {
     let mut failed: u16 = 0;
     while failed < 65535 && line(s, failed) {
         failed += 1;
@@ -142,8 +176,21 @@ fn lines(s: Run) {
 }
 
 pub(crate) fn state(after: After) {
-    processes(after.run);
-    lines(after.run);
+    let s = after.run;
+    processes(s);
+    blocks(s.disk);
+    lines(s);
+}
+
+// The facts of the disks: what each process keeps, and the blocks written and deleted.
+pub(crate) fn disks(after: After) {
+    let s = after.run;
+    let n = within(16, s.count);
+    let held = s.held;
+    for p in 0..n {
+        kept(s.kept, p, within(16, held[p]));
+    }
+    blocks(s.disk);
 }
 
 // A value of the delivery of message m.

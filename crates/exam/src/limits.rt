@@ -112,14 +112,6 @@ fn sends(before: After, i: usize, j: usize, times: usize) -> After {
     s
 }
 
-fn checkpoints(before: After, i: usize, times: usize) -> After {
-    let mut s = before;
-    for k in 0..times {
-        s = act::checkpoint(s, i, 512);
-    }
-    s
-}
-
 // "The 64th message under way is accepted, the 65th gives 9."
 fn messages() {
     let start = act::start(2);
@@ -132,7 +124,7 @@ fn messages() {
 // "Own entry 65,534 may store, 65,535 may not." After k checkpoints an own entry is k + 1, so the last of 65,534 is stored at 65,534.
 fn own_entries() {
     let start = act::start(1);
-    let last = checkpoints(start, 0, 65534);
+    let last = act::checkpoints(start, 0, 65534);
     say::answer(b"own 65534", last.refused);
     let more = act::checkpoint(last, 0, 512);
     say::answer(b"own 65535", more.refused);
@@ -141,7 +133,7 @@ fn own_entries() {
 // A delivery that forces a checkpoint, behind so many others.
 fn forced(times: usize) -> u8 {
     let start = act::start(2);
-    let high = checkpoints(start, 1, times);
+    let high = act::checkpoints(start, 1, times);
     let marked = act::send(high, 1, 0);
     let sent = act::send(marked, 0, 1);
     let done = act::deliver(sent, 2, 512);
@@ -154,7 +146,7 @@ fn quiet() -> u8 {
     let first = act::send(start, 0, 1);
     let second = act::send(first, 0, 1);
     let known = act::deliver(second, 1, 512);
-    let high = checkpoints(known, 1, 65534);
+    let high = act::checkpoints(known, 1, 65534);
     let marked = act::send(high, 1, 0);
     let done = act::deliver(marked, 2, 512);
     done.refused

@@ -15,6 +15,9 @@ mod facts;
 // limits.rt: case 10
 mod limits;
 
+// disk.rt: the blocks on disk
+mod disk;
+
 // What a case says of the state that it reaches.
 fn case(number: u64, s: After) {
     say::case(number);
@@ -137,4 +140,6 @@ fn main() {
     lost_1();
     lost_2();
     sweep_0();
+    disk::disk_1();
+    disk::disk_2();
 }

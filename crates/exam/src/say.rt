@@ -54,6 +54,20 @@ pub(crate) fn sweep(failed: u64) {
     end();
 }
 
+// A case about the blocks on disk.
+pub(crate) fn disk(number: u64) {
+    text(b"disk");
+    value(number);
+    end();
+}
+
+// A step of such a case.
+pub(crate) fn step(number: u64) {
+    text(b"step");
+    value(number);
+    end();
+}
+
 // The answer of a call: 0, or the refusal number.
 pub(crate) fn answer(call: &[u8], refused: u8) {
     text(call);

@@ -1,6 +1,6 @@
 -- How many numbers below a bound pass a test: at most and at least, of two tests together, of a test that one number alone passes, of n such tests.
 use mathlib.Core.Path.{_≡_, refl}
-use mathlib.Core.Bool.{Bool, true, false, _||_}
+use mathlib.Core.Bool.{Bool, true, false, _&&_, _||_, not}
 use Prim.Native.Nat.{ℕ, zero, suc, _+_, _≤_, _<_}
 use native.Mathlib.Omega.{arith}
 use Rattle.laws.specs.Choice.{by-bool, by-eq}
@@ -66,6 +66,27 @@ pub count-any : (n k : ℕ) (t : ℕ → ℕ → Bool) → ((f i j : ℕ) → t 
 unfolding anyBelow
 count-any zero k t h = omega (arith, count-none k (λ j. false) (λ j lt. refl))
 count-any (suc n) k t h = omega (arith, count-or k (t n) (λ j. anyBelow n (λ f. t f j)), count-one k (t n) (h n), count-any n k t h)
+
+-- Where all that pass one test pass another: those that pass the other are those that pass both and those that pass it alone.
+pub count-split : (k : ℕ) (t u : ℕ → Bool) → ((j : ℕ) → j < k → u j ≡ true → t j ≡ true) → countBelow k t ≡ countBelow k u + countBelow k (λ j. t j && not (u j))
+unfolding countBelow
+count-split zero t u h = refl
+count-split (suc k) t u h =
+    let below = count-split k t u (λ j lt. h j (omega arith)) in
+    by-bool (u k)
+    (λ e. rw (e, h k (omega arith) e) (omega arith))
+    (λ e. by-bool (t k) (λ d. rw (e, d) (omega arith)) (λ d. rw (e, d) (omega arith)))
+
+-- Numbers from n on that fail do not count.
+pub count-wider : (n m : ℕ) (t : ℕ → Bool) → n ≤ m → ((j : ℕ) → n ≤ j → j < m → t j ≡ false) → countBelow m t ≡ countBelow n t
+unfolding countBelow
+count-wider n zero t le h = rw (zero-of n le)
+  where
+    zero-of : (n : ℕ) → n ≤ 0 → n ≡ 0
+    zero-of n h = omega arith
+count-wider n (suc m) t le h = by-eq n (suc m)
+    (λ e. rw e)
+    (λ ne. rw (h m (omega arith) (omega arith)) (omega (arith, count-wider n m t (omega arith) (λ j a b. h j a (omega arith)))))
 
 -- A number that passes, taken off, makes the count one less.
 pub count-off : (k : ℕ) (t u : ℕ → Bool) (i : ℕ) → i < k → t i ≡ true → u i ≡ false → ((j : ℕ) → j < k → (j ≡ i → ⊥) → t j ≡ u j) → countBelow k t ≡ suc (countBelow k u)

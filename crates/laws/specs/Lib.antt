@@ -13,6 +13,7 @@ pub mod Ranges
 pub mod Rows
 pub mod Search
 pub mod Select
+pub mod Sums
 pub mod Tables
 pub mod Tests
 pub mod Truth

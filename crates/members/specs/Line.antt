@@ -14,9 +14,9 @@ use Rattle.model.specs.declared.Checkpoint.{Checkpoint}
 use Rattle.model.specs.Words.{places, entry, below, liveIndex, failed, noCheckpoint}
 use Rattle.members.specs.declared.line.Latest.{Latest}
 
--- the live state of process p as a checkpoint, from its vector
+-- the live state of process p as a candidate for the line, from its vector
 unfoldable pub liveFrom : ℕ → List Interval → Checkpoint
-liveFrom p v = record { index = liveIndex (entry v p); vector = v }
+liveFrom p v = record { index = liveIndex (entry v p); vector = v; cause = 0; blocks = 0 }
 
 -- the own entries of all processes, of the rows of the vectors
 unfoldable pub ownRow : List (List Interval) → List Interval

@@ -104,12 +104,17 @@ pub fn latest_kept(
     latest
 }
 
-// The live state of process p as a checkpoint, from its current vector.
+// The live state of process p as a candidate for the line, from its current vector. It is not stored, and has neither a cause nor blocks.
 pub fn live_from(vector: [Interval; 16], p: usize) -> Checkpoint
     requires { ⌜ (p < 16) × (1 ≤ entry vector p .0) ⌝ }
     ensures { λ r. ⌜ r ≡ liveFrom p vector ⌝ }
 {
     let own = vector[p];
     let index = rows::vector::live_index(own);
-    Checkpoint { index, vector }
+    Checkpoint {
+        index,
+        vector,
+        cause: 0,
+        blocks: 0,
+    }
 }

@@ -4,7 +4,6 @@
 use mathlib.Core.Path.{_≡_, refl, sym, _∙_, ap}
 use mathlib.Core.Bool.{Bool, true, false, _&&_}
 use mathlib.Core.List.{List, [], _∷_, _++_, append-nil, append-assoc}
-use mathlib.Core.Option.{Option, none, some}
 use Prim.Native.Nat.{ℕ, zero, suc, _+_, _*_, _≤_, _<_}
 use native.Mathlib.Omega.{arith}
 use lib.Dec.{ltb}
@@ -13,13 +12,9 @@ use lib.Seq.{length-take-le, take-add}
 use borrow.Author.Tests.{lt-ltb, le-ltb, ltb-false}
 use Rattle.laws.specs.Choice.{pick, pick-same, by-bool}
 use Rattle.model.specs.declared.Run.{Run}
-use Rattle.model.specs.declared.Event.{Event}
 use Rattle.model.specs.declared.Refusal.the-variants.{LeftOverBytes}
-use Rattle.model.specs.Calls.{call}
 use Rattle.model.specs.Trace.{decoded}
-use Rattle.model.specs.Listing.{callOf, perform, lineText, refusalText, mostRecords, goesOn, records, goesOnBehind, stateAfterRecords}
-use Rattle.model.specs.WholeRuns.{Reachable}
-use Rattle.model.proofs.WholeRuns.{reachable-call}
+use Rattle.model.specs.Listing.{perform, lineText, refusalText, mostRecords, goesOn, records, goesOnBehind, stateAfterRecords}
 
 -- Past the limit nothing is printed, whatever follows.
 pub past-limit : (all : Bool) (done : ℕ) (s : Run) (l : List ℕ) → mostRecords ≤ done → records all done s l ≡ []
@@ -106,20 +101,6 @@ one-state s (a ∷ b ∷ []) h = absurd (omega arith)
 one-state s (a ∷ b ∷ c ∷ []) h = absurd (omega arith)
 one-state s (a ∷ b ∷ c ∷ d ∷ []) h = refl
 one-state s (a ∷ b ∷ c ∷ d ∷ e ∷ r) h = absurd (omega arith)
-
--- A record takes a reachable state to a reachable state, and so does a block.
-pub reachable-record : (s : Run) → Reachable s → (e : Option Event) → Reachable (perform s e .run)
-unfolding perform
-reachable-record s v none = v
-reachable-record s v (some e) = reachable-call s v (callOf e)
-
-pub reachable-records : (s : Run) → Reachable s → (l : List ℕ) → Reachable (stateAfterRecords s l)
-unfolding stateAfterRecords
-reachable-records s v [] = v
-reachable-records s v (a ∷ []) = v
-reachable-records s v (a ∷ b ∷ []) = v
-reachable-records s v (a ∷ b ∷ c ∷ []) = v
-reachable-records s v (a ∷ b ∷ c ∷ d ∷ l) = reachable-records (perform s (decoded (a ∷ b ∷ c ∷ d ∷ [])) .run) (reachable-record s v (decoded (a ∷ b ∷ c ∷ d ∷ []))) l
 
 -- A block by its last record: the first k records of a trace, and the one behind them.
 module _ (k done : ℕ) (s : Run) (trace : List ℕ) (more : 4 * k + 4 ≤ length trace) where

@@ -15,13 +15,13 @@ use Rattle.model.specs.Calls.{Call, recover, call, stateAfter, transcrip
 use Rattle.model.specs.Survival.{Surviving, beginning, after, survivingFrom, surviving}
 use Rattle.model.specs.WholeRuns.{StatePromise}
 use Rattle.model.specs.Clean.{OnlyNeededKept, CleanAfterRecovery, CleanPromise}
-use Rattle.model.proofs.ideal.Run.{Ideal, begin, recovered}
+use Rattle.model.proofs.ideal.Run.{Ideal, begun, recovered}
 use Rattle.model.proofs.ideal.Invariant.{Inv}
 use Rattle.model.proofs.ideal.Rule.{keeps-out}
 use Rattle.model.proofs.ideal.Recovered.{recovered-current}
 use Rattle.model.proofs.whole.Reached.{Reached, exchange, refusal}
 use Rattle.model.proofs.whole.Runs.{stepped, runAfter}
-use Rattle.model.proofs.WholeRuns.{start-reached, accepted-reached, calls-reached, recover-promise}
+use Rattle.model.proofs.WholeRuns.{accepted-reached, reachable-reached, recover-promise}
 use Rattle.model.proofs.Best.{in-best-line, best-kept}
 
 -- A pin that a recovery leaves, of p for f, is of f's current interval: the checkpoint that it names is in the best line for the failure of f alone.
@@ -53,20 +53,21 @@ recovered-reached n s h r v F deleted lent e = accepted-reached n s h r v (recov
 -- Note 6.
 pub clean-after-recovery : CleanAfterRecovery
 unfolding CleanAfterRecovery surviving
-clean-after-recovery n pos few calls F deleted lent e =
-    let s₀ = startOutcome n .run in
-    let r = runAfter (begin n) calls in
-    let v = calls-reached n s₀ beginning (begin n) (start-reached n pos few) calls in
-    rw (after-last n s₀ beginning calls (recover F deleted lent))
-    (clean n (call (stateAfter s₀ calls) (recover F deleted lent) .run) (after n (survivingFrom n beginning (transcript s₀ calls)) (exchange (stateAfter s₀ calls) (recover F deleted lent))) r F (v .inv)
-    (recovered-reached n (stateAfter s₀ calls) (survivingFrom n beginning (transcript s₀ calls)) r v F deleted lent e))
+clean-after-recovery n counts ok calls F deleted lent e =
+    let s₀ = startOutcome n counts .run in
+    let h = survivingFrom n (beginning n counts) (transcript s₀ calls) in
+    let r = runAfter (begun n counts) calls in
+    let v = reachable-reached n counts ok calls in
+    rw (after-last n s₀ (beginning n counts) calls (recover F deleted lent))
+    (clean n (call (stateAfter s₀ calls) (recover F deleted lent) .run) (after n h (exchange (stateAfter s₀ calls) (recover F deleted lent))) r F (v .inv)
+    (recovered-reached n (stateAfter s₀ calls) h r v F deleted lent e))
 
 -- Note 6 as a recover call says it of the state that it returns, which keeps what is kept by the pairs handed out.
 pub clean-promise : (s : Run) (F : ℕ) (deleted lent : List ℕ) (t : Run) → t ≡ recoverOutcome s F deleted lent .run → CleanPromise s F deleted lent t
 unfolding CleanPromise StatePromise CleanAfterRecovery
-clean-promise s F deleted lent t same n pos few calls e fine =
-    let right = recover-promise s F deleted lent t same n pos few calls e in
-    let all = clean-after-recovery n pos few calls F deleted lent (rw e at fine) in
+clean-promise s F deleted lent t same n counts ok calls e fine =
+    let right = recover-promise s F deleted lent t same n counts ok calls e .0 in
+    let all = clean-after-recovery n counts ok calls F deleted lent (rw e at fine) in
     record {
       used = λ p k hp kept. all .used p k hp (sym (right .kept-in-state p k hp) ∙ kept);
       kept-if-used = λ p k F hp some-failed inside best. right .kept-in-state p k hp ∙ all .kept-if-used p k F hp some-failed inside best;

@@ -8,6 +8,7 @@ pub mod Records
 pub mod Risen
 pub mod Sizes
 pub mod Sweep
+pub mod Traced
 pub mod WholeRuns
 pub mod ideal
 pub mod simulation

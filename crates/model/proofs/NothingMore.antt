@@ -15,13 +15,15 @@ use Rattle.laws.specs.Choice.{pick, by-bool}
 use Rattle.laws.specs.Truth.{never-both, and-left, and-right}
 use Rattle.model.specs.declared.Run.{Run}
 use Rattle.model.specs.declared.Refusal.{Refusal}
+use Rattle.model.specs.Words.{basic, forced}
 use Rattle.model.specs.Outcomes.{startOutcome}
 use Rattle.model.specs.Calls.{Call, checkpoint, send, deliver, lose, recover, line, call, stateAfter, transcript}
 use Rattle.model.specs.Survival.{Surviving, beginning, after, survivingFrom, surviving}
 use Rattle.model.specs.Seen.{seenOf, isAccepted, seen, allAccepted, isRecovery, unrecovered, NothingMoreCouldGo, SafeRule, NoRuleDeletesMore}
 use Rattle.model.specs.laws.Refusals.{by-refusal}
-use Rattle.model.proofs.ideal.Run.{Ideal, begin, sending, lost}
+use Rattle.model.proofs.ideal.Run.{Ideal, because, begun, sending, lost}
 use Rattle.model.proofs.ideal.Invariant.{Inv}
+use Rattle.model.proofs.ideal.Ledger.{ledger-inv}
 use Rattle.model.proofs.ideal.Rule.{keeps-out}
 use Rattle.model.proofs.ideal.Local.{Local, localOf}
 use Rattle.model.proofs.ideal.SubRun.{SubRun, knownOf, own-part, subrun-begin, checkpointed-rises, delivered-rises}
@@ -57,9 +59,9 @@ first-unrecovered s c l e a =
 -- An accepted call but a recovery: no entry of a live vector falls.
 step-rises : (r : Ideal) → Inv r → (c : Call) → ((m : ℕ) (deleted : List ℕ) → c ≡ deliver m deleted → r .transit m ≡ true) → isRecovery c ≡ false → (p f : ℕ) → knownOf r p f ≤ knownOf (stepped r c) p f
 unfolding stepped isRecovery sending lost
-step-rises r v (checkpoint i deleted) under q p f = checkpointed-rises r v i p f
+step-rises r v (checkpoint i deleted) under q p f = checkpointed-rises (because basic r) (ledger-inv r _ v) i p f
 step-rises r v (send i j) under q p f = omega arith
-step-rises r v (deliver m deleted) under q p f = delivered-rises r v m (under m deleted refl) p f
+step-rises r v (deliver m deleted) under q p f = delivered-rises (because forced r) (ledger-inv r _ v) m (under m deleted refl) p f
 step-rises r v (lose m) under q p f = omega arith
 step-rises r v (recover F deleted lent) under q p f = never-both true refl q
 step-rises r v (line F lent) under q p f = omega arith
@@ -180,19 +182,21 @@ module _ (i f k : ℕ) (R R′ : Ideal) (v : Inv R) (hi : i < R .n) (hf : f < R 
 -- Note 14.
 pub nothing-more-could-go : NothingMoreCouldGo
 unfolding NothingMoreCouldGo surviving
-nothing-more-could-go n pos few calls no-recovery i k hi e =
-    let s₀ = startOutcome n .run in
-    let v₀ = start-reached n pos few in
-    let R = runAfter (begin n) calls in
-    let v = calls-reached n s₀ beginning (begin n) v₀ calls in
+nothing-more-could-go n counts ok calls no-recovery i k hi e =
+    let s₀ = startOutcome n counts .run in
+    let h₀ = beginning n counts in
+    let r₀ = begun n counts in
+    let v₀ = start-reached n counts ok in
+    let R = runAfter r₀ calls in
+    let v = calls-reached n s₀ h₀ r₀ v₀ calls in
     let z = keeps-out R i k (sym (v .agrees .kept i k (omega (arith, v .size))) ∙ e) in
     let f : ℕ = z .0 in
     let hf : f < n = omega (arith, z .1, v .size) in
     let g : ℕ = knownOf R i f in
     let d = v .inv .pins i f k (z .1) (z .2) in
-    let w = follow n i f g hf calls s₀ s₀ beginning beginning (begin n) (begin n) v₀ v₀ (subrun-begin f g n (omega (arith, d .less))) no-recovery (omega arith) in
-    let v′ = calls-reached n s₀ beginning (begin n) v₀ (w .others) in
-    let R′ = runAfter (begin n) (w .others) in
+    let w = follow n i f g hf calls s₀ s₀ h₀ h₀ r₀ r₀ v₀ v₀ (subrun-begin f g n counts (omega (arith, d .less))) no-recovery (omega arith) in
+    let v′ = calls-reached n s₀ h₀ r₀ v₀ (w .others) in
+    let R′ = runAfter r₀ (w .others) in
     let l = learnt-here i f k R R′ (v .inv) (omega (arith, v .size)) (z .1) (z .2) (w .subrun) in
     record {
       others = w .others;
@@ -201,12 +205,12 @@ nothing-more-could-go n pos few calls no-recovery i k hi e =
       same = w .same;
       failing = f;
       inside = hf;
-      used = in-best-line n (stateAfter s₀ (w .others)) (survivingFrom n beginning (transcript s₀ (w .others))) R′ v′ i f k hi hf (l .0) (l .1) (l .2);
+      used = in-best-line n (stateAfter s₀ (w .others)) (survivingFrom n h₀ (transcript s₀ (w .others))) R′ v′ i f k hi hf (l .0) (l .1) (l .2);
     }
 
 -- A safe rule keeps the checkpoint in that other run, and goes by what the process sees.
 pub no-rule-deletes-more : NoRuleDeletesMore
 unfolding NoRuleDeletesMore SafeRule NothingMoreCouldGo
-no-rule-deletes-more n pos few rule safe calls no-recovery i k hi e =
-    let w = nothing-more-could-go n pos few calls no-recovery i k hi e in
+no-rule-deletes-more n counts ok rule safe calls no-recovery i k hi e =
+    let w = nothing-more-could-go n counts ok calls no-recovery i k hi e in
     rw (← w .same) (safe (w .others) (w .accepted) (w .no-recovery) i k (w .failing) hi (w .inside) (w .used))

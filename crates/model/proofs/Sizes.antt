@@ -23,8 +23,8 @@ use Rattle.model.specs.declared.Run.{Run}
 use Rattle.model.specs.declared.Event.{Event}
 use Rattle.model.specs.declared.Refusal.{Refusal}
 use Rattle.model.specs.declared.Refusal.the-variants.{MalformedRecord}
-use Rattle.model.specs.Words.{named, Process, process, own, underWay, live}
-use Rattle.model.specs.Steps.{Deletion, listed, deletions, checkpointed, checkpointDeletions, found, forces, takenIn, delivered, deliverDeletions, member, pinsAfter, deletedAt, recoverDeletions, rolledBack, rolledBackCount}
+use Rattle.model.specs.Words.{basic, forced, named, Process, process, own, underWay, live}
+use Rattle.model.specs.Steps.{Deletion, listed, gone, deletions, storing, checkpointed, checkpointDeletions, found, forces, takenIn, delivered, deliverDeletions, member, pinsAfter, goneAt, deletedAt, recoverDeletions, rolledBack, rolledBackCount}
 use Rattle.model.specs.Sound.{messageSound, sound}
 use Rattle.model.specs.Refusals.{number, checkpointRefusal, sendRefusal, deliverRefusal, loseRefusal, lineRefusal, recoverRefusal}
 use Rattle.model.specs.laws.Refusals.{by-refusal, number-range}
@@ -64,21 +64,21 @@ unfolding listed
 listed-few p t l = rw (length-map {B = Deletion} (select t l) (λ c. record { process = p; index = c .index })) (select-length t l)
 
 deletions-few : (p : ℕ) (P : Process) → length (deletions p P) ≤ length (P .kept)
-unfolding deletions
+unfolding deletions gone
 deletions-few p P = listed-few p (λ c. not (named (P .pins) c)) (P .kept)
 
 -- A checkpoint keeps one more before it deletes.
-stored-few : (i : ℕ) (P : Process) → length (P .kept) ≤ 16 → length (checkpointed i P .kept) ≤ 17
+stored-few : (cause i : ℕ) (P : Process) → length (P .kept) ≤ 16 → length (checkpointed cause i P .kept) ≤ 17
 unfolding checkpointed
-stored-few i P h = omega (arith, length-append (P .kept) (live i P ∷ []))
+stored-few cause i P h = omega (arith, length-append (P .kept) (storing cause i P ∷ []))
 
 checkpoint-few : (s : Run) (i : ℕ) → length (process s i .kept) ≤ 16 → length (checkpointDeletions s i) ≤ 17
 unfolding checkpointDeletions
-checkpoint-few s i h = omega (arith, deletions-few i (checkpointed i (process s i)), stored-few i (process s i) h)
+checkpoint-few s i h = omega (arith, deletions-few i (checkpointed basic i (process s i)), stored-few basic i (process s i) h)
 
 taken-few : (i : ℕ) (carried : List Interval) (P : Process) → length (P .kept) ≤ 16 → length (delivered i carried P .kept) ≤ 17
 unfolding delivered takenIn
-taken-few i carried P h = by-bool (forces P carried) (λ e. rw e (stored-few i P h)) (λ e. rw e (omega arith))
+taken-few i carried P h = by-bool (forces P carried) (λ e. rw e (stored-few forced i P h)) (λ e. rw e (omega arith))
 
 deliver-few : (s : Run) (x : Message) → length (process s (x .receiver) .kept) ≤ 16 → length (deliverDeletions s x) ≤ 17
 unfolding deliverDeletions
@@ -87,7 +87,7 @@ deliver-few s x h =
     omega (arith, deletions-few (x .receiver) (delivered (x .receiver) (x .vector) P), taken-few (x .receiver) (x .vector) P h)
 
 deleted-few : (s : Run) (F p : ℕ) → length (deletedAt s F p) ≤ length (process s p .kept)
-unfolding deletedAt
+unfolding deletedAt goneAt
 deleted-few s F p = listed-few p (λ c. not (leb (c .index .0) (member s F p .index .0) && named (pinsAfter s F p) c)) (process s p .kept)
 
 recover-few : (s : Run) (F : ℕ) → sound s ≡ true → length (recoverDeletions s F) ≤ 256

@@ -22,7 +22,7 @@ use Rattle.model.specs.declared.Pin.the-variants.{Nothing}
 use Rattle.model.specs.declared.Checkpoint.{Checkpoint}
 use Rattle.model.specs.declared.Message.{Message}
 use Rattle.model.specs.declared.Run.{Run}
-use Rattle.model.specs.Words.{entry, Process, live, noCheckpoint, noMessage, process, withProcess, own, underWay, withMessages, failed}
+use Rattle.model.specs.Words.{entry, Process, live, noCheckpoint, noMessage, process, withProcess, own, underWay, withMessages, withDisk, failed}
 use Rattle.model.specs.Steps.{withProcesses, allowed, states, latestAllowed, member, lineOf, rolledBack, vectorAfter, ownAfter, pinAfter, recovered, lostBy, stillUnderWay, recoverState, rolledBackCount}
 use Rattle.model.specs.Sound.{within, messageSound, sound}
 use Rattle.model.specs.Refusals.{missing, noMember, recoverRefusal}
@@ -34,7 +34,7 @@ use Rattle.model.specs.Survival.{Surviving, beginning, survivingFrom}
 use Rattle.model.specs.WholeRuns.{Reachable}
 use Rattle.model.specs.Sweep.{SweepIsQuiet, SweepIsAccepted, SweepLeavesLines}
 use Rattle.model.proofs.ideal.Run as ideal
-use Rattle.model.proofs.ideal.Run.{Ideal, Failed, begin, safe, rolled}
+use Rattle.model.proofs.ideal.Run.{Ideal, Failed, begun, safe, rolled}
 use Rattle.model.proofs.ideal.Invariant.{Inv}
 use Rattle.model.proofs.ideal.Maximal.{line-by-history}
 use Rattle.model.proofs.ideal.Recovered.{recovered-inv}
@@ -45,7 +45,7 @@ use Rattle.model.proofs.simulation.Lines.{line-is}
 use Rattle.model.proofs.simulation.Recover.{recover-is}
 use Rattle.model.proofs.whole.Reached.{Reached}
 use Rattle.model.proofs.whole.Runs.{runAfter}
-use Rattle.model.proofs.WholeRuns.{start-reached, calls-reached}
+use Rattle.model.proofs.WholeRuns.{reachable-reached}
 
 -- No process is in the empty set.
 nobody-failed : (f : ℕ) → failed 0 f ≡ false
@@ -107,11 +107,11 @@ module _ (s : Run) where
   sweep-pins p f = rw (vector-stays p, vector-stays f, nobody-back p)
 
   sweep-vectors : recoverState s 0 .vectors ≡ s .vectors
-  unfolding recoverState withMessages recovered
+  unfolding recoverState withDisk withMessages recovered
   sweep-vectors = vectors-stay (s .count) (recovered s 0) vector-stays
 
   sweep-marks : recoverState s 0 .sent ≡ s .sent
-  unfolding recoverState withMessages recovered
+  unfolding recoverState withDisk withMessages recovered
   sweep-marks = marks-stay (s .count) (recovered s 0) mark-stays
 
   pub sweep-is-quiet : SweepIsQuiet s
@@ -140,7 +140,7 @@ module _ (s : Run) where
         (every-at (λ x. within s (x .vector)) (underWay s) k noMessage lt (sound-state s whole .carried-within))))
 
     messages-stay : underWay (recoverState s 0) ≡ underWay s
-    unfolding recoverState
+    unfolding recoverState withDisk underWay
     messages-stay = underWay-put (withProcesses (s .count) (recovered s 0) s) (stillUnderWay s 0) (s .last) ∙ none-lost
 
     pub sweep-is-accepted : SweepIsAccepted s
@@ -171,7 +171,7 @@ reached-lines : (n : ℕ) (s : Run) (h : Surviving) (r : Ideal) → Reached n s 
 unfolding ideal.recovered
 reached-lines n s h r v F =
     let few = v .limits .few-processes in
-    rw (v .state) (ap (λ (t : Run). lineOf t F) (recover-is r (v .inv) few 0)
+    rw (v .state) (ap (λ (t : Run). lineOf t F) (recover-is r (v .inv) few 0 (v .limits .ledger .paid))
     ∙ line-is (ideal.recovered r (failed 0)) (recovered-inv r (v .inv) (failed 0)) few F
     ∙ table-same (r .n) _ _ (λ p lt. same-line r (v .inv) (failed F) p lt)
     ∙ sym (line-is r (v .inv) few F))
@@ -181,8 +181,9 @@ unfolding Reachable SweepLeavesLines recoverOutcome
 sweep-leaves-lines s v deleted lent F = by-refusal (recoverRefusal s 0 deleted lent)
     (λ e. rw e (
     let n = v .0 in
-    let s₀ = startOutcome n .run in
+    let counts = v .1 in
+    let s₀ = startOutcome n counts .run in
     let calls = v .3 in
-    rw (v .4) (reached-lines n (stateAfter s₀ calls) (survivingFrom n beginning (transcript s₀ calls)) (runAfter (begin n) calls)
-    (calls-reached n s₀ beginning (begin n) (start-reached n (v .1) (v .2)) calls) F)))
+    rw (v .4) (reached-lines n (stateAfter s₀ calls) (survivingFrom n (beginning n counts) (transcript s₀ calls)) (runAfter (begun n counts) calls)
+    (reachable-reached n counts (v .2) calls) F)))
     (λ x e. rw e)

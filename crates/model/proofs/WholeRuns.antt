@@ -4,7 +4,7 @@ use mathlib.Core.Path.{_≡_, refl, sym, _∙_, ap}
 use mathlib.Core.Bool.{true}
 use mathlib.Core.List.{List, [], _∷_, _++_}
 use mathlib.Core.Option.{Option, none, some}
-use Prim.Native.Nat.{ℕ, _^_, _≤_, _<_}
+use Prim.Native.Nat.{ℕ, _^_, _<_}
 use native.Mathlib.Omega.{arith}
 use lib.Dec.{eqb}
 use borrow.Author.Tests.{eq-eqb, eqb-true}
@@ -16,21 +16,23 @@ use Rattle.model.specs.declared.StartAnswer.the-variants.{Started}
 use Rattle.model.specs.Steps.{startState}
 use Rattle.model.specs.Sound.{sound}
 use Rattle.model.specs.History.{checkpoints}
-use Rattle.model.specs.Outcomes.{startOutcome, checkpointOutcome, deliverOutcome, recoverOutcome}
+use Rattle.model.specs.Refusals.{startRefusal}
+use Rattle.model.specs.Outcomes.{startOutcome, checkpointOutcome, deliverOutcome, recoverOutcome, startReport}
 use Rattle.model.specs.laws.Refusals.{by-refusal}
 use Rattle.model.specs.Calls.{Call, checkpoint, send, deliver, lose, recover, line, Exchange, answered, call, stateAfter, transcript}
 use Rattle.model.specs.Survival.{Surviving, beginning, after, survivingFrom, surviving}
 use Rattle.model.specs.Answers.{AnswerIsRight, AnswersAreRight}
-use Rattle.model.specs.WholeRuns.{LineIsRight, KeptIsRight, RightOverWholeRuns, Reachable, LinePromise, StatePromise}
-use Rattle.model.proofs.ideal.Run.{Ideal, begin, keeps}
+use Rattle.model.specs.WholeRuns.{LineIsRight, KeptIsRight, StartsAreRight, RightOverWholeRuns, Reachable, LinePromise, StatePromise}
+use Rattle.model.proofs.ideal.Run.{Ideal, begin, openLedger, begun, keeps}
+use Rattle.model.proofs.ideal.Ledger.{ledger-keeps, ledger-inv}
 use Rattle.model.proofs.ideal.Invariant.{Inv}
 use Rattle.model.proofs.ideal.Begin.{begin-inv, begin-n, begin-pin-own, begin-pin-other}
 use Rattle.model.proofs.ideal.Memory.{Memory, begin-memory}
 use Rattle.model.proofs.ideal.Rule.{keeps-in, keeps-out, same-some}
 use Rattle.model.proofs.simulation.View.{stateOf, Limits, processOf}
 use Rattle.model.proofs.simulation.Reads.{count-is, process-is}
-use Rattle.model.proofs.simulation.Accepted.{start-in}
-use Rattle.model.proofs.simulation.Start.{start-is}
+use Rattle.model.proofs.simulation.Accepted.{start-out}
+use Rattle.model.proofs.simulation.Start.{start-kept-in, start-is}
 use Rattle.model.proofs.simulation.Kept.{few-kept, pins-name, kept-holds}
 use Rattle.model.proofs.simulation.Lines.{line-is}
 use Rattle.model.proofs.simulation.Sound.{state-sound}
@@ -38,13 +40,15 @@ use Rattle.model.proofs.simulation.SoundLimits.{limits-begin}
 use Rattle.model.proofs.whole.Agreement.{Agrees}
 use Rattle.model.proofs.whole.Accepted.{Step, step-reached}
 use Rattle.model.proofs.whole.Answers.{answer-right}
-use Rattle.model.proofs.whole.Refused.{members-found}
+use Rattle.model.proofs.whole.Because.{basic-step, forced-step}
+use Rattle.model.proofs.whole.BlocksRight.{reached-blocks}
+use Rattle.model.proofs.whole.Refused.{numberOf, members-found, start-number}
 use Rattle.model.proofs.whole.LineRight.{line-right}
 use Rattle.model.proofs.whole.Reached.{Reached, exchange, refusal, refused-reached}
 use Rattle.model.proofs.whole.Recovers.{recover-step}
 use Rattle.model.proofs.whole.Restarts.{begin-restarted, step-restarted, needed-in, needed-out}
 use Rattle.model.proofs.whole.Runs.{stepped, unlessRefused, runAfter}
-use Rattle.model.proofs.whole.Steps.{checkpoint-step, send-step, deliver-step, lose-step, line-step}
+use Rattle.model.proofs.whole.Steps.{send-step, lose-step, line-step}
 
 -- The history of the start agrees with the run as functions at its start.
 begin-keeps : (n p k : ℕ) → p < n → keeps (begin n) p k ≡ eqb k 0
@@ -57,37 +61,54 @@ begin-keeps n p k hp = same-test (keeps (begin n) p k) (eqb k 0)
     nothing-named : (k : ℕ) → _≡_ {A = Option ℕ} none (some k) → ⊥
     nothing-named k e = let z : _≡_ {A = ℕ} 0 1 = cc in omega arith
 
-begin-agrees : (n : ℕ) → Agrees beginning (begin n)
-unfolding beginning begin
-begin-agrees n = record { lists = refl; sends = refl; receiver = refl; underway = refl; kept = λ p k hp. sym (begin-keeps n p k hp) }
+begun-keeps : (n : ℕ) (counts : List ℕ) (p k : ℕ) → p < n → eqb k 0 ≡ keeps (begun n counts) p k
+begun-keeps n counts p k hp = sym (ledger-keeps (begin n) (openLedger n counts) p k ∙ begin-keeps n p k hp)
 
--- An accepted start reaches the state that it returns.
-started-state : (n : ℕ) → 1 ≤ n → n ≤ 16 → startOutcome n .run ≡ startState n
-unfolding startOutcome
-started-state n pos few = rw (start-in n pos few)
-
-started-answer : (n : ℕ) → 1 ≤ n → n ≤ 16 → startOutcome n .answer ≡ Started
-unfolding startOutcome
-started-answer n pos few = rw (start-in n pos few)
-
-pub start-reached : (n : ℕ) → 1 ≤ n → n ≤ 16 → Reached n (startOutcome n .run) beginning (begin n)
-unfolding begin
-start-reached n pos few = record {
-  inv = begin-inv n;
-  limits = limits-begin n pos few;
-  memory = begin-memory n;
-  size = refl;
-  state = started-state n pos few ∙ start-is n;
-  agrees = begin-agrees n;
-  restarted = begin-restarted n;
+begin-agrees : (n : ℕ) (counts : List ℕ) → Agrees (beginning n counts) (begun n counts)
+unfolding beginning begin openLedger
+begin-agrees n counts = record {
+  lists = refl;
+  sends = refl;
+  receiver = refl;
+  underway = refl;
+  kept = λ p k hp. begun-keeps n counts p k hp;
+  counts = refl;
+  cause = refl;
+  written = refl;
+  deleted = omega (arith, start-kept-in n counts);
 }
 
+-- An accepted start reaches the state that it returns.
+pub started-state : (n : ℕ) (counts : List ℕ) → startRefusal n counts ≡ none → startOutcome n counts .run ≡ startState n counts
+unfolding startOutcome
+started-state n counts ok = rw ok
+
+started-answer : (n : ℕ) (counts : List ℕ) → startRefusal n counts ≡ none → startOutcome n counts .answer ≡ Started
+unfolding startOutcome
+started-answer n counts ok = rw ok
+
+begun-memory : (n : ℕ) (counts : List ℕ) → Memory (begun n counts)
+begun-memory n counts = let m = begin-memory n in record { marks = m .marks; sources = m .sources }
+
+pub start-reached : (n : ℕ) (counts : List ℕ) → startRefusal n counts ≡ none → Reached n (startOutcome n counts .run) (beginning n counts) (begun n counts)
+start-reached n counts ok =
+    let w = start-out n counts ok in
+    record {
+      inv = ledger-inv (begin n) (openLedger n counts) (begin-inv n);
+      limits = limits-begin n counts (w .0) (w .1) (w .2);
+      memory = begun-memory n counts;
+      size = begin-n n;
+      state = started-state n counts ok ∙ start-is n counts;
+      agrees = begin-agrees n counts;
+      restarted = begin-restarted n counts;
+    }
+
 -- Each accepted call is a step of the run as functions.
-step : (n : ℕ) (h : Surviving) (r : Ideal) → Inv r → Limits r → Memory r → r .n ≡ n → Agrees h r → (c : Call) → refusal (stateOf r) c ≡ none → Step n h r c
-unfolding refusal
-step n h r v fit memory size g (checkpoint i deleted) e = checkpoint-step n h r v fit memory size g i deleted e
+step : (n : ℕ) (h : Surviving) (r : Ideal) → Inv r → Limits r → Memory r → r .n ≡ n → Agrees h r → (c : Call) → refusal (stateOf r) c ≡ none → Step n h (stateOf r) r (stepped r c) c
+unfolding refusal stepped
+step n h r v fit memory size g (checkpoint i deleted) e = basic-step n h r v fit memory size g i deleted e
 step n h r v fit memory size g (send i j) e = send-step n h r v fit memory size g i j e
-step n h r v fit memory size g (deliver m deleted) e = deliver-step n h r v fit memory size g m deleted e
+step n h r v fit memory size g (deliver m deleted) e = forced-step n h r v fit memory size g m deleted e
 step n h r v fit memory size g (lose m) e = lose-step n h r v fit memory size g m e
 step n h r v fit memory size g (recover F deleted lent) e = recover-step n h r v fit memory size g F deleted lent e
 step n h r v fit memory size g (line F lent) e = line-step n h r v fit memory size g F lent e
@@ -103,7 +124,7 @@ pub accepted-reached : (n : ℕ) (s : Run) (h : Surviving) (r : Ideal) → Reach
 accepted-reached n s h r v c e =
     let t = step n h r (v .inv) (v .limits) (v .memory) (v .size) (v .agrees) c e in
     on-state n s h c r (stepped r c) (v .state)
-    (step-reached n r h c (v .inv) (v .size) (v .agrees) e t (step-restarted n h r (v .inv) (v .limits) (v .restarted) c e t))
+    (step-reached n r (stepped r c) h c (v .inv) (v .size) (v .agrees) e t (step-restarted n h r (v .inv) (v .limits) (v .restarted) c e t))
 
 pub call-reached : (n : ℕ) (s : Run) (h : Surviving) (r : Ideal) → Reached n s h r → (c : Call)
     → Reached n (call s c .run) (after n h (exchange s c)) (unlessRefused (refusal (stateOf r) c) r (stepped r c))
@@ -170,55 +191,72 @@ answers-from n (c ∷ calls) s h r v (x ∷ earlier) later e q =
     let w = same-first (exchange s c) x (transcript (call s c .run) calls) (earlier ++ (e ∷ later)) q in
     rw (← w .0) (answers-from n calls (call s c .run) (after n h (exchange s c)) (unlessRefused (refusal (stateOf r) c) r (stepped r c)) (call-reached n s h r v c) earlier later e (w .1))
 
-pub answers-right : (n : ℕ) → 1 ≤ n → n ≤ 16 → (calls : List Call) → AnswersAreRight n (transcript (startOutcome n .run) calls)
+pub answers-right : (n : ℕ) (counts : List ℕ) → startRefusal n counts ≡ none → (calls : List Call) → AnswersAreRight n counts (transcript (startOutcome n counts .run) calls)
 unfolding AnswersAreRight surviving
-answers-right n pos few calls = answers-from n calls (startOutcome n .run) beginning (begin n) (start-reached n pos few)
+answers-right n counts ok calls = answers-from n calls (startOutcome n counts .run) (beginning n counts) (begun n counts) (start-reached n counts ok)
 
 -- Demand 3.
 pub right-over-whole-runs : RightOverWholeRuns
 unfolding RightOverWholeRuns surviving
-right-over-whole-runs n pos few calls =
-    let r = runAfter (begin n) calls in
-    let v = calls-reached n (startOutcome n .run) beginning (begin n) (start-reached n pos few) calls in (
-      started-answer n pos few,
-      answers-right n pos few calls,
-      reached-kept n (stateAfter (startOutcome n .run) calls) (survivingFrom n beginning (transcript (startOutcome n .run) calls)) r v,
-      reached-line n (stateAfter (startOutcome n .run) calls) (survivingFrom n beginning (transcript (startOutcome n .run) calls)) r v,
+right-over-whole-runs n counts ok calls =
+    let r = runAfter (begun n counts) calls in
+    let s = stateAfter (startOutcome n counts .run) calls in
+    let h = survivingFrom n (beginning n counts) (transcript (startOutcome n counts .run) calls) in
+    let v = calls-reached n (startOutcome n counts .run) (beginning n counts) (begun n counts) (start-reached n counts ok) calls in (
+      started-answer n counts ok,
+      answers-right n counts ok calls,
+      reached-kept n s h r v,
+      reached-blocks n s h r v,
+      reached-line n s h r v,
     )
 
--- Reachable states: the start, what a call makes of one, and that each is sound.
-pub reachable-start : (n : ℕ) → 1 ≤ n → n ≤ 16 → Reachable (startOutcome n .run)
-unfolding Reachable stateAfter
-reachable-start n pos few = (n, pos, few, [], refl)
+-- The number of a start.
+reports-start : (n : ℕ) (counts : List ℕ) → startReport (startOutcome n counts .answer) .refused ≡ numberOf (startRefusal n counts)
+unfolding startReport startOutcome numberOf
+reports-start n counts = by-refusal (startRefusal n counts) (λ e. rw e) (λ x e. rw e)
 
-after-one : (s : Run) (calls : List Call) (c : Call) → stateAfter s (calls ++ (c ∷ [])) ≡ call (stateAfter s calls) c .run
+pub starts-are-right : StartsAreRight
+unfolding StartsAreRight
+starts-are-right n counts = reports-start n counts ∙ start-number n counts
+
+-- Reachable states: the start, what a call makes of one, and that each is sound.
+pub reachable-start : (n : ℕ) (counts : List ℕ) → startRefusal n counts ≡ none → Reachable (startOutcome n counts .run)
+unfolding Reachable stateAfter
+reachable-start n counts ok = (n, counts, ok, [], refl)
+
+pub after-one : (s : Run) (calls : List Call) (c : Call) → stateAfter s (calls ++ (c ∷ [])) ≡ call (stateAfter s calls) c .run
 unfolding stateAfter
 after-one s [] c = refl
 after-one s (b ∷ calls) c = after-one (call s b .run) calls c
 
 pub reachable-call : (s : Run) → Reachable s → (c : Call) → Reachable (call s c .run)
 unfolding Reachable
-reachable-call s v c = (v .0, v .1, v .2, v .3 ++ (c ∷ []), ap (λ (t : Run). call t c .run) (v .4) ∙ sym (after-one (startOutcome (v .0) .run) (v .3) c))
+reachable-call s v c = (v .0, v .1, v .2, v .3 ++ (c ∷ []), ap (λ (t : Run). call t c .run) (v .4) ∙ sym (after-one (startOutcome (v .0) (v .1) .run) (v .3) c))
+
+pub reachable-reached : (n : ℕ) (counts : List ℕ) → startRefusal n counts ≡ none → (calls : List Call)
+    → Reached n (stateAfter (startOutcome n counts .run) calls) (survivingFrom n (beginning n counts) (transcript (startOutcome n counts .run) calls)) (runAfter (begun n counts) calls)
+reachable-reached n counts ok calls = calls-reached n (startOutcome n counts .run) (beginning n counts) (begun n counts) (start-reached n counts ok) calls
 
 pub reachable-sound : (s : Run) → Reachable s → sound s ≡ true
 unfolding Reachable
 reachable-sound s v =
     ap sound (v .4)
-    ∙ reached-sound (v .0) (stateAfter (startOutcome (v .0) .run) (v .3)) (survivingFrom (v .0) beginning (transcript (startOutcome (v .0) .run) (v .3))) (runAfter (begin (v .0)) (v .3))
-    (calls-reached (v .0) (startOutcome (v .0) .run) beginning (begin (v .0)) (start-reached (v .0) (v .1) (v .2)) (v .3))
+    ∙ reached-sound (v .0) (stateAfter (startOutcome (v .0) (v .1) .run) (v .3)) (survivingFrom (v .0) (beginning (v .0) (v .1)) (transcript (startOutcome (v .0) (v .1) .run) (v .3)))
+    (runAfter (begun (v .0) (v .1)) (v .3)) (reachable-reached (v .0) (v .1) (v .2) (v .3))
 
 -- Demand 3 as a line or recover call says it of the state that it is handed,
 pub line-promise : (s : Run) (F : ℕ) → LinePromise s F
 unfolding RightOverWholeRuns LinePromise
-line-promise s F n pos few calls e inside =
-    let w = right-over-whole-runs n pos few calls in
-    rw e (w .3 F inside, w .2)
+line-promise s F n counts ok calls e inside =
+    let w = right-over-whole-runs n counts ok calls in
+    rw e (w .4 F inside, w .2)
 
 -- and as a call says it of the state that it returns.
 state-promise : (s : Run) (c : Call) (t : Run) → t ≡ call s c .run → StatePromise s c t
 unfolding RightOverWholeRuns StatePromise
-state-promise s c t same n pos few calls e =
-    rw (same, e, ← after-one (startOutcome n .run) calls c) (right-over-whole-runs n pos few (calls ++ (c ∷ [])) .2)
+state-promise s c t same n counts ok calls e =
+    let w = right-over-whole-runs n counts ok (calls ++ (c ∷ [])) in
+    rw (same, e, ← after-one (startOutcome n counts .run) calls c) (w .2, w .3)
 
 pub checkpoint-promise : (s : Run) (i : ℕ) (deleted : List ℕ) (t : Run) → t ≡ checkpointOutcome s i deleted .run → StatePromise s (checkpoint i deleted) t
 unfolding call answered

@@ -29,6 +29,8 @@ pub mod Sources
 pub mod Memory
 pub mod Knowledge
 pub mod Standing
+pub mod Ledger
+pub mod Counted
 pub mod Local
 pub mod SubMessages
 pub mod SubRun

@@ -1,5 +1,6 @@
 pub mod Accepted
 pub mod Admitted
+pub mod Billing
 pub mod Checkpoint
 pub mod Deliver
 pub mod Handed

@@ -1,6 +1,8 @@
 pub mod Agreement
 pub mod Accepted
 pub mod Answers
+pub mod Because
+pub mod BlocksRight
 pub mod Follow
 pub mod Gone
 pub mod LineRight

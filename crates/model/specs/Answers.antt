@@ -11,6 +11,7 @@ use lib.Dec.{eqb, ltb, leb}
 use lib.ListN.{length, getD, drop}
 use Rattle.laws.specs.Choice.{pick}
 use Rattle.laws.specs.Lists.{table, gather}
+use Rattle.laws.specs.Search.{anyBelow}
 use Rattle.laws.specs.Tests.{countBelow}
 use Rattle.model.specs.Words.{inSet, failed}
 use Rattle.model.specs.History.{HistoryEvent, stored, sent, received, Lists, Line, checkpoints, behind, Consistent}
@@ -41,14 +42,28 @@ liveOf h p = checkpoints (h .lists p)
 abbrev pub tooShort : ℕ → List ℕ → Bool
 tooShort n deleted = ltb (length deleted) (2 * n * n)
 
+-- One more checkpoint of p "would take written past 1,000,000,000,000,000".
+abbrev pub pastBound : Surviving → ℕ → Bool
+pastBound h p = ltb 1_000_000_000_000_000 (h .written + h .counts p)
+
+-- "1: start with a count outside 1 to 16." Note 5: "15, at the start after 1, for a block count outside 1 to 65,535"; "those at n and above are neither judged
+-- nor stored".
+unfoldable pub startReasons : ℕ → List ℕ → List Reason
+startReasons n counts =
+    record { holds = ltb n 1 || ltb 16 n; number = 1 }
+    ∷ record { holds = anyBelow n (λ p. ltb (getD counts p 0) 1 || ltb 65_535 (getD counts p 0)); number = 15 }
+    ∷ []
+
 -- "4: process not below n. 5: sender is receiver." "7: failed set has a bit at n or above. 8: message not under way.
 -- 9: send with 64 under way. 10: send with number 1,000,000 used. 11: a checkpoint, or a delivery that forces one, where the own entry is 65,535."
+-- Note 5: "16, after 11, for a stored checkpoint that would take written past 1,000,000,000,000,000".
 -- Number 2 is never given on such a list of calls. `forcing` says whether the delivery would force a checkpoint.
 unfoldable pub reasons : ℕ → Surviving → Bool → Call → List Reason
 reasons n h forcing (checkpoint i deleted) =
     record { holds = tooShort n deleted; number = 3 }
     ∷ record { holds = leb n i; number = 4 }
     ∷ record { holds = leb 65_535 (liveOf h i); number = 11 }
+    ∷ record { holds = pastBound h i; number = 16 }
     ∷ []
 reasons n h forcing (send i j) =
     record { holds = leb n i || leb n j; number = 4 }
@@ -60,6 +75,7 @@ reasons n h forcing (deliver m deleted) =
     record { holds = tooShort n deleted; number = 3 }
     ∷ record { holds = not (h .underway m); number = 8 }
     ∷ record { holds = forcing && leb 65_535 (liveOf h (h .receiver m)); number = 11 }
+    ∷ record { holds = forcing && pastBound h (h .receiver m); number = 16 }
     ∷ []
 reasons n h forcing (lose m) = record { holds = not (h .underway m); number = 8 } ∷ []
 reasons n h forcing (recover F deleted lent) =
@@ -197,5 +213,5 @@ pub record AnswerIsRight (n : ℕ) (h : Surviving) (e : Exchange) : Type 0 where
   pub line-right : e .reply .report .refused ≡ 0 → (F : ℕ) → failedSet (e .made) ≡ some F → RightLine n h F (λ p. getD (e .reply .line) p 0)
 
 -- Every answer of a transcript is right, judged by the surviving history of the exchanges before it.
-unfoldable pub AnswersAreRight : ℕ → List Exchange → Type 0
-AnswersAreRight n whole = (earlier later : List Exchange) (e : Exchange) → whole ≡ earlier ++ (e ∷ later) → AnswerIsRight n (surviving n earlier) e
+unfoldable pub AnswersAreRight : ℕ → List ℕ → List Exchange → Type 0
+AnswersAreRight n counts whole = (earlier later : List Exchange) (e : Exchange) → whole ≡ earlier ++ (e ∷ later) → AnswerIsRight n (surviving n counts earlier) e

@@ -7,7 +7,7 @@ use mathlib.Core.Option.{none}
 use Prim.Native.Nat.{ℕ, _^_, _<_, _≤_}
 use Rattle.model.specs.declared.Run.{Run}
 use Rattle.model.specs.History.{Lists}
-use Rattle.model.specs.Refusals.{recoverRefusal}
+use Rattle.model.specs.Refusals.{startRefusal, recoverRefusal}
 use Rattle.model.specs.Outcomes.{startOutcome}
 use Rattle.model.specs.Calls.{Call, recover, stateAfter, transcript}
 use Rattle.model.specs.Survival.{surviving}
@@ -16,8 +16,8 @@ use Rattle.model.specs.WholeRuns.{reported, keepsIn}
 
 -- The line that a line or recover call reports is the best line: for every list of calls from an accepted start and every failed set.
 unfoldable pub ReportedIsBest : Type 0
-ReportedIsBest = (n : ℕ) → 1 ≤ n → n ≤ 16 → (calls : List Call) (F : ℕ) → F < 2 ^ n
-    → Best n (surviving n (transcript (startOutcome n .run) calls) .lists) F (reported (stateAfter (startOutcome n .run) calls) F)
+ReportedIsBest = (n : ℕ) (counts : List ℕ) → startRefusal n counts ≡ none → (calls : List Call) (F : ℕ) → F < 2 ^ n
+    → Best n (surviving n counts (transcript (startOutcome n counts .run) calls) .lists) F (reported (stateAfter (startOutcome n counts .run) calls) F)
 
 -- "a checkpoint is kept exactly if some non-empty failed set would have it in its best line, by the message definition over the surviving history": `kept` says which
 -- checkpoints are kept.
@@ -28,13 +28,13 @@ pub record OnlyNeededKept (n : ℕ) (lists : Lists) (kept : ℕ → ℕ → Bool
 -- "straight after an accepted recovery or sweep": for every list of calls from an accepted start and an accepted recover call behind it, for any failed set, the
 -- empty one of a sweep too. Kept by the pairs handed out.
 unfoldable pub CleanAfterRecovery : Type 0
-CleanAfterRecovery = (n : ℕ) → 1 ≤ n → n ≤ 16 → (calls : List Call) (F : ℕ) (deleted lent : List ℕ)
-    → recoverRefusal (stateAfter (startOutcome n .run) calls) F deleted lent ≡ none →
-    let h = surviving n (transcript (startOutcome n .run) (calls ++ (recover F deleted lent ∷ []))) in
+CleanAfterRecovery = (n : ℕ) (counts : List ℕ) → startRefusal n counts ≡ none → (calls : List Call) (F : ℕ) (deleted lent : List ℕ)
+    → recoverRefusal (stateAfter (startOutcome n counts .run) calls) F deleted lent ≡ none →
+    let h = surviving n counts (transcript (startOutcome n counts .run) (calls ++ (recover F deleted lent ∷ []))) in
     OnlyNeededKept n (h .lists) (h .kept)
 
 -- Note 6 as a recover call on the state s says it of the state t that it returns: whatever calls from an accepted start led to s, if the call is accepted, t keeps
 -- a checkpoint exactly if some failure would use it, judged by the surviving history of those calls and of this one behind them.
 unfoldable pub CleanPromise : Run → ℕ → List ℕ → List ℕ → Run → Type 0
-CleanPromise s F deleted lent t = (n : ℕ) → 1 ≤ n → n ≤ 16 → (calls : List Call) → s ≡ stateAfter (startOutcome n .run) calls → recoverRefusal s F deleted lent ≡ none
-    → OnlyNeededKept n (surviving n (transcript (startOutcome n .run) (calls ++ (recover F deleted lent ∷ []))) .lists) (keepsIn t)
+CleanPromise s F deleted lent t = (n : ℕ) (counts : List ℕ) → startRefusal n counts ≡ none → (calls : List Call) → s ≡ stateAfter (startOutcome n counts .run) calls
+    → recoverRefusal s F deleted lent ≡ none → OnlyNeededKept n (surviving n counts (transcript (startOutcome n counts .run) (calls ++ (recover F deleted lent ∷ []))) .lists) (keepsIn t)

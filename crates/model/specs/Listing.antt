@@ -13,6 +13,7 @@ use Rattle.model.specs.declared.Event.{Event}
 use Rattle.model.specs.declared.Event.the-variants.{Checkpoint, Send, Deliver, Lose, Recover}
 use Rattle.model.specs.declared.Refusal.{Refusal}
 use Rattle.model.specs.declared.Refusal.the-variants.{NoFirstByte, LeftOverBytes, MalformedRecord}
+use Rattle.model.specs.Words.{ones}
 use Rattle.model.specs.Refusals.{startRefusal}
 use Rattle.model.specs.Steps.{startState}
 use Rattle.model.specs.Outcomes.{refusing}
@@ -123,10 +124,11 @@ stateAfterRecords s (a ∷ b ∷ c ∷ []) = s
 stateAfterRecords s (a ∷ b ∷ c ∷ d ∷ l) = stateAfterRecords (perform s (decoded (a ∷ b ∷ c ∷ d ∷ [])) .run) l
 
 -- "The first byte is n." "12: no first byte." "A bad first byte prints record number 0 and the refusal and ends".
+-- Note 5: "a trace run uses 1", as the block count of each process.
 unfoldable pub started : Bool → Option Refusal → ℕ → List ℕ → List ℕ
 started all (some r) n l = refusalText 0 r
-started all none n l = records all 0 (startState n) l
+started all none n l = records all 0 (startState n ones) l
 
 unfoldable pub listing : Bool → List ℕ → List ℕ
 listing all [] = refusalText 0 NoFirstByte
-listing all (n ∷ l) = started all (startRefusal n) n l
+listing all (n ∷ l) = started all (startRefusal n ones) n l

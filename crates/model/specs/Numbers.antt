@@ -12,7 +12,7 @@ use Rattle.laws.specs.Tests.{every, same}
 use Rattle.model.specs.declared.Interval.{Interval}
 use Rattle.model.specs.declared.Pin.the-variants.{At}
 use Rattle.model.specs.declared.Run.{Run}
-use Rattle.model.specs.Words.{places, mostUnderWay, zeroVector, noPins, blank, withProcess, withMessages}
+use Rattle.model.specs.Words.{places, mostUnderWay, initial, basic, ones, zeroVector, noPins, blank, withProcess, withMessages, withDisk}
 use Rattle.model.specs.Steps.{startState}
 use Rattle.model.specs.Sound.{zeroFrom, nothingFrom, unusedCheckpoint, unusedMessage}
 use Rattle.model.specs.Outcomes.{startOutcome, startReport}
@@ -20,9 +20,10 @@ use Rattle.model.specs.Calls.{Call, checkpoint, send, deliver, lose, rec
 use Rattle.model.specs.Listing.{asksForAll, listing}
 use Rattle.model.specs.Exam.{deletionList, lineList}
 
--- A count, and the number that a start with it meets; 0: accepted.
+-- A count and block counts, and the number that a start with them meets; 0: accepted.
 pub record StartNumber : Type 0 where
   pub count : ℕ
+  pub counts : List ℕ
   pub meets : ℕ
 
 -- A call on a state, and the number that it meets; 0: accepted.
@@ -49,7 +50,7 @@ pub record Argument : Type 0 where
   pub all : Bool
 
 unfoldable pub startMeets : StartNumber → Bool
-startMeets c = eqb (startReport (startOutcome (c .count) .answer) .refused) (c .meets)
+startMeets c = eqb (startReport (startOutcome (c .count) (c .counts) .answer) .refused) (c .meets)
 
 unfoldable pub callMeets : CallNumber → Bool
 callMeets c = eqb (call (c .state) (c .made) .reply .report .refused) (c .meets)
@@ -81,19 +82,42 @@ ofZeros s =
     && every unusedMessage (s .messages)
     && eqb (s .underway) 0
     && eqb (s .last) 0
+    && eqb (s .disk .written) 0
+    && eqb (s .disk .deleted) 0
+
+-- Block counts of 1 but for one process.
+abbrev pub allButOne : ℕ → ℕ → List ℕ
+allButOne p count = set ones p count
 
 -- "1: start with a count outside 1 to 16."
 unfoldable pub starts : List StartNumber
 starts =
-    record { count = 0; meets = 1 }
-    ∷ record { count = 1; meets = 0 }
-    ∷ record { count = 16; meets = 0 }
-    ∷ record { count = 17; meets = 1 }
+    record { count = 0; counts = ones; meets = 1 }
+    ∷ record { count = 1; counts = ones; meets = 0 }
+    ∷ record { count = 16; counts = ones; meets = 0 }
+    ∷ record { count = 17; counts = ones; meets = 1 }
+    -- Note 5: "15, at the start after 1, for a block count outside 1 to 65,535", of the first, the only and the last process
+    ∷ record { count = 0; counts = replicate places 0; meets = 1 }
+    ∷ record { count = 17; counts = replicate places 0; meets = 1 }
+    ∷ record { count = 1; counts = allButOne 0 0; meets = 15 }
+    ∷ record { count = 1; counts = allButOne 0 65_535; meets = 0 }
+    ∷ record { count = 1; counts = allButOne 0 65_536; meets = 15 }
+    ∷ record { count = 2; counts = allButOne 1 0; meets = 15 }
+    ∷ record { count = 2; counts = allButOne 1 65_535; meets = 0 }
+    ∷ record { count = 2; counts = allButOne 1 65_536; meets = 15 }
+    ∷ record { count = 16; counts = allButOne 15 0; meets = 15 }
+    ∷ record { count = 16; counts = allButOne 15 65_535; meets = 0 }
+    ∷ record { count = 16; counts = allButOne 15 65_536; meets = 15 }
+    -- "those at n and above are neither judged nor stored"
+    ∷ record { count = 1; counts = allButOne 1 0; meets = 0 }
+    ∷ record { count = 1; counts = allButOne 1 65_536; meets = 0 }
+    ∷ record { count = 2; counts = allButOne 2 0; meets = 0 }
+    ∷ record { count = 2; counts = allButOne 2 65_536; meets = 0 }
     ∷ []
 
 -- Two processes: their start; after one send from 0 to 1; after 63 and 64; with the last used number given.
 abbrev pub begun : Run
-begun = startState 2
+begun = startState 2 ones
 
 abbrev pub sentOnce : Run
 sentOnce = stateAfter begun (send 0 1 ∷ [])
@@ -115,7 +139,7 @@ atInterval own mark = withMessages
       vector = twoEntries own 0;
       pins = set noPins 0 (At (record { 0 = own - 1 }));
       mark = mark;
-      kept = record { index = record { 0 = own - 1 }; vector = twoEntries (own - 1) 0 } ∷ [];
+      kept = record { index = record { 0 = own - 1 }; vector = twoEntries (own - 1) 0; cause = basic; blocks = 1 } ∷ [];
     }))
     (record { number = 1; sender = 1; receiver = 0; vector = twoEntries 0 1 } ∷ [])
     1
@@ -126,8 +150,22 @@ knowing = withProcess begun 1 (record {
   vector = twoEntries 1 1;
   pins = set noPins 1 (At (record { 0 = 0 }));
   mark = false;
-  kept = record { index = record { 0 = 0 }; vector = twoEntries 1 0 } ∷ [];
+  kept = record { index = record { 0 = 0 }; vector = twoEntries 1 0; cause = initial; blocks = 1 } ∷ [];
 })
+
+-- Note 5. Two processes with the block counts 1 and 65,535, and on such a state the blocks written and deleted put in by hand: a sound state exactly if they
+-- have the sum. After two sends that cross, a delivery of message 2 forces a checkpoint of process 1.
+abbrev pub billedState : Run → ℕ → ℕ → Run
+billedState s written deleted = withDisk s (record { written = written; deleted = deleted })
+
+abbrev pub counted : Run
+counted = startState 2 (allButOne 1 65_535)
+
+abbrev pub crossing : Run
+crossing = stateAfter counted (send 1 0 ∷ send 0 1 ∷ [])
+
+abbrev pub quiet : Run
+quiet = stateAfter counted (send 0 1 ∷ [])
 
 unfoldable pub calls : List CallNumber
 calls =
@@ -183,6 +221,30 @@ calls =
     ∷ record { state = atInterval 65_534 true; made = deliver 1 (deletionList 2); meets = 0 }
     ∷ record { state = atInterval 65_535 true; made = deliver 1 (deletionList 2); meets = 11 }
     ∷ record { state = atInterval 65_535 false; made = deliver 1 (deletionList 2); meets = 0 }
+    -- Note 5: "A sound state now has .. that sum", in both directions, with numbers whose sum of 64 bits would be right, and "within the bound of 16"
+    ∷ record { state = billedState counted 65_536 0; made = checkpoint 0 (deletionList 2); meets = 0 }
+    ∷ record { state = billedState counted 65_537 1; made = checkpoint 0 (deletionList 2); meets = 0 }
+    ∷ record { state = billedState counted 65_537 0; made = checkpoint 0 (deletionList 2); meets = 2 }
+    ∷ record { state = billedState counted 65_536 1; made = checkpoint 0 (deletionList 2); meets = 2 }
+    ∷ record { state = billedState counted 65_535 18_446_744_073_709_551_615; made = checkpoint 0 (deletionList 2); meets = 2 }
+    ∷ record { state = billedState counted 0 18_446_744_073_709_486_080; made = checkpoint 0 (deletionList 2); meets = 2 }
+    ∷ record { state = billedState counted 1_000_000_000_000_001 999_999_999_934_465; made = checkpoint 0 (deletionList 2); meets = 2 }
+    -- Note 5: "16, after 11, for a stored checkpoint that would take written past 1,000,000,000,000,000", of one block
+    ∷ record { state = billedState counted 999_999_999_999_999 999_999_999_934_463; made = checkpoint 0 (deletionList 2); meets = 0 }
+    ∷ record { state = billedState counted 1_000_000_000_000_000 999_999_999_934_464; made = checkpoint 0 (deletionList 2); meets = 16 }
+    -- and of 65,535 blocks: a checkpoint, a delivery that forces one, a delivery that forces none, a recovery and a sweep
+    ∷ record { state = billedState crossing 999_999_999_934_465 999_999_999_868_929; made = checkpoint 1 (deletionList 2); meets = 0 }
+    ∷ record { state = billedState crossing 999_999_999_934_465 999_999_999_868_929; made = deliver 2 (deletionList 2); meets = 0 }
+    ∷ record { state = billedState crossing 999_999_999_934_466 999_999_999_868_930; made = checkpoint 1 (deletionList 2); meets = 16 }
+    ∷ record { state = billedState crossing 999_999_999_934_466 999_999_999_868_930; made = deliver 2 (deletionList 2); meets = 16 }
+    ∷ record { state = billedState quiet 1_000_000_000_000_000 999_999_999_934_464; made = deliver 1 (deletionList 2); meets = 0 }
+    ∷ record { state = billedState quiet 1_000_000_000_000_000 999_999_999_934_464; made = recover 1 (deletionList 2) (lineList 2); meets = 0 }
+    ∷ record { state = billedState quiet 1_000_000_000_000_000 999_999_999_934_464; made = recover 0 (deletionList 2) (lineList 2); meets = 0 }
+    -- where 11 holds too, it is given
+    ∷ record { state = billedState (atInterval 65_534 true) 1_000_000_000_000_000 999_999_999_999_998; made = checkpoint 0 (deletionList 2); meets = 16 }
+    ∷ record { state = billedState (atInterval 65_535 true) 1_000_000_000_000_000 999_999_999_999_998; made = checkpoint 0 (deletionList 2); meets = 11 }
+    ∷ record { state = billedState (atInterval 65_534 true) 1_000_000_000_000_000 999_999_999_999_998; made = deliver 1 (deletionList 2); meets = 16 }
+    ∷ record { state = billedState (atInterval 65_535 true) 1_000_000_000_000_000 999_999_999_999_998; made = deliver 1 (deletionList 2); meets = 11 }
     ∷ []
 
 -- Texts in ASCII.
@@ -250,5 +312,5 @@ arguments =
 -- The whole table: the starts, and what a refused one returns; the traces; the calls; where a replay stops, and which words ask it not to.
 unfoldable pub numbersRight : Bool
 numbersRight =
-    every startMeets starts && ofZeros (startOutcome 0 .run) && ofZeros (startOutcome 17 .run) && every tracePrints traces && every callMeets calls
+    every startMeets starts && ofZeros (startOutcome 0 ones .run) && ofZeros (startOutcome 17 ones .run) && ofZeros (startOutcome 1 (allButOne 0 0) .run) && every tracePrints traces && every callMeets calls
     && every stopPrints stops && every argumentAsks arguments

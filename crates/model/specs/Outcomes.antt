@@ -52,10 +52,10 @@ pairs (d ∷ l) = d .process ∷ d .index .0 ∷ pairs l
 abbrev pub written : List ℕ → List ℕ → List ℕ
 written lent numbers = sets lent 0 numbers
 
-unfoldable pub startOutcome : ℕ → Outcome StartAnswer
-startOutcome n = judged (startRefusal n)
+unfoldable pub startOutcome : ℕ → List ℕ → Outcome StartAnswer
+startOutcome n counts = judged (startRefusal n counts)
     (λ r. record { run = blank 0; answer = start-answer.Refused r; rose = 0; deleted = []; line = [] })
-    (record { run = startState n; answer = start-answer.Started; rose = 0; deleted = []; line = [] })
+    (record { run = startState n counts; answer = start-answer.Started; rose = 0; deleted = []; line = [] })
 
 unfoldable pub checkpointOutcome : Run → ℕ → List ℕ → Outcome CheckpointAnswer
 checkpointOutcome s i deleted = judged (checkpointRefusal s i deleted)

@@ -3,18 +3,18 @@
 use mathlib.Core.Bool.{Bool, true, false, _&&_, _||_, not}
 use mathlib.Core.List.{List, [], _∷_}
 use mathlib.Core.Option.{Option, none, some}
-use Prim.Native.Nat.{ℕ, _*_, _^_}
+use Prim.Native.Nat.{ℕ, _+_, _*_, _^_}
 use lib.Dec.{eqb, ltb, leb}
-use lib.ListN.{length}
+use lib.ListN.{length, getD}
 use Rattle.laws.specs.Choice.{pick}
 use Rattle.laws.specs.Search.{anyBelow}
 use Rattle.model.specs.declared.Message.{Message}
 use Rattle.model.specs.declared.Run.{Run}
 use Rattle.model.specs.declared.Refusal.{Refusal}
-use Rattle.model.specs.declared.Refusal.the-variants.{CountOutsideRange, UnsoundState, ListTooShort, NoSuchProcess, SenderIsReceiver, NoSuchFailedProcess, NotUnderWay, TooManyUnderWay, MessageNumbersUsed, IntervalsUsed, NoFirstByte, LeftOverBytes, MalformedRecord}
-use Rattle.model.specs.Words.{places, mostUnderWay, mostMessages, mostInterval, process, own}
+use Rattle.model.specs.declared.Refusal.the-variants.{CountOutsideRange, UnsoundState, ListTooShort, NoSuchProcess, SenderIsReceiver, NoSuchFailedProcess, NotUnderWay, TooManyUnderWay, MessageNumbersUsed, IntervalsUsed, NoFirstByte, LeftOverBytes, MalformedRecord, BlockCountOutsideRange, BlocksUsed}
+use Rattle.model.specs.Words.{places, mostUnderWay, mostMessages, mostInterval, mostBlocks, blockCount, process, own}
 use Rattle.model.specs.Steps.{found, forces, latestAllowed}
-use Rattle.model.specs.Sound.{sound}
+use Rattle.model.specs.Sound.{isBlockCount, sound}
 
 -- The number that document 01 gives each refusal. Note 4: "Refusal 6 never occurs any more." No refusal has it.
 unfoldable pub number : Refusal → ℕ
@@ -31,6 +31,8 @@ number IntervalsUsed = 11
 number NoFirstByte = 12
 number LeftOverBytes = 13
 number MalformedRecord = 14
+number BlockCountOutsideRange = 15
+number BlocksUsed = 16
 
 -- A condition of the table with the refusal that it gives.
 pub record Rule : Type 0 where
@@ -43,8 +45,12 @@ firstOf [] = none
 firstOf (r ∷ l) = pick (r .holds) (some (r .gives)) (firstOf l)
 
 -- "1: start with a count outside 1 to 16."
-unfoldable pub startRefusal : ℕ → Option Refusal
-startRefusal n = firstOf (record { holds = not (leb 1 n && leb n places); gives = CountOutsideRange } ∷ [])
+-- Note 5: "15, at the start after 1, for a block count outside 1 to 65,535"; "those at n and above are neither judged nor stored".
+unfoldable pub startRefusal : ℕ → List ℕ → Option Refusal
+startRefusal n counts = firstOf (
+    record { holds = not (leb 1 n && leb n places); gives = CountOutsideRange }
+    ∷ record { holds = anyBelow n (λ p. not (isBlockCount (getD counts p 0))); gives = BlockCountOutsideRange }
+    ∷ [])
 
 -- "2: a state that is not sound"
 abbrev pub unsound : Run → Rule
@@ -65,12 +71,17 @@ absent s i = leb (s .count) i
 abbrev pub atLastInterval : Run → ℕ → Bool
 atLastInterval s i = leb mostInterval (own s i .0)
 
+-- Note 5: "16, after 11, for a stored checkpoint that would take written past 1,000,000,000,000,000."
+abbrev pub pastBlocks : Run → ℕ → Bool
+pastBlocks s i = ltb mostBlocks (s .disk .written + blockCount (process s i))
+
 unfoldable pub checkpointRefusal : Run → ℕ → List ℕ → Option Refusal
 checkpointRefusal s i deleted = firstOf (
     unsound s
     ∷ record { holds = shortDeletions s deleted; gives = ListTooShort }
     ∷ record { holds = absent s i; gives = NoSuchProcess }
     ∷ record { holds = atLastInterval s i; gives = IntervalsUsed }
+    ∷ record { holds = pastBlocks s i; gives = BlocksUsed }
     ∷ [])
 
 -- "5: sender is receiver." "9: send with 64 under way. 10: send with number 1,000,000 used."
@@ -92,12 +103,17 @@ unfoldable pub forcesPast : Run → Option Message → Bool
 forcesPast s none = false
 forcesPast s (some x) = forces (process s (x .receiver)) (x .vector) && atLastInterval s (x .receiver)
 
+unfoldable pub forcesOver : Run → Option Message → Bool
+forcesOver s none = false
+forcesOver s (some x) = forces (process s (x .receiver)) (x .vector) && pastBlocks s (x .receiver)
+
 unfoldable pub deliverRefusal : Run → ℕ → List ℕ → Option Refusal
 deliverRefusal s m deleted = firstOf (
     unsound s
     ∷ record { holds = shortDeletions s deleted; gives = ListTooShort }
     ∷ record { holds = missing (found s m); gives = NotUnderWay }
     ∷ record { holds = forcesPast s (found s m); gives = IntervalsUsed }
+    ∷ record { holds = forcesOver s (found s m); gives = BlocksUsed }
     ∷ [])
 
 unfoldable pub loseRefusal : Run → ℕ → Option Refusal

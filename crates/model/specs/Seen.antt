@@ -4,12 +4,14 @@ use mathlib.Core.Path.{_≡_}
 use mathlib.Core.Bool.{Bool, true, false, _&&_, not}
 use mathlib.Core.List.{List, [], _∷_, _++_}
 use mathlib.Core.Option.{Option, none, some}
-use Prim.Native.Nat.{ℕ, _^_, _<_, _≤_}
+use Prim.Native.Nat.{ℕ, _^_, _<_}
 use lib.Dec.{eqb}
 use lib.ListN.{replicate}
 use Rattle.laws.specs.Choice.{pick}
 use Rattle.model.specs.declared.Interval.{Interval}
 use Rattle.model.specs.declared.Run.{Run}
+use Rattle.model.specs.Words.{ones}
+use Rattle.model.specs.Refusals.{startRefusal}
 use Rattle.model.specs.Outcomes.{message, startOutcome}
 use Rattle.model.specs.Calls.{Call, checkpoint, send, deliver, lose, recover, line, call, transcript}
 use Rattle.model.specs.Survival.{surviving}
@@ -71,7 +73,7 @@ unrecovered s (c ∷ l) = not (isRecovery c && isAccepted s c) && unrecovered (c
 
 -- What these definitions say of small runs of two processes; proofs/Exam has the theorem.
 abbrev pub two : Run
-two = startOutcome 2 .run
+two = startOutcome 2 ones .run
 
 abbrev pub room : List ℕ
 room = replicate 8 0
@@ -98,20 +100,20 @@ pub record SeenExamples : Type 0 where
 
 -- As far as process i can see, checkpoint k of i may be needed: "there is a run, accepted by the same rules, in which this process sees the same own events and the
 -- same carried vectors, message numbers set aside, and some one process's failure puts that checkpoint in the best line".
-pub record MayBeNeeded (n : ℕ) (calls : List Call) (i k : ℕ) : Type 0 where
+pub record MayBeNeeded (n : ℕ) (counts : List ℕ) (calls : List Call) (i k : ℕ) : Type 0 where
   pub others : List Call
-  pub accepted : allAccepted (startOutcome n .run) others ≡ true
+  pub accepted : allAccepted (startOutcome n counts .run) others ≡ true
   -- a run without recovery or sweep as well
-  pub no-recovery : unrecovered (startOutcome n .run) others ≡ true
-  pub same : seen i (startOutcome n .run) others ≡ seen i (startOutcome n .run) calls
+  pub no-recovery : unrecovered (startOutcome n counts .run) others ≡ true
+  pub same : seen i (startOutcome n counts .run) others ≡ seen i (startOutcome n counts .run) calls
   pub failing : ℕ
   pub inside : failing < n
-  pub used : InBestLine n (surviving n (transcript (startOutcome n .run) others) .lists) (2 ^ failing) i k
+  pub used : InBestLine n (surviving n counts (transcript (startOutcome n counts .run) others) .lists) (2 ^ failing) i k
 
 -- Note 14: "in runs without recovery or sweep: for each kept checkpoint of a process there is a run ..". Kept by the pairs handed out.
 unfoldable pub NothingMoreCouldGo : Type 0
-NothingMoreCouldGo = (n : ℕ) → 1 ≤ n → n ≤ 16 → (calls : List Call) → unrecovered (startOutcome n .run) calls ≡ true
-    → (i k : ℕ) → i < n → surviving n (transcript (startOutcome n .run) calls) .kept i k ≡ true → MayBeNeeded n calls i k
+NothingMoreCouldGo = (n : ℕ) (counts : List ℕ) → startRefusal n counts ≡ none → (calls : List Call) → unrecovered (startOutcome n counts .run) calls ≡ true
+    → (i k : ℕ) → i < n → surviving n counts (transcript (startOutcome n counts .run) calls) .kept i k ≡ true → MayBeNeeded n counts calls i k
 
 -- "A site asked whether a cleverer rule could delete more without extra messages." A rule says which checkpoints a process keeps: by the process, by what it has
 -- seen, and by nothing else.
@@ -119,13 +121,13 @@ abbrev pub KeepingRule : Type 0
 KeepingRule = ℕ → List Seen → ℕ → Bool
 
 -- A rule is safe if in every run without recovery or sweep it keeps whatever the failure of one process would use.
-unfoldable pub SafeRule : ℕ → KeepingRule → Type 0
-SafeRule n rule = (calls : List Call) → allAccepted (startOutcome n .run) calls ≡ true → unrecovered (startOutcome n .run) calls ≡ true
-    → (i k f : ℕ) → i < n → f < n → InBestLine n (surviving n (transcript (startOutcome n .run) calls) .lists) (2 ^ f) i k
-    → rule i (seen i (startOutcome n .run) calls) k ≡ true
+unfoldable pub SafeRule : ℕ → List ℕ → KeepingRule → Type 0
+SafeRule n counts rule = (calls : List Call) → allAccepted (startOutcome n counts .run) calls ≡ true → unrecovered (startOutcome n counts .run) calls ≡ true
+    → (i k f : ℕ) → i < n → f < n → InBestLine n (surviving n counts (transcript (startOutcome n counts .run) calls) .lists) (2 ^ f) i k
+    → rule i (seen i (startOutcome n counts .run) calls) k ≡ true
 
 -- "Show that it could not": a safe rule keeps all that the library keeps.
 unfoldable pub NoRuleDeletesMore : Type 0
-NoRuleDeletesMore = (n : ℕ) → 1 ≤ n → n ≤ 16 → (rule : KeepingRule) → SafeRule n rule
-    → (calls : List Call) → unrecovered (startOutcome n .run) calls ≡ true
-    → (i k : ℕ) → i < n → surviving n (transcript (startOutcome n .run) calls) .kept i k ≡ true → rule i (seen i (startOutcome n .run) calls) k ≡ true
+NoRuleDeletesMore = (n : ℕ) (counts : List ℕ) → startRefusal n counts ≡ none → (rule : KeepingRule) → SafeRule n counts rule
+    → (calls : List Call) → unrecovered (startOutcome n counts .run) calls ≡ true
+    → (i k : ℕ) → i < n → surviving n counts (transcript (startOutcome n counts .run) calls) .kept i k ≡ true → rule i (seen i (startOutcome n counts .run) calls) k ≡ true

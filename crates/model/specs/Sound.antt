@@ -1,12 +1,14 @@
--- Document 01, "A sound state", clause by clause.
+-- Document 01, "A sound state", clause by clause, and behind it the clauses of Note 5.
 -- Assumes nothing.
 use mathlib.Core.Bool.{Bool, true, false, _&&_, not}
 use mathlib.Core.List.{List, [], _∷_, map}
-use Prim.Native.Nat.{ℕ, suc}
+use Prim.Native.Nat.{ℕ, suc, _+_}
 use lib.Dec.{eqb, ltb, leb}
 use lib.ListN.{getD, drop}
+use Rattle.laws.specs.Choice.{pick}
 use Rattle.laws.specs.Lists.{orElse, lastOf}
 use Rattle.laws.specs.Search.{allBelow}
+use Rattle.laws.specs.Sums.{sumBelow}
 use Rattle.laws.specs.Tests.{every, some-of}
 use Rattle.model.specs.declared.Interval.{Interval}
 use Rattle.model.specs.declared.Pin.{Pin}
@@ -14,7 +16,7 @@ use Rattle.model.specs.declared.Pin.the-variants.{Nothing, At}
 use Rattle.model.specs.declared.Checkpoint.{Checkpoint}
 use Rattle.model.specs.declared.Message.{Message}
 use Rattle.model.specs.declared.Run.{Run}
-use Rattle.model.specs.Words.{places, mostUnderWay, mostMessages, entry, lastStored, names, named, noCheckpoint, process, own, underWay}
+use Rattle.model.specs.Words.{places, mostUnderWay, mostMessages, mostBlockCount, mostBlocks, entry, lastStored, names, named, Process, blocksOf, noCheckpoint, blockCount, process, own, underWay}
 
 -- "Count 1 to 16."
 unfoldable pub countSound : Run → Bool
@@ -71,7 +73,7 @@ unfoldable pub zeroFrom : ℕ → List Interval → Bool
 zeroFrom k v = every (λ x. eqb (x .0) 0) (drop k v)
 
 unfoldable pub unusedCheckpoint : Checkpoint → Bool
-unusedCheckpoint c = eqb (c .index .0) 0 && zeroFrom 0 (c .vector)
+unusedCheckpoint c = eqb (c .index .0) 0 && zeroFrom 0 (c .vector) && eqb (c .cause) 0 && eqb (c .blocks) 0
 
 unfoldable pub unusedMessage : Message → Bool
 unusedMessage x = eqb (x .number) 0 && eqb (x .sender) 0 && eqb (x .receiver) 0 && zeroFrom 0 (x .vector)
@@ -103,6 +105,28 @@ unusedSound s =
     && every (λ x. zeroFrom (s .count) (x .vector)) (underWay s)
     && every unusedMessage (drop (s .underway) (s .messages))
 
+-- Note 5: "A sound state now has causes 0 to 2, 0 exactly at index 0"
+unfoldable pub causeSound : ℕ → ℕ → Bool
+causeSound index cause = pick (eqb index 0) (eqb cause 0) (leb 1 cause && leb cause 2)
+
+-- ".. block counts from 1 to 65,535"
+unfoldable pub isBlockCount : ℕ → Bool
+isBlockCount count = leb 1 count && leb count mostBlockCount
+
+-- ".. equal within a process"
+unfoldable pub recordSound : Process → Checkpoint → Bool
+recordSound P c = causeSound (c .index .0) (c .cause) && isBlockCount (c .blocks) && eqb (c .blocks) (blockCount P)
+
+-- ".. and that sum, within the bound of 16." The sum: "written equals blocks of all kept checkpoints plus blocks deleted"
+unfoldable pub keptBlocks : Run → ℕ
+keptBlocks s = sumBelow (s .count) (λ p. blocksOf (process s p .kept))
+
+unfoldable pub diskSound : Run → Bool
+diskSound s =
+    allBelow (s .count) (λ p. every (recordSound (process s p)) (process s p .kept))
+    && eqb (s .disk .written) (keptBlocks s + s .disk .deleted)
+    && leb (s .disk .written) mostBlocks
+
 unfoldable pub sound : Run → Bool
 sound s =
     countSound s
@@ -111,3 +135,4 @@ sound s =
     && allBelow (s .count) (λ p. keptSound s p && pinsSound s p)
     && messagesSound s
     && unusedSound s
+    && diskSound s

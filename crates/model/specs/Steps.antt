@@ -10,6 +10,7 @@ use Rattle.laws.specs.Bits.{bitsOf}
 use Rattle.laws.specs.Choice.{pick}
 use Rattle.laws.specs.Lists.{select, orElse, lastOf, table, gather}
 use Rattle.laws.specs.Search.{allBelow, anyBelow}
+use Rattle.laws.specs.Sums.{sumBelow}
 use Rattle.laws.specs.Tests.{countBelow}
 use Rattle.model.specs.declared.Interval.{Interval}
 use Rattle.model.specs.declared.CheckpointIndex.{CheckpointIndex}
@@ -17,8 +18,9 @@ use Rattle.model.specs.declared.Pin.{Pin}
 use Rattle.model.specs.declared.Pin.the-variants.{Nothing, At}
 use Rattle.model.specs.declared.Checkpoint.{Checkpoint}
 use Rattle.model.specs.declared.Message.{Message}
+use Rattle.model.specs.declared.Disk.{Disk}
 use Rattle.model.specs.declared.Run.{Run}
-use Rattle.model.specs.Words.{places, entry, below, liveIndex, named, Process, live, zeroVector, noPins, noCheckpoint, blank, process, withProcess, own, underWay, withMessages, failed}
+use Rattle.model.specs.Words.{places, initial, basic, forced, entry, below, liveIndex, named, Process, live, blocksOf, zeroVector, noPins, blockCount, blank, process, withProcess, own, underWay, withMessages, withDisk, failed}
 
 -- A deleted checkpoint, as "pairs process, index".
 pub record Deletion : Type 0 where
@@ -32,8 +34,15 @@ settled P = record { vector = P .vector; pins = P .pins; mark = P .mark; kept = 
 unfoldable pub listed : ℕ → List Checkpoint → List Deletion
 listed p = map (λ c. record { process = p; index = c .index })
 
+unfoldable pub gone : Process → List Checkpoint
+gone P = select (λ c. not (named (P .pins) c)) (P .kept)
+
 unfoldable pub deletions : ℕ → Process → List Deletion
-deletions p P = listed p (select (λ c. not (named (P .pins) c)) (P .kept))
+deletions p P = listed p (gone P)
+
+-- Note 5: "The state also carries blocks written and blocks deleted." What they are behind a call that wrote and deleted so many.
+unfoldable pub billed : Disk → ℕ → ℕ → Disk
+billed d wrote deleted = record { written = d .written + wrote; deleted = d .deleted + deleted }
 
 -- Each process below n takes the part that a function gives it.
 unfoldable pub withProcesses : ℕ → (ℕ → Process) → Run → Run
@@ -41,30 +50,50 @@ withProcesses zero f s = s
 withProcesses (suc n) f s = withProcess (withProcesses n f s) n (f n)
 
 -- Start. "Each process stores checkpoint 0 with a vector of zeros. Then own entries are 1, others 0. Each own pin names checkpoint 0, others none.
--- No process has sent."
-unfoldable pub started : ℕ → Process
-started p = record { vector = set zeroVector p (record { 0 = 1 }); pins = set noPins p (At (record { 0 = 0 })); mark = false; kept = noCheckpoint ∷ [] }
+-- No process has sent." Note 5: its cause is "0 initial", and its block count is "fixed at the start for each process".
+unfoldable pub checkpointZero : ℕ → Checkpoint
+checkpointZero count = record { index = record { 0 = 0 }; vector = zeroVector; cause = initial; blocks = count }
 
-unfoldable pub startState : ℕ → Run
-startState n = withProcesses n started (blank n)
+unfoldable pub started : List ℕ → ℕ → Process
+started counts p = record {
+  vector = set zeroVector p (record { 0 = 1 });
+  pins = set noPins p (At (record { 0 = 0 }));
+  mark = false;
+  kept = checkpointZero (getD counts p 0) ∷ [];
+}
+
+-- Note 5: "each checkpoint ever stored .. counts once", and the n processes stored one each. "The start takes 16 counts, and those at n and above are neither
+-- judged nor stored."
+unfoldable pub opening : ℕ → List ℕ → Disk
+opening n counts = record { written = sumBelow n (λ p. getD counts p 0); deleted = 0 }
+
+unfoldable pub startState : ℕ → List ℕ → Run
+startState n counts = withDisk (withProcesses n (started counts) (blank n)) (opening n counts)
 
 -- Checkpoint at i. "Store the vector under index own entry. The own pin names it. Add 1 to the own entry. Clear the sent mark."
 unfoldable pub advanced : ℕ → List Interval → List Interval
 advanced i v = set v i (record { 0 = entry v i .0 + 1 })
 
-unfoldable pub checkpointed : ℕ → Process → Process
-checkpointed i P = record {
+-- Note 5: "Each kept checkpoint now records its cause (0 initial, 1 basic, 2 forced) and its process's block count". What process i then stores.
+unfoldable pub storing : ℕ → ℕ → Process → Checkpoint
+storing cause i P = record { index = liveIndex (entry (P .vector) i); vector = P .vector; cause = cause; blocks = blockCount P }
+
+unfoldable pub checkpointed : ℕ → ℕ → Process → Process
+checkpointed cause i P = record {
   vector = advanced i (P .vector);
-  pins = set (P .pins) i (At (live i P .index));
+  pins = set (P .pins) i (At (liveIndex (entry (P .vector) i)));
   mark = false;
-  kept = P .kept ++ (live i P ∷ []);
+  kept = P .kept ++ (storing cause i P ∷ []);
 }
 
 unfoldable pub checkpointState : Run → ℕ → Run
-checkpointState s i = withProcess s i (settled (checkpointed i (process s i)))
+checkpointState s i =
+    let P = process s i in
+    let Q = checkpointed basic i P in
+    withDisk (withProcess s i (settled Q)) (billed (s .disk) (blockCount P) (blocksOf (gone Q)))
 
 unfoldable pub checkpointDeletions : Run → ℕ → List Deletion
-checkpointDeletions s i = deletions i (checkpointed i (process s i))
+checkpointDeletions s i = deletions i (checkpointed basic i (process s i))
 
 -- Send from i to j. "The message carries i's vector. Set i's sent mark." "Message numbers run from 1 .., one for each accepted send, never reused".
 unfoldable pub sentMessage : Run → ℕ → ℕ → Message
@@ -117,11 +146,15 @@ takenIn i carried P = record {
 }
 
 unfoldable pub delivered : ℕ → List Interval → Process → Process
-delivered i carried P = takenIn i carried (pick (forces P carried) (checkpointed i P) P)
+delivered i carried P = takenIn i carried (pick (forces P carried) (checkpointed forced i P) P)
 
 -- "The message is no longer under way."
 unfoldable pub deliverState : Run → Message → Run
-deliverState s x = withMessages (withProcess s (x .receiver) (settled (delivered (x .receiver) (x .vector) (process s (x .receiver))))) (others s (x .number)) (s .last)
+deliverState s x =
+    let P = process s (x .receiver) in
+    let Q = delivered (x .receiver) (x .vector) P in
+    withDisk (withMessages (withProcess s (x .receiver) (settled Q)) (others s (x .number)) (s .last))
+    (billed (s .disk) (pick (forces P (x .vector)) (blockCount P) 0) (blocksOf (gone Q)))
 
 -- Note 1: "Delivery passes it on." The entries that rose are those of the vector that takes the carried one in: behind the forced checkpoint, if there is one.
 unfoldable pub deliverRisen : Run → Message → ℕ
@@ -203,13 +236,18 @@ lostBy s F x = ltb (member s F (x .sender) .index .0) (entry (x .vector) (x .sen
 unfoldable pub stillUnderWay : Run → ℕ → List Message
 stillUnderWay s F = select (λ x. not (lostBy s F x)) (underWay s)
 
-unfoldable pub recoverState : Run → ℕ → Run
-recoverState s F = withMessages (withProcesses (s .count) (recovered s F) s) (stillUnderWay s F) (s .last)
-
 -- Deleted: the lost ones, and those that no pin names any more. "by process, then index, ascending"
+unfoldable pub goneAt : Run → ℕ → ℕ → List Checkpoint
+goneAt s F p = select (λ c. not (leb (c .index .0) (member s F p .index .0) && named (pinsAfter s F p) c)) (process s p .kept)
+
 unfoldable pub deletedAt : Run → ℕ → ℕ → List Deletion
-deletedAt s F p =
-    listed p (select (λ c. not (leb (c .index .0) (member s F p .index .0) && named (pinsAfter s F p) c)) (process s p .kept))
+deletedAt s F p = listed p (goneAt s F p)
+
+-- Note 5: "each checkpoint ever stored, rolled back or not, counts once": a recovery writes none and takes none back.
+unfoldable pub recoverState : Run → ℕ → Run
+recoverState s F =
+    withDisk (withMessages (withProcesses (s .count) (recovered s F) s) (stillUnderWay s F) (s .last))
+    (billed (s .disk) 0 (sumBelow (s .count) (λ p. blocksOf (goneAt s F p))))
 
 unfoldable pub recoverDeletions : Run → ℕ → List Deletion
 recoverDeletions s F = gather (s .count) (deletedAt s F)

@@ -8,12 +8,15 @@ use lib.Dec.{eqb, ltb, leb}
 use lib.ListN.{getD}
 use Rattle.laws.specs.Choice.{pick}
 use Rattle.laws.specs.Search.{anyBelow}
+use Rattle.laws.specs.Sums.{sumBelow}
 use Rattle.laws.specs.Update.{upd}
+use Rattle.model.specs.Words.{initial, basic, forced}
 use Rattle.model.specs.History.{HistoryEvent, stored, sent, received, Lists, checkpoints, upTo}
 use Rattle.model.specs.Calls.{Call, checkpoint, send, deliver, lose, recover, line, Reply, Exchange}
 
 -- The surviving history: the lists, and what they were right after the last accepted recover, or the start; how many sends were accepted; the receiver that each send named; which messages are under way: sent by an accepted
 -- send, neither delivered nor lost since by an accepted call, and not lost by a recovery; which checkpoints are kept.
+-- Note 5: each process's block count, the cause of each checkpoint in the lists, the blocks written and the blocks deleted.
 pub record Surviving : Type 0 where
   pub lists : Lists
   pub restart : Lists
@@ -21,10 +24,26 @@ pub record Surviving : Type 0 where
   pub receiver : ℕ → ℕ
   pub underway : ℕ → Bool
   pub kept : ℕ → ℕ → Bool
+  pub counts : ℕ → ℕ
+  pub cause : ℕ → ℕ → ℕ
+  pub written : ℕ
+  pub deleted : ℕ
 
 -- "After the start each list is checkpoint 0."
-unfoldable pub beginning : Surviving
-beginning = record { lists = λ p. stored ∷ []; restart = λ p. stored ∷ []; sends = 0; receiver = λ m. 0; underway = λ m. false; kept = λ p k. eqb k 0 }
+-- Note 5: each of the n processes has then stored checkpoint 0, of cause "0 initial", with its block count, "fixed at the start for each process".
+unfoldable pub beginning : ℕ → List ℕ → Surviving
+beginning n counts = record {
+  lists = λ p. stored ∷ [];
+  restart = λ p. stored ∷ [];
+  sends = 0;
+  receiver = λ m. 0;
+  underway = λ m. false;
+  kept = λ p k. eqb k 0;
+  counts = λ p. getD counts p 0;
+  cause = λ p k. initial;
+  written = sumBelow n (λ p. getD counts p 0);
+  deleted = 0;
+}
 
 -- An event at the end of a process's list.
 unfoldable pub added : Lists → ℕ → HistoryEvent → Lists
@@ -107,6 +126,44 @@ handedOut r p k = anyBelow (r .report .deletions) (λ d. eqb (getD (r .deleted) 
 unfoldable pub keptAfter : Surviving → Lists → Reply → ℕ → ℕ → Bool
 keptAfter h lists r p k = ltb k (checkpoints (lists p)) && (h .kept p k || leb (checkpoints (h .lists p)) k) && not (handedOut r p k)
 
+-- Note 5: the process whose checkpoint an accepted call stored, if it stored one: of a delivery, "if the answer names a forced one".
+unfoldable pub forcedAt : Surviving → ℕ → Option ℕ → Option ℕ
+forcedAt h m none = none
+forcedAt h m (some index) = some (h .receiver m)
+
+unfoldable pub storedBy : Surviving → Call → Reply → Option ℕ
+storedBy h (checkpoint i deleted) r = some i
+storedBy h (send i j) r = none
+storedBy h (deliver m deleted) r = forcedAt h m (r .report .value)
+storedBy h (lose m) r = none
+storedBy h (recover F deleted lent) r = none
+storedBy h (line F lent) r = none
+
+-- Note 5: "its cause (0 initial, 1 basic, 2 forced)", by the call that stored it. The others store none.
+unfoldable pub causeOf : Call → ℕ
+causeOf (checkpoint i deleted) = basic
+causeOf (send i j) = 0
+causeOf (deliver m deleted) = forced
+causeOf (lose m) = 0
+causeOf (recover F deleted lent) = 0
+causeOf (line F lent) = 0
+
+-- The causes after it: the new checkpoint is "numbered one above the last there". Where a recovery took that number from the list, it is stored again, and the
+-- cause is the new one's.
+unfoldable pub causeWith : Surviving → ℕ → Option ℕ → ℕ → ℕ → ℕ
+causeWith h cause none = h .cause
+causeWith h cause (some p) = upd (h .cause) p (upd (h .cause p) (checkpoints (h .lists p)) cause)
+
+-- Note 5: "Written is defined from the history: each checkpoint ever stored, rolled back or not, counts once." So the blocks of the one that a call stored are
+-- added, and nothing is taken back.
+unfoldable pub countOf : Surviving → Option ℕ → ℕ
+countOf h none = 0
+countOf h (some p) = h .counts p
+
+-- Note 5: "deleted is defined from the pairs handed out": for each pair the block count of its process.
+unfoldable pub handedBlocks : Surviving → Reply → ℕ
+handedBlocks h r = sumBelow (r .report .deletions) (λ d. h .counts (getD (r .deleted) (2 * d) 0))
+
 unfoldable pub accepted : ℕ → Surviving → Call → Reply → Surviving
 accepted n h c r = record {
   lists = listsAfter n h c r;
@@ -115,16 +172,20 @@ accepted n h c r = record {
   receiver = receiverAfter h c;
   underway = underwayAfter n h (listsAfter n h c r) c;
   kept = keptAfter h (listsAfter n h c r) r;
+  counts = h .counts;
+  cause = causeWith h (causeOf c) (storedBy h c r);
+  written = h .written + countOf h (storedBy h c r);
+  deleted = h .deleted + handedBlocks h r;
 }
 
 -- ".. and every refused call change nothing."
 unfoldable pub after : ℕ → Surviving → Exchange → Surviving
 after n h e = pick (eqb (e .reply .report .refused) 0) (accepted n h (e .made) (e .reply)) h
 
--- The surviving history of a run of n processes with this transcript.
+-- The surviving history of a run of n processes with these counts and this transcript.
 unfoldable pub survivingFrom : ℕ → Surviving → List Exchange → Surviving
 survivingFrom n h [] = h
 survivingFrom n h (e ∷ l) = survivingFrom n (after n h e) l
 
-unfoldable pub surviving : ℕ → List Exchange → Surviving
-surviving n = survivingFrom n beginning
+unfoldable pub surviving : ℕ → List ℕ → List Exchange → Surviving
+surviving n counts = survivingFrom n (beginning n counts)

@@ -4,26 +4,29 @@ use mathlib.Core.Path.{_≡_}
 use mathlib.Core.Bool.{Bool, true, _&&_, not}
 use mathlib.Core.List.{List, [], _∷_, _++_}
 use mathlib.Core.Logic.{_⊎_}
-use mathlib.Core.Option.{none, some}
-use Prim.Native.Nat.{ℕ, _*_, _^_, _<_, _≤_}
+use mathlib.Core.Option.{Option, none, some}
+use Prim.Native.Nat.{ℕ, _+_, _*_, _^_, _<_, _≤_}
 use lib.Dec.{eqb}
 use lib.ListN.{length, getD}
 use Rattle.laws.specs.Search.{allBelow}
-use Rattle.laws.specs.Tests.{countBelow, some-of}
+use Rattle.laws.specs.Sums.{sumBelow}
+use Rattle.laws.specs.Tests.{countBelow, every, some-of}
 use Rattle.model.specs.declared.Checkpoint.{Checkpoint}
 use Rattle.model.specs.declared.Run.{Run}
+use Rattle.model.specs.declared.Event.{Event}
 use Rattle.model.specs.declared.Refusal.the-variants.{ListTooShort}
 use Rattle.model.specs.declared.StartAnswer.the-variants.{Started}
-use Rattle.model.specs.Words.{lastStored, comesBefore, names, process, own, failed}
-use Rattle.model.specs.Steps.{allowed, lineOf}
+use Rattle.model.specs.Words.{ones, lastStored, comesBefore, names, process, own, failed}
+use Rattle.model.specs.Steps.{startState, allowed, lineOf}
 use Rattle.model.specs.History.{Line, checkpoints}
 use Rattle.model.specs.Sound.{sound}
-use Rattle.model.specs.Refusals.{lineRefusal, recoverRefusal}
-use Rattle.model.specs.Outcomes.{startOutcome, lineOutcome, recoverOutcome}
+use Rattle.model.specs.Refusals.{startRefusal, lineRefusal, recoverRefusal}
+use Rattle.model.specs.Outcomes.{startOutcome, lineOutcome, recoverOutcome, startReport}
 use Rattle.model.specs.Calls.{Call, stateAfter, transcript}
+use Rattle.model.specs.Listing.{mostRecords, perform, stateAfterRecords}
 use Rattle.model.specs.Survival.{Surviving, surviving}
 use Rattle.model.specs.Needed.{Needed}
-use Rattle.model.specs.Answers.{RightLine, AnswersAreRight}
+use Rattle.model.specs.Answers.{lowest, startReasons, RightLine, AnswersAreRight}
 
 -- "The reported line is the n indexes that a line or recover call for the failed set then writes"
 abbrev pub reported : Run → ℕ → Line
@@ -60,29 +63,55 @@ pub record KeptIsRight (n : ℕ) (s : Run) (h : Surviving) : Type 0 where
   pub needed : (p k : ℕ) → p < n → h .kept p k ≡ true → Needed n h p k
   pub kept-if-needed : (p k : ℕ) → p < n → Needed n h p k → h .kept p k ≡ true
 
--- Demand 3: for every n from 1 to 16, every list of calls from the state that an accepted start returned, and every failed set, the empty one of
--- a sweep too. "A restart after a sweep is owed the same line as after any other call": a sweep is one of the calls. What every answer is, by the surviving
--- history before it, is in Answers; which checkpoints are kept, by the lists alone, is in Needed. Together they leave nothing in an answer free.
-unfoldable pub RightOverWholeRuns : Type 0
-RightOverWholeRuns = (n : ℕ) → 1 ≤ n → n ≤ 16 → (calls : List Call) →
-    let s₀ = startOutcome n .run in
-    let s = stateAfter s₀ calls in
-    let h = surviving n (transcript s₀ calls) in
-    (startOutcome n .answer ≡ Started) × (AnswersAreRight n (transcript s₀ calls)) × (KeptIsRight n s h) × ((F : ℕ) → F < 2 ^ n → LineIsRight n s h F)
+-- Note 5, of a state and its surviving history.
+pub record BlocksAreRight (n : ℕ) (s : Run) (h : Surviving) : Type 0 where
+  -- "The state also carries blocks written and blocks deleted": those of the history
+  pub written-in-state : s .disk .written ≡ h .written
+  pub deleted-in-state : s .disk .deleted ≡ h .deleted
+  -- "At every moment written equals blocks of all kept checkpoints plus blocks deleted", kept by the pairs handed out
+  pub balance : h .written ≡ sumBelow n (λ p. countBelow (checkpoints (h .lists p)) (h .kept p) * h .counts p) + h .deleted
+  -- "Each kept checkpoint now records its cause .. and its process's block count"
+  pub recorded : (p : ℕ) → p < n → every (λ c. eqb (c .cause) (h .cause p (c .index .0)) && eqb (c .blocks) (h .counts p)) (process s p .kept) ≡ true
 
--- A state that calls from an accepted start reach. The replay of a trace has no other states.
+-- The number of a start, 0 if it is accepted, by what it is handed alone.
+unfoldable pub StartsAreRight : Type 0
+StartsAreRight = (n : ℕ) (counts : List ℕ) → startReport (startOutcome n counts .answer) .refused ≡ lowest (startReasons n counts)
+
+-- Demand 3: for every accepted start (n from 1 to 16, block counts from 1 to 65,535), every list of calls from the state that it returned, and every failed
+-- set, the empty one of a sweep too. "A restart after a sweep is owed the same line as after any other call": a sweep is one of the calls. What every answer
+-- is, by the surviving history before it, is in Answers; which checkpoints are kept, by the lists alone, is in Needed. Together they leave nothing in an
+-- answer free.
+unfoldable pub RightOverWholeRuns : Type 0
+RightOverWholeRuns = (n : ℕ) (counts : List ℕ) → startRefusal n counts ≡ none → (calls : List Call) →
+    let s₀ = startOutcome n counts .run in
+    let s = stateAfter s₀ calls in
+    let h = surviving n counts (transcript s₀ calls) in
+    (startOutcome n counts .answer ≡ Started) × (AnswersAreRight n counts (transcript s₀ calls)) × (KeptIsRight n s h) × (BlocksAreRight n s h)
+    × ((F : ℕ) → F < 2 ^ n → LineIsRight n s h F)
+
+-- A state that calls from an accepted start reach.
 unfoldable pub Reachable : Run → Type 0
-Reachable s = (n : ℕ) × (1 ≤ n) × (n ≤ 16) × (calls : List Call) × (s ≡ stateAfter (startOutcome n .run) calls)
+Reachable s = (n : ℕ) × (counts : List ℕ) × (startRefusal n counts ≡ none) × (calls : List Call) × (s ≡ stateAfter (startOutcome n counts .run) calls)
+
+-- Note 5: "a trace run uses 1". A state that calls from an accepted start with these block counts reach. The replay of a trace has no other states.
+unfoldable pub Traced : Run → Type 0
+Traced s = (n : ℕ) × (startRefusal n ones ≡ none) × (calls : List Call) × (s ≡ stateAfter (startOutcome n ones .run) calls)
+
+-- No record of a trace meets 16: whatever bytes stand before it, up to record 1,000,000,000, the last that the program reads.
+unfoldable pub TraceMeetsNoBound : Type 0
+TraceMeetsNoBound = (n : ℕ) → startRefusal n ones ≡ none → (bytes : List ℕ) → length bytes < 4 * mostRecords → (next : Option Event)
+    → perform (stateAfterRecords (startState n ones) bytes) next .reply .report .refused ≡ 16 → ⊥
 
 -- Demand 3 as a line or recover call says it of the state s that it is handed: whatever calls from an accepted start led to s, the line for the
 -- failed set F and the checkpoints that are kept are right, judged by the surviving history of those calls.
 unfoldable pub LinePromise : Run → ℕ → Type 0
-LinePromise s F = (n : ℕ) → 1 ≤ n → n ≤ 16 → (calls : List Call) → s ≡ stateAfter (startOutcome n .run) calls → F < 2 ^ n →
-    let h = surviving n (transcript (startOutcome n .run) calls) in
+LinePromise s F = (n : ℕ) (counts : List ℕ) → startRefusal n counts ≡ none → (calls : List Call) → s ≡ stateAfter (startOutcome n counts .run) calls → F < 2 ^ n →
+    let h = surviving n counts (transcript (startOutcome n counts .run) calls) in
     (LineIsRight n s h F) × (KeptIsRight n s h)
 
--- Demand 3 as a call c on the state s says it of the state t that it returns: whatever calls from an accepted start led to s, what t keeps is right,
--- judged by the surviving history of those calls and of this one behind them, refused or accepted.
+-- Demand 3 as a call c on the state s says it of the state t that it returns: whatever calls from an accepted start led to s, what t keeps and its blocks
+-- are right, judged by the surviving history of those calls and of this one behind them, refused or accepted.
 unfoldable pub StatePromise : Run → Call → Run → Type 0
-StatePromise s c t = (n : ℕ) → 1 ≤ n → n ≤ 16 → (calls : List Call) → s ≡ stateAfter (startOutcome n .run) calls
-    → KeptIsRight n t (surviving n (transcript (startOutcome n .run) (calls ++ (c ∷ []))))
+StatePromise s c t = (n : ℕ) (counts : List ℕ) → startRefusal n counts ≡ none → (calls : List Call) → s ≡ stateAfter (startOutcome n counts .run) calls →
+    let h = surviving n counts (transcript (startOutcome n counts .run) (calls ++ (c ∷ []))) in
+    (KeptIsRight n t h) × (BlocksAreRight n t h)

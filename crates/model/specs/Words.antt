@@ -1,8 +1,8 @@
 -- Document 01, "What the library covers" and "Words": limits, vectors, pins, kept checkpoints, the part of a state that is one process's.
 -- Assumes nothing.
 use mathlib.Core.Bool.{Bool, false}
-use mathlib.Core.List.{List, []}
-use Prim.Native.Nat.{ℕ, _-_}
+use mathlib.Core.List.{List, [], _∷_}
+use Prim.Native.Nat.{ℕ, _+_, _-_}
 use lib.Dec.{eqb, ltb}
 use lib.ListN.{length, getD, set, take, replicate}
 use Rattle.laws.specs.Bits.{bit}
@@ -14,6 +14,7 @@ use Rattle.model.specs.declared.Pin.{Pin}
 use Rattle.model.specs.declared.Pin.the-variants.{Nothing, At}
 use Rattle.model.specs.declared.Checkpoint.{Checkpoint}
 use Rattle.model.specs.declared.Message.{Message}
+use Rattle.model.specs.declared.Disk.{Disk}
 use Rattle.model.specs.declared.Run.{Run}
 
 -- "A run has n processes, 1 to 16, numbered from 0."
@@ -31,6 +32,27 @@ mostMessages = 1_000_000
 -- "Vector entries are 0 to 65,535."
 abbrev pub mostInterval : ℕ
 mostInterval = 65_535
+
+-- Note 5: "its cause (0 initial, 1 basic, 2 forced)".
+abbrev pub initial : ℕ
+initial = 0
+
+abbrev pub basic : ℕ
+basic = 1
+
+abbrev pub forced : ℕ
+forced = 2
+
+-- Note 5: "block counts from 1 to 65,535"; "16 .. for a stored checkpoint that would take written past 1,000,000,000,000,000".
+abbrev pub mostBlockCount : ℕ
+mostBlockCount = 65_535
+
+abbrev pub mostBlocks : ℕ
+mostBlocks = 1_000_000_000_000_000
+
+-- Note 5: "a trace run uses 1": the block counts of its start.
+abbrev pub ones : List ℕ
+ones = replicate places 1
 
 -- "Entry f of i's vector is the last interval of f that i knows, 0 if none"
 abbrev pub entry : List Interval → ℕ → Interval
@@ -68,9 +90,14 @@ pub record Process : Type 0 where
   pub mark : Bool
   pub kept : List Checkpoint
 
--- The live state of process i as a checkpoint.
+-- The live state of process i as a checkpoint, where a line may name it. It is not stored, so it has no cause and no blocks: both are 0.
 unfoldable pub live : ℕ → Process → Checkpoint
-live i P = record { index = liveIndex (entry (P .vector) i); vector = P .vector }
+live i P = record { index = liveIndex (entry (P .vector) i); vector = P .vector; cause = 0; blocks = 0 }
+
+-- The blocks of a list of checkpoints.
+unfoldable pub blocksOf : List Checkpoint → ℕ
+blocksOf [] = 0
+blocksOf (c ∷ l) = c .blocks + blocksOf l
 
 -- Unused places: "Unused places hold zero; unused pins .. are none."
 abbrev pub zeroVector : List Interval
@@ -80,11 +107,15 @@ abbrev pub noPins : List Pin
 noPins = replicate places Nothing
 
 abbrev pub noCheckpoint : Checkpoint
-noCheckpoint = record { index = record { 0 = 0 }; vector = zeroVector }
+noCheckpoint = record { index = record { 0 = 0 }; vector = zeroVector; cause = 0; blocks = 0 }
+
+-- Note 5: "its process's block count": it stands in the checkpoints alone, "equal within a process", and a process always keeps one. So the first has it.
+unfoldable pub blockCount : Process → ℕ
+blockCount P = getD (P .kept) 0 noCheckpoint .blocks
 
 -- What a read past the end of a list of checkpoints gives, in the declared types: no rule of document 01 speaks of it.
 abbrev pub pastEnd : Checkpoint
-pastEnd = record { index = record { 0 = 0 }; vector = [] }
+pastEnd = record { index = record { 0 = 0 }; vector = []; cause = 0; blocks = 0 }
 
 abbrev pub noMessage : Message
 noMessage = record { number = 0; sender = 0; receiver = 0; vector = zeroVector }
@@ -101,6 +132,7 @@ blank n = record {
   messages = replicate mostUnderWay noMessage;
   underway = 0;
   last = 0;
+  disk = record { written = 0; deleted = 0 };
 }
 
 -- The part of a state that is process p's.
@@ -124,6 +156,7 @@ withProcess s p P = record {
   messages = s .messages;
   underway = s .underway;
   last = s .last;
+  disk = s .disk;
 }
 
 -- p's current interval: "its own entry is its current interval".
@@ -146,6 +179,22 @@ withMessages s messages last = record {
   messages = placed mostUnderWay noMessage messages;
   underway = length messages;
   last = last;
+  disk = s .disk;
+}
+
+-- The state with other blocks written and blocks deleted.
+unfoldable pub withDisk : Run → Disk → Run
+withDisk s disk = record {
+  count = s .count;
+  vectors = s .vectors;
+  pins = s .pins;
+  sent = s .sent;
+  kept = s .kept;
+  held = s .held;
+  messages = s .messages;
+  underway = s .underway;
+  last = s .last;
+  disk = disk;
 }
 
 -- A set of processes, or of a vector's entries, is a number: "bit p, worth 2 to the power p, stands for process p".

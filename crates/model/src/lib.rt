@@ -12,10 +12,13 @@ pub enum Pin {
     At(CheckpointIndex),
 }
 
-// A stored checkpoint: its index and the dependency vector that it was stored with.
+// A stored checkpoint: its index, the dependency vector that it was stored with, its cause and its process's block count (Note 5).
 pub struct Checkpoint {
     pub index: CheckpointIndex,
     pub vector: [Interval; 16],
+    // 0 initial, 1 basic, 2 forced
+    pub cause: u8,
+    pub blocks: u16,
 }
 
 // A message under way (document 01's word for in transit: sent, and neither received nor lost) with the vector that it carries.
@@ -33,6 +36,12 @@ pub struct Pins(pub [[Pin; 16]; 16]);
 
 // Row p: the checkpoints that process p keeps, ascending.
 pub struct Kept(pub [[Checkpoint; 16]; 16]);
+
+// "The state also carries blocks written and blocks deleted." (Note 5)
+pub struct Disk {
+    pub written: u64,
+    pub deleted: u64,
+}
 
 // The state of a run. Unused places hold zero, unused pins nothing.
 pub struct Run {
@@ -53,9 +62,10 @@ pub struct Run {
     pub underway: usize,
     // the last message number used
     pub last: u32,
+    pub disk: Disk,
 }
 
-// Why a call or a record is refused. specs/Refusals gives each its number, 1 to 14, in this order; 6 is free since Note 4.
+// Why a call or a record is refused. specs/Refusals gives each its number, 1 to 16, in this order; 6 is free since Note 4.
 pub enum Refusal {
     CountOutsideRange,
     UnsoundState,
@@ -70,6 +80,8 @@ pub enum Refusal {
     NoFirstByte,
     LeftOverBytes,
     MalformedRecord,
+    BlockCountOutsideRange,
+    BlocksUsed,
 }
 
 pub enum StartAnswer {

@@ -13,13 +13,12 @@ use Rattle.model.specs.declared.Refusal.{Refusal}
 use Rattle.model.specs.declared.Refusal.the-variants.{LeftOverBytes}
 use Rattle.model.specs.declared.StartAnswer.{StartAnswer}
 use Rattle.model.specs.declared.StartAnswer.the-variants as start-answer
-use Rattle.model.specs.Words.{blank}
+use Rattle.model.specs.Words.{ones, blank}
 use Rattle.model.specs.Refusals.{startRefusal}
 use Rattle.model.specs.Outcomes.{startOutcome}
 use Rattle.model.specs.Listing.{refusalText, mostRecords, records, started, listing}
-use Rattle.model.proofs.WholeRuns.{reachable-start}
 use Rattle.model.proofs.Blocks.{past-limit}
-use Rattle.model.proofs.simulation.Accepted.{start-out}
+use Rattle.model.proofs.Traced.{traced-start}
 use Rattle.listing.specs.Printed.{Printed}
 use Rattle.listing.proofs.Texts.{nothing}
 use Rattle.output.specs.Ends.{Starts, Refused}
@@ -53,31 +52,31 @@ started-not-refused w e = absurd (let z : _≡_ {A = ℕ} 0 1 = cc in omega arit
 refusal-same : (w x : Refusal) → start-answer.Refused w ≡ start-answer.Refused x → w ≡ x
 refusal-same w x e = cc
 
-start-refuses : (n : ℕ) (w : Refusal) → start-answer.Refused w ≡ startOutcome n .answer → (all : Bool) (l : List ℕ) → listing all (n ∷ l) ≡ refusalText 0 w
+start-refuses : (n : ℕ) (w : Refusal) → start-answer.Refused w ≡ startOutcome n ones .answer → (all : Bool) (l : List ℕ) → listing all (n ∷ l) ≡ refusalText 0 w
 unfolding startOutcome listing started
-start-refuses n w e all l = by-refusal (startRefusal n)
+start-refuses n w e all l = by-refusal (startRefusal n ones)
     (λ h. started-not-refused w (sym (rw h at e)))
     (λ x h. rw h (ap (refusalText 0) (sym (refusal-same w x (rw h at e)))))
 
-start-blank : (n : ℕ) (w : Refusal) (run : Run) → run ≡ startOutcome n .run → start-answer.Refused w ≡ startOutcome n .answer → run ≡ blank 0
+start-blank : (n : ℕ) (w : Refusal) (run : Run) → run ≡ startOutcome n ones .run → start-answer.Refused w ≡ startOutcome n ones .answer → run ≡ blank 0
 unfolding startOutcome
-start-blank n w run a e = by-refusal (startRefusal n)
+start-blank n w run a e = by-refusal (startRefusal n ones)
     (λ h. started-not-refused w (sym (rw h at e)))
     (λ x h. rw h at a)
 
-pub start-refused : (n : ℕ) (w : Refusal) (run : Run) (out now-out : List ℕ) (written : ℕ) → run ≡ startOutcome n .run → start-answer.Refused w ≡ startOutcome n .answer
+pub start-refused : (n : ℕ) (w : Refusal) (run : Run) (out now-out : List ℕ) (written : ℕ) → run ≡ startOutcome n ones .run → start-answer.Refused w ≡ startOutcome n ones .answer
     → Printed out 0 (refusalText 0 w) now-out written → Refused n run out now-out written
 start-refused n w run out now-out written a e printed = record {
   state = start-blank n w run a e;
   line = λ all l. rw (start-refuses n w e all l) printed;
 }
 
-pub start-starts : (n : ℕ) (run : Run) (out : List ℕ) → run ≡ startOutcome n .run → start-answer.Started ≡ startOutcome n .answer → Starts n run out out 0
+pub start-starts : (n : ℕ) (run : Run) (out : List ℕ) → run ≡ startOutcome n ones .run → start-answer.Started ≡ startOutcome n ones .answer → Starts n run out out 0
 unfolding startOutcome listing started
-start-starts n run out a e = by-refusal (startRefusal n)
+start-starts n run out a e = by-refusal (startRefusal n ones)
     (λ h. record {
       state = rw h at a;
-      reached = rw a (reachable-start n (start-out n h .0) (start-out n h .1));
+      reached = rw a (traced-start n h);
       rest = λ all l. rw (a, h);
       silent = nothing out 0;
     })

@@ -5,17 +5,17 @@ use mathlib.Core.Bool.{Bool, true, false}
 use mathlib.Core.List.{List, [], _∷_}
 use Prim.Native.Nat.{ℕ}
 use Rattle.model.specs.declared.Run.{Run}
-use Rattle.model.specs.Words.{blank}
+use Rattle.model.specs.Words.{ones, blank}
 use Rattle.model.specs.Steps.{startState}
 use Rattle.model.specs.Listing.{records, listing}
-use Rattle.model.specs.WholeRuns.{Reachable}
+use Rattle.model.specs.WholeRuns.{Traced}
 use Rattle.listing.specs.Printed.{Printed}
 
--- A run that starts prints nothing for its first byte; its state is that of the start, reachable, and what the whole trace prints is what its records
--- print from there.
+-- A run that starts prints nothing for its first byte; its state is that of the start with block counts of 1, and what the whole trace prints is what its
+-- records print from there.
 pub record Starts (n : ℕ) (run : Run) (out now-out : List ℕ) (written : ℕ) : Type 0 where
-  pub state : run ≡ startState n
-  pub reached : Reachable run
+  pub state : run ≡ startState n ones
+  pub reached : Traced run
   pub rest : (all : Bool) (l : List ℕ) → listing all (n ∷ l) ≡ records all 0 run l
   pub silent : Printed out 0 [] now-out written
 

@@ -31,6 +31,8 @@ pub fn number_of(r: Refusal) -> u8
         Refusal::NoFirstByte => 12,
         Refusal::LeftOverBytes => 13,
         Refusal::MalformedRecord => 14,
+        Refusal::BlockCountOutsideRange => 15,
+        Refusal::BlocksUsed => 16,
     }
 }
 

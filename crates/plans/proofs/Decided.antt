@@ -3,6 +3,7 @@
 -- Each of these takes s, that it is sound and sized, table, first, tail, m, t and that the look-up is right, then what stands behind its name:
 --   refused-decided i why, checkpoint-decided i lent long, send-decided i j room, deliver-decided lent long, lose-decided i: the plan fulfils the model's outcome;
 --   checkpoint-stores i, checkpoint-sends i, send-numbers i j, send-stores i j, deliver-forces, deliver-rises, deliver-sends r, lose-quiet mark: what an answer says of its plan;
+-- those of a checkpoint and of a delivery also the block count that the plan is given, and that it is the process's;
 --   found-message, found-underway: what the look-up gives where it has found the message.
 -- And of a failed set, with s, that it is sound, F, a line list that is long enough, and for a recovery a deletion list that is:
 --   line-refused why, line-passed, recover-refused why, recover-passed: what the verdict says of the call's refusal.
@@ -19,12 +20,12 @@ use Rattle.laws.specs.Choice.{pick, by-bool}
 use Rattle.laws.specs.Truth.{never-both, or-left, or-in-right}
 use Rattle.model.specs.declared.Message.{Message}
 use Rattle.model.specs.declared.Refusal.{Refusal}
-use Rattle.model.specs.declared.Refusal.the-variants.{UnsoundState, NoSuchProcess, SenderIsReceiver, NoSuchFailedProcess, NotUnderWay, TooManyUnderWay, MessageNumbersUsed, IntervalsUsed}
+use Rattle.model.specs.declared.Refusal.the-variants.{UnsoundState, NoSuchProcess, SenderIsReceiver, NoSuchFailedProcess, NotUnderWay, TooManyUnderWay, MessageNumbersUsed, IntervalsUsed, BlocksUsed}
 use Rattle.model.specs.declared.Run.{Run}
-use Rattle.model.specs.Words.{process, own}
+use Rattle.model.specs.Words.{mostBlocks, blockCount, process, own}
 use Rattle.model.specs.Steps.{checkpointDeletions, found, newer, forces, deliverState, deliverRisen, deliverDeletions, loseState}
 use Rattle.model.specs.Sound.{sound}
-use Rattle.model.specs.Refusals.{firstOf, checkpointRefusal, sendRefusal, forcesPast, deliverRefusal, loseRefusal, noMember, outside, lineRefusal, recoverRefusal}
+use Rattle.model.specs.Refusals.{firstOf, checkpointRefusal, sendRefusal, forcesPast, forcesOver, deliverRefusal, loseRefusal, noMember, outside, lineRefusal, recoverRefusal}
 use Rattle.model.specs.Outcomes.{judged, checkpointOutcome, sendOutcome, message, deliverOutcome, loseOutcome}
 use Rattle.model.specs.laws.Refusals.{refusal-in}
 use Rattle.model.proofs.Risen.{risen-is-exact}
@@ -33,8 +34,8 @@ use Rattle.plans.specs.declared.Lookup.{Lookup}
 use Rattle.plans.specs.declared.Plan.{Plan}
 use Rattle.plans.specs.declared.Verdict.{Verdict}
 use Rattle.plans.specs.declared.Verdict.the-variants.{Accepted, Refused}
-use Rattle.plans.specs.Carried.{vectorAt, ownAt, roseBy, Fulfils}
-use Rattle.plans.specs.Planned.{rowOf, unchanged, storedPlan, checkpointPlan, sentPlan, sendPlan, withoutIt, receiptPlan, deliverPlan, losePlan, recoveryVerdict}
+use Rattle.plans.specs.Carried.{vectorAt, ownAt, countAt, roseBy, Fulfils}
+use Rattle.plans.specs.Planned.{rowOf, unchanged, pastMost, storedPlan, checkpointPlan, sentPlan, sendPlan, withoutIt, receiptPlan, deliverPlan, losePlan, recoveryVerdict}
 use Rattle.plans.specs.Sized.{Sized}
 use Rattle.plans.specs.Tables.{LooksUp}
 use Rattle.plans.proofs.Facts.{row-is}
@@ -65,16 +66,17 @@ module _ (s : Run) (h : sound s ≡ true) (size : Sized s) (table : List Message
   pub refused-decided : (i : ℕ) (why : Refusal) → Fulfils s table first i (unchanged why (getD (s .sent) i false) t) (some why) s []
   refused-decided = refused-plan h size look
 
-  -- A checkpoint of process i,
-  module _ (i : ℕ) where
+  -- A checkpoint of process i with this block count,
+  module _ (i count : ℕ) (counted : i < s .count → count ≡ countAt s i) where
     abbrev pub checkpoint : Plan
-    checkpoint = checkpointPlan i (s .count) (ownAt s (rowOf i)) (getD (s .sent) (rowOf i) false) t
+    checkpoint = checkpointPlan i (s .count) (ownAt s (rowOf i)) (getD (s .sent) (rowOf i) false) count (s .disk .written) t
 
     stored-only : (Q : Plan → Type 0) → ((why : Refusal) → Q (unchanged why (getD (s .sent) (rowOf i) false) t)) → Q (storedPlan t) → Q checkpoint
     unfolding checkpointPlan
     stored-only Q refused stored =
         either-plan Q (leb (s .count) i) _ _ (λ e. refused NoSuchProcess)
-        (λ e. either-plan Q (leb 65535 (ownAt s (rowOf i) .0)) _ _ (λ e. refused IntervalsUsed) (λ e. stored))
+        (λ e. either-plan Q (leb 65535 (ownAt s (rowOf i) .0)) _ _ (λ e. refused IntervalsUsed)
+        (λ e. either-plan Q (pastMost (s .disk .written) count) _ _ (λ e. refused BlocksUsed) (λ e. stored)))
 
     -- an accepted one stores a checkpoint, and none sends
     pub checkpoint-stores : checkpoint .verdict ≡ Accepted → (checkpoint .moves ≡ true) × (checkpoint .stores ≡ true)
@@ -101,7 +103,7 @@ module _ (s : Run) (h : sound s ≡ true) (size : Sized s) (table : List Message
           subst (λ (q : ℕ). DoesCheckpoint q (storedPlan t)) (sym (row-is s h i present)) (rw e (stored-plan h size look i present room))
 
       pub checkpoint-decided : DoesCheckpoint (rowOf i) checkpoint
-      unfolding checkpointPlan checkpointRefusal own process
+      unfolding checkpointPlan checkpointRefusal own process blockCount pastMost
       checkpoint-decided =
           let either = either-plan (DoesCheckpoint (rowOf i)) in
           let enough = le-ltb (length lent) (2 * s .count * s .count) long in
@@ -110,7 +112,11 @@ module _ (s : Run) (h : sound s ≡ true) (size : Sized s) (table : List Message
           let same : leb 65535 (ownAt s i .0) ≡ leb 65535 (ownAt s (rowOf i) .0) = ap (λ (q : ℕ). leb 65535 (ownAt s q .0)) (sym (row-is s h i present)) in
           either (leb 65535 (ownAt s (rowOf i) .0)) _ _
           (λ e. checkpoint-refused IntervalsUsed (refusal-in _ (some IntervalsUsed) (3, (rw h, (enough, (in-run, tt))), same ∙ e, refl)))
-          (λ e. checkpoint-accepted present (leb-false _ _ (same ∙ e)) (refusal-in _ none (rw h, (enough, (in-run, (same ∙ e, tt)))))))
+          (λ e.
+          let over : ltb mostBlocks (s .disk .written + countAt s i) ≡ pastMost (s .disk .written) count = ap (pastMost (s .disk .written)) (sym (counted present)) in
+          either (pastMost (s .disk .written) count) _ _
+          (λ past. checkpoint-refused BlocksUsed (refusal-in _ (some BlocksUsed) (4, (rw h, (enough, (in-run, (same ∙ e, tt)))), over ∙ past, refl)))
+          (λ left. checkpoint-accepted present (leb-false _ _ (same ∙ e)) (refusal-in _ none (rw h, (enough, (in-run, (same ∙ e, (over ∙ left, tt)))))))))
 
   -- A send. Where fewer than 64 messages are under way the table has a place for one more.
   module _ (i j : ℕ) where
@@ -166,105 +172,118 @@ module _ (s : Run) (h : sound s ≡ true) (size : Sized s) (table : List Message
     unfolding unchanged sentPlan
     send-stores = sent-only (λ p. p .stores ≡ false) (λ why. refl) refl
 
-  -- A delivery; the plan is given the rows of the receiver,
+  -- A delivery; the plan is given the rows of the receiver and its block count,
   abbrev pub receiver : ℕ
   receiver = t .message .receiver
 
-  abbrev pub deliver : ℕ → Plan
-  deliver r = deliverPlan (vectorAt s r) (ownAt s r) (getD (s .sent) r false) t
+  module _ (count : ℕ) (counted : t .found ≡ true → count ≡ countAt s receiver) where
+    abbrev pub deliver : ℕ → Plan
+    deliver r = deliverPlan (vectorAt s r) (ownAt s r) (getD (s .sent) r false) count (s .disk .written) t
 
-  -- who is in the run where the message was found.
-  deliver-row : t .found ≡ true → rowOf receiver ≡ receiver
-  deliver-row there = row-is s h receiver (receiver-present h size look there)
+    -- who is in the run where the message was found.
+    deliver-row : t .found ≡ true → rowOf receiver ≡ receiver
+    deliver-row there = row-is s h receiver (receiver-present h size look there)
 
-  -- an accepted one forces a checkpoint exactly if its plan stores one, and none sends
-  pub deliver-forces : deliver (rowOf receiver) .verdict ≡ Accepted
-      → (found s m ≡ some (t .message)) × (rowOf receiver ≡ receiver) × (forces (process s receiver) (t .message .vector) ≡ deliver (rowOf receiver) .stores)
-  unfolding unchanged withoutIt receiptPlan
-  deliver-forces = by-bool (t .found)
-      (λ there.
-      let Says : ℕ → Plan → Type 0 = λ q p. p .verdict ≡ Accepted → (found s m ≡ some (t .message)) × (q ≡ receiver) × (forces (process s receiver) (t .message .vector) ≡ p .stores) in
-      subst (λ (q : ℕ). Says q (deliver q)) (sym (deliver-row there))
-      (deliver-cases _ _ _ t (Says receiver) (λ gone. not-accepted NotUnderWay)
-      (λ e still yes. (found-message there, refl, forces-none h size look there still))
-      (λ e brings late. not-accepted IntervalsUsed)
-      (λ e brings early yes. (found-message there, refl, forces-marked h size look there brings))))
-      (λ gone. rw (deliver-missing _ _ _ t gone) (not-accepted NotUnderWay))
+    -- an accepted one forces a checkpoint exactly if its plan stores one, and none sends
+    pub deliver-forces : deliver (rowOf receiver) .verdict ≡ Accepted
+        → (found s m ≡ some (t .message)) × (rowOf receiver ≡ receiver) × (forces (process s receiver) (t .message .vector) ≡ deliver (rowOf receiver) .stores)
+    unfolding unchanged withoutIt receiptPlan
+    deliver-forces = by-bool (t .found)
+        (λ there.
+        let Says : ℕ → Plan → Type 0 = λ q p. p .verdict ≡ Accepted → (found s m ≡ some (t .message)) × (q ≡ receiver) × (forces (process s receiver) (t .message .vector) ≡ p .stores) in
+        subst (λ (q : ℕ). Says q (deliver q)) (sym (deliver-row there))
+        (deliver-cases _ _ _ _ _ t (Says receiver) (λ gone. not-accepted NotUnderWay)
+        (λ e still yes. (found-message there, refl, forces-none h size look there still))
+        (λ e brings late. not-accepted IntervalsUsed)
+        (λ e brings early over. not-accepted BlocksUsed)
+        (λ e brings early left yes. (found-message there, refl, forces-marked h size look there brings))))
+        (λ gone. rw (deliver-missing _ _ _ _ _ t gone) (not-accepted NotUnderWay))
 
-  -- the entries that rise at an accepted one are those of the row that its plan moves; one that moves none brings nothing new
-  rises-not : t .found ≡ true → newer (vectorAt s receiver) (t .message .vector) ≡ false → deliverRisen s (t .message) ≡ 0
-  unfolding deliverRisen process
-  rises-not there still = rw (forces-none h size look there still) (eqb-true _ 0 (risen-is-exact (vectorAt s receiver) (t .message .vector) .nothing ∙ rw still))
+    -- the entries that rise at an accepted one are those of the row that its plan moves; one that moves none brings nothing new
+    rises-not : t .found ≡ true → newer (vectorAt s receiver) (t .message .vector) ≡ false → deliverRisen s (t .message) ≡ 0
+    unfolding deliverRisen process
+    rises-not there still = rw (forces-none h size look there still) (eqb-true _ 0 (risen-is-exact (vectorAt s receiver) (t .message .vector) .nothing ∙ rw still))
 
-  rises-there : t .found ≡ true → newer (vectorAt s receiver) (t .message .vector) ≡ true
-      → deliverRisen s (t .message) ≡ takenThen (getD (s .sent) receiver false) receiver (vectorAt s receiver) (t .message .vector) .rose
-  unfolding deliverRisen process takenThen vectorFirst
-  rises-there there brings = rw (forces-marked h size look there brings)
+    rises-there : t .found ≡ true → newer (vectorAt s receiver) (t .message .vector) ≡ true
+        → deliverRisen s (t .message) ≡ takenThen (getD (s .sent) receiver false) receiver (vectorAt s receiver) (t .message .vector) .rose
+    unfolding deliverRisen process takenThen vectorFirst
+    rises-there there brings = rw (forces-marked h size look there brings)
 
-  pub deliver-rises : deliver (rowOf receiver) .verdict ≡ Accepted
-      → deliverRisen s (t .message) ≡ pick (deliver (rowOf receiver) .moves) (roseBy s (rowOf receiver) (deliver (rowOf receiver))) 0
-  unfolding unchanged withoutIt receiptPlan
-  deliver-rises = by-bool (t .found)
-      (λ there.
-      let Says : ℕ → Plan → Type 0 = λ q p. p .verdict ≡ Accepted → deliverRisen s (t .message) ≡ pick (p .moves) (roseBy s q p) 0 in
-      subst (λ (q : ℕ). Says q (deliver q)) (sym (deliver-row there))
-      (deliver-cases _ _ _ t (Says receiver) (λ gone. not-accepted NotUnderWay)
-      (λ e still yes. rises-not there still)
-      (λ e brings late. not-accepted IntervalsUsed)
-      (λ e brings early yes. rises-there there brings)))
-      (λ gone. rw (deliver-missing _ _ _ t gone) (not-accepted NotUnderWay))
+    pub deliver-rises : deliver (rowOf receiver) .verdict ≡ Accepted
+        → deliverRisen s (t .message) ≡ pick (deliver (rowOf receiver) .moves) (roseBy s (rowOf receiver) (deliver (rowOf receiver))) 0
+    unfolding unchanged withoutIt receiptPlan
+    deliver-rises = by-bool (t .found)
+        (λ there.
+        let Says : ℕ → Plan → Type 0 = λ q p. p .verdict ≡ Accepted → deliverRisen s (t .message) ≡ pick (p .moves) (roseBy s q p) 0 in
+        subst (λ (q : ℕ). Says q (deliver q)) (sym (deliver-row there))
+        (deliver-cases _ _ _ _ _ t (Says receiver) (λ gone. not-accepted NotUnderWay)
+        (λ e still yes. rises-not there still)
+        (λ e brings late. not-accepted IntervalsUsed)
+        (λ e brings early over. not-accepted BlocksUsed)
+        (λ e brings early left yes. rises-there there brings)))
+        (λ gone. rw (deliver-missing _ _ _ _ _ t gone) (not-accepted NotUnderWay))
 
-  pub deliver-sends : (r : ℕ) → deliver r .sends ≡ false
-  unfolding unchanged withoutIt receiptPlan
-  deliver-sends r = deliver-cases _ _ _ t (λ p. p .sends ≡ false) (λ e. refl) (λ e q. refl) (λ e q g. refl) (λ e q g. refl)
+    pub deliver-sends : (r : ℕ) → deliver r .sends ≡ false
+    unfolding unchanged withoutIt receiptPlan
+    deliver-sends r = deliver-cases _ _ _ _ _ t (λ p. p .sends ≡ false) (λ e. refl) (λ e q. refl) (λ e q g. refl) (λ e q g k. refl) (λ e q g k. refl)
 
-  module _ (lent : List ℕ) (long : 2 * s .count * s .count ≤ length lent) where
-    abbrev pub DoesDeliver : ℕ → Plan → Type 0
-    DoesDeliver r p = Fulfils s table first r p (deliverRefusal s m lent) (deliverOutcome s m lent .run)
-        (judged (deliverRefusal s m lent) (λ why. []) (deliverDeletions s (message s m)))
+    module _ (lent : List ℕ) (long : 2 * s .count * s .count ≤ length lent) where
+      abbrev pub DoesDeliver : ℕ → Plan → Type 0
+      DoesDeliver r p = Fulfils s table first r p (deliverRefusal s m lent) (deliverOutcome s m lent .run)
+          (judged (deliverRefusal s m lent) (λ why. []) (deliverDeletions s (message s m)))
 
-    deliver-refused : (r : ℕ) (why : Refusal) → deliverRefusal s m lent ≡ some why → DoesDeliver r (unchanged why (getD (s .sent) r false) t)
-    unfolding deliverOutcome
-    deliver-refused r why e = rw e (refused-decided r why)
+      deliver-refused : (r : ℕ) (why : Refusal) → deliverRefusal s m lent ≡ some why → DoesDeliver r (unchanged why (getD (s .sent) r false) t)
+      unfolding deliverOutcome
+      deliver-refused r why e = rw e (refused-decided r why)
 
-    enough : ltb (length lent) (2 * s .count * s .count) ≡ false
-    enough = le-ltb (length lent) (2 * s .count * s .count) long
+      enough : ltb (length lent) (2 * s .count * s .count) ≡ false
+      enough = le-ltb (length lent) (2 * s .count * s .count) long
 
-    deliver-gone : t .found ≡ false → deliverRefusal s m lent ≡ some NotUnderWay
-    unfolding deliverRefusal
-    deliver-gone gone = refusal-in _ (some NotUnderWay) (2, (rw h, (enough, tt)), rw (look .nowhere gone), refl)
-
-    -- a message that was found, by whether it forces a checkpoint
-    module _ (there : t .found ≡ true) (forced : Bool) (e : forces (process s receiver) (t .message .vector) ≡ forced) where
-      forces-past : forcesPast s (found s m) ≡ (forced && leb 65535 (ownAt s receiver .0))
-      unfolding forcesPast own process
-      forces-past = rw (found-message there, e)
-
-      deliver-past : (forced && leb 65535 (ownAt s receiver .0)) ≡ true → deliverRefusal s m lent ≡ some IntervalsUsed
+      deliver-gone : t .found ≡ false → deliverRefusal s m lent ≡ some NotUnderWay
       unfolding deliverRefusal
-      deliver-past late = refusal-in _ (some IntervalsUsed) (3, (rw h, (enough, (rw (found-message there), tt))), forces-past ∙ late, refl)
+      deliver-gone gone = refusal-in _ (some NotUnderWay) (2, (rw h, (enough, tt)), rw (look .nowhere gone), refl)
 
-      deliver-fine : (forced && leb 65535 (ownAt s receiver .0)) ≡ false → deliverRefusal s m lent ≡ none
-      unfolding deliverRefusal
-      deliver-fine early = refusal-in _ none (rw h, (enough, (rw (found-message there), (forces-past ∙ early, tt))))
+      -- a message that was found, by whether it forces a checkpoint
+      module _ (there : t .found ≡ true) (forced : Bool) (e : forces (process s receiver) (t .message .vector) ≡ forced) where
+        forces-past : forcesPast s (found s m) ≡ (forced && leb 65535 (ownAt s receiver .0))
+        unfolding forcesPast own process
+        forces-past = rw (found-message there, e)
 
-    deliver-accepted : t .found ≡ true → deliverRefusal s m lent ≡ none → (p : Plan)
-        → Fulfils s table first receiver p none (deliverState s (t .message)) (deliverDeletions s (t .message)) → DoesDeliver receiver p
-    unfolding deliverOutcome
-    deliver-accepted there e p does = rw (e, found-message there) does
+        deliver-past : (forced && leb 65535 (ownAt s receiver .0)) ≡ true → deliverRefusal s m lent ≡ some IntervalsUsed
+        unfolding deliverRefusal
+        deliver-past late = refusal-in _ (some IntervalsUsed) (3, (rw h, (enough, (rw (found-message there), tt))), forces-past ∙ late, refl)
 
-    deliver-there : t .found ≡ true → DoesDeliver receiver (deliver receiver)
-    deliver-there there = deliver-cases _ _ _ t (DoesDeliver receiver) (λ gone. never-both (t .found) there gone)
-        (λ e still. deliver-accepted there (deliver-fine there false (forces-none h size look there still) refl) _
-        (still-plan h size look there still))
-        (λ e brings late. deliver-refused receiver IntervalsUsed (deliver-past there _ (forces-marked h size look there brings) late))
-        (λ e brings early. deliver-accepted there (deliver-fine there _ (forces-marked h size look there brings) early) _
-        (received-plan h size look there brings early))
+        forces-over : forcesOver s (found s m) ≡ (forced && pastMost (s .disk .written) count)
+        unfolding forcesOver process blockCount pastMost
+        forces-over = rw (found-message there, e, counted there)
 
-    pub deliver-decided : DoesDeliver (rowOf receiver) (deliver (rowOf receiver))
-    deliver-decided = by-bool (t .found)
-        (λ there. subst (λ (q : ℕ). DoesDeliver q (deliver q)) (sym (deliver-row there)) (deliver-there there))
-        (λ gone. subst (DoesDeliver (rowOf receiver)) (sym (deliver-missing _ _ _ t gone)) (deliver-refused (rowOf receiver) NotUnderWay (deliver-gone gone)))
+        deliver-over : (forced && leb 65535 (ownAt s receiver .0)) ≡ false → (forced && pastMost (s .disk .written) count) ≡ true → deliverRefusal s m lent ≡ some BlocksUsed
+        unfolding deliverRefusal
+        deliver-over early over =
+            refusal-in _ (some BlocksUsed) (4, (rw h, (enough, (rw (found-message there), (forces-past ∙ early, tt)))), forces-over ∙ over, refl)
+
+        deliver-fine : (forced && leb 65535 (ownAt s receiver .0)) ≡ false → (forced && pastMost (s .disk .written) count) ≡ false → deliverRefusal s m lent ≡ none
+        unfolding deliverRefusal
+        deliver-fine early left = refusal-in _ none (rw h, (enough, (rw (found-message there), (forces-past ∙ early, (forces-over ∙ left, tt)))))
+
+      deliver-accepted : t .found ≡ true → deliverRefusal s m lent ≡ none → (p : Plan)
+          → Fulfils s table first receiver p none (deliverState s (t .message)) (deliverDeletions s (t .message)) → DoesDeliver receiver p
+      unfolding deliverOutcome
+      deliver-accepted there e p does = rw (e, found-message there) does
+
+      deliver-there : t .found ≡ true → DoesDeliver receiver (deliver receiver)
+      deliver-there there = deliver-cases _ _ _ _ _ t (DoesDeliver receiver) (λ gone. never-both (t .found) there gone)
+          (λ e still. deliver-accepted there (deliver-fine there false (forces-none h size look there still) refl refl) _
+          (still-plan h size look there still))
+          (λ e brings late. deliver-refused receiver IntervalsUsed (deliver-past there _ (forces-marked h size look there brings) late))
+          (λ e brings early over. deliver-refused receiver BlocksUsed (deliver-over there _ (forces-marked h size look there brings) early over))
+          (λ e brings early left. deliver-accepted there (deliver-fine there _ (forces-marked h size look there brings) early left) _
+          (received-plan h size look there brings early))
+
+      pub deliver-decided : DoesDeliver (rowOf receiver) (deliver (rowOf receiver))
+      deliver-decided = by-bool (t .found)
+          (λ there. subst (λ (q : ℕ). DoesDeliver q (deliver q)) (sym (deliver-row there)) (deliver-there there))
+          (λ gone. subst (DoesDeliver (rowOf receiver)) (sym (deliver-missing _ _ _ _ _ t gone)) (deliver-refused (rowOf receiver) NotUnderWay (deliver-gone gone)))
 
   -- A loss; i is any process.
   lose-there : t .found ≡ true → loseRefusal s m ≡ none

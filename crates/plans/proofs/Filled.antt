@@ -57,8 +57,15 @@ zero-vector v e n =
 pub zero-checkpoint : (c : Checkpoint) → unusedCheckpoint c ≡ true → length (c .vector) ≡ places → c ≡ noCheckpoint
 unfolding unusedCheckpoint
 zero-checkpoint c e n =
-    let q = and-out (eqb (c .index .0) 0) (zeroFrom 0 (c .vector)) e in
-    λ j. record { index = record { 0 = eqb-true (c .index .0) 0 (q .0) j }; vector = zero-vector (c .vector) (q .1) n j }
+    let d = and-out _ (eqb (c .blocks) 0) e in
+    let b = and-out _ (eqb (c .cause) 0) (d .0) in
+    let q = and-out (eqb (c .index .0) 0) (zeroFrom 0 (c .vector)) (b .0) in
+    λ j. record {
+      index = record { 0 = eqb-true (c .index .0) 0 (q .0) j };
+      vector = zero-vector (c .vector) (q .1) n j;
+      cause = eqb-true (c .cause) 0 (b .1) j;
+      blocks = eqb-true (c .blocks) 0 (d .1) j;
+    }
 
 pub zero-message : (x : Message) → unusedMessage x ≡ true → length (x .vector) ≡ places → x ≡ noMessage
 unfolding unusedMessage

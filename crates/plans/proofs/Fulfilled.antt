@@ -11,13 +11,13 @@ use Rattle.laws.specs.Truth.{never-both}
 use Rattle.model.specs.declared.Message.{Message}
 use Rattle.model.specs.declared.Refusal.{Refusal}
 use Rattle.model.specs.declared.Run.{Run}
-use Rattle.model.specs.Words.{Process, withProcess, underWay, withMessages}
+use Rattle.model.specs.Words.{Process, withProcess, underWay, withMessages, withDisk}
 use Rattle.model.specs.Steps.{Deletion, listed}
 use Rattle.model.specs.Sound.{sound}
 use Rattle.retention.specs.Receipt.{vectorThen, keptThen}
 use Rattle.plans.specs.declared.Lookup.{Lookup}
 use Rattle.plans.specs.declared.Plan.{Plan}
-use Rattle.plans.specs.Carried.{vectorAt, ownAt, liveAt, keptAt, pinsBy, unnamedBy, unmoved, moved, messagesThen, Fulfils}
+use Rattle.plans.specs.Carried.{vectorAt, ownAt, keptAt, storedAt, pinsBy, unnamedBy, diskBy, unmoved, moved, messagesThen, Fulfils}
 use Rattle.plans.specs.Planned.{refusalOf, unchanged}
 use Rattle.plans.specs.Sized.{Sized}
 use Rattle.plans.specs.Tables.{LooksUp}
@@ -31,7 +31,7 @@ partBy s i p = record {
   vector = vectorThen (p .stores) i (vectorAt s i) (p .carried);
   pins = pinsBy s i p;
   mark = p .mark;
-  kept = keptThen (p .stores) (pinsBy s i p) (keptAt s i) (liveAt s i);
+  kept = keptThen (p .stores) (pinsBy s i p) (keptAt s i) (storedAt s i p);
 }
 
 module _ (s : Run) (table : List Message) (first i : ℕ) where
@@ -55,7 +55,7 @@ module _ (s : Run) (table : List Message) (first i : ℕ) where
 
     -- A plan that does: the part of its process is that after the receipt.
     pub moved-plan : (run : Run) (deleted : List Deletion) → p .moves ≡ true → i < s .count → (p .stores ≡ true → ownAt s i .0 < 65535) → run
-        ≡ withMessages (withProcess s i (partBy s i p)) (messagesThen table first p) (p .last)
+        ≡ withDisk (withMessages (withProcess s i (partBy s i p)) (messagesThen table first p) (p .last)) (diskBy s i p)
         → deleted ≡ listed i (unnamedBy s i p) → Fulfils s table first i p (refusalOf (p .verdict)) run deleted
     unfolding moved withMessages withProcess
     moved-plan run deleted moves present room state gone = record {

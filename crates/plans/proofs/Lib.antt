@@ -1,4 +1,5 @@
 -- Laws that belong to no one function.
+pub mod Billing
 pub mod Cases
 pub mod Decided
 pub mod Facts

@@ -13,38 +13,38 @@ use Rattle.model.specs.declared.Interval.{Interval}
 use Rattle.model.specs.declared.Pin.{Pin}
 use Rattle.model.specs.declared.Pin.the-variants.{Nothing, At}
 use Rattle.model.specs.declared.Checkpoint.{Checkpoint}
-use Rattle.model.specs.Words.{named, noCheckpoint, Process, live}
-use Rattle.model.specs.Steps.{listed, settled, deletions, checkpointed, takenIn}
+use Rattle.model.specs.Words.{entry, liveIndex, named, noCheckpoint, Process}
+use Rattle.model.specs.Steps.{settled, gone, storing, checkpointed, takenIn}
 use Rattle.model.specs.Sound.{ascending}
 use Rattle.retention.specs.Receipt.{vectorFirst, pinsFirst, vectorThen, pinsThen, keptThen}
 use Rattle.plans.proofs.Settling.{indexes, room-behind, stays-behind, deleted-before, moved-own, taken-own, taken-length}
 
-module _ (i : ℕ) (carried : List Interval) (P : Process) where
+module _ (cause i : ℕ) (carried : List Interval) (P : Process) where
   abbrev pub received : Bool → Process
-  received stores = takenIn i carried (pick stores (checkpointed i P) P)
+  received stores = takenIn i carried (pick stores (checkpointed cause i P) P)
 
   abbrev pub pinsAfter : Bool → List Pin
-  pinsAfter stores = pinsThen stores i (live i P .index) (P .vector) carried (P .pins)
+  pinsAfter stores = pinsThen stores i (liveIndex (entry (P .vector) i)) (P .vector) carried (P .pins)
 
   module _ (in-row : i < length (P .pins)) (row : i < 16) where
     -- the own pin names the stored checkpoint
-    own-pin : getD (pinsAfter true) i Nothing ≡ At (live i P .index)
+    own-pin : getD (pinsAfter true) i Nothing ≡ At (liveIndex (entry (P .vector) i))
     unfolding pinsThen pinsFirst
-    own-pin = taken-own i (vectorFirst true i (P .vector)) carried (set (P .pins) i (At (live i P .index))) row ∙ moved-own (P .pins) i (live i P .index) in-row
+    own-pin = taken-own i (vectorFirst true i (P .vector)) carried (set (P .pins) i (At (liveIndex (entry (P .vector) i)))) row ∙ moved-own (P .pins) i (liveIndex (entry (P .vector) i)) in-row
 
     there : i < length (pinsAfter true)
     unfolding pinsThen
     there = rw taken-length row
 
     -- and so a place is free for it, whatever is taken in
-    pub receipt-room : ascending 0 (indexes (P .kept)) ≡ true → orElse (lastOf (P .kept)) noCheckpoint .index .0 < live i P .index .0
+    pub receipt-room : ascending 0 (indexes (P .kept)) ≡ true → orElse (lastOf (P .kept)) noCheckpoint .index .0 < liveIndex (entry (P .vector) i) .0
         → length (select (named (pinsAfter true)) (P .kept)) < 16
-    unfolding pinsThen
+    unfolding pinsThen storing
     receipt-room up before =
         omega (
           arith,
-          room-behind (pinsAfter true) i (live i P) there own-pin 0 noCheckpoint (P .kept) up before,
-          taken-length i (vectorFirst true i (P .vector)) carried (pinsFirst true i (live i P .index) (P .pins)),
+          room-behind (pinsAfter true) i (storing cause i P) there own-pin 0 noCheckpoint (P .kept) up before,
+          taken-length i (vectorFirst true i (P .vector)) carried (pinsFirst true i (liveIndex (entry (P .vector) i)) (P .pins)),
         )
 
     -- what is left and what is deleted
@@ -53,15 +53,15 @@ module _ (i : ℕ) (carried : List Interval) (P : Process) where
           vector = vectorThen stores i (P .vector) carried;
           pins = pinsAfter stores;
           mark = pick stores false (P .mark);
-          kept = keptThen stores (pinsAfter stores) (P .kept) (live i P);
+          kept = keptThen stores (pinsAfter stores) (P .kept) (storing cause i P);
         }
-    unfolding settled takenIn checkpointed vectorThen pinsThen keptThen vectorFirst pinsFirst
+    unfolding settled takenIn checkpointed storing vectorThen pinsThen keptThen vectorFirst pinsFirst
     receipt-leaves true =
         ap (λ (l : List Checkpoint). record { vector = vectorThen true i (P .vector) carried; pins = pinsAfter true; mark = false; kept = l })
-        (stays-behind (pinsAfter true) i (live i P) there own-pin (P .kept))
+        (stays-behind (pinsAfter true) i (storing cause i P) there own-pin (P .kept))
     receipt-leaves false = refl
 
-    pub receipt-deletes : (stores : Bool) → deletions i (received stores) ≡ listed i (select (λ c. not (named (pinsAfter stores) c)) (P .kept))
-    unfolding deletions takenIn checkpointed pinsThen vectorFirst pinsFirst
-    receipt-deletes true = ap (listed i) (deleted-before (pinsAfter true) i (live i P) there own-pin (P .kept))
-    receipt-deletes false = refl
+    pub receipt-gone : (stores : Bool) → gone (received stores) ≡ select (λ c. not (named (pinsAfter stores) c)) (P .kept)
+    unfolding gone takenIn checkpointed storing pinsThen vectorFirst pinsFirst
+    receipt-gone true = deleted-before (pinsAfter true) i (storing cause i P) there own-pin (P .kept)
+    receipt-gone false = refl

@@ -1,7 +1,7 @@
 -- The plans of a delivery that is not refused: of one that brings nothing new, and of one that does.
 -- Assumes nothing.
 use mathlib.Core.Path.{_≡_, refl, sym, _∙_, ap}
-use mathlib.Core.Bool.{Bool, true, false, _&&_}
+use mathlib.Core.Bool.{Bool, true, false, _&&_, not}
 use mathlib.Core.List.{List, []}
 use mathlib.Core.Option.{none}
 use Prim.Native.Nat.{ℕ, _<_}
@@ -14,22 +14,23 @@ use Rattle.laws.specs.Rows.{and-true}
 use Rattle.laws.specs.Truth.{and-no-right}
 use Rattle.model.specs.declared.Message.{Message}
 use Rattle.model.specs.declared.Run.{Run}
-use Rattle.model.specs.Words.{Process, process, withProcess, withMessages, live}
-use Rattle.model.specs.Steps.{listed, settled, deletions, checkpointed, newer, forces, takenIn, others, delivered, deliverState, deliverDeletions}
+use Rattle.model.specs.Words.{forced, blocksOf, blockCount, named, Process, process, withProcess, withMessages, withDisk}
+use Rattle.model.specs.Steps.{listed, settled, gone, deletions, billed, storing, checkpointed, newer, forces, takenIn, others, delivered, deliverState, deliverDeletions}
 use Rattle.model.specs.Sound.{sound}
 use Rattle.plans.specs.declared.Lookup.{Lookup}
 use Rattle.plans.specs.declared.Plan.{Plan}
-use Rattle.plans.specs.Carried.{vectorAt, ownAt, unnamedBy, messagesThen, Fulfils}
+use Rattle.plans.specs.Carried.{vectorAt, ownAt, pinsBy, unnamedBy, diskBy, messagesThen, Fulfils}
 use Rattle.plans.specs.Planned.{refusalOf, withoutIt, receiptPlan}
 use Rattle.plans.specs.Sized.{Sized}
 use Rattle.plans.specs.Tables.{LooksUp}
+use Rattle.plans.proofs.Billing.{blocks-of-some, billed-none}
 use Rattle.plans.proofs.Facts.{place}
 use Rattle.plans.proofs.Fulfilled.{partBy, moved-plan}
 use Rattle.plans.proofs.Looked.{receiver-present, taken-out, one-out}
 use Rattle.plans.proofs.Parts.{part-back}
-use Rattle.plans.proofs.Receipts.{received, receipt-leaves, receipt-deletes}
+use Rattle.plans.proofs.Receipts.{received, receipt-leaves, receipt-gone}
 use Rattle.plans.proofs.Removing.{without-plan}
-use Rattle.plans.proofs.Still.{none-newer, taken-still, settled-still, deleted-still}
+use Rattle.plans.proofs.Still.{none-newer, taken-still, settled-still, gone-still}
 
 -- A forced checkpoint clears the mark, and one that is not set is clear.
 clear : (b : Bool) → pick b false b ≡ false
@@ -62,20 +63,31 @@ module _ {s : Run} (h : sound s ≡ true) (size : Sized s) {table : List Message
     delivered-still : delivered i (x .vector) (process s i) ≡ process s i
     unfolding delivered process
     delivered-still =
-        ap (λ (b : Bool). takenIn i (x .vector) (pick b (checkpointed i (process s i)) (process s i))) forces-none
+        ap (λ (b : Bool). takenIn i (x .vector) (pick b (checkpointed forced i (process s i)) (process s i))) forces-none
         ∙ taken-still i (x .vector) (process s i) (size .vector-row i (place s h i present)) (size .pin-row i (place s h i present))
         (none-newer (vectorAt s i) (x .vector) still)
 
+    gone-none : gone (delivered i (x .vector) (process s i)) ≡ []
+    gone-none = ap gone delivered-still ∙ gone-still s h i present
+
+    still-disk : billed (s .disk) (pick (forces (process s i) (x .vector)) (blockCount (process s i)) 0) (blocksOf (gone (delivered i (x .vector) (process s i)))) ≡ s .disk
+    unfolding blocksOf
+    still-disk =
+        (λ j. billed (s .disk) (pick (forces-none j) (blockCount (process s i)) 0) (blocksOf (gone-none j)))
+        ∙ billed-none (s .disk)
+
     still-state : deliverState s x ≡ withMessages s (others s m) (s .last)
-    unfolding deliverState
+    unfolding deliverState withDisk withMessages
     still-state =
-        ap (λ (P : Process). withMessages (withProcess s i (settled P)) (others s (x .number)) (s .last)) delivered-still
+        ap (withDisk (withMessages (withProcess s i (settled (delivered i (x .vector) (process s i)))) (others s (x .number)) (s .last))) still-disk
+        ∙ ap (λ (r : Run). withDisk r (s .disk))
+        (ap (λ (P : Process). withMessages (withProcess s i (settled P)) (others s (x .number)) (s .last)) delivered-still
         ∙ ap (λ (P : Process). withMessages (withProcess s i P) (others s (x .number)) (s .last)) (settled-still s h i present)
-        ∙ (λ j. withMessages (part-back s h size i present j) (same-number j) (s .last))
+        ∙ (λ j. withMessages (part-back s h size i present j) (same-number j) (s .last)))
 
     still-deletes : deliverDeletions s x ≡ []
-    unfolding deliverDeletions
-    still-deletes = ap (deletions i) delivered-still ∙ deleted-still s h i present
+    unfolding deliverDeletions deletions listed
+    still-deletes = ap (listed i) gone-none
 
     pub still-plan : Fulfils s table first i (withoutIt mark t) none (deliverState s x) (deliverDeletions s x)
     still-plan = rw still-deletes (without-plan h size look i there (deliverState s x) still-state)
@@ -97,24 +109,32 @@ module _ {s : Run} (h : sound s ≡ true) (size : Sized s) {table : List Message
     unfolding receiptPlan
     left = taken-out h size look there
 
-    received-is : delivered i (x .vector) (process s i) ≡ received i (x .vector) (process s i) mark
+    received-is : delivered i (x .vector) (process s i) ≡ received forced i (x .vector) (process s i) mark
     unfolding delivered
-    received-is = ap (received i (x .vector) (process s i)) forces-marked
+    received-is = ap (received forced i (x .vector) (process s i)) forces-marked
 
     part : settled (delivered i (x .vector) (process s i)) ≡ partBy s i plan
-    unfolding receiptPlan process live
+    unfolding receiptPlan process storing blockCount
     part =
         ap settled received-is
-        ∙ receipt-leaves i (x .vector) (process s i) in-row (place s h i present) mark
+        ∙ receipt-leaves forced i (x .vector) (process s i) in-row (place s h i present) mark
         ∙ ap (λ (b : Bool). record { vector = partBy s i plan .vector; pins = partBy s i plan .pins; mark = b; kept = partBy s i plan .kept }) (clear mark)
 
-    state : deliverState s x ≡ withMessages (withProcess s i (partBy s i plan)) (messagesThen table first plan) (t .last)
+    gone-is : gone (delivered i (x .vector) (process s i)) ≡ unnamedBy s i plan
+    unfolding receiptPlan process
+    gone-is = ap gone received-is ∙ receipt-gone forced i (x .vector) (process s i) in-row (place s h i present) mark
+
+    disk : billed (s .disk) (pick (forces (process s i) (x .vector)) (blockCount (process s i)) 0) (blocksOf (gone (delivered i (x .vector) (process s i)))) ≡ diskBy s i plan
+    unfolding receiptPlan process blockCount
+    disk = λ j. billed (s .disk) (pick (forces-marked j) (blockCount (process s i)) 0) ((ap blocksOf gone-is ∙ blocks-of-some s h i present (λ c. not (named (pinsBy s i plan) c))) j)
+
+    state : deliverState s x ≡ withDisk (withMessages (withProcess s i (partBy s i plan)) (messagesThen table first plan) (t .last)) (diskBy s i plan)
     unfolding deliverState
-    state = λ j. withMessages (withProcess s i (part j)) ((same-number ∙ sym left) j) (sym (look .used) j)
+    state = λ j. withDisk (withMessages (withProcess s i (part j)) ((same-number ∙ sym left) j) (sym (look .used) j)) (disk j)
 
     deleted : deliverDeletions s x ≡ listed i (unnamedBy s i plan)
-    unfolding deliverDeletions receiptPlan process live
-    deleted = ap (deletions i) received-is ∙ receipt-deletes i (x .vector) (process s i) in-row (place s h i present) mark
+    unfolding deliverDeletions deletions
+    deleted = ap (listed i) gone-is
 
     pub received-plan : (mark && leb 65535 (ownAt s i .0)) ≡ false → Fulfils s table first i plan none (deliverState s x) (deliverDeletions s x)
     unfolding receiptPlan refusalOf

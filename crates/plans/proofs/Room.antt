@@ -21,4 +21,4 @@ pub stored-room : (s : Run) → sound s ≡ true → Sized s → (i : ℕ) → i
 unfolding process live own
 stored-room s h size i present p stores =
     let row = place s h i present in
-    rw stores (receipt-room i (p .carried) (process s i) (omega (arith, size .pin-row i row)) row (sound-state s h .processes i present .kept-ascend) (kept-before s h i present))
+    rw stores (receipt-room (p .cause) i (p .carried) (process s i) (omega (arith, size .pin-row i row)) row (sound-state s h .processes i present .kept-ascend) (kept-before s h i present))

@@ -18,7 +18,7 @@ use Rattle.model.specs.declared.Pin.the-variants.{Nothing}
 use Rattle.model.specs.declared.Checkpoint.{Checkpoint}
 use Rattle.model.specs.declared.Run.{Run}
 use Rattle.model.specs.Words.{entry, below, named, Process, zeroVector, process}
-use Rattle.model.specs.Steps.{settled, deletions, listed, newer, takenEntry, takenVector, takenPin, takenPins, takenIn}
+use Rattle.model.specs.Steps.{settled, gone, newer, takenEntry, takenVector, takenPin, takenPins, takenIn}
 use Rattle.model.specs.Sound.{sound}
 use Rattle.model.specs.laws.Sound.{sound-state}
 
@@ -67,6 +67,6 @@ module _ (s : Run) (h : sound s ≡ true) (i : ℕ) (lt : i < s .count) where
   settled-still = ap (λ (l : List Checkpoint). record { vector = process s i .vector; pins = process s i .pins; mark = process s i .mark; kept = l })
       (all-chosen (named (process s i .pins)) (process s i .kept) kept-named)
 
-  pub deleted-still : deletions i (process s i) ≡ []
-  unfolding deletions listed
-  deleted-still = ap (listed i) (none-chosen (named (process s i .pins)) (process s i .kept) kept-named)
+  pub gone-still : gone (process s i) ≡ []
+  unfolding gone
+  gone-still = none-chosen (named (process s i .pins)) (process s i .kept) kept-named

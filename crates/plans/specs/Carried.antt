@@ -5,17 +5,19 @@ use mathlib.Core.Path.{_≡_}
 use mathlib.Core.Bool.{Bool, true, false, not}
 use mathlib.Core.List.{List, []}
 use mathlib.Core.Option.{Option}
-use Prim.Native.Nat.{ℕ, _≤_, _<_}
+use Prim.Native.Nat.{ℕ, _*_, _≤_, _<_}
 use lib.ListN.{length, getD, set, take}
+use Rattle.laws.specs.Choice.{pick}
 use Rattle.laws.specs.Lists.{select, placed}
 use Rattle.model.specs.declared.Interval.{Interval}
 use Rattle.model.specs.declared.Pin.{Pin}
 use Rattle.model.specs.declared.Checkpoint.{Checkpoint}
 use Rattle.model.specs.declared.Message.{Message}
+use Rattle.model.specs.declared.Disk.{Disk}
 use Rattle.model.specs.declared.Refusal.{Refusal}
 use Rattle.model.specs.declared.Run.{Run}
-use Rattle.model.specs.Words.{mostUnderWay, entry, liveIndex, named, noMessage}
-use Rattle.model.specs.Steps.{Deletion, listed}
+use Rattle.model.specs.Words.{mostUnderWay, entry, liveIndex, named, noCheckpoint, noMessage, withDisk}
+use Rattle.model.specs.Steps.{Deletion, listed, billed}
 use Rattle.retention.specs.declared.kept.KeptRow.{KeptRow}
 use Rattle.retention.specs.Kept.{keptRow}
 use Rattle.retention.specs.Receipt.{takenThen, vectorThen, pinsThen, keptThen}
@@ -31,20 +33,29 @@ module _ (s : Run) (i : ℕ) where
   abbrev pub ownAt : Interval
   ownAt = entry vectorAt i
 
-  abbrev pub liveAt : Checkpoint
-  liveAt = record { index = liveIndex ownAt; vector = vectorAt }
-
   abbrev pub keptAt : List Checkpoint
   keptAt = take (getD (s .held) i 0) (getD (s .kept .0) i [])
+
+  -- its block count: that of the first that it keeps
+  abbrev pub countAt : ℕ
+  countAt = getD keptAt 0 noCheckpoint .blocks
+
+  -- the checkpoint that is stored, if one is
+  abbrev pub storedAt : Plan → Checkpoint
+  storedAt p = record { index = liveIndex ownAt; vector = vectorAt; cause = p .cause; blocks = countAt }
 
   abbrev pub pinsBy : Plan → List Pin
   pinsBy p = pinsThen (p .stores) i (liveIndex ownAt) vectorAt (p .carried) (getD (s .pins .0) i [])
 
   abbrev pub keptBy : Plan → KeptRow
-  keptBy p = keptRow (keptThen (p .stores) (pinsBy p) keptAt liveAt)
+  keptBy p = keptRow (keptThen (p .stores) (pinsBy p) keptAt (storedAt p))
 
   abbrev pub unnamedBy : Plan → List Checkpoint
   unnamedBy p = select (λ c. not (named (pinsBy p) c)) keptAt
+
+  -- the blocks written and deleted then: all checkpoints of a process have the same count
+  abbrev pub diskBy : Plan → Disk
+  diskBy p = billed (s .disk) (pick (p .stores) countAt 0) (length (unnamedBy p) * countAt)
 
   -- the entries of its vector that rise
   abbrev pub roseBy : Plan → ℕ
@@ -62,6 +73,7 @@ withParts s vectors pins sent kept held messages underway last = record {
   messages = messages;
   underway = underway;
   last = last;
+  disk = s .disk;
 }
 
 -- The state with these rows for all processes, after a plan for process i; these messages are then under way.
@@ -74,8 +86,10 @@ unfoldable pub unmoved : Run → ℕ → Plan → List Message → Run
 unmoved s i p messages = withPlan s i p messages (s .vectors .0) (s .pins .0) (s .kept .0) (s .held)
 
 unfoldable pub moved : Run → ℕ → Plan → List Message → Run
-moved s i p messages = withPlan s i p messages (set (s .vectors .0) i (vectorThen (p .stores) i (vectorAt s i) (p .carried))) (set (s .pins .0) i (pinsBy s i p))
-    (set (s .kept .0) i (keptBy s i p .row)) (set (s .held) i (keptBy s i p .held))
+moved s i p messages = withDisk
+    (withPlan s i p messages (set (s .vectors .0) i (vectorThen (p .stores) i (vectorAt s i) (p .carried))) (set (s .pins .0) i (pinsBy s i p))
+    (set (s .kept .0) i (keptBy s i p .row)) (set (s .held) i (keptBy s i p .held)))
+    (diskBy s i p)
 
 -- The messages that are under way after a plan, where those before it stand in a table from place `first` on.
 abbrev pub messagesThen : List Message → ℕ → Plan → List Message

@@ -9,8 +9,8 @@ use lib.Dec.{eqb, ltb, leb}
 use Rattle.laws.specs.Choice.{pick}
 use Rattle.model.specs.declared.Interval.{Interval}
 use Rattle.model.specs.declared.Refusal.{Refusal}
-use Rattle.model.specs.declared.Refusal.the-variants.{NoSuchProcess, SenderIsReceiver, NoSuchFailedProcess, NotUnderWay, TooManyUnderWay, MessageNumbersUsed, IntervalsUsed}
-use Rattle.model.specs.Words.{zeroVector, noMessage}
+use Rattle.model.specs.declared.Refusal.the-variants.{NoSuchProcess, SenderIsReceiver, NoSuchFailedProcess, NotUnderWay, TooManyUnderWay, MessageNumbersUsed, IntervalsUsed, BlocksUsed}
+use Rattle.model.specs.Words.{initial, basic, forced, mostBlocks, zeroVector, noMessage}
 use Rattle.model.specs.Steps.{newer}
 use Rattle.plans.specs.declared.Lookup.{Lookup}
 use Rattle.plans.specs.declared.Plan.{Plan}
@@ -27,7 +27,7 @@ unfoldable pub refusalOf : Verdict → Option Refusal
 refusalOf Accepted = none
 refusalOf (Refused why) = some why
 
--- A refusal changes nothing.
+-- A refusal changes nothing. `cause` says why a checkpoint is stored, where one is.
 unfoldable pub unchanged : Refusal → Bool → Lookup → Plan
 unchanged why mark t = record {
   verdict = Refused why;
@@ -41,6 +41,7 @@ unchanged why mark t = record {
   underway = t .underway;
   last = t .last;
   tail = t .tail;
+  cause = initial;
 }
 
 -- A checkpoint is stored as by a receipt that carries nothing new.
@@ -57,13 +58,19 @@ storedPlan t = record {
   underway = t .underway;
   last = t .last;
   tail = t .tail;
+  cause = basic;
 }
 
-unfoldable pub checkpointPlan : ℕ → ℕ → Interval → Bool → Lookup → Plan
-checkpointPlan i n ownEntry mark t =
+-- One more checkpoint of so many blocks would take the blocks written past the bound.
+unfoldable pub pastMost : ℕ → ℕ → Bool
+pastMost written blocks = ltb mostBlocks (written + blocks)
+
+unfoldable pub checkpointPlan : ℕ → ℕ → Interval → Bool → ℕ → ℕ → Lookup → Plan
+checkpointPlan i n ownEntry mark blocks written t =
     pick (leb n i) (unchanged NoSuchProcess mark t)
     (pick (leb 65535 (ownEntry .0)) (unchanged IntervalsUsed mark t)
-    (storedPlan t))
+    (pick (pastMost written blocks) (unchanged BlocksUsed mark t)
+    (storedPlan t)))
 
 -- A message goes into the first place behind those in use.
 unfoldable pub sentPlan : ℕ → ℕ → List Interval → Lookup → Plan
@@ -79,6 +86,7 @@ sentPlan i j vector t = record {
   underway = t .underway + 1;
   last = t .last + 1;
   tail = t .tail + 1;
+  cause = initial;
 }
 
 unfoldable pub sendPlan : ℕ → ℕ → ℕ → List Interval → Bool → Lookup → Plan
@@ -104,6 +112,7 @@ withoutIt mark t = record {
   underway = t .underway - 1;
   last = t .last;
   tail = t .tail;
+  cause = initial;
 }
 
 -- The same, and its receiver takes something new in; one that has sent stores a checkpoint first.
@@ -120,13 +129,15 @@ receiptPlan mark t = record {
   underway = t .underway - 1;
   last = t .last;
   tail = t .tail;
+  cause = forced;
 }
 
-unfoldable pub deliverPlan : List Interval → Interval → Bool → Lookup → Plan
-deliverPlan vector ownEntry mark t =
+unfoldable pub deliverPlan : List Interval → Interval → Bool → ℕ → ℕ → Lookup → Plan
+deliverPlan vector ownEntry mark blocks written t =
     pick (t .found)
     (pick (newer vector (t .message .vector))
-    (pick (mark && leb 65535 (ownEntry .0)) (unchanged IntervalsUsed mark t) (receiptPlan mark t))
+    (pick (mark && leb 65535 (ownEntry .0)) (unchanged IntervalsUsed mark t)
+    (pick (mark && pastMost written blocks) (unchanged BlocksUsed mark t) (receiptPlan mark t)))
     (withoutIt mark t))
     (unchanged NotUnderWay mark t)
 

@@ -10,7 +10,7 @@ ghost use Prim.Native.Nat.{_≤_};
 ghost use lib.Dec.{leb};
 ghost use Prim.Native.Nat.{_^_};
 ghost use Rattle.model.specs.Words.{noMessage};
-ghost use Rattle.plans.specs.Planned.{rowOf, unchanged, checkpointPlan, sendPlan, withoutIt, receiptPlan, deliverPlan, losePlan, recoveryVerdict, recoveryIf};
+ghost use Rattle.plans.specs.Planned.{rowOf, unchanged, pastMost, checkpointPlan, sendPlan, withoutIt, receiptPlan, deliverPlan, losePlan, recoveryVerdict, recoveryIf};
 
 pub enum Verdict {
     Accepted,
@@ -30,7 +30,7 @@ pub struct Lookup {
 
 // What a call changes; a refused one changes nothing. Of its process: the sent mark and, if `moves`, the vector, the pins and the kept checkpoints, as by a
 // receipt of `carried` that stores a checkpoint first if `stores`. Of the table of messages: `message` goes to `place`. Then `underway` messages are under way,
-// the used ones before place `tail`, and `last` is the last number used; `sends` says that it was used by this call.
+// the used ones before place `tail`, and `last` is the last number used; `sends` says that it was used by this call. `cause` is why a checkpoint is stored.
 pub struct Plan {
     pub verdict: Verdict,
     pub moves: bool,
@@ -43,6 +43,7 @@ pub struct Plan {
     pub underway: usize,
     pub last: u32,
     pub tail: usize,
+    pub cause: u8,
 }
 
 // The recovery that is carried out for a failed set, and whether there is one at all. That nobody failed is a set as any other: it asks for a sweep.
@@ -91,18 +92,39 @@ pub fn unchanged(why: Refusal, mark: bool, t: Lookup) -> Plan
         underway: t.underway,
         last: t.last,
         tail: t.tail,
+        cause: 0,
     }
 }
 
-// Process i of n takes a checkpoint; `own` is its own entry. It is stored as by a receipt that carries nothing new.
-pub fn checkpoint_plan(i: usize, n: usize, own: Interval, mark: bool, t: Lookup) -> Plan
-    ensures { λ r. ⌜ r ≡ checkpointPlan i n own mark t ⌝ }
+// One more checkpoint of `blocks` blocks would take the blocks written past the bound. The difference is tested: no sum of a free number is made.
+fn is_past_bound(written: u64, blocks: u16) -> bool
+    ensures { λ r. ⌜ r ≡ pastMost written blocks ⌝ }
+{
+    1000000000000000 - (blocks as u64) < written
+}
+
+// Process i of n takes a checkpoint; `own` is its own entry, `blocks` its block count, and `written` the blocks written so far. It is stored as by a receipt that
+// carries nothing new.
+pub fn checkpoint_plan(
+    i: usize,
+    n: usize,
+    own: Interval,
+    mark: bool,
+    blocks: u16,
+    written: u64,
+    t: Lookup,
+) -> Plan
+    ensures { λ r. ⌜ r ≡ checkpointPlan i n own mark blocks written t ⌝ }
 {
     if n <= i {
         return unchanged(Refusal::NoSuchProcess, mark, t);
     }
     if 65535 <= own.0 {
         return unchanged(Refusal::IntervalsUsed, mark, t);
+    }
+    let past = is_past_bound(written, blocks);
+    if past {
+        return unchanged(Refusal::BlocksUsed, mark, t);
     }
     let zero = Interval(0);
     let carried = [zero; 16];
@@ -119,6 +141,7 @@ pub fn checkpoint_plan(i: usize, n: usize, own: Interval, mark: bool, t: Lookup)
         underway: t.underway,
         last: t.last,
         tail: t.tail,
+        cause: 1,
     }
 }
 
@@ -168,6 +191,7 @@ pub fn send_plan(
         underway: t.underway + 1,
         last: number,
         tail: t.tail + 1,
+        cause: 0,
     }
 }
 
@@ -191,6 +215,7 @@ fn without_it(mark: bool, t: Lookup) -> Plan
         underway: t.underway - 1,
         last: t.last,
         tail: t.tail,
+        cause: 0,
     }
 }
 
@@ -214,13 +239,21 @@ fn receipt_plan(mark: bool, t: Lookup) -> Plan
         underway: t.underway - 1,
         last: t.last,
         tail: t.tail,
+        cause: 2,
     }
 }
 
-// A delivery of the message that was looked up; `vector`, `own` and `mark` are its receiver's.
-pub fn deliver_plan(vector: [Interval; 16], own: Interval, mark: bool, t: Lookup) -> Plan
+// A delivery of the message that was looked up; `vector`, `own`, `mark` and `blocks` are its receiver's, and `written` the blocks written so far.
+pub fn deliver_plan(
+    vector: [Interval; 16],
+    own: Interval,
+    mark: bool,
+    blocks: u16,
+    written: u64,
+    t: Lookup,
+) -> Plan
     requires { ⌜ (t .found ≡ true → 1 ≤ t .underway) ⌝ }
-    ensures { λ r. ⌜ r ≡ deliverPlan vector own mark t ⌝ }
+    ensures { λ r. ⌜ r ≡ deliverPlan vector own mark blocks written t ⌝ }
 {
     let found = t.found;
     if !found {
@@ -232,10 +265,13 @@ pub fn deliver_plan(vector: [Interval; 16], own: Interval, mark: bool, t: Lookup
     if !newer {
         return without_it(mark, t);
     }
-    if mark {
-        if 65535 <= own.0 {
-            return unchanged(Refusal::IntervalsUsed, mark, t);
-        }
+    let full = 65535 <= own.0;
+    if mark & full {
+        return unchanged(Refusal::IntervalsUsed, mark, t);
+    }
+    let past = is_past_bound(written, blocks);
+    if mark & past {
+        return unchanged(Refusal::BlocksUsed, mark, t);
     }
     receipt_plan(mark, t)
 }

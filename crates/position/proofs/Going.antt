@@ -10,7 +10,7 @@ use lib.Seq.{sets, sets-eq, length-take-le, take-append-le, drop-append-le, take
 use Rattle.laws.specs.Choice.{pick}
 use Rattle.model.specs.declared.Run.{Run}
 use Rattle.model.specs.Listing.{mostRecords, records, goesOnBehind, stateAfterRecords}
-use Rattle.model.specs.WholeRuns.{Reachable}
+use Rattle.model.specs.WholeRuns.{Traced}
 use Rattle.model.proofs.Blocks.{states-by-block}
 use Rattle.position.specs.declared.Position.{Position}
 use Rattle.position.specs.Positions.{filled, due, passed, bytesHeld, Behind, Stands, Fills, Passes, Finished, ReplaysHeld}
@@ -94,7 +94,7 @@ module _ (p : Position) (input now-input : List ℕ) (more : ℕ) (front : take 
   fills below = record { position = refl; inside = within; below = below; onward = read-onward }
 
 -- No record is taken.
-pub passes-none : (p : Position) (block : List ℕ) → Reachable (p .run) → p .done ≤ mostRecords → Passes p block p
+pub passes-none : (p : Position) (block : List ℕ) → Traced (p .run) → p .done ≤ mostRecords → Passes p block p
 passes-none p block r most = let none : 1 + (p .held - p .held) ≡ 1 = omega arith in record {
   reached = r;
   most = most;

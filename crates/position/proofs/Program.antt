@@ -8,6 +8,7 @@ use Prim.Native.Nat.{ℕ, _+_, _*_, _≤_}
 use lib.ListN.{length, take, drop, take-append-drop}
 use lib.Seq.{length-take-le}
 use Rattle.laws.specs.Choice.{pick, pick-same}
+use Rattle.model.specs.Words.{ones}
 use Rattle.model.specs.Refusals.{startRefusal}
 use Rattle.model.specs.Listing.{mostRecords, records, started, listing}
 use Rattle.model.proofs.Blocks.{past-limit, block-by-block}
@@ -36,7 +37,7 @@ put-so-far unread (puts k ∷ steps) p held f =
     ∙ ap (λ (l : List ℕ). l ++ (allPut next rest steps ++ due (standing next rest steps) (holding next rest steps ++ unread))) (sym (due-going p part (f .0)))
     ∙ sym (append-assoc (due p part) (allPut next rest steps) (due (standing next rest steps) (holding next rest steps ++ unread)))
 
-module _ (all : Bool) (n : ℕ) (steps : List Step) (accepted : startRefusal n ≡ none) (fits : Fitting (beginning all n) [] steps) where
+module _ (all : Bool) (n : ℕ) (steps : List Step) (accepted : startRefusal n ones ≡ none) (fits : Fitting (beginning all n) [] steps) where
   abbrev then : Position
   then = standing (beginning all n) [] steps
 

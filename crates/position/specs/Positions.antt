@@ -7,14 +7,15 @@ use Prim.Native.Nat.{ℕ, _+_, _-_, _*_, _≤_, _<_}
 use lib.ListN.{length, take, drop}
 use Rattle.laws.specs.Choice.{pick}
 use Rattle.model.specs.declared.Run.{Run}
+use Rattle.model.specs.Words.{ones}
 use Rattle.model.specs.Steps.{startState}
 use Rattle.model.specs.Listing.{mostRecords, records, goesOnBehind, stateAfterRecords}
-use Rattle.model.specs.WholeRuns.{Reachable}
+use Rattle.model.specs.WholeRuns.{Traced}
 use Rattle.position.specs.declared.Position.{Position}
 
 -- Before the first record of a trace whose first byte is n, to be replayed to its end (`all`) or to the first refusal.
 abbrev pub beginning : Bool → ℕ → Position
-beginning all n = record { all = all; run = startState n; done = 0; held = 0; going = true }
+beginning all n = record { all = all; run = startState n ones; done = 0; held = 0; going = true }
 
 -- A read has brought `more` bytes.
 abbrev pub filled : Position → ℕ → Position
@@ -61,7 +62,7 @@ pub record Fills (p : Position) (input : List ℕ) (more : ℕ) (next : Position
 
 -- Records of a block are taken, and their lines are put; `block` has the first byte of the trace and the bytes held.
 pub record Passes (p : Position) (block : List ℕ) (next : Position) : Type 0 where
-  pub reached : Reachable (next .run)
+  pub reached : Traced (next .run)
   pub most : next .done ≤ mostRecords
   pub fewer : next .held ≤ p .held
   pub same : next .held + 4 * next .done ≡ p .held + 4 * p .done
@@ -73,7 +74,7 @@ Finished p failed next = failed ≡ false → next .going ≡ true → p .held +
 
 -- The same of the buffer, which then holds what is left of the block.
 pub record ReplaysHeld (p : Position) (input : List ℕ) (failed : Bool) (next : Position) (now-input : List ℕ) : Type 0 where
-  pub reached : Reachable (next .run)
+  pub reached : Traced (next .run)
   pub most : next .done ≤ mostRecords
   pub same : next .held + 4 * next .done ≡ p .held + 4 * p .done
   pub onward : (s : Run) (read : List ℕ) → Behind s read p (bytesHeld p input) → Behind s read next (bytesHeld next now-input)

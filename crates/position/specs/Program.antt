@@ -7,6 +7,7 @@ use mathlib.Core.Option.{none, some}
 use Prim.Native.Nat.{ℕ, _*_, _≤_}
 use lib.ListN.{length, take, drop}
 use Rattle.model.specs.declared.Refusal.{Refusal}
+use Rattle.model.specs.Words.{ones}
 use Rattle.model.specs.Refusals.{startRefusal}
 use Rattle.model.specs.Listing.{mostRecords, listing}
 use Rattle.position.specs.declared.Position.{Position}
@@ -49,16 +50,16 @@ holding p held (puts k ∷ steps) = holding (passed p k (take (4 * k) held)) (dr
 -- For every way to cut a trace into reads, and every way to cut what they bring into parts of whole records; both ways, `all` and not.
 pub record PrintsTheListing : Type 0 where
   -- At any time, also where the program stops at an error: what was put is the front of the listing, and what is due is the rest.
-  pub so-far : (all : Bool) (n : ℕ) (steps : List Step) (unread : List ℕ) → startRefusal n ≡ none → Fitting (beginning all n) [] steps
+  pub so-far : (all : Bool) (n : ℕ) (steps : List Step) (unread : List ℕ) → startRefusal n ones ≡ none → Fitting (beginning all n) [] steps
       → listing all (n ∷ (allRead steps ++ unread)) ≡ allPut (beginning all n) [] steps ++ due (standing (beginning all n) [] steps) (holding (beginning all n) [] steps ++ unread)
   -- Where nothing is left to read: what was put, and at the end what `put_rest` requires, is the listing.
-  pub at-the-end : (all : Bool) (n : ℕ) (steps : List Step) → startRefusal n ≡ none → Fitting (beginning all n) [] steps
+  pub at-the-end : (all : Bool) (n : ℕ) (steps : List Step) → startRefusal n ones ≡ none → Fitting (beginning all n) [] steps
       → allPut (beginning all n) [] steps ++ due (standing (beginning all n) [] steps) (holding (beginning all n) [] steps) ≡ listing all (n ∷ allRead steps)
   -- Behind the record where the replay stops, whatever is held and left unread: no byte behind it has a part in the listing.
-  pub at-a-refusal : (all : Bool) (n : ℕ) (steps : List Step) (unread : List ℕ) → startRefusal n ≡ none → Fitting (beginning all n) [] steps
+  pub at-a-refusal : (all : Bool) (n : ℕ) (steps : List Step) (unread : List ℕ) → startRefusal n ones ≡ none → Fitting (beginning all n) [] steps
       → standing (beginning all n) [] steps .going ≡ false → allPut (beginning all n) [] steps ≡ listing all (n ∷ (allRead steps ++ unread))
   -- Behind the last record that a replay takes, whatever is left unread.
-  pub at-the-last : (all : Bool) (n : ℕ) (steps : List Step) (unread : List ℕ) → startRefusal n ≡ none → Fitting (beginning all n) [] steps
+  pub at-the-last : (all : Bool) (n : ℕ) (steps : List Step) (unread : List ℕ) → startRefusal n ones ≡ none → Fitting (beginning all n) [] steps
       → mostRecords ≤ standing (beginning all n) [] steps .done → allPut (beginning all n) [] steps ≡ listing all (n ∷ (allRead steps ++ unread))
   -- Behind a first byte that is refused, what `put_whole` requires. (Of a trace of no bytes it requires `listing all []` itself.)
-  pub refused : (all : Bool) (n : ℕ) (why : Refusal) (unread : List ℕ) → startRefusal n ≡ some why → listing all (n ∷ []) ≡ listing all (n ∷ unread)
+  pub refused : (all : Bool) (n : ℕ) (why : Refusal) (unread : List ℕ) → startRefusal n ones ≡ some why → listing all (n ∷ []) ≡ listing all (n ∷ unread)

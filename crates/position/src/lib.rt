@@ -8,6 +8,7 @@ ghost use mathlib.Core.Path.{_≡_};
 ghost use mathlib.Core.Bool.{true, false};
 ghost use Prim.Native.Nat.{_+_, _*_, _≤_, _<_};
 ghost use lib.ListN.{length};
+ghost use Rattle.model.specs.Words.{ones};
 ghost use Rattle.model.specs.Steps.{startState};
 ghost use Rattle.model.specs.Listing.{goesOnBehind, stateAfterRecords, listing};
 ghost use Rattle.position.specs.Positions.{beginning, due, passed, Fills};
@@ -56,7 +57,7 @@ impl Position {
 
 // Before the first record of a trace whose first byte is n.
 pub fn begin(all: bool, n: u8, run: Run) -> Position
-    requires { ⌜ run ≡ startState n ⌝ }
+    requires { ⌜ run ≡ startState n ones ⌝ }
     ensures { λ r. ⌜ r ≡ beginning all n ⌝ }
 {
     Position {

@@ -25,7 +25,7 @@ use Rattle.model.specs.declared.Pin.the-variants.{Nothing, At}
 use Rattle.model.specs.declared.Checkpoint.{Checkpoint}
 use Rattle.model.specs.declared.Run.{Run}
 use Rattle.model.specs.Words.{entry, below, named, Process, process, live, own}
-use Rattle.model.specs.Steps.{listed, allowed, states, latestAllowed, latestPin, member, rolledBack, vectorAfter, notLost, ownAfter, movedPin, pinAfter, pinsAfter, recovered, deletedAt}
+use Rattle.model.specs.Steps.{listed, allowed, states, latestAllowed, latestPin, member, rolledBack, vectorAfter, notLost, ownAfter, movedPin, pinAfter, pinsAfter, recovered, goneAt, deletedAt}
 use Rattle.members.specs.Turn.{isStored, restoredVector}
 use Rattle.recovery.specs.declared.pins.Found.{Found}
 use Rattle.recovery.specs.Recovery.{notLater, movedTo, restoredPin, restoredPins, stays, isAt, pinIndex, pinFrom, latestFound, foundWith, ownIsIndex}
@@ -49,9 +49,13 @@ module _ (s : Run) (F p : ℕ) where
   unfolding recovered
   kept-in-state = refl
 
+  pub gone-in-state : select (λ c. not (stays (member s F p .index) (pinsAfter s F p) c)) (process s p .kept) ≡ goneAt s F p
+  unfolding stays goneAt
+  gone-in-state = refl
+
   pub deleted-in-state : listed p (select (λ c. not (stays (member s F p .index) (pinsAfter s F p) c)) (process s p .kept)) ≡ deletedAt s F p
-  unfolding stays deletedAt
-  deleted-in-state = refl
+  unfolding deletedAt
+  deleted-in-state = ap (listed p) gone-in-state
 
 pub pin-from : (pin : Pin) → pinFrom (isAt pin) (pinIndex pin) ≡ pin
 unfolding isAt pinIndex pinFrom

@@ -9,7 +9,7 @@ use lib.ListN.{length, take, drop, length-drop}
 use lib.Seq.{length-take-le, drop-drop}
 use Rattle.model.specs.declared.Run.{Run}
 use Rattle.model.specs.Listing.{mostRecords, records, goesOnBehind, stateAfterRecords}
-use Rattle.model.specs.WholeRuns.{Reachable}
+use Rattle.model.specs.WholeRuns.{Traced}
 use Rattle.listing.specs.Lines.{longestLine}
 use Rattle.replay_block.specs.Blocks.{Replays, Stops}
 use Rattle.replay_block.proofs.Onward.{onward}
@@ -53,7 +53,7 @@ module _ (p : Position) (block out : List ℕ) (all : Bool) (s : Run) (done : �
       ∙ rw (is-part, ← is-run, ← is-done, ← is-all) refl
       ∙ sym (due-going p part still)
 
-  passes : Reachable run → done + taken ≤ mostRecords → Passes p block (passed p taken part)
+  passes : Traced run → done + taken ≤ mostRecords → Passes p block (passed p taken part)
   passes reached most = record {
     reached = rw (← state-after) reached;
     most = omega arith;
@@ -64,7 +64,7 @@ module _ (p : Position) (block out : List ℕ) (all : Bool) (s : Run) (done : �
         rw (used, ← drop-drop (4 * taken) 1 block, is-part) (behind-passed first read p (drop 1 block) at taken (replayed .within));
   }
 
-  pub handed : Reachable run → done + taken ≤ mostRecords → written ≤ length out → Stops done (length (drop 1 block)) taken (length out) written going
+  pub handed : Traced run → done + taken ≤ mostRecords → written ≤ length out → Stops done (length (drop 1 block)) taken (length out) written going
       → p .done < mostRecords → 4 ≤ p .held → longestLine ≤ length out → Handed p block part run taken (take written now-out) going
   handed reached most fits why below whole room = record {
     inside = inside;

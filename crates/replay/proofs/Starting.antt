@@ -7,7 +7,7 @@ use Prim.Native.Nat.{ℕ, _≤_}
 use native.Mathlib.Omega.{arith}
 use lib.ListN.{length, getD, take}
 use Rattle.model.specs.declared.Run.{Run}
-use Rattle.model.specs.WholeRuns.{Reachable}
+use Rattle.model.specs.WholeRuns.{Traced}
 use Rattle.output.specs.Ends.{Starts, Refused, Begins}
 use Rattle.position.specs.declared.Position.{Position}
 use Rattle.position.specs.Positions.{beginning}
@@ -21,7 +21,7 @@ module _ (n : ℕ) (started : Bool) (run : Run) (out now-out : List ℕ) (writte
   unfolding Begins
   not-begun h e = rw e at h
 
-  pub reached-first : (p : Position) (all : Bool) → p ≡ beginning all n → Starts n run out now-out written → Reachable (p .run)
+  pub reached-first : (p : Position) (all : Bool) → p ≡ beginning all n → Starts n run out now-out written → Traced (p .run)
   reached-first p all e h = rw (e, ← h .state) (h .reached)
 
 pub first-byte : (l : List ℕ) → 1 ≤ length l → take 1 l ≡ getD l 0 0 ∷ []

@@ -11,13 +11,13 @@ ghost use mathlib.Core.Path.{_≡_};
 ghost use mathlib.Core.Bool.{true};
 ghost use Prim.Native.Nat.{_+_, _*_, _≤_, _<_};
 ghost use lib.ListN.{length};
-ghost use Rattle.model.specs.WholeRuns.{Reachable};
+ghost use Rattle.model.specs.WholeRuns.{Traced};
 ghost use Rattle.listing.specs.Lines.{longestLine};
 ghost use Rattle.position.specs.Positions.{Passes, Finished, ReplaysHeld};
 
 // The next records of a block, as many as `replay_block` takes at once: their lines are put. The block is the first byte of the trace and the bytes held.
 fn pass(p: Position, block: &[u8], out: &mut [u8]) -> Passed
-    requires { ⌜ (p .going ≡ true) × Reachable (p .run) × (p .done < 1000000000) × (4 ≤ p .held) × (length (now block) ≡ 1 + p .held) × (longestLine ≤ length (now out)) ⌝ }
+    requires { ⌜ (p .going ≡ true) × Traced (p .run) × (p .done < 1000000000) × (4 ≤ p .held) × (length (now block) ≡ 1 + p .held) × (longestLine ≤ length (now out)) ⌝ }
     ensures { λ r. ⌜ Passes p (now (block .entry)) (r .position) × (r .position .held < p .held) ⌝ }
 {
     let run = p.run();
@@ -31,7 +31,7 @@ fn pass(p: Position, block: &[u8], out: &mut [u8]) -> Passed
 
 // Every whole record of a block, as long as the replay goes on, and up to the last that it takes.
 fn pass_all(p: Position, block: &[u8], out: &mut [u8]) -> Passed
-    requires { ⌜ Reachable (p .run) × (p .done ≤ 1000000000) × (length (now block) ≡ 1 + p .held) × (longestLine ≤ length (now out)) ⌝ }
+    requires { ⌜ Traced (p .run) × (p .done ≤ 1000000000) × (length (now block) ≡ 1 + p .held) × (longestLine ≤ length (now out)) ⌝ }
     ensures { λ r. ⌜ Passes p (now (block .entry)) (r .position) × Finished p (r .failed) (r .position) ⌝ }
 {
     let held = p.held();
@@ -52,7 +52,7 @@ fn pass_all(p: Position, block: &[u8], out: &mut [u8]) -> Passed
 
 // The same of the bytes in the buffer; those that are left over are moved to its front, behind the first byte.
 fn replay_held(p: Position, input: &mut [u8], out: &mut [u8]) -> Passed
-    requires { ⌜ Reachable (p .run) × (p .held + 4 * p .done ≤ 4000000000) × (1 + p .held ≤ length (now input)) × (longestLine ≤ length (now out)) ⌝ }
+    requires { ⌜ Traced (p .run) × (p .held + 4 * p .done ≤ 4000000000) × (1 + p .held ≤ length (now input)) × (longestLine ≤ length (now out)) ⌝ }
     ensures { λ r. ⌜ ReplaysHeld p (now (input .entry)) (r .failed) (r .position) (now (input .exit)) ⌝ }
 {
     let held = p.held();
@@ -74,7 +74,7 @@ fn finish(p: Position, input: &[u8], out: &mut [u8]) -> Ended
 
 // The records of a trace, read by read. Each read brings a byte or more, and a replay reads 4,000,000,000 of them at most.
 fn replay(from: Position, input: &mut [u8], out: &mut [u8]) -> Ended
-    requires { ⌜ (from .going ≡ true) × Reachable (from .run) × (from .done ≡ 0) × (from .held ≡ 0) × (longestLine ≤ length (now input)) × (longestLine ≤ length (now out)) ⌝ }
+    requires { ⌜ (from .going ≡ true) × Traced (from .run) × (from .done ≡ 0) × (from .held ≡ 0) × (longestLine ≤ length (now input)) × (longestLine ≤ length (now out)) ⌝ }
 {
     let mut at = from;
     while at.done() < 1000000000 {

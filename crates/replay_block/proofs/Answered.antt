@@ -20,7 +20,7 @@ use Rattle.model.specs.declared.Message.{Message}
 use Rattle.model.specs.declared.Refusal.{Refusal}
 use Rattle.model.specs.declared.Refusal.the-variants.{MalformedRecord}
 use Rattle.model.specs.declared.Run.{Run}
-use Rattle.model.specs.Words.{process, live}
+use Rattle.model.specs.Words.{blockCount, process, live}
 use Rattle.model.specs.Steps.{Deletion, checkpointDeletions, deliverDeletions, found, forces}
 use Rattle.model.specs.Sound.{sound}
 use Rattle.model.specs.Refusals.{checkpointRefusal, sendRefusal, deliverRefusal, loseRefusal}
@@ -33,11 +33,12 @@ use Rattle.plans.specs.declared.Lookup.{Lookup}
 use Rattle.plans.specs.declared.Plan.{Plan}
 use Rattle.plans.specs.declared.Verdict.{Verdict}
 use Rattle.plans.specs.declared.Verdict.the-variants.{Accepted, Refused}
-use Rattle.plans.specs.Carried.{vectorAt, ownAt, Fulfils}
+use Rattle.plans.specs.Carried.{vectorAt, ownAt, countAt, Fulfils}
 use Rattle.plans.specs.Planned.{rowOf, refusalOf, unchanged, recoveryVerdict, recoveryIf}
 use Rattle.plans.specs.Sized.{Sized}
 use Rattle.plans.specs.Tables.{LooksUp}
 use Rattle.plans.proofs.Facts.{row-is, square-most}
+use Rattle.plans.proofs.Looked.{receiver-present}
 use Rattle.plans.proofs.Decided as decided
 use Rattle.listing.specs.Lines.{valueIn}
 use Rattle.listing.specs.Said.{reportIn}
@@ -87,19 +88,24 @@ pub record Does (s : Run) (window : List Message) (first i : ℕ) (p : Plan) (a 
 abbrev lent : List ℕ
 lent = replicate 512 0
 
-module _ (s : Run) (h : sound s ≡ true) (size : Sized s) (window : List Message) (first tail : ℕ) where
+module _ (s : Run) (h : sound s ≡ true) (size : Sized s) (one : (p : ℕ) → p < s .count → blockCount (process s p) ≡ 1) (window : List Message) (first tail : ℕ) where
+  -- the block count that a plan is given is the process's
+  counted : (p : ℕ) → p < s .count → 1 ≡ countAt s p
+  unfolding process blockCount
+  counted p lt = sym (one p lt)
+
   long : 2 * s .count * s .count ≤ length lent
   long = omega (arith, square-most s h, length-replicate {A = ℕ} 512 0)
 
   -- the plan of a record, for the process in row i
   abbrev pub planFor : Option Event → ℕ → Lookup → Plan
-  planFor e i t = planOf e (s .count) (vectorAt s i) (ownAt s i) (getD (s .sent) i false) t
+  planFor e i t = planOf e (s .count) (vectorAt s i) (ownAt s i) (getD (s .sent) i false) (s .disk .written) t
 
   module _ (m : ℕ) (t : Lookup) (look : LooksUp s window first tail m t) where
     quiet : (e : Option Event) (i : ℕ) (why : Refusal) → some why ≡ refusalOf (planFor e i t .verdict) → reportOf (planFor e i t) (ownAt s i) 0 ≡ refusing why
     quiet e i why r =
         let v = refused-verdict _ why r in
-        said-refused (planFor e i t) (ownAt s i) why v (refused-quiet (getD (s .sent) i false) t (s .count) (vectorAt s i) (ownAt s i) e why v)
+        said-refused (planFor e i t) (ownAt s i) why v (refused-quiet (getD (s .sent) i false) t (s .count) (vectorAt s i) (ownAt s i) (s .disk .written) e why v)
 
     malformed-done : Does s window first 0 (planFor none 0 t) (perform s none)
     unfolding planOf perform unchanged reportIn valueIn valueBy numberOf
@@ -118,7 +124,7 @@ module _ (s : Run) (h : sound s ≡ true) (size : Sized s) (window : List Messag
 
       stored-fulfils : Fulfils s window first (rowOf i) stored (checkpointRefusal s i lent) (checkpointOutcome s i lent .run) (judged (checkpointRefusal s i lent) (λ why. []) (checkpointDeletions s i))
       unfolding planOf
-      stored-fulfils = decided.checkpoint-decided s h size window first tail m t look i lent long
+      stored-fulfils = decided.checkpoint-decided s h size window first tail m t look i 1 (counted i) lent long
 
       in-run : checkpointRefusal s i lent ≡ none → i < s .count
       unfolding checkpointRefusal
@@ -128,7 +134,7 @@ module _ (s : Run) (h : sound s ≡ true) (size : Sized s) (window : List Messag
       unfolding planOf live process
       stored-said fine =
           let v = accepted-verdict _ (sym fine ∙ stored-fulfils .verdict) in
-          said-stored stored (ownAt s (rowOf i)) _ v (decided.checkpoint-stores s h size window first tail m t look i v .1)
+          said-stored stored (ownAt s (rowOf i)) _ v (decided.checkpoint-stores s h size window first tail m t look i 1 (counted i) v .1)
           ∙ ap (λ (k : ℕ). accepting (some (ownAt s k .0)) (length (checkpointDeletions s i))) (row-is s h i (in-run fine))
 
       stored-report : reportOf stored (ownAt s (rowOf i)) (length (judged (checkpointRefusal s i lent) (λ why. []) (checkpointDeletions s i))) ≡ checkpointReport (checkpointOutcome s i lent .answer)
@@ -187,20 +193,23 @@ module _ (s : Run) (h : sound s ≡ true) (size : Sized s) (window : List Messag
     abbrev received : Plan
     received = planFor (some (Deliver m)) row t
 
+    received-count : t .found ≡ true → 1 ≡ countAt s (t .message .receiver)
+    received-count there = counted (t .message .receiver) (receiver-present h size look there)
+
     abbrev gone : List Deletion
     gone = judged (deliverRefusal s m lent) (λ why. []) (deliverDeletions s (message s m))
 
     received-fulfils : Fulfils s window first row received (deliverRefusal s m lent) (deliverOutcome s m lent .run) gone
     unfolding planOf
-    received-fulfils = decided.deliver-decided s h size window first tail m t look lent long
+    received-fulfils = decided.deliver-decided s h size window first tail m t look 1 received-count lent long
 
     received-sends : received .sends ≡ false
     unfolding planOf
-    received-sends = decided.deliver-sends s h size window first tail m t look row
+    received-sends = decided.deliver-sends s h size window first tail m t look 1 received-count row
 
     received-forces : received .verdict ≡ Accepted → (found s m ≡ some (t .message)) × (row ≡ t .message .receiver) × (forces (process s (t .message .receiver)) (t .message .vector) ≡ received .stores)
     unfolding planOf
-    received-forces = decided.deliver-forces s h size window first tail m t look
+    received-forces = decided.deliver-forces s h size window first tail m t look 1 received-count
 
     -- the answer of an accepted one, by whether a checkpoint is forced
     answer-said : (stores : Bool) (count : ℕ) → received .verdict ≡ Accepted → row ≡ t .message .receiver → received .stores ≡ stores

@@ -159,9 +159,10 @@ module _ (t : Checkpoint → Bool) (kept₀ : List (List Checkpoint)) (i : ℕ) 
           gap : j - to ≡ j + 1 - (to + 1)
           gap = omega arith
 
-      pub goes : t c ≡ false → Collecting t kept₀ i deleted₀ gone₀ (j + 1) to (gone + 1) emptied (set (set deleted (2 * gone) i) (2 * gone + 1) (c .index .0))
+      pub goes : t c ≡ false → {written-to : List ℕ} → written-to ≡ set (set deleted (2 * gone) i) (2 * gone + 1) (c .index .0)
+          → Collecting t kept₀ i deleted₀ gone₀ (j + 1) to (gone + 1) emptied written-to
       unfolding pairsOf
-      goes e =
+      goes e is-list =
           let no : t (getD row j noCheckpoint) ≡ false = ap t (sym is-c) ∙ e in
           let same = select-no t row j noCheckpoint inside no in
           let others = pair-yes (λ c. not (t c)) row j noCheckpoint inside i (2 * gone₀) deleted₀ deleted (length (select (λ c. not (t c)) (take j row))) (2 * gone) refl written (v .list) (ap not no) in
@@ -172,7 +173,7 @@ module _ (t : Checkpoint → Bool) (kept₀ : List (List Checkpoint)) (i : ℕ) 
                 ∙ ap (λ (k : ℕ). set kept₀ i (halfway noCheckpoint (select t (take (j + 1) row)) k row (j + 1))) gap;
             stayed = v .stayed ∙ ap length (sym same);
             went = omega (arith, v .went, others .0);
-            list = ap (λ (x : Checkpoint). set (set deleted (2 * gone) i) (2 * gone + 1) (x .index .0)) is-c ∙ others .1;
+            list = is-list ∙ ap (λ (x : Checkpoint). set (set deleted (2 * gone) i) (2 * gone + 1) (x .index .0)) is-c ∙ others .1;
             to-most = omega (arith, v .to-most);
             gone-most = omega (arith, v .gone-most);
           }

@@ -1,4 +1,4 @@
--- A state that calls from a start reach has the sizes that its type fixes.
+-- A state of a trace run is sound and has the sizes that its type fixes.
 -- Assumes nothing.
 use mathlib.Core.Path.{_≡_, refl, sym, _∙_, ap, subst}
 use mathlib.Core.Bool.{Bool, true, false}
@@ -19,16 +19,17 @@ use Rattle.laws.specs.Tests.{every}
 use Rattle.model.specs.declared.Interval.{Interval}
 use Rattle.model.specs.declared.Checkpoint.{Checkpoint}
 use Rattle.model.specs.declared.Message.{Message}
+use Rattle.model.specs.declared.Disk.{Disk}
 use Rattle.model.specs.declared.Run.{Run}
-use Rattle.model.specs.Words.{places, mostUnderWay, Process, zeroVector, noPins, noCheckpoint, noMessage, blank, withProcess, withMessages}
+use Rattle.model.specs.Words.{places, mostUnderWay, ones, Process, zeroVector, noPins, noCheckpoint, noMessage, blank, withProcess, withMessages, withDisk}
 use Rattle.model.specs.Steps.{withProcesses}
-use Rattle.model.specs.Outcomes.{startOutcome}
-use Rattle.model.specs.Survival.{beginning}
-use Rattle.model.specs.WholeRuns.{Reachable}
-use Rattle.model.proofs.WholeRuns.{start-reached, calls-reached}
-use Rattle.model.proofs.ideal.Run.{Ideal, begin}
+use Rattle.model.specs.Sound.{sound}
+use Rattle.model.specs.WholeRuns.{Traced}
+use Rattle.model.proofs.WholeRuns.{reachable-reached, reachable-sound}
+use Rattle.model.proofs.Traced.{traced-reachable}
+use Rattle.model.proofs.ideal.Run.{Ideal, begun}
 use Rattle.model.proofs.whole.Runs.{runAfter}
-use Rattle.model.proofs.simulation.View.{vectorOf, pinsOf, checkpointOf, processOf, messageOf, messagesOf, stateOf, Limits}
+use Rattle.model.proofs.simulation.View.{vectorOf, pinsOf, checkpointOf, processOf, messageOf, messagesOf, diskOf, partsOf, stateOf, Limits}
 use Rattle.model.proofs.simulation.Kept.{kept-most, kept-every}
 use Rattle.model.proofs.simulation.SoundPassing.{passing-every}
 use Rattle.plans.specs.Sized.{Sized}
@@ -116,6 +117,22 @@ sized-messages s l last size few all = record {
   carried = λ k lt. eqb-true _ places (placed-every (λ (x : Message). full (x .vector)) mostUnderWay noMessage l k few all refl lt);
 }
 
+sized-disk : (s : Run) (disk : Disk) → Sized s → Sized (withDisk s disk)
+unfolding withDisk
+sized-disk s disk size = record {
+  vectors = size .vectors;
+  vector-row = size .vector-row;
+  pins = size .pins;
+  pin-row = size .pin-row;
+  sent = size .sent;
+  kept = size .kept;
+  kept-row = size .kept-row;
+  stored = size .stored;
+  held = size .held;
+  messages = size .messages;
+  carried = size .carried;
+}
+
 -- The state that stands for a run as functions.
 vector-full : (n : ℕ) (v : ℕ → ℕ) → length (vectorOf n v) ≡ places
 unfolding vectorOf
@@ -140,13 +157,15 @@ module _ (r : Ideal) (fit : Limits r) where
   messages-full = passing-every (λ (x : Message). full (x .vector)) (suc (r .last)) (r .transit) (messageOf r) (λ m lt e. eq-eqb _ places (vector-full (r .n) (r .carried m)))
 
   sized-state : Sized (stateOf r)
-  unfolding stateOf
-  sized-state = sized-messages (withProcesses (r .n) (processOf r) (blank (r .n))) (messagesOf r) (r .last)
-      (sized-all (r .n) (processOf r) (blank (r .n)) sized-part (sized-blank (r .n))) (fit .few-messages) messages-full
+  unfolding stateOf partsOf
+  sized-state = sized-disk _ (diskOf r) (sized-messages (withProcesses (r .n) (processOf r) (blank (r .n))) (messagesOf r) (r .last)
+      (sized-all (r .n) (processOf r) (blank (r .n)) sized-part (sized-blank (r .n))) (fit .few-messages) messages-full)
 
-pub reachable-sized : (s : Run) → Reachable s → Sized s
-unfolding Reachable
-reachable-sized s v =
-    let run = runAfter (begin (v .0)) (v .3) in
-    let reached = calls-reached (v .0) (startOutcome (v .0) .run) beginning (begin (v .0)) (start-reached (v .0) (v .1) (v .2)) (v .3) in
-    subst Sized (sym (v .4 ∙ reached .state)) (sized-state run (reached .limits))
+pub traced-sized : (s : Run) → Traced s → Sized s
+unfolding Traced
+traced-sized s v =
+    let reached = reachable-reached (v .0) ones (v .1) (v .2) in
+    subst Sized (sym (v .3 ∙ reached .state)) (sized-state (runAfter (begun (v .0) ones) (v .2)) (reached .limits))
+
+pub traced-sound : (s : Run) → Traced s → sound s ≡ true
+traced-sound s v = reachable-sound s (traced-reachable s v)

@@ -1,7 +1,7 @@
 -- A record that asks for no recovery, on a state that is kept in place: what its plan needs, and what it leaves, where each value that the loop has is given by
 -- an equation. The state is one `s`; its messages stand in the window.
 -- Assumes nothing.
-use mathlib.Core.Path.{_≡_, refl, sym, ap}
+use mathlib.Core.Path.{_≡_, refl, sym, _∙_, ap}
 use mathlib.Core.Bool.{Bool, true, false, not}
 use mathlib.Core.List.{List, [], _∷_}
 use mathlib.Core.Logic.{inl, inr}
@@ -12,7 +12,7 @@ use lib.Dec.{ltb}
 use lib.ListN.{length, getD, set, replicate, length-replicate}
 use lib.Seq.{sets}
 use borrow.Author.Tests.{ltb-true}
-use Rattle.laws.specs.Choice.{by-bool}
+use Rattle.laws.specs.Choice.{pick, by-bool}
 use Rattle.laws.specs.Lists.{select, placed}
 use Rattle.laws.specs.Loops.{either}
 use Rattle.laws.specs.Select.{select-length}
@@ -21,20 +21,21 @@ use Rattle.model.specs.declared.Event.the-variants.{Checkpoint as CheckpointEve
 use Rattle.model.specs.declared.Pin.{Pin}
 use Rattle.model.specs.declared.Checkpoint.{Checkpoint}
 use Rattle.model.specs.declared.Message.{Message}
+use Rattle.model.specs.declared.Disk.{Disk}
 use Rattle.model.specs.declared.Run.{Run}
-use Rattle.model.specs.Words.{liveIndex, named, noCheckpoint, noMessage, process, underWay}
-use Rattle.model.specs.Steps.{Deletion, listed}
+use Rattle.model.specs.Words.{liveIndex, named, blockCount, noCheckpoint, noMessage, process, underWay, withDisk}
+use Rattle.model.specs.Steps.{Deletion, listed, billed}
 use Rattle.model.specs.Sound.{sound}
 use Rattle.model.specs.Outcomes.{pairs}
 use Rattle.model.specs.Calls.{Answered}
 use Rattle.model.specs.Listing.{deletionsText, perform}
-use Rattle.model.specs.WholeRuns.{Reachable}
-use Rattle.model.proofs.WholeRuns.{reachable-sound}
+use Rattle.model.specs.WholeRuns.{Traced}
+use Rattle.model.proofs.Traced.{traced-count}
 use Rattle.retention.specs.Kept.{keptRow}
 use Rattle.retention.specs.Receipt.{vectorThen, pinsThen, keptThen}
 use Rattle.plans.specs.declared.Lookup.{Lookup}
 use Rattle.plans.specs.declared.Plan.{Plan}
-use Rattle.plans.specs.Carried.{vectorAt, ownAt, liveAt, keptAt, pinsBy, unnamedBy, unmoved, moved, messagesThen}
+use Rattle.plans.specs.Carried.{vectorAt, ownAt, keptAt, countAt, pinsBy, unnamedBy, unmoved, moved, messagesThen}
 use Rattle.plans.specs.Planned.{rowOf}
 use Rattle.plans.specs.Sized.{Sized}
 use Rattle.plans.specs.Tables.{messagesIn, LooksUp}
@@ -49,7 +50,7 @@ use Rattle.replay_block.specs.Window.{placeIn, isThere, stateInPlace, Wi
 use Rattle.replay_block.proofs.Answered.{Does, planFor, does}
 use Rattle.replay_block.proofs.Deleted.{deleted-text}
 use Rattle.replay_block.proofs.Planned.{Puts, plan-puts, tail-next as plan-tail, moves-accepted}
-use Rattle.replay_block.proofs.Sizes.{reachable-sized}
+use Rattle.replay_block.proofs.Sizes.{traced-sized, traced-sound}
 use Rattle.replay_block.proofs.Windows.{looks-up, put-there, put-behind}
 
 -- Every number has some row.
@@ -105,14 +106,14 @@ module _ (s : Run) (h : sound s ≡ true) (size : Sized s) (window : List Messag
     moved-reply l long = rw (listed-length i (unnamedBy s i p)) at (says-with (listed i (unnamedBy s i p)) (d .fulfils .moved-deletes move) few-unnamed l long)
 
 -- One record, where the message that it names is looked up in the window.
-module _ (s : Run) (reach : Reachable s) (e : Option Event) (asks : recoveryOf (s .count) e .asked ≡ false)
+module _ (s : Run) (reach : Traced s) (e : Option Event) (asks : recoveryOf (s .count) e .asked ≡ false)
     {numbers : List ℕ} {window : List Message} {base first tail underway last : ℕ} (w : Windowed numbers window base first tail underway last) (room : tail < 576)
     (holds : messagesIn window first tail ≡ underWay s) (used : last ≡ s .last) where
   abbrev is-sound : sound s ≡ true
-  is-sound = reachable-sound s reach
+  is-sound = traced-sound s reach
 
   abbrev is-sized : Sized s
-  is-sized = reachable-sized s reach
+  is-sized = traced-sized s reach
 
   abbrev place₀ : ℕ
   place₀ = placeIn numbers (sought e) base tail
@@ -130,10 +131,10 @@ module _ (s : Run) (reach : Reachable s) (e : Option Event) (asks : recoveryOf (
   i₀ = rowFor e (message₀ .receiver)
 
   abbrev p₀ : Plan
-  p₀ = planFor s is-sound is-sized window first tail e i₀ lookup
+  p₀ = planFor s is-sound is-sized (traced-count s reach) window first tail e i₀ lookup
 
   does₀ : Does s window first i₀ p₀ (perform s e)
-  does₀ = does s is-sound is-sized window first tail e asks lookup look (omega (arith, w .long))
+  does₀ = does s is-sound is-sized (traced-count s reach) window first tail e asks lookup look (omega (arith, w .long))
 
   put-windowed : (p : Plan) → Puts (getD (s .sent) i₀ false) lookup p → p .underway ≡ length (messagesThen window first p)
       → Windowed numbers (set window (p .place) (p .message)) base first (p .tail) (p .underway) (p .last)
@@ -144,11 +145,11 @@ module _ (s : Run) (reach : Reachable s) (e : Option Event) (asks : recoveryOf (
       (λ behind. rw (behind .0, behind .1, behind .2) (put-behind w room (p .message) (behind .3) (p .underway) (rw (behind .0, behind .1) at many)))
 
   planned₀ : Windowed numbers (set window (p₀ .place) (p₀ .message)) base first (p₀ .tail) (p₀ .underway) (p₀ .last)
-  planned₀ = put-windowed p₀ (plan-puts (getD (s .sent) i₀ false) lookup (s .count) (vectorAt s i₀) (ownAt s i₀) e) (does₀ .fulfils .many)
+  planned₀ = put-windowed p₀ (plan-puts (getD (s .sent) i₀ false) lookup (s .count) (vectorAt s i₀) (ownAt s i₀) (s .disk .written) e) (does₀ .fulfils .many)
 
   -- the state and the reply, where the plan moves no rows
   module _ (still : p₀ .moves ≡ false) where
-    unmoved₀ : perform s e .run ≡ stateInPlace (s .count) (s .vectors .0) (s .pins .0) (s .kept .0) (set (s .sent) i₀ (p₀ .mark)) (s .held) (messagesThen window first p₀) (p₀ .last)
+    unmoved₀ : perform s e .run ≡ stateInPlace (s .count) (s .vectors .0) (s .pins .0) (s .kept .0) (set (s .sent) i₀ (p₀ .mark)) (s .held) (messagesThen window first p₀) (p₀ .last) (s .disk)
     unfolding unmoved
     unmoved₀ = does₀ .fulfils .unmoved-state still
 
@@ -173,17 +174,31 @@ module _ (s : Run) (reach : Reachable s) (e : Option Event) (asks : recoveryOf (
     abbrev pins₀ : List Pin
     pins₀ = pinsBy s i₀ p₀
 
-    abbrev kept₀ : List Checkpoint
-    kept₀ = keptThen (p₀ .stores) pins₀ (keptAt s i₀) (liveAt s i₀)
+    -- what it keeps, and the blocks written and deleted, by its block count
+    abbrev storing₀ : ℕ → Checkpoint
+    storing₀ blocks = record { index = liveIndex (ownAt s i₀); vector = vectorAt s i₀; cause = p₀ .cause; blocks = blocks }
+
+    abbrev kept₀ : ℕ → List Checkpoint
+    kept₀ blocks = keptThen (p₀ .stores) pins₀ (keptAt s i₀) (storing₀ blocks)
+
+    abbrev disk₀ : ℕ → Disk
+    disk₀ blocks = billed (s .disk) (pick (p₀ .stores) blocks 0) (length (unnamedBy s i₀ p₀) * blocks)
+
+    abbrev after₀ : ℕ → Run
+    after₀ blocks =
+        stateInPlace (s .count) (set (s .vectors .0) i₀ (vectorThen (p₀ .stores) i₀ (vectorAt s i₀) (p₀ .carried))) (set (s .pins .0) i₀ pins₀) (set (s .kept .0) i₀ (keptRow (kept₀ blocks) .row))
+        (set (s .sent) i₀ (p₀ .mark)) (set (s .held) i₀ (keptRow (kept₀ blocks) .held)) (messagesThen window first p₀) (p₀ .last) (disk₀ blocks)
+
+    count₀ : countAt s i₀ ≡ 1
+    unfolding process blockCount
+    count₀ = traced-count s reach i₀ present₀
 
     places₀ : p₀ .stores ≡ true → length (select (named pins₀) (keptAt s i₀)) < 16
     places₀ stores = stored-room s is-sound is-sized i₀ present₀ p₀ stores
 
-    moved₀ : perform s e .run
-        ≡ stateInPlace (s .count) (set (s .vectors .0) i₀ (vectorThen (p₀ .stores) i₀ (vectorAt s i₀) (p₀ .carried))) (set (s .pins .0) i₀ pins₀) (set (s .kept .0) i₀ (keptRow kept₀ .row))
-        (set (s .sent) i₀ (p₀ .mark)) (set (s .held) i₀ (keptRow kept₀ .held)) (messagesThen window first p₀) (p₀ .last)
-    unfolding moved
-    moved₀ = does₀ .fulfils .moved-state move
+    moved₀ : perform s e .run ≡ after₀ 1
+    unfolding moved withDisk
+    moved₀ = does₀ .fulfils .moved-state move ∙ ap after₀ count₀
 
     moved-says₀ : (l : List ℕ) → length l ≡ 512
         → Says (record { refused = numberOf (p₀ .verdict); value = valueBy (p₀ .stores) (p₀ .sends) (ownAt s i₀) (p₀ .last); deletions = length (unnamedBy s i₀ p₀) })
@@ -200,7 +215,7 @@ module _ (s : Run) (reach : Reachable s) (e : Option Event) (asks : recoveryOf (
     some-there = rw (ef, eg, ep, em) (found-underway s is-sound is-sized window first tail (sought e) lookup look)
 
     module _ {p : Plan}
-        (eq : p ≡ planOf e (s .count) (vectorAt s i) (ownAt s i) (getD (s .sent) i false) (record { found = found; place = place; message = message; underway = underway; last = last; tail = tail })) where
+        (eq : p ≡ planOf e (s .count) (vectorAt s i) (ownAt s i) (getD (s .sent) i false) (s .disk .written) (record { found = found; place = place; message = message; underway = underway; last = last; tail = tail })) where
       pub place-there : p .place < 576
       place-there = rw (eq, ei, ef, eg, ep, em) (rw (w .long) at (does₀ .fulfils .place-there))
 
@@ -208,14 +223,14 @@ module _ (s : Run) (reach : Reachable s) (e : Option Event) (asks : recoveryOf (
       tail-there = rw (eq, ei, ef, eg, ep, em) (rw (w .long) at (does₀ .fulfils .tail-there))
 
       pub tail-next : p .tail ≤ tail + 1
-      tail-next = rw (eq, ei, ef, eg, ep, em) (plan-tail (getD (s .sent) i₀ false) lookup (s .count) (vectorAt s i₀) (ownAt s i₀) e)
+      tail-next = rw (eq, ei, ef, eg, ep, em) (plan-tail (getD (s .sent) i₀ false) lookup (s .count) (vectorAt s i₀) (ownAt s i₀) (s .disk .written) e)
 
       pub planned : Windowed numbers (set window (p .place) (p .message)) base first (p .tail) (p .underway) (p .last)
       planned = rw (eq, ei, ef, eg, ep, em) planned₀
 
       module _ (still : p .moves ≡ false) where
         pub unmoved-state : perform s e .run
-            ≡ stateInPlace (s .count) (s .vectors .0) (s .pins .0) (s .kept .0) (set (s .sent) i (p .mark)) (s .held) (messagesIn (set window (p .place) (p .message)) first (p .tail)) (p .last)
+            ≡ stateInPlace (s .count) (s .vectors .0) (s .pins .0) (s .kept .0) (set (s .sent) i (p .mark)) (s .held) (messagesIn (set window (p .place) (p .message)) first (p .tail)) (p .last) (s .disk)
         unmoved-state = rw (eq, ei, ef, eg, ep, em) (unmoved₀ (rw (eq, ei, ef, eg, ep, em) at still))
 
         pub unmoved-says : (l : List ℕ)
@@ -227,7 +242,7 @@ module _ (s : Run) (reach : Reachable s) (e : Option Event) (asks : recoveryOf (
         moved-process = rw (ei, eg, ep, em) (present₀ (rw (eq, ei, ef, eg, ep, em) at move))
 
         pub moved-accepted : numberOf (p .verdict) ≡ 0
-        moved-accepted = rw (eq, ei, ef, eg, ep, em) (moves-accepted (getD (s .sent) i₀ false) lookup (s .count) (vectorAt s i₀) (ownAt s i₀) e (rw (eq, ei, ef, eg, ep, em) at move))
+        moved-accepted = rw (eq, ei, ef, eg, ep, em) (moves-accepted (getD (s .sent) i₀ false) lookup (s .count) (vectorAt s i₀) (ownAt s i₀) (s .disk .written) e (rw (eq, ei, ef, eg, ep, em) at move))
 
         pub moved-own : 1 ≤ ownAt s i .0
         moved-own = rw (ei, eg, ep, em) (own₀ (rw (eq, ei, ef, eg, ep, em) at move))
@@ -247,11 +262,12 @@ module _ (s : Run) (reach : Reachable s) (e : Option Event) (asks : recoveryOf (
           moved-places = rw (mo, eq, ei, ef, eg, ep, em) (places₀ (rw (eq, ei, ef, eg, ep, em) at move))
 
           abbrev pub keptAfter : List Checkpoint
-          keptAfter = keptThen (p .stores) pins (keptAt s i) (liveAt s i)
+          keptAfter = keptThen (p .stores) pins (keptAt s i) (record { index = liveIndex (ownAt s i); vector = vectorAt s i; cause = p .cause; blocks = 1 })
 
           pub moved-state : perform s e .run
               ≡ stateInPlace (s .count) (set (s .vectors .0) i (vectorThen (p .stores) i (vectorAt s i) (p .carried))) (set (s .pins .0) i pins) (set (s .kept .0) i (keptRow keptAfter .row))
               (set (s .sent) i (p .mark)) (set (s .held) i (keptRow keptAfter .held)) (messagesIn (set window (p .place) (p .message)) first (p .tail)) (p .last)
+              (billed (s .disk) (pick (p .stores) 1 0) (length (select (λ c. not (named pins c)) (keptAt s i)) * 1))
           moved-state = rw (mo, eq, ei, ef, eg, ep, em) (moved₀ (rw (eq, ei, ef, eg, ep, em) at move))
 
           pub moved-says : (l : List ℕ) → length l ≡ 512

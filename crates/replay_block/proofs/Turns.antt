@@ -16,9 +16,10 @@ use Rattle.model.specs.declared.Run.{Run}
 use Rattle.model.specs.Outcomes.{Report}
 use Rattle.model.specs.Listing.{lineText, perform, mostRecords, goesOn, records, goesOnBehind, stateAfterRecords}
 use Rattle.model.specs.Trace.{decoded}
-use Rattle.model.specs.WholeRuns.{Reachable}
-use Rattle.model.proofs.Blocks.{next-line, next-goes-on, next-state, reachable-record}
+use Rattle.model.specs.WholeRuns.{Traced}
+use Rattle.model.proofs.Blocks.{next-line, next-goes-on, next-state}
 use Rattle.model.proofs.Sizes.{Small}
+use Rattle.model.proofs.Traced.{traced-record}
 use Rattle.trace.specs.Answers.{recordAt, eventIn}
 use Rattle.reader.specs.Reading.{recordAfter, recordLeft}
 use Rattle.listing.specs.declared.Summary.{Summary}
@@ -123,16 +124,16 @@ accepted-goes-on false e still = still ∙ rw e
 
 -- One record more, where the state t after it and the words said of it are the model's and its line is printed.
 pub one-said : (all : Bool) (s : Run) (done : ℕ) (block out : List ℕ) (run : Run) (taken : ℕ) (now-out : List ℕ) (written : ℕ) (going : Bool)
-    → Replays all s done block out run taken now-out written going → 4 * taken + 4 ≤ length block → going ≡ true → written + longestLine ≤ length out → done + taken < mostRecords → Reachable run
+    → Replays all s done block out run taken now-out written going → 4 * taken + 4 ≤ length block → going ≡ true → written + longestLine ≤ length out → done + taken < mostRecords → Traced run
     → (e : Option Event) → e ≡ decoded (take 4 (drop (4 * taken) block)) → (t : Run) → perform run e .run ≡ t
     → (said : Summary) (deleted : List ℕ) → Says said deleted (perform run e .reply)
     → (next-out : List ℕ) (next : ℕ) → Printed now-out written (lineText (done + taken + 1) (replyOf said deleted)) next-out next
     → (next-going : Bool) → next-going ≡ goesOn all (said .refused)
-    → Replays all s done block out t (taken + 1) next-out next next-going × Reachable t
+    → Replays all s done block out t (taken + 1) next-out next next-going × Traced t
 one-said all s done block out run taken now-out written going so-far more still space few reach e read t after said deleted says next-out next printed next-going goes = (
   one-taken all s done block out run taken now-out written going so-far more still space few t next-out next next-going
       (sym after ∙ ap (λ (o : Option Event). perform run o .run) read)
       (rw (says-line said deleted (perform run e .reply) says (done + taken + 1) ∙ ap (λ (o : Option Event). lineText (done + taken + 1) (perform run o .reply)) read) at printed)
       (goes ∙ says-goes-on all said deleted run e says ∙ ap (λ (o : Option Event). goesOn all (perform run o .reply .report .refused)) read),
-  rw (sym after) (reachable-record run reach e),
+  rw (sym after) (traced-record run reach e),
 )

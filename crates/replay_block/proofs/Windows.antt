@@ -79,7 +79,7 @@ module _ (s : Run) (h : sound s ≡ true) (size : Sized s) where
   unfolding messagesIn
   opened-holds = ap inUse (front ∙ messages-filled s size h) ∙ used-front
 
-  pub opened-state : s ≡ stateInPlace (s .count) (s .vectors .0) (s .pins .0) (s .kept .0) (s .sent) (s .held) (messagesIn (openedWindow (s .messages)) 0 64) (s .last)
+  pub opened-state : s ≡ stateInPlace (s .count) (s .vectors .0) (s .pins .0) (s .kept .0) (s .sent) (s .held) (messagesIn (openedWindow (s .messages)) 0 64) (s .last) (s .disk)
   unfolding withMessages
   opened-state = messages-back s h size ∙ ap (λ (l : List Message). withMessages s l (s .last)) (sym opened-holds)
 

@@ -16,6 +16,7 @@ use Rattle.plans.specs.declared.Recovery.{Recovery}
 use Rattle.plans.specs.declared.Verdict.{Verdict}
 use Rattle.plans.specs.declared.Verdict.the-variants.{Accepted, Refused}
 use Rattle.plans.specs.Planned.{rowOf, unchanged, checkpointPlan, sendPlan, deliverPlan, losePlan, recoveryVerdict, noRecovery, recoveryIf}
+use Rattle.listing.specs.declared.Summary.{Summary}
 use Rattle.listing.specs.declared.Value.{Value}
 use Rattle.listing.specs.declared.Value.the-variants.{Hyphen, Number}
 
@@ -51,13 +52,14 @@ unfoldable pub refusedPlan : Verdict → Bool → Lookup → Plan
 refusedPlan Accepted mark t = unchanged NoSuchFailedProcess mark t
 refusedPlan (Refused why) mark t = unchanged why mark t
 
-unfoldable pub planOf : Option Event → ℕ → List Interval → Interval → Bool → Lookup → Plan
-planOf none n vector ownEntry mark t = unchanged MalformedRecord mark t
-planOf (some (CheckpointEvent i)) n vector ownEntry mark t = checkpointPlan i n ownEntry mark t
-planOf (some (Send i j)) n vector ownEntry mark t = sendPlan i j n vector mark t
-planOf (some (Deliver m)) n vector ownEntry mark t = deliverPlan vector ownEntry mark t
-planOf (some (Lose m)) n vector ownEntry mark t = losePlan mark t
-planOf (some (Recover F)) n vector ownEntry mark t = refusedPlan (recoveryVerdict n F) mark t
+-- `written` is how many blocks were written. "a trace run uses 1" for every block count.
+unfoldable pub planOf : Option Event → ℕ → List Interval → Interval → Bool → ℕ → Lookup → Plan
+planOf none n vector ownEntry mark written t = unchanged MalformedRecord mark t
+planOf (some (CheckpointEvent i)) n vector ownEntry mark written t = checkpointPlan i n ownEntry mark 1 written t
+planOf (some (Send i j)) n vector ownEntry mark written t = sendPlan i j n vector mark t
+planOf (some (Deliver m)) n vector ownEntry mark written t = deliverPlan vector ownEntry mark 1 written t
+planOf (some (Lose m)) n vector ownEntry mark written t = losePlan mark t
+planOf (some (Recover F)) n vector ownEntry mark written t = refusedPlan (recoveryVerdict n F) mark t
 
 -- What a line says of a plan: the number, 0 if accepted; the index of the checkpoint that it stores or the number of the message that it sends.
 unfoldable pub numberOf : Verdict → ℕ
@@ -66,3 +68,6 @@ numberOf (Refused why) = number why
 
 unfoldable pub valueBy : Bool → Bool → Interval → ℕ → Value
 valueBy stores sends ownEntry last = pick stores (Number (ownEntry .0)) (pick sends (Number last) Hyphen)
+
+unfoldable pub summaryOf : Verdict → Bool → Bool → Interval → ℕ → Summary
+summaryOf verdict stores sends ownEntry last = record { refused = numberOf verdict; value = valueBy stores sends ownEntry last; deletions = 0 }

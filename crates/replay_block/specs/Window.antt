@@ -15,6 +15,7 @@ use Rattle.model.specs.declared.Interval.{Interval}
 use Rattle.model.specs.declared.Pin.{Pin}
 use Rattle.model.specs.declared.Checkpoint.{Checkpoint}
 use Rattle.model.specs.declared.Message.{Message}
+use Rattle.model.specs.declared.Disk.{Disk}
 use Rattle.model.specs.declared.Run.{Run}
 use Rattle.model.specs.Words.{mostUnderWay, noMessage}
 use Rattle.plans.specs.Tables.{messagesIn}
@@ -47,8 +48,8 @@ unfoldable pub isThere : ℕ → ℕ → ℕ → ℕ → ℕ → Bool
 isThere first place tail number m = leb first place && ltb place tail && eqb number m
 
 -- The state that the parts kept in place are.
-abbrev pub stateInPlace : ℕ → List (List Interval) → List (List Pin) → List (List Checkpoint) → List Bool → List ℕ → List Message → ℕ → Run
-stateInPlace n vectors pins kept sent held messages last = record {
+abbrev pub stateInPlace : ℕ → List (List Interval) → List (List Pin) → List (List Checkpoint) → List Bool → List ℕ → List Message → ℕ → Disk → Run
+stateInPlace n vectors pins kept sent held messages last disk = record {
   count = n;
   vectors = record { 0 = vectors };
   pins = record { 0 = pins };
@@ -58,6 +59,7 @@ stateInPlace n vectors pins kept sent held messages last = record {
   messages = placed mostUnderWay noMessage messages;
   underway = length messages;
   last = last;
+  disk = disk;
 }
 
 -- What holds of the window between two records; `numbers` are those that the block began with.

@@ -10,7 +10,7 @@ use plans::Lookup;
 ghost use mathlib.Core.Path.{_≡_};
 ghost use Prim.Native.Nat.{_+_, _≤_};
 ghost use lib.ListN.{length, drop};
-ghost use Rattle.model.specs.WholeRuns.{Reachable};
+ghost use Rattle.model.specs.WholeRuns.{Traced};
 ghost use Rattle.replay_block.specs.Blocks.{Replays, Stops};
 ghost use Rattle.replay_block.specs.Window.{numbersOf};
 
@@ -34,9 +34,9 @@ fn replay_beside(
     deleted: &mut [u16],
     numbers: &[u32],
 ) -> Progress
-    requires { ⌜ Reachable s × (done ≤ 1000000000) × (length (now deleted) ≡ 512) × (now numbers ≡ numbersOf (s .messages)) ⌝ }
+    requires { ⌜ Traced s × (done ≤ 1000000000) × (length (now deleted) ≡ 512) × (now numbers ≡ numbersOf (s .messages)) ⌝ }
     ensures { λ r. ⌜ Replays all s done (drop 1 (now (trace .entry))) (now (out .entry)) (r .run) (r .taken) (now (out .exit)) (r .written) (r .going) ⌝ }
-    ensures { λ r. ⌜ Reachable (r .run) × (done + r .taken ≤ 1000000000) × (r .written ≤ length (now (out .entry))) ⌝ }
+    ensures { λ r. ⌜ Traced (r .run) × (done + r .taken ≤ 1000000000) × (r .written ≤ length (now (out .entry))) ⌝ }
     ensures { λ r. ⌜ Stops done (length (drop 1 (now (trace .entry)))) (r .taken) (length (now (out .entry))) (r .written) (r .going) ⌝ }
 {
     let n = s.count;
@@ -48,6 +48,7 @@ fn replay_beside(
     let begun = s.messages;
     let mut underway = s.underway;
     let mut last = s.last;
+    let mut disk = s.disk;
     let mut window = window::opened(begun);
     let base = last;
     let mut first = 0;
@@ -85,7 +86,7 @@ fn replay_beside(
                 last,
                 tail,
             };
-            let p = record::plan_of(d, n, vector, own, mark, t);
+            let p = record::plan_of(d, n, vector, own, mark, disk.written, t);
             sent[i] = p.mark;
             let put = p.message;
             let at = p.place;
@@ -93,16 +94,15 @@ fn replay_beside(
             underway = p.underway;
             last = p.last;
             tail = p.tail;
-            let value = record::value_of(p.stores, p.sends, own, last);
             let verdict = p.verdict;
-            let refused = record::number_of(verdict);
+            let said = record::summary_of(verdict, p.stores, p.sends, own, last);
             if p.moves {
-                let live = members::line::live_from(vector, i);
+                let index = rows::vector::live_index(own);
                 let pins_before = pins[i];
                 let carried = p.carried;
                 let moved = retention::receipt::pins_then(
                     p.stores,
-                    live.index,
+                    index,
                     vector,
                     carried,
                     pins_before,
@@ -124,31 +124,29 @@ fn replay_beside(
                         kept[i][to] = c;
                         to += 1;
                     } else {
-                        deleted[2 * gone] = i as u16;
-                        deleted[2 * gone + 1] = c.index.0;
+                        kept::write_pair(deleted, gone, i, c.index);
                         gone += 1;
                     }
                 }
                 let first_kept = kept[i][0];
-                let stored = kept::stored(p.stores, live, first_kept);
-                let stored_at = kept::place(p.stores, to);
-                kept[i][stored_at] = stored;
-                held[i] = kept::count(p.stores, to);
-                let said = Summary {
-                    refused,
+                // a trace run uses 1 for every block count
+                let stored = kept::stored(p.stores, index, vector, p.cause, 1, to, first_kept);
+                let stored_at = stored.place;
+                let put_there = stored.checkpoint;
+                kept[i][stored_at] = put_there;
+                held[i] = stored.held;
+                disk = rows::disk::billed(disk, p.stores, gone, 1);
+                let value = said.value;
+                let moved_said = Summary {
+                    refused: said.refused,
                     value,
                     deletions: gone,
                 };
-                written = output::line::print(said, deleted, number, out, written);
+                written = output::line::print(moved_said, deleted, number, out, written);
             } else {
-                let said_only = Summary {
-                    refused,
-                    value,
-                    deletions: 0,
-                };
-                written = output::line::print(said_only, deleted, number, out, written);
+                written = output::line::print(said, deleted, number, out, written);
                 // what moves pins is accepted, and so is a recovery, so a refusal is met here alone
-                going = output::line::goes_on(all, refused);
+                going = output::line::goes_on(all, said.refused);
             }
         } else {
             // each process goes back to its member of the line
@@ -178,8 +176,8 @@ fn replay_beside(
                 vectors[f] = went_back;
                 sent[f] = step.sent;
                 rolled[f] = step.rolled;
-                let index = step.index;
-                members[f] = index;
+                let member_index = step.index;
+                members[f] = member_index;
                 back = step.back;
                 f += 1;
             }
@@ -220,14 +218,14 @@ fn replay_beside(
                         kept[q][stay] = x;
                         stay += 1;
                     } else {
-                        deleted[2 * all_gone] = q as u16;
-                        deleted[2 * all_gone + 1] = x.index.0;
+                        kept::write_pair(deleted, all_gone, q, x.index);
                         all_gone += 1;
                     }
                 }
                 held[q] = stay;
                 q += 1;
             }
+            disk = rows::disk::billed(disk, false, all_gone, 1);
             // a message that was sent behind the line leaves its place unused, and no other moves
             let mut outlived = 0;
             let mut z = first;
@@ -268,6 +266,7 @@ fn replay_beside(
         messages,
         underway,
         last,
+        disk,
     };
     Progress {
         run,
@@ -279,9 +278,9 @@ fn replay_beside(
 
 // The same with a deletion list of its own.
 pub fn replay(s: Run, all: bool, done: u64, trace: &[u8], out: &mut [u8]) -> Progress
-    requires { ⌜ Reachable s × (done ≤ 1000000000) ⌝ }
+    requires { ⌜ Traced s × (done ≤ 1000000000) ⌝ }
     ensures { λ r. ⌜ Replays all s done (drop 1 (now (trace .entry))) (now (out .entry)) (r .run) (r .taken) (now (out .exit)) (r .written) (r .going) ⌝ }
-    ensures { λ r. ⌜ Reachable (r .run) × (done + r .taken ≤ 1000000000) × (r .written ≤ length (now (out .entry))) ⌝ }
+    ensures { λ r. ⌜ Traced (r .run) × (done + r .taken ≤ 1000000000) × (r .written ≤ length (now (out .entry))) ⌝ }
     ensures { λ r. ⌜ Stops done (length (drop 1 (now (trace .entry)))) (r .taken) (length (now (out .entry))) (r .written) (r .going) ⌝ }
 {
     let mut list = [0u16; 512];

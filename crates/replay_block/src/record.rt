@@ -1,6 +1,6 @@
 // What a record asks for, and the decision about it, which is that of the call.
+use listing::Summary;
 use listing::Value;
-use model::Checkpoint;
 use model::Event;
 use model::Interval;
 use model::Refusal;
@@ -15,7 +15,7 @@ ghost use mathlib.Core.Option.{some};
 ghost use Prim.Native.Nat.{_≤_};
 ghost use Rattle.trace.specs.Answers.{eventRead};
 ghost use Rattle.plans.specs.Planned.{recoveryVerdict};
-ghost use Rattle.replay_block.specs.Record.{recoveryOf, sought, rowFor, refusedPlan, planOf, numberOf, valueBy};
+ghost use Rattle.replay_block.specs.Record.{recoveryOf, sought, rowFor, refusedPlan, planOf, numberOf, valueBy, summaryOf};
 
 // Whether a record asks for a recovery that is not refused, and for which failed set.
 pub fn recovery_of(d: Decoded, n: usize) -> Recovery
@@ -98,15 +98,16 @@ fn event_plan(
     vector: [Interval; 16],
     own: Interval,
     mark: bool,
+    written: u64,
     t: Lookup,
 ) -> Plan
     requires { ⌜ (t .found ≡ true → 1 ≤ t .underway) × (t .tail ≤ 1087) ⌝ }
-    ensures { λ r. ⌜ r ≡ planOf (some e) n vector own mark t ⌝ }
+    ensures { λ r. ⌜ r ≡ planOf (some e) n vector own mark written t ⌝ }
 {
     match e {
-        Event::Checkpoint(i) => plans::checkpoint_plan(i, n, own, mark, t),
+        Event::Checkpoint(i) => plans::checkpoint_plan(i, n, own, mark, 1, written, t),
         Event::Send(i, j) => plans::send_plan(i, j as usize, n, vector, mark, t),
-        Event::Deliver(m) => plans::deliver_plan(vector, own, mark, t),
+        Event::Deliver(m) => plans::deliver_plan(vector, own, mark, 1, written, t),
         Event::Lose(m) => plans::lose_plan(mark, t),
         Event::Recover(failed) => recover_plan(failed, n, mark, t),
     }
@@ -119,19 +120,20 @@ pub fn plan_of(
     vector: [Interval; 16],
     own: Interval,
     mark: bool,
+    written: u64,
     t: Lookup,
 ) -> Plan
     requires { ⌜ (t .found ≡ true → 1 ≤ t .underway) × (t .tail ≤ 1087) ⌝ }
-    ensures { λ r. ⌜ r ≡ planOf (eventRead d) n vector own mark t ⌝ }
+    ensures { λ r. ⌜ r ≡ planOf (eventRead d) n vector own mark written t ⌝ }
 {
     match d {
         Decoded::Malformed => plans::unchanged(Refusal::MalformedRecord, mark, t),
-        Decoded::StandsFor(e) => event_plan(e, n, vector, own, mark, t),
+        Decoded::StandsFor(e) => event_plan(e, n, vector, own, mark, written, t),
     }
 }
 
 // The number of a verdict, 0 if accepted.
-pub fn number_of(verdict: Verdict) -> u8
+fn number_of(verdict: Verdict) -> u8
     ensures { λ r. ⌜ r ≡ numberOf verdict ⌝ }
 {
     match verdict {
@@ -141,7 +143,7 @@ pub fn number_of(verdict: Verdict) -> u8
 }
 
 // The value of an accepted record: the index of the checkpoint that it stores, the number of the message that it sends, or a hyphen.
-pub fn value_of(stores: bool, sends: bool, own: Interval, last: u32) -> Value
+fn value_of(stores: bool, sends: bool, own: Interval, last: u32) -> Value
     ensures { λ r. ⌜ r ≡ valueBy stores sends own last ⌝ }
 {
     if stores {
@@ -152,5 +154,18 @@ pub fn value_of(stores: bool, sends: bool, own: Interval, last: u32) -> Value
         } else {
             Value::Hyphen
         }
+    }
+}
+
+// What the line of a record says where nothing is deleted.
+pub fn summary_of(verdict: Verdict, stores: bool, sends: bool, own: Interval, last: u32) -> Summary
+    ensures { λ r. ⌜ r ≡ summaryOf verdict stores sends own last ⌝ }
+{
+    let refused = number_of(verdict);
+    let value = value_of(stores, sends, own, last);
+    Summary {
+        refused,
+        value,
+        deletions: 0,
     }
 }

@@ -91,14 +91,14 @@ pub fn kept_then(
     row: [Checkpoint; 16],
     held: usize,
     pins: [Pin; 16],
-    live: Checkpoint,
+    stored: Checkpoint,
 ) -> super::kept::KeptRow
     requires { ⌜ (held ≤ 16) × (stores ≡ true → length (select (named pins) (take held row)) < 16) ⌝ }
-    ensures { λ r. ⌜ r ≡ keptRow (keptThen stores pins (take held row) live) ⌝ }
+    ensures { λ r. ⌜ r ≡ keptRow (keptThen stores pins (take held row) stored) ⌝ }
 {
     let left = super::kept::collect(row, held, pins);
     if stores {
-        super::kept::store(left, live)
+        super::kept::store(left, stored)
     } else {
         left
     }

@@ -1,4 +1,5 @@
 -- Laws that belong to no one function.
+pub mod Billed
 pub mod LineCall
 pub mod Members
 pub mod Performed

@@ -14,7 +14,7 @@ use Rattle.laws.specs.Below.{not-out, all-not-any, below-same}
 use Rattle.model.specs.declared.Interval.{Interval}
 use Rattle.model.specs.declared.Checkpoint.{Checkpoint}
 use Rattle.model.specs.declared.Run.{Run}
-use Rattle.model.specs.Words.{noCheckpoint, live, process}
+use Rattle.model.specs.Words.{pastEnd, noCheckpoint, live, process}
 use Rattle.model.specs.Steps.{latestAllowed, member, lineOf}
 use Rattle.model.specs.Refusals.{missing, noMember}
 use Rattle.members.specs.declared.line.Latest.{Latest}
@@ -23,7 +23,7 @@ use Rattle.members.specs.Turn.{memberBy, memberFrom}
 use Rattle.members.proofs.LineRule.{own-row-at, latest-by-row}
 use Rattle.members.proofs.Member.{member-from, found-from}
 use Rattle.rollback.specs.declared.line.Members.{Members}
-use Rattle.rollback.specs.Members.{latestAt, memberAt, noState, unusedRow, membersOf, statesOf, membersIn}
+use Rattle.rollback.specs.Members.{latestAt, memberAt, unusedRow, membersOf, statesOf, membersIn}
 
 -- One process more: its member, and whether there is one, from whether its live state is allowed and what a search of the kept ones found.
 module _ (n : ℕ) (owns : List Interval) (F : ℕ) (vectors : List (List Interval)) (kept : List (List Checkpoint)) (held : List ℕ) (p : ℕ)
@@ -44,11 +44,11 @@ module _ (n : ℕ) (owns : List Interval) (F : ℕ) (vectors : List (List Interv
 
 -- The member of process p, from its rows, is among the members' states.
 pub member-state : (n F : ℕ) (vectors : List (List Interval)) (kept : List (List Checkpoint)) (held : List ℕ) (p : ℕ) → n ≤ 16 → p < n
-    → memberBy (failedRow n F) (ownRow vectors) p (getD vectors p []) (getD held p 0) (getD kept p []) ≡ getD (statesOf n F vectors kept held) p noState
+    → memberBy (failedRow n F) (ownRow vectors) p (getD vectors p []) (getD held p 0) (getD kept p []) ≡ getD (statesOf n F vectors kept held) p pastEnd
 unfolding memberAt membersOf
 member-state n F vectors kept held p most lt =
     let size : length unusedRow ≡ 16 = length-replicate 16 noCheckpoint in
-    sym (below-at (memberAt n (ownRow vectors) F vectors kept held) unusedRow n p noState lt (omega arith))
+    sym (below-at (memberAt n (ownRow vectors) F vectors kept held) unusedRow n p pastEnd lt (omega arith))
 
 -- What is found is in the state, where the own entries are the state's.
 module _ (s : Run) (few : s .count ≤ 16) (F : ℕ) where
@@ -74,17 +74,17 @@ module _ (s : Run) (few : s .count ≤ 16) (F : ℕ) where
   members-from vectors kept owns m e g o f = f ∙ rw (o, e, g) members-in-state
 
   -- the member at p
-  pub state-at : (p : ℕ) → p < s .count → getD (membersIn s F .states) p noState ≡ member s F p
+  pub state-at : (p : ℕ) → p < s .count → getD (membersIn s F .states) p pastEnd ≡ member s F p
   unfolding membersIn
   state-at p lt =
       let size : length unusedRow ≡ 16 = length-replicate 16 noCheckpoint in
-      below-at (member s F) unusedRow (s .count) p noState lt (omega arith)
+      below-at (member s F) unusedRow (s .count) p pastEnd lt (omega arith)
 
   -- the first n members' indexes are the line
-  pub line-from : (m : Members) → m ≡ membersIn s F → table (s .count) (λ p. getD (m .states) p noState .index .0) ≡ lineOf s F
+  pub line-from : (m : Members) → m ≡ membersIn s F → table (s .count) (λ p. getD (m .states) p pastEnd .index .0) ≡ lineOf s F
   unfolding lineOf
   line-from m e =
-      ap (λ (x : Members). table (s .count) (λ p. getD (x .states) p noState .index .0)) e
+      ap (λ (x : Members). table (s .count) (λ p. getD (x .states) p pastEnd .index .0)) e
       ∙ table-same (s .count) _ _ (λ p lt. ap (λ (c : Checkpoint). c .index .0) (state-at p lt))
 
 -- Whether some process has no member.

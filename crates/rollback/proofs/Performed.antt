@@ -3,7 +3,7 @@
 -- Assumes nothing.
 use mathlib.Core.Path.{_≡_, _∙_, ap}
 use mathlib.Core.Bool.{Bool, true}
-use mathlib.Core.List.{List, [], _∷_}
+use mathlib.Core.List.{List, []}
 use mathlib.Core.Option.{none, some}
 use Prim.Native.Nat.{ℕ, zero, suc, _+_, _*_, _≤_, _<_}
 use native.Mathlib.Nat.{suc-mul}
@@ -16,34 +16,36 @@ use Rattle.model.specs.declared.Checkpoint.{Checkpoint}
 use Rattle.model.specs.declared.Run.{Run}
 use Rattle.model.specs.declared.Event.the-variants.{Recover}
 use Rattle.model.specs.Words.{process}
-use Rattle.model.specs.Steps.{Deletion, listed, lineOf, deletedAt, recoverDeletions}
+use Rattle.model.specs.Steps.{Deletion, listed, lineOf, goneAt, deletedAt, recoverDeletions}
 use Rattle.model.specs.Sound.{sound}
 use Rattle.model.specs.Refusals.{recoverRefusal}
-use Rattle.model.specs.Outcomes.{pairs, accepting, startOutcome, recoverOutcome, recoverReport}
+use Rattle.model.specs.Outcomes.{pairs, accepting, recoverOutcome, recoverReport}
 use Rattle.model.specs.Calls.{answered, call}
 use Rattle.model.specs.Listing.{callOf, perform}
-use Rattle.model.specs.Survival.{beginning}
 use Rattle.model.specs.WholeRuns.{Reachable, LinePromise}
 use Rattle.model.specs.laws.Sound.{sound-state}
-use Rattle.model.proofs.ideal.Run.{begin}
+use Rattle.model.proofs.ideal.Run.{begun}
 use Rattle.model.proofs.whole.Runs.{runAfter}
-use Rattle.model.proofs.WholeRuns.{start-reached, calls-reached, line-promise}
+use Rattle.model.proofs.WholeRuns.{reachable-reached, line-promise}
+use Rattle.model.proofs.simulation.Accepted.{start-out}
 use Rattle.model.proofs.simulation.Reads.{count-is}
 use Rattle.plans.specs.declared.Verdict.the-variants.{Accepted}
 use Rattle.plans.specs.Planned.{recoveryVerdict}
 use Rattle.plans.proofs.Outside.{accepted-inside}
 use Rattle.rollback.specs.Restored.{Restored, Restores, restored}
+use Rattle.rows.proofs.Blocks.{take-most}
 use Rattle.rollback.proofs.RecoverCall.{twice-square}
 
 -- The call is accepted, with lists that are long enough.
 accepted : (s : Run) → Reachable s → (F : ℕ) → recoveryVerdict (s .count) F ≡ Accepted → recoverRefusal s F (replicate 512 0) (replicate 16 0) ≡ none
 unfolding Reachable LinePromise
 accepted s v F verdict =
-    let r = calls-reached (v .0) (startOutcome (v .0) .run) beginning (begin (v .0)) (start-reached (v .0) (v .1) (v .2)) (v .3) in
-    let same : s .count ≡ v .0 = ap (λ (t : Run). t .count) (v .4 ∙ r .state) ∙ count-is (runAfter (begin (v .0)) (v .3)) ∙ r .size in
+    let r = reachable-reached (v .0) (v .1) (v .2) (v .3) in
+    let same : s .count ≡ v .0 = ap (λ (t : Run). t .count) (v .4 ∙ r .state) ∙ count-is (runAfter (begun (v .0) (v .1)) (v .3)) ∙ r .size in
+    let most : v .0 ≤ 16 = start-out (v .0) (v .1) (v .2) .1 in
     line-promise s F (v .0) (v .1) (v .2) (v .3) (v .4) (rw (← same) (accepted-inside (s .count) F verdict)) .0 .recover-accepted (replicate 512 0) (replicate 16 0)
-    (omega (arith, twice-square (v .0) (v .2), length-replicate {A = ℕ} 512 0))
-    (omega (arith, v .2, length-replicate {A = ℕ} 16 0))
+    (omega (arith, twice-square (v .0) most, length-replicate {A = ℕ} 512 0))
+    (omega (arith, most, length-replicate {A = ℕ} 16 0))
 
 -- What the model answers, by the parts.
 pub recovery-performed : (s : Run) → Reachable s → (F : ℕ) → recoveryVerdict (s .count) F ≡ Accepted → (r : Restored) (before after : List ℕ) → Restores s F r before after
@@ -61,11 +63,6 @@ unfolding perform callOf call answered recoverOutcome recoverReport
 recovery-performed s v F verdict r before after h = rw (accepted s v F verdict, h .state, h .rolled, h .gone)
 
 -- Its deletions have room in a list of 512 numbers.
-take-most : {A : Type 0} (k : ℕ) (l : List A) → length (take k l) ≤ k
-take-most zero l = omega arith
-take-most (suc k) [] = omega arith
-take-most (suc k) (x ∷ l) = omega (arith, take-most k l)
-
 gather-most : {A : Type 0} (n m : ℕ) (f : ℕ → List A) → ((p : ℕ) → p < n → length (f p) ≤ m) → length (gather n f) ≤ n * m
 unfolding gather
 gather-most zero m f h = omega arith
@@ -84,7 +81,7 @@ listed-most p k t row = omega (
 
 module _ (s : Run) (h : sound s ≡ true) (F : ℕ) where
   deleted-most : (p : ℕ) → p < s .count → length (deletedAt s F p) ≤ 16
-  unfolding deletedAt process
+  unfolding deletedAt goneAt process
   deleted-most p lt =
       let few : length (deletedAt s F p) ≤ getD (s .held) p 0 = listed-most p (getD (s .held) p 0) _ (getD (s .kept .0) p []) in
       omega (arith, few, sound-state s h .processes p lt .held-most, sound-state s h .count-most)

@@ -3,7 +3,7 @@
 use mathlib.Core.Path.{_≡_, refl, ap, sym, _∙_}
 use mathlib.Core.Bool.{Bool, true, false, not, _&&_}
 use mathlib.Core.List.{List, []}
-use Prim.Native.Nat.{ℕ, zero, suc, _<_, _≤_}
+use Prim.Native.Nat.{ℕ, zero, suc, _*_, _<_, _≤_}
 use native.Mathlib.Omega.{arith}
 use lib.Dec.{leb, ltb}
 use lib.ListN.{length, getD, replicate, length-replicate}
@@ -15,26 +15,31 @@ use Rattle.laws.specs.Rows.{by-lt}
 use Rattle.laws.specs.Select.{select-select}
 use Rattle.laws.specs.Tables.{getD-table, gather-same}
 use Rattle.laws.specs.Below.{below-same}
+use Rattle.laws.specs.Sums.{sumBelow, sum-same}
 use Rattle.laws.specs.Counting.{count-same}
 use Rattle.model.specs.declared.Interval.{Interval}
 use Rattle.model.specs.declared.CheckpointIndex.{CheckpointIndex}
 use Rattle.model.specs.declared.Pin.{Pin}
 use Rattle.model.specs.declared.Checkpoint.{Checkpoint}
 use Rattle.model.specs.declared.Run.{Run}
-use Rattle.model.specs.Words.{places, entry, below, noCheckpoint, named, Process, process, own, underWay, withProcess, withMessages}
-use Rattle.model.specs.Steps.{Deletion, withProcesses, member, rolledBack, vectorAfter, notLost, ownAfter, pinsAfter, recovered, lostBy, stillUnderWay, recoverState, deletedAt, recoverDeletions, rolledBackCount}
+use Rattle.model.specs.Words.{places, entry, below, blocksOf, blockCount, noCheckpoint, named, Process, process, own, underWay, withProcess, withMessages, withDisk}
+use Rattle.model.specs.Steps.{Deletion, listed, billed, withProcesses, member, rolledBack, vectorAfter, notLost, ownAfter, pinsAfter, recovered, lostBy, stillUnderWay, recoverState, deletedAt, recoverDeletions, rolledBackCount}
+use Rattle.model.specs.Steps as steps
 use Rattle.model.specs.Sound.{messageSound, sound}
 use Rattle.model.specs.laws.Sound.{sound-state, sound-message}
 use Rattle.members.specs.declared.turn.Stepped.{Stepped}
 use Rattle.members.specs.Line.{ownRow}
 use Rattle.members.specs.Turn.{steppedOf, outlives}
 use Rattle.recovery.specs.Recovery.{notLater, stays}
-use Rattle.recovery.proofs.Restoring.{stored-in-state, vector-in-state, pins-in-state, deleted-in-state, unused-own, member-own}
+use Rattle.recovery.proofs.Restoring.{stored-in-state, vector-in-state, pins-in-state, unused-own, member-own}
+use Rattle.recovery.proofs.Restoring as recovering
+use Rattle.rows.proofs.Blocks.{first-count}
+use Rattle.plans.proofs.Billing.{blocks-of-some}
 use Rattle.plans.proofs.SoundFacts.{vector-there, own-unused}
 use Rattle.rollback.specs.declared.recover.Returned.{Returned}
-use Rattle.rollback.specs.Members.{membersIn}
+use Rattle.rollback.specs.Members.{firstCount, membersIn}
 use Rattle.rollback.specs.Returned.{noIndex, stepAt, returnedOf}
-use Rattle.rollback.specs.After.{pinsAt, leftAt, goneAt, lossesAt, lossesOf, keptBelow, heldBelow, rowsOf}
+use Rattle.rollback.specs.After.{pinsAt, leftAt, goneAt, lossesAt, lossesOf, blocksBelow, keptBelow, heldBelow, rowsOf}
 use Rattle.rollback.specs.Restored.{stillOf, restored, returnedIn, pinsIn, rowsIn, restoredFrom, restoredIn, lossesFrom, lossesIn}
 use Rattle.rollback.proofs.Members.{state-at}
 
@@ -50,6 +55,7 @@ processes-rows : (n : ℕ) (f : ℕ → Process) (s : Run) → withProcesses n f
       messages = s .messages;
       underway = s .underway;
       last = s .last;
+      disk = s .disk;
     }
 unfolding withProcesses withProcess setBelow
 processes-rows zero f s = refl
@@ -131,9 +137,27 @@ module _ (s : Run) (h : sound s ≡ true) (F : ℕ) where
   unfolding leftAt stays recovered notLost process
   kept-at p lt = rw (pins-at p lt, member-row p lt) (sym (select-select (named (pinsAfter s F p)) (λ c. leb (c .index .0) (member s F p .index .0)) _))
 
+  gone-at : (p : ℕ) → p < s .count → goneAt (s .kept .0) (s .held) (back .members) (pinsIn s back) p ≡ steps.goneAt s F p
+  unfolding goneAt process
+  gone-at p lt = rw (pins-at p lt, member-row p lt) (recovering.gone-in-state s F p)
+
   losses-at : (p : ℕ) → p < s .count → lossesAt (s .kept .0) (s .held) (back .members) (pinsIn s back) p ≡ deletedAt s F p
-  unfolding lossesAt goneAt process
-  losses-at p lt = rw (pins-at p lt, member-row p lt) (deleted-in-state s F p)
+  unfolding lossesAt deletedAt
+  losses-at p lt = ap (listed p) (gone-at p lt)
+
+  -- the blocks of the deleted, of each process so many for each
+  count-at : (p : ℕ) → p < s .count → firstCount (s .kept .0) p ≡ blockCount (process s p)
+  unfolding process blockCount
+  count-at p lt = first-count (getD (s .kept .0) p []) (getD (s .held) p 0) (sound-state s h .processes p lt .held-some)
+
+  blocks-at : (p : ℕ) → p < s .count
+      → length (goneAt (s .kept .0) (s .held) (back .members) (pinsIn s back) p) * firstCount (s .kept .0) p ≡ blocksOf (steps.goneAt s F p)
+  unfolding steps.goneAt
+  blocks-at p lt = rw (gone-at p lt, count-at p lt) (sym (blocks-of-some s h p lt _))
+
+  disk-is : rowsIn s back .disk ≡ billed (s .disk) 0 (sumBelow (s .count) (λ p. blocksOf (steps.goneAt s F p)))
+  unfolding rowsIn rowsOf blocksBelow pinsIn
+  disk-is = ap (billed (s .disk) 0) (sum-same (s .count) _ _ blocks-at)
 
   pub losses-in-state : lossesIn s members ≡ recoverDeletions s F
   unfolding lossesIn lossesFrom lossesOf recoverDeletions
@@ -180,5 +204,5 @@ module _ (s : Run) (h : sound s ≡ true) (F : ℕ) where
 
   -- the state
   pub run-in-state : restored s (restoredIn s members) ≡ recoverState s F
-  unfolding restoredIn restoredFrom recoverState withMessages stillOf recovered
-  run-in-state = rw (processes-rows (s .count) (recovered s F) s, pins-are, rows-are, held-are, sent-are, vectors-are, still-are)
+  unfolding restoredIn restoredFrom recoverState withMessages withDisk stillOf recovered
+  run-in-state = rw (processes-rows (s .count) (recovered s F) s, disk-is, pins-are, rows-are, held-are, sent-are, vectors-are, still-are)

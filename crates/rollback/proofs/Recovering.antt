@@ -21,8 +21,9 @@ use Rattle.model.specs.declared.Kept.{Kept}
 use Rattle.model.specs.declared.Pin.{Pin}
 use Rattle.model.specs.declared.Pins.{Pins}
 use Rattle.model.specs.declared.Checkpoint.{Checkpoint}
+use Rattle.model.specs.declared.Disk.{Disk}
 use Rattle.model.specs.Words.{noCheckpoint}
-use Rattle.model.specs.Steps.{Deletion, listed}
+use Rattle.model.specs.Steps.{Deletion, listed, billed}
 use Rattle.model.specs.Outcomes.{pairs}
 use Rattle.retention.specs.declared.kept.KeptRow.{KeptRow}
 use Rattle.retention.specs.Kept.{keptRow}
@@ -30,7 +31,7 @@ use Rattle.recovery.specs.Recovery.{notLater, restoredPins, stays}
 use Rattle.rollback.specs.declared.recover.RowsAfter.{RowsAfter}
 use Rattle.rollback.specs.Members.{HeldAtMost}
 use Rattle.rollback.specs.Returned.{noIndex}
-use Rattle.rollback.specs.After.{pinsAt, leftAt, goneAt, lossesAt, lossesOf, keptBelow, heldBelow, rowsOf}
+use Rattle.rollback.specs.After.{pinsAt, leftAt, goneAt, lossesAt, lossesOf, blocksBelow, keptBelow, heldBelow, rowsOf}
 
 -- The numbers of pairs one behind the other.
 pairs-append : (l m : List Deletion) → pairs (l ++ m) ≡ pairs l ++ pairs m
@@ -43,7 +44,7 @@ unfolding pairs
 pairs-length [] = refl
 pairs-length (d ∷ l) = rw (pairs-length l) (omega arith)
 
-listed-length : (p : ℕ) (l : List Checkpoint) → length (listed p l) ≡ length l
+pub listed-length : (p : ℕ) (l : List Checkpoint) → length (listed p l) ≡ length l
 unfolding listed
 listed-length p l = length-map l _
 
@@ -91,11 +92,13 @@ module _ (kept : List (List Checkpoint)) (held : List ℕ) (members : List Check
   unfolding gather lossesAt
   gather-more = rw (add-one p)
 
+  gone-many : count - left .held ≡ length (goneAt kept held members rows p)
+  gone-many = omega (arith, all-told, ap (λ (l : List Checkpoint). length l) gone-is)
+
   module _ (total : ℕ) (so-many : total ≡ length (gather p (lossesAt kept held members rows))) where
     losses-count : total + (count - left .held) ≡ length (gather (p + 1) (lossesAt kept held members rows))
     losses-count =
-        let many : count - left .held ≡ length (goneAt kept held members rows p) = omega (arith, all-told, ap (λ (l : List Checkpoint). length l) gone-is) in
-        rw (gather-more, length-append, listed-length p (goneAt kept held members rows p), so-many, many)
+        rw (gather-more, length-append, listed-length p (goneAt kept held members rows p), so-many, gone-many)
 
     losses-written : (l₀ l m : List ℕ) → l ≡ sets l₀ 0 (pairs (gather p (lossesAt kept held members rows)))
         → m ≡ sets l (2 * total) (pairs (listed p (select (λ c. not (stays (getD members p noIndex) new c)) (take count row))))
@@ -192,6 +195,16 @@ module _ {n : ℕ} {vectors : List (List Interval)} {owns : List Interval} {roll
             in-list = losses-written kept₀ held₀ members rows q (getD kept q []) (getD held q 0) new left same-row same-held pinned is-left told gone (so-far .many) list₀ list list₁ (so-far .in-list) is-list;
           }
 
+      -- how many of its checkpoints are deleted
+      pub one-gone : (new : List Pin) (left : KeptRow)
+          → new ≡ restoredPins (getD rolled q false) (getD vectors q []) owns (notLater (getD members q noIndex) (take (getD held q 0) (getD kept q []))) (getD pins q [])
+          → left ≡ keptRow (select (stays (getD members q noIndex) new) (take (getD held q 0) (getD kept q [])))
+          → left .held + length (select (λ c. not (stays (getD members q noIndex) new c)) (take (getD held q 0) (getD kept q []))) ≡ getD held q 0
+          → getD held q 0 - left .held ≡ length (goneAt kept₀ held₀ members rows q)
+      one-gone new left is-new is-left told =
+          let pinned = pins-turn pins₀ vectors owns rolled kept₀ held₀ members q (getD kept q []) (getD held q 0) (getD pins q []) new same-row same-held same-pins is-new in
+          gone-many kept₀ held₀ members rows q (getD kept q []) (getD held q 0) new left same-row same-held pinned is-left told
+
       -- and where all of its checkpoints stay: the row is left alone
       pub one-same : (new : List Pin)
           → new ≡ restoredPins (getD rolled q false) (getD vectors q []) owns (notLater (getD members q noIndex) (take (getD held q 0) (getD kept q []))) (getD pins q [])
@@ -214,9 +227,10 @@ module _ {n : ℕ} {vectors : List (List Interval)} {owns : List Interval} {roll
     -- all processes are done
     module _ (e : q ≡ n) where
       pub all-rows : (all-pins : Pins) (all-kept : Kept) → all-pins ≡ record { 0 = pins } → all-kept ≡ record { 0 = kept }
-          → _≡_ {A = RowsAfter} (record { pins = all-pins; kept = all-kept; held = held; deleted = gone }) (rowsOf n pins₀ vectors owns rolled kept₀ held₀ members)
+          → (disk disk₀ : Disk) → disk ≡ billed disk₀ 0 (blocksBelow n kept₀ held₀ members (pinsAt pins₀ vectors owns rolled kept₀ held₀ members))
+          → _≡_ {A = RowsAfter} (record { pins = all-pins; kept = all-kept; held = held; deleted = gone; disk = disk }) (rowsOf n pins₀ vectors owns rolled kept₀ held₀ members disk₀)
       unfolding rowsOf lossesOf keptBelow heldBelow
-      all-rows all-pins all-kept a b = rw (a, b, so-far .in-pins, so-far .in-kept, so-far .in-held, so-far .many, e)
+      all-rows all-pins all-kept a b disk disk₀ c = rw (a, b, c, so-far .in-pins, so-far .in-kept, so-far .in-held, so-far .many, e)
 
       pub all-listed : list ≡ sets list₀ 0 (pairs (lossesOf n kept₀ held₀ members (pinsAt pins₀ vectors owns rolled kept₀ held₀ members)))
       unfolding lossesOf

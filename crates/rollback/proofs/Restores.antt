@@ -10,8 +10,10 @@ use Rattle.model.specs.declared.Interval.{Interval}
 use Rattle.model.specs.declared.CheckpointIndex.{CheckpointIndex}
 use Rattle.model.specs.declared.Pin.{Pin}
 use Rattle.model.specs.declared.Checkpoint.{Checkpoint}
+use Rattle.model.specs.declared.Disk.{Disk}
 use Rattle.model.specs.declared.Run.{Run}
 use Rattle.model.specs.Words.{underWay}
+use Rattle.model.specs.Steps.{billed}
 use Rattle.model.specs.Sound.{sound}
 use Rattle.model.specs.laws.Sound.{sound-state}
 use Rattle.model.specs.Outcomes.{pairs}
@@ -21,7 +23,7 @@ use Rattle.rollback.specs.declared.line.Members.{Members}
 use Rattle.rollback.specs.declared.recover.Returned.{Returned}
 use Rattle.rollback.specs.declared.recover.RowsAfter.{RowsAfter}
 use Rattle.rollback.specs.Members.{statesOf, membersIn}
-use Rattle.rollback.specs.After.{rowsOf}
+use Rattle.rollback.specs.After.{pinsAt, blocksBelow, rowsOf}
 use Rattle.rollback.specs.Restored.{Restored, Restores, restored, pinsIn, rowsIn, restoredFrom, restoredIn, lossesFrom, lossesIn}
 use Rattle.rollback.proofs.Members.{members-in-state}
 use Rattle.rollback.proofs.Recovered.{run-in-state, rolled-in-state, gone-in-state, losses-in-state}
@@ -39,7 +41,8 @@ module _ (s : Run) (states : List Checkpoint) (list₀ : List ℕ) (f : ℕ) (af
     (back : ℕ) (owns : List Interval) (q : ℕ) (pins : List (List Pin)) (kept : List (List Checkpoint)) (held : List ℕ) (list : List ℕ) (gone : ℕ)
     (all-back : f ≡ s .count) (ret : Returning (s .count) states (s .vectors .0) (s .sent) after sent rolled members back f)
     (is-owns : owns ≡ ownRow after)
-    (all-done : q ≡ s .count) (rec : Recovering (s .count) after owns rolled members (s .pins .0) (s .kept .0) (s .held) list₀ pins kept held list gone q) where
+    (all-done : q ≡ s .count) (rec : Recovering (s .count) after owns rolled members (s .pins .0) (s .kept .0) (s .held) list₀ pins kept held list gone q)
+    (disk : Disk) (is-disk : disk ≡ billed (s .disk) 0 (blocksBelow (s .count) (s .kept .0) (s .held) members (pinsAt (s .pins .0) after owns rolled (s .kept .0) (s .held) members))) where
   abbrev parts : Restored
   parts = record {
     vectors = record { 0 = after };
@@ -50,21 +53,22 @@ module _ (s : Run) (states : List Checkpoint) (list₀ : List ℕ) (f : ℕ) (af
     under = select (outlives members) (underWay s);
     rolled = back;
     gone = gone;
+    disk = disk;
   }
 
   abbrev returned : Returned
   returned = record { vectors = record { 0 = after }; sent = sent; rolled = rolled; members = members; back = back }
 
-  rows-are : _≡_ {A = RowsAfter} (record { pins = record { 0 = pins }; kept = record { 0 = kept }; held = held; deleted = gone }) (rowsIn s returned)
+  rows-are : _≡_ {A = RowsAfter} (record { pins = record { 0 = pins }; kept = record { 0 = kept }; held = held; deleted = gone; disk = disk }) (rowsIn s returned)
   unfolding rowsIn
   rows-are =
-      all-rows rec all-done (record { 0 = pins }) (record { 0 = kept }) refl refl
-      ∙ ap (λ (o : List Interval). rowsOf (s .count) (s .pins .0) after o rolled (s .kept .0) (s .held) members) is-owns
+      all-rows rec all-done (record { 0 = pins }) (record { 0 = kept }) refl refl disk (s .disk) is-disk
+      ∙ ap (λ (o : List Interval). rowsOf (s .count) (s .pins .0) after o rolled (s .kept .0) (s .held) members (s .disk)) is-owns
 
   parts-are : parts ≡ restoredIn s states
   unfolding restoredIn restoredFrom
   parts-are =
-      ap (λ (r : RowsAfter). record { vectors = record { 0 = after }; pins = r .pins; sent = sent; kept = r .kept; held = r .held; under = select (outlives members) (underWay s); rolled = back; gone = r .deleted }) rows-are
+      ap (λ (r : RowsAfter). record { vectors = record { 0 = after }; pins = r .pins; sent = sent; kept = r .kept; held = r .held; under = select (outlives members) (underWay s); rolled = back; gone = r .deleted; disk = r .disk }) rows-are
       ∙ ap (restoredFrom s) (all-returned ret all-back (record { 0 = after }) refl)
 
   list-is : list ≡ sets list₀ 0 (pairs (lossesIn s states))

@@ -15,11 +15,12 @@ use Rattle.model.specs.declared.Interval.{Interval}
 use Rattle.model.specs.declared.CheckpointIndex.{CheckpointIndex}
 use Rattle.model.specs.declared.Checkpoint.{Checkpoint}
 use Rattle.model.specs.declared.Vectors.{Vectors}
+use Rattle.model.specs.Words.{pastEnd}
 use Rattle.members.specs.declared.turn.Stepped.{Stepped}
 use Rattle.members.specs.Line.{ownRow, failedRow}
 use Rattle.members.specs.Turn.{memberBy, steppedOf}
 use Rattle.rollback.specs.declared.recover.Returned.{Returned}
-use Rattle.rollback.specs.Members.{noState, statesOf}
+use Rattle.rollback.specs.Members.{statesOf}
 use Rattle.rollback.specs.Returned.{noIndex, stepAt, returnedOf}
 use Rattle.rollback.proofs.Members.{member-state}
 
@@ -36,7 +37,7 @@ pub record Returning (n : ℕ) (states : List Checkpoint) (vectors₀ : List (Li
 
 -- What the step of process f leaves; only the count depends on those before it.
 module _ (vectors : List (List Interval)) (sent : List Bool) (states : List Checkpoint) (f back : ℕ) (step : Stepped)
-    (is-step : step ≡ steppedOf (getD states f noState) (getD vectors f []) (getD sent f false) f back) where
+    (is-step : step ≡ steppedOf (getD states f pastEnd) (getD vectors f []) (getD sent f false) f back) where
   step-vector : step .vector ≡ stepAt vectors sent states f .vector
   unfolding steppedOf stepAt
   step-vector = ap (λ (x : Stepped). x .vector) is-step
@@ -82,9 +83,9 @@ module _ {n : ℕ} {states : List Checkpoint} {vectors₀ : List (List Interval)
     same-sent = turn-old (λ p. stepAt vectors₀ sent₀ states p .sent) sent₀ sent f (so-far .in-sent) false
 
     -- one process more
-    module _ (lt : f < n) (m : Checkpoint) (is-m : m ≡ getD states f noState) (step : Stepped)
+    module _ (lt : f < n) (m : Checkpoint) (is-m : m ≡ getD states f pastEnd) (step : Stepped)
         (is-step : step ≡ steppedOf m (getD vectors f []) (getD sent f false) f back) where
-      from-state : step ≡ steppedOf (getD states f noState) (getD vectors₀ f []) (getD sent₀ f false) f back
+      from-state : step ≡ steppedOf (getD states f pastEnd) (getD vectors₀ f []) (getD sent₀ f false) f back
       from-state = is-step ∙ rw (is-m, same-vector, same-sent)
 
       pub one-returned : Returning n states vectors₀ sent₀ (set vectors f (step .vector)) (set sent f (step .sent)) (set rolled f (step .rolled)) (set members f (step .index)) (step .back) (f + 1)
@@ -108,7 +109,7 @@ pub next-member : {n : ℕ} {vectors₀ : List (List Interval)} {sent₀ : List 
     {members : List CheckpointIndex} {back f : ℕ} (F : ℕ) (kept : List (List Checkpoint)) (held : List ℕ)
     → Returning n (statesOf n F vectors₀ kept held) vectors₀ sent₀ vectors sent rolled members back f → n ≤ 16 → f < n → (m : Checkpoint)
     → m ≡ memberBy (failedRow n F) (ownRow vectors₀) f (getD vectors f []) (getD held f 0) (getD kept f [])
-    → m ≡ getD (statesOf n F vectors₀ kept held) f noState
+    → m ≡ getD (statesOf n F vectors₀ kept held) f pastEnd
 next-member {n} {vectors₀} {sent₀} {vectors} {sent} {rolled} {members} {back} {f} F kept held so-far most lt m e =
     e
     ∙ ap (λ (v : List Interval). memberBy (failedRow n F) (ownRow vectors₀) f v (getD held f 0) (getD kept f [])) (same-vector so-far)

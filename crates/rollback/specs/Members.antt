@@ -10,7 +10,7 @@ use Rattle.laws.specs.Search.{allBelow}
 use Rattle.model.specs.declared.Interval.{Interval}
 use Rattle.model.specs.declared.Checkpoint.{Checkpoint}
 use Rattle.model.specs.declared.Run.{Run}
-use Rattle.model.specs.Words.{places, entry, noCheckpoint}
+use Rattle.model.specs.Words.{places, entry, noCheckpoint, pastEnd}
 use Rattle.model.specs.Steps.{member}
 use Rattle.model.specs.Refusals.{missing, noMember}
 use Rattle.members.specs.Line.{liveFrom, ownRow, failedRow, latestBy}
@@ -24,10 +24,6 @@ latestAt n owns F vectors kept held p = latestBy (failedRow n F) owns (take (get
 -- the line's member at p; the live state where there is none
 unfoldable pub memberAt : ℕ → List Interval → ℕ → List (List Interval) → List (List Checkpoint) → List ℕ → ℕ → Checkpoint
 memberAt n owns F vectors kept held p = memberBy (failedRow n F) owns p (getD vectors p []) (getD held p 0) (getD kept p [])
-
--- what a row has behind its end
-abbrev pub noState : Checkpoint
-noState = record { index = record { 0 = 0 }; vector = [] }
 
 -- a row of unused checkpoints
 abbrev pub unusedRow : List Checkpoint
@@ -50,6 +46,14 @@ membersIn s F = record { all = not (noMember s F); states = setBelow (s .count) 
 -- "Own entries at least 1."
 abbrev pub OwnAtLeastOne : ℕ → List (List Interval) → Type 0
 OwnAtLeastOne n vectors = (p : ℕ) → p < n → 1 ≤ entry (getD vectors p []) p .0
+
+-- The block count of process p: that of the first in its row.
+abbrev pub firstCount : List (List Checkpoint) → ℕ → ℕ
+firstCount kept p = getD (getD kept p []) 0 pastEnd .blocks
+
+-- A block count is at most 65,535.
+abbrev pub CountsAtMost : ℕ → List (List Checkpoint) → Type 0
+CountsAtMost n kept = (p : ℕ) → p < n → firstCount kept p ≤ 65535
 
 -- Each process keeps at most n checkpoints.
 abbrev pub HeldAtMost : ℕ → List ℕ → Type 0

@@ -9,6 +9,7 @@ use lib.ListN.{length}
 use lib.Seq.{sets}
 use Rattle.laws.specs.Lists.{placed, select}
 use Rattle.model.specs.declared.Checkpoint.{Checkpoint}
+use Rattle.model.specs.declared.Disk.{Disk}
 use Rattle.model.specs.declared.Kept.{Kept}
 use Rattle.model.specs.declared.Message.{Message}
 use Rattle.model.specs.declared.Pin.{Pin}
@@ -26,7 +27,8 @@ use Rattle.rollback.specs.declared.recover.UnderWay.{UnderWay}
 use Rattle.rollback.specs.Returned.{returnedOf}
 use Rattle.rollback.specs.After.{pinsAt, lossesOf, rowsOf}
 
--- The parts of a state after a recovery, with the messages that are still under way, how many processes rolled back, and how many checkpoints were deleted.
+-- The parts of a state after a recovery, with the messages that are still under way, how many processes rolled back, how many checkpoints were deleted,
+-- and the blocks written and deleted then.
 pub record Restored : Type 0 where
   pub vectors : Vectors
   pub pins : Pins
@@ -36,6 +38,7 @@ pub record Restored : Type 0 where
   pub under : List Message
   pub rolled : ℕ
   pub gone : ℕ
+  pub disk : Disk
 
 -- messages that are still under way, in the table of a state
 unfoldable pub stillOf : List Message → UnderWay
@@ -53,6 +56,7 @@ restored s r = record {
   messages = stillOf (r .under) .messages;
   underway = stillOf (r .under) .count;
   last = s .last;
+  disk = r .disk;
 }
 
 -- Given the members' states: all processes gone back, and the rows then.
@@ -63,7 +67,7 @@ unfoldable pub pinsIn : Run → Returned → ℕ → List Pin
 pinsIn s r = pinsAt (s .pins .0) (r .vectors .0) (ownRow (r .vectors .0)) (r .rolled) (s .kept .0) (s .held) (r .members)
 
 unfoldable pub rowsIn : Run → Returned → RowsAfter
-rowsIn s r = rowsOf (s .count) (s .pins .0) (r .vectors .0) (ownRow (r .vectors .0)) (r .rolled) (s .kept .0) (s .held) (r .members)
+rowsIn s r = rowsOf (s .count) (s .pins .0) (r .vectors .0) (ownRow (r .vectors .0)) (r .rolled) (s .kept .0) (s .held) (r .members) (s .disk)
 
 unfoldable pub restoredFrom : Run → Returned → Restored
 restoredFrom s r = record {
@@ -75,6 +79,7 @@ restoredFrom s r = record {
   under = select (outlives (r .members)) (underWay s);
   rolled = r .back;
   gone = rowsIn s r .deleted;
+  disk = rowsIn s r .disk;
 }
 
 unfoldable pub restoredIn : Run → List Checkpoint → Restored

@@ -9,15 +9,14 @@ use Rattle.laws.specs.Tests.{countBelow}
 use Rattle.model.specs.declared.Interval.{Interval}
 use Rattle.model.specs.declared.CheckpointIndex.{CheckpointIndex}
 use Rattle.model.specs.declared.Checkpoint.{Checkpoint}
-use Rattle.model.specs.Words.{places}
+use Rattle.model.specs.Words.{pastEnd, places}
 use Rattle.members.specs.declared.turn.Stepped.{Stepped}
 use Rattle.members.specs.Turn.{steppedOf}
 use Rattle.rollback.specs.declared.recover.Returned.{Returned}
-use Rattle.rollback.specs.Members.{noState}
 
 -- the step of process p, counted by itself
 unfoldable pub stepAt : List (List Interval) → List Bool → List Checkpoint → ℕ → Stepped
-stepAt vectors sent states p = steppedOf (getD states p noState) (getD vectors p []) (getD sent p false) p 0
+stepAt vectors sent states p = steppedOf (getD states p pastEnd) (getD vectors p []) (getD sent p false) p 0
 
 -- an index where there is no member
 abbrev pub noIndex : CheckpointIndex

@@ -14,8 +14,9 @@ ghost use lib.Seq.{sets};
 ghost use Rattle.laws.specs.Lists.{table};
 ghost use Rattle.model.specs.Sound.{sound};
 ghost use Rattle.model.specs.Outcomes.{lineOutcome};
+ghost use Rattle.model.specs.Words.{pastEnd};
 ghost use Rattle.members.specs.Line.{latestBy, latestIs};
-ghost use Rattle.rollback.specs.Members.{membersOf, membersIn, noState, OwnAtLeastOne, HeldAtMost};
+ghost use Rattle.rollback.specs.Members.{membersOf, membersIn, OwnAtLeastOne, HeldAtMost};
 
 // What a line call returns beside the lent list.
 pub struct LineOutcome {
@@ -95,7 +96,7 @@ pub(crate) fn members_of(s: Run, failed: u16) -> Members
 // The indexes of the first n states go to the front of the lent list.
 pub(crate) fn write_line(line: &mut [u16], states: [Checkpoint; 16], n: usize)
     requires { ⌜ (n ≤ 16) × (n ≤ length (now line)) ⌝ }
-    ensures { λ r. ⌜ now (line .exit) ≡ sets (now (line .entry)) 0 (table n (λ p. getD states p noState .index .0)) ⌝ }
+    ensures { λ r. ⌜ now (line .exit) ≡ sets (now (line .entry)) 0 (table n (λ p. getD states p pastEnd .index .0)) ⌝ }
 {
     for p in 0..n {
         let c = states[p];

@@ -2,6 +2,7 @@
 // were sent up to the line stay under way.
 use model::Checkpoint;
 use model::CheckpointIndex;
+use model::Disk;
 use model::Interval;
 use model::Kept;
 use model::Message;
@@ -14,7 +15,7 @@ use model::Vectors;
 use plans::Verdict;
 ghost use mathlib.Core.Path.{_≡_};
 ghost use mathlib.Core.Bool.{true, _||_};
-ghost use Prim.Native.Nat.{_*_, _≤_};
+ghost use Prim.Native.Nat.{_*_, _^_, _<_, _≤_};
 ghost use lib.Dec.{ltb};
 ghost use lib.ListN.{length, take};
 ghost use lib.Seq.{sets};
@@ -23,7 +24,7 @@ ghost use Rattle.laws.specs.Tests.{every};
 ghost use Rattle.model.specs.Sound.{sound};
 ghost use Rattle.model.specs.Outcomes.{pairs, recoverOutcome};
 ghost use Rattle.members.specs.Turn.{outlives};
-ghost use Rattle.rollback.specs.Members.{HeldAtMost};
+ghost use Rattle.rollback.specs.Members.{HeldAtMost, CountsAtMost};
 ghost use Rattle.rollback.specs.Returned.{returnedOf};
 ghost use Rattle.rollback.specs.After.{pinsAt, rowsOf, lossesOf};
 ghost use Rattle.rollback.specs.Restored.{stillOf, restored, restoredIn, lossesIn};
@@ -43,12 +44,13 @@ pub struct Returned {
     pub back: usize,
 }
 
-// The pins of all processes after a recovery, what they keep, how many checkpoints each, and how many were deleted.
+// The pins of all processes after a recovery, what they keep, how many checkpoints each, how many were deleted, and the blocks written and deleted then.
 pub struct RowsAfter {
     pub pins: Pins,
     pub kept: Kept,
     pub held: [usize; 16],
     pub deleted: usize,
+    pub disk: Disk,
 }
 
 // The messages under way after a recovery, and how many.
@@ -97,7 +99,7 @@ fn go_back(
 
 // The pins after the recovery and what the processes keep; `vectors` and `owns` are the vectors and the own entries after it, `rolled` says who rolled back,
 // `pins`, `kept` and `held` are as they were before it. The pairs of the deleted checkpoints of all processes go to the front of the lent list, ascending.
-// Each process keeps at most n, so 2 × n × n entries do. Each row is read where it is then written: a table that is not read again costs no copy.
+// Each process keeps at most n, so 2 × n × n entries do; all that it keeps have the block count of the first, and nothing is written. Each row is read where it is then written: a table that is not read again costs no copy.
 fn rows_after(
     deleted: &mut [u16],
     pins: [[Pin; 16]; 16],
@@ -107,15 +109,17 @@ fn rows_after(
     kept: [[Checkpoint; 16]; 16],
     held: [usize; 16],
     members: [CheckpointIndex; 16],
+    disk: Disk,
     n: usize,
 ) -> RowsAfter
-    requires { ⌜ (n ≤ 16) × (2 * n * n ≤ length (now deleted)) × HeldAtMost n held ⌝ }
-    ensures { λ r. ⌜ r ≡ rowsOf n pins vectors owns rolled kept held members ⌝ }
+    requires { ⌜ (n ≤ 16) × (2 * n * n ≤ length (now deleted)) × HeldAtMost n held × CountsAtMost n kept × (disk .written < 2 ^ 63) × (disk .deleted ≤ 1000000000000000) ⌝ }
+    ensures { λ r. ⌜ r ≡ rowsOf n pins vectors owns rolled kept held members disk ⌝ }
     ensures { λ r. ⌜ now (deleted .exit) ≡ sets (now (deleted .entry)) 0 (pairs (lossesOf n kept held members (pinsAt pins vectors owns rolled kept held members))) ⌝ }
 {
     let mut pins_left = pins;
     let mut kept_left = kept;
     let mut held_left = held;
+    let mut disk_left = disk;
     let mut gone = 0;
     for p in 0..n {
         let back = rolled[p];
@@ -128,10 +132,13 @@ fn rows_after(
         let left = recovery::kept::split_kept(deleted, 2 * gone, p, row, count, moved, last);
         let left_row = left.row;
         let left_held = left.held;
+        let less = count - left_held;
+        let first = row[0];
         pins_left[p] = moved;
         kept_left[p] = left_row;
         held_left[p] = left_held;
-        gone += count - left_held;
+        disk_left = rows::disk::billed(disk_left, false, less, first.blocks);
+        gone += less;
     }
     let all_pins = rows::squares::pins_from(pins_left);
     let all_kept = rows::squares::kept_from(kept_left);
@@ -140,6 +147,7 @@ fn rows_after(
         kept: all_kept,
         held: held_left,
         deleted: gone,
+        disk: disk_left,
     }
 }
 
@@ -198,11 +206,13 @@ fn run_after(s: Run, states: [Checkpoint; 16], deleted: &mut [u16]) -> RecoverOu
         old_kept,
         old_held,
         members,
+        s.disk,
         n,
     );
     let pins = all.pins;
     let kept = all.kept;
     let held = all.held;
+    let disk = all.disk;
     let still = still_under_way(old_messages, s.underway, members);
     let messages = still.messages;
     let run = Run {
@@ -215,6 +225,7 @@ fn run_after(s: Run, states: [Checkpoint; 16], deleted: &mut [u16]) -> RecoverOu
         messages,
         underway: still.count,
         last: s.last,
+        disk,
     };
     RecoverOutcome {
         run,

@@ -11,3 +11,9 @@ pub mod start;
 
 // vector.rt: dependency vectors, and the one road from an interval to a checkpoint's index
 pub mod vector;
+
+// checkpoint.rt: a checkpoint that is stored
+pub mod checkpoint;
+
+// disk.rt: the blocks written and deleted
+pub mod disk;

@@ -4,9 +4,10 @@ use model::CheckpointIndex;
 use model::Interval;
 use model::Pin;
 ghost use mathlib.Core.Path.{_≡_};
-ghost use Prim.Native.Nat.{_<_};
+ghost use mathlib.Core.List.{List};
+ghost use Prim.Native.Nat.{ℕ, _<_};
 ghost use Rattle.model.specs.Words.{zeroVector, noPins, noCheckpoint};
-ghost use Rattle.model.specs.Steps.{started};
+ghost use Rattle.model.specs.Steps.{checkpointZero, started};
 
 pub fn zero_vector() -> [Interval; 16]
     ensures { λ r. ⌜ r ≡ zeroVector ⌝ }
@@ -26,28 +27,32 @@ pub fn no_pins() -> [Pin; 16]
 pub fn no_checkpoint() -> Checkpoint
     ensures { λ r. ⌜ r ≡ noCheckpoint ⌝ }
 {
-    let zero = Interval(0);
-    let vector = [zero; 16];
-    Checkpoint {
-        index: CheckpointIndex(0),
-        vector,
-    }
+    let zeros = zero_vector();
+    super::checkpoint::stored(CheckpointIndex(0), zeros, 0, 0)
 }
 
 // The vector of process p, one of 16: its own entry is 1, the others are 0.
 pub fn first_vector(p: usize) -> [Interval; 16]
     requires { ⌜ p < 16 ⌝ }
-    ensures { λ r. ⌜ r ≡ started p .vector ⌝ }
+    ensures { λ r. ⌜ ((counts : List ℕ) → r ≡ started counts p .vector) ⌝ }
 {
     let mut v = zero_vector();
     v[p] = Interval(1);
     v
 }
 
+// The checkpoint that a process with this block count stores at the start: checkpoint 0, with a vector of zeros.
+pub fn checkpoint_zero(blocks: u16) -> Checkpoint
+    ensures { λ r. ⌜ r ≡ checkpointZero blocks ⌝ }
+{
+    let zeros = zero_vector();
+    super::checkpoint::stored(CheckpointIndex(0), zeros, 0, blocks)
+}
+
 // The pins of process p, one of 16: its own pin is at checkpoint 0, the others are nothing.
 pub fn first_pins(p: usize) -> [Pin; 16]
     requires { ⌜ p < 16 ⌝ }
-    ensures { λ r. ⌜ r ≡ started p .pins ⌝ }
+    ensures { λ r. ⌜ ((counts : List ℕ) → r ≡ started counts p .pins) ⌝ }
 {
     let mut row = no_pins();
     let pin = Pin::At(CheckpointIndex(0));

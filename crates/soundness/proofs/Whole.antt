@@ -23,9 +23,9 @@ use Rattle.model.specs.declared.Pin.the-variants.{Nothing}
 use Rattle.model.specs.declared.Checkpoint.{Checkpoint}
 use Rattle.model.specs.declared.Message.{Message}
 use Rattle.model.specs.declared.Run.{Run}
-use Rattle.model.specs.Words.{mostUnderWay, mostMessages, entry, lastStored, names, named, zeroVector, noCheckpoint, process, own, underWay}
-use Rattle.model.specs.Sound.{sound, countSound, ownSound, within, vectorsSound, ascending, keptSound, pinSound, pinsSound, messageSound, messagesSound, zeroFrom, unusedCheckpoint, unusedMessage, nothingFrom, rowUnused, unusedSound}
-use Rattle.soundness.specs.Clauses.{vectorSound, indexOf, ownEntryIsIndex, processTests, processSound, restUnused, messageNumber, messageTested, messagesTests, messagesTested, ownEntries, currentSound}
+use Rattle.model.specs.Words.{mostUnderWay, mostMessages, mostBlocks, blockCount, entry, lastStored, names, named, zeroVector, noCheckpoint, process, own, underWay}
+use Rattle.model.specs.Sound.{sound, countSound, ownSound, within, vectorsSound, ascending, keptSound, pinSound, pinsSound, messageSound, messagesSound, zeroFrom, unusedCheckpoint, unusedMessage, nothingFrom, rowUnused, unusedSound, recordSound, keptBlocks, diskSound}
+use Rattle.soundness.specs.Clauses.{vectorSound, indexOf, ownEntryIsIndex, recordTested, countIn, balanced, blocksIn, processTests, processSound, restUnused, messageNumber, messageTested, messagesTests, messagesTested, ownEntries, currentSound}
 use Rattle.soundness.proofs.Vectors.{zero-by}
 
 -- A test is asked only where another one holds.
@@ -35,11 +35,11 @@ under false a b e = refl
 
 -- The test of the places behind the kept checkpoints (u) moves beside the test that no process at n and above keeps any (h), which lets it be split;
 -- then its two halves move to the processes and to the rows at n and above.
-beside : (c j u z m h p g : Bool) → (c && (j && u) && z && m && h && p && g) ≡ ((c && j && (z && m && p && g)) && (h && u))
+beside : (c j u z m h p g d : Bool) → (c && (j && u && d) && z && m && h && p && g) ≡ ((c && j && (z && m && p && g && d)) && (h && u))
 unfolding holds asks allBelow
-beside c j u z m h p g = same-tests (c ∷ j ∷ u ∷ z ∷ m ∷ h ∷ p ∷ g ∷ [])
-    (test 0 and (test 1 and test 2) and test 3 and test 4 and test 5 and test 6 and test 7)
-    ((test 0 and test 1 and (test 3 and test 4 and test 6 and test 7)) and (test 5 and test 2))
+beside c j u z m h p g d = same-tests (c ∷ j ∷ u ∷ z ∷ m ∷ h ∷ p ∷ g ∷ d ∷ [])
+    (test 0 and (test 1 and test 2 and test 8) and test 3 and test 4 and test 5 and test 6 and test 7)
+    ((test 0 and test 1 and (test 3 and test 4 and test 6 and test 7 and test 8)) and (test 5 and test 2))
     refl
     refl
 
@@ -98,8 +98,8 @@ module _ (s : Run) (high : s .count ≤ 16) where
   -- The tests of one process, as the code groups them and as document 01 does. A test that is added stands in the list, and in both groupings.
   process-same : (p : ℕ) → p < n
       → (current p && tested p && unused p)
-      ≡ (leb 1 (own s p .0) && (within s (process s p .vector) && every (λ c. within s (c .vector)) (process s p .kept)) && (keptSound s p && pinsSound s p) && rowUnused s p)
-  unfolding currentSound processSound processTests restUnused ownEntryIsIndex keptSound pinsSound rowUnused own process every holds each asks allBelow
+      ≡ (leb 1 (own s p .0) && (within s (process s p .vector) && every (λ c. within s (c .vector)) (process s p .kept)) && (keptSound s p && pinsSound s p) && rowUnused s p && every (recordSound (process s p)) (process s p .kept))
+  unfolding recordTested recordSound blockCount currentSound processSound processTests restUnused ownEntryIsIndex keptSound pinsSound rowUnused own process every holds each asks allBelow
   process-same p lt =
       let pins = getD (s .pins .0) p [] in
       let held = getD (s .held) p 0 in
@@ -123,14 +123,16 @@ module _ (s : Run) (high : s .count ≤ 16) where
       ∷ every (λ c. zeroFrom n (c .vector)) kept
       ∷ nothingFrom n pins
       ∷ every unusedCheckpoint (drop held row)
+      ∷ every (recordTested (countIn kept)) kept
       ∷ [])
       ((test 0 and (test 1 and test 2))
-      and each (test 3 ∷ test 4 ∷ test 5 ∷ test 6 ∷ test 7 ∷ test 8 ∷ test 9 ∷ test 10 ∷ (test 11 and test 12) ∷ test 13 ∷ [])
+      and each (test 3 ∷ test 4 ∷ test 5 ∷ test 6 ∷ test 7 ∷ test 8 ∷ test 9 ∷ test 10 ∷ (test 11 and test 12) ∷ test 13 ∷ test 15 ∷ [])
       and test 14)
       (test 0
       and (test 1 and test 11)
       and (test 3 and test 4 and test 5 and test 6 and test 7 and test 8 and (test 9 and test 10))
-      and (test 2 and test 13 and test 12 and test 14))
+      and (test 2 and test 13 and test 12 and test 14)
+      and test 15)
       refl
       refl)
 
@@ -139,15 +141,18 @@ module _ (s : Run) (high : s .count ≤ 16) where
       ≡ (allBelow n (λ p. leb 1 (own s p .0))
       && allBelow n (λ p. within s (process s p .vector) && every (λ c. within s (c .vector)) (process s p .kept))
       && allBelow n (λ p. keptSound s p && pinsSound s p)
-      && allBelow n (rowUnused s))
+      && allBelow n (rowUnused s)
+      && allBelow n (λ p. every (recordSound (process s p)) (process s p .kept)))
   processes-same =
       let o : ℕ → Bool = λ p. leb 1 (own s p .0) in
       let w : ℕ → Bool = λ p. within s (process s p .vector) && every (λ c. within s (c .vector)) (process s p .kept) in
       let k : ℕ → Bool = λ p. keptSound s p && pinsSound s p in
+      let r : ℕ → Bool = λ p. every (recordSound (process s p)) (process s p .kept) in
       sym (all-both n (λ p. current p && tested p) unused ∙ ap (λ b. b && allBelow n unused) (all-both n current tested))
-      ∙ all-same n (λ p. current p && tested p && unused p) (λ p. o p && w p && k p && rowUnused s p) process-same
-      ∙ all-both n (λ p. o p && w p && k p) (rowUnused s)
-      ∙ ap (λ b. b && allBelow n (rowUnused s)) (all-both n (λ p. o p && w p) k ∙ ap (λ b. b && allBelow n k) (all-both n o w))
+      ∙ all-same n (λ p. current p && tested p && unused p) (λ p. o p && w p && k p && rowUnused s p && r p) process-same
+      ∙ all-both n (λ p. o p && w p && k p && rowUnused s p) r
+      ∙ ap (λ b. b && allBelow n r) (all-both n (λ p. o p && w p && k p) (rowUnused s)
+      ∙ ap (λ b. b && allBelow n (rowUnused s)) (all-both n (λ p. o p && w p) k ∙ ap (λ b. b && allBelow n k) (all-both n o w)))
 
   -- Where no process at n and above keeps a checkpoint, the places behind the kept ones are whole rows from n on.
   none-held : every (eqb 0) (drop n (s .held)) ≡ true → (q : ℕ) → n ≤ q → getD (s .held) q 0 ≡ 0
@@ -183,11 +188,13 @@ module _ (s : Run) (high : s .count ≤ 16) where
     unusedRows = every (every unusedCheckpoint) (drop n (s .kept .0))
 
     abbrev others : Bool
-    others = every (zeroFrom 0) (drop n (s .vectors .0)) && every not (drop n (s .sent)) && every (nothingFrom 0) (drop n (s .pins .0)) && messagesTested n owns (s .messages) (s .underway) (s .last)
+    others =
+        every (zeroFrom 0) (drop n (s .vectors .0)) && every not (drop n (s .sent)) && every (nothingFrom 0) (drop n (s .pins .0)) && messagesTested n owns (s .messages) (s .underway) (s .last)
+        && balanced (s .disk) (blocksIn n (s .kept .0) (s .held))
 
     -- Where the count is in its range, the other tests decide.
     whole : ((allBelow n current && allBelow n tested && allBelow n unused) && (noneHeld && unusedRows) && others) ≡ sound s
-    unfolding messagesTested messagesTests messageTested sound countSound ownSound vectorsSound messagesSound messageSound unusedSound underWay every holds each asks allBelow
+    unfolding balanced blocksIn diskSound keptBlocks messagesTested messagesTests messageTested sound countSound ownSound vectorsSound messagesSound messageSound unusedSound underWay process every holds each asks allBelow
     whole =
         let live = take (s .underway) (s .messages) in
         let message : Message → Bool = λ x. leb (x .number) (s .last) && ltb (x .sender) n && ltb (x .receiver) n && not (eqb (x .sender) (x .receiver)) in
@@ -209,21 +216,25 @@ module _ (s : Run) (high : s .count ≤ 16) where
         ∷ every (λ x. within s (x .vector)) live
         ∷ every (λ x. zeroFrom n (x .vector)) live
         ∷ every unusedMessage (drop (s .underway) (s .messages))
+        ∷ allBelow n (λ p. every (recordSound (process s p)) (process s p .kept))
+        ∷ eqb (s .disk .written) (keptBlocks s + s .disk .deleted)
+        ∷ leb (s .disk .written) mostBlocks
         ∷ [])
-        ((test 0 and test 1 and test 2 and test 3)
+        ((test 0 and test 1 and test 2 and test 3 and test 16)
         and (test 4 and test 5)
-        and (test 6 and test 7 and test 8 and each (test 9 ∷ test 10 ∷ test 11 ∷ (test 12 and (test 13 and test 14)) ∷ test 15 ∷ [])))
+        and (test 6 and test 7 and test 8 and each (test 9 ∷ test 10 ∷ test 11 ∷ (test 12 and (test 13 and test 14)) ∷ test 15 ∷ []) and (test 17 and test 18)))
         (none
         and test 0
         and (test 1 and test 13)
         and test 2
         and (test 9 and test 11 and test 12 and test 10)
-        and (test 3 and test 6 and test 8 and test 7 and test 5 and test 4 and test 14 and test 15))
+        and (test 3 and test 6 and test 8 and test 7 and test 5 and test 4 and test 14 and test 15)
+        and (test 16 and test 17 and test 18))
         refl
         refl)
 
     pub verdict : (allBelow n current
-        && (allBelow n tested && allBelow 16 unused)
+        && (allBelow n tested && allBelow 16 unused && balanced (s .disk) (blocksIn n (s .kept .0) (s .held)))
         && every (zeroFrom 0) (drop n (s .vectors .0))
         && every not (drop n (s .sent))
         && noneHeld
@@ -231,7 +242,7 @@ module _ (s : Run) (high : s .count ≤ 16) where
         && messagesTested n owns (s .messages) (s .underway) (s .last))
         ≡ sound s
     verdict =
-        beside (allBelow n current) (allBelow n tested) (allBelow 16 unused) (every (zeroFrom 0) (drop n (s .vectors .0))) (every not (drop n (s .sent))) noneHeld (every (nothingFrom 0) (drop n (s .pins .0))) (messagesTested n owns (s .messages) (s .underway) (s .last))
+        beside (allBelow n current) (allBelow n tested) (allBelow 16 unused) (every (zeroFrom 0) (drop n (s .vectors .0))) (every not (drop n (s .sent))) noneHeld (every (nothingFrom 0) (drop n (s .pins .0))) (messagesTested n owns (s .messages) (s .underway) (s .last)) (balanced (s .disk) (blocksIn n (s .kept .0) (s .held)))
         ∙ ap (λ b. (allBelow n current && allBelow n tested && others) && b) (under noneHeld (allBelow 16 unused) (allBelow n unused && unusedRows) (rows-same size))
         ∙ grouped (allBelow n current) (allBelow n tested) others noneHeld (allBelow n unused) unusedRows
         ∙ whole

@@ -10,6 +10,7 @@ use lib.ListN.{length, getD, take, drop, replicate}
 use Rattle.laws.specs.Lists.{orElse, lastOf}
 use Rattle.laws.specs.Loops.{setBelow}
 use Rattle.laws.specs.Search.{allBelow}
+use Rattle.laws.specs.Sums.{sumBelow}
 use Rattle.laws.specs.Tests.{every, some-of, allOf}
 use Rattle.model.specs.declared.Interval.{Interval}
 use Rattle.model.specs.declared.CheckpointIndex.{CheckpointIndex}
@@ -17,9 +18,10 @@ use Rattle.model.specs.declared.Pin.{Pin}
 use Rattle.model.specs.declared.Pin.the-variants.{Nothing, At}
 use Rattle.model.specs.declared.Checkpoint.{Checkpoint}
 use Rattle.model.specs.declared.Message.{Message}
-use Rattle.model.specs.Words.{places, mostUnderWay, mostMessages, entry, lastStored, names, named, zeroVector, noCheckpoint}
+use Rattle.model.specs.declared.Disk.{Disk}
+use Rattle.model.specs.Words.{places, mostUnderWay, mostMessages, mostBlocks, blocksOf, entry, lastStored, names, named, zeroVector, noCheckpoint}
 use Rattle.model.specs.Steps.{takenVector}
-use Rattle.model.specs.Sound.{ascending, pinSound, zeroFrom, nothingFrom, unusedCheckpoint, unusedMessage}
+use Rattle.model.specs.Sound.{causeSound, isBlockCount, ascending, pinSound, zeroFrom, nothingFrom, unusedCheckpoint, unusedMessage}
 use Rattle.soundness.specs.declared.kept.Walk.{Walk}
 
 -- A vector of a run of n processes whose own entries are `owns`: no entry is above the own entry there, and entries at n and above are zero.
@@ -53,25 +55,25 @@ indexOf c = c .index .0
 unfoldable pub metBy : List Bool → List CheckpointIndex → CheckpointIndex → List Bool
 metBy met pinned a = setBelow places (λ j. getD met j false || eqb (getD pinned j (record { 0 = 0 }) .0) (a .0)) met
 
--- What an array of checkpoints has past its end.
-abbrev pub empty : Checkpoint
-empty = record { index = record { 0 = 0 }; vector = [] }
-
 -- "each one's own entry equal to its index"
 unfoldable pub ownEntryIsIndex : ℕ → Checkpoint → Bool
 ownEntryIsIndex p c = eqb (entry (c .vector) p .0) (indexOf c)
 
--- A kept checkpoint of process p by itself, but for its vector's other entries: its own entry is its index, and it is pinned.
-unfoldable pub placeSound : List CheckpointIndex → ℕ → Checkpoint → Bool
-placeSound pinned p c = ownEntryIsIndex p c && among pinned (c .index)
+-- Note 5: the cause of a kept checkpoint and its block count, where `count` is that of its process.
+unfoldable pub recordTested : ℕ → Checkpoint → Bool
+recordTested count c = causeSound (c .index .0) (c .cause) && isBlockCount (c .blocks) && eqb (c .blocks) count
+
+-- A kept checkpoint of process p by itself, but for its vector's other entries: its own entry is its index, it is pinned, and its cause and block count.
+unfoldable pub placeSound : List CheckpointIndex → ℕ → ℕ → Checkpoint → Bool
+placeSound pinned count p c = ownEntryIsIndex p c && among pinned (c .index) && recordTested count c
 
 -- A walk along the kept checkpoints of process p: what it has gathered before the first, and with one more.
 unfoldable pub noneWalked : Walk
 noneWalked = record { ok = true; low = 0; met = replicate places false; most = zeroVector }
 
-unfoldable pub walkedOne : List CheckpointIndex → ℕ → Walk → Checkpoint → Walk
-walkedOne pinned p w c = record {
-  ok = w .ok && leb (w .low) (indexOf c) && placeSound pinned p c;
+unfoldable pub walkedOne : List CheckpointIndex → ℕ → ℕ → Walk → Checkpoint → Walk
+walkedOne pinned count p w c = record {
+  ok = w .ok && leb (w .low) (indexOf c) && placeSound pinned count p c;
   low = indexOf c + 1;
   met = metBy (w .met) pinned (c .index);
   most = takenVector (w .most) (c .vector);
@@ -85,7 +87,11 @@ walkSound n owns w last = w .ok && eqb (w .low) (last .0 + 1) && vectorSound n o
 unfoldable pub fit : ℕ → ℕ → CheckpointIndex → List Pin → ℕ → Bool
 fit n p last pins held = leb 1 held && leb held n && names (getD pins p Nothing) last && nothingFrom n pins
 
--- The pins and the kept checkpoints of process p: keptSound and pinsSound, the vectors of the kept checkpoints, and the unused pins.
+-- The block count of a process: that of the first checkpoint that it keeps.
+abbrev pub countIn : List Checkpoint → ℕ
+countIn kept = getD kept 0 noCheckpoint .blocks
+
+-- The pins and the kept checkpoints of process p: keptSound and pinsSound, the vectors of the kept checkpoints, the unused pins, and causes and block counts.
 unfoldable pub processTests : ℕ → List Interval → ℕ → List Checkpoint → List Pin → ℕ → List Bool
 processTests n owns p row pins held =
     leb 1 held
@@ -98,6 +104,7 @@ processTests n owns p row pins held =
     ∷ every (named pins) (take held row)
     ∷ every (λ c. vectorSound n owns (c .vector)) (take held row)
     ∷ nothingFrom n pins
+    ∷ every (recordTested (countIn (take held row))) (take held row)
     ∷ []
 
 unfoldable pub processSound : ℕ → List Interval → ℕ → List Checkpoint → List Pin → ℕ → Bool
@@ -106,6 +113,14 @@ processSound n owns p row pins held = allOf (processTests n owns p row pins held
 -- The places of a row behind its kept checkpoints.
 unfoldable pub restUnused : List Checkpoint → ℕ → Bool
 restUnused row held = every unusedCheckpoint (drop held row)
+
+-- The blocks of all kept checkpoints.
+unfoldable pub blocksIn : ℕ → List (List Checkpoint) → List ℕ → ℕ
+blocksIn n kept held = sumBelow n (λ p. blocksOf (take (getD held p 0) (getD kept p [])))
+
+-- Note 5: "written equals blocks of all kept checkpoints plus blocks deleted", "within the bound of 16".
+unfoldable pub balanced : Disk → ℕ → Bool
+balanced disk blocks = eqb (disk .written) (blocks + disk .deleted) && leb (disk .written) mostBlocks
 
 abbrev pub messageNumber : Message → ℕ
 messageNumber x = x .number

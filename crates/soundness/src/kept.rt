@@ -9,8 +9,8 @@ ghost use mathlib.Core.Bool.{true, _&&_};
 ghost use Prim.Native.Nat.{ℕ, _≤_, _<_};
 ghost use lib.Dec.{eqb};
 ghost use Rattle.laws.specs.Choice.{pick};
-ghost use Rattle.model.specs.Sound.{zeroFrom, unusedCheckpoint};
-ghost use Rattle.soundness.specs.Clauses.{Joins, noneWalked, walkedOne, walkSound};
+ghost use Rattle.model.specs.Sound.{causeSound, zeroFrom, unusedCheckpoint};
+ghost use Rattle.soundness.specs.Clauses.{recordTested, Joins, noneWalked, walkedOne, walkSound};
 
 // What a walk along the checkpoints of a process has gathered. What asks for 16 entries at a time is tested once, behind the last checkpoint.
 pub struct Walk {
@@ -37,10 +37,31 @@ pub fn none_walked() -> Walk
     }
 }
 
-// One checkpoint more of process p, whose pins name the indexes `pinned`: its own entry is its index, and a pin names it.
-pub fn walked(w: Walk, c: Checkpoint, pinned: [CheckpointIndex; 16], p: usize) -> Walk
+// "causes 0 to 2, 0 exactly at index 0"
+fn is_cause_sound(cause: u8, index: CheckpointIndex) -> bool
+    ensures { λ r. ⌜ r ≡ causeSound (index .0) cause ⌝ }
+{
+    if index.0 == 0 {
+        cause == 0
+    } else {
+        (1 <= cause) & (cause <= 2)
+    }
+}
+
+// The cause of a kept checkpoint goes with its index, and its block count is in its range and that of its process. A number of 16 bits is not above 65,535; the
+// test stands here for the reader, and costs nothing.
+fn is_record_sound(c: Checkpoint, blocks: u16) -> bool
+    ensures { λ r. ⌜ r ≡ recordTested blocks c ⌝ }
+{
+    let caused = is_cause_sound(c.cause, c.index);
+    caused & ((1 <= c.blocks) & (c.blocks <= 65535)) & (c.blocks == blocks)
+}
+
+// One checkpoint more of process p, whose pins name the indexes `pinned` and whose block count is `blocks`: its own entry is its index, a pin names it, and
+// its cause and block count are sound.
+pub fn walked(w: Walk, c: Checkpoint, pinned: [CheckpointIndex; 16], blocks: u16, p: usize) -> Walk
     requires { ⌜ p < 16 ⌝ }
-    ensures { λ r. ⌜ (r ≡ walkedOne pinned p w c) × Joins (w .most) (c .vector) (r .most) ⌝ }
+    ensures { λ r. ⌜ (r ≡ walkedOne pinned blocks p w c) × Joins (w .most) (c .vector) (r .most) ⌝ }
 {
     let index = c.index;
     let vector = c.vector;
@@ -52,8 +73,9 @@ pub fn walked(w: Walk, c: Checkpoint, pinned: [CheckpointIndex; 16], p: usize) -
     let met_now = pins::met_by(met, pinned, index);
     let most_now = vector::joined(most, vector);
     let low = place + 1;
+    let recorded = is_record_sound(c, blocks);
     Walk {
-        ok: w.ok & (w.low <= place) & ((x.0 == index.0) & pinned_too),
+        ok: w.ok & (w.low <= place) & ((x.0 == index.0) & pinned_too & recorded),
         low,
         met: met_now,
         most: most_now,
@@ -77,14 +99,20 @@ pub fn is_unused(c: Checkpoint) -> bool
     let index = c.index;
     let vector = c.vector;
     let zero = vector::is_zero(vector);
-    (index.0 == 0) & zero
+    (index.0 == 0) & zero & (c.cause == 0) & (c.blocks == 0)
 }
 
-// An index of two that is not 0, if there is one.
-fn nonzero_of(a: CheckpointIndex, b: CheckpointIndex) -> CheckpointIndex
-    ensures { λ r. ⌜ r ≡ pick (eqb (a .0) 0) b a ⌝ }
+// An index, a block count or a cause of two that is not 0, if there is one.
+fn nonzero_of(a: u16, b: u16) -> u16
+    ensures { λ r. ⌜ r ≡ pick (eqb a 0) b a ⌝ }
 {
-    if a.0 == 0 { b } else { a }
+    if a == 0 { b } else { a }
+}
+
+fn nonzero_cause(a: u8, b: u8) -> u8
+    ensures { λ r. ⌜ r ≡ pick (eqb a 0) b a ⌝ }
+{
+    if a == 0 { b } else { a }
 }
 
 // Two places at once: what is joined is unused exactly if both are.
@@ -96,6 +124,8 @@ pub fn joined(a: Checkpoint, b: Checkpoint) -> Checkpoint
     let v = a.vector;
     let w = b.vector;
     let vector = vector::joined(v, w);
-    let index = nonzero_of(x, y);
-    Checkpoint { index, vector }
+    let index = nonzero_of(x.0, y.0);
+    let cause = nonzero_cause(a.cause, b.cause);
+    let blocks = nonzero_of(a.blocks, b.blocks);
+    rows::checkpoint::stored(CheckpointIndex(index), vector, cause, blocks)
 }

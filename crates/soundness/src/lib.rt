@@ -17,6 +17,9 @@ mod kept;
 // messages.rt: the messages under way
 mod messages;
 
+// disk.rt: the blocks written and deleted
+mod disk;
+
 // tables.rt: the rows of all processes
 mod tables;
 
@@ -39,7 +42,7 @@ pub fn is_sound(s: Run) -> bool
     let messages = s.messages;
     let own = tables::own_entries(vectors, n);
     let current = tables::are_current_sound(vectors, own, n);
-    let processes = tables::are_processes_sound(kept, pins, own, held, n);
+    let processes = tables::are_processes_sound(kept, pins, own, held, s.disk, n);
     let zero = tables::zero_rows_from(vectors, n);
     let unmarked = tables::unmarked_from(sent, n);
     let none = tables::none_held_from(held, n);

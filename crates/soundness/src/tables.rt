@@ -1,8 +1,10 @@
 // The tables of a state, row by row: the vectors, the pins and kept checkpoints, and what stands at the count and above.
+use crate::disk;
 use crate::kept;
 use crate::pins;
 use crate::vector;
 use model::Checkpoint;
+use model::Disk;
 use model::Interval;
 use model::Pin;
 ghost use mathlib.Core.Path.{_≡_};
@@ -14,7 +16,7 @@ ghost use lib.ListN.{getD, drop};
 ghost use Rattle.laws.specs.Search.{allBelow};
 ghost use Rattle.laws.specs.Tests.{every};
 ghost use Rattle.model.specs.Sound.{zeroFrom, nothingFrom};
-ghost use Rattle.soundness.specs.Clauses.{ownEntries, currentSound, processSound, restUnused};
+ghost use Rattle.soundness.specs.Clauses.{ownEntries, currentSound, processSound, restUnused, balanced, blocksIn};
 
 // The own entries of the n processes, zero at n and above.
 pub fn own_entries(vectors: [[Interval; 16]; 16], n: usize) -> [Interval; 16]
@@ -73,19 +75,21 @@ pub fn nothing_rows_from(pins: [[Pin; 16]; 16], from: usize) -> bool
     true
 }
 
-// The pins and the kept checkpoints of the n processes, and the places behind the kept checkpoints in all rows. The caller has judged the count, and has
+// The pins and the kept checkpoints of the n processes, the places behind the kept checkpoints in all rows, and the blocks written and deleted. The caller has judged the count, and has
 // its own entries. The kept checkpoints are most of a state: one function has them, so that they are handed on once, and reads them where they stand.
 pub fn are_processes_sound(
     kept: [[Checkpoint; 16]; 16],
     pins: [[Pin; 16]; 16],
     own: [Interval; 16],
     held: [usize; 16],
+    disk: Disk,
     n: usize,
 ) -> bool
     requires { ⌜ (n ≤ 16) × (zeroFrom n own ≡ true) ⌝ }
     ensures { λ r. ⌜ r ≡ (allBelow n (λ p. processSound n own p (getD kept p []) (getD pins p []) (getD held p 0))
-        && allBelow 16 (λ p. restUnused (getD kept p []) (getD held p 0))) ⌝ }
+        && allBelow 16 (λ p. restUnused (getD kept p []) (getD held p 0)) && balanced disk (blocksIn n kept held)) ⌝ }
 {
+    let mut all_blocks: u64 = 0;
     'processes: for p in 0..n {
         let row_pins = pins[p];
         let count = held[p];
@@ -97,16 +101,20 @@ pub fn are_processes_sound(
         }
         // the last stored checkpoint is kept and pinned, so it can stand for "none"
         let pinned = pins::pinned_indexes(row_pins, last);
+        let first = kept[p][0];
+        let blocks = first.blocks;
         let mut walk = kept::none_walked();
         'walk: for k in 0..count {
             let c = kept[p][k];
-            let further = kept::walked(walk, c, pinned, p);
+            let further = kept::walked(walk, c, pinned, blocks, p);
             walk = further;
         }
         let ok = kept::is_walk_sound(walk, last, own);
         if !ok {
             return false;
         }
+        // all that it keeps have the same count
+        all_blocks = disk::with_blocks(all_blocks, count, blocks);
     }
     let mut unused = rows::start::no_checkpoint();
     'rows: for q in 0..16 {
@@ -117,7 +125,9 @@ pub fn are_processes_sound(
             unused = both;
         }
     }
-    kept::is_unused(unused)
+    let rest = kept::is_unused(unused);
+    let balanced = disk::is_balanced(disk, all_blocks);
+    rest & balanced
 }
 
 pub fn unmarked_from(sent: [bool; 16], from: usize) -> bool

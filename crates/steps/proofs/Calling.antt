@@ -27,19 +27,20 @@ use Rattle.model.specs.declared.DeliverAnswer.{DeliverAnswer}
 use Rattle.model.specs.declared.DeliverAnswer.the-variants as deliver-answer
 use Rattle.model.specs.declared.LoseAnswer.{LoseAnswer}
 use Rattle.model.specs.declared.LoseAnswer.the-variants as lose-answer
-use Rattle.model.specs.Words.{mostUnderWay, entry, liveIndex, noMessage, process, live, underWay}
+use Rattle.model.specs.Words.{pastEnd, mostUnderWay, entry, liveIndex, noMessage, process, live, underWay}
 use Rattle.model.specs.Steps.{Deletion, listed, checkpointDeletions, sendState, found, forces, deliverRisen, deliverDeletions, loseState}
 use Rattle.model.specs.Sound.{sound}
 use Rattle.model.specs.Refusals.{missing, checkpointRefusal, sendRefusal, deliverRefusal, loseRefusal}
 use Rattle.model.specs.Outcomes.{Outcome, judged, pairs, checkpointOutcome, sendOutcome, deliverAnswer, message, deliverOutcome, loseOutcome}
 use Rattle.model.specs.laws.Refusals.{refusal-in, no-rule}
 use Rattle.model.specs.laws.Sound.{sound-state}
+use Rattle.rows.proofs.Blocks.{first-count}
 use Rattle.plans.specs.declared.Lookup.{Lookup}
 use Rattle.plans.specs.declared.Plan.{Plan}
 use Rattle.plans.specs.declared.Verdict.{Verdict}
 use Rattle.plans.specs.declared.Verdict.the-variants.{Accepted, Refused}
-use Rattle.plans.specs.Carried.{messagesThen, unnamedBy, roseBy, unmoved, moved, Fulfils}
-use Rattle.plans.specs.Planned.{rowOf, refusalOf, unchanged, storedPlan, checkpointPlan, sentPlan, sendPlan, withoutIt, deliverPlan, losePlan}
+use Rattle.plans.specs.Carried.{countAt, messagesThen, unnamedBy, roseBy, unmoved, moved, Fulfils}
+use Rattle.plans.specs.Planned.{rowOf, refusalOf, unchanged, pastMost, storedPlan, checkpointPlan, sentPlan, sendPlan, withoutIt, deliverPlan, losePlan}
 use Rattle.plans.specs.Sized.{Sized}
 use Rattle.plans.specs.Tables.{inUse, messagesIn, LooksUp}
 use Rattle.plans.proofs.Facts.{row-is}
@@ -104,6 +105,10 @@ module _ (s : Run) (h : sound s ≡ true) (size : Sized s) where
   -- A call that names no message looks up nothing.
   pub first-look : {t : Lookup} → t ≡ noneNamed (getD (s .messages) 0 none-there) (s .underway) (s .last) → LooksUp s (s .messages) 0 (s .underway) 0 t
   first-look e = rw e (none-looks-up s h size (getD (s .messages) 0 none-there) (entry-any (s .messages) 0 none-there noMessage (omega (arith, size .messages))))
+
+  -- The block count of a process of the run stands in the first place of its row.
+  pub count-at : (q : ℕ) → q < s .count → getD (getD (s .kept .0) q []) 0 pastEnd .blocks ≡ countAt s q
+  count-at q lt = first-count (getD (s .kept .0) q []) (getD (s .held) q 0) (sound-state s h .processes q lt .held-some)
 
   -- A send.
   module _ (i j : ℕ) {t : Lookup} (look : LooksUp s (s .messages) 0 (s .underway) 0 t) where
@@ -182,26 +187,31 @@ module _ (s : Run) (h : sound s ≡ true) (size : Sized s) where
     present e = leb-false (s .count) i (no-rule _ e 2)
 
     -- neither a refused nor an accepted one changes the messages
-    kept-messages : {t : Lookup} → LooksUp s (s .messages) 0 (s .underway) 0 t → (own : Interval) (mark : Bool)
-        → messagesThen (s .messages) 0 (checkpointPlan i (s .count) own mark t) ≡ underWay s
+    kept-messages : {t : Lookup} → LooksUp s (s .messages) 0 (s .underway) 0 t → (own : Interval) (mark : Bool) (blocks : ℕ)
+        → messagesThen (s .messages) 0 (checkpointPlan i (s .count) own mark blocks (s .disk .written) t) ≡ underWay s
     unfolding checkpointPlan unchanged storedPlan
-    kept-messages {t} look own mark =
+    kept-messages {t} look own mark blocks =
         let Keeps : Plan → Type 0 = λ p. messagesThen (s .messages) 0 p ≡ underWay s in
-        either-plan Keeps (leb (s .count) i) _ _ (λ e. put-back h size look) (λ e. either-plan Keeps (leb 65535 (own .0)) _ _ (λ e. put-back h size look) (λ e. put-back h size look))
+        either-plan Keeps (leb (s .count) i) _ _ (λ e. put-back h size look)
+        (λ e. either-plan Keeps (leb 65535 (own .0)) _ _ (λ e. put-back h size look)
+        (λ e. either-plan Keeps (pastMost (s .disk .written) blocks) _ _ (λ e. put-back h size look) (λ e. put-back h size look)))
 
-    module _ (long : 2 * s .count * s .count ≤ length lent) {t : Lookup} (look : LooksUp s (s .messages) 0 (s .underway) 0 t) {row : ℕ} {vectors : List (List Interval)} {p : Plan}
-        (e-row : row ≡ rowOf i) (e-vectors : vectors ≡ s .vectors .0)
-        (e-p : p ≡ checkpointPlan i (s .count) (entry (getD vectors row []) row) (getD (s .sent) row false) t) where
+    module _ (long : 2 * s .count * s .count ≤ length lent) {t : Lookup} (look : LooksUp s (s .messages) 0 (s .underway) 0 t) {row : ℕ} {vectors : List (List Interval)} {blocks : ℕ} {p : Plan}
+        (e-row : row ≡ rowOf i) (e-vectors : vectors ≡ s .vectors .0) (e-blocks : blocks ≡ getD (getD (s .kept .0) row []) 0 pastEnd .blocks)
+        (e-p : p ≡ checkpointPlan i (s .count) (entry (getD vectors row []) row) (getD (s .sent) row false) blocks (s .disk .written) t) where
+      counted : i < s .count → blocks ≡ countAt s i
+      counted lt = e-blocks ∙ ap (λ (q : ℕ). getD (getD (s .kept .0) q []) 0 pastEnd .blocks) (e-row ∙ row-is s h i lt) ∙ count-at i lt
+
       pub checkpoint-does : Fulfils s (s .messages) 0 row p (checkpointRefusal s i lent) (checkpointOutcome s i lent .run)
           (judged (checkpointRefusal s i lent) (λ why. []) (checkpointDeletions s i))
-      checkpoint-does = rw (e-p, e-vectors, e-row) (checkpoint-decided s h size (s .messages) 0 (s .underway) 0 t look i lent long)
+      checkpoint-does = rw (e-p, e-vectors, e-row) (checkpoint-decided s h size (s .messages) 0 (s .underway) 0 t look i blocks counted lent long)
 
       pub checkpoint-no : (why : Refusal) → p .verdict ≡ Refused why → checkpointRefusal s i lent ≡ some why
       unfolding refusalOf
       checkpoint-no why e = checkpoint-does .verdict ∙ ap refusalOf e
 
       moves : p .verdict ≡ Accepted → p .moves ≡ true
-      moves = rw (e-p, e-vectors, e-row) (λ e. checkpoint-stores s h size (s .messages) 0 (s .underway) 0 t look i e .0)
+      moves = rw (e-p, e-vectors, e-row) (λ e. checkpoint-stores s h size (s .messages) 0 (s .underway) 0 t look i blocks counted e .0)
 
       module _ (accepted : p .verdict ≡ Accepted) where
         fine : checkpointRefusal s i lent ≡ none
@@ -212,7 +222,7 @@ module _ (s : Run) (h : sound s ≡ true) (size : Sized s) where
         checkpoint-moves = moves accepted
 
         pub checkpoint-laid : s .messages ≡ placed mostUnderWay noMessage (messagesThen (s .messages) 0 p)
-        checkpoint-laid = messages-filled s size h ∙ ap (λ (l : List Message). placed mostUnderWay noMessage l) (sym (rw e-p (kept-messages look (entry (getD vectors row []) row) (getD (s .sent) row false))))
+        checkpoint-laid = messages-filled s size h ∙ ap (λ (l : List Message). placed mostUnderWay noMessage l) (sym (rw e-p (kept-messages look (entry (getD vectors row []) row) (getD (s .sent) row false) blocks)))
 
         pub checkpoint-outcome : {index : CheckpointIndex} {gone : ℕ} {list : List ℕ} → index ≡ liveIndex (entry (getD vectors row []) row)
             → gone ≡ length (judged (checkpointRefusal s i lent) (λ why. []) (checkpointDeletions s i))
@@ -249,21 +259,27 @@ module _ (s : Run) (h : sound s ≡ true) (size : Sized s) where
           by-verdict (Refused why) = refl
 
     -- A delivery.
-    module _ (lent : List ℕ) (long : 2 * s .count * s .count ≤ length lent) {row : ℕ} {vectors : List (List Interval)} {p : Plan} (e-row : row ≡ rowOf (t .message .receiver))
-        (e-vectors : vectors ≡ s .vectors .0) (e-p : p ≡ deliverPlan (getD vectors row []) (entry (getD vectors row []) row) (getD (s .sent) row false) t) where
+    module _ (lent : List ℕ) (long : 2 * s .count * s .count ≤ length lent) {row : ℕ} {vectors : List (List Interval)} {blocks : ℕ} {p : Plan} (e-row : row ≡ rowOf (t .message .receiver))
+        (e-vectors : vectors ≡ s .vectors .0) (e-blocks : blocks ≡ getD (getD (s .kept .0) row []) 0 pastEnd .blocks)
+        (e-p : p ≡ deliverPlan (getD vectors row []) (entry (getD vectors row []) row) (getD (s .sent) row false) blocks (s .disk .written) t) where
+      given : t .found ≡ true → blocks ≡ countAt s (t .message .receiver)
+      given there =
+          let present = receiver-present h size look there in
+          e-blocks ∙ ap (λ (q : ℕ). getD (getD (s .kept .0) q []) 0 pastEnd .blocks) (e-row ∙ row-is s h (t .message .receiver) present) ∙ count-at (t .message .receiver) present
+
       pub deliver-does : Fulfils s (s .messages) 0 row p (deliverRefusal s m lent) (deliverOutcome s m lent .run)
           (judged (deliverRefusal s m lent) (λ why. []) (deliverDeletions s (message s m)))
-      deliver-does = rw (e-p, e-vectors, e-row) (deliver-decided s h size (s .messages) 0 (s .underway) m t look lent long)
+      deliver-does = rw (e-p, e-vectors, e-row) (deliver-decided s h size (s .messages) 0 (s .underway) m t look blocks given lent long)
 
       pub deliver-no : (why : Refusal) → p .verdict ≡ Refused why → deliverRefusal s m lent ≡ some why
       unfolding refusalOf
       deliver-no why e = deliver-does .verdict ∙ ap refusalOf e
 
       facts : p .verdict ≡ Accepted → (found s m ≡ some (t .message)) × (row ≡ t .message .receiver) × (forces (process s (t .message .receiver)) (t .message .vector) ≡ p .stores)
-      facts = rw (e-p, e-vectors, e-row) (deliver-forces s h size (s .messages) 0 (s .underway) m t look)
+      facts = rw (e-p, e-vectors, e-row) (deliver-forces s h size (s .messages) 0 (s .underway) m t look blocks given)
 
       risen : p .verdict ≡ Accepted → deliverRisen s (t .message) ≡ pick (p .moves) (roseBy s row p) 0
-      risen = rw (e-p, e-vectors, e-row) (deliver-rises s h size (s .messages) 0 (s .underway) m t look)
+      risen = rw (e-p, e-vectors, e-row) (deliver-rises s h size (s .messages) 0 (s .underway) m t look blocks given)
 
       module _ (accepted : p .verdict ≡ Accepted) where
         delivered-fine : deliverRefusal s m lent ≡ none

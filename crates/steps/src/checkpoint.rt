@@ -35,16 +35,18 @@ pub fn checkpoint(s: Run, i: usize, deleted: &mut [u16]) -> CheckpointOutcome
     let row = plans::row_of(i);
     let vectors = rows::squares::vector_rows(s.vectors);
     let own = vectors[row][row];
+    let blocks = parts::block_count(s.kept, row);
+    let disk = s.disk;
     let marks = s.sent;
     let table = s.messages;
     let named = messages::none_named(table[0], s.underway, s.last);
-    let p = plans::checkpoint_plan(i, n, own, marks[row], named);
+    let p = plans::checkpoint_plan(i, n, own, marks[row], blocks, disk.written, named);
     let verdict = p.verdict;
     match verdict {
         Verdict::Refused(why) => refuse(s, why),
         Verdict::Accepted => {
             let index = rows::vector::live_index(own);
-            let moved = parts::move_rows(s, row, p, table, deleted);
+            let moved = parts::move_rows(s, row, blocks, p, table, deleted);
             let answer = CheckpointAnswer::Stored(index, moved.gone);
             let run = moved.run;
             CheckpointOutcome { run, answer }

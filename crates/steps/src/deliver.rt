@@ -65,8 +65,10 @@ pub fn deliver(s: Run, m: u32, deleted: &mut [u16]) -> DeliverOutcome
     let vectors = rows::squares::vector_rows(s.vectors);
     let vector = vectors[row];
     let own = vector[row];
+    let blocks = parts::block_count(s.kept, row);
+    let disk = s.disk;
     let marks = s.sent;
-    let p = plans::deliver_plan(vector, own, marks[row], named);
+    let p = plans::deliver_plan(vector, own, marks[row], blocks, disk.written, named);
     let verdict = p.verdict;
     match verdict {
         Verdict::Refused(why) => refuse(s, why),
@@ -74,7 +76,7 @@ pub fn deliver(s: Run, m: u32, deleted: &mut [u16]) -> DeliverOutcome
             let without = messages::put(table, p);
             let after = messages::closed_up(without, p.tail);
             if p.moves {
-                let moved = parts::move_rows(s, row, p, after, deleted);
+                let moved = parts::move_rows(s, row, blocks, p, after, deleted);
                 let answer = answer_of(p.stores, own, moved.gone);
                 let run = moved.run;
                 let rose = moved.rose;

@@ -1,15 +1,20 @@
 // A plan carried out on a state by value. `messages` is the table of messages after it: those under way from its first place on, and the places behind them unused.
+use model::Checkpoint;
+use model::Interval;
+use model::Kept;
 use model::Message;
 use model::Run;
 use plans::Plan;
 ghost use mathlib.Core.Path.{_≡_};
 ghost use mathlib.Core.Bool.{true};
+ghost use mathlib.Core.List.{[]};
 ghost use Prim.Native.Nat.{_*_, _<_, _≤_};
-ghost use lib.ListN.{length, set, take};
+ghost use lib.ListN.{length, getD, set, take};
+ghost use Rattle.model.specs.Words.{entry, liveIndex, pastEnd};
 ghost use Rattle.model.specs.Sound.{sound};
 ghost use Rattle.model.specs.Steps.{listed};
 ghost use Rattle.model.specs.Outcomes.{pairs, written};
-ghost use Rattle.plans.specs.Carried.{ownAt, unnamedBy, roseBy, unmoved, moved};
+ghost use Rattle.plans.specs.Carried.{ownAt, countAt, unnamedBy, roseBy, unmoved, moved};
 ghost use Rattle.steps.specs.Messages.{Closed};
 
 // The state after a plan for process i that moves no rows. There are places for 16.
@@ -47,16 +52,37 @@ pub struct Moved {
     pub rose: u16,
 }
 
+// The block count of process i, of what all processes keep: that of the first checkpoint in its row.
+pub(crate) fn block_count(kept: Kept, i: usize) -> u16
+    requires { ⌜ i < 16 ⌝ }
+    ensures { λ r. ⌜ r ≡ getD (getD (kept .0) i []) 0 pastEnd .blocks ⌝ }
+{
+    let all = rows::squares::kept_rows(kept);
+    let first = all[i][0];
+    first.blocks
+}
+
+// The checkpoint that process i, which has this vector and this block count, stores now.
+fn storing(vector: [Interval; 16], i: usize, cause: u8, blocks: u16) -> Checkpoint
+    requires { ⌜ (i < 16) × (1 ≤ entry vector i .0) ⌝ }
+    ensures { λ r. ⌜ r ≡ record { index = liveIndex (entry vector i); vector = vector; cause = cause; blocks = blocks } ⌝ }
+{
+    let own = vector[i];
+    let index = rows::vector::live_index(own);
+    rows::checkpoint::stored(index, vector, cause, blocks)
+}
+
 // The rows of process i are those after a receipt of what the plan carries, which stores a checkpoint first if the plan says so. The pairs of the deleted go to the
-// front of the lent list.
+// front of the lent list. `blocks` is the block count of the process.
 pub(crate) fn move_rows(
     s: Run,
     i: usize,
+    blocks: u16,
     p: Plan,
     messages: [Message; 64],
     deleted: &mut [u16],
 ) -> Moved
-    requires { ⌜ (sound s ≡ true) × (i < 16) × (i < s .count) × (p .stores ≡ true → ownAt s i .0 < 65535) × Closed messages (p .underway) × (2 * s .count * s .count ≤ length (now deleted)) ⌝ }
+    requires { ⌜ (sound s ≡ true) × (i < 16) × (i < s .count) × (p .stores ≡ true → ownAt s i .0 < 65535) × Closed messages (p .underway) × (2 * s .count * s .count ≤ length (now deleted)) × (blocks ≡ countAt s i) ⌝ }
     ensures { λ r. ⌜ r .run ≡ moved s i p (take (p .underway) messages) ⌝ }
     ensures { λ r. ⌜ r .gone ≡ length (unnamedBy s i p) ⌝ }
     ensures { λ r. ⌜ r .rose ≡ roseBy s i p ⌝ }
@@ -72,10 +98,10 @@ pub(crate) fn move_rows(
     let row = all_kept[i];
     let before = held[i];
     let carried = p.carried;
-    let live = members::line::live_from(vector, i);
-    let pins = retention::receipt::pins_then(p.stores, live.index, vector, carried, old, i);
+    let stored = storing(vector, i, p.cause, blocks);
+    let pins = retention::receipt::pins_then(p.stores, stored.index, vector, carried, old, i);
     let gone = retention::kept::write_deletions(deleted, 0, i, row, before, pins);
-    let kept = retention::receipt::kept_then(p.stores, row, before, pins, live);
+    let kept = retention::receipt::kept_then(p.stores, row, before, pins, stored);
     let taken = retention::receipt::taken_then(p.stores, vector, carried, i);
     let received = taken.vector;
     let left = kept.row;
@@ -87,6 +113,7 @@ pub(crate) fn move_rows(
     let vectors_then = rows::squares::vectors_from(vectors);
     let pins_then = rows::squares::pins_from(all_pins);
     let kept_then = rows::squares::kept_from(all_kept);
+    let disk = rows::disk::billed(s.disk, p.stores, gone, blocks);
     let run = Run {
         count: s.count,
         vectors: vectors_then,
@@ -97,6 +124,7 @@ pub(crate) fn move_rows(
         messages,
         underway: p.underway,
         last: p.last,
+        disk,
     };
     let rose = taken.rose;
     Moved { run, gone, rose }

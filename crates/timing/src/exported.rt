@@ -10,7 +10,7 @@ pub(crate) fn starts(s: Run, times: u32) -> u8 {
     let mut last = s;
     let mut refused: u8 = 0;
     for k in 0..times {
-        let outcome = calls::start(16);
+        let outcome = calls::start(16, [1; 16]);
         last = outcome.run;
         let answer = outcome.answer;
         let said = output::say::of_start(answer);

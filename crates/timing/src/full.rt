@@ -57,7 +57,7 @@ fn round(s: Run, far: usize, first: u32) -> Run
 
 // Five rounds leave each process with five checkpoints. Then 64 messages are sent, and the first of them is lost.
 pub(crate) fn state() -> Run {
-    let outcome = calls::start(16);
+    let outcome = calls::start(16, [1; 16]);
     let first = round(outcome.run, 1, 1);
     let second = round(first, 2, 17);
     let third = round(second, 3, 33);

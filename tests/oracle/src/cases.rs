@@ -1,8 +1,8 @@
 //! The exam text: the cases 1 to 10 of the exam sheet, one of the wrong marks
-//! on past papers, two cases of messages that a recovery loses, and a sweep, by
-//! real calls.
+//! on past papers, two cases of messages that a recovery loses, a sweep, and
+//! what is on the disks, by real calls.
 
-use crate::run::{Run, MAX_PROCESSES};
+use crate::run::{Counts, Run, MAX_PROCESSES, MOST_WRITTEN, ONES};
 use std::fmt::{Display, Write as _};
 use std::io;
 
@@ -19,12 +19,20 @@ const DELETIONS: usize = 2 * MAX_PROCESSES * MAX_PROCESSES;
 /// "The facts of a state", for a state of n processes, are these lines, first
 /// all that concern process 0, then process 1 and so on, then the lines:
 ///
-/// * for P = 0 .. n-1, three lines:
+/// * for P = 0 .. n-1, five lines:
 ///   `vector P: e0 e1 ..`  the n entries of P's vector;
 ///   `pins P: x0 x1 ..`    P's pins for 0 .. n-1, a hyphen for none;
 ///   `kept P: i0 i1 ..`    the indexes of P's kept checkpoints, ascending;
+///   `causes P: c0 c1 ..`  their causes, in the same order;
+///   `counts P: b0 b1 ..`  their block counts, in the same order;
+/// * `blocks: W D`         blocks written and blocks deleted;
 /// * for F = 0 .. 2^n - 1, one line:
 ///   `line F: m0 m1 ..`    the n indexes that a line call for F writes.
+///
+/// "The facts of the disks" are of these only, for P = 0 .. n-1, the lines
+/// `kept P: ..`, `causes P: ..` and `counts P: ..`, and then `blocks: W D`.
+///
+/// Every block count is 1 where no other is named.
 ///
 /// "The facts of a delivery", of message M, are two lines:
 ///
@@ -116,6 +124,42 @@ const DELETIONS: usize = 2 * MAX_PROCESSES * MAX_PROCESSES;
 /// empty set: a sweep that deletes. Prints `sweep 0`, `written 0: ..` and
 /// `recover 0: ..` as in case 7, the facts of the state, and then the facts of
 /// delivery 2: messages under way stay.
+///
+/// # Disk 1
+///
+/// Note 5. n = 2, block counts 3 for process 0, 5 for process 1, and 0 for all
+/// others, which are not judged. Prints `disk 1`, then after the start and after
+/// each of the calls `step K`, for K = 0, 1 and on, and the facts of the disks,
+/// and at the end the lines of the state (`line F: ..`, as in the facts of a
+/// state). The calls are: 1 send 1 to 0 (message 1); 2 send 0 to 1 (message 2);
+/// 3 deliver 2, which forces checkpoint 1 of process 1; 4 checkpoint 1;
+/// 5 recover 1, which is {0}: process 1 goes back behind its checkpoint 2;
+/// 6 checkpoint 1, again of index 2; 7 deliver 1; 8 checkpoint 0; 9 recover 0,
+/// a sweep.
+///
+/// # Disk 2
+///
+/// Note 5. Prints `disk 2`, then the lines below, in this order; R is as in
+/// case 10. T is 1,000,000,000,000,000. "With W written and D deleted" says that
+/// these two are put into the state in the place of its own.
+///
+/// * `count N P C: R` for N, P = 1, 0; 1, 1; 2, 1; 2, 2; 16, 15 and for each of
+///   them C = 0, 65535, 65536: start of n = N, the block count of P is C (and
+///   all others 1).
+/// * `outside N: R` for N = 0, 17: start of n = N, all block counts 0.
+/// * `sum K: R` for K = 1 .. 9: new run, n = 2, block counts 1 and 65,535; with W
+///   written and D deleted; checkpoint 0. W, D are, by K: 1: 65536, 0; 2: 65537,
+///   1; 3: 65537, 0; 4: 65536, 1; 5: 65535, 2^64 - 1; 6: T - 1, T - 65537; 7: T,
+///   T - 65536; 8: T + 1, T - 65535; 9: 0, 2^64 - 65536.
+/// * For X = 65535, then X = 65534: new run, n = 2, block counts 1 and 65,535,
+///   send 1 to 0 (message 1), send 0 to 1 (message 2); with T - X written and
+///   T - X - 65536 deleted. `basic X: R` is a checkpoint 1 on this state,
+///   `forced X: R`, also on this state, deliver 2.
+/// * New run, n = 2, block counts 1 and 65,535, send 0 to 1 (message 1); with T
+///   written and T - 65536 deleted. Each on this state: `unforced 0: R` is
+///   deliver 1, `recovered F: R`, for F = 0, 1, recover F.
+/// * `own E: R` for E = 65534, 65535: new run, n = 1, so many times checkpoint 0
+///   that the own entry is E; with T written and T - 1 deleted; checkpoint 0.
 pub fn print<W: io::Write>(output: &mut W) -> io::Result<()> {
     output.write_all(text().as_bytes())?;
     output.flush()
@@ -133,6 +177,8 @@ pub fn text() -> String {
     lost_1(&mut text);
     lost_2(&mut text);
     sweep(&mut text);
+    disk_1(&mut text);
+    disk_2(&mut text);
     text
 }
 
@@ -203,7 +249,7 @@ fn case_9(text: &mut String) {
 fn case_10(text: &mut String) {
     fact(text, "case", [10]);
     for count in [0, 1, 16, 17] {
-        let started = number(Run::start(count));
+        let started = number(Run::start(count, &ONES));
         fact(text, &format!("start {count}:"), [started]);
     }
     for count in [1, 2, 16] {
@@ -329,6 +375,106 @@ fn sweep(text: &mut String) {
     facts_of_delivery(text, &mut run, 2);
 }
 
+fn disk_1(text: &mut String) {
+    let mut run = run_of_counts(2, &[(0, 3), (1, 5)], 0);
+    fact(text, "disk", [1]);
+    for step in 0..=9 {
+        match step {
+            0 => 0,
+            1 => send(&mut run, 1, 0),
+            2 => send(&mut run, 0, 1),
+            3 => deliver(&mut run, 2),
+            4 => checkpoint(&mut run, 1),
+            5 => recover(&mut run, 1),
+            6 => checkpoint(&mut run, 1),
+            7 => deliver(&mut run, 1),
+            8 => checkpoint(&mut run, 0),
+            _ => recover(&mut run, 0),
+        };
+        fact(text, "step", [step]);
+        facts_of_disks(text, &run);
+    }
+    facts_of_lines(text, &run);
+}
+
+fn disk_2(text: &mut String) {
+    fact(text, "disk", [2]);
+    for (count, process) in [(1, 0), (1, 1), (2, 1), (2, 2), (16, 15)] {
+        for blocks in [0, 65_535, 65_536] {
+            let mut counts = ONES;
+            counts[process] = blocks;
+            let started = number(Run::start(count, &counts));
+            fact(
+                text,
+                &format!("count {count} {process} {blocks}:"),
+                [started],
+            );
+        }
+    }
+    for count in [0, 17] {
+        let started = number(Run::start(count, &[0; MAX_PROCESSES]));
+        fact(text, &format!("outside {count}:"), [started]);
+    }
+    facts_of_sums(text);
+    facts_of_last_blocks(text);
+}
+
+fn facts_of_sums(text: &mut String) {
+    let sums = [
+        (65_536, 0),
+        (65_537, 1),
+        (65_537, 0),
+        (65_536, 1),
+        (65_535, u64::MAX),
+        (MOST_WRITTEN - 1, MOST_WRITTEN - 65_537),
+        (MOST_WRITTEN, MOST_WRITTEN - 65_536),
+        (MOST_WRITTEN + 1, MOST_WRITTEN - 65_535),
+        (0, u64::MAX - 65_535),
+    ];
+    for (place, (written, deleted)) in sums.into_iter().enumerate() {
+        let run = run_of_counts(2, &[(0, 1), (1, 65_535)], 1);
+        let answer = match run.with_sums(written, deleted) {
+            Ok(mut run) => checkpoint(&mut run, 0),
+            Err(number) => number,
+        };
+        fact(text, &format!("sum {}:", place + 1), [answer]);
+    }
+}
+
+fn facts_of_last_blocks(text: &mut String) {
+    for left in [65_535, 65_534] {
+        let mut run = run_of_counts(2, &[(0, 1), (1, 65_535)], 1);
+        send(&mut run, 1, 0);
+        send(&mut run, 0, 1);
+        let written = MOST_WRITTEN - left;
+        let run = must(run.with_sums(written, written - 65_536));
+        let basic = checkpoint(&mut run.clone(), 1);
+        fact(text, &format!("basic {left}:"), [basic]);
+        let forced = deliver(&mut run.clone(), 2);
+        fact(text, &format!("forced {left}:"), [forced]);
+    }
+
+    let mut run = run_of_counts(2, &[(0, 1), (1, 65_535)], 1);
+    send(&mut run, 0, 1);
+    let run = must(run.with_sums(MOST_WRITTEN, MOST_WRITTEN - 65_536));
+    fact(text, "unforced 0:", [deliver(&mut run.clone(), 1)]);
+    for failed in [0, 1] {
+        let recovered = recover(&mut run.clone(), failed);
+        fact(text, &format!("recovered {failed}:"), [recovered]);
+    }
+
+    for own_entry in [65_534, 65_535] {
+        let mut run = new_run(1);
+        checkpoints(&mut run, 0, own_entry - 1);
+        let mut run = must(run.with_sums(MOST_WRITTEN, MOST_WRITTEN - 1));
+        fact(
+            text,
+            &format!("own {own_entry}:"),
+            [checkpoint(&mut run, 0)],
+        );
+    }
+}
+
 fn facts_of_state(text: &mut String, run: &Run) {
     let count = run.count();
     for process in 0..count {
@@ -338,13 +484,37 @@ fn facts_of_state(text: &mut String, run: &Run) {
             None => "-".to_string(),
         });
         fact(text, &format!("pins {process}:"), pins);
-        let kept = run.kept(process).map(|(index, _)| index);
-        fact(text, &format!("kept {process}:"), kept);
+        facts_of_kept(text, run, process);
     }
-    for failed in 0..1 << count {
+    facts_of_blocks(text, run);
+    facts_of_lines(text, run);
+}
+
+fn facts_of_disks(text: &mut String, run: &Run) {
+    for process in 0..run.count() {
+        facts_of_kept(text, run, process);
+    }
+    facts_of_blocks(text, run);
+}
+
+fn facts_of_kept(text: &mut String, run: &Run, process: usize) {
+    let kept = run.kept(process).map(|(index, _)| index);
+    fact(text, &format!("kept {process}:"), kept);
+    let causes = run.records(process).map(|(cause, _)| cause);
+    fact(text, &format!("causes {process}:"), causes);
+    let counts = run.records(process).map(|(_, blocks)| blocks);
+    fact(text, &format!("counts {process}:"), counts);
+}
+
+fn facts_of_blocks(text: &mut String, run: &Run) {
+    fact(text, "blocks:", [run.written(), run.deleted()]);
+}
+
+fn facts_of_lines(text: &mut String, run: &Run) {
+    for failed in 0..1 << run.count() {
         let mut line = [0; MAX_PROCESSES];
         must(run.line(failed, &mut line));
-        fact(text, &format!("line {failed}:"), &line[..count]);
+        fact(text, &format!("line {failed}:"), &line[..run.count()]);
     }
 }
 
@@ -385,7 +555,16 @@ fn must<T>(answer: Result<T, u8>) -> T {
 }
 
 fn new_run(count: usize) -> Run {
-    must(Run::start(count))
+    must(Run::start(count, &ONES))
+}
+
+/// A new run of these block counts, by process, and of another for all others.
+fn run_of_counts(count: usize, named: &[(usize, u32)], other: u32) -> Run {
+    let mut counts: Counts = [other; MAX_PROCESSES];
+    for &(process, blocks) in named {
+        counts[process] = blocks;
+    }
+    must(Run::start(count, &counts))
 }
 
 fn checkpoint(run: &mut Run, process: usize) -> u8 {

@@ -1,6 +1,6 @@
 //! The replay: a trace in, a listing out, in constant memory.
 
-use crate::run::{Run, MAX_PROCESSES};
+use crate::run::{Run, MAX_PROCESSES, ONES};
 use std::ffi::OsString;
 use std::io::{self, ErrorKind, Read, Write};
 
@@ -71,7 +71,8 @@ fn list_trace<R: Read, W: Write>(
     // refusal and ends".
     let started = match source.first_byte()? {
         None => Err(NO_FIRST_BYTE),
-        Some(count) => Run::start(count as usize),
+        // Note 5: "a trace run uses 1."
+        Some(count) => Run::start(count as usize, &ONES),
     };
     let mut run = match started {
         Ok(run) => run,

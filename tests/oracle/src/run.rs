@@ -9,7 +9,8 @@
 //! given."
 //!
 //! Soundness of the state (number 2) is not judged: a `Run` can only be had
-//! from a start and the calls on it.
+//! from a start and the calls on it. (The door for tests, at the end, judges the
+//! sums that it is handed.)
 
 /// "A run has n processes, 1 to 16, numbered from 0."
 pub const MAX_PROCESSES: usize = 16;
@@ -23,6 +24,20 @@ pub const LAST_MESSAGE_NUMBER: u32 = 1_000_000;
 /// "Vector entries are 0 to 65,535."
 pub const LAST_ENTRY: u16 = 65_535;
 
+/// Note 5: "block counts from 1 to 65,535".
+pub const MOST_BLOCKS_EACH: u32 = 65_535;
+
+/// Note 5: "16, [...] for a stored checkpoint that would take written past
+/// 1,000,000,000,000,000."
+pub const MOST_WRITTEN: u64 = 1_000_000_000_000_000;
+
+/// The block counts of a start, one for each process. "The start takes 16
+/// counts".
+pub type Counts = [u32; MAX_PROCESSES];
+
+/// Note 5: "a trace run uses 1."
+pub const ONES: Counts = [1; MAX_PROCESSES];
+
 /// The refusal numbers of the paper that a call on a run can give.
 pub mod refusal {
     pub const COUNT_OUTSIDE: u8 = 1;
@@ -35,6 +50,8 @@ pub mod refusal {
     pub const TOO_MANY_UNDER_WAY: u8 = 9;
     pub const NUMBERS_USED_UP: u8 = 10;
     pub const INTERVALS_USED_UP: u8 = 11;
+    pub const COUNT_OF_BLOCKS_OUTSIDE: u8 = 15;
+    pub const BLOCKS_USED_UP: u8 = 16;
 }
 use refusal::*;
 
@@ -53,16 +70,26 @@ const NO_PIN: u16 = u16::MAX;
 /// one just stored may come on top.
 const MAX_STORED: usize = MAX_PROCESSES + 1;
 
-/// A stored checkpoint: its index and the vector stored under it.
+/// Note 5: "its cause (0 initial, 1 basic, 2 forced)".
+const INITIAL: u8 = 0;
+const BASIC: u8 = 1;
+const FORCED: u8 = 2;
+
+/// A stored checkpoint: its index, the vector stored under it, and, by Note 5,
+/// "its cause [...] and its process's block count".
 #[derive(Clone, Copy, Debug, PartialEq, Eq)]
 struct Checkpoint {
     index: u16,
     vector: Vector,
+    cause: u8,
+    blocks: u16,
 }
 
 const NO_CHECKPOINT: Checkpoint = Checkpoint {
     index: 0,
     vector: [0; MAX_PROCESSES],
+    cause: INITIAL,
+    blocks: 0,
 };
 
 /// The kept checkpoints of one process, ascending by index.
@@ -110,6 +137,11 @@ pub struct Run {
     under_way: usize,
     messages: [Message; MAX_UNDER_WAY],
     last_number: u32,
+    /// Note 5: each process's block count, "fixed at the start", and "blocks
+    /// written and blocks deleted."
+    blocks: [u16; MAX_PROCESSES],
+    written: u64,
+    deleted: u64,
 }
 
 /// The answer of an accepted checkpoint.
@@ -165,11 +197,17 @@ impl<'a> Deletions<'a> {
 
 /// The calls.
 impl Run {
-    /// "Start."
-    pub fn start(count: usize) -> Result<Run, u8> {
+    /// "Start." The counts are those of Note 5: "those at n and above are
+    /// neither judged nor stored."
+    pub fn start(count: usize, counts: &Counts) -> Result<Run, u8> {
         // "1: start with a count outside 1 to 16."
         if !(1..=MAX_PROCESSES).contains(&count) {
             return Err(COUNT_OUTSIDE);
+        }
+        // "15, at the start after 1, for a block count outside 1 to 65,535".
+        let outside = |blocks: &u32| !(1..=MOST_BLOCKS_EACH).contains(blocks);
+        if counts[..count].iter().any(outside) {
+            return Err(COUNT_OF_BLOCKS_OUTSIDE);
         }
         let mut run = Run {
             count,
@@ -184,10 +222,18 @@ impl Run {
             under_way: 0,
             messages: [NO_MESSAGE; MAX_UNDER_WAY],
             last_number: 0,
+            blocks: [0; MAX_PROCESSES],
+            written: 0,
+            deleted: 0,
         };
         for i in 0..count {
+            run.blocks[i] = counts[i] as u16;
             // "Each process stores checkpoint 0 with a vector of zeros."
-            run.kept[i].add(NO_CHECKPOINT);
+            run.kept[i].add(Checkpoint {
+                blocks: run.blocks[i],
+                ..NO_CHECKPOINT
+            });
+            run.written += counts[i] as u64;
             // "Then own entries are 1, others 0."
             run.vectors[i][i] = 1;
             // "Each own pin names checkpoint 0, others none."
@@ -204,9 +250,10 @@ impl Run {
         if self.own_entry(i) == LAST_ENTRY {
             return Err(INTERVALS_USED_UP);
         }
+        self.judge_blocks(i)?;
 
         let mut deletions = Deletions::new(deletions);
-        let index = self.store_checkpoint(i);
+        let index = self.store_checkpoint(i, BASIC);
         self.delete_unpinned(i, &mut deletions);
         Ok(Checkpointed {
             index,
@@ -262,9 +309,12 @@ impl Run {
         if forces && self.own_entry(i) == LAST_ENTRY {
             return Err(INTERVALS_USED_UP);
         }
+        if forces {
+            self.judge_blocks(i)?;
+        }
 
         let mut deletions = Deletions::new(deletions);
-        let forced = forces.then(|| self.store_checkpoint(i));
+        let forced = forces.then(|| self.store_checkpoint(i, FORCED));
         // Without a newer entry nothing is taken, no pin moves and no
         // checkpoint goes.
         let mut rose = 0;
@@ -374,6 +424,15 @@ impl Run {
         Ok(())
     }
 
+    /// Note 5: "16, after 11, for a stored checkpoint that would take written
+    /// past 1,000,000,000,000,000."
+    fn judge_blocks(&self, i: usize) -> Result<(), u8> {
+        if self.written + self.blocks[i] as u64 > MOST_WRITTEN {
+            return Err(BLOCKS_USED_UP);
+        }
+        Ok(())
+    }
+
     /// "8: message not under way." Gives the message's place.
     fn find_under_way(&self, number: u32) -> Result<usize, u8> {
         self.under_way()
@@ -420,13 +479,18 @@ impl Run {
 /// The parts of the steps.
 impl Run {
     /// The steps of a checkpoint at i, without the deletions. Gives the index.
-    fn store_checkpoint(&mut self, i: usize) -> u16 {
+    fn store_checkpoint(&mut self, i: usize, cause: u8) -> u16 {
         let index = self.own_entry(i);
         // "Store the vector under index own entry."
         self.kept[i].add(Checkpoint {
             index,
             vector: self.vectors[i],
+            cause,
+            blocks: self.blocks[i],
         });
+        // Note 5: "each checkpoint ever stored, rolled back or not, counts
+        // once."
+        self.written += self.blocks[i] as u64;
         // "The own pin names it."
         self.pins[i][i] = index;
         // "Add 1 to the own entry."
@@ -466,6 +530,8 @@ impl Run {
                 staying += 1;
             } else {
                 deletions.add(i, index);
+                // Note 5: "deleted is defined from the pairs handed out."
+                self.deleted += kept.places[place].blocks as u64;
             }
         }
         kept.len = staying;
@@ -572,6 +638,25 @@ impl Run {
             .map(|checkpoint| (checkpoint.index, &checkpoint.vector[..self.count]))
     }
 
+    /// The cause and the block count that each of i's kept checkpoints
+    /// records, in the same order.
+    pub fn records(&self, i: usize) -> impl Iterator<Item = (u8, u16)> + '_ {
+        self.kept[i]
+            .checkpoints()
+            .iter()
+            .map(|checkpoint| (checkpoint.cause, checkpoint.blocks))
+    }
+
+    /// Blocks written.
+    pub fn written(&self) -> u64 {
+        self.written
+    }
+
+    /// Blocks deleted.
+    pub fn deleted(&self) -> u64 {
+        self.deleted
+    }
+
     /// The messages under way, ascending by number.
     pub fn under_way(&self) -> &[Message] {
         &self.messages[..self.under_way]
@@ -580,6 +665,25 @@ impl Run {
     /// The last message number used, 0 if none.
     pub fn last_number(&self) -> u32 {
         self.last_number
+    }
+}
+
+/// A door for tests: number 16 is too far away to be reached by calls.
+impl Run {
+    /// The same state with other sums. Gives 2 if it is not sound: "written
+    /// equals blocks of all kept checkpoints plus blocks deleted", "that sum,
+    /// within the bound of 16."
+    pub fn with_sums(&self, written: u64, deleted: u64) -> Result<Run, u8> {
+        let kept: u64 = (0..self.count)
+            .flat_map(|i| self.kept[i].checkpoints())
+            .map(|checkpoint| checkpoint.blocks as u64)
+            .sum();
+        if deleted.checked_add(kept) != Some(written) || written > MOST_WRITTEN {
+            return Err(NOT_SOUND);
+        }
+        let mut run = self.clone();
+        (run.written, run.deleted) = (written, deleted);
+        Ok(run)
     }
 }
 

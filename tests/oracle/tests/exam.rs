@@ -4,7 +4,7 @@ mod common;
 
 use common::{kept, line, pins, DELETIONS, LINE};
 use oracle::cases::example;
-use oracle::run::{Checkpointed, Delivered, Recovered, Run};
+use oracle::run::{Checkpointed, Delivered, Recovered, Run, ONES};
 
 const EXAMPLE: [u32; 10] = [
     0x20000001, 0x40000001, 0x02000000, 0x00000000, 0x22000000, 0x40000002, 0x20000001, 0x40000003,
@@ -44,7 +44,7 @@ fn the_ten_record_example() {
 #[test]
 fn the_start() {
     for n in 1..=16 {
-        let run = Run::start(n).unwrap();
+        let run = Run::start(n, &ONES).unwrap();
         for i in 0..n {
             for f in 0..n {
                 assert_eq!(run.vector(i)[f], (i == f) as u16);
@@ -129,7 +129,7 @@ fn case_7() {
 
 #[test]
 fn case_8() {
-    let mut run = Run::start(3).unwrap();
+    let mut run = Run::start(3, &ONES).unwrap();
     assert_eq!(run.send(0, 1), Ok(1));
     assert!(run.deliver(1, &mut [0; DELETIONS]).is_ok());
     assert_eq!(run.send(1, 2), Ok(2));
@@ -141,7 +141,7 @@ fn case_8() {
 
 #[test]
 fn case_9() {
-    let mut run = Run::start(2).unwrap();
+    let mut run = Run::start(2, &ONES).unwrap();
     assert_eq!(run.send(0, 1), Ok(1));
     let mut written = [0; LINE];
     let answer = run.recover(0b10, &mut [0; DELETIONS], &mut written);
@@ -178,7 +178,7 @@ fn numbers_under_way(run: &Run) -> Vec<u32> {
 /// vector is above the sender's index in the line".
 #[test]
 fn what_a_recovery_loses() {
-    let mut run = Run::start(3).unwrap();
+    let mut run = Run::start(3, &ONES).unwrap();
     // In 0's intervals 1, 2 and 3, and in 1's and 2's interval 1.
     assert_eq!(run.send(0, 1), Ok(1));
     assert_eq!(run.send(2, 0), Ok(2));
@@ -218,7 +218,7 @@ fn what_a_recovery_loses() {
 /// pin step deletes what no failure could use. Messages under way stay".
 #[test]
 fn a_sweep() {
-    let mut run = Run::start(2).unwrap();
+    let mut run = Run::start(2, &ONES).unwrap();
     run.send(0, 1).unwrap();
     run.checkpoint(1, &mut [0; 8]).unwrap();
     run.deliver(1, &mut [0; 8]).unwrap();
@@ -260,7 +260,7 @@ fn a_sweep() {
 /// Places freed by a recovery are used again, those of survivors are not.
 #[test]
 fn survivors_count_against_64() {
-    let mut run = Run::start(2).unwrap();
+    let mut run = Run::start(2, &ONES).unwrap();
     for _ in 0..40 {
         run.send(0, 1).unwrap();
     }
@@ -281,18 +281,18 @@ fn survivors_count_against_64() {
 
 #[test]
 fn case_10_counts() {
-    assert_eq!(Run::start(0).err(), Some(1));
-    assert_eq!(Run::start(17).err(), Some(1));
-    assert!(Run::start(1).is_ok());
-    assert!(Run::start(16).is_ok());
-    assert_eq!(Run::start(usize::MAX).err(), Some(1));
+    assert_eq!(Run::start(0, &ONES).err(), Some(1));
+    assert_eq!(Run::start(17, &ONES).err(), Some(1));
+    assert!(Run::start(1, &ONES).is_ok());
+    assert!(Run::start(16, &ONES).is_ok());
+    assert_eq!(Run::start(usize::MAX, &ONES).err(), Some(1));
 }
 
 #[test]
 fn case_10_lists() {
     for n in 1..=16 {
         let (enough, few) = (2 * n * n, 2 * n * n - 1);
-        let new = || Run::start(n).unwrap();
+        let new = || Run::start(n, &ONES).unwrap();
         assert!(new().checkpoint(0, &mut vec![0; enough]).is_ok());
         assert_eq!(new().checkpoint(0, &mut vec![0; few]), Err(3));
         assert!(new()
@@ -316,7 +316,7 @@ fn case_10_lists() {
 
 #[test]
 fn case_10_messages_under_way() {
-    let mut run = Run::start(2).unwrap();
+    let mut run = Run::start(2, &ONES).unwrap();
     for number in 1..=64 {
         assert_eq!(run.send(0, 1), Ok(number));
     }
@@ -333,7 +333,7 @@ fn case_10_messages_under_way() {
 
 #[test]
 fn case_10_last_intervals() {
-    let mut run = Run::start(1).unwrap();
+    let mut run = Run::start(1, &ONES).unwrap();
     for index in 1..=65_533 {
         let answer = run.checkpoint(0, &mut [0; 2]);
         assert_eq!(
@@ -357,7 +357,7 @@ fn case_10_last_intervals() {
 
 /// Process 1 at this own entry, sent mark set, message 2 to it under way.
 fn about_to_force(own_entry: u16) -> Run {
-    let mut run = Run::start(2).unwrap();
+    let mut run = Run::start(2, &ONES).unwrap();
     for _ in 1..own_entry {
         run.checkpoint(1, &mut [0; 8]).unwrap();
     }
@@ -381,7 +381,7 @@ fn a_forced_checkpoint_at_the_last_intervals() {
 
 #[test]
 fn a_delivery_without_news_in_the_last_interval() {
-    let mut run = Run::start(2).unwrap();
+    let mut run = Run::start(2, &ONES).unwrap();
     run.send(0, 1).unwrap();
     run.send(0, 1).unwrap();
     run.deliver(1, &mut [0; 8]).unwrap();
@@ -402,7 +402,7 @@ fn a_delivery_without_news_in_the_last_interval() {
 
 #[test]
 fn a_mark_without_news_and_news_without_a_mark_force_nothing() {
-    let mut run = Run::start(2).unwrap();
+    let mut run = Run::start(2, &ONES).unwrap();
     run.send(0, 1).unwrap();
     run.send(0, 1).unwrap();
     let unforced = |rose| {
@@ -420,7 +420,7 @@ fn a_mark_without_news_and_news_without_a_mark_force_nothing() {
 
 #[test]
 fn a_rolled_back_process_loses_its_mark() {
-    let mut run = Run::start(2).unwrap();
+    let mut run = Run::start(2, &ONES).unwrap();
     run.send(0, 1).unwrap();
     run.send(1, 0).unwrap();
     run.recover(0b01, &mut [0; 8], &mut [0; 2]).unwrap();
@@ -464,13 +464,16 @@ fn the_exam_text() {
         panic!("one mark and two cases of lost messages");
     };
     let (lost_2, sweep) = lost_2.split_once("sweep ").unwrap();
+    let (sweep, disks) = sweep.split_once("disk 1\n").unwrap();
+    the_disks(disks);
     let cases: Vec<&str> = cases.split("case ").skip(1).collect();
     assert_eq!(cases.len(), 10);
 
     assert_eq!(
         cases[0],
         "1\ndeliver 1: 0\nrisen 1: 1\n\
-         vector 0: 1 0\npins 0: 0 -\nkept 0: 0\nvector 1: 1 1\npins 1: 0 0\nkept 1: 0\n\
+         vector 0: 1 0\npins 0: 0 -\nkept 0: 0\ncauses 0: 0\ncounts 0: 1\n\
+         vector 1: 1 1\npins 1: 0 0\nkept 1: 0\ncauses 1: 0\ncounts 1: 1\nblocks: 2 0\n\
          line 0: 1 1\nline 1: 0 0\nline 2: 1 0\nline 3: 0 0\n"
     );
     let holds = |case: usize, facts: &[&str]| {
@@ -535,28 +538,78 @@ fn the_exam_text() {
     assert_eq!(
         mark,
         "2\ndeliver 1: 0\nrisen 1: 1\ndeliver 2: 0\nrisen 2: 0\n\
-         vector 0: 1 0\npins 0: 0 -\nkept 0: 0\nvector 1: 1 1\npins 1: 0 0\nkept 1: 0\n\
+         vector 0: 1 0\npins 0: 0 -\nkept 0: 0\ncauses 0: 0\ncounts 0: 1\n\
+         vector 1: 1 1\npins 1: 0 0\nkept 1: 0\ncauses 1: 0\ncounts 1: 1\nblocks: 2 0\n\
          line 0: 1 1\nline 1: 0 0\nline 2: 1 0\nline 3: 0 0\n"
     );
     assert_eq!(
         lost_1,
         "1\nwritten 1: 0 1\nrecover 1: 1 0\ndeliver 1: 8\nrisen 1: 0\n\
-         vector 0: 1 0\npins 0: 0 -\nkept 0: 0\nvector 1: 0 1\npins 1: - 0\nkept 1: 0\n\
+         vector 0: 1 0\npins 0: 0 -\nkept 0: 0\ncauses 0: 0\ncounts 0: 1\n\
+         vector 1: 0 1\npins 1: - 0\nkept 1: 0\ncauses 1: 0\ncounts 1: 1\nblocks: 2 0\n\
          line 0: 1 1\nline 1: 0 1\nline 2: 1 0\nline 3: 0 0\n"
     );
     assert_eq!(
         lost_2,
         "2\nwritten 1: 1 1\nrecover 1: 1 0\n\
          deliver 2: 8\nrisen 2: 0\ndeliver 1: 0\nrisen 1: 1\n\
-         vector 0: 2 0\npins 0: 1 -\nkept 0: 1\nvector 1: 1 1\npins 1: 0 0\nkept 1: 0\n\
+         vector 0: 2 0\npins 0: 1 -\nkept 0: 1\ncauses 0: 1\ncounts 0: 1\n\
+         vector 1: 1 1\npins 1: 0 0\nkept 1: 0\ncauses 1: 0\ncounts 1: 1\nblocks: 3 1\n\
          line 0: 2 1\nline 1: 1 1\nline 2: 2 0\nline 3: 1 0\n"
     );
     assert_eq!(
         sweep,
         "0\nwritten 0: 2 3\nrecover 0: 0 1 1:1\n\
-         vector 0: 2 0\npins 0: 1 -\nkept 0: 1\nvector 1: 1 3\npins 1: - 2\nkept 1: 2\n\
+         vector 0: 2 0\npins 0: 1 -\nkept 0: 1\ncauses 0: 1\ncounts 0: 1\n\
+         vector 1: 1 3\npins 1: - 2\nkept 1: 2\ncauses 1: 1\ncounts 1: 1\nblocks: 5 3\n\
          line 0: 2 3\nline 1: 1 3\nline 2: 2 2\nline 3: 1 2\n\
          deliver 2: 0\nrisen 2: 1\n"
+    );
+}
+
+/// The exam text from the first line behind `disk 1` on.
+fn the_disks(text: &str) {
+    let (steps, limits) = text.split_once("disk 2\n").unwrap();
+    // By step: what 0 and 1 keep, the causes, blocks written and deleted.
+    let expected = [
+        ("0", "0", "0", "0", 8, 0),
+        ("0", "0", "0", "0", 8, 0),
+        ("0", "0", "0", "0", 8, 0),
+        ("0", "0", "1", "2", 13, 5),
+        ("0", "0", "1 2", "2 1", 18, 5),
+        ("0", "0", "1", "2", 18, 10),
+        ("0", "0", "2", "1", 23, 15),
+        ("0", "0", "2", "1", 23, 15),
+        ("0 1", "0 1", "2", "1", 26, 15),
+        ("1", "1", "2", "1", 26, 18),
+    ];
+    let counts = |kept: &str, count: &str| vec![count; kept.split(' ').count()].join(" ");
+    let mut wanted = String::new();
+    for (step, (kept_0, causes_0, kept_1, causes_1, written, deleted)) in
+        expected.into_iter().enumerate()
+    {
+        wanted += &format!(
+            "step {step}\nkept 0: {kept_0}\ncauses 0: {causes_0}\ncounts 0: {}\n\
+             kept 1: {kept_1}\ncauses 1: {causes_1}\ncounts 1: {}\n\
+             blocks: {written} {deleted}\n",
+            counts(kept_0, "3"),
+            counts(kept_1, "5"),
+        );
+    }
+    wanted += "line 0: 2 3\nline 1: 1 3\nline 2: 2 2\nline 3: 1 2\n";
+    assert_eq!(steps, wanted);
+    assert_eq!(
+        limits,
+        "count 1 0 0: 15\ncount 1 0 65535: 0\ncount 1 0 65536: 15\n\
+         count 1 1 0: 0\ncount 1 1 65535: 0\ncount 1 1 65536: 0\n\
+         count 2 1 0: 15\ncount 2 1 65535: 0\ncount 2 1 65536: 15\n\
+         count 2 2 0: 0\ncount 2 2 65535: 0\ncount 2 2 65536: 0\n\
+         count 16 15 0: 15\ncount 16 15 65535: 0\ncount 16 15 65536: 15\n\
+         outside 0: 1\noutside 17: 1\n\
+         sum 1: 0\nsum 2: 0\nsum 3: 2\nsum 4: 2\nsum 5: 2\nsum 6: 0\nsum 7: 16\n\
+         sum 8: 2\nsum 9: 2\n\
+         basic 65535: 0\nforced 65535: 0\nbasic 65534: 16\nforced 65534: 16\n\
+         unforced 0: 0\nrecovered 0: 0\nrecovered 1: 0\nown 65534: 16\nown 65535: 11\n"
     );
 }
 

@@ -2,16 +2,17 @@
 //!
 //! The history is kept as the paper's section "The surviving history" says:
 //! "It is built from the calls and their answers, and from nothing in the
-//! state". The reported lines are then held against all lines there are.
+//! state". The reported lines are then held against all lines there are, and
+//! what is on the disks is counted from it after every call.
 
 mod common;
 
 use common::{Random, DELETIONS, LINE};
-use oracle::run::Run;
+use oracle::run::{Counts, Run, ONES};
 
 #[derive(Clone, Copy, PartialEq)]
 enum Event {
-    Checkpoint { number: u16, kept: bool },
+    Checkpoint { number: u16, kept: bool, cause: u8 },
     Sent(u32),
     Received(u32),
 }
@@ -43,20 +44,29 @@ struct History {
     under_way: Vec<u32>,
     /// The last number used when a process last rolled back.
     sent_before_rollback: u32,
+    /// Note 5: the block counts, "each checkpoint ever stored, rolled back or
+    /// not, counts once", and blocks deleted "from the pairs handed out."
+    counts: Counts,
+    written: u64,
+    deleted: u64,
 }
 
 impl History {
     /// "After the start each list is checkpoint 0."
-    fn start(n: usize) -> Self {
+    fn start(n: usize, counts: &Counts) -> Self {
         let first = Event::Checkpoint {
             number: 0,
             kept: true,
+            cause: 0,
         };
         History {
             lists: vec![vec![first]; n],
             receivers: Vec::new(),
             under_way: Vec::new(),
             sent_before_rollback: 0,
+            counts: *counts,
+            written: counts[..n].iter().map(|&blocks| blocks as u64).sum(),
+            deleted: 0,
         }
     }
 
@@ -72,9 +82,14 @@ impl History {
     }
 
     /// "the next checkpoint, numbered one above the last there."
-    fn add_checkpoint(&mut self, i: usize) -> u16 {
+    fn add_checkpoint(&mut self, i: usize, cause: u8) -> u16 {
         let number = self.last_checkpoint(i) + 1;
-        self.lists[i].push(Event::Checkpoint { number, kept: true });
+        self.lists[i].push(Event::Checkpoint {
+            number,
+            kept: true,
+            cause,
+        });
+        self.written += self.counts[i] as u64;
         number
     }
 
@@ -93,7 +108,7 @@ impl History {
     fn add_delivery(&mut self, number: u32, forced: Option<u16>) {
         let receiver = self.receivers[number as usize - 1];
         if let Some(index) = forced {
-            assert_eq!(self.add_checkpoint(receiver), index);
+            assert_eq!(self.add_checkpoint(receiver, 2), index);
         }
         self.lists[receiver].push(Event::Received(number));
         self.no_longer_under_way(number);
@@ -117,7 +132,7 @@ impl History {
             let (process, index) = (pair[0] as usize, pair[1]);
             let mut found = 0;
             for event in &mut self.lists[process] {
-                if let Event::Checkpoint { number, kept } = event {
+                if let Event::Checkpoint { number, kept, .. } = event {
                     if *number == index {
                         assert!(*kept, "{process}:{index} is handed out twice");
                         *kept = false;
@@ -126,6 +141,7 @@ impl History {
                 }
             }
             assert_eq!(found, 1, "{process}:{index} is in the list once");
+            self.deleted += self.counts[process] as u64;
         }
     }
 
@@ -159,7 +175,7 @@ impl History {
     fn states(&self, i: usize) -> Vec<State> {
         let mut states = Vec::new();
         for (place, event) in self.lists[i].iter().enumerate() {
-            if let Event::Checkpoint { number, kept } = *event {
+            if let Event::Checkpoint { number, kept, .. } = *event {
                 states.push(State {
                     index: number,
                     place,
@@ -313,6 +329,40 @@ fn best_lines(states: &[Vec<State>], messages: &[Received]) -> Vec<Vec<u16>> {
     // The latest index of each process makes a line that is itself possible.
     assert_eq!(possible, latest, "one line is the latest everywhere");
     latest
+}
+
+/// Note 5: what each kept checkpoint records, and the two sums, by the history
+/// and by the state. "At every moment written equals blocks of all kept
+/// checkpoints plus blocks deleted".
+fn check_disks(run: &Run, history: &History) {
+    let mut kept_blocks = 0;
+    for (i, list) in history.lists.iter().enumerate() {
+        let recorded: Vec<(u8, u16)> = list
+            .iter()
+            .filter_map(|event| match *event {
+                Event::Checkpoint { kept, cause, .. } => {
+                    kept.then_some((cause, history.counts[i] as u16))
+                }
+                _ => None,
+            })
+            .collect();
+        kept_blocks += recorded.len() as u64 * history.counts[i] as u64;
+        assert_eq!(recorded, run.records(i).collect::<Vec<_>>());
+    }
+    assert_eq!(history.written, run.written());
+    assert_eq!(history.deleted, run.deleted());
+    assert_eq!(history.written, kept_blocks + history.deleted);
+}
+
+/// Counts from the least to the greatest; those that are not in the run are
+/// not looked at.
+fn any_counts(n: usize, random: &mut Random) -> Counts {
+    std::array::from_fn(|i| match random.below(4) {
+        _ if i >= n => random.next() as u32,
+        0 => 1,
+        1 => 65_535,
+        _ => 1 + random.below(65_535) as u32,
+    })
 }
 
 /// The demands on the reported lines and on what is kept.
@@ -469,7 +519,7 @@ fn step(
     match kind {
         0 => {
             let answer = run.checkpoint(p, &mut deletions).unwrap();
-            assert_eq!(history.add_checkpoint(p), answer.index);
+            assert_eq!(history.add_checkpoint(p, 1), answer.index);
             history.delete(&deletions[..2 * answer.deletions]);
         }
         1 => {
@@ -521,6 +571,7 @@ fn step(
             }
         }
     }
+    check_disks(run, history);
     kind == 4
 }
 
@@ -538,8 +589,9 @@ fn brute_force(seed: u64, n: usize, every_step: bool, met: &mut Met) {
     let mut random = Random(seed);
     let weights = WEIGHTS[random.below(WEIGHTS.len())];
     let events = 10 + random.below(16);
-    let mut run = Run::start(n).unwrap();
-    let mut history = History::start(n);
+    let counts = any_counts(n, &mut random);
+    let mut run = Run::start(n, &counts).unwrap();
+    let mut history = History::start(n, &counts);
     for _ in 0..events {
         let after_recover = step(&mut run, &mut history, &mut random, &weights, met);
         if every_step || after_recover {
@@ -589,8 +641,8 @@ fn many_processes() {
     for seed in 0..120 {
         let mut random = Random(seed);
         let n = 5 + seed as usize % 12;
-        let mut run = Run::start(n).unwrap();
-        let mut history = History::start(n);
+        let mut run = Run::start(n, &ONES).unwrap();
+        let mut history = History::start(n, &ONES);
         for _ in 0..150 {
             step(&mut run, &mut history, &mut random, &WEIGHTS[1], &mut met);
         }

@@ -3,10 +3,138 @@
 mod common;
 
 use common::{Random, DELETIONS, LINE};
-use oracle::run::Run;
+use oracle::run::{Run, ONES};
+
+const MOST_WRITTEN: u64 = 1_000_000_000_000_000;
 
 fn run_of(count: usize) -> Run {
-    Run::start(count).unwrap()
+    Run::start(count, &ONES).unwrap()
+}
+
+/// Note 5: "15, at the start after 1, for a block count outside 1 to 65,535";
+/// "those at n and above are neither judged nor stored."
+#[test]
+fn block_counts() {
+    for n in 1..=16 {
+        for process in 0..16 {
+            for (blocks, fits) in [
+                (0, false),
+                (1, true),
+                (65_535, true),
+                (65_536, false),
+                (65_537, false),
+                (u32::MAX, false),
+            ] {
+                let mut counts = ONES;
+                counts[process] = blocks;
+                let started = Run::start(n, &counts);
+                if fits || process >= n {
+                    let run = started.unwrap();
+                    common::assert_sound(&run);
+                    let first = if process == 0 { blocks } else { 1 };
+                    assert_eq!(run.records(0).next(), Some((0, first as u16)));
+                    if process >= n {
+                        assert_eq!(run, run_of(n));
+                    }
+                } else {
+                    assert_eq!(started.err(), Some(15));
+                }
+            }
+        }
+    }
+    for n in [0, 17, usize::MAX] {
+        assert_eq!(Run::start(n, &[0; 16]).err(), Some(1));
+    }
+    let run = Run::start(16, &[65_535; 16]).unwrap();
+    assert_eq!((run.written(), run.deleted()), (16 * 65_535, 0));
+}
+
+/// A run of two, whose counts are 7 and 9, with so many blocks left to write.
+/// Process 1 has sent, and message 2 forces a checkpoint there.
+fn run_with_blocks_left(left: u64) -> Run {
+    let mut counts = [0; 16];
+    counts[..2].copy_from_slice(&[7, 9]);
+    let mut run = Run::start(2, &counts).unwrap();
+    run.send(1, 0).unwrap();
+    run.send(0, 1).unwrap();
+    let written = MOST_WRITTEN - left;
+    run.with_sums(written, written - 16).unwrap()
+}
+
+/// Note 5: "16, after 11, for a stored checkpoint that would take written past
+/// 1,000,000,000,000,000."
+#[test]
+fn blocks_used_up() {
+    for left in 0..20 {
+        let run = run_with_blocks_left(left);
+        common::assert_sound(&run);
+        for (process, blocks) in [(0, 7), (1, 9)] {
+            let mut other = run.clone();
+            let answer = other.checkpoint(process, &mut [0; 8]);
+            if left < blocks {
+                assert_eq!(answer, Err(16));
+                assert_eq!(other, run);
+            } else {
+                assert!(answer.is_ok());
+                assert_eq!(other.written(), MOST_WRITTEN - left + blocks);
+            }
+        }
+        let mut other = run.clone();
+        let answer = other.deliver(2, &mut [0; 8]);
+        if left < 9 {
+            assert_eq!(answer, Err(16));
+            assert_eq!(other, run);
+        } else {
+            assert_eq!(answer.unwrap().forced, Some(1));
+            assert_eq!(other.written(), MOST_WRITTEN - left + 9);
+            common::assert_sound(&other);
+        }
+    }
+    // The lower numbers come first.
+    let mut run = run_with_blocks_left(0);
+    assert_eq!(run.checkpoint(0, &mut [0; 7]), Err(3));
+    assert_eq!(run.checkpoint(2, &mut [0; 8]), Err(4));
+    assert_eq!(run.deliver(2, &mut [0; 7]), Err(3));
+    assert_eq!(run.deliver(3, &mut [0; 8]), Err(8));
+    // Nothing is stored, so nothing is refused.
+    assert_eq!(run.send(0, 1), Ok(3));
+    assert_eq!(run.lose(3), Ok(()));
+    assert!(run.recover(0, &mut [0; 8], &mut [0; 2]).is_ok());
+    assert!(run.recover(2, &mut [0; 8], &mut [0; 2]).is_ok());
+    // Process 1 has not sent since: its news forces nothing now.
+    assert_eq!(run.deliver(2, &mut [0; 8]).unwrap().forced, None);
+    assert_eq!(run.written(), MOST_WRITTEN);
+    common::assert_sound(&run);
+}
+
+#[test]
+fn intervals_used_up_comes_before_blocks_used_up() {
+    let mut run = run_of(1);
+    for _ in 1..65_534 {
+        run.checkpoint(0, &mut [0; 2]).unwrap();
+    }
+    let mut full = run.with_sums(MOST_WRITTEN, MOST_WRITTEN - 1).unwrap();
+    assert_eq!(full.checkpoint(0, &mut [0; 2]), Err(16));
+    run.checkpoint(0, &mut [0; 2]).unwrap();
+    let mut full = run.with_sums(MOST_WRITTEN, MOST_WRITTEN - 1).unwrap();
+    assert_eq!(full.checkpoint(0, &mut [0; 2]), Err(11));
+}
+
+/// "a state that is not sound": a wrong sum, one that is right only around
+/// 2 to the 64, and a right one past the bound.
+#[test]
+fn sums_that_are_not_sound() {
+    let run = run_of(3);
+    let judge = |written, deleted| run.with_sums(written, deleted).map(|_| ());
+    for deleted in [0, 1, 1000, MOST_WRITTEN - 3] {
+        assert_eq!(judge(deleted + 3, deleted), Ok(()));
+        assert_eq!(judge(deleted + 2, deleted), Err(2));
+        assert_eq!(judge(deleted + 4, deleted), Err(2));
+    }
+    assert_eq!(judge(MOST_WRITTEN + 1, MOST_WRITTEN - 2), Err(2));
+    for deleted in [u64::MAX, u64::MAX - 2, u64::MAX - 3] {
+        assert_eq!(judge(deleted.wrapping_add(3), deleted), Err(2));
+    }
 }
 
 #[test]
@@ -158,7 +286,7 @@ fn any_call(
 
 #[test]
 fn a_refused_call_changes_nothing_and_an_accepted_one_leaves_the_rest_of_the_lists() {
-    let mut met = [0; 12];
+    let mut met = [0; 17];
     for seed in 0..2000 {
         let mut random = Random(seed);
         let n = 1 + random.below(6);

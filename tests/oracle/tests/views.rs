@@ -10,7 +10,7 @@ mod common;
 
 use common::{Random, DELETIONS};
 use oracle::run::refusal::{INTERVALS_USED_UP, NUMBERS_USED_UP, TOO_MANY_UNDER_WAY};
-use oracle::run::{Message, Run, Vector, LAST_ENTRY, LAST_MESSAGE_NUMBER, MAX_UNDER_WAY};
+use oracle::run::{Message, Run, Vector, LAST_ENTRY, LAST_MESSAGE_NUMBER, MAX_UNDER_WAY, ONES};
 
 /// How many messages may be under way, which number is the last, which entry.
 #[derive(Clone, Copy)]
@@ -64,7 +64,7 @@ struct Watched {
 impl Watched {
     fn start(n: usize, limits: Limits) -> Self {
         Watched {
-            run: Run::start(n).unwrap(),
+            run: Run::start(n, &ONES).unwrap(),
             limits,
             seen: vec![Vec::new(); n],
             lists: vec![vec![Event::Checkpoint]; n],

@@ -4,12 +4,22 @@
 use mathlib.Core.Bool.{Bool, true, false, _&&_, _||_, not}
 use mathlib.Core.List.{List, [], _∷_, _++_}
 use mathlib.Core.Option.{Option, none, some}
-use Prim.Native.Nat.{ℕ, suc, max}
+use Prim.Native.Nat.{ℕ, suc, _+_, max}
 use lib.Dec.{eqb, ltb, leb}
+use lib.ListN.{getD}
 use Rattle.laws.specs.Choice.{pick}
 use Rattle.laws.specs.Search.{anyBelow, allBelow, latest}
+use Rattle.laws.specs.Sums.{sumBelow}
 use Rattle.laws.specs.Update.{upd}
 use Rattle.model.specs.History.{HistoryEvent, stored, sent, received, upTo}
+
+-- What Note 5 of document 02 adds to a run: the cause of each checkpoint, each process's block count, the blocks written. And why the next checkpoint
+-- is stored, if one is: `because` sets it before a step.
+pub record Ledger : Type 0 where
+  pub cause : ℕ → ℕ → ℕ
+  pub counts : ℕ → ℕ
+  pub written : ℕ
+  pub why : ℕ
 
 -- The run. States of process p are numbered: k below `own p` is a checkpoint of its surviving history, `own p` is its live state.
 pub record Ideal : Type 0 where
@@ -34,6 +44,7 @@ pub record Ideal : Type 0 where
   pub last : ℕ
   -- the surviving history, a list of events for each process
   pub events : ℕ → List HistoryEvent
+  pub ledger : Ledger
 
 -- A failed set, as a test of the process.
 abbrev pub Failed : Type 0
@@ -53,7 +64,44 @@ begin n = record {
   receiver = λ m. 0;
   last = 0;
   events = λ p. stored ∷ [];
+  ledger = record { cause = λ p k. 0; counts = λ p. 0; written = 0; why = 0 };
 }
+
+-- The ledger once process i has stored its live state.
+unfoldable pub stores : Ideal → ℕ → Ledger
+stores r i = record {
+  cause = upd (r .ledger .cause) i (upd (r .ledger .cause i) (r .own i) (r .ledger .why));
+  counts = r .ledger .counts;
+  written = r .ledger .written + r .ledger .counts i;
+  why = r .ledger .why;
+}
+
+-- The run with another ledger; with another reason for the next checkpoint.
+abbrev pub withLedger : Ideal → Ledger → Ideal
+withLedger r l = record {
+  n = r .n;
+  own = r .own;
+  vector = r .vector;
+  mark = r .mark;
+  pin = r .pin;
+  transit = r .transit;
+  carried = r .carried;
+  sender = r .sender;
+  receiver = r .receiver;
+  last = r .last;
+  events = r .events;
+  ledger = l;
+}
+
+abbrev pub because : ℕ → Ideal → Ideal
+because why r = withLedger r (record { cause = r .ledger .cause; counts = r .ledger .counts; written = r .ledger .written; why = why })
+
+-- The start with block counts: each of the n processes has stored checkpoint 0.
+unfoldable pub openLedger : ℕ → List ℕ → Ledger
+openLedger n counts = record { cause = λ p k. 0; counts = λ p. getD counts p 0; written = sumBelow n (λ p. getD counts p 0); why = 0 }
+
+abbrev pub begun : ℕ → List ℕ → Ideal
+begun n counts = withLedger (begin n) (openLedger n counts)
 
 -- Checkpoint at i: its live state becomes checkpoint `own i`, which the own pin names; the new live state has one more at the own entry.
 unfoldable pub checkpointed : Ideal → ℕ → Ideal
@@ -69,6 +117,7 @@ checkpointed r i = record {
   receiver = r .receiver;
   last = r .last;
   events = upd (r .events) i (r .events i ++ (stored ∷ []));
+  ledger = stores r i;
 }
 
 -- Send from i to j: the message carries i's vector; i's sent mark is set.
@@ -85,6 +134,7 @@ sending r i j = record {
   receiver = upd (r .receiver) (suc (r .last)) j;
   last = suc (r .last);
   events = upd (r .events) i (r .events i ++ (sent (suc (r .last)) ∷ []));
+  ledger = r .ledger;
 }
 
 -- Some entry that message m carries is greater than that of process i.
@@ -109,6 +159,7 @@ takenBy r m i = record {
   receiver = r .receiver;
   last = r .last;
   events = upd (r .events) i (r .events i ++ (received m ∷ []));
+  ledger = r .ledger;
 }
 
 -- The same, by the message alone.
@@ -133,6 +184,7 @@ lost r m = record {
   receiver = r .receiver;
   last = r .last;
   events = r .events;
+  ledger = r .ledger;
 }
 
 -- State k of p passes the rule of the line: its entry f is less than f's current own entry, for every failed f.
@@ -201,4 +253,5 @@ recovered r F = record {
   receiver = r .receiver;
   last = r .last;
   events = λ p. pick (rolled r F p) (upTo (line r F p) (r .events p)) (r .events p);
+  ledger = r .ledger;
 }

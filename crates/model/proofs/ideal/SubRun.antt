@@ -2,17 +2,18 @@
 -- call, and then it does there what it does in the run: a process is whole in the sub-run as long as it knows at most g of f; f itself ends in interval g.
 use mathlib.Core.Path.{_≡_, refl, sym, _∙_, ap, subst}
 use mathlib.Core.Bool.{true}
+use mathlib.Core.List.{List}
 use Prim.Native.Nat.{ℕ, suc, _≤_, _<_}
 use native.Mathlib.Omega.{arith}
 use lib.Dec.{leb}
 use borrow.Author.Tests.{leb-true, leb-false}
 use Rattle.laws.specs.Choice.{by-bool, by-eq}
-use Rattle.model.proofs.ideal.Run.{Ideal, begin, checkpointed, sending, forces, delivered}
+use Rattle.model.proofs.ideal.Run.{Ideal, because, begin, begun, newer, checkpointed, sending, forces, delivered}
 use Rattle.model.proofs.ideal.Invariant.{Inv}
 use Rattle.model.proofs.ideal.Messages.{underway-own}
 use Rattle.model.proofs.ideal.Delivered.{delivered-inv}
 use Rattle.model.proofs.ideal.Local.{Local, localOf, gotAt, forcesAt, local-took-other, local-sent-other, local-got, local-got-other, forces-local}
-use Rattle.model.proofs.ideal.SubMessages.{SubMessages, messages-begin}
+use Rattle.model.proofs.ideal.SubMessages.{SubMessages, Without, MessagesStay, messages-begin}
 use Rattle.model.proofs.ideal.CheckpointedViews.{checkpointed-n, checkpointed-own, checkpointed-row-own, checkpointed-row-other, checkpointed-row}
 use Rattle.model.proofs.ideal.DeliveredViews.{delivered-n, delivered-own-forced, delivered-own-plain, delivered-own-le, delivered-row, delivered-row-other}
 use Rattle.model.proofs.ideal.Sending.{sending-n, sending-own}
@@ -40,6 +41,11 @@ pub live-part : (r r₁ : Ideal) (p : ℕ) → localOf r₁ p ≡ localOf r p �
 unfolding localOf
 live-part r r₁ p e = ap (λ (P : Local). P .vector (P .own)) e
 
+-- Note 5: r′ has the block counts of r and has written no more, so it meets 16 only where r does.
+pub record Cheaper (r r′ : Ideal) : Type 0 where
+  pub counts : r′ .ledger .counts ≡ r .ledger .counts
+  pub written : r′ .ledger .written ≤ r .ledger .written
+
 module _ (f g : ℕ) where
   -- r′ is the sub-run of r.
   pub record SubRun (r r′ : Ideal) : Type 0 where
@@ -49,15 +55,22 @@ module _ (f g : ℕ) where
     pub whole : (p : ℕ) → p < r .n → knownOf r p f ≤ g → localOf r′ p ≡ localOf r p
     -- f has stopped in interval g where the run goes on
     pub ended : g < r .own f → r′ .own f ≡ g
+    pub cheaper : Cheaper r r′
 
   -- At the start everything is there.
-  pub subrun-begin : (n : ℕ) → 1 ≤ g → SubRun (begin n) (begin n)
+  pub subrun-begin : (n : ℕ) (counts : List ℕ) → 1 ≤ g → SubRun (begun n counts) (begun n counts)
   unfolding begin
-  subrun-begin n pos = record { size = refl; messages = messages-begin f g (begin n) (λ m. refl); whole = λ p hp low. refl; ended = λ lt. absurd (omega arith) }
+  subrun-begin n counts pos = record {
+    size = refl;
+    messages = messages-begin f g (begun n counts) (λ m. refl);
+    whole = λ p hp low. refl;
+    ended = λ lt. absurd (omega arith);
+    cheaper = record { counts = refl; written = omega arith };
+  }
 
   -- A step at b that leaves it knowing at most g of f: the other run takes it too.
-  pub subrun-kept : (r r₁ r′ r₁′ : Ideal) (b : ℕ) → f < r .n → Inv r₁ → SubRun r r′ → StepAt r r₁ b → StepAt r′ r₁′ b → knownOf r₁ b f ≤ g → localOf r₁′ b ≡ localOf r₁ b → SubMessages f g r₁ r₁′ → SubRun r₁ r₁′
-  subrun-kept r r₁ r′ r₁′ b hf v₁ c s s′ low same messages = record {
+  pub subrun-kept : (r r₁ r′ r₁′ : Ideal) (b : ℕ) → f < r .n → Inv r₁ → SubRun r r′ → StepAt r r₁ b → StepAt r′ r₁′ b → knownOf r₁ b f ≤ g → localOf r₁′ b ≡ localOf r₁ b → SubMessages f g r₁ r₁′ → Cheaper r₁ r₁′ → SubRun r₁ r₁′
+  subrun-kept r r₁ r′ r₁′ b hf v₁ c s s′ low same messages less = record {
     size = s′ .size ∙ c .size ∙ sym (s .size);
     messages = messages;
     whole = λ p hp known. by-eq p b
@@ -66,11 +79,12 @@ module _ (f g : ℕ) where
     ended = λ lt. by-eq f b
         (λ e. absurd (omega (arith, low, v₁ .self f (r₁ .own f) (omega arith), ap (λ (p : ℕ). knownOf r₁ p f) e)))
         (λ ne. own-part r′ r₁′ f (s′ .others f ne) ∙ c .ended (omega (arith, own-part r r₁ f (s .others f ne))));
+    cheaper = less;
   }
 
   -- A step at b after which it knows more: the other run leaves it out.
-  pub subrun-left : (r r₁ r′ r₁′ : Ideal) (b : ℕ) → f < r .n → Inv r → SubRun r r′ → StepAt r r₁ b → ((p : ℕ) → localOf r₁′ p ≡ localOf r′ p) → r₁′ .n ≡ r′ .n → g < knownOf r₁ b f → SubMessages f g r₁ r₁′ → SubRun r₁ r₁′
-  subrun-left r r₁ r′ r₁′ b hf v c s same size high messages = record {
+  pub subrun-left : (r r₁ r′ r₁′ : Ideal) (b : ℕ) → f < r .n → Inv r → SubRun r r′ → StepAt r r₁ b → ((p : ℕ) → localOf r₁′ p ≡ localOf r′ p) → r₁′ .n ≡ r′ .n → g < knownOf r₁ b f → SubMessages f g r₁ r₁′ → Cheaper r₁ r₁′ → SubRun r₁ r₁′
+  subrun-left r r₁ r′ r₁′ b hf v c s same size high messages less = record {
     size = size ∙ c .size ∙ sym (s .size);
     messages = messages;
     whole = λ p hp known. by-eq p b
@@ -80,6 +94,7 @@ module _ (f g : ℕ) where
         (λ e. let le : r .own f ≤ g = leb-true (r .own f) g e in
         own-part r r′ f (c .whole f hf (omega (arith, v .self f (r .own f) (omega arith)))) ∙ at-end lt le)
         (λ e. c .ended (leb-false (r .own f) g e));
+    cheaper = less;
   }
     where
       at-end : g < r₁ .own f → r .own f ≤ g → r .own f ≡ g
@@ -88,12 +103,13 @@ module _ (f g : ℕ) where
           (λ ne. absurd (omega (arith, own-part r r₁ f (s .others f ne))))
 
   -- A step that changes no process's part, in either run.
-  pub subrun-messages : (r r₁ r′ r₁′ : Ideal) → SubRun r r′ → r₁ .n ≡ r .n → r₁′ .n ≡ r′ .n → ((p : ℕ) → localOf r₁ p ≡ localOf r p) → ((p : ℕ) → localOf r₁′ p ≡ localOf r′ p) → SubMessages f g r₁ r₁′ → SubRun r₁ r₁′
-  subrun-messages r r₁ r′ r₁′ c size size′ same same′ messages = record {
+  pub subrun-messages : (r r₁ r′ r₁′ : Ideal) → SubRun r r′ → r₁ .n ≡ r .n → r₁′ .n ≡ r′ .n → ((p : ℕ) → localOf r₁ p ≡ localOf r p) → ((p : ℕ) → localOf r₁′ p ≡ localOf r′ p) → SubMessages f g r₁ r₁′ → Cheaper r₁ r₁′ → SubRun r₁ r₁′
+  subrun-messages r r₁ r′ r₁′ c size size′ same same′ messages less = record {
     size = size′ ∙ c .size ∙ sym size;
     messages = messages;
     whole = λ p hp known. same′ p ∙ c .whole p (rw size at hp) (rw (← known-part r r₁ p f (same p)) known) ∙ sym (same p);
     ended = λ lt. own-part r′ r₁′ f (same′ f) ∙ c .ended (omega (arith, own-part r r₁ f (same f)));
+    cheaper = less;
   }
 
 -- The steps at one process.
@@ -109,6 +125,25 @@ delivered-at r m = record {
   others = local-got-other r m;
   one = by-bool (forces r m) (λ e. omega (arith, delivered-own-forced r m e)) (λ e. omega (arith, delivered-own-plain r m e (r .receiver m)));
 }
+
+-- The reason for the next checkpoint is in no process's part and in no message.
+pub at-because : (r r₁ : Ideal) (why b : ℕ) → StepAt (because why r) r₁ b → StepAt r r₁ b
+unfolding localOf
+at-because r r₁ why b w = record { size = w .size; others = w .others; one = w .one }
+
+pub without-because : (r r₁ : Ideal) (why m : ℕ) → Without (because why r) r₁ m → Without r r₁ m
+without-because r r₁ why m w = record { transit = w .transit; carried = w .carried; sender = w .sender; receiver = w .receiver; last = w .last }
+
+pub stay-because : (r r₁ : Ideal) (why : ℕ) → MessagesStay (because why r) r₁ → MessagesStay r r₁
+stay-because r r₁ why w = record { transit = w .transit; carried = w .carried; sender = w .sender; receiver = w .receiver; last = w .last }
+
+pub part-because : (r r′ : Ideal) (why p : ℕ) → localOf r′ p ≡ localOf r p → localOf (because why r′) p ≡ localOf (because why r) p
+unfolding localOf
+part-because r r′ why p e = e
+
+pub forces-because : (r : Ideal) (why m : ℕ) → forces (because why r) m ≡ forces r m
+unfolding forces newer
+forces-because r why m = refl
 
 -- A send changes no vector.
 pub sending-row : (r : Ideal) (i j p f : ℕ) → knownOf (sending r i j) p f ≡ knownOf r p f

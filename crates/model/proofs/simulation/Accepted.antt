@@ -5,20 +5,21 @@ use mathlib.Core.Path.{_≡_, refl}
 use mathlib.Core.Bool.{Bool, true, false, _||_, not}
 use mathlib.Core.List.{List}
 use mathlib.Core.Option.{Option, none, some}
-use Prim.Native.Nat.{ℕ, _*_, _^_, _≤_, _<_}
+use Prim.Native.Nat.{ℕ, _+_, _*_, _^_, _≤_, _<_}
 use native.Mathlib.Nat.{div-eq-of-lt, pow-le-pow-right}
 use native.Mathlib.Omega.{arith}
 use lib.Dec.{leb}
-use lib.ListN.{length}
+use lib.ListN.{length, getD}
 use borrow.Author.Tests.{ltb-false, leb-true, leb-false, eqb-false, not-false, le-ltb, le-leb, lt-leb, ne-eqb}
 use Rattle.laws.specs.Choice.{by-bool}
+use Rattle.laws.specs.Search.{anyBelow, any-out, any-none}
 use Rattle.laws.specs.Truth.{never-both, and-left, and-right, and-both}
 use Rattle.model.specs.declared.Message.{Message}
 use Rattle.model.specs.declared.Run.{Run}
-use Rattle.model.specs.Words.{places, mostUnderWay, mostMessages, mostInterval, process, own, failed}
+use Rattle.model.specs.Words.{places, mostUnderWay, mostMessages, mostInterval, mostBlocks, blockCount, process, own, failed}
 use Rattle.model.specs.Steps.{found, forces}
-use Rattle.model.specs.Sound.{sound}
-use Rattle.model.specs.Refusals.{startRefusal, shortDeletions, shortLine, absent, checkpointRefusal, sendRefusal, missing, forcesPast, deliverRefusal, loseRefusal, noMember, outside, lineRefusal, recoverRefusal}
+use Rattle.model.specs.Sound.{isBlockCount, sound}
+use Rattle.model.specs.Refusals.{startRefusal, shortDeletions, shortLine, absent, checkpointRefusal, sendRefusal, missing, forcesPast, forcesOver, deliverRefusal, loseRefusal, noMember, outside, lineRefusal, recoverRefusal}
 use Rattle.model.specs.laws.Refusals.{refusal-in, no-rule}
 
 -- A disjunction that fails.
@@ -34,17 +35,29 @@ or-in a b p q = rw (p, q)
 not-in : (a : Bool) → a ≡ true → not a ≡ false
 not-in a e = rw e
 
--- An accepted start has 1 to 16 processes.
-pub start-out : (n : ℕ) → startRefusal n ≡ none → (1 ≤ n) × (n ≤ places)
+-- An accepted start has 1 to 16 processes and block counts in range.
+pub start-out : (n : ℕ) (counts : List ℕ) → startRefusal n counts ≡ none → (1 ≤ n) × (n ≤ places) × ((p : ℕ) → p < n → isBlockCount (getD counts p 0) ≡ true)
 unfolding startRefusal
-start-out n e =
-    let h = not-false _ (no-rule _ e 0) in
-    (leb-true 1 n (and-left (leb 1 n) (leb n places) h), leb-true n places (and-right (leb 1 n) (leb n places) h))
+start-out n counts e =
+    let fails = no-rule _ e in
+    let h = not-false _ (fails 0) in (
+      leb-true 1 n (and-left (leb 1 n) (leb n places) h),
+      leb-true n places (and-right (leb 1 n) (leb n places) h),
+      λ p hp. not-false (isBlockCount (getD counts p 0)) (any-none n (λ p. not (isBlockCount (getD counts p 0))) (fails 1) p hp),
+    )
 
--- A start with 1 to 16 processes is accepted.
-pub start-in : (n : ℕ) → 1 ≤ n → n ≤ places → startRefusal n ≡ none
+-- A start with 1 to 16 processes and block counts in range is accepted.
+pub start-in : (n : ℕ) (counts : List ℕ) → 1 ≤ n → n ≤ places → ((p : ℕ) → p < n → isBlockCount (getD counts p 0) ≡ true) → startRefusal n counts ≡ none
 unfolding startRefusal
-start-in n a b = refusal-in _ none (not-in _ (and-both _ _ (le-leb 1 n a) (le-leb n places b)), tt)
+start-in n counts a b fit = refusal-in _ none (
+  not-in _ (and-both _ _ (le-leb 1 n a) (le-leb n places b)),
+  (
+    by-bool (anyBelow n (λ p. not (isBlockCount (getD counts p 0))))
+        (λ e. let w = any-out n (λ p. not (isBlockCount (getD counts p 0))) e in never-both (not (isBlockCount (getD counts (w .0) 0))) (w .2) (not-in _ (fit (w .0) (w .1))))
+        (λ e. e),
+    tt,
+  ),
+)
 
 -- A checkpoint that is accepted.
 pub record CheckpointFine (s : Run) (i : ℕ) (deleted : List ℕ) : Type 0 where
@@ -52,13 +65,14 @@ pub record CheckpointFine (s : Run) (i : ℕ) (deleted : List ℕ) : Type 0 wher
   pub room : 2 * s .count * s .count ≤ length deleted
   pub present : i < s .count
   pub early : own s i .0 < mostInterval
+  pub blocks : s .disk .written + blockCount (process s i) ≤ mostBlocks
 
 -- An accepted checkpoint is one of these,
 pub checkpoint-out : (s : Run) (i : ℕ) (deleted : List ℕ) → checkpointRefusal s i deleted ≡ none → CheckpointFine s i deleted
 unfolding checkpointRefusal
 checkpoint-out s i deleted e =
     let fails = no-rule _ e in
-    record { whole = not-false _ (fails 0); room = ltb-false _ _ (fails 1); present = leb-false _ _ (fails 2); early = leb-false _ _ (fails 3) }
+    record { whole = not-false _ (fails 0); room = ltb-false _ _ (fails 1); present = leb-false _ _ (fails 2); early = leb-false _ _ (fails 3); blocks = ltb-false _ _ (fails 4) }
 
 -- and each of these is accepted.
 pub checkpoint-in : (s : Run) (i : ℕ) (deleted : List ℕ) → CheckpointFine s i deleted → checkpointRefusal s i deleted ≡ none
@@ -70,7 +84,7 @@ checkpoint-in s i deleted h =
         le-ltb _ _ (h .room),
         (
           lt-leb _ _ (h .present),
-          (lt-leb _ _ (h .early), tt),
+          (lt-leb _ _ (h .early), (le-ltb _ _ (h .blocks), tt)),
         ),
       ),
     )
@@ -129,6 +143,7 @@ pub record DeliverFine (s : Run) (m : ℕ) (deleted : List ℕ) : Type 0 where
   pub message : Message
   pub here : found s m ≡ some message
   pub early : forces (process s (message .receiver)) (message .vector) ≡ true → own s (message .receiver) .0 < mostInterval
+  pub blocks : forces (process s (message .receiver)) (message .vector) ≡ true → s .disk .written + blockCount (process s (message .receiver)) ≤ mostBlocks
 
 -- A delivery that forces no checkpoint past the last interval: if it forces one, the own entry has room,
 early-out : (s : Run) (o : Option Message) (x : Message) → forcesPast s o ≡ false → o ≡ some x → forces (process s (x .receiver)) (x .vector) ≡ true → own s (x .receiver) .0 < mostInterval
@@ -140,6 +155,19 @@ early-in : (s : Run) (o : Option Message) (x : Message) → o ≡ some x → (fo
 unfolding forcesPast
 early-in s o x d h = rw d (by-bool (forces (process s (x .receiver)) (x .vector))
     (λ q. rw q (lt-leb _ _ (h q)))
+    (λ q. rw q))
+
+-- The same of the blocks.
+over-out : (s : Run) (o : Option Message) (x : Message) → forcesOver s o ≡ false → o ≡ some x → forces (process s (x .receiver)) (x .vector) ≡ true
+    → s .disk .written + blockCount (process s (x .receiver)) ≤ mostBlocks
+unfolding forcesOver
+over-out s o x e d q = let z = rw d at e in ltb-false _ _ (rw q at z)
+
+over-in : (s : Run) (o : Option Message) (x : Message) → o ≡ some x
+    → (forces (process s (x .receiver)) (x .vector) ≡ true → s .disk .written + blockCount (process s (x .receiver)) ≤ mostBlocks) → forcesOver s o ≡ false
+unfolding forcesOver
+over-in s o x d h = rw d (by-bool (forces (process s (x .receiver)) (x .vector))
+    (λ q. rw q (le-ltb _ _ (h q)))
     (λ q. rw q))
 
 -- An accepted delivery is one of these,
@@ -154,6 +182,7 @@ deliver-out s m deleted e =
       message = w .0;
       here = w .1;
       early = early-out s (found s m) (w .0) (fails 3) (w .1);
+      blocks = over-out s (found s m) (w .0) (fails 4) (w .1);
     }
 
 -- and each of these is accepted.
@@ -166,7 +195,10 @@ deliver-in s m deleted h =
         le-ltb _ _ (h .room),
         (
           rw (h .here),
-          (early-in s (found s m) (h .message) (h .here) (h .early), tt),
+          (
+            early-in s (found s m) (h .message) (h .here) (h .early),
+            (over-in s (found s m) (h .message) (h .here) (h .blocks), tt),
+          ),
         ),
       ),
     )

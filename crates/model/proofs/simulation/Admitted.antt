@@ -4,11 +4,11 @@ use mathlib.Core.Path.{_≡_, sym, _∙_}
 use mathlib.Core.Bool.{true}
 use mathlib.Core.List.{List}
 use mathlib.Core.Option.{Option, none, some}
-use Prim.Native.Nat.{ℕ, _*_, _≤_, _<_}
+use Prim.Native.Nat.{ℕ, _+_, _*_, _≤_, _<_}
 use native.Mathlib.Omega.{arith}
 use lib.ListN.{length}
 use Rattle.model.specs.declared.Message.{Message}
-use Rattle.model.specs.Words.{mostUnderWay, mostMessages, mostInterval, own}
+use Rattle.model.specs.Words.{mostUnderWay, mostMessages, mostInterval, mostBlocks, own}
 use Rattle.model.specs.Steps.{found}
 use Rattle.model.specs.Refusals.{checkpointRefusal, sendRefusal, deliverRefusal, loseRefusal}
 use Rattle.model.proofs.ideal.Run.{Ideal, forces}
@@ -20,18 +20,20 @@ use Rattle.model.proofs.simulation.Messages.{used-number, found-is}
 use Rattle.model.proofs.simulation.Deliver.{deliver-forces}
 use Rattle.model.proofs.simulation.Accepted.{checkpoint-in, send-in, deliver-in, deliver-out, lose-in}
 use Rattle.model.proofs.simulation.Sound.{state-sound}
-use Rattle.model.proofs.simulation.SoundCalls.{deliver-run}
+use Rattle.model.proofs.simulation.SoundCalls.{written-is, count-is-of, deliver-run}
 
 module _ (r : Ideal) (v : Inv r) (fit : Limits r) where
   self : (p : ℕ) → r .vector p (r .own p) p ≡ r .own p
   self p = v .self p (r .own p) (omega arith)
 
-  pub checkpoint-admitted : (i : ℕ) (deleted : List ℕ) → i < r .n → r .own i < mostInterval → 2 * r .n * r .n ≤ length deleted → checkpointRefusal (stateOf r) i deleted ≡ none
-  checkpoint-admitted i deleted hi early room = checkpoint-in (stateOf r) i deleted (record {
+  pub checkpoint-admitted : (i : ℕ) (deleted : List ℕ) → i < r .n → r .own i < mostInterval → 2 * r .n * r .n ≤ length deleted
+      → r .ledger .written + r .ledger .counts i ≤ mostBlocks → checkpointRefusal (stateOf r) i deleted ≡ none
+  checkpoint-admitted i deleted hi early room blocks = checkpoint-in (stateOf r) i deleted (record {
     whole = state-sound r v fit;
     room = rw (count-is r) room;
     present = rw (count-is r) hi;
     early = rw (own-is r i (fit .few-processes) hi (self i)) early;
+    blocks = omega (arith, blocks, written-is r v fit, count-is-of r v fit i hi);
   })
 
   pub send-admitted : (i j : ℕ) → i < r .n → j < r .n → (i ≡ j → ⊥) → length (messagesOf r) < mostUnderWay → r .last < mostMessages → sendRefusal (stateOf r) i j ≡ none
@@ -44,9 +46,10 @@ module _ (r : Ideal) (v : Inv r) (fit : Limits r) where
     numbers = rw (last-is r) numbers;
   })
 
-  pub deliver-admitted : (m : ℕ) (deleted : List ℕ) → r .transit m ≡ true → 2 * r .n * r .n ≤ length deleted → (forces r m ≡ true → r .own (r .receiver m) < mostInterval) → deliverRefusal (stateOf r) m deleted ≡ none
+  pub deliver-admitted : (m : ℕ) (deleted : List ℕ) → r .transit m ≡ true → 2 * r .n * r .n ≤ length deleted → (forces r m ≡ true → r .own (r .receiver m) < mostInterval)
+      → (forces r m ≡ true → r .ledger .written + r .ledger .counts (r .receiver m) ≤ mostBlocks) → deliverRefusal (stateOf r) m deleted ≡ none
   unfolding messageOf
-  deliver-admitted m deleted under room early =
+  deliver-admitted m deleted under room early blocks =
       let hi = underway-proper r v m under .to in
       deliver-in (stateOf r) m deleted (record {
         whole = state-sound r v fit;
@@ -54,6 +57,7 @@ module _ (r : Ideal) (v : Inv r) (fit : Limits r) where
         message = messageOf r m;
         here = found-is r m (used-number r v m under) under;
         early = λ q. rw (own-is r (r .receiver m) (fit .few-processes) hi (self (r .receiver m))) (early (sym (deliver-forces r m (fit .few-processes) hi (self (r .receiver m))) ∙ q));
+        blocks = λ q. omega (arith, blocks (sym (deliver-forces r m (fit .few-processes) hi (self (r .receiver m))) ∙ q), written-is r v fit, count-is-of r v fit (r .receiver m) hi);
       })
 
   pub lose-admitted : (m : ℕ) → r .transit m ≡ true → loseRefusal (stateOf r) m ≡ none

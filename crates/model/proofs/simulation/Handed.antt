@@ -1,13 +1,13 @@
 -- What checkpoint, deliver and recover hand out on a state that stands for a run: the checkpoints that were kept and are kept no more.
 -- And the lent list has room for them where each process keeps at most n.
-use mathlib.Core.Path.{_≡_, refl, sym, _∙_}
+use mathlib.Core.Path.{_≡_, refl, sym, _∙_, ap}
 use mathlib.Core.Bool.{Bool, false, _&&_, not}
-use mathlib.Core.List.{List}
-use Prim.Native.Nat.{ℕ, zero, suc, _*_, _≤_, _<_}
-use native.Mathlib.Nat.{le-mul-of-pos-right}
+use mathlib.Core.List.{List, [], _∷_, _++_}
+use Prim.Native.Nat.{ℕ, zero, suc, _+_, _*_, _≤_, _<_}
+use native.Mathlib.Nat.{add-mul, le-mul-of-pos-right}
 use native.Mathlib.Omega.{arith}
 use lib.Dec.{eqb, ltb}
-use lib.ListN.{length, length-append, length-map}
+use lib.ListN.{length, getD, length-append, length-map}
 use borrow.Author.Tests.{lt-ltb, leb-true, eq-eqb, ne-eqb, eqb-true}
 use Rattle.laws.specs.Choice.{by-bool, by-eq}
 use Rattle.laws.specs.Elements.{same-test}
@@ -15,9 +15,11 @@ use Rattle.laws.specs.Lists.{gather}
 use Rattle.laws.specs.Ranges.{any-only}
 use Rattle.laws.specs.Search.{any-in, any-out}
 use Rattle.laws.specs.Select.{some-map, some-gather}
+use Rattle.laws.specs.Sums.{sumBelow, sum-same}
 use Rattle.laws.specs.Tests.{countBelow, some-of}
 use Rattle.laws.specs.Truth.{never-both, and-left, and-right, and-both, and-no-right}
-use Rattle.model.specs.Words.{places, failed}
+use Rattle.model.specs.declared.Checkpoint.{Checkpoint}
+use Rattle.model.specs.Words.{basic, forced, places, failed}
 use Rattle.model.specs.Steps.{Deletion, listed, checkpointDeletions, deliverDeletions, recoverDeletions}
 use Rattle.model.specs.Outcomes.{pairs, written}
 use Rattle.model.specs.Calls.{Reply}
@@ -25,14 +27,14 @@ use Rattle.model.specs.Survival.{handedOut}
 use Rattle.model.proofs.ideal.Run.{Ideal, keeps, checkpointed, delivered, recovered}
 use Rattle.model.proofs.ideal.Invariant.{Inv}
 use Rattle.model.proofs.ideal.Line.{keeps-below}
-use Rattle.model.proofs.ideal.CheckpointedViews.{checkpointed-n, checkpointed-pin-row}
+use Rattle.model.proofs.ideal.Counted.{goneIn, gone-one}
 use Rattle.model.proofs.simulation.View.{passing, checkpointOf, keptOf, messageOf, stateOf}
 use Rattle.model.proofs.simulation.Passing.{some-passing, length-passing}
-use Rattle.model.proofs.simulation.Rows.{keeps-same}
-use Rattle.model.proofs.simulation.Checkpoint.{checkpoint-deletions}
+use Rattle.model.proofs.simulation.Kept.{kept-most}
+use Rattle.model.proofs.simulation.Checkpoint.{checkpoint-deletions, checkpoint-keeps-other}
 use Rattle.model.proofs.simulation.Deliver.{deliver-deletions, deliver-keeps-other}
 use Rattle.model.proofs.simulation.Recover.{recover-deletions}
-use Rattle.model.proofs.simulation.Pairs.{deletes, handed-out}
+use Rattle.model.proofs.simulation.Pairs.{deletes, handed-out, weigh, handed-weight}
 
 -- Some deletion of a process's checkpoints that pass a test is the one of k: k is below the bound and passes.
 pub listed-one : (r : Ideal) (i m : ℕ) (t : ℕ → Bool) (k : ℕ) → some-of (deletes i k) (listed i (passing m t (checkpointOf r i))) ≡ (ltb k m && t k)
@@ -111,29 +113,92 @@ pub record Answers (reply : Reply) (lent : List ℕ) (ds : List Deletion) : Type
   pub deleted : reply .deleted ≡ written lent (pairs ds)
   pub counted : reply .report .deletions ≡ length ds
 
-module _ (r : Ideal) (v : Inv r) (few : r .n ≤ places) (reply : Reply) (lent : List ℕ) (room : 2 * r .n * r .n ≤ length lent) (p k : ℕ) where
-  pub checkpoint-handed : (i : ℕ) → i < r .n → length (keptOf r i) ≤ r .n → Answers reply lent (checkpointDeletions (stateOf r) i)
-      → handedOut reply p k ≡ (keeps r p k && not (keeps (checkpointed r i) p k))
-  checkpoint-handed i hi kept answer =
-      let e : checkpointDeletions (stateOf r) i ≡ gone r (checkpointed r i) i = checkpoint-deletions r i few hi (v .self i (r .own i) (omega arith)) in
-      handed-out reply lent (gone r (checkpointed r i) i) p k (rw e at (answer .deleted)) (rw e at (answer .counted))
-      (omega (arith, room-one (r .n) (length (gone r (checkpointed r i) i)) (omega arith) (omega (arith, listed-length r i (λ k. not (keeps (checkpointed r i) i k))))))
-      ∙ handed-one r (checkpointed r i) v i (λ p k ne. keeps-same r (checkpointed r i) p k (checkpointed-n r i) (λ f hf. checkpointed-pin-row r i p f ne)) p k
+-- The weight of the deletions of one process, and of all.
+weigh-append : (c : ℕ → ℕ) (a b : List Deletion) → weigh c (a ++ b) ≡ weigh c a + weigh c b
+unfolding weigh
+weigh-append c [] b = omega arith
+weigh-append c (d ∷ a) b = omega (arith, weigh-append c a b)
 
-  pub deliver-handed : (m : ℕ) → r .receiver m < r .n → length (keptOf r (r .receiver m)) ≤ r .n → Answers reply lent (deliverDeletions (stateOf r) (messageOf r m))
-      → handedOut reply p k ≡ (keeps r p k && not (keeps (delivered r m) p k))
-  deliver-handed m hi kept answer =
-      let self : r .vector (r .receiver m) (r .own (r .receiver m)) (r .receiver m) ≡ r .own (r .receiver m) = v .self (r .receiver m) (r .own (r .receiver m)) (omega arith) in
-      let e : deliverDeletions (stateOf r) (messageOf r m) ≡ gone r (delivered r m) (r .receiver m) = deliver-deletions r m few hi self in
-      handed-out reply lent (gone r (delivered r m) (r .receiver m)) p k (rw e at (answer .deleted)) (rw e at (answer .counted))
-      (omega (arith, room-one (r .n) (length (gone r (delivered r m) (r .receiver m))) (omega arith) (omega (arith, listed-length r (r .receiver m) (λ k. not (keeps (delivered r m) (r .receiver m) k))))))
-      ∙ handed-one r (delivered r m) v (r .receiver m) (deliver-keeps-other r m few hi self) p k
+weigh-listed : (c : ℕ → ℕ) (p : ℕ) (l : List Checkpoint) → weigh c (listed p l) ≡ length l * c p
+unfolding weigh listed
+weigh-listed c p [] = omega arith
+weigh-listed c p (x ∷ l) = omega (arith, add-mul 1 (length l) (c p), weigh-listed c p l)
 
-  pub recover-handed : (F : ℕ) → p < r .n → ((q : ℕ) → q < r .n → length (keptOf r q) ≤ r .n) → Answers reply lent (recoverDeletions (stateOf r) F)
-      → handedOut reply p k ≡ (keeps r p k && not (keeps (recovered r (failed F)) p k))
-  recover-handed F lt kept answer =
-      let e : recoverDeletions (stateOf r) F ≡ gather (r .n) (gone r (recovered r (failed F))) = recover-deletions r v few F in
-      let few-pairs : length (gather (r .n) (gone r (recovered r (failed F)))) ≤ r .n * r .n = gather-length (r .n) (r .n) (gone r (recovered r (failed F)))
-      (λ q h. omega (arith, kept q h, listed-length r q (λ k. not (keeps (recovered r (failed F)) q k)))) in
-      handed-out reply lent (gather (r .n) (gone r (recovered r (failed F)))) p k (rw e at (answer .deleted)) (rw e at (answer .counted)) (omega arith)
-      ∙ handed-all r (recovered r (failed F)) v p k lt
+weigh-gather : (c : ℕ → ℕ) (n : ℕ) (f : ℕ → List Deletion) → weigh c (gather n f) ≡ sumBelow n (λ p. weigh c (f p))
+unfolding gather sumBelow weigh
+weigh-gather c zero f = refl
+weigh-gather c (suc n) f = weigh-append c (gather n f) (f n) ∙ ap (λ (x : ℕ). x + weigh c (f n)) (weigh-gather c n f)
+
+weigh-gone : (r r′ : Ideal) (p : ℕ) → weigh (r .ledger .counts) (gone r r′ p) ≡ countBelow (r .own p) (λ k. keeps r p k && not (keeps r′ p k)) * r .ledger .counts p
+weigh-gone r r′ p =
+    weigh-listed (r .ledger .counts) p (passing (r .own p) (λ k. keeps r p k && not (keeps r′ p k)) (checkpointOf r p))
+    ∙ ap (λ (x : ℕ). x * r .ledger .counts p) (length-passing (r .own p) (λ k. keeps r p k && not (keeps r′ p k)) (checkpointOf r p))
+
+weigh-all : (r r′ : Ideal) → weigh (r .ledger .counts) (gather (r .n) (gone r r′)) ≡ goneIn r r′
+unfolding goneIn
+weigh-all r r′ = weigh-gather (r .ledger .counts) (r .n) (gone r r′) ∙ sum-same (r .n) _ _ (λ p lt. weigh-gone r r′ p)
+
+-- The blocks of the pairs that an answer hands out.
+abbrev pub pairBlocks : Ideal → Reply → ℕ
+pairBlocks r reply = sumBelow (reply .report .deletions) (λ d. r .ledger .counts (getD (reply .deleted) (2 * d) 0))
+
+module _ (r : Ideal) (v : Inv r) (few : r .n ≤ places) (reply : Reply) (lent : List ℕ) (room : 2 * r .n * r .n ≤ length lent) where
+  module _ (i : ℕ) (hi : i < r .n) (asked : r .ledger .why ≡ basic) (answer : Answers reply lent (checkpointDeletions (stateOf r) i)) where
+    these : checkpointDeletions (stateOf r) i ≡ gone r (checkpointed r i) i
+    these = checkpoint-deletions r v i few hi asked
+
+    short : 2 * length (gone r (checkpointed r i) i) ≤ length lent
+    short = omega (arith, kept-most r i, room-one (r .n) (length (gone r (checkpointed r i) i)) (omega arith) (omega (arith, kept-most r i, listed-length r i (λ k. not (keeps (checkpointed r i) i k)))))
+
+    pub checkpoint-handed : (p k : ℕ) → handedOut reply p k ≡ (keeps r p k && not (keeps (checkpointed r i) p k))
+    checkpoint-handed p k =
+        handed-out reply lent (gone r (checkpointed r i) i) p k (rw these at (answer .deleted)) (rw these at (answer .counted)) short
+        ∙ handed-one r (checkpointed r i) v i (checkpoint-keeps-other r v i few hi) p k
+
+    pub checkpoint-blocks : pairBlocks r reply ≡ goneIn r (checkpointed r i)
+    checkpoint-blocks =
+        handed-weight reply lent (gone r (checkpointed r i) i) (r .ledger .counts) (rw these at (answer .deleted)) (rw these at (answer .counted)) short
+        ∙ weigh-gone r (checkpointed r i) i
+        ∙ sym (gone-one r (checkpointed r i) i hi (checkpoint-keeps-other r v i few hi))
+
+  module _ (m : ℕ) (hi : r .receiver m < r .n) (asked : r .ledger .why ≡ forced) (answer : Answers reply lent (deliverDeletions (stateOf r) (messageOf r m))) where
+    those : deliverDeletions (stateOf r) (messageOf r m) ≡ gone r (delivered r m) (r .receiver m)
+    those = deliver-deletions r v m few hi asked
+
+    room-for : 2 * length (gone r (delivered r m) (r .receiver m)) ≤ length lent
+    room-for = omega (
+      arith,
+      room-one (r .n) (length (gone r (delivered r m) (r .receiver m))) (omega arith)
+          (omega (arith, kept-most r (r .receiver m), listed-length r (r .receiver m) (λ k. not (keeps (delivered r m) (r .receiver m) k)))),
+    )
+
+    pub deliver-handed : (p k : ℕ) → handedOut reply p k ≡ (keeps r p k && not (keeps (delivered r m) p k))
+    deliver-handed p k =
+        handed-out reply lent (gone r (delivered r m) (r .receiver m)) p k (rw those at (answer .deleted)) (rw those at (answer .counted)) room-for
+        ∙ handed-one r (delivered r m) v (r .receiver m) (deliver-keeps-other r v m few hi asked) p k
+
+    pub deliver-blocks : pairBlocks r reply ≡ goneIn r (delivered r m)
+    deliver-blocks =
+        handed-weight reply lent (gone r (delivered r m) (r .receiver m)) (r .ledger .counts) (rw those at (answer .deleted)) (rw those at (answer .counted)) room-for
+        ∙ weigh-gone r (delivered r m) (r .receiver m)
+        ∙ sym (gone-one r (delivered r m) (r .receiver m) hi (deliver-keeps-other r v m few hi asked))
+
+  module _ (F : ℕ) (answer : Answers reply lent (recoverDeletions (stateOf r) F)) where
+    all-these : recoverDeletions (stateOf r) F ≡ gather (r .n) (gone r (recovered r (failed F)))
+    all-these = recover-deletions r v few F
+
+    room-all : 2 * length (gather (r .n) (gone r (recovered r (failed F)))) ≤ length lent
+    room-all =
+        let few-pairs : length (gather (r .n) (gone r (recovered r (failed F)))) ≤ r .n * r .n = gather-length (r .n) (r .n) (gone r (recovered r (failed F)))
+        (λ q h. omega (arith, kept-most r q, listed-length r q (λ k. not (keeps (recovered r (failed F)) q k)))) in
+        omega arith
+
+    pub recover-handed : (p k : ℕ) → p < r .n → handedOut reply p k ≡ (keeps r p k && not (keeps (recovered r (failed F)) p k))
+    recover-handed p k lt =
+        handed-out reply lent (gather (r .n) (gone r (recovered r (failed F)))) p k (rw all-these at (answer .deleted)) (rw all-these at (answer .counted)) room-all
+        ∙ handed-all r (recovered r (failed F)) v p k lt
+
+    pub recover-blocks : pairBlocks r reply ≡ goneIn r (recovered r (failed F))
+    recover-blocks =
+        handed-weight reply lent (gather (r .n) (gone r (recovered r (failed F)))) (r .ledger .counts) (rw all-these at (answer .deleted)) (rw all-these at (answer .counted)) room-all
+        ∙ weigh-all r (recovered r (failed F))

@@ -18,12 +18,13 @@ use Rattle.model.specs.Words.{places}
 use Rattle.model.specs.Steps.{sentMessage, marked, sendState, found, others, loseState}
 use Rattle.model.proofs.ideal.Run.{Ideal, keeps, sending, lost}
 use Rattle.model.proofs.ideal.Invariant.{Inv}
+use Rattle.model.proofs.ideal.Counted.{keptIn}
 use Rattle.model.proofs.ideal.Lost.{lost-n, lost-own, lost-vector, lost-mark, lost-pin, lost-last}
-use Rattle.model.proofs.simulation.View.{passing, pinsOf, checkpointOf, keptOf, processOf, messageOf, messagesOf, stateOf}
+use Rattle.model.proofs.simulation.View.{passing, pinsOf, checkpointOf, keptOf, processOf, messageOf, messagesOf, diskOf, stateOf}
 use Rattle.model.proofs.simulation.Passing.{passing-same, passing-yes, select-passing, last-passing}
 use Rattle.model.proofs.simulation.Reads.{last-is, underWay-is, process-is}
 use Rattle.model.proofs.simulation.Rows.{process-same}
-use Rattle.model.proofs.simulation.Stepping.{one-part-messages, messages-alone}
+use Rattle.model.proofs.simulation.Stepping.{one-part-still, messages-alone}
 
 -- A message under way has a used number.
 pub used-number : (r : Ideal) → Inv r → (m : ℕ) → r .transit m ≡ true → m < suc (r .last)
@@ -37,7 +38,7 @@ module _ (r : Ideal) (i j : ℕ) (few : r .n ≤ places) (hi : i < r .n) where
 
   send-others : (p : ℕ) → p < r .n → (p ≡ i → ⊥) → processOf (sending r i j) p ≡ processOf r p
   unfolding sending
-  send-others p lt ne = process-same r (sending r i j) p refl refl (λ k f le hf. refl) (upd-other (r .mark) i true p ne) (λ f hf. refl)
+  send-others p lt ne = process-same r (sending r i j) p refl refl (λ k f le hf. refl) (upd-other (r .mark) i true p ne) (λ f hf. refl) refl refl
 
   send-message : sentMessage (stateOf r) i j ≡ messageOf (sending r i j) (suc (r .last))
   unfolding sentMessage messageOf sending processOf
@@ -63,11 +64,15 @@ module _ (r : Ideal) (i j : ℕ) (few : r .n ≤ places) (hi : i < r .n) where
   unfolding sending
   send-last = omega (arith, last-is r)
 
+  send-disk : diskOf r ≡ diskOf (sending r i j)
+  unfolding diskOf keptIn keeps sending
+  send-disk = refl
+
   pub send-is : sendState (stateOf r) i j ≡ stateOf (sending r i j)
   unfolding sendState
   send-is = rw (process-is r i few hi, underWay-is r, send-message)
-      (one-part-messages r (sending r i j) send-n i (marked (processOf r i)) (messagesOf r ++ (messageOf (sending r i j) (suc (r .last)) ∷ [])) (stateOf r .last + 1) hi
-      send-process send-others send-messages send-last)
+      (one-part-still r (sending r i j) send-n i (marked (processOf r i)) (messagesOf r ++ (messageOf (sending r i j) (suc (r .last)) ∷ [])) (stateOf r .last + 1) hi
+      send-process send-others send-messages send-last send-disk)
 
 module _ (r : Ideal) (m : ℕ) where
   -- The message that a number finds.
@@ -95,8 +100,13 @@ module _ (r : Ideal) (m : ℕ) where
       (λ x lt q. refl))
 
   lose-process : (p : ℕ) → p < r .n → processOf r p ≡ processOf (lost r m) p
-  lose-process p lt = sym (process-same r (lost r m) p (lost-n r m) (lost-own r m p) (λ k f le hf. lost-vector r m p k f) (lost-mark r m p) (λ f hf. lost-pin r m p f))
+  unfolding lost
+  lose-process p lt = sym (process-same r (lost r m) p (lost-n r m) (lost-own r m p) (λ k f le hf. lost-vector r m p k f) (lost-mark r m p) (λ f hf. lost-pin r m p f) refl refl)
+
+  lose-disk : diskOf r ≡ diskOf (lost r m)
+  unfolding diskOf keptIn keeps lost
+  lose-disk = refl
 
   pub lose-is : loseState (stateOf r) m ≡ stateOf (lost r m)
   unfolding loseState
-  lose-is = messages-alone r (lost r m) (lost-n r m) (others (stateOf r) m) (stateOf r .last) lose-process others-are (last-is r ∙ sym (lost-last r m))
+  lose-is = messages-alone r (lost r m) (lost-n r m) (others (stateOf r) m) (stateOf r .last) lose-process others-are (last-is r ∙ sym (lost-last r m)) lose-disk

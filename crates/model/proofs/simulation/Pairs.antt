@@ -11,6 +11,7 @@ use lib.ListN.{length, getD}
 use Rattle.laws.specs.Front.{getD-written}
 use Rattle.laws.specs.Ranges.{any-same}
 use Rattle.laws.specs.Select.{some-table}
+use Rattle.laws.specs.Sums.{sumBelow, sum-same, sum-front}
 use Rattle.laws.specs.Tables.{table-is}
 use Rattle.laws.specs.Tests.{some-of}
 use Rattle.model.specs.Steps.{Deletion}
@@ -64,3 +65,22 @@ handed-out reply lent ds p k written-so counted fits =
     ))
     ∙ sym (some-table (deletes p k) (length ds) (λ j. getD ds j none-deleted))
     ∙ ap (some-of (deletes p k)) (sym (table-is none-deleted ds (length ds) (λ j. getD ds j none-deleted) refl (λ j h. refl))))
+
+-- The sum of a weight of the processes of some deletions.
+unfoldable pub weigh : (ℕ → ℕ) → List Deletion → ℕ
+weigh c [] = 0
+weigh c (d ∷ ds) = c (d .process) + weigh c ds
+
+weigh-is : (c : ℕ → ℕ) (ds : List Deletion) → sumBelow (length ds) (λ j. c (getD ds j none-deleted .process)) ≡ weigh c ds
+unfolding weigh sumBelow
+weigh-is c [] = refl
+weigh-is c (d ∷ ds) = sum-front (length ds) (λ j. c (getD (d ∷ ds) j none-deleted .process)) ∙ ap (λ (x : ℕ). c (d .process) + x) (weigh-is c ds)
+
+-- The pairs that an answer hands out have the processes of its deletions.
+pub handed-weight : (reply : Reply) (lent : List ℕ) (ds : List Deletion) (c : ℕ → ℕ)
+    → reply .deleted ≡ written lent (pairs ds) → reply .report .deletions ≡ length ds → 2 * length ds ≤ length lent
+    → sumBelow (reply .report .deletions) (λ j. c (getD (reply .deleted) (2 * j) 0)) ≡ weigh c ds
+handed-weight reply lent ds c written-so counted fits =
+    rw (counted, written-so)
+    (sum-same (length ds) _ _ (λ j h. ap c (getD-written lent (pairs ds) (omega (arith, length-pairs ds)) (2 * j) 0 (omega (arith, length-pairs ds)) ∙ pairs-process ds j h))
+    ∙ weigh-is c ds)

@@ -13,8 +13,9 @@ use Rattle.laws.specs.Lists.{placed}
 use Rattle.laws.specs.Tables.{take-placed}
 use Rattle.laws.specs.Update.{upd, upd-same, upd-other}
 use Rattle.model.specs.declared.Message.{Message}
+use Rattle.model.specs.declared.Disk.{Disk}
 use Rattle.model.specs.declared.Run.{Run}
-use Rattle.model.specs.Words.{places, mostUnderWay, Process, zeroVector, noPins, noCheckpoint, noMessage, blank, process, withProcess, underWay, withMessages}
+use Rattle.model.specs.Words.{places, mostUnderWay, Process, zeroVector, noPins, noCheckpoint, noMessage, blank, process, withProcess, underWay, withMessages, withDisk}
 use Rattle.model.specs.Steps.{withProcesses}
 
 -- One process's part put in twice, and two processes' parts put in.
@@ -102,6 +103,20 @@ underWay-put s l k = take-placed mostUnderWay noMessage l
 pub process-messages : (s : Run) (l : List Message) (k p : ℕ) → process (withMessages s l k) p ≡ process s p
 unfolding process withMessages
 process-messages s l k p = refl
+
+-- The disk is put in independently too.
+put-disk : (s : Run) (d : Disk) (i : ℕ) (P : Process) → withProcess (withDisk s d) i P ≡ withDisk (withProcess s i P) d
+unfolding withProcess withDisk
+put-disk s d i P = refl
+
+pub all-disk : (n : ℕ) (f : ℕ → Process) (s : Run) (d : Disk) → withProcesses n f (withDisk s d) ≡ withDisk (withProcesses n f s) d
+unfolding withProcesses
+all-disk zero f s d = refl
+all-disk (suc n) f s d = ap (λ (t : Run). withProcess t n (f n)) (all-disk n f s d) ∙ put-disk (withProcesses n f s) d n (f n)
+
+pub process-disk : (s : Run) (d : Disk) (p : ℕ) → process (withDisk s d) p ≡ process s p
+unfolding process withDisk
+process-disk s d p = refl
 
 pub count-put : (s : Run) (p : ℕ) (P : Process) → withProcess s p P .count ≡ s .count
 unfolding withProcess

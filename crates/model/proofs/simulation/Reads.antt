@@ -9,10 +9,10 @@ use borrow.Author.Tests.{lt-ltb, le-ltb, leb-true, leb-false}
 use Rattle.laws.specs.Choice.{by-bool}
 use Rattle.laws.specs.Tables.{getD-table, getD-table-past, table-same}
 use Rattle.model.specs.declared.Pin.the-variants.{Nothing}
-use Rattle.model.specs.Words.{places, entry, live, zeroVector, blank, process, own, underWay, withMessages}
+use Rattle.model.specs.Words.{places, entry, live, zeroVector, blank, process, own, underWay, withMessages, withDisk}
 use Rattle.model.specs.Steps.{withProcesses}
 use Rattle.model.proofs.ideal.Run.{Ideal}
-use Rattle.model.proofs.simulation.View.{vectorOf, pinOf, pinsOf, checkpointOf, processOf, messagesOf, stateOf}
+use Rattle.model.proofs.simulation.View.{vectorOf, pinOf, pinsOf, checkpointOf, processOf, messagesOf, diskOf, partsOf, stateOf}
 use Rattle.model.proofs.simulation.Parts.{unused, underWay-put, count-all, room-blank, process-all, process-above, process-blank}
 
 -- The entries of a vector: those below n are the function's, all others zero.
@@ -51,28 +51,32 @@ pin-past r p f le = by-bool (leb (suc f) places)
 
 module _ (r : Ideal) where
   pub count-is : stateOf r .count ≡ r .n
-  unfolding stateOf withMessages blank
+  unfolding stateOf partsOf withDisk withMessages blank
   count-is = count-all (r .n) (processOf r) (blank (r .n))
 
   pub last-is : stateOf r .last ≡ r .last
-  unfolding stateOf withMessages
+  unfolding stateOf partsOf withDisk withMessages
   last-is = refl
 
   pub underway-is : stateOf r .underway ≡ length (messagesOf r)
-  unfolding stateOf withMessages
+  unfolding stateOf partsOf withDisk withMessages
   underway-is = refl
 
+  pub disk-is : stateOf r .disk ≡ diskOf r
+  unfolding stateOf withDisk
+  disk-is = refl
+
   pub underWay-is : underWay (stateOf r) ≡ messagesOf r
-  unfolding stateOf
+  unfolding stateOf partsOf withDisk underWay
   underWay-is = underWay-put (withProcesses (r .n) (processOf r) (blank (r .n))) (messagesOf r) (r .last)
 
   -- The part of a process of the run, and of an unused one.
   pub process-is : (p : ℕ) → r .n ≤ places → p < r .n → process (stateOf r) p ≡ processOf r p
-  unfolding stateOf process withMessages
+  unfolding stateOf partsOf process withDisk withMessages
   process-is p few lt = process-all (r .n) (processOf r) (blank (r .n)) p lt (room-blank (r .n) p (omega arith))
 
   pub process-past : (p : ℕ) → r .n ≤ p → p < places → process (stateOf r) p ≡ unused
-  unfolding stateOf process withMessages
+  unfolding stateOf partsOf process withDisk withMessages
   process-past p le lt = process-above (r .n) (processOf r) (blank (r .n)) p le ∙ process-blank (r .n) p lt
 
   -- Own entries: the run's, and zero for an unused process. `self` says that the live state's own entry is its index.
@@ -87,4 +91,4 @@ module _ (r : Ideal) where
   -- The live state of a process of the run, as a checkpoint.
   pub live-is : (p : ℕ) → r .n ≤ places → p < r .n → r .vector p (r .own p) p ≡ r .own p → live p (processOf r p) ≡ checkpointOf r p (r .own p)
   unfolding live processOf checkpointOf
-  live-is p few lt self = rw (entry-is (r .n) (r .vector p (r .own p)) p few lt, self)
+  live-is p few lt self = rw (entry-is (r .n) (r .vector p (r .own p)) p few lt, self, le-ltb (r .own p) (r .own p) (omega arith))

@@ -10,25 +10,31 @@ use borrow.Author.Tests.{lt-ltb, leb-true, leb-false}
 use Rattle.laws.specs.Choice.{by-bool, not-ltb}
 use Rattle.laws.specs.Lists.{select, lastOf, gather}
 use Rattle.laws.specs.Search.{latest, latest-out}
+use Rattle.laws.specs.Sums.{sumBelow, sum-same}
 use Rattle.laws.specs.Tables.{table-same, gather-same}
 use Rattle.laws.specs.Truth.{and-left, and-no-right}
 use Rattle.model.specs.declared.Interval.{Interval}
 use Rattle.model.specs.declared.Pin.the-variants.{Nothing}
 use Rattle.model.specs.declared.Checkpoint.{Checkpoint}
-use Rattle.model.specs.Words.{places, entry, below, named, process, withMessages, failed}
+use Rattle.model.specs.declared.Disk.{Disk}
+use Rattle.model.specs.Words.{places, entry, below, named, blocksOf, process, withMessages, withDisk, failed}
 use Rattle.model.specs.Steps as steps
-use Rattle.model.specs.Steps.{listed, withProcesses, latestPin, movedPin, pinsAfter, notLost, rolledBack, lostBy, stillUnderWay, recoverState, deletedAt, recoverDeletions}
+use Rattle.model.specs.Steps.{listed, billed, goneAt, withProcesses, latestPin, movedPin, pinsAfter, notLost, rolledBack, lostBy, stillUnderWay, recoverState, deletedAt, recoverDeletions}
 use Rattle.model.proofs.ideal.Run.{Ideal, Failed, keeps, line, rolled, ownAfter, vectorAfter, pinAfter, outlives, recovered}
 use Rattle.model.proofs.ideal.Invariant.{Inv}
+use Rattle.model.proofs.ideal.Keeping.{recovered-moved}
+use Rattle.model.proofs.ideal.Recovered.{recovered-inv}
+use Rattle.model.proofs.ideal.Counted.{keptIn, recovered-new, recovered-paid}
 use Rattle.model.proofs.ideal.Messages.{underway-proper}
 use Rattle.model.proofs.ideal.Rule.{keeps-in, keeps-out}
-use Rattle.model.proofs.simulation.View.{passing, pinOf, pinsOf, checkpointOf, keptOf, processOf, messageOf, messagesOf, stateOf}
+use Rattle.model.proofs.simulation.View.{passing, pinOf, pinsOf, checkpointOf, keptOf, processOf, messageOf, messagesOf, diskOf, stateOf}
 use Rattle.model.proofs.simulation.Passing.{passing-same, passing-none, select-passing, last-passing}
-use Rattle.model.proofs.simulation.Reads.{entry-is, entry-past, pin-is, pin-past, count-is, last-is, underWay-is, process-is}
+use Rattle.model.proofs.simulation.Reads.{entry-is, entry-past, pin-is, pin-past, count-is, last-is, disk-is, underWay-is, process-is}
 use Rattle.model.proofs.simulation.Rows.{process-eq, named-is, checkpoint-same, settled-kept}
 use Rattle.model.proofs.simulation.Stepping.{all-parts-messages}
 use Rattle.model.proofs.simulation.Lines.{member-index, rolled-is}
-use Rattle.model.proofs.simulation.Rollback.{own-back, own-stays, vector-stored, not-lost, vector-after, own-after, own-after-past, not-lost-are}
+use Rattle.model.proofs.simulation.Billing.{gone-all, billed-is}
+use Rattle.model.proofs.simulation.Rollback.{own-back, own-stays, own-after-le, vector-stored, not-lost, vector-after, own-after, own-after-past, not-lost-are}
 
 -- The pin that names the checkpoint of a number, if there is one.
 latest-pin : (r : Ideal) (p : ℕ) (o : Option ℕ) → latestPin (Option·map (checkpointOf r p) o) ≡ pinOf o
@@ -111,7 +117,7 @@ module _ (r : Ideal) (v : Inv r) (few : r .n ≤ places) (F : ℕ) where
 
     stored-after : (k : ℕ) → k < ownAfter r G p → checkpointOf r′ p k ≡ checkpointOf r p k
     unfolding recovered
-    stored-after k h = checkpoint-same r r′ p k refl (λ f hf. ap (λ (w : ℕ → ℕ). w f) (vector-stored r v G p k h))
+    stored-after k h = checkpoint-same r r′ p k refl (λ f hf. ap (λ (w : ℕ → ℕ). w f) (vector-stored r v G p k h)) (omega (arith, own-after-le r v G p)) h refl refl
 
     mark-after : (process (stateOf r) p .mark && not (rolledBack (stateOf r) F p)) ≡ r′ .mark p
     unfolding recovered processOf
@@ -144,13 +150,17 @@ module _ (r : Ideal) (v : Inv r) (few : r .n ≤ places) (F : ℕ) where
         kept-after
 
     -- The deleted ones: kept before, and not now.
-    pub deleted-at : deletedAt (stateOf r) F p ≡ listed p (passing (r .own p) (λ k. keeps r p k && not (keeps r′ p k)) (checkpointOf r p))
-    unfolding deletedAt processOf keptOf checkpointOf
-    deleted-at = rw (process-is r p few lt, member-index r v few F p lt, pins-after)
-        (ap (listed p) (select-passing (λ c. not (leb (c .index .0) (line r G p) && named (pinsOf r′ p) c)) (r .own p) (keeps r p) (checkpointOf r p)
+    gone-at : goneAt (stateOf r) F p ≡ passing (r .own p) (λ k. keeps r p k && not (keeps r′ p k)) (checkpointOf r p)
+    unfolding goneAt processOf keptOf checkpointOf
+    gone-at = rw (process-is r p few lt, member-index r v few F p lt, pins-after)
+        (select-passing (λ c. not (leb (c .index .0) (line r G p) && named (pinsOf r′ p) c)) (r .own p) (keeps r p) (checkpointOf r p)
         ∙ passing-same (r .own p) _ _ _ _
         (λ k h. rw (named-is r′ p (checkpointOf r p k) few-after) (ap (λ (b : Bool). keeps r p k && not b) (gone k h)))
-        (λ k h q. refl)))
+        (λ k h q. refl))
+
+    pub deleted-at : deletedAt (stateOf r) F p ≡ listed p (passing (r .own p) (λ k. keeps r p k && not (keeps r′ p k)) (checkpointOf r p))
+    unfolding deletedAt
+    deleted-at = ap (listed p) gone-at
 
   -- The state keeps a message under way exactly if it was sent up to its sender's member.
   still-is : (m : ℕ) → r .transit m ≡ true → not (lostBy (stateOf r) F (messageOf r m)) ≡ leb (r .carried m (r .sender m)) (line r (failed F) (r .sender m))
@@ -176,11 +186,21 @@ module _ (r : Ideal) (v : Inv r) (few : r .n ≤ places) (F : ℕ) where
   unfolding recovered
   recover-last = refl
 
-  pub recover-is : recoverState (stateOf r) F ≡ stateOf r′
+  -- Nothing is written; the blocks of what goes are deleted.
+  disk-after : keptIn r ≤ r .ledger .written → billed (stateOf r .disk) 0 (sumBelow (r .n) (λ p. blocksOf (goneAt (stateOf r) F p))) ≡ diskOf r′
+  disk-after fits =
+      ap (λ (d : Disk). billed d 0 (sumBelow (r .n) (λ p. blocksOf (goneAt (stateOf r) F p)))) (disk-is r)
+      ∙ billed-is r r′ v (recovered-inv r v (failed F)) (recovered-moved r v (failed F)) (recovered-paid r v (failed F)) fits 0 (sumBelow (r .n) (λ p. blocksOf (goneAt (stateOf r) F p)))
+      (sym (recovered-new r v (failed F)))
+      (sum-same (r .n) _ _ (λ p lt. ap blocksOf (gone-at p lt)) ∙ gone-all r r′)
+
+  pub recover-is : keptIn r ≤ r .ledger .written → recoverState (stateOf r) F ≡ stateOf r′
   unfolding recoverState
-  recover-is =
-      ap (λ (c : ℕ). withMessages (withProcesses c (steps.recovered (stateOf r) F) (stateOf r)) (stillUnderWay (stateOf r) F) (stateOf r .last)) (count-is r)
-      ∙ all-parts-messages r r′ recover-n (steps.recovered (stateOf r) F) (stillUnderWay (stateOf r) F) (stateOf r .last) recover-process recover-messages (last-is r ∙ sym recover-last)
+  recover-is fits =
+      ap (λ (c : ℕ). withDisk (withMessages (withProcesses c (steps.recovered (stateOf r) F) (stateOf r)) (stillUnderWay (stateOf r) F) (stateOf r .last))
+      (billed (stateOf r .disk) 0 (sumBelow c (λ p. blocksOf (goneAt (stateOf r) F p))))) (count-is r)
+      ∙ all-parts-messages r r′ recover-n (steps.recovered (stateOf r) F) (stillUnderWay (stateOf r) F) (stateOf r .last)
+      (billed (stateOf r .disk) 0 (sumBelow (r .n) (λ p. blocksOf (goneAt (stateOf r) F p)))) recover-process recover-messages (last-is r ∙ sym recover-last) (disk-after fits)
 
   pub recover-deletions : recoverDeletions (stateOf r) F ≡ gather (r .n) (λ p. listed p (passing (r .own p) (λ k. keeps r p k && not (keeps r′ p k)) (checkpointOf r p)))
   unfolding recoverDeletions

@@ -1,7 +1,7 @@
 -- One process's part of the state that stands for a run: its pins name what the run keeps, its states in order, when two parts are the same,
 -- and what is left of a list of checkpoints once the pins have moved.
 -- Assumes nothing.
-use mathlib.Core.Path.{_≡_, refl, sym, _∙_}
+use mathlib.Core.Path.{_≡_, refl, sym, _∙_, ap}
 use mathlib.Core.Bool.{Bool, true, _&&_, _||_, not}
 use mathlib.Core.List.{[], _∷_, _++_}
 use mathlib.Core.Option.{Option, none, some}
@@ -58,23 +58,25 @@ pins-same r r′ p en ep = rw en (table-same places _ _ (λ f lt. by-bool (ltb f
     (λ e. rw (e, ep f (leb-true (suc f) (r .n) e)))
     (λ e. rw e)))
 
--- A checkpoint whose vector agrees below n.
-pub checkpoint-same : (r r′ : Ideal) (p k : ℕ) → r′ .n ≡ r .n → ((f : ℕ) → f < r .n → r′ .vector p k f ≡ r .vector p k f) → checkpointOf r′ p k ≡ checkpointOf r p k
+-- A stored checkpoint whose vector agrees below n, and whose cause and block count agree.
+pub checkpoint-same : (r r′ : Ideal) (p k : ℕ) → r′ .n ≡ r .n → ((f : ℕ) → f < r .n → r′ .vector p k f ≡ r .vector p k f)
+    → k < r .own p → k < r′ .own p → r′ .ledger .cause p k ≡ r .ledger .cause p k → r′ .ledger .counts p ≡ r .ledger .counts p → checkpointOf r′ p k ≡ checkpointOf r p k
 unfolding checkpointOf
-checkpoint-same r r′ p k en ev = rw (en, vector-same (r .n) (r′ .vector p k) (r .vector p k) ev)
+checkpoint-same r r′ p k en ev lt lt′ ec eb = rw (en, vector-same (r .n) (r′ .vector p k) (r .vector p k) ev, lt-ltb k (r .own p) lt, lt-ltb k (r′ .own p) lt′, ec, eb)
 
 -- Runs that agree about a process have the same part for it.
 pub process-same : (r r′ : Ideal) (p : ℕ) → r′ .n ≡ r .n → r′ .own p ≡ r .own p
     → ((k f : ℕ) → k ≤ r .own p → f < r .n → r′ .vector p k f ≡ r .vector p k f)
-    → r′ .mark p ≡ r .mark p → ((f : ℕ) → f < r .n → r′ .pin p f ≡ r .pin p f) → processOf r′ p ≡ processOf r p
+    → r′ .mark p ≡ r .mark p → ((f : ℕ) → f < r .n → r′ .pin p f ≡ r .pin p f)
+    → r′ .ledger .cause p ≡ r .ledger .cause p → r′ .ledger .counts p ≡ r .ledger .counts p → processOf r′ p ≡ processOf r p
 unfolding processOf keptOf
-process-same r r′ p en eo ev em ep = process-eq (processOf r′ p) (processOf r p)
+process-same r r′ p en eo ev em ep ec eb = process-eq (processOf r′ p) (processOf r p)
     (rw (en, eo) (vector-same (r .n) _ _ (λ f lt. ev (r .own p) f (omega arith) lt)))
     (pins-same r r′ p en ep)
     em
     (rw eo (passing-same (r .own p) _ _ _ _
     (λ k lt. keeps-same r r′ p k en ep)
-    (λ k lt q. checkpoint-same r r′ p k en (λ f hf. ev k f (omega arith) hf))))
+    (λ k lt q. checkpoint-same r r′ p k en (λ f hf. ev k f (omega arith) hf) lt (omega (arith, eo)) (ap (λ (c : ℕ → ℕ). c k) ec) eb)))
 
 -- One entry of a vector, and one pin, changed.
 pub vector-set : (n : ℕ) (v : ℕ → ℕ) (i x : ℕ) → i < n → set (vectorOf n v) i (record { 0 = x }) ≡ vectorOf n (upd v i x)

@@ -1,10 +1,10 @@
 -- The state that stands for a run is sound, clause by clause: for every run with the invariant that is within the limits.
 -- Assumes nothing.
-use mathlib.Core.Path.{_≡_, refl, _∙_}
+use mathlib.Core.Path.{_≡_, refl, _∙_, ap}
 use mathlib.Core.Bool.{Bool, true}
 use mathlib.Core.List.{map}
 use mathlib.Core.Option.{Option, none, some}
-use Prim.Native.Nat.{ℕ, suc, _-_, _≤_, _<_}
+use Prim.Native.Nat.{ℕ, suc, _+_, _-_, _≤_, _<_}
 use native.Mathlib.Omega.{arith}
 use lib.Dec.{eqb, ltb}
 use lib.ListN.{length, getD}
@@ -13,23 +13,26 @@ use Rattle.laws.specs.Choice.{by-bool}
 use Rattle.laws.specs.Truth.{and-both}
 use Rattle.laws.specs.Lists.{orElse, lastOf}
 use Rattle.laws.specs.Search.{allBelow, all-in, any-in}
+use Rattle.laws.specs.Sums.{sumBelow, sum-same}
 use Rattle.laws.specs.Tests.{every}
 use Rattle.laws.specs.Elements.{every-table}
 use Rattle.model.specs.declared.Pin.the-variants.{Nothing}
 use Rattle.model.specs.declared.Checkpoint.{Checkpoint}
 use Rattle.model.specs.declared.Message.{Message}
-use Rattle.model.specs.Words.{places, mostUnderWay, mostMessages, entry, names, named, noCheckpoint, process, own, underWay}
-use Rattle.model.specs.Sound.{countSound, ownSound, within, vectorsSound, ascending, keptSound, pinSound, pinsSound, messageSound, messagesSound, sound}
+use Rattle.model.specs.Words.{places, mostUnderWay, mostMessages, mostBlocks, entry, names, named, Process, blocksOf, noCheckpoint, process, own, underWay}
+use Rattle.model.specs.Sound.{countSound, ownSound, within, vectorsSound, ascending, keptSound, pinSound, pinsSound, messageSound, messagesSound, recordSound, keptBlocks, diskSound, sound}
 use Rattle.model.proofs.ideal.Run.{Ideal, keeps}
 use Rattle.model.proofs.ideal.Rule.{keeps-in}
 use Rattle.model.proofs.ideal.Invariant.{Inv, Proper}
 use Rattle.model.proofs.ideal.Line.{interval, own-pin}
-use Rattle.model.proofs.simulation.View.{vectorOf, pinOf, pinsOf, checkpointOf, keptOf, processOf, messageOf, messagesOf, stateOf, Limits}
-use Rattle.model.proofs.simulation.Reads.{entry-is, pin-is, count-is, last-is, underway-is, underWay-is, process-is, own-is}
+use Rattle.model.proofs.ideal.Counted.{keptIn}
+use Rattle.model.proofs.simulation.View.{vectorOf, pinOf, pinsOf, checkpointOf, keptOf, processOf, messageOf, messagesOf, diskOf, stateOf, Limits}
+use Rattle.model.proofs.simulation.Reads.{entry-is, pin-is, count-is, last-is, disk-is, underway-is, underWay-is, process-is, own-is}
 use Rattle.model.proofs.simulation.Passing.{some-passing, map-passing}
 use Rattle.model.proofs.simulation.Rows.{named-is}
 use Rattle.model.proofs.simulation.SoundPassing.{passing-every, passing-ascends}
 use Rattle.model.proofs.simulation.Kept.{kept-ascends, kept-every, kept-least, kept-most, kept-last}
+use Rattle.model.proofs.simulation.Billing.{blocks-kept, count-of}
 use Rattle.model.proofs.simulation.SoundUnused.{row-is, unused-sound}
 
 module _ (r : Ideal) (v : Inv r) (fit : Limits r) where
@@ -187,6 +190,41 @@ module _ (r : Ideal) (v : Inv r) (fit : Limits r) where
     le-leb (r .last) mostMessages (fit .few-numbers),
   )
 
+  -- What each kept checkpoint records is as it must be.
+  record-sound : (p k : ℕ) → p < r .n → k < r .own p → recordSound (processOf r p) (checkpointOf r p k) ≡ true
+  unfolding recordSound checkpointOf
+  record-sound p k hp lt = rw (
+    lt-ltb k (r .own p) lt,
+    fit .ledger .causes p k hp lt,
+    fit .ledger .counts p hp,
+    count-of r v p hp,
+    eq-eqb (r .ledger .counts p) (r .ledger .counts p) refl,
+  )
+
+  records-sound : (p : ℕ) → p < r .n → every (recordSound (process (stateOf r) p)) (process (stateOf r) p .kept) ≡ true
+  unfolding processOf
+  records-sound p hp = rw (process-of p hp) (kept-every r p _ (λ k lt e. record-sound p k hp lt))
+
+  kept-blocks : keptBlocks (stateOf r) ≡ keptIn r
+  unfolding keptBlocks keptIn processOf
+  kept-blocks =
+      ap (λ (c : ℕ). sumBelow c (λ p. blocksOf (process (stateOf r) p .kept))) (count-is r)
+      ∙ sum-same (r .n) _ _ (λ p hp. ap (λ (P : Process). blocksOf (P .kept)) (process-of p hp) ∙ blocks-kept r p)
+
+  sums : r .ledger .written ≡ keptIn r + (r .ledger .written - keptIn r)
+  sums = omega (arith, fit .ledger .paid)
+
+  -- "causes 0 to 2, 0 exactly at index 0, block counts from 1 to 65,535, equal within a process, and that sum, within the bound of 16"
+  pub disk-sound : diskSound (stateOf r) ≡ true
+  unfolding diskSound diskOf
+  disk-sound = rw (
+    each _ records-sound,
+    kept-blocks,
+    disk-is r,
+    eq-eqb (r .ledger .written) (keptIn r + (r .ledger .written - keptIn r)) sums,
+    le-leb (r .ledger .written) mostBlocks (fit .ledger .room),
+  )
+
   -- The state that stands for a run is sound.
   pub state-sound : sound (stateOf r) ≡ true
   unfolding sound
@@ -197,4 +235,5 @@ module _ (r : Ideal) (v : Inv r) (fit : Limits r) where
     each _ (λ p hp. and-both _ _ (kept-sound p hp) (pins-sound p hp)),
     messages-sound,
     unused-sound r (fit .few-processes),
+    disk-sound,
   )

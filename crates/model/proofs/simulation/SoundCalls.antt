@@ -1,22 +1,26 @@
 -- Calls on the state that stands for a run: what an accepted one says of the run, and which failed sets the table does not refuse.
 -- Assumes nothing.
-use mathlib.Core.Path.{_≡_}
+use mathlib.Core.Path.{_≡_, _∙_, ap}
 use mathlib.Core.Bool.{true, false}
 use mathlib.Core.List.{List}
 use mathlib.Core.Option.{Option, none, some}
-use Prim.Native.Nat.{ℕ, _*_, _≤_, _<_}
+use Prim.Native.Nat.{ℕ, _+_, _*_, _≤_, _<_}
 use native.Mathlib.Omega.{arith}
 use lib.ListN.{length}
 use Rattle.laws.specs.Choice.{by-bool}
+use Rattle.model.specs.declared.Disk.{Disk}
 use Rattle.model.specs.declared.Message.{Message}
-use Rattle.model.specs.Words.{mostInterval, own}
+use Rattle.model.specs.Words.{mostInterval, mostBlocks, blockCount, process, own}
 use Rattle.model.specs.Steps.{found}
 use Rattle.model.specs.Refusals.{outside, checkpointRefusal, sendRefusal, deliverRefusal, loseRefusal, lineRefusal, recoverRefusal}
-use Rattle.model.proofs.ideal.Run.{Ideal, sending}
+use Rattle.model.proofs.ideal.Run.{Ideal, sending, forces}
 use Rattle.model.proofs.ideal.Invariant.{Inv}
-use Rattle.model.proofs.simulation.View.{messageOf, stateOf, Limits}
-use Rattle.model.proofs.simulation.Reads.{count-is, last-is, underway-is, own-is}
+use Rattle.model.proofs.ideal.Messages.{underway-proper}
+use Rattle.model.proofs.simulation.View.{messageOf, diskOf, stateOf, Limits}
+use Rattle.model.proofs.simulation.Reads.{count-is, last-is, underway-is, disk-is, process-is, own-is}
+use Rattle.model.proofs.simulation.Billing.{count-of}
 use Rattle.model.proofs.simulation.Messages.{used-number, found-is, found-none}
+use Rattle.model.proofs.simulation.Deliver.{deliver-forces}
 use Rattle.model.proofs.simulation.Accepted.{SetFine, set-inside, checkpoint-out, send-out, deliver-out, lose-out, line-out, recover-out}
 use Rattle.model.proofs.simulation.SoundLimits.{limits-send}
 
@@ -25,13 +29,25 @@ module _ (r : Ideal) (v : Inv r) (fit : Limits r) where
   pub outside-run : (F : ℕ) → SetFine (r .n) F → outside (stateOf r) F ≡ false
   outside-run F h = set-inside (stateOf r) F (rw (count-is r) h)
 
+  -- Blocks written, and a process's count.
+  pub written-is : stateOf r .disk .written ≡ r .ledger .written
+  unfolding diskOf
+  written-is = ap (λ (d : Disk). d .written) (disk-is r)
+
+  pub count-is-of : (i : ℕ) → i < r .n → blockCount (process (stateOf r) i) ≡ r .ledger .counts i
+  count-is-of i hi = ap blockCount (process-is r i (fit .few-processes) hi) ∙ count-of r v i hi
+
   -- An accepted checkpoint at i: i is in the run, its own entry has room, and so has the list.
   pub checkpoint-run : (i : ℕ) (deleted : List ℕ) → checkpointRefusal (stateOf r) i deleted ≡ none
-      → (i < r .n) × (r .own i < mostInterval) × (2 * r .n * r .n ≤ length deleted)
+      → (i < r .n) × (r .own i < mostInterval) × (2 * r .n * r .n ≤ length deleted) × (r .ledger .written + r .ledger .counts i ≤ mostBlocks)
   checkpoint-run i deleted e =
       let h = checkpoint-out (stateOf r) i deleted e in
-      let hi : i < r .n = rw (count-is r) at (h .present) in
-      (hi, rw (own-is r i (fit .few-processes) hi (v .self i (r .own i) (omega arith))) at (h .early), rw (count-is r) at (h .room))
+      let hi : i < r .n = rw (count-is r) at (h .present) in (
+        hi,
+        rw (own-is r i (fit .few-processes) hi (v .self i (r .own i) (omega arith))) at (h .early),
+        rw (count-is r) at (h .room),
+        omega (arith, h .blocks, written-is, count-is-of i hi),
+      )
 
   -- An accepted send from i to j: both are in the run and differ, and the run after it is within the limits.
   pub send-run : (i j : ℕ) → sendRefusal (stateOf r) i j ≡ none → (i < r .n) × (j < r .n) × (i ≡ j → ⊥) × Limits (sending r i j)
@@ -51,13 +67,23 @@ module _ (r : Ideal) (v : Inv r) (fit : Limits r) where
       clash : (x : Message) (o : Option Message) → o ≡ some x → o ≡ none → ⊥
       clash x o a b = let z : _≡_ {A = ℕ} 0 1 = cc in omega arith
 
-  -- An accepted delivery: the message is under way, and the list has room.
+  -- An accepted delivery: the message is under way, the list has room, and the disk has room for the checkpoint that it forces.
   pub deliver-run : (m : ℕ) (deleted : List ℕ) → deliverRefusal (stateOf r) m deleted ≡ none
       → (r .transit m ≡ true) × (found (stateOf r) m ≡ some (messageOf r m)) × (2 * r .n * r .n ≤ length deleted)
+      × (forces r m ≡ true → r .ledger .written + r .ledger .counts (r .receiver m) ≤ mostBlocks)
+  unfolding messageOf
   deliver-run m deleted e =
       let h = deliver-out (stateOf r) m deleted e in
       let w = found-run m (h .message) (h .here) in
-      (w .0, found-is r m (used-number r v m (w .0)) (w .0), rw (count-is r) at (h .room))
+      let hi = underway-proper r v m (w .0) .to in
+      let self = v .self (r .receiver m) (r .own (r .receiver m)) (omega arith) in (
+        w .0,
+        found-is r m (used-number r v m (w .0)) (w .0),
+        rw (count-is r) at (h .room),
+        λ q.
+            let room : stateOf r .disk .written + blockCount (process (stateOf r) (r .receiver m)) ≤ mostBlocks = (rw (w .1) at (h .blocks)) (deliver-forces r m (fit .few-processes) hi self ∙ q) in
+            omega (arith, room, written-is, count-is-of (r .receiver m) hi),
+      )
 
   -- An accepted loss: the message is under way.
   pub lose-run : (m : ℕ) → loseRefusal (stateOf r) m ≡ none → (r .transit m ≡ true) × (found (stateOf r) m ≡ some (messageOf r m))

@@ -17,11 +17,11 @@ use Rattle.laws.specs.Elements.{every-drop, every-from, every-replicate}
 use Rattle.model.specs.declared.Pin.the-variants.{Nothing}
 use Rattle.model.specs.declared.Checkpoint.{Checkpoint}
 use Rattle.model.specs.declared.Run.{Run}
-use Rattle.model.specs.Words.{places, mostUnderWay, Process, zeroVector, noPins, noCheckpoint, noMessage, blank, withProcess, underWay, withMessages}
+use Rattle.model.specs.Words.{places, mostUnderWay, Process, zeroVector, noPins, noCheckpoint, noMessage, blank, withProcess, underWay, withMessages, withDisk}
 use Rattle.model.specs.Steps.{withProcesses}
 use Rattle.model.specs.Sound.{zeroFrom, unusedCheckpoint, unusedMessage, isNothing, nothingFrom, rowUnused, unusedSound}
 use Rattle.model.proofs.ideal.Run.{Ideal}
-use Rattle.model.proofs.simulation.View.{vectorOf, pinsOf, checkpointOf, keptOf, processOf, messageOf, messagesOf, stateOf}
+use Rattle.model.proofs.simulation.View.{vectorOf, pinsOf, checkpointOf, keptOf, processOf, messageOf, messagesOf, partsOf, stateOf}
 use Rattle.model.proofs.simulation.Parts.{Room, room-all, room-blank}
 use Rattle.model.proofs.simulation.Reads.{entry-past, pin-past, count-is, underWay-is, process-is}
 use Rattle.model.proofs.simulation.SoundPassing.{passing-every}
@@ -91,7 +91,7 @@ nothings = every-replicate isNothing places Nothing refl
 -- An unused checkpoint holds zero.
 checkpoint-unused : unusedCheckpoint noCheckpoint ≡ true
 unfolding unusedCheckpoint
-checkpoint-unused = zeros 0
+checkpoint-unused = rw (zeros 0)
 
 -- An unused message holds zero.
 message-unused : unusedMessage noMessage ≡ true
@@ -115,14 +115,14 @@ pins-behind r p = every-from isNothing Nothing (r .n) (pinsOf r p) (λ i a b. rw
 
 -- What the state holds of the checkpoints of process p.
 pub row-is : (r : Ideal) (p : ℕ) → r .n ≤ places → p < r .n → Row (stateOf r) p (keptOf r p)
-unfolding stateOf withMessages processOf
+unfolding stateOf partsOf withDisk withMessages processOf
 row-is r p few hp =
     let w = row-all (r .n) (processOf r) (blank (r .n)) p hp (room-blank (r .n) p (omega arith)) in
     record { many = w .many; row = w .row }
 
 -- From n on every row is as in a state of zeros.
 state-behind : (r : Ideal) → Behind (r .n) (stateOf r) (blank (r .n))
-unfolding stateOf withMessages
+unfolding stateOf partsOf withDisk withMessages
 state-behind r =
     let b = behind-all (r .n) (r .n) (processOf r) (blank (r .n)) (omega arith) in
     record { vectors = b .vectors; pins = b .pins; sent = b .sent; kept = b .kept; held = b .held }
@@ -183,7 +183,7 @@ held-unused r = rw (count-is r, state-behind r .held) (every-drop (eqb 0) (r .n)
 
 -- The places behind the messages under way are unused.
 messages-unused : (r : Ideal) → every unusedMessage (drop (stateOf r .underway) (stateOf r .messages)) ≡ true
-unfolding stateOf withMessages
+unfolding stateOf partsOf withDisk withMessages
 messages-unused r = placed-behind unusedMessage mostUnderWay noMessage (messagesOf r) message-unused
 
 -- "Unused places hold zero; unused pins, in rows or columns at n and above, are none."

@@ -16,8 +16,8 @@ use Rattle.model.specs.declared.Pin.{Pin}
 use Rattle.model.specs.declared.Pin.the-variants.{Nothing}
 use Rattle.model.specs.Words.{places, entry, below, Process}
 use Rattle.model.specs.Steps as steps
-use Rattle.model.specs.Steps.{settled, listed, deletions, takenEntry, takenVector, takenPin, takenPins}
-use Rattle.model.proofs.ideal.Run.{Ideal, keeps, takenBy, takenIn}
+use Rattle.model.specs.Steps.{settled, gone, takenEntry, takenVector, takenPin, takenPins}
+use Rattle.model.proofs.ideal.Run.{Ideal, Ledger, keeps, takenBy, takenIn}
 use Rattle.model.proofs.ideal.TakenInViews.{takenIn-n, takenIn-own, takenIn-live, takenIn-vector, takenIn-mark, takenIn-keeps-old}
 use Rattle.model.proofs.ideal.Run as ideal
 use Rattle.model.proofs.simulation.View.{passing, vectorOf, pinOf, pinsOf, checkpointOf, keptOf, processOf}
@@ -50,6 +50,11 @@ module _ (n : ℕ) (v w : ℕ → ℕ) (few : n ≤ places) where
   pub taken-vector : takenVector (vectorOf n v) (vectorOf n w) ≡ vectorOf n (λ f. max (v f) (w f))
   unfolding takenVector vectorOf
   taken-vector = table-same places _ _ (λ f lt. taken-entry f)
+
+-- Taking in leaves the ledger.
+pub taken-ledger : (r : Ideal) (m : ℕ) → takenIn r m .ledger ≡ r .ledger
+unfolding takenIn takenBy
+taken-ledger r m = refl
 
 -- The delivery forces a checkpoint in the state exactly if it does in the run.
 pub forces-is : (r : Ideal) (m : ℕ) → r .n ≤ places → steps.forces (processOf r (r .receiver m)) (vectorOf (r .n) (r .carried m)) ≡ ideal.forces r m
@@ -92,7 +97,8 @@ module _ (r : Ideal) (m : ℕ) (few : r .n ≤ places) (hi : r .receiver m < r .
   -- The stored ones are as they were.
   stored-same : (t : ℕ → Bool) → passing (r .own i) t (checkpointOf (takenIn r m) i) ≡ passing (r .own i) t (checkpointOf r i)
   stored-same t = passing-same (r .own i) _ _ _ _ (λ k lt. refl)
-      (λ k lt q. checkpoint-same r (takenIn r m) i k (takenIn-n r m) (λ f hf. takenIn-vector r m i k f (λ a b. omega arith)))
+      (λ k lt q. checkpoint-same r (takenIn r m) i k (takenIn-n r m) (λ f hf. takenIn-vector r m i k f (λ a b. omega arith)) lt (omega (arith, takenIn-own r m i))
+      (ap (λ (l : Ledger). l .cause i k) (taken-ledger r m)) (ap (λ (l : Ledger). l .counts i) (taken-ledger r m)))
 
   -- A part with the run's vector, pins and mark, and with the checkpoints that pass a test.
   module _ (P : Process) (t : ℕ → Bool) (ev : P .vector ≡ vectorOf (r .n) v) (ep : P .pins ≡ pinsOf r i) (em : P .mark ≡ r .mark i)
@@ -111,8 +117,7 @@ module _ (r : Ideal) (m : ℕ) (few : r .n ≤ places) (hi : r .receiver m < r .
         (λ k lt q. all k (omega (arith, takenIn-own r m i)) (takenIn-keeps-old r m hi i k q))))
 
     -- What goes.
-    pub taken-gone : deletions i (steps.takenIn i (vectorOf (r .n) (r .carried m)) P)
-        ≡ listed i (passing (r .own i) (λ k. t k && not (keeps (takenIn r m) i k)) (checkpointOf r i))
-    unfolding deletions steps.takenIn
-    taken-gone = rw (ev, ep, taken-pins, kept-taken) (ap (listed i) (settled-gone (takenIn r m) i (takenIn r m .own i) t few-taken
-        ∙ rw (takenIn-own r m i) (stored-same (λ k. t k && not (keeps (takenIn r m) i k)))))
+    pub taken-gone : gone (steps.takenIn i (vectorOf (r .n) (r .carried m)) P) ≡ passing (r .own i) (λ k. t k && not (keeps (takenIn r m) i k)) (checkpointOf r i)
+    unfolding gone steps.takenIn
+    taken-gone = rw (ev, ep, taken-pins, kept-taken) (settled-gone (takenIn r m) i (takenIn r m .own i) t few-taken
+        ∙ rw (takenIn-own r m i) (stored-same (λ k. t k && not (keeps (takenIn r m) i k))))

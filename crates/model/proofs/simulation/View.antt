@@ -1,9 +1,10 @@
 -- The state that stands for a run as functions: the library's state after any list of accepted calls is `stateOf` of the run, to the last unused place.
 -- Assumes nothing.
-use mathlib.Core.Bool.{Bool}
+use mathlib.Core.Path.{_≡_}
+use mathlib.Core.Bool.{Bool, true}
 use mathlib.Core.List.{List, [], _∷_, _++_}
 use mathlib.Core.Option.{Option, none, some}
-use Prim.Native.Nat.{ℕ, zero, suc, _≤_}
+use Prim.Native.Nat.{ℕ, zero, suc, _-_, _≤_, _<_}
 use lib.Dec.{ltb}
 use lib.ListN.{length}
 use Rattle.laws.specs.Choice.{pick}
@@ -13,10 +14,13 @@ use Rattle.model.specs.declared.Pin.{Pin}
 use Rattle.model.specs.declared.Pin.the-variants.{Nothing, At}
 use Rattle.model.specs.declared.Checkpoint.{Checkpoint}
 use Rattle.model.specs.declared.Message.{Message}
+use Rattle.model.specs.declared.Disk.{Disk}
 use Rattle.model.specs.declared.Run.{Run}
-use Rattle.model.specs.Words.{places, mostUnderWay, mostMessages, Process, blank, withMessages}
+use Rattle.model.specs.Words.{places, mostUnderWay, mostMessages, mostBlocks, Process, blank, withMessages, withDisk}
 use Rattle.model.specs.Steps.{withProcesses}
+use Rattle.model.specs.Sound.{causeSound, isBlockCount}
 use Rattle.model.proofs.ideal.Run.{Ideal, keeps}
+use Rattle.model.proofs.ideal.Counted.{keptIn}
 
 -- The values at the numbers below a bound that pass a test, in ascending order.
 unfoldable pub passing : {A : Type 0} → ℕ → (ℕ → Bool) → (ℕ → A) → List A
@@ -34,9 +38,14 @@ pinOf (some k) = At (record { 0 = k })
 unfoldable pub pinsOf : Ideal → ℕ → List Pin
 pinsOf r p = table places (λ f. pick (ltb f (r .n)) (pinOf (r .pin p f)) Nothing)
 
--- State k of process p as a checkpoint: its index and its vector.
+-- State k of process p as a checkpoint: its index and its vector, and if it is stored its cause and its process's block count.
 unfoldable pub checkpointOf : Ideal → ℕ → ℕ → Checkpoint
-checkpointOf r p k = record { index = record { 0 = k }; vector = vectorOf (r .n) (r .vector p k) }
+checkpointOf r p k = record {
+  index = record { 0 = k };
+  vector = vectorOf (r .n) (r .vector p k);
+  cause = pick (ltb k (r .own p)) (r .ledger .cause p k) 0;
+  blocks = pick (ltb k (r .own p)) (r .ledger .counts p) 0;
+}
 
 -- The checkpoints that p keeps, ascending.
 unfoldable pub keptOf : Ideal → ℕ → List Checkpoint
@@ -52,8 +61,22 @@ messageOf r m = record { number = m; sender = r .sender m; receiver = r .receive
 unfoldable pub messagesOf : Ideal → List Message
 messagesOf r = passing (suc (r .last)) (r .transit) (messageOf r)
 
+-- What was written and is not kept was deleted.
+unfoldable pub diskOf : Ideal → Disk
+diskOf r = record { written = r .ledger .written; deleted = r .ledger .written - keptIn r }
+
+unfoldable pub partsOf : Ideal → Run
+partsOf r = withMessages (withProcesses (r .n) (processOf r) (blank (r .n))) (messagesOf r) (r .last)
+
 unfoldable pub stateOf : Ideal → Run
-stateOf r = withMessages (withProcesses (r .n) (processOf r) (blank (r .n))) (messagesOf r) (r .last)
+stateOf r = withDisk (partsOf r) (diskOf r)
+
+-- A ledger that the refusals and the steps keep: counts in range, causes as a sound state has them, what is kept was written, and no more than the bound.
+pub record Fits (r : Ideal) : Type 0 where
+  pub counts : (p : ℕ) → p < r .n → isBlockCount (r .ledger .counts p) ≡ true
+  pub causes : (p k : ℕ) → p < r .n → k < r .own p → causeSound k (r .ledger .cause p k) ≡ true
+  pub paid : keptIn r ≤ r .ledger .written
+  pub room : r .ledger .written ≤ mostBlocks
 
 -- The limits that the refusals keep.
 pub record Limits (r : Ideal) : Type 0 where
@@ -61,3 +84,4 @@ pub record Limits (r : Ideal) : Type 0 where
   pub few-processes : r .n ≤ places
   pub few-messages : length (messagesOf r) ≤ mostUnderWay
   pub few-numbers : r .last ≤ mostMessages
+  pub ledger : Fits r

@@ -1,9 +1,9 @@
 -- The surviving history, built from calls and answers alone, agrees with the run as functions: its lists, its sends, whom they named, and which
--- checkpoints it counts as kept. Here: what agreement means, and that the checkpoints kept by the pairs handed out stay the pinned ones.
+-- checkpoints it counts as kept; the block counts, the causes, the blocks written and deleted. Here: what agreement means, and that the checkpoints kept by the pairs handed out stay the pinned ones.
 -- Assumes nothing.
 use mathlib.Core.Path.{_≡_, refl, sym, _∙_, ap}
 use mathlib.Core.Bool.{Bool, true, false, _&&_, _||_, not}
-use Prim.Native.Nat.{ℕ, _<_}
+use Prim.Native.Nat.{ℕ, _+_, _<_}
 use lib.Dec.{ltb, leb}
 use borrow.Author.Tests.{lt-ltb, ltb-true, leb-true, leb-false}
 use Rattle.model.specs.History.{Lists, checkpoints}
@@ -15,6 +15,7 @@ use Rattle.model.proofs.ideal.Memory.{Memory}
 use Rattle.model.proofs.ideal.Standing.{Standing}
 use Rattle.model.proofs.ideal.Line.{keeps-below}
 use Rattle.model.proofs.ideal.Keeping.{Moved, moved-new}
+use Rattle.model.proofs.ideal.Counted.{keptIn}
 
 -- The history h tells of the run r what r itself holds.
 pub record Agrees (h : Surviving) (r : Ideal) : Type 0 where
@@ -23,6 +24,11 @@ pub record Agrees (h : Surviving) (r : Ideal) : Type 0 where
   pub receiver : h .receiver ≡ r .receiver
   pub underway : h .underway ≡ r .transit
   pub kept : (p k : ℕ) → p < r .n → h .kept p k ≡ keeps r p k
+  pub counts : h .counts ≡ r .ledger .counts
+  pub cause : h .cause ≡ r .ledger .cause
+  pub written : h .written ≡ r .ledger .written
+  -- what was written and is not kept was handed out
+  pub deleted : h .deleted + keptIn r ≡ r .ledger .written
 
 -- The history remembers the lists of the run when it last started or recovered, by which the pins of the run now stand.
 pub record Restarted (h : Surviving) (r : Ideal) : Type 0 where

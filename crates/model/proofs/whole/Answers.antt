@@ -111,14 +111,14 @@ module _ (h : Surviving) (r : Ideal) (v : Inv r) (fit : Limits r) (memory : Memo
       same-set : (a b : ℕ) → _≡_ {A = Option ℕ} (some a) (some b) → a ≡ b
       same-set a b q = cc
 
-  pub answer-right : ((F : ℕ) → F < 2 ^ r .n → LineIsRight (r .n) (stateOf r) h F) → (c : Call) → (refusal (stateOf r) c ≡ none → Step (r .n) h r c)
+  pub answer-right : ((F : ℕ) → F < 2 ^ r .n → LineIsRight (r .n) (stateOf r) h F) → (c : Call) → (refusal (stateOf r) c ≡ none → Step (r .n) h (stateOf r) r (stepped r c) c)
       → AnswerIsRight (r .n) h (exchange (stateOf r) c)
   answer-right lines c steps = by-refusal (refusal (stateOf r) c)
       (λ e.
       let t = steps e in
       let zero-reported = accepted-report (stateOf r) c e in
       let handed : gonePairs (r .n) h (after (r .n) h (exchange (stateOf r) c)) ≡ goneAll r (stepped r c)
-      = gone-agrees h (after (r .n) h (exchange (stateOf r) c)) r (stepped r c) v g (step-agrees (r .n) r h c v g e t) (t .moved .size) in
+      = gone-agrees h (after (r .n) h (exchange (stateOf r) c)) r (stepped r c) v g (step-agrees (r .n) r (stepped r c) h c v g e t) (t .moved .size) in
       record {
         forcing = forcingOf r c;
         forces-if = forces-if c;

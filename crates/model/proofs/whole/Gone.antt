@@ -11,7 +11,7 @@ use Rattle.laws.specs.Front.{written-front}
 use Rattle.laws.specs.Lists.{gather}
 use Rattle.laws.specs.Select.{map-append}
 use Rattle.laws.specs.Tables.{gather-same}
-use Rattle.model.specs.Words.{places, failed}
+use Rattle.model.specs.Words.{places, basic, forced, failed}
 use Rattle.model.specs.Steps.{Deletion, listed, checkpointDeletions, deliverDeletions, recoverDeletions}
 use Rattle.model.specs.History.{Lists, checkpoints}
 use Rattle.model.specs.Outcomes.{pairs}
@@ -123,19 +123,18 @@ module _ (r : Ideal) (v : Inv r) (few : r .n ≤ places) (a : Reply) (lent : Lis
   fits-one : (r′ : Ideal) (i : ℕ) → i < r .n → 2 * length (gone r r′ i) ≤ length lent
   fits-one r′ i hi = omega (arith, room-one (r .n) (length (gone r r′ i)) (omega arith) (omega (arith, kept-most r i, listed-length r i (λ k. not (keeps r′ i k)))))
 
-  pub checkpoint-over : (i : ℕ) → i < r .n → Answers a lent (checkpointDeletions (stateOf r) i) → HandsOver a lent r (checkpointed r i)
-  checkpoint-over i hi answer =
-      let e : checkpointDeletions (stateOf r) i ≡ gone r (checkpointed r i) i = checkpoint-deletions r i few hi (v .self i (r .own i) (omega arith)) in
+  pub checkpoint-over : (i : ℕ) → i < r .n → r .ledger .why ≡ basic → Answers a lent (checkpointDeletions (stateOf r) i) → HandsOver a lent r (checkpointed r i)
+  checkpoint-over i hi asked answer =
+      let e : checkpointDeletions (stateOf r) i ≡ gone r (checkpointed r i) i = checkpoint-deletions r v i few hi asked in
       handed-over r (checkpointed r i) a lent (gone r (checkpointed r i) i) (rw e at answer)
       (one-pairs r (checkpointed r i) i hi (λ p k ne. keeps-same r (checkpointed r i) p k (checkpointed-n r i) (λ f hf. checkpointed-pin-row r i p f ne)))
       (fits-one (checkpointed r i) i hi)
 
-  pub deliver-over : (m : ℕ) → r .receiver m < r .n → Answers a lent (deliverDeletions (stateOf r) (messageOf r m)) → HandsOver a lent r (delivered r m)
-  deliver-over m hi answer =
-      let self : r .vector (r .receiver m) (r .own (r .receiver m)) (r .receiver m) ≡ r .own (r .receiver m) = v .self (r .receiver m) (r .own (r .receiver m)) (omega arith) in
-      let e : deliverDeletions (stateOf r) (messageOf r m) ≡ gone r (delivered r m) (r .receiver m) = deliver-deletions r m few hi self in
+  pub deliver-over : (m : ℕ) → r .receiver m < r .n → r .ledger .why ≡ forced → Answers a lent (deliverDeletions (stateOf r) (messageOf r m)) → HandsOver a lent r (delivered r m)
+  deliver-over m hi asked answer =
+      let e : deliverDeletions (stateOf r) (messageOf r m) ≡ gone r (delivered r m) (r .receiver m) = deliver-deletions r v m few hi asked in
       handed-over r (delivered r m) a lent (gone r (delivered r m) (r .receiver m)) (rw e at answer)
-      (one-pairs r (delivered r m) (r .receiver m) hi (deliver-keeps-other r m few hi self))
+      (one-pairs r (delivered r m) (r .receiver m) hi (deliver-keeps-other r v m few hi asked))
       (fits-one (delivered r m) (r .receiver m) hi)
 
   pub recover-over : (F : ℕ) → Answers a lent (recoverDeletions (stateOf r) F) → HandsOver a lent r (recovered r (failed F))

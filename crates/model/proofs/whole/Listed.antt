@@ -1,6 +1,6 @@
 -- The lists, the sends and the named receivers of the surviving history after an accepted call are those of the run as functions after its step.
 -- Assumes nothing.
-use mathlib.Core.Path.{_≡_, fun-ext}
+use mathlib.Core.Path.{_≡_, refl, sym, _∙_, ap, fun-ext}
 use mathlib.Core.Bool.{true, false}
 use mathlib.Core.List.{List}
 use mathlib.Core.Option.{none, some}
@@ -11,10 +11,11 @@ use lib.Dec.{ltb}
 use lib.ListN.{getD}
 use borrow.Author.Tests.{ltb-true, ltb-false}
 use Rattle.laws.specs.Choice.{by-bool}
-use Rattle.model.specs.History.{Lists}
+use Rattle.laws.specs.Update.{upd}
+use Rattle.model.specs.History.{Lists, checkpoints}
 use Rattle.model.specs.Calls.{checkpoint, send, deliver, Reply}
-use Rattle.model.specs.Survival.{Surviving, added, forcedFirst, cut, listsAfter, sendsAfter, receiverAfter, underwayAfter}
-use Rattle.model.proofs.ideal.Run.{Ideal, Failed, checkpointed, sending, forces, takenIn, takenBy, delivered, recovered, rolled, line}
+use Rattle.model.specs.Survival.{Surviving, added, forcedFirst, cut, listsAfter, sendsAfter, receiverAfter, underwayAfter, causeWith, countOf}
+use Rattle.model.proofs.ideal.Run.{Ideal, Failed, stores, checkpointed, sending, forces, takenIn, takenBy, delivered, recovered, rolled, line}
 use Rattle.model.proofs.ideal.Invariant.{Inv}
 use Rattle.model.proofs.ideal.Rule.{safe-in}
 use Rattle.model.proofs.ideal.Line.{line-judged}
@@ -55,6 +56,27 @@ module _ (n : ℕ) (h : Surviving) (r : Ideal) (g : Agrees h r) where
   pub deliver-plain : (m : ℕ) (deleted : List ℕ) (a : Reply) → forces r m ≡ false → a .report .value ≡ none → listsAfter n h (deliver m deleted) a ≡ delivered r m .events
   unfolding listsAfter added forcedFirst delivered takenIn takenBy
   deliver-plain m deleted a e d = rw (d, g .lists, g .receiver, e)
+
+module _ (h : Surviving) (r : Ideal) (v : Inv r) (g : Agrees h r) where
+  -- A checkpoint of process p is stored for the run's reason.
+  pub stored-cause : (p : ℕ) → causeWith h (r .ledger .why) (some p) ≡ stores r p .cause
+  unfolding causeWith stores
+  stored-cause p =
+      let own-before : checkpoints (h .lists p) ≡ r .own p = ap (λ (l : Lists). checkpoints (l p)) (g .lists) ∙ sym (v .counted p) in
+      λ j. upd (g .cause j) p (upd (g .cause j p) (own-before j) (r .ledger .why))
+
+  pub stored-count : (p : ℕ) → countOf h (some p) ≡ r .ledger .counts p
+  unfolding countOf
+  stored-count p = ap (λ (c : ℕ → ℕ). c p) (g .counts)
+
+  -- None is stored.
+  pub none-cause : (c : ℕ) → causeWith h c none ≡ r .ledger .cause
+  unfolding causeWith
+  none-cause c = g .cause
+
+  pub none-count : countOf h none ≡ 0
+  unfolding countOf
+  none-count = refl
 
 module _ (r : Ideal) (v : Inv r) (F : Failed) where
   -- What stands at a process outside the run receives nothing, so it knows nothing and stays live.

@@ -1,6 +1,6 @@
 -- An accepted recover call, as a step of the run as functions.
 -- Assumes nothing.
-use mathlib.Core.Path.{_≡_, _∙_, fun-ext}
+use mathlib.Core.Path.{_≡_, sym, _∙_, fun-ext}
 use mathlib.Core.List.{List}
 use mathlib.Core.Option.{none}
 use Prim.Native.Nat.{ℕ, _≤_, _<_}
@@ -14,26 +14,25 @@ use Rattle.model.specs.Steps.{recoverDeletions, lineOf}
 use Rattle.model.specs.Outcomes.{pairs, written, recoverOutcome, recoverReport}
 use Rattle.model.specs.Calls.{recover, answered, call}
 use Rattle.model.specs.Refusals.{recoverRefusal}
-use Rattle.model.specs.Survival.{Surviving, listsAfter, sendsAfter, receiverAfter, underwayAfter}
+use Rattle.model.specs.Survival.{Surviving, listsAfter, sendsAfter, receiverAfter, underwayAfter, storedBy, causeOf, causeWith, countOf}
 use Rattle.model.specs.Answers.{lentDeletions}
 use Rattle.model.proofs.ideal.Run.{Ideal, line, recovered}
 use Rattle.model.proofs.ideal.Invariant.{Inv}
 use Rattle.model.proofs.ideal.Memory.{Memory, recovered-memory}
 use Rattle.model.proofs.ideal.Keeping.{recovered-moved}
+use Rattle.model.proofs.ideal.Counted.{goneIn, newIn, recovered-new, recovered-paid}
 use Rattle.model.proofs.ideal.Recovered.{recovered-inv}
 use Rattle.model.proofs.ideal.Outliving.{still-sent}
 use Rattle.model.proofs.simulation.View.{stateOf, Limits}
 use Rattle.model.proofs.simulation.SoundCalls.{recover-run}
 use Rattle.model.proofs.simulation.SoundLimits.{limits-recover}
-use Rattle.model.proofs.simulation.Handed.{recover-handed}
-use Rattle.model.proofs.simulation.Kept.{kept-most}
+use Rattle.model.proofs.simulation.Handed.{pairBlocks, recover-handed, recover-blocks}
 use Rattle.model.proofs.simulation.Lines.{line-is}
 use Rattle.model.proofs.simulation.Recover.{recover-is}
 use Rattle.model.proofs.whole.Agreement.{Agrees, HandsOut}
 use Rattle.model.proofs.whole.Gone.{HandsOver, recover-over}
 use Rattle.model.proofs.whole.Accepted.{Step}
-use Rattle.model.proofs.whole.Runs.{stepped}
-use Rattle.model.proofs.whole.Listed.{recover-lists}
+use Rattle.model.proofs.whole.Listed.{recover-lists, none-cause, none-count}
 
 module _ (n : ℕ) (h : Surviving) (r : Ideal) (v : Inv r) (fit : Limits r) (memory : Memory r) (size : r .n ≡ n) (g : Agrees h r) (F : ℕ) (deleted lent : List ℕ) (e : recoverRefusal (stateOf r) F deleted lent ≡ none) where
   few : r .n ≤ places
@@ -41,7 +40,7 @@ module _ (n : ℕ) (h : Surviving) (r : Ideal) (v : Inv r) (fit : Limits r) (mem
 
   recover-run-state : call (stateOf r) (recover F deleted lent) .run ≡ stateOf (recovered r (failed F))
   unfolding call answered recoverOutcome
-  recover-run-state = rw e (recover-is r v few F)
+  recover-run-state = rw e (recover-is r v few F (fit .ledger .paid))
 
   recover-count : call (stateOf r) (recover F deleted lent) .reply .report .deletions ≡ length (recoverDeletions (stateOf r) F)
   unfolding call answered recoverOutcome recoverReport
@@ -66,8 +65,19 @@ module _ (n : ℕ) (h : Surviving) (r : Ideal) (v : Inv r) (fit : Limits r) (mem
   recover-hands-out : HandsOut (call (stateOf r) (recover F deleted lent) .reply) r (recovered r (failed F))
   unfolding HandsOut
   recover-hands-out p k hp =
-      recover-handed r v few (call (stateOf r) (recover F deleted lent) .reply) deleted (recover-run r v fit F deleted lent e .1) p k F hp (λ q hq. kept-most r q)
-      (record { deleted = recover-list; counted = recover-count })
+      recover-handed r v few (call (stateOf r) (recover F deleted lent) .reply) deleted (recover-run r v fit F deleted lent e .1) F (record { deleted = recover-list; counted = recover-count }) p k hp
+
+  recover-pairs : pairBlocks r (call (stateOf r) (recover F deleted lent) .reply) ≡ goneIn r (recovered r (failed F))
+  recover-pairs =
+      recover-blocks r v few (call (stateOf r) (recover F deleted lent) .reply) deleted (recover-run r v fit F deleted lent e .1) F (record { deleted = recover-list; counted = recover-count })
+
+  recover-cause : causeWith h (causeOf (recover F deleted lent)) (storedBy h (recover F deleted lent) (call (stateOf r) (recover F deleted lent) .reply)) ≡ recovered r (failed F) .ledger .cause
+  unfolding storedBy recovered
+  recover-cause = none-cause h r v g (causeOf (recover F deleted lent))
+
+  recover-stored : countOf h (storedBy h (recover F deleted lent) (call (stateOf r) (recover F deleted lent) .reply)) ≡ newIn r (recovered r (failed F))
+  unfolding storedBy
+  recover-stored = none-count h r v g ∙ sym (recovered-new r v (failed F))
 
   recover-hands-over : HandsOver (call (stateOf r) (recover F deleted lent) .reply) (lentDeletions (recover F deleted lent)) r (recovered r (failed F))
   unfolding lentDeletions
@@ -87,11 +97,10 @@ module _ (n : ℕ) (h : Surviving) (r : Ideal) (v : Inv r) (fit : Limits r) (mem
   unfolding underwayAfter
   recover-underway = rw (recover-cut, g .underway, ← size) (fun-ext (still-sent r v (failed F)))
 
-  pub recover-step : Step n h r (recover F deleted lent)
-  unfolding stepped
+  pub recover-step : Step n h (stateOf r) r (recovered r (failed F)) (recover F deleted lent)
   recover-step = record {
     inv = recovered-inv r v (failed F);
-    limits = limits-recover r (failed F) fit;
+    limits = limits-recover r v (failed F) fit;
     moved = recovered-moved r v (failed F);
     state = recover-run-state;
     lists = recover-cut;
@@ -101,4 +110,8 @@ module _ (n : ℕ) (h : Surviving) (r : Ideal) (v : Inv r) (fit : Limits r) (mem
     memory = recovered-memory r (failed F) memory;
     hands-out = recover-hands-out;
     hands-over = recover-hands-over;
+    paid = recovered-paid r v (failed F);
+    cause = recover-cause;
+    stored = recover-stored;
+    blocks = recover-pairs;
   }

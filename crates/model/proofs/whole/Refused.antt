@@ -1,28 +1,29 @@
 -- The number that a call on a reached state is refused with, by the surviving history and the call's arguments alone.
 -- Assumes nothing.
 use mathlib.Core.Path.{_≡_, refl, sym, _∙_, ap}
-use mathlib.Core.Bool.{Bool, true, false, _&&_, not}
+use mathlib.Core.Bool.{Bool, true, false, _&&_, _||_, not}
 use mathlib.Core.List.{List, [], _∷_}
 use mathlib.Core.Option.{Option, none, some}
-use Prim.Native.Nat.{ℕ, _*_, _^_, _<_}
+use Prim.Native.Nat.{ℕ, _+_, _*_, _^_, _<_}
 use native.Mathlib.Omega.{arith}
 use lib.Dec.{ltb, leb}
-use lib.ListN.{length}
-use borrow.Author.Tests.{leb-false, not-false}
+use lib.ListN.{length, getD}
+use borrow.Author.Tests.{leb-false, le-leb, lt-leb, ltb-true, ltb-false, not-false}
 use Rattle.laws.specs.Choice.{by-bool}
+use Rattle.laws.specs.Ranges.{any-same}
 use Rattle.laws.specs.Search.{anyBelow, any-out}
 use Rattle.laws.specs.Truth.{never-both}
 use Rattle.model.specs.declared.Run.{Run}
 use Rattle.model.specs.declared.Refusal.{Refusal}
-use Rattle.model.specs.Words.{own}
+use Rattle.model.specs.Words.{mostBlocks, own}
 use Rattle.model.specs.Steps.{found, latestAllowed}
-use Rattle.model.specs.Sound.{sound}
+use Rattle.model.specs.Sound.{isBlockCount, sound}
 use Rattle.model.specs.History.{Lists, checkpoints}
-use Rattle.model.specs.Refusals.{number, Rule, firstOf, shortDeletions, shortLine, absent, atLastInterval, outside, checkpointRefusal, sendRefusal, missing, forcesPast, deliverRefusal, loseRefusal, noMember, lineRefusal, recoverRefusal}
+use Rattle.model.specs.Refusals.{number, Rule, firstOf, startRefusal, shortDeletions, shortLine, absent, atLastInterval, pastBlocks, outside, checkpointRefusal, sendRefusal, missing, forcesPast, forcesOver, deliverRefusal, loseRefusal, noMember, lineRefusal, recoverRefusal}
 use Rattle.model.specs.laws.Refusals.{refusal-in, skipped, by-refusal}
 use Rattle.model.specs.Calls.{Call, checkpoint, send, deliver, lose, recover, line, call}
 use Rattle.model.specs.Survival.{Surviving}
-use Rattle.model.specs.Answers.{Reason, lowest, countUnderWay, tooShort, reasons}
+use Rattle.model.specs.Answers.{Reason, lowest, countUnderWay, tooShort, pastBound, startReasons, reasons}
 use Rattle.model.proofs.ideal.Run.{Ideal, forces}
 use Rattle.model.proofs.ideal.Invariant.{Inv}
 use Rattle.model.proofs.ideal.Messages.{underway-proper}
@@ -32,6 +33,7 @@ use Rattle.model.proofs.simulation.Messages.{used-number, found-is, fou
 use Rattle.model.proofs.simulation.Deliver.{deliver-forces}
 use Rattle.model.proofs.simulation.Lines.{latest-allowed}
 use Rattle.model.proofs.simulation.Sound.{state-sound}
+use Rattle.model.proofs.simulation.SoundCalls.{written-is, count-is-of}
 use Rattle.model.proofs.simulation.SoundLimits.{messages-count}
 use Rattle.model.proofs.whole.Agreement.{Agrees}
 use Rattle.model.proofs.whole.Accepted.{accepted-report}
@@ -82,6 +84,20 @@ no-more : numberOf (firstOf []) ≡ lowest []
 unfolding numberOf lowest
 no-more = ap numberOf (refusal-in [] none tt)
 
+-- The number of a start.
+outside-range : (low high k : ℕ) → not (leb low k && leb k high) ≡ (ltb k low || ltb high k)
+outside-range low high k = by-bool (ltb k low)
+    (λ e. rw (e, lt-leb low k (ltb-true k low e)))
+    (λ e. rw (e, le-leb low k (ltb-false k low e)) (by-bool (ltb high k)
+    (λ d. rw (d, lt-leb k high (ltb-true high k d)))
+    (λ d. rw (d, le-leb k high (ltb-false high k d)))))
+
+pub start-number : (n : ℕ) (counts : List ℕ) → numberOf (startRefusal n counts) ≡ lowest (startReasons n counts)
+unfolding startRefusal startReasons isBlockCount number
+start-number n counts =
+    alike _ _ _ _ (outside-range 1 16 n) refl (λ z.
+    alike _ _ _ _ (any-same n _ _ (λ p lt. outside-range 1 65_535 (getD counts p 0))) refl (λ z. no-more))
+
 module _ (h : Surviving) (r : Ideal) (v : Inv r) (fit : Limits r) (g : Agrees h r) where
   pub live-is : (p : ℕ) → checkpoints (h .lists p) ≡ r .own p
   live-is p = ap (λ (l : Lists). checkpoints (l p)) (g .lists) ∙ sym (v .counted p)
@@ -110,13 +126,18 @@ module _ (h : Surviving) (r : Ideal) (v : Inv r) (fit : Limits r) (g : Agrees h 
   last-same : (i : ℕ) → i < r .n → atLastInterval (stateOf r) i ≡ leb 65_535 (checkpoints (h .lists i))
   last-same i hi = rw (own-is r i (fit .few-processes) hi (self i), live-is i)
 
+  -- The test of the blocks, of a process of the run.
+  blocks-same : (i : ℕ) → i < r .n → pastBlocks (stateOf r) i ≡ pastBound h i
+  blocks-same i hi = λ j. ltb mostBlocks ((written-is r v fit ∙ sym (g .written)) j + (count-is-of r v fit i hi ∙ sym (ap (λ (c : ℕ → ℕ). c i) (g .counts))) j)
+
   checkpoint-number : (b : Bool) (i : ℕ) (deleted : List ℕ) → numberOf (checkpointRefusal (stateOf r) i deleted) ≡ lowest (reasons (r .n) h b (checkpoint i deleted))
   unfolding checkpointRefusal reasons number
   checkpoint-number b i deleted =
       never _ _ _ whole
       (alike _ _ _ _ (short-same deleted) refl (λ z.
       alike _ _ _ _ (absent-same i) refl (λ present.
-      alike _ _ _ _ (last-same i (leb-false (r .n) i present)) refl (λ z. no-more))))
+      alike _ _ _ _ (last-same i (leb-false (r .n) i present)) refl (λ z.
+      alike _ _ _ _ (blocks-same i (leb-false (r .n) i present)) refl (λ z. no-more)))))
 
   under-way : countUnderWay h ≡ length (messagesOf r)
   unfolding countUnderWay
@@ -144,13 +165,21 @@ module _ (h : Surviving) (r : Ideal) (v : Inv r) (fit : Limits r) (g : Agrees h 
       let hi : r .receiver m < r .n = underway-proper r v m t .to in
       rw (found-is r m (used-number r v m t) t, g .receiver, deliver-forces r m (fit .few-processes) hi (self (r .receiver m)), last-same (r .receiver m) hi)
 
+  forces-over : (m : ℕ) → not (h .underway m) ≡ false → forcesOver (stateOf r) (found (stateOf r) m) ≡ (forces r m && pastBound h (h .receiver m))
+  unfolding forcesOver messageOf
+  forces-over m e =
+      let t : r .transit m ≡ true = not-false _ (rw (g .underway) at e) in
+      let hi : r .receiver m < r .n = underway-proper r v m t .to in
+      rw (found-is r m (used-number r v m t) t, g .receiver, deliver-forces r m (fit .few-processes) hi (self (r .receiver m)), blocks-same (r .receiver m) hi)
+
   deliver-number : (m : ℕ) (deleted : List ℕ) → numberOf (deliverRefusal (stateOf r) m deleted) ≡ lowest (reasons (r .n) h (forces r m) (deliver m deleted))
   unfolding deliverRefusal reasons number
   deliver-number m deleted =
       never _ _ _ whole
       (alike _ _ _ _ (short-same deleted) refl (λ z.
       alike _ _ _ _ (missing-same m) refl (λ there.
-      alike _ _ _ _ (forces-past m there) refl (λ z. no-more))))
+      alike _ _ _ _ (forces-past m there) refl (λ z.
+      alike _ _ _ _ (forces-over m there) refl (λ z. no-more)))))
 
   lose-number : (b : Bool) (m : ℕ) → numberOf (loseRefusal (stateOf r) m) ≡ lowest (reasons (r .n) h b (lose m))
   unfolding loseRefusal reasons number

@@ -3,19 +3,21 @@
 -- Assumes nothing.
 use mathlib.Core.Path.{_≡_, refl, sym, _∙_, ap}
 use mathlib.Core.Bool.{true}
+use mathlib.Core.List.{List}
 use mathlib.Core.Logic.{inl, inr}
 use mathlib.Core.Option.{none, some}
 use Prim.Native.Nat.{ℕ, suc, _-_, _<_}
 use native.Mathlib.Omega.{arith}
 use Rattle.laws.specs.Rows.{by-lt}
-use Rattle.model.specs.Words.{failed}
+use Rattle.model.specs.Words.{basic, forced, failed}
 use Rattle.model.specs.History.{Lists, checkpoints}
 use Rattle.model.specs.Calls.{Call, checkpoint, send, deliver, lose, recover, line, call}
 use Rattle.model.specs.Survival.{Surviving, beginning, after, accepted, listsAfter, restartAfter}
 use Rattle.model.specs.Answers.{ComesBefore}
 use Rattle.model.specs.Needed.{beforeCheckpoint, KnewLess, PinStands, PinNames, Needed}
-use Rattle.model.proofs.ideal.Run.{Ideal, begin, keeps, recovered}
+use Rattle.model.proofs.ideal.Run.{Ideal, because, begin, begun, keeps, checkpointed, delivered, recovered}
 use Rattle.model.proofs.ideal.Invariant.{Inv}
+use Rattle.model.proofs.ideal.Ledger.{ledger-inv}
 use Rattle.model.proofs.ideal.Rule.{keeps-in, keeps-out}
 use Rattle.model.proofs.ideal.Line.{rising}
 use Rattle.model.proofs.ideal.Messages.{underway-proper}
@@ -31,27 +33,36 @@ use Rattle.model.proofs.whole.Reached.{exchange, refusal}
 use Rattle.model.proofs.whole.Runs.{stepped}
 
 -- The start.
-pub begin-restarted : (n : ℕ) → Restarted beginning (begin n)
+pub begin-restarted : (n : ℕ) (counts : List ℕ) → Restarted (beginning n counts) (begun n counts)
 unfolding beginning begin
-begin-restarted n = record { earlier = begin n; inv = begin-inv n; memory = begin-memory n; events = refl; standing = begin-standing n }
+begin-restarted n counts =
+    let s = begin-standing n in
+    record { earlier = begin n; inv = begin-inv n; memory = begin-memory n; events = refl; standing = record { size = s .size; rows = s .rows; current = s .current; pinned = s .pinned } }
 
 -- A call that is no recovery.
 goes-on : (h h′ : Surviving) (r r′ : Ideal) → h′ .restart ≡ h .restart → Learns r r′ → Restarted h r → Restarted h′ r′
 goes-on h h′ r r′ same step t =
     record { earlier = t .earlier; inv = t .inv; memory = t .memory; events = same ∙ t .events; standing = next-standing (t .earlier) r r′ (t .standing) step }
 
+-- A step from the run with another reason for the next checkpoint is a step from the run.
+because-learns : (why : ℕ) (r r′ : Ideal) → Learns (because why r) r′ → Learns r r′
+because-learns why r r′ l = record { size = l .size; each = l .each }
+
 module _ (n : ℕ) (h : Surviving) (r : Ideal) (v : Inv r) (fit : Limits r) (t : Restarted h r) where
-  accepted-restarted : (c : Call) → refusal (stateOf r) c ≡ none → Step n h r c → Restarted (accepted n h c (call (stateOf r) c .reply)) (stepped r c)
+  accepted-restarted : (c : Call) → refusal (stateOf r) c ≡ none → Step n h (stateOf r) r (stepped r c) c → Restarted (accepted n h c (call (stateOf r) c .reply)) (stepped r c)
   unfolding accepted listsAfter restartAfter stepped refusal
-  accepted-restarted (checkpoint i deleted) e step = goes-on h _ r _ refl (checkpointed-learns r i v) t
+  accepted-restarted (checkpoint i deleted) e step =
+      goes-on h _ r _ refl (because-learns basic r (checkpointed (because basic r) i) (checkpointed-learns (because basic r) i (ledger-inv r _ v))) t
   accepted-restarted (send i j) e step = goes-on h _ r _ refl (sending-learns r i j) t
-  accepted-restarted (deliver m deleted) e step = goes-on h _ r _ refl (delivered-learns r m v (underway-proper r v m (deliver-run r v fit m deleted e .0) .to)) t
+  accepted-restarted (deliver m deleted) e step =
+      goes-on h _ r _ refl (because-learns forced r (delivered (because forced r) m)
+      (delivered-learns (because forced r) m (ledger-inv r _ v) (underway-proper r v m (deliver-run r v fit m deleted e .0) .to))) t
   accepted-restarted (lose m) e step = goes-on h _ r _ refl (lost-learns r m) t
   accepted-restarted (recover F deleted lent) e step =
       record { earlier = recovered r (failed F); inv = step .inv; memory = step .memory; events = step .lists; standing = recovered-standing r (failed F) v }
   accepted-restarted (line F lent) e step = goes-on h _ r _ refl (same-learns r) t
 
-  pub step-restarted : (c : Call) → refusal (stateOf r) c ≡ none → Step n h r c → Restarted (after n h (exchange (stateOf r) c)) (stepped r c)
+  pub step-restarted : (c : Call) → refusal (stateOf r) c ≡ none → Step n h (stateOf r) r (stepped r c) c → Restarted (after n h (exchange (stateOf r) c)) (stepped r c)
   step-restarted c e step = rw (accepted-history n (stateOf r) h c e) (accepted-restarted c e step)
 
 -- What p knows of f, now, at a checkpoint, and when the run last started or recovered: by the lists of the history as by the vectors.

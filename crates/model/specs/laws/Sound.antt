@@ -3,7 +3,7 @@
 use mathlib.Core.Path.{_≡_}
 use mathlib.Core.Bool.{true, _&&_, not}
 use mathlib.Core.List.{[], map}
-use Prim.Native.Nat.{ℕ, _≤_, _<_}
+use Prim.Native.Nat.{ℕ, _+_, _≤_, _<_}
 use lib.Dec.{eqb, leb}
 use lib.ListN.{getD, drop}
 use borrow.Author.Tests.{ltb-true, leb-true, eqb-true, eqb-false, not-true}
@@ -14,8 +14,8 @@ use Rattle.laws.specs.Truth.{and-out}
 use Rattle.model.specs.declared.Pin.the-variants.{Nothing}
 use Rattle.model.specs.declared.Message.{Message}
 use Rattle.model.specs.declared.Run.{Run}
-use Rattle.model.specs.Words.{places, mostUnderWay, mostMessages, entry, lastStored, names, named, noCheckpoint, process, own, underWay}
-use Rattle.model.specs.Sound.{countSound, ownSound, within, vectorsSound, ascending, keptSound, pinSound, pinsSound, messageSound, messagesSound, zeroFrom, unusedCheckpoint, unusedMessage, nothingFrom, rowUnused, unusedSound, sound}
+use Rattle.model.specs.Words.{places, mostUnderWay, mostMessages, mostBlocks, entry, lastStored, names, named, noCheckpoint, process, own, underWay}
+use Rattle.model.specs.Sound.{countSound, ownSound, within, vectorsSound, ascending, keptSound, pinSound, pinsSound, messageSound, messagesSound, zeroFrom, unusedCheckpoint, unusedMessage, nothingFrom, rowUnused, unusedSound, recordSound, keptBlocks, diskSound, sound}
 
 -- What a sound state holds of process p.
 pub record SoundProcess (s : Run) (p : ℕ) : Type 0 where
@@ -40,6 +40,8 @@ pub record SoundProcess (s : Run) (p : ℕ) : Type 0 where
   pub pins-unused : nothingFrom (s .count) (process s p .pins) ≡ true
   pub stored-unused : every (λ c. zeroFrom (s .count) (c .vector)) (process s p .kept) ≡ true
   pub row-unused : every unusedCheckpoint (drop (getD (s .held) p 0) (getD (s .kept .0) p [])) ≡ true
+  -- Note 5: "causes 0 to 2, 0 exactly at index 0, block counts from 1 to 65,535, equal within a process"
+  pub records-sound : every (recordSound (process s p)) (process s p .kept) ≡ true
 
 -- What a sound state holds.
 pub record SoundState (s : Run) : Type 0 where
@@ -63,6 +65,9 @@ pub record SoundState (s : Run) : Type 0 where
   pub held-behind : every (eqb 0) (drop (s .count) (s .held)) ≡ true
   pub carried-unused : every (λ x. zeroFrom (s .count) (x .vector)) (underWay s) ≡ true
   pub messages-unused : every unusedMessage (drop (s .underway) (s .messages)) ≡ true
+  -- Note 5: ".. and that sum, within the bound of 16"
+  pub written-sum : s .disk .written ≡ keptBlocks s + s .disk .deleted
+  pub written-most : s .disk .written ≤ mostBlocks
 
 -- What a sound state holds of a message under way.
 pub record SoundMessage (s : Run) (x : Message) : Type 0 where
@@ -82,20 +87,29 @@ sound-message s x h =
 -- The definitions taken apart, each from its last test to its first.
 module _ (s : Run) (h : sound s ≡ true) where
   clauses : (countSound s ≡ true) × (ownSound s ≡ true) × (vectorsSound s ≡ true) × (allBelow (s .count) (λ p. keptSound s p && pinsSound s p) ≡ true)
-      × (messagesSound s ≡ true) × (unusedSound s ≡ true)
+      × (messagesSound s ≡ true) × (unusedSound s ≡ true) × (diskSound s ≡ true)
   unfolding sound
   clauses =
-      let f = and-out _ (unusedSound s) h in
+      let g = and-out _ (diskSound s) h in
+      let f = and-out _ (unusedSound s) (g .0) in
       let e = and-out _ (messagesSound s) (f .0) in
       let d = and-out _ (allBelow (s .count) (λ p. keptSound s p && pinsSound s p)) (e .0) in
       let c = and-out _ (vectorsSound s) (d .0) in
       let b = and-out (countSound s) (ownSound s) (c .0) in
-      (b .0, b .1, c .1, d .1, e .1, f .1)
+      (b .0, b .1, c .1, d .1, e .1, f .1, g .1)
 
   vectors-clauses : (allBelow (s .count) (λ p. within s (process s p .vector) && every (λ c. within s (c .vector)) (process s p .kept)) ≡ true)
       × (every (λ x. within s (x .vector)) (underWay s) ≡ true)
   unfolding vectorsSound
   vectors-clauses = and-out (allBelow (s .count) (λ p. within s (process s p .vector) && every (λ c. within s (c .vector)) (process s p .kept))) _ (clauses .2)
+
+  disk-clauses : (allBelow (s .count) (λ p. every (recordSound (process s p)) (process s p .kept)) ≡ true)
+      × (s .disk .written ≡ keptBlocks s + s .disk .deleted) × (s .disk .written ≤ mostBlocks)
+  unfolding diskSound
+  disk-clauses =
+      let b = and-out _ _ (clauses .6) in
+      let a = and-out (allBelow (s .count) (λ p. every (recordSound (process s p)) (process s p .kept))) _ (b .0) in
+      (a .0, eqb-true _ _ (a .1), leb-true _ _ (b .1))
 
   sound-process : allBelow (s .count) (rowUnused s) ≡ true → (p : ℕ) → p < s .count → SoundProcess s p
   unfolding ownSound keptSound pinsSound rowUnused
@@ -127,6 +141,7 @@ module _ (s : Run) (h : sound s ≡ true) where
         pins-unused = x .1;
         stored-unused = y .1;
         row-unused = z .1;
+        records-sound = all-out (s .count) (λ p. every (recordSound (process s p)) (process s p .kept)) (disk-clauses .0) p lt;
       }
 
   pub sound-state : SoundState s
@@ -159,4 +174,6 @@ module _ (s : Run) (h : sound s ≡ true) where
         held-behind = x .1;
         carried-unused = y .1;
         messages-unused = z .1;
+        written-sum = disk-clauses .1;
+        written-most = disk-clauses .2;
       }

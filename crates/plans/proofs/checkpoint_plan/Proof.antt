@@ -1,5 +1,6 @@
 -- `plans::checkpoint_plan` meets its contract, refusal by refusal.
 -- Assumes nothing.
+use mathlib.Core.Path.{sym, _∙_}
 use native.Mathlib.Omega.{arith}
 use borrow.Author.Needs.{needs}
 use borrow.Author.Tests.{le-leb, lt-leb}
@@ -20,12 +21,21 @@ returns-2 c =
     rw (lt-leb (a .n) (a .i) (c .before .before .before .if1 .left), le-leb 65535 (a .own .0) (c .before .if2 .taken)) (c .unchanged2 .ensures)
 
 returns-3 : tie.Need-returns-3
-unfolding checkpointPlan storedPlan
+unfolding checkpointPlan
 returns-3 c =
-    let a = c .before .before .before .before .args in
-    rw (lt-leb (a .n) (a .i) (c .before .before .before .if1 .left), lt-leb 65535 (a .own .0) (c .before .if2 .left))
+    let p = c .before .before in
+    let a = p .before .before .before .before .args in
+    rw (lt-leb (a .n) (a .i) (p .before .before .before .if1 .left), lt-leb 65535 (a .own .0) (p .before .if2 .left), sym (p .is-past-bound .ensures) ∙ c .before .if3 .taken)
+    (c .unchanged3 .ensures)
+
+returns-4 : tie.Need-returns-4
+unfolding checkpointPlan storedPlan
+returns-4 c =
+    let p = c .before .before in
+    let a = p .before .before .before .before .args in
+    rw (lt-leb (a .n) (a .i) (p .before .before .before .if1 .left), lt-leb 65535 (a .own .0) (p .before .if2 .left), sym (p .is-past-bound .ensures) ∙ c .before .if3 .left)
 
 pub checkpoint-plan-spec : {M : Type 1} → statement M
 checkpoint-plan-spec =
     tie.close
-    (tie.spec (λ c κs. search needs) returns (λ c κs. search needs) returns-2 returns-3)
+    (tie.spec (λ c κs. search needs) returns (λ c κs. search needs) returns-2 (λ c κs. search needs) (λ c κs. search needs) returns-3 returns-4)

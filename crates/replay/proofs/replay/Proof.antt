@@ -10,7 +10,7 @@ use Prim.Native.Nat.{ℕ, _+_, _-_, _*_, _≤_, _<_}
 use native.Mathlib.Omega.{arith}
 use denote.Ref.{now}
 use lib.ListN.{length, drop}
-use Rattle.model.specs.WholeRuns.{Reachable}
+use Rattle.model.specs.WholeRuns.{Traced}
 use Rattle.position.specs.declared.Position.{Position}
 use Rattle.position.specs.Positions.{bytesHeld, Stands}
 use Rattle.position.proofs.Going.{stands-first}
@@ -19,7 +19,7 @@ use Rattle.replay.proofs.replay.Tie as tie
 
 abbrev Inv-loop : tie.InvT-loop
 Inv-loop input₀ out₀ at₀ t7 input out at =
-    Reachable (at .run) × (at .done ≤ 1000000000) × (at .held < 4) × (length input ≡ length input₀) × (length out ≡ length out₀) × Stands (at₀ .run) at input × (at .going ≡ true)
+    Traced (at .run) × (at .done ≤ 1000000000) × (at .held < 4) × (length input ≡ length input₀) × (length out ≡ length out₀) × Stands (at₀ .run) at input × (at .going ≡ true)
 
 abbrev μ-loop : tie.MeasureT-loop
 μ-loop input₀ out₀ at₀ t7 input out at = 4000000004 - (at .held + 4 * at .done)
@@ -41,7 +41,7 @@ module _ (c : tie.After-fill Inv-loop μ-loop) where
   count : c .fill .result .position .held + 4 * c .fill .result .position .done ≡ turn .loop .at .held + c .fill .result .more + 4 * turn .loop .at .done
   count = ap (λ (q : Position). q .held + 4 * q .done) (c .fill .ensures .position)
 
-  reached : Reachable (c .fill .result .position .run)
+  reached : Traced (c .fill .result .position .run)
   reached = rw (c .fill .ensures .position) (turn .loop .inv .0)
 
 -- Behind the records of a read.

@@ -81,6 +81,25 @@ impl Random {
     }
 }
 
+/// Note 5: "causes 0 to 2, 0 exactly at index 0, block counts from 1 to 65,535,
+/// equal within a process, and that sum, within the bound of 16."
+pub fn assert_disks_sound(run: &Run) {
+    let mut sum = run.deleted();
+    for i in 0..run.count() {
+        let (_, first) = run.records(i).next().unwrap();
+        for ((index, _), (cause, blocks)) in run.kept(i).zip(run.records(i)) {
+            assert!(cause <= 2);
+            assert_eq!(cause == 0, index == 0);
+            assert!(blocks >= 1);
+            assert_eq!(blocks, first);
+            sum += blocks as u64;
+        }
+        assert_eq!(run.kept(i).count(), run.records(i).count());
+    }
+    assert_eq!(sum, run.written());
+    assert!(sum <= 1_000_000_000_000_000);
+}
+
 /// Checks the state against the paper's section "A sound state".
 pub fn assert_sound(run: &Run) {
     let n = run.count();
@@ -103,6 +122,7 @@ pub fn assert_sound(run: &Run) {
         pinned.dedup();
         assert_eq!(pinned, kept, "the pins name exactly the kept ones");
     }
+    assert_disks_sound(run);
     let messages = run.under_way();
     assert!(messages.len() <= 64);
     assert!(messages

@@ -6,7 +6,7 @@ use mathlib.Core.Path.{_≡_, _∙_}
 use native.Mathlib.Omega.{arith}
 use borrow.Author.Needs.{needs}
 use lib.ListN.{take}
-use Rattle.model.specs.declared.Checkpoint.{Checkpoint}
+use Rattle.model.specs.Words.{pastEnd}
 use Rattle.members.specs.Line.{latestBy, latestIs}
 use Rattle.members.proofs.LineRule.{latest-none, latest-more}
 use Rattle.members.proofs.line.latest_kept.Statement.{statement}
@@ -25,7 +25,7 @@ loop-again : tie.Need-loop-again Inv-loop μ-loop
 loop-again c =
     let b = c .before .before .before in
     let a = b .before .before .args in
-    let z : Checkpoint = record { index = record { 0 = 0 }; vector = [] } in
+    let z = pastEnd in
     (search needs, latest-more (a .marks) (a .owns) (a .t1) (b .loop .k) z (search needs) _ _ (b .loop .inv .1) (c .latest-with .ensures))
 
 returns : tie.Need-returns Inv-loop μ-loop

@@ -12,7 +12,7 @@ use lib.Seq.{sets}
 use Rattle.laws.specs.Lists.{select, placed}
 use Rattle.laws.specs.Loops.{either}
 use Rattle.laws.specs.Prefixes.{placed-none, laid-yes, laid-no}
-use Rattle.model.specs.Words.{noCheckpoint, named}
+use Rattle.model.specs.Words.{pastEnd, noCheckpoint, named}
 use Rattle.model.specs.declared.Checkpoint.{Checkpoint}
 use Rattle.retention.specs.Deletions.{pairsOf}
 use Rattle.recovery.specs.Recovery.{stays}
@@ -48,7 +48,7 @@ loop-again c =
     let b = c .before .before .before .before .before in
     let a = b .before .before .before .args in
     let l = b .loop in
-    let z : Checkpoint = record { index = record { 0 = 0 }; vector = [] } in
+    let z = pastEnd in
     let t : Checkpoint → Bool = stays (a .last) (a .pins) in
     let u : Checkpoint → Bool = λ c. not (stays (a .last) (a .pins) c) in
     either (c .if1 .came)

@@ -6,7 +6,7 @@ use mathlib.Core.Path.{_≡_, sym, _∙_}
 use native.Mathlib.Omega.{arith}
 use borrow.Author.Needs.{needs}
 use lib.ListN.{take}
-use Rattle.model.specs.declared.Checkpoint.{Checkpoint}
+use Rattle.model.specs.Words.{pastEnd}
 use Rattle.recovery.specs.Recovery.{notLater, latestFound}
 use Rattle.recovery.proofs.Restoring.{found-none, found-more}
 use Rattle.recovery.proofs.pins.find_latest.Statement.{statement}
@@ -25,7 +25,7 @@ loop-again : tie.Need-loop-again Inv-loop μ-loop
 loop-again c =
     let b = c .before .before .before in
     let a = b .before .before .args in
-    let z : Checkpoint = record { index = record { 0 = 0 }; vector = [] } in
+    let z = pastEnd in
     (search needs, found-more (a .owns) (a .last) (a .t1) (b .loop .k) z (search needs) _ _ (b .loop .inv .1) (c .found-with .ensures))
 
 returns : tie.Need-returns Inv-loop μ-loop

@@ -8,7 +8,7 @@ use mathlib.Core.Bool.{Bool, true, false, not}
 use mathlib.Core.List.{List, []}
 use mathlib.Core.Logic.{_⊎_, inl, inr}
 use mathlib.Core.Option.{Option, some}
-use Prim.Native.Nat.{ℕ, _+_, _-_, _*_, _≤_, _<_}
+use Prim.Native.Nat.{ℕ, _+_, _-_, _*_, _^_, _≤_, _<_}
 use native.Mathlib.Omega.{arith}
 use denote.Ref.{now}
 use lib.ListN.{length, getD, take, drop, set, length-set}
@@ -21,21 +21,22 @@ use Rattle.model.specs.declared.Run.{Run}
 use Rattle.model.specs.declared.Event.{Event}
 use Rattle.model.specs.declared.Event.the-variants.{Recover}
 use Rattle.model.specs.declared.Interval.{Interval}
+use Rattle.model.specs.declared.CheckpointIndex.{CheckpointIndex}
 use Rattle.model.specs.declared.Checkpoint.{Checkpoint}
 use Rattle.model.specs.declared.Message.{Message}
-use Rattle.model.specs.Steps.{listed}
+use Rattle.model.specs.declared.Disk.{Disk}
+use Rattle.model.specs.Steps.{listed, billed}
 use Rattle.model.specs.Outcomes.{pairs}
 use Rattle.model.specs.Words.{liveIndex, noCheckpoint, noMessage, named, process, underWay}
 use Rattle.model.specs.laws.Sound.{sound-state}
 use Rattle.model.specs.Sound.{sound}
 use Rattle.model.specs.Trace.{decoded}
 use Rattle.model.specs.Listing.{perform}
-use Rattle.model.specs.WholeRuns.{Reachable}
-use Rattle.model.proofs.WholeRuns.{reachable-sound}
+use Rattle.model.specs.WholeRuns.{Traced}
 use Rattle.retention.specs.declared.kept.KeptRow.{KeptRow}
 use Rattle.retention.specs.Kept.{keptRow}
 use Rattle.retention.specs.Receipt.{pinsThen, keptThen}
-use Rattle.members.specs.Line.{latestBy, latestIs, liveFrom}
+use Rattle.members.specs.Line.{latestBy, latestIs}
 use Rattle.members.specs.Turn.{outlives}
 use Rattle.members.proofs.LineRule.{latest-none, latest-more}
 use Rattle.recovery.specs.Recovery.{notLater, latestFound, restoredPins, stays}
@@ -46,29 +47,32 @@ use Rattle.plans.specs.Planned.{recoveryVerdict}
 use Rattle.plans.specs.Sized.{Sized}
 use Rattle.plans.specs.Carried.{vectorAt, ownAt}
 use Rattle.plans.specs.Tables.{messagesIn}
+use Rattle.plans.proofs.Billing.{written-small, deleted-small}
 use Rattle.plans.proofs.Filled as filled
 use Rattle.plans.proofs.Facts.{square-most, held-places}
 use Rattle.plans.proofs.SoundFacts.{own-least}
 use Rattle.trace.specs.Answers.{eventRead, eventIn}
 use Rattle.listing.specs.Lines.{longestLine}
 use Rattle.listing.specs.Said.{Says}
+use Rattle.listing.specs.declared.Summary.{Summary}
 use Rattle.listing.specs.declared.Value.the-variants.{Number}
 use Rattle.rollback.specs.Members.{statesOf, HeldAtMost}
+use Rattle.rollback.specs.After.{pinsAt, blocksBelow}
 use Rattle.rollback.specs.Returned.{noIndex}
 use Rattle.rollback.specs.Restored.{Restores, stillOf}
 use Rattle.rollback.proofs.Returning.{Returning, none-returned, back-few, same-vector, one-returned, next-member}
 use Rattle.rollback.proofs.Recovering.{Recovering, none-done, same-row, same-held, row-most, row-room, gone-few, one-done}
 use Rattle.rollback.proofs.Restores.{in-place-restores}
 use Rattle.replay_block.specs.Blocks.{Stops}
-use Rattle.replay_block.specs.Record.{recoveryOf}
+use Rattle.replay_block.specs.Record.{recoveryOf, summaryOf}
 use Rattle.replay_block.specs.Window.{numbersOf, stateInPlace, Windowed}
 use Rattle.replay_block.proofs.Asked.{recovery-asked}
-use Rattle.replay_block.proofs.Between.{Between, Inside, one-more, stored-row, same-words, same-rows, same-asked, same-parts, same-start, none-yet, same-end, ends, all-told, recovered-state, recovered-says}
+use Rattle.replay_block.proofs.Between.{Between, Inside, one-more, stored-row, same-words, same-said, same-rows, same-asked, same-parts, same-start, none-yet, same-end, ends, all-told, recovered-disk, recovered-state, recovered-says}
 use Rattle.replay_block.proofs.Collected as collected
 use Rattle.replay_block.proofs.Searches.{search-most, member-searched, pins-searched}
 use Rattle.replay_block.proofs.Sifted as sifted
 use Rattle.replay_block.proofs.Sifted.{Sifting, none-sifted}
-use Rattle.replay_block.proofs.Sizes.{reachable-sized}
+use Rattle.replay_block.proofs.Sizes.{traced-sized, traced-sound}
 use Rattle.replay_block.proofs.Turn as turn
 use Rattle.replay_block.proofs.Turns.{none-taken, left-more, left-none, record-there, one-said, said-fits, accepted-goes-on, at-limit, no-record, no-room, at-a-refusal, no-place}
 use Rattle.replay_block.proofs.Windows as windows
@@ -77,60 +81,60 @@ use Rattle.replay_block.proofs.block.replay_beside.Tie as tie
 
 -- The row of a process whose pins move: its first j checkpoints are collected.
 abbrev Inv-collected : tie.InvT-collected
-Inv-collected all done trace out deleted₀ numbers n vectors pins kept₀ sent held underway last window base first tail empty unused taken written going number m place found i mark p at value refused live moved many gone₀ to₀ j₀ deleted kept gone to j = collected.Collecting (named moved) kept₀ i deleted₀ gone₀ j to gone kept deleted × (j ≤ many)
+Inv-collected all done trace out deleted₀ numbers n vectors pins kept₀ sent held underway last disk window base first tail empty unused taken written going number m place found i vector mark p at said index moved many gone₀ to₀ j₀ deleted kept gone to j = collected.Collecting (named moved) kept₀ i deleted₀ gone₀ j to gone kept deleted × (j ≤ many)
 
 abbrev μ-collected : tie.MeasureT-collected
-μ-collected all done trace out deleted₀ numbers n vectors pins kept₀ sent held underway last window base first tail empty unused taken written going number m place found i mark p at value refused live moved many gone₀ to₀ j₀ deleted kept gone to j = many - j
+μ-collected all done trace out deleted₀ numbers n vectors pins kept₀ sent held underway last disk window base first tail empty unused taken written going number m place found i vector mark p at said index moved many gone₀ to₀ j₀ deleted kept gone to j = many - j
 
 -- The member of process f: the latest allowed one of the first a that it keeps.
 abbrev Inv-allowed : tie.InvT-allowed
-Inv-allowed all done trace out deleted numbers n vectors pins kept sent held underway last window base first tail empty unused taken written going number owns failed marks rolled members back f current held-now allowed searched latest₀ a₀ latest a = (a ≤ searched) × (latest ≡ latestIs (latestBy marks owns (take a (getD kept f []))))
+Inv-allowed all done trace out deleted numbers n vectors pins kept sent held underway last disk window base first tail empty unused taken written going number owns failed marks rolled members back f current held-now allowed searched latest₀ a₀ latest a = (a ≤ searched) × (latest ≡ latestIs (latestBy marks owns (take a (getD kept f []))))
 
 abbrev μ-allowed : tie.MeasureT-allowed
-μ-allowed all done trace out deleted numbers n vectors pins kept sent held underway last window base first tail empty unused taken written going number owns failed marks rolled members back f current held-now allowed searched latest₀ a₀ latest a = searched - a
+μ-allowed all done trace out deleted numbers n vectors pins kept sent held underway last disk window base first tail empty unused taken written going number owns failed marks rolled members back f current held-now allowed searched latest₀ a₀ latest a = searched - a
 
 -- The first f processes have gone back to their members.
 abbrev Inv-returned : tie.InvT-returned
-Inv-returned all done trace out deleted numbers n vectors₀ pins kept sent₀ held underway last window base first tail empty unused taken written going number owns failed marks rolled₀ members₀ back₀ f₀ vectors sent rolled members back f = Returning n (statesOf n failed vectors₀ kept held) vectors₀ sent₀ vectors sent rolled members back f
+Inv-returned all done trace out deleted numbers n vectors₀ pins kept sent₀ held underway last disk window base first tail empty unused taken written going number owns failed marks rolled₀ members₀ back₀ f₀ vectors sent rolled members back f = Returning n (statesOf n failed vectors₀ kept held) vectors₀ sent₀ vectors sent rolled members back f
 
 abbrev μ-returned : tie.MeasureT-returned
-μ-returned all done trace out deleted numbers n vectors₀ pins kept sent₀ held underway last window base first tail empty unused taken written going number owns failed marks rolled₀ members₀ back₀ f₀ vectors sent rolled members back f = n - f
+μ-returned all done trace out deleted numbers n vectors₀ pins kept sent₀ held underway last disk window base first tail empty unused taken written going number owns failed marks rolled₀ members₀ back₀ f₀ vectors sent rolled members back f = n - f
 
 -- The pins of process q: what is found among the first b that it keeps.
 abbrev Inv-found : tie.InvT-found
-Inv-found all done trace out deleted numbers n vectors pins kept sent held underway last window base first tail empty unused taken written going number failed rolled members back f owns-then all-gone q has-rolled known held-then pins-now last-kept to-find known-last₀ b₀ known-last b = (b ≤ to-find) × (known-last ≡ latestFound owns-then (notLater last-kept (take b (getD kept q []))))
+Inv-found all done trace out deleted numbers n vectors pins kept sent held underway last disk window base first tail empty unused taken written going number failed rolled members back f owns-then all-gone q has-rolled known held-then pins-now last-kept to-find known-last₀ b₀ known-last b = (b ≤ to-find) × (known-last ≡ latestFound owns-then (notLater last-kept (take b (getD kept q []))))
 
 abbrev μ-found : tie.MeasureT-found
-μ-found all done trace out deleted numbers n vectors pins kept sent held underway last window base first tail empty unused taken written going number failed rolled members back f owns-then all-gone q has-rolled known held-then pins-now last-kept to-find known-last₀ b₀ known-last b = to-find - b
+μ-found all done trace out deleted numbers n vectors pins kept sent held underway last disk window base first tail empty unused taken written going number failed rolled members back f owns-then all-gone q has-rolled known held-then pins-now last-kept to-find known-last₀ b₀ known-last b = to-find - b
 
 -- Its row: the first k checkpoints are collected.
 abbrev Inv-left : tie.InvT-left
-Inv-left all done trace out deleted₀ numbers n vectors pins kept₀ sent held underway last window base first tail empty unused taken written going number failed rolled members back f owns-then all-gone₀ q has-rolled held-then last-kept to-find b pins-then stay₀ k₀ deleted kept all-gone stay k = collected.Collecting (stays last-kept pins-then) kept₀ q deleted₀ all-gone₀ k stay all-gone kept deleted × (k ≤ held-then)
+Inv-left all done trace out deleted₀ numbers n vectors pins kept₀ sent held underway last disk window base first tail empty unused taken written going number failed rolled members back f owns-then all-gone₀ q has-rolled held-then last-kept to-find b pins-then stay₀ k₀ deleted kept all-gone stay k = collected.Collecting (stays last-kept pins-then) kept₀ q deleted₀ all-gone₀ k stay all-gone kept deleted × (k ≤ held-then)
 
 abbrev μ-left : tie.MeasureT-left
-μ-left all done trace out deleted₀ numbers n vectors pins kept₀ sent held underway last window base first tail empty unused taken written going number failed rolled members back f owns-then all-gone₀ q has-rolled held-then last-kept to-find b pins-then stay₀ k₀ deleted kept all-gone stay k = held-then - k
+μ-left all done trace out deleted₀ numbers n vectors pins kept₀ sent held underway last disk window base first tail empty unused taken written going number failed rolled members back f owns-then all-gone₀ q has-rolled held-then last-kept to-find b pins-then stay₀ k₀ deleted kept all-gone stay k = held-then - k
 
 -- The rows of the first q processes are as they are after the recovery.
 abbrev Inv-restored : tie.InvT-restored
-Inv-restored all done trace out deleted₀ numbers n vectors pins₀ kept₀ sent held₀ underway last window base first tail empty unused taken written going number failed rolled members back f owns-then all-gone₀ q₀ deleted pins kept held all-gone q = Recovering n vectors owns-then rolled members pins₀ kept₀ held₀ deleted₀ pins kept held deleted all-gone q
+Inv-restored all done trace out deleted₀ numbers n vectors pins₀ kept₀ sent held₀ underway last disk window base first tail empty unused taken written going number failed rolled members back f owns-then all-gone₀ q₀ deleted pins kept held all-gone q = Recovering n vectors owns-then rolled members pins₀ kept₀ held₀ deleted₀ pins kept held deleted all-gone q
 
 abbrev μ-restored : tie.MeasureT-restored
-μ-restored all done trace out deleted₀ numbers n vectors pins₀ kept₀ sent held₀ underway last window base first tail empty unused taken written going number failed rolled members back f owns-then all-gone₀ q₀ deleted pins kept held all-gone q = n - q
+μ-restored all done trace out deleted₀ numbers n vectors pins₀ kept₀ sent held₀ underway last disk window base first tail empty unused taken written going number failed rolled members back f owns-then all-gone₀ q₀ deleted pins kept held all-gone q = n - q
 
 -- The messages before place z: those that were sent up to the line are left.
 abbrev Inv-sifted : tie.InvT-sifted
-Inv-sifted all done trace out deleted numbers n vectors pins kept sent held underway₀ last window₀ base first₀ tail empty unused taken written going number failed members back f all-gone q outlived₀ z₀ underway window first outlived z = Sifting (outlives members) numbers window₀ first₀ base tail last window first underway outlived z
+Inv-sifted all done trace out deleted numbers n vectors pins kept sent held underway₀ last disk window₀ base first₀ tail empty unused taken written going number failed members back f all-gone q outlived₀ z₀ underway window first outlived z = Sifting (outlives members) numbers window₀ first₀ base tail last window first underway outlived z
 
 abbrev μ-sifted : tie.MeasureT-sifted
-μ-sifted all done trace out deleted numbers n vectors pins kept sent held underway₀ last window₀ base first₀ tail empty unused taken written going number failed members back f all-gone q outlived₀ z₀ underway window first outlived z = tail - z
+μ-sifted all done trace out deleted numbers n vectors pins kept sent held underway₀ last disk window₀ base first₀ tail empty unused taken written going number failed members back f all-gone q outlived₀ z₀ underway window first outlived z = tail - z
 
 abbrev Inv-records : tie.InvT-records
-Inv-records all done trace out₀ deleted₀ numbers n vectors₀ pins₀ kept₀ sent₀ held₀ underway₀ last₀ window₀ base first₀ tail₀ empty unused taken₀ written₀ going₀ out deleted vectors pins kept sent held underway last window first tail taken written going =
-    Between all (stateInPlace n vectors₀ pins₀ kept₀ sent₀ held₀ (messagesIn window₀ first₀ tail₀) last₀) done (drop 1 trace) out₀ numbers
-    (stateInPlace n vectors pins kept sent held (messagesIn window first tail) last) taken out deleted written going window base first tail underway last
+Inv-records all done trace out₀ deleted₀ numbers n vectors₀ pins₀ kept₀ sent₀ held₀ underway₀ last₀ disk₀ window₀ base first₀ tail₀ empty unused taken₀ written₀ going₀ out deleted vectors pins kept sent held underway last disk window first tail taken written going =
+    Between all (stateInPlace n vectors₀ pins₀ kept₀ sent₀ held₀ (messagesIn window₀ first₀ tail₀) last₀ disk₀) done (drop 1 trace) out₀ numbers
+    (stateInPlace n vectors pins kept sent held (messagesIn window first tail) last disk) taken out deleted written going window base first tail underway last
 
 abbrev μ-records : tie.MeasureT-records
-μ-records all done trace out₀ deleted₀ numbers n vectors₀ pins₀ kept₀ sent₀ held₀ underway₀ last₀ window₀ base first₀ tail₀ empty unused taken₀ written₀ going₀ out deleted vectors pins kept sent held underway last window first tail taken written going = length (drop 1 trace) - 4 * taken
+μ-records all done trace out₀ deleted₀ numbers n vectors₀ pins₀ kept₀ sent₀ held₀ underway₀ last₀ disk₀ window₀ base first₀ tail₀ empty unused taken₀ written₀ going₀ out deleted vectors pins kept sent held underway last disk window first tail taken written going = length (drop 1 trace) - 4 * taken
 
 -- The places that are named below, and the roads between them.
 abbrev Start : Type 0
@@ -202,17 +206,14 @@ After-plan-of = tie.After-plan-of Inv-collected μ-collected Inv-allowed μ-allo
 abbrev After-put : Type 0
 After-put = tie.After-put Inv-collected μ-collected Inv-allowed μ-allowed Inv-returned μ-returned Inv-found μ-found Inv-left μ-left Inv-restored μ-restored Inv-sifted μ-sifted Inv-records μ-records
 
-abbrev After-value-of : Type 0
-After-value-of = tie.After-value-of Inv-collected μ-collected Inv-allowed μ-allowed Inv-returned μ-returned Inv-found μ-found Inv-left μ-left Inv-restored μ-restored Inv-sifted μ-sifted Inv-records μ-records
-
-abbrev After-number-of : Type 0
-After-number-of = tie.After-number-of Inv-collected μ-collected Inv-allowed μ-allowed Inv-returned μ-returned Inv-found μ-found Inv-left μ-left Inv-restored μ-restored Inv-sifted μ-sifted Inv-records μ-records
+abbrev After-summary-of : Type 0
+After-summary-of = tie.After-summary-of Inv-collected μ-collected Inv-allowed μ-allowed Inv-returned μ-returned Inv-found μ-found Inv-left μ-left Inv-restored μ-restored Inv-sifted μ-sifted Inv-records μ-records
 
 abbrev Then6 : Type 0
 Then6 = tie.Then6 Inv-collected μ-collected Inv-allowed μ-allowed Inv-returned μ-returned Inv-found μ-found Inv-left μ-left Inv-restored μ-restored Inv-sifted μ-sifted Inv-records μ-records
 
-abbrev After-live-from : Type 0
-After-live-from = tie.After-live-from Inv-collected μ-collected Inv-allowed μ-allowed Inv-returned μ-returned Inv-found μ-found Inv-left μ-left Inv-restored μ-restored Inv-sifted μ-sifted Inv-records μ-records
+abbrev After-live-index : Type 0
+After-live-index = tie.After-live-index Inv-collected μ-collected Inv-allowed μ-allowed Inv-returned μ-returned Inv-found μ-found Inv-left μ-left Inv-restored μ-restored Inv-sifted μ-sifted Inv-records μ-records
 
 abbrev After-carried : Type 0
 After-carried = tie.After-carried Inv-collected μ-collected Inv-allowed μ-allowed Inv-returned μ-returned Inv-found μ-found Inv-left μ-left Inv-restored μ-restored Inv-sifted μ-sifted Inv-records μ-records
@@ -232,23 +233,35 @@ In-collected = tie.In-collected Inv-collected μ-collected Inv-allowed μ-allowe
 abbrev After-collected : Type 0
 After-collected = tie.After-collected Inv-collected μ-collected Inv-allowed μ-allowed Inv-returned μ-returned Inv-found μ-found Inv-left μ-left Inv-restored μ-restored Inv-sifted μ-sifted Inv-records μ-records
 
+abbrev After-is-named : Type 0
+After-is-named = tie.After-is-named Inv-collected μ-collected Inv-allowed μ-allowed Inv-returned μ-returned Inv-found μ-found Inv-left μ-left Inv-restored μ-restored Inv-sifted μ-sifted Inv-records μ-records
+
 abbrev Then7 : Type 0
 Then7 = tie.Then7 Inv-collected μ-collected Inv-allowed μ-allowed Inv-returned μ-returned Inv-found μ-found Inv-left μ-left Inv-restored μ-restored Inv-sifted μ-sifted Inv-records μ-records
 
 abbrev Else7 : Type 0
 Else7 = tie.Else7 Inv-collected μ-collected Inv-allowed μ-allowed Inv-returned μ-returned Inv-found μ-found Inv-left μ-left Inv-restored μ-restored Inv-sifted μ-sifted Inv-records μ-records
 
-abbrev After-place : Type 0
-After-place = tie.After-place Inv-collected μ-collected Inv-allowed μ-allowed Inv-returned μ-returned Inv-found μ-found Inv-left μ-left Inv-restored μ-restored Inv-sifted μ-sifted Inv-records μ-records
+abbrev After-write-pair-arg : Type 0
+After-write-pair-arg = tie.After-write-pair-arg Inv-collected μ-collected Inv-allowed μ-allowed Inv-returned μ-returned Inv-found μ-found Inv-left μ-left Inv-restored μ-restored Inv-sifted μ-sifted Inv-records μ-records
 
-abbrev After-count : Type 0
-After-count = tie.After-count Inv-collected μ-collected Inv-allowed μ-allowed Inv-returned μ-returned Inv-found μ-found Inv-left μ-left Inv-restored μ-restored Inv-sifted μ-sifted Inv-records μ-records
+abbrev After-slice-known3 : Type 0
+After-slice-known3 = tie.After-slice-known3 Inv-collected μ-collected Inv-allowed μ-allowed Inv-returned μ-returned Inv-found μ-found Inv-left μ-left Inv-restored μ-restored Inv-sifted μ-sifted Inv-records μ-records
+
+abbrev After-stored : Type 0
+After-stored = tie.After-stored Inv-collected μ-collected Inv-allowed μ-allowed Inv-returned μ-returned Inv-found μ-found Inv-left μ-left Inv-restored μ-restored Inv-sifted μ-sifted Inv-records μ-records
+
+abbrev After-put-there : Type 0
+After-put-there = tie.After-put-there Inv-collected μ-collected Inv-allowed μ-allowed Inv-returned μ-returned Inv-found μ-found Inv-left μ-left Inv-restored μ-restored Inv-sifted μ-sifted Inv-records μ-records
+
+abbrev After-billed : Type 0
+After-billed = tie.After-billed Inv-collected μ-collected Inv-allowed μ-allowed Inv-returned μ-returned Inv-found μ-found Inv-left μ-left Inv-restored μ-restored Inv-sifted μ-sifted Inv-records μ-records
 
 abbrev After-print-arg2 : Type 0
 After-print-arg2 = tie.After-print-arg2 Inv-collected μ-collected Inv-allowed μ-allowed Inv-returned μ-returned Inv-found μ-found Inv-left μ-left Inv-restored μ-restored Inv-sifted μ-sifted Inv-records μ-records
 
-abbrev After-slice-known3 : Type 0
-After-slice-known3 = tie.After-slice-known3 Inv-collected μ-collected Inv-allowed μ-allowed Inv-returned μ-returned Inv-found μ-found Inv-left μ-left Inv-restored μ-restored Inv-sifted μ-sifted Inv-records μ-records
+abbrev After-slice-known4 : Type 0
+After-slice-known4 = tie.After-slice-known4 Inv-collected μ-collected Inv-allowed μ-allowed Inv-returned μ-returned Inv-found μ-found Inv-left μ-left Inv-restored μ-restored Inv-sifted μ-sifted Inv-records μ-records
 
 abbrev Else6 : Type 0
 Else6 = tie.Else6 Inv-collected μ-collected Inv-allowed μ-allowed Inv-returned μ-returned Inv-found μ-found Inv-left μ-left Inv-restored μ-restored Inv-sifted μ-sifted Inv-records μ-records
@@ -304,8 +317,8 @@ After-member = tie.After-member Inv-collected μ-collected Inv-allowed μ-allowe
 abbrev After-went-back : Type 0
 After-went-back = tie.After-went-back Inv-collected μ-collected Inv-allowed μ-allowed Inv-returned μ-returned Inv-found μ-found Inv-left μ-left Inv-restored μ-restored Inv-sifted μ-sifted Inv-records μ-records
 
-abbrev After-index : Type 0
-After-index = tie.After-index Inv-collected μ-collected Inv-allowed μ-allowed Inv-returned μ-returned Inv-found μ-found Inv-left μ-left Inv-restored μ-restored Inv-sifted μ-sifted Inv-records μ-records
+abbrev After-member-index : Type 0
+After-member-index = tie.After-member-index Inv-collected μ-collected Inv-allowed μ-allowed Inv-returned μ-returned Inv-found μ-found Inv-left μ-left Inv-restored μ-restored Inv-sifted μ-sifted Inv-records μ-records
 
 abbrev After-own-entries2 : Type 0
 After-own-entries2 = tie.After-own-entries2 Inv-collected μ-collected Inv-allowed μ-allowed Inv-returned μ-returned Inv-found μ-found Inv-left μ-left Inv-restored μ-restored Inv-sifted μ-sifted Inv-records μ-records
@@ -346,11 +359,23 @@ In-left = tie.In-left Inv-collected μ-collected Inv-allowed μ-allowed Inv-retu
 abbrev After-left : Type 0
 After-left = tie.After-left Inv-collected μ-collected Inv-allowed μ-allowed Inv-returned μ-returned Inv-found μ-found Inv-left μ-left Inv-restored μ-restored Inv-sifted μ-sifted Inv-records μ-records
 
+abbrev After-does-stay : Type 0
+After-does-stay = tie.After-does-stay Inv-collected μ-collected Inv-allowed μ-allowed Inv-returned μ-returned Inv-found μ-found Inv-left μ-left Inv-restored μ-restored Inv-sifted μ-sifted Inv-records μ-records
+
 abbrev Then8 : Type 0
 Then8 = tie.Then8 Inv-collected μ-collected Inv-allowed μ-allowed Inv-returned μ-returned Inv-found μ-found Inv-left μ-left Inv-restored μ-restored Inv-sifted μ-sifted Inv-records μ-records
 
 abbrev Else8 : Type 0
 Else8 = tie.Else8 Inv-collected μ-collected Inv-allowed μ-allowed Inv-returned μ-returned Inv-found μ-found Inv-left μ-left Inv-restored μ-restored Inv-sifted μ-sifted Inv-records μ-records
+
+abbrev After-write-pair-arg2 : Type 0
+After-write-pair-arg2 = tie.After-write-pair-arg2 Inv-collected μ-collected Inv-allowed μ-allowed Inv-returned μ-returned Inv-found μ-found Inv-left μ-left Inv-restored μ-restored Inv-sifted μ-sifted Inv-records μ-records
+
+abbrev After-slice-known6 : Type 0
+After-slice-known6 = tie.After-slice-known6 Inv-collected μ-collected Inv-allowed μ-allowed Inv-returned μ-returned Inv-found μ-found Inv-left μ-left Inv-restored μ-restored Inv-sifted μ-sifted Inv-records μ-records
+
+abbrev After-billed2 : Type 0
+After-billed2 = tie.After-billed2 Inv-collected μ-collected Inv-allowed μ-allowed Inv-returned μ-returned Inv-found μ-found Inv-left μ-left Inv-restored μ-restored Inv-sifted μ-sifted Inv-records μ-records
 
 abbrev At-sifted : Type 0
 At-sifted = tie.At-sifted Inv-collected μ-collected Inv-allowed μ-allowed Inv-returned μ-returned Inv-found μ-found Inv-left μ-left Inv-restored μ-restored Inv-sifted μ-sifted Inv-records μ-records
@@ -376,8 +401,8 @@ Else9 = tie.Else9 Inv-collected μ-collected Inv-allowed μ-allowed Inv-returned
 abbrev After-print-arg6 : Type 0
 After-print-arg6 = tie.After-print-arg6 Inv-collected μ-collected Inv-allowed μ-allowed Inv-returned μ-returned Inv-found μ-found Inv-left μ-left Inv-restored μ-restored Inv-sifted μ-sifted Inv-records μ-records
 
-abbrev After-slice-known5 : Type 0
-After-slice-known5 = tie.After-slice-known5 Inv-collected μ-collected Inv-allowed μ-allowed Inv-returned μ-returned Inv-found μ-found Inv-left μ-left Inv-restored μ-restored Inv-sifted μ-sifted Inv-records μ-records
+abbrev After-slice-known7 : Type 0
+After-slice-known7 = tie.After-slice-known7 Inv-collected μ-collected Inv-allowed μ-allowed Inv-returned μ-returned Inv-found μ-found Inv-left μ-left Inv-restored μ-restored Inv-sifted μ-sifted Inv-records μ-records
 
 abbrev Left-records : Type 0
 Left-records = tie.Left-records Inv-collected μ-collected Inv-allowed μ-allowed Inv-returned μ-returned Inv-found μ-found Inv-left μ-left Inv-restored μ-restored Inv-sifted μ-sifted Inv-records μ-records
@@ -397,122 +422,143 @@ from-After-allowed-to-At-returned c = c .before .before .before .before .before 
 abbrev from-After-allowed-to-In-returned : After-allowed → In-returned
 from-After-allowed-to-In-returned c = c .before .before .before .before .before .before
 
+abbrev from-After-billed-to-After-collected : After-billed → After-collected
+from-After-billed-to-After-collected c = c .before .before .before .before
+
+abbrev from-After-billed-to-After-decode : After-billed → After-decode
+from-After-billed-to-After-decode c = c .before .before .before .before .before .before .before .before .before .before .before .before .before .before .before .before .before .before .before .before .before .before .before .before .before
+
+abbrev from-After-billed-to-After-is-there : After-billed → After-is-there
+from-After-billed-to-After-is-there c = c .before .before .before .before .before .before .before .before .before .before .before .before .before .before .before .before .before .before
+
+abbrev from-After-billed-to-After-live-index : After-billed → After-live-index
+from-After-billed-to-After-live-index c = c .before .before .before .before .before .before .before .before .before .before
+
+abbrev from-After-billed-to-After-pins-then : After-billed → After-pins-then
+from-After-billed-to-After-pins-then c = c .before .before .before .before .before .before .before
+
+abbrev from-After-billed-to-After-place-in : After-billed → After-place-in
+from-After-billed-to-After-place-in c = c .before .before .before .before .before .before .before .before .before .before .before .before .before .before .before .before .before .before .before .before
+
+abbrev from-After-billed-to-After-plan-of : After-billed → After-plan-of
+from-After-billed-to-After-plan-of c = c .before .before .before .before .before .before .before .before .before .before .before .before .before .before
+
+abbrev from-After-billed-to-After-row-of : After-billed → After-row-of
+from-After-billed-to-After-row-of c = c .before .before .before .before .before .before .before .before .before .before .before .before .before .before .before .before .before
+
+abbrev from-After-billed-to-After-sought : After-billed → After-sought
+from-After-billed-to-After-sought c = c .before .before .before .before .before .before .before .before .before .before .before .before .before .before .before .before .before .before .before .before .before
+
+abbrev from-After-billed-to-After-vector-then : After-billed → After-vector-then
+from-After-billed-to-After-vector-then c = c .before .before .before .before .before .before
+
+abbrev from-After-billed-to-At-collected : After-billed → At-collected
+from-After-billed-to-At-collected c = c .before .before .before .before .before
+
+abbrev from-After-billed-to-At-records : After-billed → At-records
+from-After-billed-to-At-records c = c .before .before .before .before .before .before .before .before .before .before .before .before .before .before .before .before .before .before .before .before .before .before .before .before .before .before .before .before .before .before .before .before .before
+
+abbrev from-After-billed-to-In-records : After-billed → In-records
+from-After-billed-to-In-records c = c .before .before .before .before .before .before .before .before .before .before .before .before .before .before .before .before .before .before .before .before .before .before .before .before .before .before .before .before .before .before .before .before
+
+abbrev from-After-billed-to-Start : After-billed → Start
+from-After-billed-to-Start c = c .before .before .before .before .before .before .before .before .before .before .before .before .before .before .before .before .before .before .before .before .before .before .before .before .before .before .before .before .before .before .before .before .before .before .before .before .before .before .before .before .before .before .before .before .before .before .before .before
+
+abbrev from-After-billed-to-Then5 : After-billed → Then5
+from-After-billed-to-Then5 c = c .before .before .before .before .before .before .before .before .before .before .before .before .before .before .before .before .before .before .before .before .before .before
+
+abbrev from-After-billed-to-Then6 : After-billed → Then6
+from-After-billed-to-Then6 c = c .before .before .before .before .before .before .before .before .before .before .before
+
+abbrev from-After-billed2-to-After-decode : After-billed2 → After-decode
+from-After-billed2-to-After-decode c = c .before .before .before .before .before .before .before .before .before .before .before
+
+abbrev from-After-billed2-to-After-own-entries2 : After-billed2 → After-own-entries2
+from-After-billed2-to-After-own-entries2 c = c .before .before .before
+
+abbrev from-After-billed2-to-After-recovery-of : After-billed2 → After-recovery-of
+from-After-billed2-to-After-recovery-of c = c .before .before .before .before .before .before .before .before .before .before
+
+abbrev from-After-billed2-to-After-returned : After-billed2 → After-returned
+from-After-billed2-to-After-returned c = c .before .before .before .before
+
+abbrev from-After-billed2-to-At-records : After-billed2 → At-records
+from-After-billed2-to-At-records c = c .before .before .before .before .before .before .before .before .before .before .before .before .before .before .before .before .before .before .before
+
+abbrev from-After-billed2-to-At-returned : After-billed2 → At-returned
+from-After-billed2-to-At-returned c = c .before .before .before .before .before
+
+abbrev from-After-billed2-to-Else5 : After-billed2 → Else5
+from-After-billed2-to-Else5 c = c .before .before .before .before .before .before .before .before
+
+abbrev from-After-billed2-to-Start : After-billed2 → Start
+from-After-billed2-to-Start c = c .before .before .before .before .before .before .before .before .before .before .before .before .before .before .before .before .before .before .before .before .before .before .before .before .before .before .before .before .before .before .before .before .before .before
+
 abbrev from-After-carried-to-After-decode : After-carried → After-decode
-from-After-carried-to-After-decode c = c .before .before .before .before .before .before .before .before .before .before .before .before .before .before .before .before .before .before
+from-After-carried-to-After-decode c = c .before .before .before .before .before .before .before .before .before .before .before .before .before .before .before .before .before
 
 abbrev from-After-carried-to-After-is-there : After-carried → After-is-there
-from-After-carried-to-After-is-there c = c .before .before .before .before .before .before .before .before .before .before .before
+from-After-carried-to-After-is-there c = c .before .before .before .before .before .before .before .before .before .before
 
 abbrev from-After-carried-to-After-place-in : After-carried → After-place-in
-from-After-carried-to-After-place-in c = c .before .before .before .before .before .before .before .before .before .before .before .before .before
+from-After-carried-to-After-place-in c = c .before .before .before .before .before .before .before .before .before .before .before .before
 
 abbrev from-After-carried-to-After-plan-of : After-carried → After-plan-of
-from-After-carried-to-After-plan-of c = c .before .before .before .before .before .before .before
+from-After-carried-to-After-plan-of c = c .before .before .before .before .before .before
 
 abbrev from-After-carried-to-After-row-of : After-carried → After-row-of
-from-After-carried-to-After-row-of c = c .before .before .before .before .before .before .before .before .before .before
+from-After-carried-to-After-row-of c = c .before .before .before .before .before .before .before .before .before
 
 abbrev from-After-carried-to-After-sought : After-carried → After-sought
-from-After-carried-to-After-sought c = c .before .before .before .before .before .before .before .before .before .before .before .before .before .before
+from-After-carried-to-After-sought c = c .before .before .before .before .before .before .before .before .before .before .before .before .before
 
 abbrev from-After-carried-to-At-records : After-carried → At-records
-from-After-carried-to-At-records c = c .before .before .before .before .before .before .before .before .before .before .before .before .before .before .before .before .before .before .before .before .before .before .before .before .before .before
+from-After-carried-to-At-records c = c .before .before .before .before .before .before .before .before .before .before .before .before .before .before .before .before .before .before .before .before .before .before .before .before .before
 
 abbrev from-After-carried-to-In-records : After-carried → In-records
-from-After-carried-to-In-records c = c .before .before .before .before .before .before .before .before .before .before .before .before .before .before .before .before .before .before .before .before .before .before .before .before .before
+from-After-carried-to-In-records c = c .before .before .before .before .before .before .before .before .before .before .before .before .before .before .before .before .before .before .before .before .before .before .before .before
 
 abbrev from-After-carried-to-Then5 : After-carried → Then5
-from-After-carried-to-Then5 c = c .before .before .before .before .before .before .before .before .before .before .before .before .before .before .before
+from-After-carried-to-Then5 c = c .before .before .before .before .before .before .before .before .before .before .before .before .before .before
 
 abbrev from-After-carried-to-Then6 : After-carried → Then6
 from-After-carried-to-Then6 c = c .before .before .before
 
 abbrev from-After-collected-to-After-decode : After-collected → After-decode
-from-After-collected-to-After-decode c = c .before .before .before .before .before .before .before .before .before .before .before .before .before .before .before .before .before .before .before .before .before .before
+from-After-collected-to-After-decode c = c .before .before .before .before .before .before .before .before .before .before .before .before .before .before .before .before .before .before .before .before .before
 
 abbrev from-After-collected-to-After-is-there : After-collected → After-is-there
-from-After-collected-to-After-is-there c = c .before .before .before .before .before .before .before .before .before .before .before .before .before .before .before
-
-abbrev from-After-collected-to-After-number-of : After-collected → After-number-of
-from-After-collected-to-After-number-of c = c .before .before .before .before .before .before .before .before
+from-After-collected-to-After-is-there c = c .before .before .before .before .before .before .before .before .before .before .before .before .before .before
 
 abbrev from-After-collected-to-After-pins-then : After-collected → After-pins-then
 from-After-collected-to-After-pins-then c = c .before .before .before
 
 abbrev from-After-collected-to-After-place-in : After-collected → After-place-in
-from-After-collected-to-After-place-in c = c .before .before .before .before .before .before .before .before .before .before .before .before .before .before .before .before .before
+from-After-collected-to-After-place-in c = c .before .before .before .before .before .before .before .before .before .before .before .before .before .before .before .before
 
 abbrev from-After-collected-to-After-plan-of : After-collected → After-plan-of
-from-After-collected-to-After-plan-of c = c .before .before .before .before .before .before .before .before .before .before .before
+from-After-collected-to-After-plan-of c = c .before .before .before .before .before .before .before .before .before .before
 
 abbrev from-After-collected-to-After-row-of : After-collected → After-row-of
-from-After-collected-to-After-row-of c = c .before .before .before .before .before .before .before .before .before .before .before .before .before .before
+from-After-collected-to-After-row-of c = c .before .before .before .before .before .before .before .before .before .before .before .before .before
 
 abbrev from-After-collected-to-After-sought : After-collected → After-sought
-from-After-collected-to-After-sought c = c .before .before .before .before .before .before .before .before .before .before .before .before .before .before .before .before .before .before
+from-After-collected-to-After-sought c = c .before .before .before .before .before .before .before .before .before .before .before .before .before .before .before .before .before
 
-abbrev from-After-collected-to-After-value-of : After-collected → After-value-of
-from-After-collected-to-After-value-of c = c .before .before .before .before .before .before .before .before .before
+abbrev from-After-collected-to-After-summary-of : After-collected → After-summary-of
+from-After-collected-to-After-summary-of c = c .before .before .before .before .before .before .before .before
 
 abbrev from-After-collected-to-At-records : After-collected → At-records
-from-After-collected-to-At-records c = c .before .before .before .before .before .before .before .before .before .before .before .before .before .before .before .before .before .before .before .before .before .before .before .before .before .before .before .before .before .before
+from-After-collected-to-At-records c = c .before .before .before .before .before .before .before .before .before .before .before .before .before .before .before .before .before .before .before .before .before .before .before .before .before .before .before .before .before
 
 abbrev from-After-collected-to-In-records : After-collected → In-records
-from-After-collected-to-In-records c = c .before .before .before .before .before .before .before .before .before .before .before .before .before .before .before .before .before .before .before .before .before .before .before .before .before .before .before .before .before
+from-After-collected-to-In-records c = c .before .before .before .before .before .before .before .before .before .before .before .before .before .before .before .before .before .before .before .before .before .before .before .before .before .before .before .before
 
 abbrev from-After-collected-to-Then5 : After-collected → Then5
-from-After-collected-to-Then5 c = c .before .before .before .before .before .before .before .before .before .before .before .before .before .before .before .before .before .before .before
+from-After-collected-to-Then5 c = c .before .before .before .before .before .before .before .before .before .before .before .before .before .before .before .before .before .before
 
 abbrev from-After-collected-to-Then6 : After-collected → Then6
 from-After-collected-to-Then6 c = c .before .before .before .before .before .before .before
-
-abbrev from-After-count-to-After-collected : After-count → After-collected
-from-After-count-to-After-collected c = c .before .before .before .before
-
-abbrev from-After-count-to-After-decode : After-count → After-decode
-from-After-count-to-After-decode c = c .before .before .before .before .before .before .before .before .before .before .before .before .before .before .before .before .before .before .before .before .before .before .before .before .before .before
-
-abbrev from-After-count-to-After-is-there : After-count → After-is-there
-from-After-count-to-After-is-there c = c .before .before .before .before .before .before .before .before .before .before .before .before .before .before .before .before .before .before .before
-
-abbrev from-After-count-to-After-live-from : After-count → After-live-from
-from-After-count-to-After-live-from c = c .before .before .before .before .before .before .before .before .before .before
-
-abbrev from-After-count-to-After-pins-then : After-count → After-pins-then
-from-After-count-to-After-pins-then c = c .before .before .before .before .before .before .before
-
-abbrev from-After-count-to-After-place-in : After-count → After-place-in
-from-After-count-to-After-place-in c = c .before .before .before .before .before .before .before .before .before .before .before .before .before .before .before .before .before .before .before .before .before
-
-abbrev from-After-count-to-After-plan-of : After-count → After-plan-of
-from-After-count-to-After-plan-of c = c .before .before .before .before .before .before .before .before .before .before .before .before .before .before .before
-
-abbrev from-After-count-to-After-row-of : After-count → After-row-of
-from-After-count-to-After-row-of c = c .before .before .before .before .before .before .before .before .before .before .before .before .before .before .before .before .before .before
-
-abbrev from-After-count-to-After-sought : After-count → After-sought
-from-After-count-to-After-sought c = c .before .before .before .before .before .before .before .before .before .before .before .before .before .before .before .before .before .before .before .before .before .before
-
-abbrev from-After-count-to-After-vector-then : After-count → After-vector-then
-from-After-count-to-After-vector-then c = c .before .before .before .before .before .before
-
-abbrev from-After-count-to-At-collected : After-count → At-collected
-from-After-count-to-At-collected c = c .before .before .before .before .before
-
-abbrev from-After-count-to-At-records : After-count → At-records
-from-After-count-to-At-records c = c .before .before .before .before .before .before .before .before .before .before .before .before .before .before .before .before .before .before .before .before .before .before .before .before .before .before .before .before .before .before .before .before .before .before
-
-abbrev from-After-count-to-In-records : After-count → In-records
-from-After-count-to-In-records c = c .before .before .before .before .before .before .before .before .before .before .before .before .before .before .before .before .before .before .before .before .before .before .before .before .before .before .before .before .before .before .before .before .before
-
-abbrev from-After-count-to-Start : After-count → Start
-from-After-count-to-Start c = c .before .before .before .before .before .before .before .before .before .before .before .before .before .before .before .before .before .before .before .before .before .before .before .before .before .before .before .before .before .before .before .before .before .before .before .before .before .before .before .before .before .before .before .before .before .before .before .before
-
-abbrev from-After-count-to-Then5 : After-count → Then5
-from-After-count-to-Then5 c = c .before .before .before .before .before .before .before .before .before .before .before .before .before .before .before .before .before .before .before .before .before .before .before
-
-abbrev from-After-count-to-Then6 : After-count → Then6
-from-After-count-to-Then6 c = c .before .before .before .before .before .before .before .before .before .before .before
 
 abbrev from-After-decode-to-After-record-left : After-decode → After-record-left
 from-After-decode-to-After-record-left c = c .before .before .before .before .before
@@ -521,7 +567,7 @@ abbrev from-After-decode-to-At-records : After-decode → At-records
 from-After-decode-to-At-records c = c .before .before .before .before .before .before .before .before
 
 abbrev from-After-decode-to-Start : After-decode → Start
-from-After-decode-to-Start c = c .before .before .before .before .before .before .before .before .before .before .before .before .before .before .before .before .before .before .before .before .before .before
+from-After-decode-to-Start c = c .before .before .before .before .before .before .before .before .before .before .before .before .before .before .before .before .before .before .before .before .before .before .before
 
 abbrev from-After-decode-to-Then2 : After-decode → Then2
 from-After-decode-to-Then2 c = c .before .before .before .before
@@ -530,7 +576,7 @@ abbrev from-After-decode-to-Then3 : After-decode → Then3
 from-After-decode-to-Then3 c = c .before .before .before
 
 abbrev from-After-first-from-to-At-records : After-first-from → At-records
-from-After-first-from-to-At-records c = c .before .before .before .before .before .before .before .before .before .before .before .before .before .before .before .before .before .before .before .before .before .before .before .before .before .before
+from-After-first-from-to-At-records c = c .before .before .before .before .before .before .before .before .before .before .before .before .before .before .before .before .before .before .before .before .before .before .before .before .before .before .before
 
 abbrev from-After-first-from-to-At-sifted : After-first-from → At-sifted
 from-After-first-from-to-At-sifted c = c .before .before .before .before .before .before .before
@@ -557,76 +603,43 @@ abbrev from-After-found-with-to-In-restored : After-found-with → In-restored
 from-After-found-with-to-In-restored c = c .before .before .before .before .before .before .before .before .before
 
 abbrev from-After-goes-on-to-After-decode : After-goes-on → After-decode
-from-After-goes-on-to-After-decode c = c .before .before .before .before .before .before .before .before .before .before .before .before .before .before .before .before .before .before .before .before .before
+from-After-goes-on-to-After-decode c = c .before .before .before .before .before .before .before .before .before .before .before .before .before .before .before .before .before .before .before .before
 
 abbrev from-After-goes-on-to-After-is-there : After-goes-on → After-is-there
-from-After-goes-on-to-After-is-there c = c .before .before .before .before .before .before .before .before .before .before .before .before .before .before
+from-After-goes-on-to-After-is-there c = c .before .before .before .before .before .before .before .before .before .before .before .before .before
 
 abbrev from-After-goes-on-to-After-place-in : After-goes-on → After-place-in
-from-After-goes-on-to-After-place-in c = c .before .before .before .before .before .before .before .before .before .before .before .before .before .before .before .before
+from-After-goes-on-to-After-place-in c = c .before .before .before .before .before .before .before .before .before .before .before .before .before .before .before
 
 abbrev from-After-goes-on-to-After-plan-of : After-goes-on → After-plan-of
-from-After-goes-on-to-After-plan-of c = c .before .before .before .before .before .before .before .before .before .before
+from-After-goes-on-to-After-plan-of c = c .before .before .before .before .before .before .before .before .before
 
 abbrev from-After-goes-on-to-After-print2 : After-goes-on → After-print2
 from-After-goes-on-to-After-print2 c = c .before .before .before
 
 abbrev from-After-goes-on-to-After-row-of : After-goes-on → After-row-of
-from-After-goes-on-to-After-row-of c = c .before .before .before .before .before .before .before .before .before .before .before .before .before
+from-After-goes-on-to-After-row-of c = c .before .before .before .before .before .before .before .before .before .before .before .before
 
 abbrev from-After-goes-on-to-After-sought : After-goes-on → After-sought
-from-After-goes-on-to-After-sought c = c .before .before .before .before .before .before .before .before .before .before .before .before .before .before .before .before .before
+from-After-goes-on-to-After-sought c = c .before .before .before .before .before .before .before .before .before .before .before .before .before .before .before .before
 
 abbrev from-After-goes-on-to-At-records : After-goes-on → At-records
-from-After-goes-on-to-At-records c = c .before .before .before .before .before .before .before .before .before .before .before .before .before .before .before .before .before .before .before .before .before .before .before .before .before .before .before .before .before
+from-After-goes-on-to-At-records c = c .before .before .before .before .before .before .before .before .before .before .before .before .before .before .before .before .before .before .before .before .before .before .before .before .before .before .before .before
 
 abbrev from-After-goes-on-to-Else6 : After-goes-on → Else6
 from-After-goes-on-to-Else6 c = c .before .before .before .before .before .before
 
 abbrev from-After-goes-on-to-In-records : After-goes-on → In-records
-from-After-goes-on-to-In-records c = c .before .before .before .before .before .before .before .before .before .before .before .before .before .before .before .before .before .before .before .before .before .before .before .before .before .before .before .before
+from-After-goes-on-to-In-records c = c .before .before .before .before .before .before .before .before .before .before .before .before .before .before .before .before .before .before .before .before .before .before .before .before .before .before .before
 
 abbrev from-After-goes-on-to-Then3 : After-goes-on → Then3
-from-After-goes-on-to-Then3 c = c .before .before .before .before .before .before .before .before .before .before .before .before .before .before .before .before .before .before .before .before .before .before .before .before
+from-After-goes-on-to-Then3 c = c .before .before .before .before .before .before .before .before .before .before .before .before .before .before .before .before .before .before .before .before .before .before .before
 
 abbrev from-After-goes-on-to-Then4 : After-goes-on → Then4
-from-After-goes-on-to-Then4 c = c .before .before .before .before .before .before .before .before .before .before .before .before .before .before .before .before .before .before .before .before .before .before .before
+from-After-goes-on-to-Then4 c = c .before .before .before .before .before .before .before .before .before .before .before .before .before .before .before .before .before .before .before .before .before .before
 
 abbrev from-After-goes-on-to-Then5 : After-goes-on → Then5
-from-After-goes-on-to-Then5 c = c .before .before .before .before .before .before .before .before .before .before .before .before .before .before .before .before .before .before
-
-abbrev from-After-index-to-After-allowed : After-index → After-allowed
-from-After-index-to-After-allowed c = c .before .before .before .before
-
-abbrev from-After-index-to-After-failed-marks : After-index → After-failed-marks
-from-After-index-to-After-failed-marks c = c .before .before .before .before .before .before .before .before .before .before .before .before
-
-abbrev from-After-index-to-After-is-allowed : After-index → After-is-allowed
-from-After-index-to-After-is-allowed c = c .before .before .before .before .before .before .before .before
-
-abbrev from-After-index-to-After-member : After-index → After-member
-from-After-index-to-After-member c = c .before .before .before
-
-abbrev from-After-index-to-After-own-entries : After-index → After-own-entries
-from-After-index-to-After-own-entries c = c .before .before .before .before .before .before .before .before .before .before .before .before .before
-
-abbrev from-After-index-to-After-recovery-of : After-index → After-recovery-of
-from-After-index-to-After-recovery-of c = c .before .before .before .before .before .before .before .before .before .before .before .before .before .before .before .before
-
-abbrev from-After-index-to-After-to-search : After-index → After-to-search
-from-After-index-to-After-to-search c = c .before .before .before .before .before .before .before
-
-abbrev from-After-index-to-At-allowed : After-index → At-allowed
-from-After-index-to-At-allowed c = c .before .before .before .before .before
-
-abbrev from-After-index-to-At-records : After-index → At-records
-from-After-index-to-At-records c = c .before .before .before .before .before .before .before .before .before .before .before .before .before .before .before .before .before .before .before .before .before .before .before .before .before
-
-abbrev from-After-index-to-At-returned : After-index → At-returned
-from-After-index-to-At-returned c = c .before .before .before .before .before .before .before .before .before .before .before
-
-abbrev from-After-index-to-In-returned : After-index → In-returned
-from-After-index-to-In-returned c = c .before .before .before .before .before .before .before .before .before .before
+from-After-goes-on-to-Then5 c = c .before .before .before .before .before .before .before .before .before .before .before .before .before .before .before .before .before
 
 abbrev from-After-kept-from-to-After-closed : After-kept-from → After-closed
 from-After-kept-from-to-After-closed c = c .before .before .before
@@ -641,7 +654,7 @@ abbrev from-After-kept-from-to-Left-records : After-kept-from → Left-records
 from-After-kept-from-to-Left-records c = c .before .before .before .before
 
 abbrev from-After-kept-from-to-Start : After-kept-from → Start
-from-After-kept-from-to-Start c = c .before .before .before .before .before .before .before .before .before .before .before .before .before .before .before .before .before .before .before
+from-After-kept-from-to-Start c = c .before .before .before .before .before .before .before .before .before .before .before .before .before .before .before .before .before .before .before .before
 
 abbrev from-After-latest-with-to-After-to-search : After-latest-with → After-to-search
 from-After-latest-with-to-After-to-search c = c .before .before .before .before .before
@@ -670,11 +683,47 @@ from-After-left-to-At-returned c = c .before .before .before .before .before .be
 abbrev from-After-left-to-In-restored : After-left → In-restored
 from-After-left-to-In-restored c = c .before .before .before .before .before .before .before .before .before .before
 
-abbrev from-After-live-from-to-After-row-of : After-live-from → After-row-of
-from-After-live-from-to-After-row-of c = c .before .before .before .before .before .before .before .before
+abbrev from-After-live-index-to-After-plan-of : After-live-index → After-plan-of
+from-After-live-index-to-After-plan-of c = c .before .before .before .before
 
-abbrev from-After-live-from-to-At-records : After-live-from → At-records
-from-After-live-from-to-At-records c = c .before .before .before .before .before .before .before .before .before .before .before .before .before .before .before .before .before .before .before .before .before .before .before .before
+abbrev from-After-live-index-to-After-row-of : After-live-index → After-row-of
+from-After-live-index-to-After-row-of c = c .before .before .before .before .before .before .before
+
+abbrev from-After-live-index-to-At-records : After-live-index → At-records
+from-After-live-index-to-At-records c = c .before .before .before .before .before .before .before .before .before .before .before .before .before .before .before .before .before .before .before .before .before .before .before
+
+abbrev from-After-member-index-to-After-allowed : After-member-index → After-allowed
+from-After-member-index-to-After-allowed c = c .before .before .before .before
+
+abbrev from-After-member-index-to-After-failed-marks : After-member-index → After-failed-marks
+from-After-member-index-to-After-failed-marks c = c .before .before .before .before .before .before .before .before .before .before .before .before
+
+abbrev from-After-member-index-to-After-is-allowed : After-member-index → After-is-allowed
+from-After-member-index-to-After-is-allowed c = c .before .before .before .before .before .before .before .before
+
+abbrev from-After-member-index-to-After-member : After-member-index → After-member
+from-After-member-index-to-After-member c = c .before .before .before
+
+abbrev from-After-member-index-to-After-own-entries : After-member-index → After-own-entries
+from-After-member-index-to-After-own-entries c = c .before .before .before .before .before .before .before .before .before .before .before .before .before
+
+abbrev from-After-member-index-to-After-recovery-of : After-member-index → After-recovery-of
+from-After-member-index-to-After-recovery-of c = c .before .before .before .before .before .before .before .before .before .before .before .before .before .before .before .before
+
+abbrev from-After-member-index-to-After-to-search : After-member-index → After-to-search
+from-After-member-index-to-After-to-search c = c .before .before .before .before .before .before .before
+
+abbrev from-After-member-index-to-At-allowed : After-member-index → At-allowed
+from-After-member-index-to-At-allowed c = c .before .before .before .before .before
+
+abbrev from-After-member-index-to-At-records : After-member-index → At-records
+from-After-member-index-to-At-records c = c .before .before .before .before .before .before .before .before .before .before .before .before .before .before .before .before .before .before .before .before .before .before .before .before .before
+
+abbrev from-After-member-index-to-At-returned : After-member-index → At-returned
+from-After-member-index-to-At-returned c = c .before .before .before .before .before .before .before .before .before .before .before
+
+abbrev from-After-member-index-to-In-returned : After-member-index → In-returned
+from-After-member-index-to-In-returned c = c .before .before .before .before .before .before .before .before .before .before
 
 abbrev from-After-member-to-At-returned : After-member → At-returned
 from-After-member-to-At-returned c = c .before .before .before .before .before .before .before .before
@@ -683,28 +732,28 @@ abbrev from-After-member-to-In-returned : After-member → In-returned
 from-After-member-to-In-returned c = c .before .before .before .before .before .before .before
 
 abbrev from-After-no-checkpoint-to-After-kept-rows : After-no-checkpoint → After-kept-rows
-from-After-no-checkpoint-to-After-kept-rows c = c .before .before .before .before .before
+from-After-no-checkpoint-to-After-kept-rows c = c .before .before .before .before .before .before
 
 abbrev from-After-no-checkpoint-to-After-pin-rows : After-no-checkpoint → After-pin-rows
-from-After-no-checkpoint-to-After-pin-rows c = c .before .before .before .before .before .before
+from-After-no-checkpoint-to-After-pin-rows c = c .before .before .before .before .before .before .before
 
 abbrev from-After-no-checkpoint-to-After-vector-rows : After-no-checkpoint → After-vector-rows
-from-After-no-checkpoint-to-After-vector-rows c = c .before .before .before .before .before .before .before
+from-After-no-checkpoint-to-After-vector-rows c = c .before .before .before .before .before .before .before .before
 
 abbrev from-After-no-checkpoint-to-Start : After-no-checkpoint → Start
-from-After-no-checkpoint-to-Start c = c .before .before .before .before .before .before .before .before .before .before .before .before
+from-After-no-checkpoint-to-Start c = c .before .before .before .before .before .before .before .before .before .before .before .before .before
 
 abbrev from-After-no-message-to-After-kept-rows : After-no-message → After-kept-rows
-from-After-no-message-to-After-kept-rows c = c .before .before .before .before .before .before
+from-After-no-message-to-After-kept-rows c = c .before .before .before .before .before .before .before
 
 abbrev from-After-no-message-to-After-pin-rows : After-no-message → After-pin-rows
-from-After-no-message-to-After-pin-rows c = c .before .before .before .before .before .before .before
+from-After-no-message-to-After-pin-rows c = c .before .before .before .before .before .before .before .before
 
 abbrev from-After-no-message-to-After-vector-rows : After-no-message → After-vector-rows
-from-After-no-message-to-After-vector-rows c = c .before .before .before .before .before .before .before .before
+from-After-no-message-to-After-vector-rows c = c .before .before .before .before .before .before .before .before .before
 
 abbrev from-After-no-message-to-Start : After-no-message → Start
-from-After-no-message-to-Start c = c .before .before .before .before .before .before .before .before .before .before .before .before .before
+from-After-no-message-to-Start c = c .before .before .before .before .before .before .before .before .before .before .before .before .before .before
 
 abbrev from-After-own-entries-to-At-records : After-own-entries → At-records
 from-After-own-entries-to-At-records c = c .before .before .before .before .before .before .before .before .before .before .before .before
@@ -746,34 +795,34 @@ abbrev from-After-pins-found-to-In-restored : After-pins-found → In-restored
 from-After-pins-found-to-In-restored c = c .before .before .before .before .before .before .before .before
 
 abbrev from-After-pins-then-to-After-decode : After-pins-then → After-decode
-from-After-pins-then-to-After-decode c = c .before .before .before .before .before .before .before .before .before .before .before .before .before .before .before .before .before .before .before
+from-After-pins-then-to-After-decode c = c .before .before .before .before .before .before .before .before .before .before .before .before .before .before .before .before .before .before
 
 abbrev from-After-pins-then-to-After-is-there : After-pins-then → After-is-there
-from-After-pins-then-to-After-is-there c = c .before .before .before .before .before .before .before .before .before .before .before .before
+from-After-pins-then-to-After-is-there c = c .before .before .before .before .before .before .before .before .before .before .before
 
-abbrev from-After-pins-then-to-After-live-from : After-pins-then → After-live-from
-from-After-pins-then-to-After-live-from c = c .before .before .before
+abbrev from-After-pins-then-to-After-live-index : After-pins-then → After-live-index
+from-After-pins-then-to-After-live-index c = c .before .before .before
 
 abbrev from-After-pins-then-to-After-place-in : After-pins-then → After-place-in
-from-After-pins-then-to-After-place-in c = c .before .before .before .before .before .before .before .before .before .before .before .before .before .before
+from-After-pins-then-to-After-place-in c = c .before .before .before .before .before .before .before .before .before .before .before .before .before
 
 abbrev from-After-pins-then-to-After-plan-of : After-pins-then → After-plan-of
-from-After-pins-then-to-After-plan-of c = c .before .before .before .before .before .before .before .before
+from-After-pins-then-to-After-plan-of c = c .before .before .before .before .before .before .before
 
 abbrev from-After-pins-then-to-After-row-of : After-pins-then → After-row-of
-from-After-pins-then-to-After-row-of c = c .before .before .before .before .before .before .before .before .before .before .before
+from-After-pins-then-to-After-row-of c = c .before .before .before .before .before .before .before .before .before .before
 
 abbrev from-After-pins-then-to-After-sought : After-pins-then → After-sought
-from-After-pins-then-to-After-sought c = c .before .before .before .before .before .before .before .before .before .before .before .before .before .before .before
+from-After-pins-then-to-After-sought c = c .before .before .before .before .before .before .before .before .before .before .before .before .before .before
 
 abbrev from-After-pins-then-to-At-records : After-pins-then → At-records
-from-After-pins-then-to-At-records c = c .before .before .before .before .before .before .before .before .before .before .before .before .before .before .before .before .before .before .before .before .before .before .before .before .before .before .before
+from-After-pins-then-to-At-records c = c .before .before .before .before .before .before .before .before .before .before .before .before .before .before .before .before .before .before .before .before .before .before .before .before .before .before
 
 abbrev from-After-pins-then-to-In-records : After-pins-then → In-records
-from-After-pins-then-to-In-records c = c .before .before .before .before .before .before .before .before .before .before .before .before .before .before .before .before .before .before .before .before .before .before .before .before .before .before
+from-After-pins-then-to-In-records c = c .before .before .before .before .before .before .before .before .before .before .before .before .before .before .before .before .before .before .before .before .before .before .before .before .before
 
 abbrev from-After-pins-then-to-Then5 : After-pins-then → Then5
-from-After-pins-then-to-Then5 c = c .before .before .before .before .before .before .before .before .before .before .before .before .before .before .before .before
+from-After-pins-then-to-Then5 c = c .before .before .before .before .before .before .before .before .before .before .before .before .before .before .before
 
 abbrev from-After-pins-then-to-Then6 : After-pins-then → Then6
 from-After-pins-then-to-Then6 c = c .before .before .before .before
@@ -784,27 +833,6 @@ from-After-place-in-to-At-records c = c .before .before .before .before .before 
 abbrev from-After-place-in-to-In-records : After-place-in → In-records
 from-After-place-in-to-In-records c = c .before .before .before .before .before .before .before .before .before .before .before .before
 
-abbrev from-After-place-to-After-collected : After-place → After-collected
-from-After-place-to-After-collected c = c .before .before .before
-
-abbrev from-After-place-to-After-live-from : After-place → After-live-from
-from-After-place-to-After-live-from c = c .before .before .before .before .before .before .before .before .before
-
-abbrev from-After-place-to-After-pins-then : After-place → After-pins-then
-from-After-place-to-After-pins-then c = c .before .before .before .before .before .before
-
-abbrev from-After-place-to-After-plan-of : After-place → After-plan-of
-from-After-place-to-After-plan-of c = c .before .before .before .before .before .before .before .before .before .before .before .before .before .before
-
-abbrev from-After-place-to-After-row-of : After-place → After-row-of
-from-After-place-to-After-row-of c = c .before .before .before .before .before .before .before .before .before .before .before .before .before .before .before .before .before
-
-abbrev from-After-place-to-At-collected : After-place → At-collected
-from-After-place-to-At-collected c = c .before .before .before .before
-
-abbrev from-After-place-to-At-records : After-place → At-records
-from-After-place-to-At-records c = c .before .before .before .before .before .before .before .before .before .before .before .before .before .before .before .before .before .before .before .before .before .before .before .before .before .before .before .before .before .before .before .before .before
-
 abbrev from-After-plan-of-to-After-row-of : After-plan-of → After-row-of
 from-After-plan-of-to-After-row-of c = c .before .before .before
 
@@ -812,37 +840,55 @@ abbrev from-After-print-arg2-to-After-collected : After-print-arg2 → After-col
 from-After-print-arg2-to-After-collected c = c .before .before .before .before .before .before
 
 abbrev from-After-print-arg2-to-After-decode : After-print-arg2 → After-decode
-from-After-print-arg2-to-After-decode c = c .before .before .before .before .before .before .before .before .before .before .before .before .before .before .before .before .before .before .before .before .before .before .before .before .before .before .before .before
+from-After-print-arg2-to-After-decode c = c .before .before .before .before .before .before .before .before .before .before .before .before .before .before .before .before .before .before .before .before .before .before .before .before .before .before .before
 
 abbrev from-After-print-arg2-to-At-records : After-print-arg2 → At-records
-from-After-print-arg2-to-At-records c = c .before .before .before .before .before .before .before .before .before .before .before .before .before .before .before .before .before .before .before .before .before .before .before .before .before .before .before .before .before .before .before .before .before .before .before .before
+from-After-print-arg2-to-At-records c = c .before .before .before .before .before .before .before .before .before .before .before .before .before .before .before .before .before .before .before .before .before .before .before .before .before .before .before .before .before .before .before .before .before .before .before
 
 abbrev from-After-print-arg2-to-Then3 : After-print-arg2 → Then3
-from-After-print-arg2-to-Then3 c = c .before .before .before .before .before .before .before .before .before .before .before .before .before .before .before .before .before .before .before .before .before .before .before .before .before .before .before .before .before .before .before
+from-After-print-arg2-to-Then3 c = c .before .before .before .before .before .before .before .before .before .before .before .before .before .before .before .before .before .before .before .before .before .before .before .before .before .before .before .before .before .before
 
 abbrev from-After-print-arg4-to-After-decode : After-print-arg4 → After-decode
-from-After-print-arg4-to-After-decode c = c .before .before .before .before .before .before .before .before .before .before .before .before .before .before .before .before .before
+from-After-print-arg4-to-After-decode c = c .before .before .before .before .before .before .before .before .before .before .before .before .before .before .before .before
 
 abbrev from-After-print-arg4-to-At-records : After-print-arg4 → At-records
-from-After-print-arg4-to-At-records c = c .before .before .before .before .before .before .before .before .before .before .before .before .before .before .before .before .before .before .before .before .before .before .before .before .before
+from-After-print-arg4-to-At-records c = c .before .before .before .before .before .before .before .before .before .before .before .before .before .before .before .before .before .before .before .before .before .before .before .before
 
 abbrev from-After-print-arg4-to-Then3 : After-print-arg4 → Then3
-from-After-print-arg4-to-Then3 c = c .before .before .before .before .before .before .before .before .before .before .before .before .before .before .before .before .before .before .before .before
+from-After-print-arg4-to-Then3 c = c .before .before .before .before .before .before .before .before .before .before .before .before .before .before .before .before .before .before .before
+
+abbrev from-After-print-arg6-to-After-billed2 : After-print-arg6 → After-billed2
+from-After-print-arg6-to-After-billed2 c = c .before .before .before .before
 
 abbrev from-After-print-arg6-to-After-decode : After-print-arg6 → After-decode
-from-After-print-arg6-to-After-decode c = c .before .before .before .before .before .before .before .before .before .before .before .before .before .before
-
-abbrev from-After-print-arg6-to-After-restored : After-print-arg6 → After-restored
-from-After-print-arg6-to-After-restored c = c .before .before .before .before
+from-After-print-arg6-to-After-decode c = c .before .before .before .before .before .before .before .before .before .before .before .before .before .before .before
 
 abbrev from-After-print-arg6-to-At-records : After-print-arg6 → At-records
-from-After-print-arg6-to-At-records c = c .before .before .before .before .before .before .before .before .before .before .before .before .before .before .before .before .before .before .before .before .before .before
+from-After-print-arg6-to-At-records c = c .before .before .before .before .before .before .before .before .before .before .before .before .before .before .before .before .before .before .before .before .before .before .before
 
 abbrev from-After-print-arg6-to-At-restored : After-print-arg6 → At-restored
-from-After-print-arg6-to-At-restored c = c .before .before .before .before .before
+from-After-print-arg6-to-At-restored c = c .before .before .before .before .before .before
 
 abbrev from-After-print-arg6-to-Then3 : After-print-arg6 → Then3
-from-After-print-arg6-to-Then3 c = c .before .before .before .before .before .before .before .before .before .before .before .before .before .before .before .before .before
+from-After-print-arg6-to-Then3 c = c .before .before .before .before .before .before .before .before .before .before .before .before .before .before .before .before .before .before
+
+abbrev from-After-put-there-to-After-collected : After-put-there → After-collected
+from-After-put-there-to-After-collected c = c .before .before .before
+
+abbrev from-After-put-there-to-After-plan-of : After-put-there → After-plan-of
+from-After-put-there-to-After-plan-of c = c .before .before .before .before .before .before .before .before .before .before .before .before .before
+
+abbrev from-After-put-there-to-After-row-of : After-put-there → After-row-of
+from-After-put-there-to-After-row-of c = c .before .before .before .before .before .before .before .before .before .before .before .before .before .before .before .before
+
+abbrev from-After-put-there-to-At-collected : After-put-there → At-collected
+from-After-put-there-to-At-collected c = c .before .before .before .before
+
+abbrev from-After-put-there-to-At-records : After-put-there → At-records
+from-After-put-there-to-At-records c = c .before .before .before .before .before .before .before .before .before .before .before .before .before .before .before .before .before .before .before .before .before .before .before .before .before .before .before .before .before .before .before .before
+
+abbrev from-After-put-there-to-Then6 : After-put-there → Then6
+from-After-put-there-to-Then6 c = c .before .before .before .before .before .before .before .before .before .before
 
 abbrev from-After-put-to-After-decode : After-put → After-decode
 from-After-put-to-After-decode c = c .before .before .before .before .before .before .before .before .before .before .before .before
@@ -868,29 +914,14 @@ from-After-put-to-In-records c = c .before .before .before .before .before .befo
 abbrev from-After-put-to-Then5 : After-put → Then5
 from-After-put-to-Then5 c = c .before .before .before .before .before .before .before .before .before
 
-abbrev from-After-restored-to-After-decode : After-restored → After-decode
-from-After-restored-to-After-decode c = c .before .before .before .before .before .before .before .before .before .before
-
-abbrev from-After-restored-to-After-recovery-of : After-restored → After-recovery-of
-from-After-restored-to-After-recovery-of c = c .before .before .before .before .before .before .before .before .before
-
-abbrev from-After-restored-to-After-returned : After-restored → After-returned
-from-After-restored-to-After-returned c = c .before .before .before
-
 abbrev from-After-restored-to-At-records : After-restored → At-records
 from-After-restored-to-At-records c = c .before .before .before .before .before .before .before .before .before .before .before .before .before .before .before .before .before .before
 
-abbrev from-After-restored-to-At-returned : After-restored → At-returned
-from-After-restored-to-At-returned c = c .before .before .before .before
-
-abbrev from-After-restored-to-Else5 : After-restored → Else5
-from-After-restored-to-Else5 c = c .before .before .before .before .before .before .before
-
 abbrev from-After-restored-to-Start : After-restored → Start
-from-After-restored-to-Start c = c .before .before .before .before .before .before .before .before .before .before .before .before .before .before .before .before .before .before .before .before .before .before .before .before .before .before .before .before .before .before .before .before
+from-After-restored-to-Start c = c .before .before .before .before .before .before .before .before .before .before .before .before .before .before .before .before .before .before .before .before .before .before .before .before .before .before .before .before .before .before .before .before .before
 
 abbrev from-After-returned-to-Start : After-returned → Start
-from-After-returned-to-Start c = c .before .before .before .before .before .before .before .before .before .before .before .before .before .before .before .before .before .before .before .before .before .before .before .before .before .before .before .before .before
+from-After-returned-to-Start c = c .before .before .before .before .before .before .before .before .before .before .before .before .before .before .before .before .before .before .before .before .before .before .before .before .before .before .before .before .before .before
 
 abbrev from-After-row-of-to-After-decode : After-row-of → After-decode
 from-After-row-of-to-After-decode c = c .before .before .before .before .before .before .before .before
@@ -911,103 +942,163 @@ abbrev from-After-row-of-to-Then5 : After-row-of → Then5
 from-After-row-of-to-Then5 c = c .before .before .before .before .before
 
 abbrev from-After-sifted-to-After-decode : After-sifted → After-decode
-from-After-sifted-to-After-decode c = c .before .before .before .before .before .before .before .before .before .before .before .before
+from-After-sifted-to-After-decode c = c .before .before .before .before .before .before .before .before .before .before .before .before .before
 
 abbrev from-After-sifted-to-After-recovery-of : After-sifted → After-recovery-of
-from-After-sifted-to-After-recovery-of c = c .before .before .before .before .before .before .before .before .before .before .before
+from-After-sifted-to-After-recovery-of c = c .before .before .before .before .before .before .before .before .before .before .before .before
 
 abbrev from-After-sifted-to-At-records : After-sifted → At-records
-from-After-sifted-to-At-records c = c .before .before .before .before .before .before .before .before .before .before .before .before .before .before .before .before .before .before .before .before
+from-After-sifted-to-At-records c = c .before .before .before .before .before .before .before .before .before .before .before .before .before .before .before .before .before .before .before .before .before
 
 abbrev from-After-sifted-to-At-restored : After-sifted → At-restored
-from-After-sifted-to-At-restored c = c .before .before .before
+from-After-sifted-to-At-restored c = c .before .before .before .before
 
 abbrev from-After-sifted-to-At-returned : After-sifted → At-returned
-from-After-sifted-to-At-returned c = c .before .before .before .before .before .before
+from-After-sifted-to-At-returned c = c .before .before .before .before .before .before .before
 
 abbrev from-After-sifted-to-Else5 : After-sifted → Else5
-from-After-sifted-to-Else5 c = c .before .before .before .before .before .before .before .before .before
+from-After-sifted-to-Else5 c = c .before .before .before .before .before .before .before .before .before .before
 
 abbrev from-After-sifted-to-Start : After-sifted → Start
-from-After-sifted-to-Start c = c .before .before .before .before .before .before .before .before .before .before .before .before .before .before .before .before .before .before .before .before .before .before .before .before .before .before .before .before .before .before .before .before .before .before
+from-After-sifted-to-Start c = c .before .before .before .before .before .before .before .before .before .before .before .before .before .before .before .before .before .before .before .before .before .before .before .before .before .before .before .before .before .before .before .before .before .before .before .before
 
-abbrev from-After-slice-known3-to-After-collected : After-slice-known3 → After-collected
-from-After-slice-known3-to-After-collected c = c .before .before .before .before .before .before .before .before .before
+abbrev from-After-slice-known3-to-After-is-named : After-slice-known3 → After-is-named
+from-After-slice-known3-to-After-is-named c = c .before .before .before .before .before
 
-abbrev from-After-slice-known3-to-After-count : After-slice-known3 → After-count
-from-After-slice-known3-to-After-count c = c .before .before .before .before .before
+abbrev from-After-slice-known3-to-After-no-checkpoint : After-slice-known3 → After-no-checkpoint
+from-After-slice-known3-to-After-no-checkpoint c = c .before .before .before .before .before .before .before .before .before .before .before .before .before .before .before .before .before .before .before .before .before .before .before .before .before .before .before .before .before .before .before .before .before .before .before .before .before .before
 
-abbrev from-After-slice-known3-to-After-decode : After-slice-known3 → After-decode
-from-After-slice-known3-to-After-decode c = c .before .before .before .before .before .before .before .before .before .before .before .before .before .before .before .before .before .before .before .before .before .before .before .before .before .before .before .before .before .before .before
-
-abbrev from-After-slice-known3-to-After-is-there : After-slice-known3 → After-is-there
-from-After-slice-known3-to-After-is-there c = c .before .before .before .before .before .before .before .before .before .before .before .before .before .before .before .before .before .before .before .before .before .before .before .before
-
-abbrev from-After-slice-known3-to-After-number-of : After-slice-known3 → After-number-of
-from-After-slice-known3-to-After-number-of c = c .before .before .before .before .before .before .before .before .before .before .before .before .before .before .before .before .before
-
-abbrev from-After-slice-known3-to-After-place-in : After-slice-known3 → After-place-in
-from-After-slice-known3-to-After-place-in c = c .before .before .before .before .before .before .before .before .before .before .before .before .before .before .before .before .before .before .before .before .before .before .before .before .before .before
-
-abbrev from-After-slice-known3-to-After-plan-of : After-slice-known3 → After-plan-of
-from-After-slice-known3-to-After-plan-of c = c .before .before .before .before .before .before .before .before .before .before .before .before .before .before .before .before .before .before .before .before
+abbrev from-After-slice-known3-to-After-pins-then : After-slice-known3 → After-pins-then
+from-After-slice-known3-to-After-pins-then c = c .before .before .before .before .before .before .before .before .before .before
 
 abbrev from-After-slice-known3-to-After-row-of : After-slice-known3 → After-row-of
-from-After-slice-known3-to-After-row-of c = c .before .before .before .before .before .before .before .before .before .before .before .before .before .before .before .before .before .before .before .before .before .before .before
+from-After-slice-known3-to-After-row-of c = c .before .before .before .before .before .before .before .before .before .before .before .before .before .before .before .before .before .before .before .before
 
-abbrev from-After-slice-known3-to-After-sought : After-slice-known3 → After-sought
-from-After-slice-known3-to-After-sought c = c .before .before .before .before .before .before .before .before .before .before .before .before .before .before .before .before .before .before .before .before .before .before .before .before .before .before .before
+abbrev from-After-slice-known3-to-At-collected : After-slice-known3 → At-collected
+from-After-slice-known3-to-At-collected c = c .before .before .before .before .before .before .before .before
 
 abbrev from-After-slice-known3-to-At-records : After-slice-known3 → At-records
-from-After-slice-known3-to-At-records c = c .before .before .before .before .before .before .before .before .before .before .before .before .before .before .before .before .before .before .before .before .before .before .before .before .before .before .before .before .before .before .before .before .before .before .before .before .before .before .before
+from-After-slice-known3-to-At-records c = c .before .before .before .before .before .before .before .before .before .before .before .before .before .before .before .before .before .before .before .before .before .before .before .before .before .before .before .before .before .before .before .before .before .before .before .before
 
-abbrev from-After-slice-known3-to-In-records : After-slice-known3 → In-records
-from-After-slice-known3-to-In-records c = c .before .before .before .before .before .before .before .before .before .before .before .before .before .before .before .before .before .before .before .before .before .before .before .before .before .before .before .before .before .before .before .before .before .before .before .before .before .before
+abbrev from-After-slice-known3-to-Else7 : After-slice-known3 → Else7
+from-After-slice-known3-to-Else7 c = c .before .before .before .before
 
-abbrev from-After-slice-known3-to-Start : After-slice-known3 → Start
-from-After-slice-known3-to-Start c = c .before .before .before .before .before .before .before .before .before .before .before .before .before .before .before .before .before .before .before .before .before .before .before .before .before .before .before .before .before .before .before .before .before .before .before .before .before .before .before .before .before .before .before .before .before .before .before .before .before .before .before .before .before
+abbrev from-After-slice-known3-to-In-collected : After-slice-known3 → In-collected
+from-After-slice-known3-to-In-collected c = c .before .before .before .before .before .before .before
 
-abbrev from-After-slice-known3-to-Then3 : After-slice-known3 → Then3
-from-After-slice-known3-to-Then3 c = c .before .before .before .before .before .before .before .before .before .before .before .before .before .before .before .before .before .before .before .before .before .before .before .before .before .before .before .before .before .before .before .before .before .before
+abbrev from-After-slice-known4-to-After-billed : After-slice-known4 → After-billed
+from-After-slice-known4-to-After-billed c = c .before .before .before .before .before
 
-abbrev from-After-slice-known3-to-Then4 : After-slice-known3 → Then4
-from-After-slice-known3-to-Then4 c = c .before .before .before .before .before .before .before .before .before .before .before .before .before .before .before .before .before .before .before .before .before .before .before .before .before .before .before .before .before .before .before .before .before
+abbrev from-After-slice-known4-to-After-collected : After-slice-known4 → After-collected
+from-After-slice-known4-to-After-collected c = c .before .before .before .before .before .before .before .before .before
 
-abbrev from-After-slice-known3-to-Then5 : After-slice-known3 → Then5
-from-After-slice-known3-to-Then5 c = c .before .before .before .before .before .before .before .before .before .before .before .before .before .before .before .before .before .before .before .before .before .before .before .before .before .before .before .before
+abbrev from-After-slice-known4-to-After-decode : After-slice-known4 → After-decode
+from-After-slice-known4-to-After-decode c = c .before .before .before .before .before .before .before .before .before .before .before .before .before .before .before .before .before .before .before .before .before .before .before .before .before .before .before .before .before .before
 
-abbrev from-After-slice-known3-to-Then6 : After-slice-known3 → Then6
-from-After-slice-known3-to-Then6 c = c .before .before .before .before .before .before .before .before .before .before .before .before .before .before .before .before
+abbrev from-After-slice-known4-to-After-is-there : After-slice-known4 → After-is-there
+from-After-slice-known4-to-After-is-there c = c .before .before .before .before .before .before .before .before .before .before .before .before .before .before .before .before .before .before .before .before .before .before .before
 
-abbrev from-After-slice-known5-to-After-decode : After-slice-known5 → After-decode
-from-After-slice-known5-to-After-decode c = c .before .before .before .before .before .before .before .before .before .before .before .before .before .before .before .before .before
+abbrev from-After-slice-known4-to-After-place-in : After-slice-known4 → After-place-in
+from-After-slice-known4-to-After-place-in c = c .before .before .before .before .before .before .before .before .before .before .before .before .before .before .before .before .before .before .before .before .before .before .before .before .before
 
-abbrev from-After-slice-known5-to-After-restored : After-slice-known5 → After-restored
-from-After-slice-known5-to-After-restored c = c .before .before .before .before .before .before .before
+abbrev from-After-slice-known4-to-After-plan-of : After-slice-known4 → After-plan-of
+from-After-slice-known4-to-After-plan-of c = c .before .before .before .before .before .before .before .before .before .before .before .before .before .before .before .before .before .before .before
 
-abbrev from-After-slice-known5-to-After-sifted : After-slice-known5 → After-sifted
-from-After-slice-known5-to-After-sifted c = c .before .before .before .before .before
+abbrev from-After-slice-known4-to-After-row-of : After-slice-known4 → After-row-of
+from-After-slice-known4-to-After-row-of c = c .before .before .before .before .before .before .before .before .before .before .before .before .before .before .before .before .before .before .before .before .before .before
 
-abbrev from-After-slice-known5-to-At-records : After-slice-known5 → At-records
-from-After-slice-known5-to-At-records c = c .before .before .before .before .before .before .before .before .before .before .before .before .before .before .before .before .before .before .before .before .before .before .before .before .before
+abbrev from-After-slice-known4-to-After-sought : After-slice-known4 → After-sought
+from-After-slice-known4-to-After-sought c = c .before .before .before .before .before .before .before .before .before .before .before .before .before .before .before .before .before .before .before .before .before .before .before .before .before .before
 
-abbrev from-After-slice-known5-to-At-restored : After-slice-known5 → At-restored
-from-After-slice-known5-to-At-restored c = c .before .before .before .before .before .before .before .before
+abbrev from-After-slice-known4-to-At-records : After-slice-known4 → At-records
+from-After-slice-known4-to-At-records c = c .before .before .before .before .before .before .before .before .before .before .before .before .before .before .before .before .before .before .before .before .before .before .before .before .before .before .before .before .before .before .before .before .before .before .before .before .before .before
 
-abbrev from-After-slice-known5-to-At-sifted : After-slice-known5 → At-sifted
-from-After-slice-known5-to-At-sifted c = c .before .before .before .before .before .before
+abbrev from-After-slice-known4-to-In-records : After-slice-known4 → In-records
+from-After-slice-known4-to-In-records c = c .before .before .before .before .before .before .before .before .before .before .before .before .before .before .before .before .before .before .before .before .before .before .before .before .before .before .before .before .before .before .before .before .before .before .before .before .before
 
-abbrev from-After-slice-known5-to-Start : After-slice-known5 → Start
-from-After-slice-known5-to-Start c = c .before .before .before .before .before .before .before .before .before .before .before .before .before .before .before .before .before .before .before .before .before .before .before .before .before .before .before .before .before .before .before .before .before .before .before .before .before .before .before
+abbrev from-After-slice-known4-to-Start : After-slice-known4 → Start
+from-After-slice-known4-to-Start c = c .before .before .before .before .before .before .before .before .before .before .before .before .before .before .before .before .before .before .before .before .before .before .before .before .before .before .before .before .before .before .before .before .before .before .before .before .before .before .before .before .before .before .before .before .before .before .before .before .before .before .before .before .before
 
-abbrev from-After-slice-known5-to-Then3 : After-slice-known5 → Then3
-from-After-slice-known5-to-Then3 c = c .before .before .before .before .before .before .before .before .before .before .before .before .before .before .before .before .before .before .before .before
+abbrev from-After-slice-known4-to-Then3 : After-slice-known4 → Then3
+from-After-slice-known4-to-Then3 c = c .before .before .before .before .before .before .before .before .before .before .before .before .before .before .before .before .before .before .before .before .before .before .before .before .before .before .before .before .before .before .before .before .before
 
-abbrev from-After-slice-known5-to-Then4 : After-slice-known5 → Then4
-from-After-slice-known5-to-Then4 c = c .before .before .before .before .before .before .before .before .before .before .before .before .before .before .before .before .before .before .before
+abbrev from-After-slice-known4-to-Then4 : After-slice-known4 → Then4
+from-After-slice-known4-to-Then4 c = c .before .before .before .before .before .before .before .before .before .before .before .before .before .before .before .before .before .before .before .before .before .before .before .before .before .before .before .before .before .before .before .before
+
+abbrev from-After-slice-known4-to-Then5 : After-slice-known4 → Then5
+from-After-slice-known4-to-Then5 c = c .before .before .before .before .before .before .before .before .before .before .before .before .before .before .before .before .before .before .before .before .before .before .before .before .before .before .before
+
+abbrev from-After-slice-known4-to-Then6 : After-slice-known4 → Then6
+from-After-slice-known4-to-Then6 c = c .before .before .before .before .before .before .before .before .before .before .before .before .before .before .before .before
+
+abbrev from-After-slice-known6-to-After-does-stay : After-slice-known6 → After-does-stay
+from-After-slice-known6-to-After-does-stay c = c .before .before .before .before .before
+
+abbrev from-After-slice-known6-to-After-no-checkpoint : After-slice-known6 → After-no-checkpoint
+from-After-slice-known6-to-After-no-checkpoint c = c .before .before .before .before .before .before .before .before .before .before .before .before .before .before .before .before .before .before .before .before .before .before .before .before .before .before .before .before .before .before .before .before .before .before .before .before .before
+
+abbrev from-After-slice-known6-to-At-left : After-slice-known6 → At-left
+from-After-slice-known6-to-At-left c = c .before .before .before .before .before .before .before .before
+
+abbrev from-After-slice-known6-to-At-restored : After-slice-known6 → At-restored
+from-After-slice-known6-to-At-restored c = c .before .before .before .before .before .before .before .before .before .before .before .before .before .before .before .before .before .before
+
+abbrev from-After-slice-known6-to-Else8 : After-slice-known6 → Else8
+from-After-slice-known6-to-Else8 c = c .before .before .before .before
+
+abbrev from-After-slice-known6-to-In-left : After-slice-known6 → In-left
+from-After-slice-known6-to-In-left c = c .before .before .before .before .before .before .before
+
+abbrev from-After-slice-known6-to-In-restored : After-slice-known6 → In-restored
+from-After-slice-known6-to-In-restored c = c .before .before .before .before .before .before .before .before .before .before .before .before .before .before .before .before .before
+
+abbrev from-After-slice-known7-to-After-billed2 : After-slice-known7 → After-billed2
+from-After-slice-known7-to-After-billed2 c = c .before .before .before .before .before .before .before
+
+abbrev from-After-slice-known7-to-After-decode : After-slice-known7 → After-decode
+from-After-slice-known7-to-After-decode c = c .before .before .before .before .before .before .before .before .before .before .before .before .before .before .before .before .before .before
+
+abbrev from-After-slice-known7-to-After-sifted : After-slice-known7 → After-sifted
+from-After-slice-known7-to-After-sifted c = c .before .before .before .before .before
+
+abbrev from-After-slice-known7-to-At-records : After-slice-known7 → At-records
+from-After-slice-known7-to-At-records c = c .before .before .before .before .before .before .before .before .before .before .before .before .before .before .before .before .before .before .before .before .before .before .before .before .before .before
+
+abbrev from-After-slice-known7-to-At-restored : After-slice-known7 → At-restored
+from-After-slice-known7-to-At-restored c = c .before .before .before .before .before .before .before .before .before
+
+abbrev from-After-slice-known7-to-At-sifted : After-slice-known7 → At-sifted
+from-After-slice-known7-to-At-sifted c = c .before .before .before .before .before .before
+
+abbrev from-After-slice-known7-to-Start : After-slice-known7 → Start
+from-After-slice-known7-to-Start c = c .before .before .before .before .before .before .before .before .before .before .before .before .before .before .before .before .before .before .before .before .before .before .before .before .before .before .before .before .before .before .before .before .before .before .before .before .before .before .before .before .before
+
+abbrev from-After-slice-known7-to-Then3 : After-slice-known7 → Then3
+from-After-slice-known7-to-Then3 c = c .before .before .before .before .before .before .before .before .before .before .before .before .before .before .before .before .before .before .before .before .before
+
+abbrev from-After-slice-known7-to-Then4 : After-slice-known7 → Then4
+from-After-slice-known7-to-Then4 c = c .before .before .before .before .before .before .before .before .before .before .before .before .before .before .before .before .before .before .before .before
 
 abbrev from-After-sought-to-At-records : After-sought → At-records
 from-After-sought-to-At-records c = c .before .before .before .before .before .before .before .before .before .before .before .before
+
+abbrev from-After-stored-to-After-live-index : After-stored → After-live-index
+from-After-stored-to-After-live-index c = c .before .before .before .before .before .before .before .before
+
+abbrev from-After-stored-to-After-pins-then : After-stored → After-pins-then
+from-After-stored-to-After-pins-then c = c .before .before .before .before .before
+
+abbrev from-After-stored-to-After-plan-of : After-stored → After-plan-of
+from-After-stored-to-After-plan-of c = c .before .before .before .before .before .before .before .before .before .before .before .before
+
+abbrev from-After-stored-to-After-row-of : After-stored → After-row-of
+from-After-stored-to-After-row-of c = c .before .before .before .before .before .before .before .before .before .before .before .before .before .before .before
+
+abbrev from-After-stored-to-At-collected : After-stored → At-collected
+from-After-stored-to-At-collected c = c .before .before .before
+
+abbrev from-After-stored-to-At-records : After-stored → At-records
+from-After-stored-to-At-records c = c .before .before .before .before .before .before .before .before .before .before .before .before .before .before .before .before .before .before .before .before .before .before .before .before .before .before .before .before .before .before .before
 
 abbrev from-After-to-search-to-At-records : After-to-search → At-records
 from-After-to-search-to-At-records c = c .before .before .before .before .before .before .before .before .before .before .before .before .before .before .before .before .before .before
@@ -1028,22 +1119,28 @@ abbrev from-After-to-search2-to-In-restored : After-to-search2 → In-restored
 from-After-to-search2-to-In-restored c = c .before .before .before .before
 
 abbrev from-After-vector-then-to-After-row-of : After-vector-then → After-row-of
-from-After-vector-then-to-After-row-of c = c .before .before .before .before .before .before .before .before .before .before .before .before
+from-After-vector-then-to-After-row-of c = c .before .before .before .before .before .before .before .before .before .before .before
 
 abbrev from-After-vector-then-to-At-records : After-vector-then → At-records
-from-After-vector-then-to-At-records c = c .before .before .before .before .before .before .before .before .before .before .before .before .before .before .before .before .before .before .before .before .before .before .before .before .before .before .before .before
+from-After-vector-then-to-At-records c = c .before .before .before .before .before .before .before .before .before .before .before .before .before .before .before .before .before .before .before .before .before .before .before .before .before .before .before
 
 abbrev from-After-went-back-to-In-returned : After-went-back → In-returned
 from-After-went-back-to-In-returned c = c .before .before .before .before .before .before .before .before .before
 
+abbrev from-After-write-pair-arg-to-In-collected : After-write-pair-arg → In-collected
+from-After-write-pair-arg-to-In-collected c = c .before .before .before .before
+
+abbrev from-After-write-pair-arg2-to-In-left : After-write-pair-arg2 → In-left
+from-After-write-pair-arg2-to-In-left c = c .before .before .before .before
+
 abbrev from-At-records-to-Start : At-records → Start
-from-At-records-to-Start c = c .before .before .before .before .before .before .before .before .before .before .before .before .before .before
+from-At-records-to-Start c = c .before .before .before .before .before .before .before .before .before .before .before .before .before .before .before
 
 abbrev from-Else10-to-After-no-message : Else10 → After-no-message
-from-Else10-to-After-no-message c = c .before .before .before .before .before .before .before .before .before .before .before .before .before .before .before .before .before .before .before .before .before .before .before .before .before .before
+from-Else10-to-After-no-message c = c .before .before .before .before .before .before .before .before .before .before .before .before .before .before .before .before .before .before .before .before .before .before .before .before .before .before .before
 
 abbrev from-Else10-to-At-records : Else10 → At-records
-from-Else10-to-At-records c = c .before .before .before .before .before .before .before .before .before .before .before .before .before .before .before .before .before .before .before .before .before .before .before .before .before
+from-Else10-to-At-records c = c .before .before .before .before .before .before .before .before .before .before .before .before .before .before .before .before .before .before .before .before .before .before .before .before .before .before
 
 abbrev from-Else10-to-At-sifted : Else10 → At-sifted
 from-Else10-to-At-sifted c = c .before .before .before .before .before .before
@@ -1055,70 +1152,37 @@ abbrev from-Else5-to-After-decode : Else5 → After-decode
 from-Else5-to-After-decode c = c .before .before .before
 
 abbrev from-Else5-to-Start : Else5 → Start
-from-Else5-to-Start c = c .before .before .before .before .before .before .before .before .before .before .before .before .before .before .before .before .before .before .before .before .before .before .before .before .before
+from-Else5-to-Start c = c .before .before .before .before .before .before .before .before .before .before .before .before .before .before .before .before .before .before .before .before .before .before .before .before .before .before
 
 abbrev from-Else6-to-After-decode : Else6 → After-decode
-from-Else6-to-After-decode c = c .before .before .before .before .before .before .before .before .before .before .before .before .before .before .before
+from-Else6-to-After-decode c = c .before .before .before .before .before .before .before .before .before .before .before .before .before .before
 
 abbrev from-Else6-to-After-is-there : Else6 → After-is-there
-from-Else6-to-After-is-there c = c .before .before .before .before .before .before .before .before
+from-Else6-to-After-is-there c = c .before .before .before .before .before .before .before
 
 abbrev from-Else6-to-After-place-in : Else6 → After-place-in
-from-Else6-to-After-place-in c = c .before .before .before .before .before .before .before .before .before .before
+from-Else6-to-After-place-in c = c .before .before .before .before .before .before .before .before .before
 
 abbrev from-Else6-to-After-plan-of : Else6 → After-plan-of
-from-Else6-to-After-plan-of c = c .before .before .before .before
+from-Else6-to-After-plan-of c = c .before .before .before
 
 abbrev from-Else6-to-After-row-of : Else6 → After-row-of
-from-Else6-to-After-row-of c = c .before .before .before .before .before .before .before
+from-Else6-to-After-row-of c = c .before .before .before .before .before .before
 
 abbrev from-Else6-to-After-sought : Else6 → After-sought
-from-Else6-to-After-sought c = c .before .before .before .before .before .before .before .before .before .before .before
+from-Else6-to-After-sought c = c .before .before .before .before .before .before .before .before .before .before
 
 abbrev from-Else6-to-At-records : Else6 → At-records
-from-Else6-to-At-records c = c .before .before .before .before .before .before .before .before .before .before .before .before .before .before .before .before .before .before .before .before .before .before .before
+from-Else6-to-At-records c = c .before .before .before .before .before .before .before .before .before .before .before .before .before .before .before .before .before .before .before .before .before .before
 
 abbrev from-Else6-to-In-records : Else6 → In-records
-from-Else6-to-In-records c = c .before .before .before .before .before .before .before .before .before .before .before .before .before .before .before .before .before .before .before .before .before .before
+from-Else6-to-In-records c = c .before .before .before .before .before .before .before .before .before .before .before .before .before .before .before .before .before .before .before .before .before
 
 abbrev from-Else6-to-Then5 : Else6 → Then5
-from-Else6-to-Then5 c = c .before .before .before .before .before .before .before .before .before .before .before .before
-
-abbrev from-Else7-to-After-no-checkpoint : Else7 → After-no-checkpoint
-from-Else7-to-After-no-checkpoint c = c .before .before .before .before .before .before .before .before .before .before .before .before .before .before .before .before .before .before .before .before .before .before .before .before .before .before .before .before .before .before .before .before .before .before .before
-
-abbrev from-Else7-to-After-pins-then : Else7 → After-pins-then
-from-Else7-to-After-pins-then c = c .before .before .before .before .before .before
-
-abbrev from-Else7-to-After-row-of : Else7 → After-row-of
-from-Else7-to-After-row-of c = c .before .before .before .before .before .before .before .before .before .before .before .before .before .before .before .before .before
-
-abbrev from-Else7-to-At-collected : Else7 → At-collected
-from-Else7-to-At-collected c = c .before .before .before .before
-
-abbrev from-Else7-to-At-records : Else7 → At-records
-from-Else7-to-At-records c = c .before .before .before .before .before .before .before .before .before .before .before .before .before .before .before .before .before .before .before .before .before .before .before .before .before .before .before .before .before .before .before .before .before
-
-abbrev from-Else7-to-In-collected : Else7 → In-collected
-from-Else7-to-In-collected c = c .before .before .before
-
-abbrev from-Else8-to-After-no-checkpoint : Else8 → After-no-checkpoint
-from-Else8-to-After-no-checkpoint c = c .before .before .before .before .before .before .before .before .before .before .before .before .before .before .before .before .before .before .before .before .before .before .before .before .before .before .before .before .before .before .before .before .before
-
-abbrev from-Else8-to-At-left : Else8 → At-left
-from-Else8-to-At-left c = c .before .before .before .before
-
-abbrev from-Else8-to-At-restored : Else8 → At-restored
-from-Else8-to-At-restored c = c .before .before .before .before .before .before .before .before .before .before .before .before .before .before
-
-abbrev from-Else8-to-In-left : Else8 → In-left
-from-Else8-to-In-left c = c .before .before .before
-
-abbrev from-Else8-to-In-restored : Else8 → In-restored
-from-Else8-to-In-restored c = c .before .before .before .before .before .before .before .before .before .before .before .before .before
+from-Else6-to-Then5 c = c .before .before .before .before .before .before .before .before .before .before .before
 
 abbrev from-Else9-to-At-records : Else9 → At-records
-from-Else9-to-At-records c = c .before .before .before .before .before .before .before .before .before .before .before .before .before .before .before .before .before .before .before .before .before .before .before
+from-Else9-to-At-records c = c .before .before .before .before .before .before .before .before .before .before .before .before .before .before .before .before .before .before .before .before .before .before .before .before
 
 abbrev from-Else9-to-At-sifted : Else9 → At-sifted
 from-Else9-to-At-sifted c = c .before .before .before .before
@@ -1133,10 +1197,10 @@ abbrev from-In-allowed-to-In-returned : In-allowed → In-returned
 from-In-allowed-to-In-returned c = c .before .before .before .before .before .before
 
 abbrev from-In-collected-to-After-row-of : In-collected → After-row-of
-from-In-collected-to-After-row-of c = c .before .before .before .before .before .before .before .before .before .before .before .before .before .before
+from-In-collected-to-After-row-of c = c .before .before .before .before .before .before .before .before .before .before .before .before .before
 
 abbrev from-In-collected-to-At-records : In-collected → At-records
-from-In-collected-to-At-records c = c .before .before .before .before .before .before .before .before .before .before .before .before .before .before .before .before .before .before .before .before .before .before .before .before .before .before .before .before .before .before
+from-In-collected-to-At-records c = c .before .before .before .before .before .before .before .before .before .before .before .before .before .before .before .before .before .before .before .before .before .before .before .before .before .before .before .before .before
 
 abbrev from-In-collected-to-Then6 : In-collected → Then6
 from-In-collected-to-Then6 c = c .before .before .before .before .before .before .before
@@ -1163,10 +1227,10 @@ abbrev from-In-returned-to-At-records : In-returned → At-records
 from-In-returned-to-At-records c = c .before .before .before .before .before .before .before .before .before .before .before .before .before .before .before
 
 abbrev from-In-sifted-to-At-records : In-sifted → At-records
-from-In-sifted-to-At-records c = c .before .before .before .before .before .before .before .before .before .before .before .before .before .before .before .before .before .before .before .before
+from-In-sifted-to-At-records c = c .before .before .before .before .before .before .before .before .before .before .before .before .before .before .before .before .before .before .before .before .before
 
 abbrev from-Left-records-to-Start : Left-records → Start
-from-Left-records-to-Start c = c .before .before .before .before .before .before .before .before .before .before .before .before .before .before .before
+from-Left-records-to-Start c = c .before .before .before .before .before .before .before .before .before .before .before .before .before .before .before .before
 
 abbrev from-Then2-to-At-records : Then2 → At-records
 from-Then2-to-At-records c = c .before .before .before .before
@@ -1175,7 +1239,7 @@ abbrev from-Then3-to-At-records : Then3 → At-records
 from-Then3-to-At-records c = c .before .before .before .before .before
 
 abbrev from-Then3-to-Start : Then3 → Start
-from-Then3-to-Start c = c .before .before .before .before .before .before .before .before .before .before .before .before .before .before .before .before .before .before .before
+from-Then3-to-Start c = c .before .before .before .before .before .before .before .before .before .before .before .before .before .before .before .before .before .before .before .before
 
 abbrev from-Then3-to-Then1 : Then3 → Then1
 from-Then3-to-Then1 c = c .before .before .before
@@ -1184,49 +1248,49 @@ abbrev from-Then5-to-After-decode : Then5 → After-decode
 from-Then5-to-After-decode c = c .before .before .before
 
 abbrev from-Then5-to-Start : Then5 → Start
-from-Then5-to-Start c = c .before .before .before .before .before .before .before .before .before .before .before .before .before .before .before .before .before .before .before .before .before .before .before .before .before
+from-Then5-to-Start c = c .before .before .before .before .before .before .before .before .before .before .before .before .before .before .before .before .before .before .before .before .before .before .before .before .before .before
 
 abbrev from-Then6-to-After-decode : Then6 → After-decode
-from-Then6-to-After-decode c = c .before .before .before .before .before .before .before .before .before .before .before .before .before .before .before
+from-Then6-to-After-decode c = c .before .before .before .before .before .before .before .before .before .before .before .before .before .before
 
 abbrev from-Then6-to-After-is-there : Then6 → After-is-there
-from-Then6-to-After-is-there c = c .before .before .before .before .before .before .before .before
+from-Then6-to-After-is-there c = c .before .before .before .before .before .before .before
 
 abbrev from-Then6-to-After-place-in : Then6 → After-place-in
-from-Then6-to-After-place-in c = c .before .before .before .before .before .before .before .before .before .before
+from-Then6-to-After-place-in c = c .before .before .before .before .before .before .before .before .before
 
 abbrev from-Then6-to-After-plan-of : Then6 → After-plan-of
-from-Then6-to-After-plan-of c = c .before .before .before .before
+from-Then6-to-After-plan-of c = c .before .before .before
 
 abbrev from-Then6-to-After-row-of : Then6 → After-row-of
-from-Then6-to-After-row-of c = c .before .before .before .before .before .before .before
+from-Then6-to-After-row-of c = c .before .before .before .before .before .before
 
 abbrev from-Then6-to-After-sought : Then6 → After-sought
-from-Then6-to-After-sought c = c .before .before .before .before .before .before .before .before .before .before .before
+from-Then6-to-After-sought c = c .before .before .before .before .before .before .before .before .before .before
 
 abbrev from-Then6-to-At-records : Then6 → At-records
-from-Then6-to-At-records c = c .before .before .before .before .before .before .before .before .before .before .before .before .before .before .before .before .before .before .before .before .before .before .before
+from-Then6-to-At-records c = c .before .before .before .before .before .before .before .before .before .before .before .before .before .before .before .before .before .before .before .before .before .before
 
 abbrev from-Then6-to-In-records : Then6 → In-records
-from-Then6-to-In-records c = c .before .before .before .before .before .before .before .before .before .before .before .before .before .before .before .before .before .before .before .before .before .before
+from-Then6-to-In-records c = c .before .before .before .before .before .before .before .before .before .before .before .before .before .before .before .before .before .before .before .before .before
 
 abbrev from-Then6-to-Then5 : Then6 → Then5
-from-Then6-to-Then5 c = c .before .before .before .before .before .before .before .before .before .before .before .before
+from-Then6-to-Then5 c = c .before .before .before .before .before .before .before .before .before .before .before
 
 abbrev from-Then7-to-After-no-checkpoint : Then7 → After-no-checkpoint
-from-Then7-to-After-no-checkpoint c = c .before .before .before .before .before .before .before .before .before .before .before .before .before .before .before .before .before .before .before .before .before .before .before .before .before .before .before .before .before .before .before .before .before .before .before
+from-Then7-to-After-no-checkpoint c = c .before .before .before .before .before .before .before .before .before .before .before .before .before .before .before .before .before .before .before .before .before .before .before .before .before .before .before .before .before .before .before .before .before .before
 
 abbrev from-Then7-to-After-pins-then : Then7 → After-pins-then
 from-Then7-to-After-pins-then c = c .before .before .before .before .before .before
 
 abbrev from-Then7-to-After-row-of : Then7 → After-row-of
-from-Then7-to-After-row-of c = c .before .before .before .before .before .before .before .before .before .before .before .before .before .before .before .before .before
+from-Then7-to-After-row-of c = c .before .before .before .before .before .before .before .before .before .before .before .before .before .before .before .before
 
 abbrev from-Then7-to-At-collected : Then7 → At-collected
 from-Then7-to-At-collected c = c .before .before .before .before
 
 abbrev from-Then7-to-At-records : Then7 → At-records
-from-Then7-to-At-records c = c .before .before .before .before .before .before .before .before .before .before .before .before .before .before .before .before .before .before .before .before .before .before .before .before .before .before .before .before .before .before .before .before .before
+from-Then7-to-At-records c = c .before .before .before .before .before .before .before .before .before .before .before .before .before .before .before .before .before .before .before .before .before .before .before .before .before .before .before .before .before .before .before .before
 
 abbrev from-Then7-to-In-collected : Then7 → In-collected
 from-Then7-to-In-collected c = c .before .before .before
@@ -1247,7 +1311,7 @@ abbrev from-Then8-to-In-restored : Then8 → In-restored
 from-Then8-to-In-restored c = c .before .before .before .before .before .before .before .before .before .before .before .before .before
 
 abbrev from-Then9-to-At-records : Then9 → At-records
-from-Then9-to-At-records c = c .before .before .before .before .before .before .before .before .before .before .before .before .before .before .before .before .before .before .before .before .before .before .before
+from-Then9-to-At-records c = c .before .before .before .before .before .before .before .before .before .before .before .before .before .before .before .before .before .before .before .before .before .before .before .before
 
 abbrev from-Then9-to-At-sifted : Then9 → At-sifted
 from-Then9-to-At-sifted c = c .before .before .before .before
@@ -1259,16 +1323,16 @@ from-Then9-to-In-sifted c = c .before .before .before
 abbrev whole : (c : At-records) → Run
 whole c =
     let l = c .records in
-    stateInPlace (from-At-records-to-Start c .args .s .count) (l .vectors) (l .pins) (l .kept) (l .sent) (l .held) (messagesIn (l .window) (l .first) (l .tail)) (l .last)
+    stateInPlace (from-At-records-to-Start c .args .s .count) (l .vectors) (l .pins) (l .kept) (l .sent) (l .held) (messagesIn (l .window) (l .first) (l .tail)) (l .last) (l .disk)
 
-reach : (c : At-records) → Reachable (whole c)
+reach : (c : At-records) → Traced (whole c)
 reach c = c .records .inv .reached
 
 fine : (c : At-records) → sound (whole c) ≡ true
-fine c = reachable-sound (whole c) (reach c)
+fine c = traced-sound (whole c) (reach c)
 
 sized : (c : At-records) → Sized (whole c)
-sized c = reachable-sized (whole c) (reach c)
+sized c = traced-sized (whole c) (reach c)
 
 most : (c : At-records) → from-At-records-to-Start c .args .s .count ≤ 16
 most c = sound-state (whole c) (fine c) .count-most
@@ -1366,10 +1430,10 @@ array-set-from-window c = omega (arith, turn.place-there (whole (from-After-put-
 
 -- The pins of its process move.
 mul-pins-before : tie.Need-mul-pins-before Inv-collected μ-collected Inv-allowed μ-allowed Inv-returned μ-returned Inv-found μ-found Inv-left μ-left Inv-restored μ-restored Inv-sifted μ-sifted Inv-records μ-records
-mul-pins-before c = omega (arith, in-rows (from-After-live-from-to-After-row-of c))
+mul-pins-before c = omega (arith, in-rows (from-After-live-index-to-After-row-of c))
 
 array-copy-out-pins-before : tie.Need-array-copy-out-pins-before Inv-collected μ-collected Inv-allowed μ-allowed Inv-returned μ-returned Inv-found μ-found Inv-left μ-left Inv-restored μ-restored Inv-sifted μ-sifted Inv-records μ-records
-array-copy-out-pins-before c = omega (arith, in-rows (from-After-live-from-to-After-row-of c))
+array-copy-out-pins-before c = omega (arith, in-rows (from-After-live-index-to-After-row-of c))
 
 mul-vectors : tie.Need-mul-vectors Inv-collected μ-collected Inv-allowed μ-allowed Inv-returned μ-returned Inv-found μ-found Inv-left μ-left Inv-restored μ-restored Inv-sifted μ-sifted Inv-records μ-records
 mul-vectors c = omega (arith, in-rows (from-After-vector-then-to-After-row-of c))
@@ -1389,8 +1453,8 @@ mul-many c = omega (arith, in-rows (from-After-vector-then-to-After-row-of c))
 array-read-many : tie.Need-array-read-many Inv-collected μ-collected Inv-allowed μ-allowed Inv-returned μ-returned Inv-found μ-found Inv-left μ-left Inv-restored μ-restored Inv-sifted μ-sifted Inv-records μ-records
 array-read-many c = omega (arith, in-rows (from-After-vector-then-to-After-row-of c))
 
-live-from-requires : tie.Need-live-from-requires Inv-collected μ-collected Inv-allowed μ-allowed Inv-returned μ-returned Inv-found μ-found Inv-left μ-left Inv-restored μ-restored Inv-sifted μ-sifted Inv-records μ-records
-live-from-requires c κs = (in-rows (from-Then6-to-After-row-of c), turn.moved-own (whole (from-Then6-to-At-records c)) (reach (from-Then6-to-At-records c)) (event (from-Then6-to-After-decode c)) (not-asked (from-Then6-to-Then5 c)) (from-Then6-to-At-records c .records .inv .windowed) (from-Then6-to-In-records c .records-test .taken) (holds (from-Then6-to-At-records c)) refl (from-Then6-to-After-sought c .sought .ensures) (from-Then6-to-After-place-in c .place-in .ensures) (message-is (from-Then6-to-After-place-in c) _) (from-Then6-to-After-is-there c .is-there .ensures) (from-Then6-to-After-row-of c .row-of .ensures) (from-Then6-to-After-plan-of c .plan-of .ensures) (c .if6 .taken))
+live-index-requires : tie.Need-live-index-requires Inv-collected μ-collected Inv-allowed μ-allowed Inv-returned μ-returned Inv-found μ-found Inv-left μ-left Inv-restored μ-restored Inv-sifted μ-sifted Inv-records μ-records
+live-index-requires c κs = turn.moved-own (whole (from-Then6-to-At-records c)) (reach (from-Then6-to-At-records c)) (event (from-Then6-to-After-decode c)) (not-asked (from-Then6-to-Then5 c)) (from-Then6-to-At-records c .records .inv .windowed) (from-Then6-to-In-records c .records-test .taken) (holds (from-Then6-to-At-records c)) refl (from-Then6-to-After-sought c .sought .ensures) (from-Then6-to-After-place-in c .place-in .ensures) (message-is (from-Then6-to-After-place-in c) _) (from-Then6-to-After-is-there c .is-there .ensures) (from-Then6-to-After-row-of c .row-of .ensures) (from-Then6-to-After-plan-of c .plan-of .ensures) (c .if6 .taken)
 
 pins-then-requires : tie.Need-pins-then-requires Inv-collected μ-collected Inv-allowed μ-allowed Inv-returned μ-returned Inv-found μ-found Inv-left μ-left Inv-restored μ-restored Inv-sifted μ-sifted Inv-records μ-records
 pins-then-requires c κs = (in-rows (from-After-carried-to-After-row-of c), turn.moved-room (whole (from-After-carried-to-At-records c)) (reach (from-After-carried-to-At-records c)) (event (from-After-carried-to-After-decode c)) (not-asked (from-After-carried-to-Then5 c)) (from-After-carried-to-At-records c .records .inv .windowed) (from-After-carried-to-In-records c .records-test .taken) (holds (from-After-carried-to-At-records c)) refl (from-After-carried-to-After-sought c .sought .ensures) (from-After-carried-to-After-place-in c .place-in .ensures) (message-is (from-After-carried-to-After-place-in c) _) (from-After-carried-to-After-is-there c .is-there .ensures) (from-After-carried-to-After-row-of c .row-of .ensures) (from-After-carried-to-After-plan-of c .plan-of .ensures) (from-After-carried-to-Then6 c .if6 .taken))
@@ -1466,47 +1530,17 @@ index-2-c-2 c = let b = inside (from-Then7-to-In-collected c) in omega arith
 add-to : tie.Need-add-to Inv-collected μ-collected Inv-allowed μ-allowed Inv-returned μ-returned Inv-found μ-found Inv-left μ-left Inv-restored μ-restored Inv-sifted μ-sifted Inv-records μ-records
 add-to c = let b = inside (from-Then7-to-In-collected c) in omega arith
 
-cast-deleted : tie.Need-cast-deleted Inv-collected μ-collected Inv-allowed μ-allowed Inv-returned μ-returned Inv-found μ-found Inv-left μ-left Inv-restored μ-restored Inv-sifted μ-sifted Inv-records μ-records
-cast-deleted c =
-    let b = inside (from-Else7-to-In-collected c) in omega arith
-
-mul-deleted : tie.Need-mul-deleted Inv-collected μ-collected Inv-allowed μ-allowed Inv-returned μ-returned Inv-found μ-found Inv-left μ-left Inv-restored μ-restored Inv-sifted μ-sifted Inv-records μ-records
-mul-deleted c =
-    let b = inside (from-Else7-to-In-collected c) in omega arith
-
-mul-deleted-2 : tie.Need-mul-deleted-2 Inv-collected μ-collected Inv-allowed μ-allowed Inv-returned μ-returned Inv-found μ-found Inv-left μ-left Inv-restored μ-restored Inv-sifted μ-sifted Inv-records μ-records
-mul-deleted-2 c =
-    let b = inside (from-Else7-to-In-collected c) in omega arith
-
-mul-deleted-3 : tie.Need-mul-deleted-3 Inv-collected μ-collected Inv-allowed μ-allowed Inv-returned μ-returned Inv-found μ-found Inv-left μ-left Inv-restored μ-restored Inv-sifted μ-sifted Inv-records μ-records
-mul-deleted-3 c =
-    let b = inside (from-Else7-to-In-collected c) in omega arith
-
-mul-deleted-4 : tie.Need-mul-deleted-4 Inv-collected μ-collected Inv-allowed μ-allowed Inv-returned μ-returned Inv-found μ-found Inv-left μ-left Inv-restored μ-restored Inv-sifted μ-sifted Inv-records μ-records
-mul-deleted-4 c =
-    let b = inside (from-Else7-to-In-collected c) in omega arith
-
-slice-write-deleted : tie.Need-slice-write-deleted Inv-collected μ-collected Inv-allowed μ-allowed Inv-returned μ-returned Inv-found μ-found Inv-left μ-left Inv-restored μ-restored Inv-sifted μ-sifted Inv-records μ-records
-slice-write-deleted c =
-    let b = inside (from-Else7-to-In-collected c) in omega arith
-
-add-deleted : tie.Need-add-deleted Inv-collected μ-collected Inv-allowed μ-allowed Inv-returned μ-returned Inv-found μ-found Inv-left μ-left Inv-restored μ-restored Inv-sifted μ-sifted Inv-records μ-records
-add-deleted c =
-    let b = inside (from-Else7-to-In-collected c) in omega arith
+write-pair-requires : tie.Need-write-pair-requires Inv-collected μ-collected Inv-allowed μ-allowed Inv-returned μ-returned Inv-found μ-found Inv-left μ-left Inv-restored μ-restored Inv-sifted μ-sifted Inv-records μ-records
+write-pair-requires c κs = let b = inside (from-After-write-pair-arg-to-In-collected c) in (b .row, b .few, b .room)
 
 add-gone : tie.Need-add-gone Inv-collected μ-collected Inv-allowed μ-allowed Inv-returned μ-returned Inv-found μ-found Inv-left μ-left Inv-restored μ-restored Inv-sifted μ-sifted Inv-records μ-records
-add-gone c =
-    let b = inside (from-Else7-to-In-collected c) in omega arith
-
-slice-write-deleted-2 : tie.Need-slice-write-deleted-2 Inv-collected μ-collected Inv-allowed μ-allowed Inv-returned μ-returned Inv-found μ-found Inv-left μ-left Inv-restored μ-restored Inv-sifted μ-sifted Inv-records μ-records
-slice-write-deleted-2 c =
-    let b = inside (from-Else7-to-In-collected c) in omega (arith, length-set (from-Else7-to-At-collected c .collected .deleted) (2 * from-Else7-to-At-collected c .collected .gone) (from-Else7-to-After-row-of c .row-of .result))
+add-gone c = let b = inside (from-After-slice-known3-to-In-collected c) in omega arith
 
 collected-less : tie.Need-collected-less Inv-collected μ-collected Inv-allowed μ-allowed Inv-returned μ-returned Inv-found μ-found Inv-left μ-left Inv-restored μ-restored Inv-sifted μ-sifted Inv-records μ-records
 collected-less c = omega (arith, from-Then7-to-In-collected c .collected-test .taken)
 
 collected-less-2 : tie.Need-collected-less-2 Inv-collected μ-collected Inv-allowed μ-allowed Inv-returned μ-returned Inv-found μ-found Inv-left μ-left Inv-restored μ-restored Inv-sifted μ-sifted Inv-records μ-records
-collected-less-2 c = omega (arith, from-Else7-to-In-collected c .collected-test .taken)
+collected-less-2 c = omega (arith, from-After-slice-known3-to-In-collected c .collected-test .taken)
 
 in-row : (c : In-collected) → c .before .collected .j < length (getD (from-In-collected-to-At-records c .records .kept) (from-In-collected-to-After-row-of c .row-of .result) [])
 in-row c = omega (arith, inside c .place, row-long (from-In-collected-to-After-row-of c))
@@ -1530,12 +1564,12 @@ collected-again c =
 collected-again-2 : tie.Need-collected-again-2 Inv-collected μ-collected Inv-allowed μ-allowed Inv-returned μ-returned Inv-found μ-found Inv-left μ-left Inv-restored μ-restored Inv-sifted μ-sifted Inv-records μ-records
 unfolding named
 collected-again-2 c =
-    let l = from-Else7-to-At-collected c .collected in
-    let i = from-Else7-to-After-row-of c .row-of .result in (
-      collected.goes (named (from-Else7-to-After-pins-then c .pins-then .result)) (from-Else7-to-At-records c .records .kept) i (there (from-Else7-to-After-row-of c)) (from-Else7-to-At-records c .records .deleted) 0 (l .inv .0) (in-row (from-Else7-to-In-collected c))
-          (any-default (getD (l .kept) i []) (l .j) _ noCheckpoint (in-row-now (from-Else7-to-In-collected c))) (ap (λ (x : Checkpoint). set (l .kept) i (set (getD (l .kept) i []) (l .j) x)) (from-Else7-to-After-no-checkpoint c .no-checkpoint .ensures))
-          (sym (c .before .is-named .ensures) ∙ c .if7 .left),
-      omega (arith, from-Else7-to-In-collected c .collected-test .taken),
+    let l = from-After-slice-known3-to-At-collected c .collected in
+    let i = from-After-slice-known3-to-After-row-of c .row-of .result in (
+      collected.goes (named (from-After-slice-known3-to-After-pins-then c .pins-then .result)) (from-After-slice-known3-to-At-records c .records .kept) i (there (from-After-slice-known3-to-After-row-of c)) (from-After-slice-known3-to-At-records c .records .deleted) 0 (l .inv .0) (in-row (from-After-slice-known3-to-In-collected c))
+          (any-default (getD (l .kept) i []) (l .j) _ noCheckpoint (in-row-now (from-After-slice-known3-to-In-collected c))) (ap (λ (x : Checkpoint). set (l .kept) i (set (getD (l .kept) i []) (l .j) x)) (from-After-slice-known3-to-After-no-checkpoint c .no-checkpoint .ensures))
+          (sym (from-After-slice-known3-to-After-is-named c .is-named .ensures) ∙ from-After-slice-known3-to-Else7 c .if7 .left) (c .before .before .write-pair .ensures),
+      omega (arith, from-After-slice-known3-to-In-collected c .collected-test .taken),
     )
 
 -- The row is collected.
@@ -1554,25 +1588,24 @@ index-1-first-kept c = omega (arith, in-rows (from-After-collected-to-After-row-
 index-2-first-kept : tie.Need-index-2-first-kept Inv-collected μ-collected Inv-allowed μ-allowed Inv-returned μ-returned Inv-found μ-found Inv-left μ-left Inv-restored μ-restored Inv-sifted μ-sifted Inv-records μ-records
 index-2-first-kept c = omega (arith, in-rows (from-After-collected-to-After-row-of c))
 
-count-requires : tie.Need-count-requires Inv-collected μ-collected Inv-allowed μ-allowed Inv-returned μ-returned Inv-found μ-found Inv-left μ-left Inv-restored μ-restored Inv-sifted μ-sifted Inv-records μ-records
-count-requires c κs = to-most (from-After-place-to-After-collected c)
+stored-requires : tie.Need-stored-requires Inv-collected μ-collected Inv-allowed μ-allowed Inv-returned μ-returned Inv-found μ-found Inv-left μ-left Inv-restored μ-restored Inv-sifted μ-sifted Inv-records μ-records
+stored-requires c κs = to-most (c .before)
 
 mul-held : tie.Need-mul-held Inv-collected μ-collected Inv-allowed μ-allowed Inv-returned μ-returned Inv-found μ-found Inv-left μ-left Inv-restored μ-restored Inv-sifted μ-sifted Inv-records μ-records
-mul-held c = omega (arith, in-rows (from-After-count-to-After-row-of c))
+mul-held c = omega (arith, in-rows (from-After-put-there-to-After-row-of c))
 
 array-write-held : tie.Need-array-write-held Inv-collected μ-collected Inv-allowed μ-allowed Inv-returned μ-returned Inv-found μ-found Inv-left μ-left Inv-restored μ-restored Inv-sifted μ-sifted Inv-records μ-records
-array-write-held c = omega (arith, in-rows (from-After-count-to-After-row-of c))
+array-write-held c = omega (arith, in-rows (from-After-put-there-to-After-row-of c))
 
 -- The pins that have moved, as the laws of a plan say them.
 pinned : (c : After-pins-then) → c .pins-then .result
     ≡ pinsThen (from-After-pins-then-to-After-plan-of c .plan-of .result .stores) (from-After-pins-then-to-After-row-of c .row-of .result) (liveIndex (ownAt (whole (from-After-pins-then-to-At-records c)) (from-After-pins-then-to-After-row-of c .row-of .result))) (vectorAt (whole (from-After-pins-then-to-At-records c)) (from-After-pins-then-to-After-row-of c .row-of .result)) (from-After-pins-then-to-After-plan-of c .plan-of .result .carried)
     (getD (from-After-pins-then-to-At-records c .records .pins) (from-After-pins-then-to-After-row-of c .row-of .result) [])
-unfolding liveFrom
 pinned c =
     let s = whole (from-After-pins-then-to-At-records c) in
     let i = from-After-pins-then-to-After-row-of c .row-of .result in
     let p = from-After-pins-then-to-After-plan-of c .plan-of .result in
-    c .pins-then .ensures ∙ ap (λ (l : Checkpoint). pinsThen (p .stores) i (l .index) (vectorAt s i) (p .carried) (getD (from-After-pins-then-to-At-records c .records .pins) i [])) (from-After-pins-then-to-After-live-from c .live-from .ensures)
+    c .pins-then .ensures ∙ ap (λ (x : CheckpointIndex). pinsThen (p .stores) i x (vectorAt s i) (p .carried) (getD (from-After-pins-then-to-At-records c .records .pins) i [])) (from-After-pins-then-to-After-live-index c .live-index .ensures)
 
 -- What stays of the row, and what goes.
 kept-done : (c : After-collected) → c .before .collected .kept
@@ -1596,60 +1629,85 @@ places c = turn.moved-places (whole (from-After-collected-to-At-records c)) (rea
 to-room : (c : After-collected) → from-After-collected-to-After-plan-of c .plan-of .result .stores ≡ true → c .before .collected .to < 16
 to-room c stores = omega (arith, places c stores, to-is c)
 
-mul-stored : tie.Need-mul-stored Inv-collected μ-collected Inv-allowed μ-allowed Inv-returned μ-returned Inv-found μ-found Inv-left μ-left Inv-restored μ-restored Inv-sifted μ-sifted Inv-records μ-records
-mul-stored c =
-    omega (arith, in-rows (from-After-place-to-After-row-of c), c .place .ensures, collected.stored-there (from-After-place-to-After-plan-of c .plan-of .result .stores) (from-After-place-to-At-collected c .collected .to) (to-room (from-After-place-to-After-collected c)))
+mul-put-there : tie.Need-mul-put-there Inv-collected μ-collected Inv-allowed μ-allowed Inv-returned μ-returned Inv-found μ-found Inv-left μ-left Inv-restored μ-restored Inv-sifted μ-sifted Inv-records μ-records
+mul-put-there c =
+    omega (arith, in-rows (from-After-put-there-to-After-row-of c), c .before .stored .ensures .1 .0, collected.stored-there (from-After-put-there-to-After-plan-of c .plan-of .result .stores) (from-After-put-there-to-At-collected c .collected .to) (to-room (from-After-put-there-to-After-collected c)))
 
-mul-stored-2 : tie.Need-mul-stored-2 Inv-collected μ-collected Inv-allowed μ-allowed Inv-returned μ-returned Inv-found μ-found Inv-left μ-left Inv-restored μ-restored Inv-sifted μ-sifted Inv-records μ-records
-mul-stored-2 c =
-    omega (arith, in-rows (from-After-place-to-After-row-of c), c .place .ensures, collected.stored-there (from-After-place-to-After-plan-of c .plan-of .result .stores) (from-After-place-to-At-collected c .collected .to) (to-room (from-After-place-to-After-collected c)))
+mul-put-there-2 : tie.Need-mul-put-there-2 Inv-collected μ-collected Inv-allowed μ-allowed Inv-returned μ-returned Inv-found μ-found Inv-left μ-left Inv-restored μ-restored Inv-sifted μ-sifted Inv-records μ-records
+mul-put-there-2 c =
+    omega (arith, in-rows (from-After-put-there-to-After-row-of c), c .before .stored .ensures .1 .0, collected.stored-there (from-After-put-there-to-After-plan-of c .plan-of .result .stores) (from-After-put-there-to-At-collected c .collected .to) (to-room (from-After-put-there-to-After-collected c)))
 
-index-1-stored : tie.Need-index-1-stored Inv-collected μ-collected Inv-allowed μ-allowed Inv-returned μ-returned Inv-found μ-found Inv-left μ-left Inv-restored μ-restored Inv-sifted μ-sifted Inv-records μ-records
-index-1-stored c =
-    omega (arith, in-rows (from-After-place-to-After-row-of c), c .place .ensures, collected.stored-there (from-After-place-to-After-plan-of c .plan-of .result .stores) (from-After-place-to-At-collected c .collected .to) (to-room (from-After-place-to-After-collected c)))
+index-1-put-there : tie.Need-index-1-put-there Inv-collected μ-collected Inv-allowed μ-allowed Inv-returned μ-returned Inv-found μ-found Inv-left μ-left Inv-restored μ-restored Inv-sifted μ-sifted Inv-records μ-records
+index-1-put-there c =
+    omega (arith, in-rows (from-After-put-there-to-After-row-of c), c .before .stored .ensures .1 .0, collected.stored-there (from-After-put-there-to-After-plan-of c .plan-of .result .stores) (from-After-put-there-to-At-collected c .collected .to) (to-room (from-After-put-there-to-After-collected c)))
 
-index-2-stored : tie.Need-index-2-stored Inv-collected μ-collected Inv-allowed μ-allowed Inv-returned μ-returned Inv-found μ-found Inv-left μ-left Inv-restored μ-restored Inv-sifted μ-sifted Inv-records μ-records
-index-2-stored c =
-    omega (arith, in-rows (from-After-place-to-After-row-of c), c .place .ensures, collected.stored-there (from-After-place-to-After-plan-of c .plan-of .result .stores) (from-After-place-to-At-collected c .collected .to) (to-room (from-After-place-to-After-collected c)))
+index-2-put-there : tie.Need-index-2-put-there Inv-collected μ-collected Inv-allowed μ-allowed Inv-returned μ-returned Inv-found μ-found Inv-left μ-left Inv-restored μ-restored Inv-sifted μ-sifted Inv-records μ-records
+index-2-put-there c =
+    omega (arith, in-rows (from-After-put-there-to-After-row-of c), c .before .stored .ensures .1 .0, collected.stored-there (from-After-put-there-to-After-plan-of c .plan-of .result .stores) (from-After-put-there-to-At-collected c .collected .to) (to-room (from-After-put-there-to-After-collected c)))
 
--- The row with what was stored, and how many it keeps.
-row-then : (c : After-place) → set (from-After-place-to-At-collected c .collected .kept) (from-After-place-to-After-row-of c .row-of .result) (set (getD (from-After-place-to-At-collected c .collected .kept) (from-After-place-to-After-row-of c .row-of .result) []) (c .place .result) (c .before .stored .result))
-    ≡ set (from-After-place-to-At-records c .records .kept) (from-After-place-to-After-row-of c .row-of .result) (keptRow (keptThen (from-After-place-to-After-plan-of c .plan-of .result .stores) (from-After-place-to-After-pins-then c .pins-then .result) (take (getD (from-After-place-to-At-records c .records .held) (from-After-place-to-After-row-of c .row-of .result) 0) (getD (from-After-place-to-At-records c .records .kept) (from-After-place-to-After-row-of c .row-of .result) [])) (from-After-place-to-After-live-from c .live-from .result)) .row)
+-- What is stored, the row with it, and how many it keeps.
+abbrev storing : (c : After-live-index) → CheckpointIndex → Checkpoint
+storing c x = record { index = x; vector = vectorAt (whole (from-After-live-index-to-At-records c)) (from-After-live-index-to-After-row-of c .row-of .result); cause = from-After-live-index-to-After-plan-of c .plan-of .result .cause; blocks = 1 }
+
+abbrev left-with : (c : After-pins-then) → CheckpointIndex → KeptRow
+left-with c x =
+    keptRow (keptThen (from-After-pins-then-to-After-plan-of c .plan-of .result .stores) (c .pins-then .result) (take (getD (from-After-pins-then-to-At-records c .records .held) (from-After-pins-then-to-After-row-of c .row-of .result) 0) (getD (from-After-pins-then-to-At-records c .records .kept) (from-After-pins-then-to-After-row-of c .row-of .result) [])) (storing (from-After-pins-then-to-After-live-index c) x))
+
+row-then : (c : After-stored) → set (from-After-stored-to-At-collected c .collected .kept) (from-After-stored-to-After-row-of c .row-of .result) (set (getD (from-After-stored-to-At-collected c .collected .kept) (from-After-stored-to-After-row-of c .row-of .result) []) (c .stored .result .place) (c .stored .result .checkpoint))
+    ≡ set (from-After-stored-to-At-records c .records .kept) (from-After-stored-to-After-row-of c .row-of .result) (left-with (from-After-stored-to-After-pins-then c) (from-After-stored-to-After-live-index c .live-index .result) .row)
 row-then c =
-    let i = from-After-place-to-After-row-of c .row-of .result in
-    stored-row (from-After-place-to-After-pins-then c .pins-then .result) _ (from-After-place-to-After-live-from c .live-from .result) (from-After-place-to-After-plan-of c .plan-of .result .stores) (from-After-place-to-At-records c .records .kept) i (there (from-After-place-to-After-row-of c)) (places (from-After-place-to-After-collected c)) (kept-done (from-After-place-to-After-collected c))
-    (to-is (from-After-place-to-After-collected c)) (c .place .ensures) (c .before .stored .ensures) (any-default (getD (from-After-place-to-At-collected c .collected .kept) i []) 0 _ noCheckpoint (omega (arith, row-long-then (from-After-place-to-After-collected c))))
+    let i = from-After-stored-to-After-row-of c .row-of .result in
+    stored-row (from-After-stored-to-After-pins-then c .pins-then .result) _ (storing (from-After-stored-to-After-live-index c) (from-After-stored-to-After-live-index c .live-index .result)) (from-After-stored-to-After-plan-of c .plan-of .result .stores) (from-After-stored-to-At-records c .records .kept) i (there (from-After-stored-to-After-row-of c)) (places (c .before .before))
+    (kept-done (c .before .before)) (to-is (c .before .before)) (c .stored .ensures .1 .0) (c .stored .ensures .0)
+    (any-default (getD (from-After-stored-to-At-collected c .collected .kept) i []) 0 _ noCheckpoint (omega (arith, row-long-then (c .before .before))))
 
-held-then : (c : After-count) → c .count .result
-    ≡ keptRow (keptThen (from-After-count-to-After-plan-of c .plan-of .result .stores) (from-After-count-to-After-pins-then c .pins-then .result) (take (getD (from-After-count-to-At-records c .records .held) (from-After-count-to-After-row-of c .row-of .result) 0) (getD (from-After-count-to-At-records c .records .kept) (from-After-count-to-After-row-of c .row-of .result) [])) (from-After-count-to-After-live-from c .live-from .result)) .held
-held-then c = c .count .ensures ∙ collected.stored-many (from-After-count-to-After-pins-then c .pins-then .result) _ (from-After-count-to-After-live-from c .live-from .result) (from-After-count-to-After-plan-of c .plan-of .result .stores) (to-is (from-After-count-to-After-collected c))
+held-then : (c : After-stored) → c .stored .result .held ≡ left-with (from-After-stored-to-After-pins-then c) (from-After-stored-to-After-live-index c .live-index .result) .held
+held-then c =
+    c .stored .ensures .1 .1
+    ∙ collected.stored-many (from-After-stored-to-After-pins-then c .pins-then .result) _ (storing (from-After-stored-to-After-live-index c) (from-After-stored-to-After-live-index c .live-index .result)) (from-After-stored-to-After-plan-of c .plan-of .result .stores) (to-is (c .before .before))
+
+-- What goes, and the blocks written and deleted then.
+gone-is : (c : After-collected) → c .before .collected .gone
+    ≡ length (select (λ x. not (named (from-After-collected-to-After-pins-then c .pins-then .result) x)) (take (getD (from-After-collected-to-At-records c .records .held) (from-After-collected-to-After-row-of c .row-of .result) 0) (getD (from-After-collected-to-At-records c .records .kept) (from-After-collected-to-After-row-of c .row-of .result) [])))
+gone-is c =
+    let gone : ℕ → List Checkpoint = λ k. select (λ x. not (named (from-After-collected-to-After-pins-then c .pins-then .result) x)) (take k (getD (from-After-collected-to-At-records c .records .kept) (from-After-collected-to-After-row-of c .row-of .result) [])) in
+    let went : c .before .collected .gone ≡ length (gone (c .before .collected .j)) = omega (arith, c .before .collected .inv .0 .went) in
+    went ∙ ap (λ (k : ℕ). length (gone k)) (over c)
+
+disk-room : (c : At-records) → (c .records .disk .written < 2 ^ 63) × (c .records .disk .deleted < 2 ^ 63)
+disk-room c = (written-small (whole c) (fine c), omega (arith, deleted-small (whole c) (fine c)))
+
+billed-requires : tie.Need-billed-requires Inv-collected μ-collected Inv-allowed μ-allowed Inv-returned μ-returned Inv-found μ-found Inv-left μ-left Inv-restored μ-restored Inv-sifted μ-sifted Inv-records μ-records
+billed-requires c κs =
+    let room = disk-room (from-After-put-there-to-At-records c) in
+    (room .0, room .1, omega (arith, from-After-put-there-to-At-collected c .collected .inv .0 .gone-most, over (from-After-put-there-to-After-collected c), many-most (from-After-put-there-to-Then6 c)))
+
+disk-then : (c : After-billed) → c .billed .result
+    ≡ billed (from-After-billed-to-At-records c .records .disk) (pick (from-After-billed-to-After-plan-of c .plan-of .result .stores) 1 0)
+    (length (select (λ x. not (named (from-After-billed-to-After-pins-then c .pins-then .result) x)) (take (getD (from-After-billed-to-At-records c .records .held) (from-After-billed-to-After-row-of c .row-of .result) 0) (getD (from-After-billed-to-At-records c .records .kept) (from-After-billed-to-After-row-of c .row-of .result) []))) * 1)
+disk-then c = c .billed .ensures ∙ ap (λ (k : ℕ). billed (from-After-billed-to-At-records c .records .disk) (pick (from-After-billed-to-After-plan-of c .plan-of .result .stores) 1 0) (k * 1)) (gone-is (from-After-billed-to-After-collected c))
 
 -- The state then.
-live-is : (c : After-live-from) → c .live-from .result ≡ record { index = liveIndex (ownAt (whole (from-After-live-from-to-At-records c)) (from-After-live-from-to-After-row-of c .row-of .result)); vector = vectorAt (whole (from-After-live-from-to-At-records c)) (from-After-live-from-to-After-row-of c .row-of .result) }
-unfolding liveFrom
-live-is c = c .live-from .ensures
-
-moved-state : (c : After-count) → perform (whole (from-After-count-to-At-records c)) (event (from-After-count-to-After-decode c)) .run
-    ≡ stateInPlace (from-After-count-to-Start c .args .s .count) (set (from-After-count-to-At-records c .records .vectors) (from-After-count-to-After-row-of c .row-of .result) (from-After-count-to-After-vector-then c .vector-then .result)) (set (from-After-count-to-At-records c .records .pins) (from-After-count-to-After-row-of c .row-of .result) (from-After-count-to-After-pins-then c .pins-then .result))
-    (set (from-After-count-to-At-collected c .collected .kept) (from-After-count-to-After-row-of c .row-of .result) (set (getD (from-After-count-to-At-collected c .collected .kept) (from-After-count-to-After-row-of c .row-of .result) []) (c .before .place .result) (c .before .before .stored .result)))
-    (set (from-After-count-to-At-records c .records .sent) (from-After-count-to-After-row-of c .row-of .result) (from-After-count-to-After-plan-of c .plan-of .result .mark)) (set (from-After-count-to-At-records c .records .held) (from-After-count-to-After-row-of c .row-of .result) (c .count .result))
-    (messagesIn (set (from-After-count-to-At-records c .records .window) (from-After-count-to-After-plan-of c .plan-of .result .place) (from-After-count-to-After-plan-of c .plan-of .result .message)) (from-After-count-to-At-records c .records .first) (from-After-count-to-After-plan-of c .plan-of .result .tail)) (from-After-count-to-After-plan-of c .plan-of .result .last)
+moved-state : (c : After-billed) → perform (whole (from-After-billed-to-At-records c)) (event (from-After-billed-to-After-decode c)) .run
+    ≡ stateInPlace (from-After-billed-to-Start c .args .s .count) (set (from-After-billed-to-At-records c .records .vectors) (from-After-billed-to-After-row-of c .row-of .result) (from-After-billed-to-After-vector-then c .vector-then .result)) (set (from-After-billed-to-At-records c .records .pins) (from-After-billed-to-After-row-of c .row-of .result) (from-After-billed-to-After-pins-then c .pins-then .result))
+    (set (from-After-billed-to-At-collected c .collected .kept) (from-After-billed-to-After-row-of c .row-of .result) (set (getD (from-After-billed-to-At-collected c .collected .kept) (from-After-billed-to-After-row-of c .row-of .result) []) (c .before .before .stored .result .place) (c .before .before .stored .result .checkpoint)))
+    (set (from-After-billed-to-At-records c .records .sent) (from-After-billed-to-After-row-of c .row-of .result) (from-After-billed-to-After-plan-of c .plan-of .result .mark)) (set (from-After-billed-to-At-records c .records .held) (from-After-billed-to-After-row-of c .row-of .result) (c .before .before .stored .result .held))
+    (messagesIn (set (from-After-billed-to-At-records c .records .window) (from-After-billed-to-After-plan-of c .plan-of .result .place) (from-After-billed-to-After-plan-of c .plan-of .result .message)) (from-After-billed-to-At-records c .records .first) (from-After-billed-to-After-plan-of c .plan-of .result .tail)) (from-After-billed-to-After-plan-of c .plan-of .result .last) (c .billed .result)
 moved-state c =
-    let i = from-After-count-to-After-row-of c .row-of .result in
-    let left : Checkpoint → KeptRow = λ live. keptRow (keptThen (from-After-count-to-After-plan-of c .plan-of .result .stores) (from-After-count-to-After-pins-then c .pins-then .result) (take (getD (from-After-count-to-At-records c .records .held) i 0) (getD (from-After-count-to-At-records c .records .kept) i [])) live) in
-    same-parts (messagesIn (set (from-After-count-to-At-records c .records .window) (from-After-count-to-After-plan-of c .plan-of .result .place) (from-After-count-to-After-plan-of c .plan-of .result .message)) (from-After-count-to-At-records c .records .first) (from-After-count-to-After-plan-of c .plan-of .result .tail))
-    (ap (set (from-After-count-to-At-records c .records .vectors) i) (from-After-count-to-After-vector-then c .vector-then .ensures)) (row-then (c .before) ∙ ap (λ (live : Checkpoint). set (from-After-count-to-At-records c .records .kept) i (left live .row)) (live-is (from-After-count-to-After-live-from c)))
-    (ap (set (from-After-count-to-At-records c .records .held) i) (held-then c ∙ ap (λ (live : Checkpoint). left live .held) (live-is (from-After-count-to-After-live-from c))))
-    (turn.moved-state (whole (from-After-count-to-At-records c)) (reach (from-After-count-to-At-records c)) (event (from-After-count-to-After-decode c)) (not-asked (from-After-count-to-Then5 c)) (from-After-count-to-At-records c .records .inv .windowed) (from-After-count-to-In-records c .records-test .taken) (holds (from-After-count-to-At-records c)) refl (from-After-count-to-After-sought c .sought .ensures) (from-After-count-to-After-place-in c .place-in .ensures) (message-is (from-After-count-to-After-place-in c) _) (from-After-count-to-After-is-there c .is-there .ensures) (from-After-count-to-After-row-of c .row-of .ensures) (from-After-count-to-After-plan-of c .plan-of .ensures) (from-After-count-to-Then6 c .if6 .taken) (pinned (from-After-count-to-After-pins-then c)))
+    let i = from-After-billed-to-After-row-of c .row-of .result in
+    same-parts (messagesIn (set (from-After-billed-to-At-records c .records .window) (from-After-billed-to-After-plan-of c .plan-of .result .place) (from-After-billed-to-After-plan-of c .plan-of .result .message)) (from-After-billed-to-At-records c .records .first) (from-After-billed-to-After-plan-of c .plan-of .result .tail))
+    (ap (set (from-After-billed-to-At-records c .records .vectors) i) (from-After-billed-to-After-vector-then c .vector-then .ensures))
+    (row-then (c .before .before) ∙ ap (λ (x : CheckpointIndex). set (from-After-billed-to-At-records c .records .kept) i (left-with (from-After-billed-to-After-pins-then c) x .row)) (from-After-billed-to-After-live-index c .live-index .ensures))
+    (ap (set (from-After-billed-to-At-records c .records .held) i) (held-then (c .before .before) ∙ ap (λ (x : CheckpointIndex). left-with (from-After-billed-to-After-pins-then c) x .held) (from-After-billed-to-After-live-index c .live-index .ensures))) (disk-then c)
+    (turn.moved-state (whole (from-After-billed-to-At-records c)) (reach (from-After-billed-to-At-records c)) (event (from-After-billed-to-After-decode c)) (not-asked (from-After-billed-to-Then5 c)) (from-After-billed-to-At-records c .records .inv .windowed) (from-After-billed-to-In-records c .records-test .taken) (holds (from-After-billed-to-At-records c)) refl (from-After-billed-to-After-sought c .sought .ensures) (from-After-billed-to-After-place-in c .place-in .ensures) (message-is (from-After-billed-to-After-place-in c) _) (from-After-billed-to-After-is-there c .is-there .ensures) (from-After-billed-to-After-row-of c .row-of .ensures) (from-After-billed-to-After-plan-of c .plan-of .ensures) (from-After-billed-to-Then6 c .if6 .taken) (pinned (from-After-billed-to-After-pins-then c)))
 
-moved-says : (c : After-collected) → Says (record { refused = from-After-collected-to-After-number-of c .number-of .result; value = from-After-collected-to-After-value-of c .value-of .result; deletions = c .before .collected .gone }) (c .before .collected .deleted) (perform (whole (from-After-collected-to-At-records c)) (event (from-After-collected-to-After-decode c)) .reply)
+moved-says : (c : After-collected) → Says (record { refused = from-After-collected-to-After-summary-of c .summary-of .result .refused; value = from-After-collected-to-After-summary-of c .summary-of .result .value; deletions = c .before .collected .gone }) (c .before .collected .deleted) (perform (whole (from-After-collected-to-At-records c)) (event (from-After-collected-to-After-decode c)) .reply)
+unfolding summaryOf
 moved-says c =
-    let v = c .before .collected .inv .0 in
     let i = from-After-collected-to-After-row-of c .row-of .result in
     let row = getD (from-After-collected-to-At-records c .records .kept) i [] in
     let gone : ℕ → List Checkpoint = λ k. select (λ x. not (named (from-After-collected-to-After-pins-then c .pins-then .result) x)) (take k row) in
-    let went : c .before .collected .gone ≡ length (gone (c .before .collected .j)) = omega (arith, v .went) in
-    same-words (from-After-collected-to-After-number-of c .number-of .ensures) (from-After-collected-to-After-value-of c .value-of .ensures) (went ∙ ap (λ (k : ℕ). length (gone k)) (over c)) (v .list ∙ ap (λ (k : ℕ). sets (from-After-collected-to-At-records c .records .deleted) 0 (pairs (listed i (gone k)))) (over c))
+    same-words (from-After-collected-to-After-summary-of c .summary-of .ensures) (gone-is c) (c .before .collected .inv .0 .list ∙ ap (λ (k : ℕ). sets (from-After-collected-to-At-records c .records .deleted) 0 (pairs (listed i (gone k)))) (over c))
     (turn.moved-says (whole (from-After-collected-to-At-records c)) (reach (from-After-collected-to-At-records c)) (event (from-After-collected-to-After-decode c)) (not-asked (from-After-collected-to-Then5 c)) (from-After-collected-to-At-records c .records .inv .windowed) (from-After-collected-to-In-records c .records-test .taken) (holds (from-After-collected-to-At-records c)) refl (from-After-collected-to-After-sought c .sought .ensures) (from-After-collected-to-After-place-in c .place-in .ensures) (message-is (from-After-collected-to-After-place-in c) _) (from-After-collected-to-After-is-there c .is-there .ensures) (from-After-collected-to-After-row-of c .row-of .ensures) (from-After-collected-to-After-plan-of c .plan-of .ensures) (from-After-collected-to-Then6 c .if6 .taken) (pinned (from-After-collected-to-After-pins-then c)) (from-After-collected-to-At-records c .records .deleted) (from-After-collected-to-At-records c .records .inv .lent))
 
 lent-moved : (c : After-collected) → length (c .before .collected .deleted) ≡ 512
@@ -1661,25 +1719,30 @@ print-requires c κs =
     (fits .0, omega (arith, fits .1, lent-moved (from-After-print-arg2-to-After-collected c)), omega (arith, few (from-After-print-arg2-to-Then3 c)), room (from-After-print-arg2-to-Then3 c))
 
 records-less : tie.Need-records-less Inv-collected μ-collected Inv-allowed μ-allowed Inv-returned μ-returned Inv-found μ-found Inv-left μ-left Inv-restored μ-restored Inv-sifted μ-sifted Inv-records μ-records
-records-less c = omega (arith, left (from-After-slice-known3-to-Then3 c))
+records-less c = omega (arith, left (from-After-slice-known4-to-Then3 c))
 
 records-less-2 : tie.Need-records-less-2 Inv-collected μ-collected Inv-allowed μ-allowed Inv-returned μ-returned Inv-found μ-found Inv-left μ-left Inv-restored μ-restored Inv-sifted μ-sifted Inv-records μ-records
 records-less-2 c = omega (arith, left (from-After-goes-on-to-Then3 c))
 
 records-less-3 : tie.Need-records-less-3 Inv-collected μ-collected Inv-allowed μ-allowed Inv-returned μ-returned Inv-found μ-found Inv-left μ-left Inv-restored μ-restored Inv-sifted μ-sifted Inv-records μ-records
-records-less-3 c = omega (arith, left (from-After-slice-known5-to-Then3 c))
+records-less-3 c = omega (arith, left (from-After-slice-known7-to-Then3 c))
+
+moved-accepted : (c : Then6) → c .before .summary-of .result .refused ≡ 0
+unfolding summaryOf
+moved-accepted c = ap (λ (x : Summary). x .refused) (c .before .summary-of .ensures) ∙ turn.moved-accepted (whole (from-Then6-to-At-records c)) (reach (from-Then6-to-At-records c)) (event (from-Then6-to-After-decode c)) (not-asked (from-Then6-to-Then5 c)) (from-Then6-to-At-records c .records .inv .windowed) (from-Then6-to-In-records c .records-test .taken) (holds (from-Then6-to-At-records c)) refl (from-Then6-to-After-sought c .sought .ensures) (from-Then6-to-After-place-in c .place-in .ensures) (message-is (from-Then6-to-After-place-in c) _) (from-Then6-to-After-is-there c .is-there .ensures) (from-Then6-to-After-row-of c .row-of .ensures) (from-Then6-to-After-plan-of c .plan-of .ensures) (c .if6 .taken)
 
 records-again : tie.Need-records-again Inv-collected μ-collected Inv-allowed μ-allowed Inv-returned μ-returned Inv-found μ-found Inv-left μ-left Inv-restored μ-restored Inv-sifted μ-sifted Inv-records μ-records
 records-again c =
-    one-more (from-After-slice-known3-to-At-records c .records .inv) (left (from-After-slice-known3-to-Then3 c)) (from-After-slice-known3-to-Then4 c .if4 .taken) (room (from-After-slice-known3-to-Then3 c)) (few (from-After-slice-known3-to-Then3 c)) (event (from-After-slice-known3-to-After-decode c)) (is-event (from-After-slice-known3-to-After-decode c))
-    (moved-state (from-After-slice-known3-to-After-count c))
-    (moved-says (from-After-slice-known3-to-After-collected c)) (lent-moved (from-After-slice-known3-to-After-collected c)) (c .before .before .print .ensures .0) (c .before .before .print .ensures .1) (c .before .before .print .kept .1 .1 .1 .0)
-    (accepted-goes-on (from-After-slice-known3-to-Start c .args .all) (from-After-slice-known3-to-After-number-of c .number-of .ensures ∙ turn.moved-accepted (whole (from-After-slice-known3-to-At-records c)) (reach (from-After-slice-known3-to-At-records c)) (event (from-After-slice-known3-to-After-decode c)) (not-asked (from-After-slice-known3-to-Then5 c)) (from-After-slice-known3-to-At-records c .records .inv .windowed) (from-After-slice-known3-to-In-records c .records-test .taken) (holds (from-After-slice-known3-to-At-records c)) refl (from-After-slice-known3-to-After-sought c .sought .ensures) (from-After-slice-known3-to-After-place-in c .place-in .ensures) (message-is (from-After-slice-known3-to-After-place-in c) _) (from-After-slice-known3-to-After-is-there c .is-there .ensures) (from-After-slice-known3-to-After-row-of c .row-of .ensures) (from-After-slice-known3-to-After-plan-of c .plan-of .ensures) (from-After-slice-known3-to-Then6 c .if6 .taken)) (from-After-slice-known3-to-Then4 c .if4 .taken))
-    (turn.planned (whole (from-After-slice-known3-to-At-records c)) (reach (from-After-slice-known3-to-At-records c)) (event (from-After-slice-known3-to-After-decode c)) (not-asked (from-After-slice-known3-to-Then5 c)) (from-After-slice-known3-to-At-records c .records .inv .windowed) (from-After-slice-known3-to-In-records c .records-test .taken) (holds (from-After-slice-known3-to-At-records c)) refl (from-After-slice-known3-to-After-sought c .sought .ensures) (from-After-slice-known3-to-After-place-in c .place-in .ensures) (message-is (from-After-slice-known3-to-After-place-in c) _) (from-After-slice-known3-to-After-is-there c .is-there .ensures) (from-After-slice-known3-to-After-row-of c .row-of .ensures) (from-After-slice-known3-to-After-plan-of c .plan-of .ensures)) (omega (arith, turn.tail-next (whole (from-After-slice-known3-to-At-records c)) (reach (from-After-slice-known3-to-At-records c)) (event (from-After-slice-known3-to-After-decode c)) (not-asked (from-After-slice-known3-to-Then5 c)) (from-After-slice-known3-to-At-records c .records .inv .windowed) (from-After-slice-known3-to-In-records c .records-test .taken) (holds (from-After-slice-known3-to-At-records c)) refl (from-After-slice-known3-to-After-sought c .sought .ensures) (from-After-slice-known3-to-After-place-in c .place-in .ensures) (message-is (from-After-slice-known3-to-After-place-in c) _) (from-After-slice-known3-to-After-is-there c .is-there .ensures) (from-After-slice-known3-to-After-row-of c .row-of .ensures) (from-After-slice-known3-to-After-plan-of c .plan-of .ensures), from-After-slice-known3-to-At-records c .records .inv .sends))
+    one-more (from-After-slice-known4-to-At-records c .records .inv) (left (from-After-slice-known4-to-Then3 c)) (from-After-slice-known4-to-Then4 c .if4 .taken) (room (from-After-slice-known4-to-Then3 c)) (few (from-After-slice-known4-to-Then3 c)) (event (from-After-slice-known4-to-After-decode c)) (is-event (from-After-slice-known4-to-After-decode c))
+    (moved-state (from-After-slice-known4-to-After-billed c))
+    (moved-says (from-After-slice-known4-to-After-collected c)) (lent-moved (from-After-slice-known4-to-After-collected c)) (c .before .before .print .ensures .0) (c .before .before .print .ensures .1) (c .before .before .print .kept .1 .1 .1 .0)
+    (accepted-goes-on (from-After-slice-known4-to-Start c .args .all) (moved-accepted (from-After-slice-known4-to-Then6 c)) (from-After-slice-known4-to-Then4 c .if4 .taken))
+    (turn.planned (whole (from-After-slice-known4-to-At-records c)) (reach (from-After-slice-known4-to-At-records c)) (event (from-After-slice-known4-to-After-decode c)) (not-asked (from-After-slice-known4-to-Then5 c)) (from-After-slice-known4-to-At-records c .records .inv .windowed) (from-After-slice-known4-to-In-records c .records-test .taken) (holds (from-After-slice-known4-to-At-records c)) refl (from-After-slice-known4-to-After-sought c .sought .ensures) (from-After-slice-known4-to-After-place-in c .place-in .ensures) (message-is (from-After-slice-known4-to-After-place-in c) _) (from-After-slice-known4-to-After-is-there c .is-there .ensures) (from-After-slice-known4-to-After-row-of c .row-of .ensures) (from-After-slice-known4-to-After-plan-of c .plan-of .ensures)) (omega (arith, turn.tail-next (whole (from-After-slice-known4-to-At-records c)) (reach (from-After-slice-known4-to-At-records c)) (event (from-After-slice-known4-to-After-decode c)) (not-asked (from-After-slice-known4-to-Then5 c)) (from-After-slice-known4-to-At-records c .records .inv .windowed) (from-After-slice-known4-to-In-records c .records-test .taken) (holds (from-After-slice-known4-to-At-records c)) refl (from-After-slice-known4-to-After-sought c .sought .ensures) (from-After-slice-known4-to-After-place-in c .place-in .ensures) (message-is (from-After-slice-known4-to-After-place-in c) _) (from-After-slice-known4-to-After-is-there c .is-there .ensures) (from-After-slice-known4-to-After-row-of c .row-of .ensures) (from-After-slice-known4-to-After-plan-of c .plan-of .ensures), from-After-slice-known4-to-At-records c .records .inv .sends))
 
 -- Nothing moves.
-unmoved-says : (c : Else6) → Says (record { refused = c .before .number-of .result; value = c .before .before .value-of .result; deletions = 0 }) (from-Else6-to-At-records c .records .deleted) (perform (whole (from-Else6-to-At-records c)) (event (from-Else6-to-After-decode c)) .reply)
-unmoved-says c = same-words (c .before .number-of .ensures) (c .before .before .value-of .ensures) refl refl (turn.unmoved-says (whole (from-Else6-to-At-records c)) (reach (from-Else6-to-At-records c)) (event (from-Else6-to-After-decode c)) (not-asked (from-Else6-to-Then5 c)) (from-Else6-to-At-records c .records .inv .windowed) (from-Else6-to-In-records c .records-test .taken) (holds (from-Else6-to-At-records c)) refl (from-Else6-to-After-sought c .sought .ensures) (from-Else6-to-After-place-in c .place-in .ensures) (message-is (from-Else6-to-After-place-in c) _) (from-Else6-to-After-is-there c .is-there .ensures) (from-Else6-to-After-row-of c .row-of .ensures) (from-Else6-to-After-plan-of c .plan-of .ensures) (c .if6 .left) (from-Else6-to-At-records c .records .deleted))
+unmoved-says : (c : Else6) → Says (c .before .summary-of .result) (from-Else6-to-At-records c .records .deleted) (perform (whole (from-Else6-to-At-records c)) (event (from-Else6-to-After-decode c)) .reply)
+unfolding summaryOf
+unmoved-says c = same-said (c .before .summary-of .ensures) (turn.unmoved-says (whole (from-Else6-to-At-records c)) (reach (from-Else6-to-At-records c)) (event (from-Else6-to-After-decode c)) (not-asked (from-Else6-to-Then5 c)) (from-Else6-to-At-records c .records .inv .windowed) (from-Else6-to-In-records c .records-test .taken) (holds (from-Else6-to-At-records c)) refl (from-Else6-to-After-sought c .sought .ensures) (from-Else6-to-After-place-in c .place-in .ensures) (message-is (from-Else6-to-After-place-in c) _) (from-Else6-to-After-is-there c .is-there .ensures) (from-Else6-to-After-row-of c .row-of .ensures) (from-Else6-to-After-plan-of c .plan-of .ensures) (c .if6 .left) (from-Else6-to-At-records c .records .deleted))
 
 print-requires-2 : tie.Need-print-requires-2 Inv-collected μ-collected Inv-allowed μ-allowed Inv-returned μ-returned Inv-found μ-found Inv-left μ-left Inv-restored μ-restored Inv-sifted μ-sifted Inv-records μ-records
 print-requires-2 c κs =
@@ -1749,15 +1812,15 @@ array-write-rolled c =
 
 mul-members : tie.Need-mul-members Inv-collected μ-collected Inv-allowed μ-allowed Inv-returned μ-returned Inv-found μ-found Inv-left μ-left Inv-restored μ-restored Inv-sifted μ-sifted Inv-records μ-records
 mul-members c =
-    omega (arith, below-f (from-After-index-to-In-returned c))
+    omega (arith, below-f (from-After-member-index-to-In-returned c))
 
 array-set-from-members : tie.Need-array-set-from-members Inv-collected μ-collected Inv-allowed μ-allowed Inv-returned μ-returned Inv-found μ-found Inv-left μ-left Inv-restored μ-restored Inv-sifted μ-sifted Inv-records μ-records
 array-set-from-members c =
-    omega (arith, below-f (from-After-index-to-In-returned c))
+    omega (arith, below-f (from-After-member-index-to-In-returned c))
 
 add-f : tie.Need-add-f Inv-collected μ-collected Inv-allowed μ-allowed Inv-returned μ-returned Inv-found μ-found Inv-left μ-left Inv-restored μ-restored Inv-sifted μ-sifted Inv-records μ-records
 add-f c =
-    omega (arith, below-f (from-After-index-to-In-returned c))
+    omega (arith, below-f (from-After-member-index-to-In-returned c))
 
 allowed-holds : tie.Need-allowed-holds Inv-collected μ-collected Inv-allowed μ-allowed Inv-returned μ-returned Inv-found μ-found Inv-left μ-left Inv-restored μ-restored Inv-sifted μ-sifted Inv-records μ-records
 allowed-holds c = (omega arith, c .none-allowed .ensures ∙ latest-none _ _)
@@ -1798,16 +1861,16 @@ step-back-requires : tie.Need-step-back-requires Inv-collected μ-collected Inv-
 step-back-requires c κs = (below-f (from-After-member-to-In-returned c), omega (arith, back-few (from-After-member-to-At-returned c .returned .inv), below-f (from-After-member-to-In-returned c)))
 
 returned-less : tie.Need-returned-less Inv-collected μ-collected Inv-allowed μ-allowed Inv-returned μ-returned Inv-found μ-found Inv-left μ-left Inv-restored μ-restored Inv-sifted μ-sifted Inv-records μ-records
-returned-less c = omega (arith, from-After-index-to-In-returned c .returned-test .taken)
+returned-less c = omega (arith, from-After-member-index-to-In-returned c .returned-test .taken)
 
 returned-again : tie.Need-returned-again Inv-collected μ-collected Inv-allowed μ-allowed Inv-returned μ-returned Inv-found μ-found Inv-left μ-left Inv-restored μ-restored Inv-sifted μ-sifted Inv-records μ-records
 returned-again c =
-    let l = from-After-index-to-At-allowed c .allowed in
-    let t = from-After-index-to-At-returned c .returned in
-    let r = from-After-index-to-At-records c .records in
-    one-returned (t .inv) (from-After-index-to-In-returned c .returned-test .taken) (from-After-index-to-After-member c .member .result)
-    (next-member (from-After-index-to-After-recovery-of c .recovery-of .result .failed) (r .kept) (r .held) (t .inv) (most (from-After-index-to-At-records c)) (from-After-index-to-In-returned c .returned-test .taken) (from-After-index-to-After-member c .member .result)
-    (member-searched _ _ _ _ _ _ (l .a) _ (l .latest) _ _ (from-After-index-to-After-is-allowed c .is-allowed .ensures) (from-After-index-to-After-to-search c .to-search .ensures) (omega (arith, l .inv .0, from-After-index-to-After-allowed c .allowed-test .left)) (l .inv .1) (from-After-index-to-After-member c .member .ensures) _ _ (from-After-index-to-After-failed-marks c .failed-marks .ensures) (from-After-index-to-After-own-entries c .own-entries .ensures)))
+    let l = from-After-member-index-to-At-allowed c .allowed in
+    let t = from-After-member-index-to-At-returned c .returned in
+    let r = from-After-member-index-to-At-records c .records in
+    one-returned (t .inv) (from-After-member-index-to-In-returned c .returned-test .taken) (from-After-member-index-to-After-member c .member .result)
+    (next-member (from-After-member-index-to-After-recovery-of c .recovery-of .result .failed) (r .kept) (r .held) (t .inv) (most (from-After-member-index-to-At-records c)) (from-After-member-index-to-In-returned c .returned-test .taken) (from-After-member-index-to-After-member c .member .result)
+    (member-searched _ _ _ _ _ _ (l .a) _ (l .latest) _ _ (from-After-member-index-to-After-is-allowed c .is-allowed .ensures) (from-After-member-index-to-After-to-search c .to-search .ensures) (omega (arith, l .inv .0, from-After-member-index-to-After-allowed c .allowed-test .left)) (l .inv .1) (from-After-member-index-to-After-member c .member .ensures) _ _ (from-After-member-index-to-After-failed-marks c .failed-marks .ensures) (from-After-member-index-to-After-own-entries c .own-entries .ensures)))
     (c .before .before .step-back .result) (c .before .before .step-back .ensures)
 
 -- The rows of each process.
@@ -2000,47 +2063,17 @@ index-2-x-2 c = let b = inside-left (from-Then8-to-In-left c) in omega arith
 add-stay : tie.Need-add-stay Inv-collected μ-collected Inv-allowed μ-allowed Inv-returned μ-returned Inv-found μ-found Inv-left μ-left Inv-restored μ-restored Inv-sifted μ-sifted Inv-records μ-records
 add-stay c = let b = inside-left (from-Then8-to-In-left c) in omega arith
 
-cast-deleted-2 : tie.Need-cast-deleted-2 Inv-collected μ-collected Inv-allowed μ-allowed Inv-returned μ-returned Inv-found μ-found Inv-left μ-left Inv-restored μ-restored Inv-sifted μ-sifted Inv-records μ-records
-cast-deleted-2 c =
-    let b = inside-left (from-Else8-to-In-left c) in omega arith
-
-mul-deleted-5 : tie.Need-mul-deleted-5 Inv-collected μ-collected Inv-allowed μ-allowed Inv-returned μ-returned Inv-found μ-found Inv-left μ-left Inv-restored μ-restored Inv-sifted μ-sifted Inv-records μ-records
-mul-deleted-5 c =
-    let b = inside-left (from-Else8-to-In-left c) in omega arith
-
-mul-deleted-6 : tie.Need-mul-deleted-6 Inv-collected μ-collected Inv-allowed μ-allowed Inv-returned μ-returned Inv-found μ-found Inv-left μ-left Inv-restored μ-restored Inv-sifted μ-sifted Inv-records μ-records
-mul-deleted-6 c =
-    let b = inside-left (from-Else8-to-In-left c) in omega arith
-
-mul-deleted-7 : tie.Need-mul-deleted-7 Inv-collected μ-collected Inv-allowed μ-allowed Inv-returned μ-returned Inv-found μ-found Inv-left μ-left Inv-restored μ-restored Inv-sifted μ-sifted Inv-records μ-records
-mul-deleted-7 c =
-    let b = inside-left (from-Else8-to-In-left c) in omega arith
-
-mul-deleted-8 : tie.Need-mul-deleted-8 Inv-collected μ-collected Inv-allowed μ-allowed Inv-returned μ-returned Inv-found μ-found Inv-left μ-left Inv-restored μ-restored Inv-sifted μ-sifted Inv-records μ-records
-mul-deleted-8 c =
-    let b = inside-left (from-Else8-to-In-left c) in omega arith
-
-slice-write-deleted-3 : tie.Need-slice-write-deleted-3 Inv-collected μ-collected Inv-allowed μ-allowed Inv-returned μ-returned Inv-found μ-found Inv-left μ-left Inv-restored μ-restored Inv-sifted μ-sifted Inv-records μ-records
-slice-write-deleted-3 c =
-    let b = inside-left (from-Else8-to-In-left c) in omega arith
-
-add-deleted-2 : tie.Need-add-deleted-2 Inv-collected μ-collected Inv-allowed μ-allowed Inv-returned μ-returned Inv-found μ-found Inv-left μ-left Inv-restored μ-restored Inv-sifted μ-sifted Inv-records μ-records
-add-deleted-2 c =
-    let b = inside-left (from-Else8-to-In-left c) in omega arith
+write-pair-requires-2 : tie.Need-write-pair-requires-2 Inv-collected μ-collected Inv-allowed μ-allowed Inv-returned μ-returned Inv-found μ-found Inv-left μ-left Inv-restored μ-restored Inv-sifted μ-sifted Inv-records μ-records
+write-pair-requires-2 c κs = let b = inside-left (from-After-write-pair-arg2-to-In-left c) in (b .row, b .few, b .room)
 
 add-all-gone : tie.Need-add-all-gone Inv-collected μ-collected Inv-allowed μ-allowed Inv-returned μ-returned Inv-found μ-found Inv-left μ-left Inv-restored μ-restored Inv-sifted μ-sifted Inv-records μ-records
-add-all-gone c =
-    let b = inside-left (from-Else8-to-In-left c) in omega arith
-
-slice-write-deleted-4 : tie.Need-slice-write-deleted-4 Inv-collected μ-collected Inv-allowed μ-allowed Inv-returned μ-returned Inv-found μ-found Inv-left μ-left Inv-restored μ-restored Inv-sifted μ-sifted Inv-records μ-records
-slice-write-deleted-4 c =
-    let b = inside-left (from-Else8-to-In-left c) in omega (arith, length-set (from-Else8-to-At-left c .left .deleted) (2 * from-Else8-to-At-left c .left .all-gone) (from-Else8-to-At-restored c .restored .q))
+add-all-gone c = let b = inside-left (from-After-slice-known6-to-In-left c) in omega arith
 
 left-less : tie.Need-left-less Inv-collected μ-collected Inv-allowed μ-allowed Inv-returned μ-returned Inv-found μ-found Inv-left μ-left Inv-restored μ-restored Inv-sifted μ-sifted Inv-records μ-records
 left-less c = omega (arith, from-Then8-to-In-left c .left-test .taken)
 
 left-less-2 : tie.Need-left-less-2 Inv-collected μ-collected Inv-allowed μ-allowed Inv-returned μ-returned Inv-found μ-found Inv-left μ-left Inv-restored μ-restored Inv-sifted μ-sifted Inv-records μ-records
-left-less-2 c = omega (arith, from-Else8-to-In-left c .left-test .taken)
+left-less-2 c = omega (arith, from-After-slice-known6-to-In-left c .left-test .taken)
 
 in-left : (c : In-left) → c .before .left .k < length (getD (from-In-left-to-At-restored c .restored .kept) (from-In-left-to-At-restored c .restored .q) [])
 in-left c = omega (arith, inside-left c .place, kept-long (from-In-left-to-In-restored c))
@@ -2064,12 +2097,12 @@ left-again c =
 left-again-2 : tie.Need-left-again-2 Inv-collected μ-collected Inv-allowed μ-allowed Inv-returned μ-returned Inv-found μ-found Inv-left μ-left Inv-restored μ-restored Inv-sifted μ-sifted Inv-records μ-records
 unfolding stays named
 left-again-2 c =
-    let l = from-Else8-to-At-left c .left in
-    let q = from-Else8-to-At-restored c .restored .q in (
-      collected.goes _ (from-Else8-to-At-restored c .restored .kept) q (row-there (from-Else8-to-In-restored c)) (from-Else8-to-At-restored c .restored .deleted) (from-Else8-to-At-restored c .restored .all-gone) (l .inv .0) (in-left (from-Else8-to-In-left c))
-          (any-default (getD (l .kept) q []) (l .k) _ noCheckpoint (in-left-now (from-Else8-to-In-left c))) (ap (λ (x : Checkpoint). set (l .kept) q (set (getD (l .kept) q []) (l .k) x)) (from-Else8-to-After-no-checkpoint c .no-checkpoint .ensures))
-          (sym (c .before .does-stay .ensures) ∙ c .if8 .left),
-      omega (arith, from-Else8-to-In-left c .left-test .taken),
+    let l = from-After-slice-known6-to-At-left c .left in
+    let q = from-After-slice-known6-to-At-restored c .restored .q in (
+      collected.goes _ (from-After-slice-known6-to-At-restored c .restored .kept) q (row-there (from-After-slice-known6-to-In-restored c)) (from-After-slice-known6-to-At-restored c .restored .deleted) (from-After-slice-known6-to-At-restored c .restored .all-gone) (l .inv .0) (in-left (from-After-slice-known6-to-In-left c))
+          (any-default (getD (l .kept) q []) (l .k) _ noCheckpoint (in-left-now (from-After-slice-known6-to-In-left c))) (ap (λ (x : Checkpoint). set (l .kept) q (set (getD (l .kept) q []) (l .k) x)) (from-After-slice-known6-to-After-no-checkpoint c .no-checkpoint .ensures))
+          (sym (from-After-slice-known6-to-After-does-stay c .does-stay .ensures) ∙ from-After-slice-known6-to-Else8 c .if8 .left) (c .before .before .write-pair2 .ensures),
+      omega (arith, from-After-slice-known6-to-In-left c .left-test .taken),
     )
 
 -- One process more is done.
@@ -2100,24 +2133,34 @@ all-back c = omega (arith, c .before .returned .inv .within, c .returned-test .l
 all-done : (c : After-restored) → c .before .restored .q ≡ from-After-restored-to-Start c .args .s .count
 all-done c = omega (arith, c .before .restored .inv .within, c .restored-test .left)
 
-restores : (c : After-restored) → Restores (whole (from-After-restored-to-At-records c)) (from-After-restored-to-After-recovery-of c .recovery-of .result .failed)
-    (record { vectors = record { 0 = from-After-restored-to-At-returned c .returned .vectors }; pins = record { 0 = c .before .restored .pins }; sent = from-After-restored-to-At-returned c .returned .sent; kept = record { 0 = c .before .restored .kept }; held = c .before .restored .held; under = select (outlives (from-After-restored-to-At-returned c .returned .members)) (underWay (whole (from-After-restored-to-At-records c))); rolled = from-After-restored-to-At-returned c .returned .back; gone = c .before .restored .all-gone })
-    (from-After-restored-to-At-records c .records .deleted) (c .before .restored .deleted)
-restores c =
-    let at = from-After-restored-to-At-records c in
-    let l = from-After-restored-to-At-returned c .returned in
-    let r = c .before .restored in
-    in-place-restores (whole at) _ (from-After-restored-to-At-records c .records .deleted) (l .f) (l .vectors) (l .sent) (l .rolled) (l .members) (l .back) (c .before .before .own-entries2 .result) (r .q) (r .pins) (r .kept) (r .held) (r .deleted) (r .all-gone)
-    (all-back (from-After-restored-to-After-returned c)) (l .inv) (c .before .before .own-entries2 .ensures) (all-done c) (r .inv) (fine at) (from-After-restored-to-After-recovery-of c .recovery-of .result .failed) refl
+billed-requires-2 : tie.Need-billed-requires-2 Inv-collected μ-collected Inv-allowed μ-allowed Inv-returned μ-returned Inv-found μ-found Inv-left μ-left Inv-restored μ-restored Inv-sifted μ-sifted Inv-records μ-records
+billed-requires-2 c κs =
+    let room = disk-room (from-After-restored-to-At-records c) in
+    (room .0, room .1, omega (arith, c .before .restored .inv .few, all-done (c), most (from-After-restored-to-At-records c)))
 
-recovery-says : (c : After-restored) → Says (record { refused = 0; value = Number (from-After-restored-to-At-returned c .returned .back); deletions = c .before .restored .all-gone }) (c .before .restored .deleted) (perform (whole (from-After-restored-to-At-records c)) (event (from-After-restored-to-After-decode c)) .reply)
+-- as many blocks are deleted as checkpoints
+disk-back : (c : After-billed2) → c .billed2 .result
+    ≡ billed (from-After-billed2-to-At-records c .records .disk) 0 (blocksBelow (from-After-billed2-to-Start c .args .s .count) (from-After-billed2-to-At-records c .records .kept) (from-After-billed2-to-At-records c .records .held) (from-After-billed2-to-At-returned c .returned .members) (pinsAt (from-After-billed2-to-At-records c .records .pins) (from-After-billed2-to-At-returned c .returned .vectors) (from-After-billed2-to-After-own-entries2 c .own-entries2 .result) (from-After-billed2-to-At-returned c .returned .rolled) (from-After-billed2-to-At-records c .records .kept) (from-After-billed2-to-At-records c .records .held) (from-After-billed2-to-At-returned c .returned .members)))
+disk-back c = recovered-disk (whole (from-After-billed2-to-At-records c)) (reach (from-After-billed2-to-At-records c)) (c .before .before .restored .inv) (all-done (c .before)) (c .billed2 .ensures)
+
+restores : (c : After-billed2) → Restores (whole (from-After-billed2-to-At-records c)) (from-After-billed2-to-After-recovery-of c .recovery-of .result .failed)
+    (record { vectors = record { 0 = from-After-billed2-to-At-returned c .returned .vectors }; pins = record { 0 = c .before .before .restored .pins }; sent = from-After-billed2-to-At-returned c .returned .sent; kept = record { 0 = c .before .before .restored .kept }; held = c .before .before .restored .held; under = select (outlives (from-After-billed2-to-At-returned c .returned .members)) (underWay (whole (from-After-billed2-to-At-records c))); rolled = from-After-billed2-to-At-returned c .returned .back; gone = c .before .before .restored .all-gone; disk = c .billed2 .result })
+    (from-After-billed2-to-At-records c .records .deleted) (c .before .before .restored .deleted)
+restores c =
+    let at = from-After-billed2-to-At-records c in
+    let l = from-After-billed2-to-At-returned c .returned in
+    let r = c .before .before .restored in
+    in-place-restores (whole at) _ (from-After-billed2-to-At-records c .records .deleted) (l .f) (l .vectors) (l .sent) (l .rolled) (l .members) (l .back) (from-After-billed2-to-After-own-entries2 c .own-entries2 .result) (r .q) (r .pins) (r .kept) (r .held) (r .deleted) (r .all-gone)
+    (all-back (from-After-billed2-to-After-returned c)) (l .inv) (from-After-billed2-to-After-own-entries2 c .own-entries2 .ensures) (all-done (c .before)) (r .inv) (c .billed2 .result) (disk-back c) (fine at) (from-After-billed2-to-After-recovery-of c .recovery-of .result .failed) refl
+
+recovery-says : (c : After-billed2) → Says (record { refused = 0; value = Number (from-After-billed2-to-At-returned c .returned .back); deletions = c .before .before .restored .all-gone }) (c .before .before .restored .deleted) (perform (whole (from-After-billed2-to-At-records c)) (event (from-After-billed2-to-After-decode c)) .reply)
 recovery-says c =
-    let at = from-After-restored-to-At-records c in
-    recovered-says (whole at) (reach at) (event (from-After-restored-to-After-decode c)) (from-After-restored-to-After-recovery-of c .recovery-of .result .failed) (asked (from-After-restored-to-Else5 c) .0) (asked (from-After-restored-to-Else5 c) .1) _ (from-After-restored-to-At-records c .records .deleted) (c .before .restored .deleted) (restores c) (from-After-restored-to-At-records c .records .inv .lent)
+    let at = from-After-billed2-to-At-records c in
+    recovered-says (whole at) (reach at) (event (from-After-billed2-to-After-decode c)) (from-After-billed2-to-After-recovery-of c .recovery-of .result .failed) (asked (from-After-billed2-to-Else5 c) .0) (asked (from-After-billed2-to-Else5 c) .1) _ (from-After-billed2-to-At-records c .records .deleted) (c .before .before .restored .deleted) (restores c) (from-After-billed2-to-At-records c .records .inv .lent)
 
 -- The messages that were sent behind the line leave the window.
 sifted-holds : tie.Need-sifted-holds Inv-collected μ-collected Inv-allowed μ-allowed Inv-returned μ-returned Inv-found μ-found Inv-left μ-left Inv-restored μ-restored Inv-sifted μ-sifted Inv-records μ-records
-sifted-holds c = none-sifted (from-After-restored-to-At-records c .records .inv .windowed)
+sifted-holds c = none-sifted (from-After-billed2-to-At-records c .records .inv .windowed)
 
 long-before : (c : At-records) → length (c .records .window) ≡ 576
 long-before c = c .records .inv .windowed .long
@@ -2176,26 +2219,26 @@ still : (c : After-sifted) → messagesIn (c .before .sifted .window) (c .before
 still c = sifted.all-sifted (c .before .sifted .inv) (long-before (from-After-sifted-to-At-records c)) (c .sifted-test .left) ∙ ap (select (outlives (from-After-sifted-to-At-returned c .returned .members))) (holds (from-After-sifted-to-At-records c))
 
 recovery-state : (c : After-sifted) → perform (whole (from-After-sifted-to-At-records c)) (event (from-After-sifted-to-After-decode c)) .run
-    ≡ stateInPlace (from-After-sifted-to-Start c .args .s .count) (from-After-sifted-to-At-returned c .returned .vectors) (from-After-sifted-to-At-restored c .restored .pins) (from-After-sifted-to-At-restored c .restored .kept) (from-After-sifted-to-At-returned c .returned .sent) (from-After-sifted-to-At-restored c .restored .held) (messagesIn (c .before .sifted .window) (c .before .sifted .first) (from-After-sifted-to-At-records c .records .tail)) (from-After-sifted-to-At-records c .records .last)
+    ≡ stateInPlace (from-After-sifted-to-Start c .args .s .count) (from-After-sifted-to-At-returned c .returned .vectors) (from-After-sifted-to-At-restored c .restored .pins) (from-After-sifted-to-At-restored c .restored .kept) (from-After-sifted-to-At-returned c .returned .sent) (from-After-sifted-to-At-restored c .restored .held) (messagesIn (c .before .sifted .window) (c .before .sifted .first) (from-After-sifted-to-At-records c .records .tail)) (from-After-sifted-to-At-records c .records .last) (c .before .before .billed2 .result)
 unfolding stillOf
 recovery-state c =
     let at = from-After-sifted-to-At-records c in
     recovered-state (whole at) (reach at) (event (from-After-sifted-to-After-decode c)) (from-After-sifted-to-After-recovery-of c .recovery-of .result .failed) (asked (from-After-sifted-to-Else5 c) .0) (asked (from-After-sifted-to-Else5 c) .1) _ (from-After-sifted-to-At-records c .records .deleted) (from-After-sifted-to-At-restored c .restored .deleted) (restores (c .before .before))
-    ∙ ap (λ (l : List Message). stateInPlace (from-After-sifted-to-Start c .args .s .count) (from-After-sifted-to-At-returned c .returned .vectors) (from-After-sifted-to-At-restored c .restored .pins) (from-After-sifted-to-At-restored c .restored .kept) (from-After-sifted-to-At-returned c .returned .sent) (from-After-sifted-to-At-restored c .restored .held) l (from-After-sifted-to-At-records c .records .last)) (sym (still c))
+    ∙ ap (λ (l : List Message). stateInPlace (from-After-sifted-to-Start c .args .s .count) (from-After-sifted-to-At-returned c .returned .vectors) (from-After-sifted-to-At-restored c .restored .pins) (from-After-sifted-to-At-restored c .restored .kept) (from-After-sifted-to-At-returned c .returned .sent) (from-After-sifted-to-At-restored c .restored .held) l (from-After-sifted-to-At-records c .records .last) (c .before .before .billed2 .result)) (sym (still c))
 
 print-requires-3 : tie.Need-print-requires-3 Inv-collected μ-collected Inv-allowed μ-allowed Inv-returned μ-returned Inv-found μ-found Inv-left μ-left Inv-restored μ-restored Inv-sifted μ-sifted Inv-records μ-records
 print-requires-3 c κs =
-    let fits = said-fits (whole (from-After-print-arg6-to-At-records c)) (event (from-After-print-arg6-to-After-decode c)) _ _ (recovery-says (from-After-print-arg6-to-After-restored c)) in
+    let fits = said-fits (whole (from-After-print-arg6-to-At-records c)) (event (from-After-print-arg6-to-After-decode c)) _ _ (recovery-says (from-After-print-arg6-to-After-billed2 c)) in
     (fits .0, omega (arith, fits .1, from-After-print-arg6-to-At-restored c .restored .inv .long, from-After-print-arg6-to-At-records c .records .inv .lent), omega (arith, few (from-After-print-arg6-to-Then3 c)), room (from-After-print-arg6-to-Then3 c))
 
 records-again-3 : tie.Need-records-again-3 Inv-collected μ-collected Inv-allowed μ-allowed Inv-returned μ-returned Inv-found μ-found Inv-left μ-left Inv-restored μ-restored Inv-sifted μ-sifted Inv-records μ-records
 records-again-3 c =
-    one-more (from-After-slice-known5-to-At-records c .records .inv) (left (from-After-slice-known5-to-Then3 c)) (from-After-slice-known5-to-Then4 c .if4 .taken) (room (from-After-slice-known5-to-Then3 c)) (few (from-After-slice-known5-to-Then3 c)) (event (from-After-slice-known5-to-After-decode c)) (is-event (from-After-slice-known5-to-After-decode c))
-    (recovery-state (from-After-slice-known5-to-After-sifted c)) (recovery-says (from-After-slice-known5-to-After-restored c)) (from-After-slice-known5-to-At-restored c .restored .inv .long ∙ from-After-slice-known5-to-At-records c .records .inv .lent) (c .before .before .print3 .ensures .0) (c .before .before .print3 .ensures .1)
-    (c .before .before .print3 .kept .1 .1 .1 .0) (accepted-goes-on (from-After-slice-known5-to-Start c .args .all) refl (from-After-slice-known5-to-Then4 c .if4 .taken)) (from-After-slice-known5-to-At-sifted c .sifted .inv .windowed) (omega (arith, from-After-slice-known5-to-At-records c .records .inv .sends))
+    one-more (from-After-slice-known7-to-At-records c .records .inv) (left (from-After-slice-known7-to-Then3 c)) (from-After-slice-known7-to-Then4 c .if4 .taken) (room (from-After-slice-known7-to-Then3 c)) (few (from-After-slice-known7-to-Then3 c)) (event (from-After-slice-known7-to-After-decode c)) (is-event (from-After-slice-known7-to-After-decode c))
+    (recovery-state (from-After-slice-known7-to-After-sifted c)) (recovery-says (from-After-slice-known7-to-After-billed2 c)) (from-After-slice-known7-to-At-restored c .restored .inv .long ∙ from-After-slice-known7-to-At-records c .records .inv .lent) (c .before .before .print3 .ensures .0) (c .before .before .print3 .ensures .1)
+    (c .before .before .print3 .kept .1 .1 .1 .0) (accepted-goes-on (from-After-slice-known7-to-Start c .args .all) refl (from-After-slice-known7-to-Then4 c .if4 .taken)) (from-After-slice-known7-to-At-sifted c .sifted .inv .windowed) (omega (arith, from-After-slice-known7-to-At-records c .records .inv .sends))
 
 -- The start and the end of the block.
-same-begin : (c : After-no-checkpoint) → stateInPlace (from-After-no-checkpoint-to-Start c .args .s .count) (from-After-no-checkpoint-to-After-vector-rows c .vector-rows .result) (from-After-no-checkpoint-to-After-pin-rows c .pin-rows .result) (from-After-no-checkpoint-to-After-kept-rows c .kept-rows .result) (from-After-no-checkpoint-to-Start c .args .s .sent) (from-After-no-checkpoint-to-Start c .args .s .held) (messagesIn (c .before .opened .result) 0 64) (from-After-no-checkpoint-to-Start c .args .s .last) ≡ from-After-no-checkpoint-to-Start c .args .s
+same-begin : (c : After-no-checkpoint) → stateInPlace (from-After-no-checkpoint-to-Start c .args .s .count) (from-After-no-checkpoint-to-After-vector-rows c .vector-rows .result) (from-After-no-checkpoint-to-After-pin-rows c .pin-rows .result) (from-After-no-checkpoint-to-After-kept-rows c .kept-rows .result) (from-After-no-checkpoint-to-Start c .args .s .sent) (from-After-no-checkpoint-to-Start c .args .s .held) (messagesIn (c .before .opened .result) 0 64) (from-After-no-checkpoint-to-Start c .args .s .last) (from-After-no-checkpoint-to-Start c .args .s .disk) ≡ from-After-no-checkpoint-to-Start c .args .s
 same-begin c = same-start (from-After-no-checkpoint-to-Start c .args .s) (from-After-no-checkpoint-to-Start c .pre .0) (from-After-no-checkpoint-to-After-vector-rows c .vector-rows .ensures) (from-After-no-checkpoint-to-After-pin-rows c .pin-rows .ensures) (from-After-no-checkpoint-to-After-kept-rows c .kept-rows .ensures) (c .before .opened .ensures)
 
 records-holds : tie.Need-records-holds Inv-collected μ-collected Inv-allowed μ-allowed Inv-returned μ-returned Inv-found μ-found Inv-left μ-left Inv-restored μ-restored Inv-sifted μ-sifted Inv-records μ-records
@@ -2265,8 +2308,8 @@ replay-beside-spec =
     array-write-sent
     mul-window
     array-set-from-window
-    (λ c κs. search needs) (λ c κs. search needs)
-    live-from-requires
+    (λ c κs. search needs)
+    live-index-requires
     mul-pins-before
     array-copy-out-pins-before
     pins-then-requires
@@ -2295,28 +2338,21 @@ replay-beside-spec =
     add-to
     collected-less
     collected-again
-    cast-deleted
-    mul-deleted
-    mul-deleted-2
-    slice-write-deleted
-    mul-deleted-3
-    add-deleted
-    mul-deleted-4
-    slice-write-deleted-2
+    write-pair-requires
     add-gone
     collected-less-2
     collected-again-2
     mul-first-kept
     index-1-first-kept
     index-2-first-kept
-    (λ c κs. search needs) (λ c κs. search needs)
-    mul-stored
-    mul-stored-2
-    index-1-stored
-    index-2-stored
-    count-requires
+    stored-requires
+    mul-put-there
+    mul-put-there-2
+    index-1-put-there
+    index-2-put-there
     mul-held
     array-write-held
+    billed-requires
     print-requires
     records-less
     records-again
@@ -2395,14 +2431,7 @@ replay-beside-spec =
     add-stay
     left-less
     left-again
-    cast-deleted-2
-    mul-deleted-5
-    mul-deleted-6
-    slice-write-deleted-3
-    mul-deleted-7
-    add-deleted-2
-    mul-deleted-8
-    slice-write-deleted-4
+    write-pair-requires-2
     add-all-gone
     left-less-2
     left-again-2
@@ -2411,6 +2440,7 @@ replay-beside-spec =
     add-q
     restored-less
     restored-again
+    billed-requires-2
     sifted-holds
     mul-y
     array-copy-out-y

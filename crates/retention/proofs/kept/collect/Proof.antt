@@ -9,7 +9,7 @@ use lib.ListN.{length, take, replicate}
 use Rattle.laws.specs.Lists.{select, placed}
 use Rattle.laws.specs.Loops.{either}
 use Rattle.laws.specs.Prefixes.{placed-none, laid-yes, laid-no}
-use Rattle.model.specs.Words.{noCheckpoint, named}
+use Rattle.model.specs.Words.{pastEnd, noCheckpoint, named}
 use Rattle.model.specs.declared.Checkpoint.{Checkpoint}
 use Rattle.retention.proofs.kept.collect.Statement.{statement}
 use Rattle.retention.proofs.kept.collect.Tie as tie
@@ -34,7 +34,7 @@ loop-again c =
     let b = c .before .before .before .before in
     let a = b .before .before .args in
     let l = b .loop in
-    let z : Checkpoint = record { index = record { 0 = 0 }; vector = [] } in
+    let z = pastEnd in
     either (c .if1 .came)
     (λ w.
     let n = laid-yes (named (a .pins)) (a .t1) 16 noCheckpoint (l .k) z (search needs)

@@ -11,7 +11,7 @@ use lib.ListN.{length, take, length-set}
 use lib.Seq.{sets}
 use Rattle.laws.specs.Lists.{select}
 use Rattle.laws.specs.Loops.{either}
-use Rattle.model.specs.Words.{named}
+use Rattle.model.specs.Words.{pastEnd, named}
 use Rattle.model.specs.declared.Checkpoint.{Checkpoint}
 use Rattle.retention.specs.Deletions.{pairsOf}
 use Rattle.retention.proofs.Deletions.{pairs-of-none, pair-yes, pair-no}
@@ -43,7 +43,7 @@ loop-again c =
     let b = c .before .before .before .before .before in
     let a = b .before .before .args in
     let l = b .loop in
-    let z : Checkpoint = record { index = record { 0 = 0 }; vector = [] } in
+    let z = pastEnd in
     let t : Checkpoint → Bool = λ c. not (named (a .pins) c) in
     either (c .if1 .came)
     (λ w.

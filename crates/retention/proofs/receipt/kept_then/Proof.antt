@@ -17,7 +17,7 @@ unfolding keptThen
 returns c =
     let a = c .before .before .before .args in
     rw (c .store .ensures, c .before .before .collect .ensures, c .before .if1 .taken)
-    (stored-behind (select (named (a .pins)) (take (a .held) (a .row))) (a .live) (c .before .before .before .pre .1 (c .before .if1 .taken)))
+    (stored-behind (select (named (a .pins)) (take (a .held) (a .row))) (a .stored) (c .before .before .before .pre .1 (c .before .if1 .taken)))
 
 returns-2 : tie.Need-returns-2
 unfolding keptThen

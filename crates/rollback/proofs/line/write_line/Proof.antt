@@ -7,12 +7,12 @@ use lib.ListN.{length, getD, length-set}
 use Rattle.laws.specs.Loops.{setBelow, below-none, turn-set}
 use borrow.Author.Needs.{needs}
 use Rattle.laws.specs.Below.{below-written}
-use Rattle.rollback.specs.Members.{noState}
+use Rattle.model.specs.Words.{pastEnd}
 use Rattle.rollback.proofs.line.write_line.Statement.{statement}
 use Rattle.rollback.proofs.line.write_line.Tie as tie
 
 abbrev Inv-loop : tie.InvT-loop
-Inv-loop line₀ n states p₀ line p = (p ≤ n) × (length line ≡ length line₀) × (line ≡ setBelow p (λ q. getD states q noState .index .0) line₀)
+Inv-loop line₀ n states p₀ line p = (p ≤ n) × (length line ≡ length line₀) × (line ≡ setBelow p (λ q. getD states q pastEnd .index .0) line₀)
 
 abbrev μ-loop : tie.MeasureT-loop
 μ-loop line₀ n states p₀ line p = n - p
@@ -26,7 +26,7 @@ loop-again c =
     let l = b .loop in (
       search needs,
       simp length-set (l .inv .1),
-      turn-set (λ q. getD (b .before .args .t2) q noState .index .0) (b .before .args .line .now) (l .line) (l .p) (l .inv .2) _ refl,
+      turn-set (λ q. getD (b .before .args .t2) q pastEnd .index .0) (b .before .args .line .now) (l .line) (l .p) (l .inv .2) _ refl,
     )
 
 returns : tie.Need-returns Inv-loop μ-loop

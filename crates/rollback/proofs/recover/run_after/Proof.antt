@@ -2,7 +2,7 @@
 -- Assumes nothing.
 use mathlib.Core.Path.{_≡_, refl}
 use mathlib.Core.Bool.{true}
-use mathlib.Core.List.{List}
+use mathlib.Core.List.{List, []}
 use Prim.Native.Nat.{ℕ}
 use borrow.Author.Needs.{needs}
 use lib.Dec.{ltb}
@@ -19,15 +19,18 @@ use Rattle.model.specs.declared.Checkpoint.{Checkpoint}
 use Rattle.model.specs.declared.Run.{Run}
 use Rattle.model.specs.declared.RecoverAnswer.the-variants.{Recovered}
 use Rattle.model.specs.Outcomes.{pairs}
-use Rattle.model.specs.Words.{noMessage, underWay}
+use Rattle.model.specs.Words.{noMessage, blockCount, process, underWay}
 use Rattle.model.specs.Sound.{messageSound, sound}
 use Rattle.model.specs.laws.Sound.{sound-state, sound-message}
+use Rattle.rows.proofs.Blocks.{first-count}
+use Rattle.plans.proofs.Billing.{count-small, written-small, deleted-small}
 use Rattle.members.specs.Line.{ownRow}
 use Rattle.members.specs.Turn.{outlives}
 use Rattle.rollback.specs.declared.recover.RecoverOutcome.{RecoverOutcome}
 use Rattle.rollback.specs.declared.recover.Returned.{Returned}
 use Rattle.rollback.specs.declared.recover.RowsAfter.{RowsAfter}
 use Rattle.rollback.specs.declared.recover.UnderWay.{UnderWay}
+use Rattle.rollback.specs.Members.{CountsAtMost}
 use Rattle.rollback.specs.Returned.{returnedOf}
 use Rattle.rollback.specs.After.{pinsAt, lossesOf, rowsOf}
 use Rattle.rollback.specs.Restored.{stillOf, restored, pinsIn, rowsIn, restoredFrom, restoredIn, lossesFrom, lossesIn}
@@ -41,7 +44,7 @@ run-done : (s : Run) (states : List Checkpoint) (v₀ v₁ : List (List Interval
     → r ≡ returnedOf (s .count) v₀ (s .sent) states
     → v₁ ≡ r .vectors .0
     → owns ≡ ownRow v₁
-    → all ≡ rowsOf (s .count) p₀ v₁ owns (r .rolled) k₀ (s .held) (r .members)
+    → all ≡ rowsOf (s .count) p₀ v₁ owns (r .rolled) k₀ (s .held) (r .members) (s .disk)
     → l₁ ≡ sets l₀ 0 (pairs (lossesOf (s .count) k₀ (s .held) (r .members) (pinsAt p₀ v₁ owns (r .rolled) k₀ (s .held) (r .members))))
     → still ≡ stillOf (select (outlives (r .members)) (take (s .underway) (s .messages)))
     → (_≡_ {A = RecoverOutcome} (record {
@@ -55,6 +58,7 @@ run-done : (s : Run) (states : List Checkpoint) (v₀ v₁ : List (List Interval
         messages = still .messages;
         underway = still .count;
         last = s .last;
+        disk = all .disk;
       };
       answer = Recovered (r .back) (all .deleted);
     })
@@ -66,11 +70,17 @@ run-done s states v₀ v₁ p₀ k₀ r owns all still l₀ l₁ a b c d e f g h
 go-back-requires : tie.Need-go-back-requires
 go-back-requires c κs = let st = c .before .before .before .before .before .before .before in sound-state (st .args .s) (st .pre .0) .count-most
 
+-- A block count is in its range.
+counts-small : (s : Run) → sound s ≡ true → (k : List (List Checkpoint)) → k ≡ s .kept .0 → CountsAtMost (s .count) k
+unfolding process blockCount
+counts-small s h k e p lt = rw e (omega (arith, first-count (getD (s .kept .0) p []) (getD (s .held) p 0) (sound-state s h .processes p lt .held-some), count-small s h p lt))
+
 rows-after-requires : tie.Need-rows-after-requires
 rows-after-requires c κs =
-    let st = c .before .before .before .before .before .before .before .before .before .before .before .before .before .before .before in
+    let kept = c .before .before .before .before .before .before .before .before .before .before .before in
+    let st = kept .before .before .before .before in
     let parts = sound-state (st .args .s) (st .pre .0) in
-    (parts .count-most, st .pre .1, λ p lt. parts .processes p lt .held-most)
+    (parts .count-most, st .pre .1, (λ p lt. parts .processes p lt .held-most), counts-small (st .args .s) (st .pre .0) _ (kept .kept-rows .ensures), written-small (st .args .s) (st .pre .0), deleted-small (st .args .s) (st .pre .0))
 
 -- A message under way has its sender in the run, which has 16 processes at most.
 senders-there : (s : Run) → sound s ≡ true → every (λ x. ltb (x .sender) 16) (take (s .underway) (s .messages)) ≡ true
@@ -81,13 +91,13 @@ senders-there s h = every-by (λ x. ltb (x .sender) 16) (underWay s) noMessage (
 
 still-under-way-requires : tie.Need-still-under-way-requires
 still-under-way-requires c κs =
-    let all = c .before .before .before .before .before in
+    let all = c .before .before .before .before .before .before in
     let st = all .before .before .before .before .before .before .before .before .before .before .before .before .before .before .before .before in
     (sound-state (st .args .s) (st .pre .0) .underway-most, senders-there (st .args .s) (st .pre .0))
 
 returns : tie.Need-returns
 returns c =
-    let rows = c .before .before .before .before .before .before .before in
+    let rows = c .before .before .before .before .before .before .before .before in
     let back = rows .before .before .before .before .before .before .before .before in
     let kept = back .before .before .before .before in
     let a = kept .before .before .before .before .args in

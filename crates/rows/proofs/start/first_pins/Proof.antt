@@ -7,7 +7,7 @@ use Rattle.rows.proofs.start.first_pins.Tie as tie
 
 returns : tie.Need-returns
 unfolding started
-returns c = rw (c .no-pins .ensures)
+returns c counts = rw (c .no-pins .ensures)
 
 pub first-pins-spec : {M : Type 1} → statement M
 first-pins-spec = tie.close (tie.spec (λ c κs. search needs) (λ c. search needs) (λ c. search needs) returns)

@@ -7,7 +7,7 @@ use Rattle.rows.proofs.start.first_vector.Tie as tie
 
 returns : tie.Need-returns
 unfolding started
-returns c = rw (c .zero-vector .ensures)
+returns c counts = rw (c .zero-vector .ensures)
 
 pub first-vector-spec : {M : Type 1} → statement M
 first-vector-spec = tie.close (tie.spec (λ c κs. search needs) (λ c. search needs) (λ c. search needs) returns)

@@ -6,7 +6,7 @@ use Rattle.soundness.proofs.kept.is_unused.Tie as tie
 
 returns : tie.Need-returns
 unfolding unusedCheckpoint
-returns c = rw (c .before .is-zero .ensures)
+returns c = rw (c .before .before .before .is-zero .ensures)
 
 pub is-unused-spec : {M : Type 1} → statement M
 is-unused-spec = tie.close (tie.spec (λ c κs. search needs) returns)

@@ -1,11 +1,11 @@
 -- `steps::checkpoint::checkpoint` meets its contract: its plan, carried out, is the outcome (proofs/Calling). Assumes nothing.
 use Prim.Native.Nat.{_*_, _≤_}
-use mathlib.Core.Path.{refl}
+use mathlib.Core.Path.{refl, _∙_}
 use Rattle.model.specs.declared.Refusal.the-variants.{ListTooShort}
 use Rattle.model.specs.laws.Sound.{sound-state}
 use Rattle.plans.proofs.Facts.{square-most}
 use Rattle.plans.proofs.SoundFacts.{own-least}
-use Rattle.steps.proofs.Calling.{row-there, put-closed, move-state, move-gone, move-list, first-look, checkpoint-short, checkpoint-refused, checkpoint-does, checkpoint-no, checkpoint-moves, checkpoint-laid, checkpoint-outcome}
+use Rattle.steps.proofs.Calling.{row-there, put-closed, move-state, move-gone, move-list, count-at, first-look, checkpoint-short, checkpoint-refused, checkpoint-does, checkpoint-no, checkpoint-moves, checkpoint-laid, checkpoint-outcome}
 use Rattle.steps.proofs.Sizes.{sizes}
 use borrow.Author.Needs.{needs}
 use Rattle.steps.proofs.checkpoint.checkpoint.Statement.{statement}
@@ -37,13 +37,17 @@ index-1-own c = let less = row-there _ (c .before .row-of .ensures) in search ne
 index-2-own : tie.Need-index-2-own
 index-2-own c = let less = row-there _ (c .before .row-of .ensures) in search needs
 
+block-count-requires : tie.Need-block-count-requires
+block-count-requires c κs = row-there _ (c .before .before .row-of .ensures)
+
 array-read-checkpoint-plan : tie.Need-array-read-checkpoint-plan
-array-read-checkpoint-plan c = let less = row-there _ (c .before .before .before .before .before .before .row-of .ensures) in search needs
+array-read-checkpoint-plan c = let less = row-there _ (c .before .before .before .before .before .before .before .before .row-of .ensures) in search needs
 
 live-index-requires : tie.Need-live-index-requires
 live-index-requires c κs =
     let k = c .before .before in
-    let v = k .before .before .before .before .before .before in
+    let b = k .before .before .before .before .before .before in
+    let v = b .before .before in
     let r = v .before in
     let u = r .before .before .before in
     let a = u .args in
@@ -51,14 +55,15 @@ live-index-requires c κs =
     let size = sizes (a .s) _ (u .good .0) in
     let long = r .before .if1 .left in
     let look = first-look (a .s) h size (k .before .none-named .ensures) in
-    let does = checkpoint-does (a .s) h size (a .i) (a .deleted .now) long look (r .row-of .ensures) (v .vector-rows .ensures) (k .checkpoint-plan .ensures) in
-    let moves = checkpoint-moves (a .s) h size (a .i) (a .deleted .now) long look (r .row-of .ensures) (v .vector-rows .ensures) (k .checkpoint-plan .ensures) (c .enum-told .given .1) in
+    let does = checkpoint-does (a .s) h size (a .i) (a .deleted .now) long look (r .row-of .ensures) (v .vector-rows .ensures) (b .block-count .ensures) (k .checkpoint-plan .ensures) in
+    let moves = checkpoint-moves (a .s) h size (a .i) (a .deleted .now) long look (r .row-of .ensures) (v .vector-rows .ensures) (b .block-count .ensures) (k .checkpoint-plan .ensures) (c .enum-told .given .1) in
     rw (v .vector-rows .ensures) (own-least (a .s) h _ (does .moved-process moves))
 
 move-rows-requires : tie.Need-move-rows-requires
 move-rows-requires c κs =
     let k = c .before .before .before .before in
-    let v = k .before .before .before .before .before .before in
+    let b = k .before .before .before .before .before .before in
+    let v = b .before .before in
     let r = v .before in
     let u = r .before .before .before in
     let a = u .args in
@@ -66,15 +71,16 @@ move-rows-requires c κs =
     let size = sizes (a .s) _ (u .good .0) in
     let long = r .before .if1 .left in
     let look = first-look (a .s) h size (k .before .none-named .ensures) in
-    let does = checkpoint-does (a .s) h size (a .i) (a .deleted .now) long look (r .row-of .ensures) (v .vector-rows .ensures) (k .checkpoint-plan .ensures) in
-    let moves = checkpoint-moves (a .s) h size (a .i) (a .deleted .now) long look (r .row-of .ensures) (v .vector-rows .ensures) (k .checkpoint-plan .ensures) (c .before .before .enum-told .given .1) in
-    let laid = checkpoint-laid (a .s) h size (a .i) (a .deleted .now) long look (r .row-of .ensures) (v .vector-rows .ensures) (k .checkpoint-plan .ensures) (c .before .before .enum-told .given .1) in
-    (h, row-there _ (r .row-of .ensures), does .moved-process moves, does .moved-room moves, put-closed does _ laid, long)
+    let does = checkpoint-does (a .s) h size (a .i) (a .deleted .now) long look (r .row-of .ensures) (v .vector-rows .ensures) (b .block-count .ensures) (k .checkpoint-plan .ensures) in
+    let moves = checkpoint-moves (a .s) h size (a .i) (a .deleted .now) long look (r .row-of .ensures) (v .vector-rows .ensures) (b .block-count .ensures) (k .checkpoint-plan .ensures) (c .before .before .enum-told .given .1) in
+    let laid = checkpoint-laid (a .s) h size (a .i) (a .deleted .now) long look (r .row-of .ensures) (v .vector-rows .ensures) (b .block-count .ensures) (k .checkpoint-plan .ensures) (c .before .before .enum-told .given .1) in
+    (h, row-there _ (r .row-of .ensures), does .moved-process moves, does .moved-room moves, put-closed does _ laid, long, b .block-count .ensures ∙ count-at (a .s) h size _ (does .moved-process moves))
 
 returns-2 : tie.Need-returns-2
 returns-2 c =
     let k = c .before .before .before .before in
-    let v = k .before .before .before .before .before .before in
+    let b = k .before .before .before .before .before .before in
+    let v = b .before .before in
     let r = v .before in
     let u = r .before .before .before in
     let a = u .args in
@@ -82,14 +88,15 @@ returns-2 c =
     let size = sizes (a .s) _ (u .good .0) in
     let long = r .before .if1 .left in
     let look = first-look (a .s) h size (k .before .none-named .ensures) in
-    let does = checkpoint-does (a .s) h size (a .i) (a .deleted .now) long look (r .row-of .ensures) (v .vector-rows .ensures) (k .checkpoint-plan .ensures) in
-    let e = checkpoint-no (a .s) h size (a .i) (a .deleted .now) long look (r .row-of .ensures) (v .vector-rows .ensures) (k .checkpoint-plan .ensures) _ (c .before .before .verdict .given .1) in
+    let does = checkpoint-does (a .s) h size (a .i) (a .deleted .now) long look (r .row-of .ensures) (v .vector-rows .ensures) (b .block-count .ensures) (k .checkpoint-plan .ensures) in
+    let e = checkpoint-no (a .s) h size (a .i) (a .deleted .now) long look (r .row-of .ensures) (v .vector-rows .ensures) (b .block-count .ensures) (k .checkpoint-plan .ensures) _ (c .before .before .verdict .given .1) in
     rw (checkpoint-refused (a .s) h size (a .i) (a .deleted .now) _ e, c .refuse2 .ensures) ((refl, refl), refl)
 
 returns-3 : tie.Need-returns-3
 returns-3 c =
     let k = c .before .before .before .before .before .before .before .before in
-    let v = k .before .before .before .before .before .before in
+    let b = k .before .before .before .before .before .before in
+    let v = b .before .before in
     let r = v .before in
     let u = r .before .before .before in
     let a = u .args in
@@ -97,11 +104,11 @@ returns-3 c =
     let size = sizes (a .s) _ (u .good .0) in
     let long = r .before .if1 .left in
     let look = first-look (a .s) h size (k .before .none-named .ensures) in
-    let does = checkpoint-does (a .s) h size (a .i) (a .deleted .now) long look (r .row-of .ensures) (v .vector-rows .ensures) (k .checkpoint-plan .ensures) in
-    let moves = checkpoint-moves (a .s) h size (a .i) (a .deleted .now) long look (r .row-of .ensures) (v .vector-rows .ensures) (k .checkpoint-plan .ensures) (c .before .before .before .before .before .before .enum-told .given .1) in
-    let laid = checkpoint-laid (a .s) h size (a .i) (a .deleted .now) long look (r .row-of .ensures) (v .vector-rows .ensures) (k .checkpoint-plan .ensures) (c .before .before .before .before .before .before .enum-told .given .1) in
+    let does = checkpoint-does (a .s) h size (a .i) (a .deleted .now) long look (r .row-of .ensures) (v .vector-rows .ensures) (b .block-count .ensures) (k .checkpoint-plan .ensures) in
+    let moves = checkpoint-moves (a .s) h size (a .i) (a .deleted .now) long look (r .row-of .ensures) (v .vector-rows .ensures) (b .block-count .ensures) (k .checkpoint-plan .ensures) (c .before .before .before .before .before .before .enum-told .given .1) in
+    let laid = checkpoint-laid (a .s) h size (a .i) (a .deleted .now) long look (r .row-of .ensures) (v .vector-rows .ensures) (b .block-count .ensures) (k .checkpoint-plan .ensures) (c .before .before .before .before .before .before .enum-told .given .1) in
     let put = c .before .before .before .move-rows .ensures in
-    let said = checkpoint-outcome (a .s) h size (a .i) (a .deleted .now) long look (r .row-of .ensures) (v .vector-rows .ensures) (k .checkpoint-plan .ensures) (c .before .before .before .before .before .before .enum-told .given .1)
+    let said = checkpoint-outcome (a .s) h size (a .i) (a .deleted .now) long look (r .row-of .ensures) (v .vector-rows .ensures) (b .block-count .ensures) (k .checkpoint-plan .ensures) (c .before .before .before .before .before .before .enum-told .given .1)
     (c .before .before .before .before .before .live-index .ensures) (move-gone does moves (put .1 .0)) (move-list does moves _ (put .1 .1 .1)) in
     ((move-state does _ laid moves (put .0), said .0), said .1)
 
@@ -118,6 +125,7 @@ checkpoint-spec =
     mul-own-2
     index-1-own
     index-2-own
+    block-count-requires
     (λ c. search needs) (λ c κs. search needs)
     array-read-checkpoint-plan
     (λ c κs. search needs) (λ c. search needs) (λ c κs. search needs) (λ c. search needs)

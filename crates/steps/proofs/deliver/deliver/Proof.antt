@@ -1,12 +1,12 @@
 -- `steps::deliver::deliver` meets its contract: its plan, carried out, is the outcome (proofs/Calling). Assumes nothing.
 use Prim.Native.Nat.{_*_, _≤_}
-use mathlib.Core.Path.{refl}
+use mathlib.Core.Path.{refl, _∙_}
 use native.Mathlib.Omega.{arith}
 use Rattle.model.specs.declared.Refusal.the-variants.{ListTooShort}
 use Rattle.model.specs.laws.Sound.{sound-state}
 use Rattle.plans.proofs.Facts.{square-most}
 use Rattle.plans.proofs.SoundFacts.{own-least}
-use Rattle.steps.proofs.Calling.{row-there, closed-up, put-closed, put-state, move-state, still-gone, still-list, move-gone, move-list, some-underway, deliver-short, deliver-refused, deliver-does, deliver-no, deliver-present, deliver-outcome, moved-rose, still-rose}
+use Rattle.steps.proofs.Calling.{row-there, closed-up, put-closed, put-state, move-state, still-gone, still-list, move-gone, move-list, count-at, some-underway, deliver-short, deliver-refused, deliver-does, deliver-no, deliver-present, deliver-outcome, moved-rose, still-rose}
 use Rattle.steps.proofs.Sizes.{sizes}
 use borrow.Author.Needs.{needs}
 use Rattle.steps.proofs.deliver.deliver.Statement.{statement}
@@ -41,19 +41,23 @@ mul-own c = let less = row-there _ (c .before .before .row-of .ensures) in searc
 array-copy-out-own : tie.Need-array-copy-out-own
 array-copy-out-own c = let less = row-there _ (c .before .before .row-of .ensures) in search needs
 
+block-count-requires : tie.Need-block-count-requires
+block-count-requires c κs = row-there _ (c .before .before .before .row-of .ensures)
+
 array-read-deliver-plan : tie.Need-array-read-deliver-plan
-array-read-deliver-plan c = let less = row-there _ (c .before .before .before .before .row-of .ensures) in search needs
+array-read-deliver-plan c = let less = row-there _ (c .before .before .before .before .before .before .row-of .ensures) in search needs
 
 deliver-plan-requires : tie.Need-deliver-plan-requires
 deliver-plan-requires c κs =
-    let l = c .before .before .before .before .before .before in
+    let l = c .before .before .before .before .before .before .before .before in
     let u = l .before .before .before .before in
     some-underway (u .args .s) (u .pre) (sizes (u .args .s) _ (u .good .0)) (u .args .m) (l .look-up .ensures)
 
 put-requires : tie.Need-put-requires
 put-requires c κs =
     let k = c .before .before in
-    let v = k .before .before .before .before in
+    let b = k .before .before .before in
+    let v = b .before .before .before in
     let r = v .before in
     let l = r .before .before in
     let u = l .before .before .before .before in
@@ -61,13 +65,14 @@ put-requires c κs =
     let h = u .pre in
     let size = sizes (a .s) _ (u .good .0) in
     let long = l .before .before .if1 .left in
-    let does = deliver-does (a .s) h size (a .m) (l .look-up .ensures) (a .deleted .now) long (r .row-of .ensures) (v .vector-rows .ensures) (k .deliver-plan .ensures) in
+    let does = deliver-does (a .s) h size (a .m) (l .look-up .ensures) (a .deleted .now) long (r .row-of .ensures) (v .vector-rows .ensures) (b .block-count .ensures) (k .deliver-plan .ensures) in
     omega (arith, does .place-there, size .messages)
 
 closed-up-requires : tie.Need-closed-up-requires
 closed-up-requires c κs =
     let k = c .before .before .before in
-    let v = k .before .before .before .before in
+    let b = k .before .before .before in
+    let v = b .before .before .before in
     let r = v .before in
     let l = r .before .before in
     let u = l .before .before .before .before in
@@ -75,13 +80,14 @@ closed-up-requires c κs =
     let h = u .pre in
     let size = sizes (a .s) _ (u .good .0) in
     let long = l .before .before .if1 .left in
-    let does = deliver-does (a .s) h size (a .m) (l .look-up .ensures) (a .deleted .now) long (r .row-of .ensures) (v .vector-rows .ensures) (k .deliver-plan .ensures) in
+    let does = deliver-does (a .s) h size (a .m) (l .look-up .ensures) (a .deleted .now) long (r .row-of .ensures) (v .vector-rows .ensures) (b .block-count .ensures) (k .deliver-plan .ensures) in
     omega (arith, does .tail-there, size .messages)
 
 move-rows-requires : tie.Need-move-rows-requires
 move-rows-requires c κs =
     let k = c .before .before .before .before .before .before in
-    let v = k .before .before .before .before in
+    let b = k .before .before .before in
+    let v = b .before .before .before in
     let r = v .before in
     let l = r .before .before in
     let u = l .before .before .before .before in
@@ -89,15 +95,16 @@ move-rows-requires c κs =
     let h = u .pre in
     let size = sizes (a .s) _ (u .good .0) in
     let long = l .before .before .if1 .left in
-    let does = deliver-does (a .s) h size (a .m) (l .look-up .ensures) (a .deleted .now) long (r .row-of .ensures) (v .vector-rows .ensures) (k .deliver-plan .ensures) in
+    let does = deliver-does (a .s) h size (a .m) (l .look-up .ensures) (a .deleted .now) long (r .row-of .ensures) (v .vector-rows .ensures) (b .block-count .ensures) (k .deliver-plan .ensures) in
     let laid = closed-up does (c .before .before .before .put .ensures) (c .before .before .closed-up .ensures) in
     let moves = c .before .if2 .taken in
-    (h, row-there _ (r .row-of .ensures), does .moved-process moves, does .moved-room moves, put-closed does _ laid, long)
+    (h, row-there _ (r .row-of .ensures), does .moved-process moves, does .moved-room moves, put-closed does _ laid, long, b .block-count .ensures ∙ count-at (a .s) h size _ (does .moved-process moves))
 
 answer-of-requires : tie.Need-answer-of-requires
 answer-of-requires c κs =
     let k = c .before .before .before .before .before .before .before .before .before in
-    let v = k .before .before .before .before in
+    let b = k .before .before .before in
+    let v = b .before .before .before in
     let r = v .before in
     let l = r .before .before in
     let u = l .before .before .before .before in
@@ -105,13 +112,14 @@ answer-of-requires c κs =
     let h = u .pre in
     let size = sizes (a .s) _ (u .good .0) in
     let long = l .before .before .if1 .left in
-    let does = deliver-does (a .s) h size (a .m) (l .look-up .ensures) (a .deleted .now) long (r .row-of .ensures) (v .vector-rows .ensures) (k .deliver-plan .ensures) in
-    rw (v .vector-rows .ensures) (own-least (a .s) h _ (deliver-present (a .s) h size (a .m) (l .look-up .ensures) (a .deleted .now) long (r .row-of .ensures) (v .vector-rows .ensures) (k .deliver-plan .ensures) (c .before .before .before .before .before .before .before .enum-told .given .1)))
+    let does = deliver-does (a .s) h size (a .m) (l .look-up .ensures) (a .deleted .now) long (r .row-of .ensures) (v .vector-rows .ensures) (b .block-count .ensures) (k .deliver-plan .ensures) in
+    rw (v .vector-rows .ensures) (own-least (a .s) h _ (deliver-present (a .s) h size (a .m) (l .look-up .ensures) (a .deleted .now) long (r .row-of .ensures) (v .vector-rows .ensures) (b .block-count .ensures) (k .deliver-plan .ensures) (c .before .before .before .before .before .before .before .enum-told .given .1)))
 
 returns-2 : tie.Need-returns-2
 returns-2 c =
     let k = c .before .before .before .before .before .before .before .before .before .before .before in
-    let v = k .before .before .before .before in
+    let b = k .before .before .before in
+    let v = b .before .before .before in
     let r = v .before in
     let l = r .before .before in
     let u = l .before .before .before .before in
@@ -119,18 +127,19 @@ returns-2 c =
     let h = u .pre in
     let size = sizes (a .s) _ (u .good .0) in
     let long = l .before .before .if1 .left in
-    let does = deliver-does (a .s) h size (a .m) (l .look-up .ensures) (a .deleted .now) long (r .row-of .ensures) (v .vector-rows .ensures) (k .deliver-plan .ensures) in
+    let does = deliver-does (a .s) h size (a .m) (l .look-up .ensures) (a .deleted .now) long (r .row-of .ensures) (v .vector-rows .ensures) (b .block-count .ensures) (k .deliver-plan .ensures) in
     let laid = closed-up does (c .before .before .before .before .before .before .before .before .put .ensures) (c .before .before .before .before .before .before .before .closed-up .ensures) in
     let moves = c .before .before .before .before .before .before .if2 .taken in
     let put = c .before .before .before .before .move-rows .ensures in
-    let said = deliver-outcome (a .s) h size (a .m) (l .look-up .ensures) (a .deleted .now) long (r .row-of .ensures) (v .vector-rows .ensures) (k .deliver-plan .ensures) (c .before .before .before .before .before .before .before .before .before .enum-told .given .1) (c .before .answer-of .ensures) (move-gone does moves (put .1 .0)) (move-list does moves _ (put .1 .1 .1)) in
-    let rose = moved-rose (a .s) h size (a .m) (l .look-up .ensures) (a .deleted .now) long (r .row-of .ensures) (v .vector-rows .ensures) (k .deliver-plan .ensures) (c .before .before .before .before .before .before .before .before .before .enum-told .given .1) moves (put .1 .1 .0) in
+    let said = deliver-outcome (a .s) h size (a .m) (l .look-up .ensures) (a .deleted .now) long (r .row-of .ensures) (v .vector-rows .ensures) (b .block-count .ensures) (k .deliver-plan .ensures) (c .before .before .before .before .before .before .before .before .before .enum-told .given .1) (c .before .answer-of .ensures) (move-gone does moves (put .1 .0)) (move-list does moves _ (put .1 .1 .1)) in
+    let rose = moved-rose (a .s) h size (a .m) (l .look-up .ensures) (a .deleted .now) long (r .row-of .ensures) (v .vector-rows .ensures) (b .block-count .ensures) (k .deliver-plan .ensures) (c .before .before .before .before .before .before .before .before .before .enum-told .given .1) moves (put .1 .1 .0) in
     (move-state does _ laid moves (put .0), (said .0, (rose, said .1)))
 
 put-requires-2 : tie.Need-put-requires-2
 put-requires-2 c κs =
     let k = c .before .before .before .before .before in
-    let v = k .before .before .before .before in
+    let b = k .before .before .before in
+    let v = b .before .before .before in
     let r = v .before in
     let l = r .before .before in
     let u = l .before .before .before .before in
@@ -138,14 +147,15 @@ put-requires-2 c κs =
     let h = u .pre in
     let size = sizes (a .s) _ (u .good .0) in
     let long = l .before .before .if1 .left in
-    let does = deliver-does (a .s) h size (a .m) (l .look-up .ensures) (a .deleted .now) long (r .row-of .ensures) (v .vector-rows .ensures) (k .deliver-plan .ensures) in
+    let does = deliver-does (a .s) h size (a .m) (l .look-up .ensures) (a .deleted .now) long (r .row-of .ensures) (v .vector-rows .ensures) (b .block-count .ensures) (k .deliver-plan .ensures) in
     let laid = closed-up does (c .before .before .put .ensures) (c .before .closed-up .ensures) in
     (row-there _ (r .row-of .ensures), put-closed does _ laid)
 
 answer-of-requires-2 : tie.Need-answer-of-requires-2
 answer-of-requires-2 c κs =
     let k = c .before .before .before .before .before .before in
-    let v = k .before .before .before .before in
+    let b = k .before .before .before in
+    let v = b .before .before .before in
     let r = v .before in
     let l = r .before .before in
     let u = l .before .before .before .before in
@@ -153,13 +163,14 @@ answer-of-requires-2 c κs =
     let h = u .pre in
     let size = sizes (a .s) _ (u .good .0) in
     let long = l .before .before .if1 .left in
-    let does = deliver-does (a .s) h size (a .m) (l .look-up .ensures) (a .deleted .now) long (r .row-of .ensures) (v .vector-rows .ensures) (k .deliver-plan .ensures) in
-    rw (v .vector-rows .ensures) (own-least (a .s) h _ (deliver-present (a .s) h size (a .m) (l .look-up .ensures) (a .deleted .now) long (r .row-of .ensures) (v .vector-rows .ensures) (k .deliver-plan .ensures) (c .before .before .before .before .enum-told .given .1)))
+    let does = deliver-does (a .s) h size (a .m) (l .look-up .ensures) (a .deleted .now) long (r .row-of .ensures) (v .vector-rows .ensures) (b .block-count .ensures) (k .deliver-plan .ensures) in
+    rw (v .vector-rows .ensures) (own-least (a .s) h _ (deliver-present (a .s) h size (a .m) (l .look-up .ensures) (a .deleted .now) long (r .row-of .ensures) (v .vector-rows .ensures) (b .block-count .ensures) (k .deliver-plan .ensures) (c .before .before .before .before .enum-told .given .1)))
 
 returns-3 : tie.Need-returns-3
 returns-3 c =
     let k = c .before .before .before .before in
-    let v = k .before .before .before .before in
+    let b = k .before .before .before in
+    let v = b .before .before .before in
     let r = v .before in
     let l = r .before .before in
     let u = l .before .before .before .before in
@@ -167,14 +178,15 @@ returns-3 c =
     let h = u .pre in
     let size = sizes (a .s) _ (u .good .0) in
     let long = l .before .before .if1 .left in
-    let does = deliver-does (a .s) h size (a .m) (l .look-up .ensures) (a .deleted .now) long (r .row-of .ensures) (v .vector-rows .ensures) (k .deliver-plan .ensures) in
-    let e = deliver-no (a .s) h size (a .m) (l .look-up .ensures) (a .deleted .now) long (r .row-of .ensures) (v .vector-rows .ensures) (k .deliver-plan .ensures) _ (c .before .before .verdict .given .1) in
+    let does = deliver-does (a .s) h size (a .m) (l .look-up .ensures) (a .deleted .now) long (r .row-of .ensures) (v .vector-rows .ensures) (b .block-count .ensures) (k .deliver-plan .ensures) in
+    let e = deliver-no (a .s) h size (a .m) (l .look-up .ensures) (a .deleted .now) long (r .row-of .ensures) (v .vector-rows .ensures) (b .block-count .ensures) (k .deliver-plan .ensures) _ (c .before .before .verdict .given .1) in
     rw (deliver-refused (a .s) h size (a .m) (a .deleted .now) _ e, c .refuse2 .ensures) (refl, (refl, (refl, refl)))
 
 returns-4 : tie.Need-returns-4
 returns-4 c =
     let k = c .before .before .before .before .before .before .before in
-    let v = k .before .before .before .before in
+    let b = k .before .before .before in
+    let v = b .before .before .before in
     let r = v .before in
     let l = r .before .before in
     let u = l .before .before .before .before in
@@ -182,11 +194,11 @@ returns-4 c =
     let h = u .pre in
     let size = sizes (a .s) _ (u .good .0) in
     let long = l .before .before .if1 .left in
-    let does = deliver-does (a .s) h size (a .m) (l .look-up .ensures) (a .deleted .now) long (r .row-of .ensures) (v .vector-rows .ensures) (k .deliver-plan .ensures) in
+    let does = deliver-does (a .s) h size (a .m) (l .look-up .ensures) (a .deleted .now) long (r .row-of .ensures) (v .vector-rows .ensures) (b .block-count .ensures) (k .deliver-plan .ensures) in
     let laid = closed-up does (c .before .before .before .before .put .ensures) (c .before .before .before .closed-up .ensures) in
     let still = c .before .before .if2 .left in
-    let said = deliver-outcome (a .s) h size (a .m) (l .look-up .ensures) (a .deleted .now) long (r .row-of .ensures) (v .vector-rows .ensures) (k .deliver-plan .ensures) (c .before .before .before .before .before .enum-told .given .1) (c .answer-of2 .ensures) (still-gone does still) (still-list does still (a .deleted .now)) in
-    let rose = still-rose (a .s) h size (a .m) (l .look-up .ensures) (a .deleted .now) long (r .row-of .ensures) (v .vector-rows .ensures) (k .deliver-plan .ensures) (c .before .before .before .before .before .enum-told .given .1) still in
+    let said = deliver-outcome (a .s) h size (a .m) (l .look-up .ensures) (a .deleted .now) long (r .row-of .ensures) (v .vector-rows .ensures) (b .block-count .ensures) (k .deliver-plan .ensures) (c .before .before .before .before .before .enum-told .given .1) (c .answer-of2 .ensures) (still-gone does still) (still-list does still (a .deleted .now)) in
+    let rose = still-rose (a .s) h size (a .m) (l .look-up .ensures) (a .deleted .now) long (r .row-of .ensures) (v .vector-rows .ensures) (b .block-count .ensures) (k .deliver-plan .ensures) (c .before .before .before .before .before .enum-told .given .1) still in
     (put-state does _ laid still (c .before .put2 .ensures), (said .0, (rose, said .1)))
 
 pub deliver-spec : {M : Type 1} → statement M
@@ -204,6 +216,7 @@ deliver-spec =
     array-copy-out-vector
     mul-own
     array-copy-out-own
+    block-count-requires
     array-read-deliver-plan
     deliver-plan-requires
     (λ c. search needs)

@@ -1,11 +1,11 @@
--- `exam::act::start` meets its contract. Assumes nothing.
+-- `exam::act::start_with` meets its contract. Assumes nothing.
 use mathlib.Core.Path.{ap, _∙_}
 use borrow.Author.Needs.{needs}
 use Rattle.model.specs.declared.StartAnswer.{StartAnswer}
 use Rattle.model.specs.Outcomes.{Report, startReport}
 use Rattle.listing.specs.Said.{reportIn}
-use Rattle.exam.proofs.act.start.Statement.{statement}
-use Rattle.exam.proofs.act.start.Tie as tie
+use Rattle.exam.proofs.act.start_with.Statement.{statement}
+use Rattle.exam.proofs.act.start_with.Tie as tie
 
 returns : tie.Need-returns
 unfolding reportIn
@@ -16,5 +16,5 @@ returns c =
           ∙ ap (λ (a : StartAnswer). startReport a .refused) (called .1),
     )
 
-pub start-spec : {M : Type 1} → statement M
-start-spec = tie.close (tie.spec (λ c κs. search needs) (λ c κs. search needs) returns)
+pub start-with-spec : {M : Type 1} → statement M
+start-with-spec = tie.close (tie.spec (λ c κs. search needs) (λ c κs. search needs) returns)

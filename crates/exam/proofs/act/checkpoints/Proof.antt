@@ -1,8 +1,8 @@
--- `exam::limits::checkpoints` meets its contract. Assumes nothing.
+-- `exam::act::checkpoints` meets its contract. Assumes nothing.
 use Prim.Native.Nat.{_-_}
 use borrow.Author.Needs.{needs}
-use Rattle.exam.proofs.limits.checkpoints.Statement.{statement}
-use Rattle.exam.proofs.limits.checkpoints.Tie as tie
+use Rattle.exam.proofs.act.checkpoints.Statement.{statement}
+use Rattle.exam.proofs.act.checkpoints.Tie as tie
 
 abbrev Inv-loop : tie.InvT-loop
 Inv-loop i times s₀ k₀ s k = Unit

@@ -1,0 +1,20 @@
+-- `exam::facts::counts` meets its contract. Assumes nothing.
+use Prim.Native.Nat.{_-_}
+use borrow.Author.Needs.{needs}
+use Rattle.exam.proofs.facts.counts.Statement.{statement}
+use Rattle.exam.proofs.facts.counts.Tie as tie
+
+abbrev Inv-loop : tie.InvT-loop
+Inv-loop held row k₀ k = Unit
+
+abbrev μ-loop : tie.MeasureT-loop
+μ-loop held row k₀ k = held - k
+
+pub counts-spec : {M : Type 1} → statement M
+counts-spec =
+    tie.close
+    (tie.spec
+    Inv-loop
+    μ-loop
+    (λ c. search needs) (λ c. search needs) (λ c. search needs) (λ c. search needs) (λ c κs. search needs) (λ c. search needs) (λ c. search needs)
+    (λ c. search needs) (λ c κs. search needs) (λ c. search needs))

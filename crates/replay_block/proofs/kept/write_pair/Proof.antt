@@ -1,0 +1,18 @@
+-- `replay_block::kept::write_pair` meets its contract: two numbers are written, one behind the other.
+-- Assumes nothing.
+use borrow.Author.Needs.{needs}
+use native.Mathlib.Omega.{arith}
+use lib.ListN.{length-set}
+use Rattle.replay_block.proofs.kept.write_pair.Statement.{statement}
+use Rattle.replay_block.proofs.kept.write_pair.Tie as tie
+
+slice-write-deleted-2 : tie.Need-slice-write-deleted-2
+slice-write-deleted-2 c = simp length-set (omega arith)
+
+pub write-pair-spec : {M : Type 1} → statement M
+write-pair-spec =
+    tie.close
+    (tie.spec
+    (λ c. search needs) (λ c. search needs) (λ c. search needs) (λ c. search needs) (λ c. search needs) (λ c. search needs) (λ c. search needs)
+    slice-write-deleted-2
+    (λ c. search needs) (λ c. search needs))
