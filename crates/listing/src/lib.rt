@@ -38,7 +38,7 @@ fn width(x: u64) -> usize
 }
 
 // The digits go straight to their places, two at a time and the last ones first: a division by 100 takes as long as one by 10.
-fn write_number(out: &mut [u8], at: usize, x: u64) -> usize
+pub fn write_number(out: &mut [u8], at: usize, x: u64) -> usize
     requires { ⌜ Room (now out) at (decimal x) ⌝ }
     ensures { λ r. ⌜ Printed (now (out .entry)) at (decimal x) (now (out .exit)) r ⌝ }
 {
@@ -61,7 +61,7 @@ fn write_number(out: &mut [u8], at: usize, x: u64) -> usize
     end
 }
 
-fn write_byte(out: &mut [u8], at: usize, byte: u8) -> usize
+pub fn write_byte(out: &mut [u8], at: usize, byte: u8) -> usize
     requires { ⌜ Room (now out) at (byte ∷ []) ⌝ }
     ensures { λ r. ⌜ Printed (now (out .entry)) at (byte ∷ []) (now (out .exit)) r ⌝ }
 {
@@ -80,7 +80,7 @@ fn write_value(out: &mut [u8], at: usize, value: Value) -> usize
 }
 
 // One deletion, as process:index behind a space.
-fn write_pair(out: &mut [u8], at: usize, process: u16, index: u16) -> usize
+pub fn write_pair(out: &mut [u8], at: usize, process: u16, index: u16) -> usize
     requires { ⌜ Room (now out) at (pairText process index) ⌝ }
     ensures { λ r. ⌜ Printed (now (out .entry)) at (pairText process index) (now (out .exit)) r ⌝ }
 {

@@ -65,7 +65,7 @@ pub struct Run {
     pub disk: Disk,
 }
 
-// Why a call or a record is refused. specs/Refusals gives each its number, 1 to 16, in this order; 6 is free since Note 4.
+// Why a call or a record is refused. specs/Refusals gives each its number, in this order. 6 is free since Note 4; 15 and above are document 02's.
 pub enum Refusal {
     CountOutsideRange,
     UnsoundState,
@@ -82,6 +82,7 @@ pub enum Refusal {
     MalformedRecord,
     BlockCountOutsideRange,
     BlocksUsed,
+    TooManyRecords,
 }
 
 pub enum StartAnswer {

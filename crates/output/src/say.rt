@@ -33,6 +33,7 @@ pub fn number_of(r: Refusal) -> u8
         Refusal::MalformedRecord => 14,
         Refusal::BlockCountOutsideRange => 15,
         Refusal::BlocksUsed => 16,
+        Refusal::TooManyRecords => 17,
     }
 }
 

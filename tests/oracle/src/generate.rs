@@ -18,11 +18,18 @@
 //!   records than COUNT, or none that count.)
 //! * limits: runs one process into own entry 65,535 and, from 2,400,000 records
 //!   on and with two processes or more, uses up the message numbers.
+//! * foreign: traces of other run-times, with rules of their own for when to
+//!   take a checkpoint, kept more or less; domino patterns; records that are
+//!   refused, recoveries among them; left-over bytes; bad first bytes. It is
+//!   drawn for no seed. Its COUNT, if not given, is mostly small, and for one
+//!   seed in 64 from 4,095 to 4,097.
 //!
 //! The rules of a run are not known here, only which message numbers are
 //! perhaps under way, no other one being so, and how many checkpoints a process
 //! can have stored at most. It streams: the memory used does not depend on
 //! COUNT.
+
+mod foreign;
 
 use std::io::{self, Write};
 
@@ -46,6 +53,7 @@ pub fn write_trace<W: Write>(plan: Plan, output: W) -> io::Result<()> {
         Mix::Mixed => trace.mixed()?,
         Mix::Damaged => trace.damaged()?,
         Mix::Limits => trace.limits()?,
+        Mix::Foreign => trace.foreign()?,
     }
     trace.flush()
 }
@@ -59,6 +67,7 @@ enum Mix {
     Mixed,
     Damaged,
     Limits,
+    Foreign,
 }
 
 /// Which trace: the seed and what was drawn from it or given.
@@ -74,7 +83,7 @@ impl Plan {
     /// The plan that `SEED [--n N] [--records COUNT] [--mix MIX]` says.
     pub fn from_arguments(arguments: &[String]) -> Option<Plan> {
         let (seed, options) = arguments.split_first()?;
-        let mut random = Random(seed.parse().ok()?);
+        let mut random = Random::of_seed(seed.parse().ok()?);
         // All defaults are drawn, needed or not, so that giving one of them
         // changes nothing about the others.
         let drawn_n = 1 + random.below(16);
@@ -99,11 +108,15 @@ impl Plan {
             }
         }
         let mix = mix.unwrap_or(drawn_mix);
-        let least = if mix == Mix::Limits { 66_000 } else { 0 };
+        let drawn_records = match mix {
+            Mix::Limits => 66_000 + drawn_records,
+            Mix::Foreign => foreign::drawn_records(&mut random),
+            _ => drawn_records,
+        };
         Some(Plan {
             random,
             n: n.unwrap_or(drawn_n),
-            records: records.unwrap_or(least + drawn_records),
+            records: records.unwrap_or(drawn_records),
             mix,
         })
     }
@@ -116,6 +129,7 @@ fn mix_named(name: &str) -> Option<Mix> {
         "mixed" => Some(Mix::Mixed),
         "damaged" => Some(Mix::Damaged),
         "limits" => Some(Mix::Limits),
+        "foreign" => Some(Mix::Foreign),
         _ => None,
     }
 }
@@ -124,9 +138,13 @@ fn mix_named(name: &str) -> Option<Mix> {
 
 /// The generator known as splitmix64.
 #[derive(Clone, Copy)]
-struct Random(u64);
+pub(crate) struct Random(u64);
 
 impl Random {
+    pub(crate) fn of_seed(seed: u64) -> Random {
+        Random(seed)
+    }
+
     fn next(&mut self) -> u64 {
         self.0 = self.0.wrapping_add(0x9E37_79B9_7F4A_7C15);
         let mut mixed = self.0;
@@ -136,16 +154,16 @@ impl Random {
     }
 
     /// From 0 to `bound - 1`.
-    fn below(&mut self, bound: u32) -> u32 {
+    pub(crate) fn below(&mut self, bound: u32) -> u32 {
         (((self.next() >> 32) * bound as u64) >> 32) as u32
     }
 
     /// True once in `times`.
-    fn once_in(&mut self, times: u32) -> bool {
+    pub(crate) fn once_in(&mut self, times: u32) -> bool {
         self.below(times) == 0
     }
 
-    fn one_of<T: Copy>(&mut self, choices: &[T]) -> T {
+    pub(crate) fn one_of<T: Copy>(&mut self, choices: &[T]) -> T {
         choices[self.below(choices.len() as u32) as usize]
     }
 }

@@ -4,6 +4,9 @@
 //! * `replay`: a trace in, a listing out.
 //! * `cases`: the exam text.
 //! * `generate`: random traces; it uses nothing of the rest.
+//! * `hold`: another program held to the oracle.
+//!
+//! Every other module belongs to one note, which its first lines name.
 //!
 //! Quoted sentences in the comments are from the papers that specify the
 //! product: "Recovery lines and collected checkpoints of a message-passing
@@ -11,5 +14,7 @@
 
 pub mod cases;
 pub mod generate;
+pub mod hold;
+pub mod judge;
 pub mod replay;
 pub mod run;

@@ -1,4 +1,4 @@
-//! The two programs as they are run.
+//! The programs as they are run.
 
 use oracle::replay::AfterRefusal;
 use std::ffi::OsStr;

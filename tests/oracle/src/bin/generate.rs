@@ -1,4 +1,4 @@
-//! `generate SEED [--n N] [--records COUNT] [--mix valid|recovering|mixed|damaged|limits]`
+//! `generate SEED [--n N] [--records COUNT] [--mix valid|recovering|mixed|damaged|limits|foreign]`
 //! writes a random trace to standard output. `oracle::generate` says what the
 //! mixes are and what is drawn where an option is not given.
 
@@ -12,7 +12,7 @@ fn main() -> ExitCode {
     let arguments: Vec<String> = std::env::args().skip(1).collect();
     let Some(plan) = Plan::from_arguments(&arguments) else {
         eprintln!(
-            "usage: generate SEED [--n N] [--records COUNT] [--mix valid|recovering|mixed|damaged|limits]\n\
+            "usage: generate SEED [--n N] [--records COUNT] [--mix valid|recovering|mixed|damaged|limits|foreign]\n\
              N is 1 to 16, COUNT 0 to {MAX_RECORDS}"
         );
         return ExitCode::from(2);

@@ -11,34 +11,27 @@
 //! and the first line that differs are printed, and the status is 1.
 
 use oracle::generate::{write_trace, Plan};
+use oracle::hold::{difference, on_seeds, Comparison};
 use oracle::replay::{replay, AfterRefusal};
 use std::fs::File;
 use std::io;
 use std::path::{Path, PathBuf};
 use std::process::{Command, ExitCode, Output};
-use std::sync::atomic::{AtomicBool, AtomicU64, Ordering};
-use std::thread;
+use std::sync::atomic::{AtomicU64, Ordering};
 
 fn main() -> ExitCode {
     let arguments: Vec<String> = std::env::args().skip(1).collect();
-    let Some(soak) = Soak::from_arguments(&arguments) else {
+    let Some((count, first, soak)) = from_arguments(&arguments) else {
         eprintln!("usage: soak COUNT FIRST PROGRAM");
         return ExitCode::from(2);
     };
-    let workers = thread::available_parallelism().map_or(1, |count| count.get());
-    thread::scope(|scope| {
-        for worker in 0..workers {
-            let soak = &soak;
-            scope.spawn(move || soak.work(worker));
-        }
-    });
-    if soak.stopped.load(Ordering::Relaxed) {
+    if !on_seeds(first, count, &soak) {
         return ExitCode::FAILURE;
     }
     println!(
         "replay and oracle agree on {} traces, {} of them damaged by choice: {} records, {} bytes of text; up to the first refusal too",
-        soak.count,
-        soak.count / 2,
+        count,
+        count / 2,
         soak.records.load(Ordering::Relaxed),
         soak.bytes.load(Ordering::Relaxed)
     );
@@ -46,61 +39,30 @@ fn main() -> ExitCode {
 }
 
 struct Soak {
-    count: u64,
-    first: u64,
     program: PathBuf,
-    /// How many traces were given out.
-    given: AtomicU64,
-    /// Something differed, or could not be done.
-    stopped: AtomicBool,
     records: AtomicU64,
     bytes: AtomicU64,
 }
 
-impl Soak {
-    fn from_arguments(arguments: &[String]) -> Option<Soak> {
-        let [count, first, program] = arguments else {
-            return None;
-        };
-        Some(Soak {
-            count: count.parse().ok()?,
-            first: first.parse().ok()?,
-            program: PathBuf::from(program),
-            given: AtomicU64::new(0),
-            stopped: AtomicBool::new(false),
-            records: AtomicU64::new(0),
-            bytes: AtomicU64::new(0),
-        })
+fn from_arguments(arguments: &[String]) -> Option<(u64, u64, Soak)> {
+    let [count, first, program] = arguments else {
+        return None;
+    };
+    let soak = Soak {
+        program: PathBuf::from(program),
+        records: AtomicU64::new(0),
+        bytes: AtomicU64::new(0),
+    };
+    Some((count.parse().ok()?, first.parse().ok()?, soak))
+}
+
+impl Comparison for Soak {
+    fn input(&self, seed: u64) -> String {
+        format!("generate {}", arguments_of(seed).join(" "))
     }
 
-    /// Takes one trace after the other until none is left, or one differs.
-    fn work(&self, worker: usize) {
-        let name = format!("soak-{}-{worker}", std::process::id());
-        let file = std::env::temp_dir().join(name);
-        while !self.stopped.load(Ordering::Relaxed) {
-            let turn = self.given.fetch_add(1, Ordering::Relaxed);
-            if turn >= self.count {
-                break;
-            }
-            let arguments = arguments_of(self.first + turn);
-            match self.compare(&arguments, &file) {
-                Ok(None) => {}
-                Ok(Some(difference)) => self.stop(&arguments, &difference),
-                Err(error) => self.stop(&arguments, &error.to_string()),
-            }
-        }
-        let _ = std::fs::remove_file(&file);
-    }
-
-    fn stop(&self, arguments: &[String], why: &str) {
-        if !self.stopped.swap(true, Ordering::Relaxed) {
-            println!("differs: generate {}\n{why}", arguments.join(" "));
-        }
-    }
-
-    /// What differs on one trace, if anything does.
-    fn compare(&self, arguments: &[String], file: &Path) -> io::Result<Option<String>> {
-        let plan = Plan::from_arguments(arguments).expect("the arguments are in the usage");
+    fn compare(&self, seed: u64, file: &Path) -> io::Result<Option<String>> {
+        let plan = Plan::from_arguments(&arguments_of(seed)).expect("they are in the usage");
         let mut trace = Vec::new();
         write_trace(plan, &mut trace)?;
         std::fs::write(file, &trace)?;
@@ -120,7 +82,9 @@ impl Soak {
         let got = self.output(&[], file)?;
         Ok(difference(&stopped, &got))
     }
+}
 
+impl Soak {
     fn output(&self, arguments: &[&str], trace: &Path) -> io::Result<Output> {
         Command::new(&self.program)
             .args(arguments)
@@ -137,40 +101,4 @@ fn arguments_of(seed: u64) -> Vec<String> {
         arguments.push("damaged".to_string());
     }
     arguments
-}
-
-fn difference(expected: &[u8], got: &Output) -> Option<String> {
-    if got.stdout != expected {
-        return Some(first_difference(expected, &got.stdout));
-    }
-    if !got.stderr.is_empty() {
-        let said = String::from_utf8_lossy(&got.stderr);
-        return Some(format!("on standard error: {said}"));
-    }
-    if !got.status.success() {
-        return Some(format!("ends with {}", got.status));
-    }
-    None
-}
-
-/// The first line that differs, in both texts. A text that has no such line,
-/// not even an empty one, has nothing there.
-fn first_difference(expected: &[u8], got: &[u8]) -> String {
-    let mut wanted = expected.split_inclusive(|byte| *byte == b'\n');
-    let mut there = got.split_inclusive(|byte| *byte == b'\n');
-    let mut number = 0;
-    loop {
-        number += 1;
-        let (want, is) = (wanted.next(), there.next());
-        if want != is {
-            return format!("line {number}: expected {}, got {}", shown(want), shown(is));
-        }
-    }
-}
-
-fn shown(line: Option<&[u8]>) -> String {
-    match line {
-        None => "nothing".to_string(),
-        Some(text) => format!("{:?}", String::from_utf8_lossy(text)),
-    }
 }

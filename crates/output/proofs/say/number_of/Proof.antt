@@ -1,5 +1,6 @@
--- `output::say::number_of` meets its contract, by computation in each case.
+-- `output::say::number_of` meets its contract, by computation in each case: first that each variant has its key, then the number of each, by what the match tells.
 -- Assumes nothing.
+use mathlib.Core.Path.{refl}
 use borrow.Author.Needs.{needs}
 use Rattle.model.specs.Refusals.{number}
 use Rattle.output.proofs.say.number_of.Statement.{statement}
@@ -12,6 +13,10 @@ number-of-spec =
     (tie.spec
     (λ c. search needs) (λ c. search needs) (λ c. search needs) (λ c. search needs) (λ c. search needs) (λ c. search needs) (λ c. search needs)
     (λ c. search needs) (λ c. search needs) (λ c. search needs) (λ c. search needs) (λ c. search needs) (λ c. search needs) (λ c. search needs)
-    (λ c. search needs) (λ c. search needs) (λ c. search needs) (λ c. search needs) (λ c. search needs) (λ c. search needs) (λ c. search needs)
-    (λ c. search needs) (λ c. search needs) (λ c. search needs) (λ c. search needs) (λ c. search needs) (λ c. search needs) (λ c. search needs)
-    (λ c. search needs) (λ c. search needs))
+    (λ c. search needs) (λ c. search needs)
+    (λ c. rw (c .enum-told .given .1) refl) (λ c. rw (c .enum-told2 .given .1) refl) (λ c. rw (c .enum-told3 .given .1) refl)
+    (λ c. rw (c .enum-told4 .given .1) refl) (λ c. rw (c .enum-told5 .given .1) refl) (λ c. rw (c .enum-told6 .given .1) refl)
+    (λ c. rw (c .enum-told7 .given .1) refl) (λ c. rw (c .enum-told8 .given .1) refl) (λ c. rw (c .enum-told9 .given .1) refl)
+    (λ c. rw (c .enum-told10 .given .1) refl) (λ c. rw (c .enum-told11 .given .1) refl) (λ c. rw (c .enum-told12 .given .1) refl)
+    (λ c. rw (c .enum-told13 .given .1) refl) (λ c. rw (c .enum-told14 .given .1) refl) (λ c. rw (c .enum-told15 .given .1) refl)
+    (λ c. rw (c .enum-told16 .given .1) refl))

@@ -1,0 +1,4 @@
+pub mod Passes
+pub mod Leasts
+pub mod Verdict
+pub mod Meets

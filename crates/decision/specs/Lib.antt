@@ -1,0 +1,5 @@
+pub mod Rows
+pub mod Crossings
+pub mod Reach
+pub mod Far
+pub mod Held

@@ -1,0 +1,37 @@
+-- `judge::text::write_verdict` meets its contract, by the verdict.
+-- Assumes nothing.
+use borrow.Author.Needs.{needs}
+use Rattle.judge.specs.Text.{verdictText}
+use Rattle.judge.proofs.Lengths.{small-pair}
+use Rattle.judge.proofs.text.write_verdict.Statement.{statement}
+use Rattle.judge.proofs.text.write_verdict.Tie as tie
+
+write-breaks-requires : tie.Need-write-breaks-requires
+write-breaks-requires c κs = let st = c .before .before .before .before .before in let s = small-pair _ _ _ _ _ (c .before .before .verdict2 .given .1) (st .pre .1) in (st .pre .0, s .0, s .1)
+
+returns : tie.Need-returns
+returns c = rw (c .before .before .before .before .before .verdict .given .1) (c .before .before .write-refused .ensures)
+
+returns-2 : tie.Need-returns-2
+unfolding verdictText
+returns-2 c = rw (c .before .before .before .before .enum-told .given .1) (c .before .before .put-trackable .ensures)
+
+returns-3 : tie.Need-returns-3
+returns-3 c = rw (c .before .before .before .before .before .verdict2 .given .1) (c .before .before .write-breaks .ensures)
+
+pub write-verdict-spec : {M : Type 1} → statement M
+write-verdict-spec =
+    tie.close
+    (tie.spec
+    (λ c. search needs)
+    (λ c κs. search needs)
+    (λ c. search needs)
+    (λ c κs. search needs)
+    (λ c. search needs)
+    write-breaks-requires
+    (λ c. search needs)
+    returns
+    (λ c. search needs)
+    returns-2
+    (λ c. search needs)
+    returns-3)

@@ -1,0 +1,14 @@
+-- `judge_trace::reading::with_message` meets its contract.
+-- Assumes nothing.
+use borrow.Author.Needs.{needs}
+use mathlib.Core.Path.{refl}
+use Rattle.judge_trace.specs.Readings.{withMessage}
+use Rattle.judge_trace.proofs.reading.with_message.Statement.{statement}
+use Rattle.judge_trace.proofs.reading.with_message.Tie as tie
+
+returns : tie.Need-returns
+unfolding withMessage
+returns c = refl
+
+pub with-message-spec : {M : Type 1} → statement M
+with-message-spec = tie.close (tie.spec (λ c. search needs) (λ c. search needs) returns)

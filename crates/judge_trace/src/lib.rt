@@ -1,0 +1,79 @@
+// Note 7 of document 02: a trace of another run-time is judged.
+
+// reading.rt: a trace is read into the tables
+mod reading;
+
+use model::Refusal;
+use patterns::Verdict;
+use reading::Taking;
+ghost use mathlib.Core.Path.{_≡_};
+ghost use Rattle.patterns.specs.Verdicts.{RightVerdict};
+ghost use Rattle.judge_trace.specs.Kept.{tables, Sized};
+
+fn wide(byte: u8) -> usize
+    ensures { λ r. ⌜ r ≡ byte ⌝ }
+{
+    byte as usize
+}
+
+// A trace is judged beside its tables, whatever they hold. The refusals come in this order: 12, 1, 17, those of the records, 13.
+fn judge_beside(
+    trace: &[u8],
+    vectors: &mut [u16],
+    process: &mut [u16],
+    carried: &mut [u16],
+    passing: &mut [u16],
+    from: &mut [u16],
+    to: &mut [u16],
+) -> Verdict
+    requires { ⌜ Sized (tables (now vectors) (now process) (now carried) (now passing) (now from) (now to)) ⌝ }
+    ensures { λ r. ⌜ RightVerdict (now (trace .entry)) r ⌝ }
+{
+    let size = trace.len();
+    if size == 0 {
+        return Verdict::Refused(Refusal::NoFirstByte);
+    }
+    let n = wide(trace[0]);
+    if n < 1 {
+        return Verdict::Refused(Refusal::CountOutsideRange);
+    }
+    if 16 < n {
+        return Verdict::Refused(Refusal::CountOutsideRange);
+    }
+    let count = (size - 1) / 4;
+    if 4096 < count {
+        return Verdict::Refused(Refusal::TooManyRecords);
+    }
+    let r = reading::read_all(vectors, process, carried, passing, from, to, trace, n);
+    let answer = r.answer;
+    match answer {
+        Taking::Refused(why) => Verdict::Refused(why),
+        Taking::Taken => {
+            let s = r.next;
+            let rows = s.rows;
+            let last = s.last;
+            decision::decide(vectors, process, from, to, rows, last, n)
+        }
+    }
+}
+
+// What a trace of another run-time is judged to be: refused with a number, trackable, or the first pair of states that breaks it.
+pub fn judge(trace: &[u8]) -> Verdict
+    ensures { λ r. ⌜ RightVerdict (now (trace .entry)) r ⌝ }
+{
+    let mut vectors = [0u16; 65792];
+    let mut process = [0u16; 4112];
+    let mut carried = [0u16; 65536];
+    let mut passing = [0u16; 4096];
+    let mut from = [0u16; 4096];
+    let mut to = [0u16; 4096];
+    judge_beside(
+        trace,
+        &mut vectors,
+        &mut process,
+        &mut carried,
+        &mut passing,
+        &mut from,
+        &mut to,
+    )
+}

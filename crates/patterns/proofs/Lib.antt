@@ -1,0 +1,12 @@
+pub mod Core
+pub mod First
+pub mod Placing
+pub mod Causal
+pub mod Adding
+pub mod Trail
+pub mod Facts
+pub mod Followed
+pub mod Only
+pub mod Ends
+pub mod Surviving
+pub mod Histories

@@ -1,0 +1,4 @@
+pub mod Patterns
+pub mod Paths
+pub mod Verdicts
+pub mod Histories

@@ -1,0 +1,120 @@
+//! `judge_soak COUNT FIRST PROGRAM` holds PROGRAM to the oracle's verdicts on
+//! COUNT foreign traces (Note 7), of the seeds FIRST, FIRST + 1 and on. PROGRAM gets each
+//! trace on standard input and must print the oracle's one line, nothing on
+//! standard error, and end with status 0. At the first trace where it does not,
+//! the arguments of `generate` and both lines are printed, and the status is 1.
+
+use oracle::generate::{write_trace, Plan};
+use oracle::hold::{difference, on_seeds, Comparison};
+use oracle::judge::{judge, Verdict};
+use std::collections::BTreeMap;
+use std::fs::File;
+use std::io;
+use std::path::{Path, PathBuf};
+use std::process::{Command, ExitCode};
+use std::sync::Mutex;
+
+fn main() -> ExitCode {
+    let arguments: Vec<String> = std::env::args().skip(1).collect();
+    let Some((count, first, soak)) = from_arguments(&arguments) else {
+        eprintln!("usage: judge_soak COUNT FIRST PROGRAM");
+        return ExitCode::from(2);
+    };
+    if !on_seeds(first, count, &soak) {
+        return ExitCode::FAILURE;
+    }
+    let met = soak.met.into_inner().expect("no thread has failed");
+    println!(
+        "judge and oracle agree on {count} traces: {} trackable, {} break at {} pairs ({} of a checkpoint with itself, {} at a live state), refused {}",
+        met.trackable,
+        met.breaks,
+        met.pairs.len(),
+        met.cycles,
+        met.live,
+        met.refused_in_words()
+    );
+    ExitCode::SUCCESS
+}
+
+struct Soak {
+    program: PathBuf,
+    met: Mutex<Met>,
+}
+
+/// How often each verdict was met.
+#[derive(Default)]
+struct Met {
+    trackable: usize,
+    breaks: usize,
+    pairs: BTreeMap<String, usize>,
+    cycles: usize,
+    live: usize,
+    refused: BTreeMap<u8, usize>,
+}
+
+impl Met {
+    fn count(&mut self, verdict: &Verdict, trace: &[u8]) {
+        match verdict {
+            Verdict::Trackable => self.trackable += 1,
+            Verdict::Breaks { near, far } => {
+                self.breaks += 1;
+                *self.pairs.entry(verdict.to_string()).or_default() += 1;
+                self.cycles += (near == far) as usize;
+                self.live += (far.index > checkpoints(trace, far.process)) as usize;
+            }
+            Verdict::Refused(number) => *self.refused.entry(*number).or_default() += 1,
+        }
+    }
+
+    fn refused_in_words(&self) -> String {
+        let words = self.refused.iter();
+        let words: Vec<String> = words
+            .map(|(number, times)| format!("{times} with {number}"))
+            .collect();
+        words.join(", ")
+    }
+}
+
+/// How many checkpoint records of this process an accepted trace has.
+fn checkpoints(trace: &[u8], process: usize) -> usize {
+    let records = trace[1..].chunks_exact(4);
+    let bytes = [(process << 1) as u8, 0, 0, 0];
+    records.filter(|record| **record == bytes).count()
+}
+
+fn from_arguments(arguments: &[String]) -> Option<(u64, u64, Soak)> {
+    let [count, first, program] = arguments else {
+        return None;
+    };
+    let soak = Soak {
+        program: PathBuf::from(program),
+        met: Mutex::default(),
+    };
+    Some((count.parse().ok()?, first.parse().ok()?, soak))
+}
+
+impl Comparison for Soak {
+    fn input(&self, seed: u64) -> String {
+        format!("generate {}", arguments_of(seed).join(" "))
+    }
+
+    fn compare(&self, seed: u64, file: &Path) -> io::Result<Option<String>> {
+        let plan = Plan::from_arguments(&arguments_of(seed)).expect("they are in the usage");
+        let mut trace = Vec::new();
+        write_trace(plan, &mut trace)?;
+        std::fs::write(file, &trace)?;
+        let verdict = judge(&trace);
+        let mut met = self.met.lock().expect("no thread has failed");
+        met.count(&verdict, &trace);
+        drop(met);
+        let expected = format!("{verdict}\n");
+        let got = Command::new(&self.program)
+            .stdin(File::open(file)?)
+            .output()?;
+        Ok(difference(expected.as_bytes(), &got))
+    }
+}
+
+fn arguments_of(seed: u64) -> [String; 3] {
+    [seed.to_string(), "--mix".to_string(), "foreign".to_string()]
+}
