@@ -42,3 +42,8 @@ or-in-right false b e = e
 pub or-right : (a b : Bool) → a ≡ false → (a || b) ≡ true → b ≡ true
 or-right true b d e = absurd (false≢true (sym d))
 or-right false b d e = e
+
+-- Neither part of a test that is false holds.
+pub or-none : (a b : Bool) → (a || b) ≡ false → (a ≡ false) × (b ≡ false)
+or-none true b e = never-both true refl e
+or-none false b e = (refl, e)

@@ -3,6 +3,7 @@ pub mod Best
 pub mod Blocks
 pub mod Clean
 pub mod Exam
+pub mod Merges
 pub mod NothingMore
 pub mod Records
 pub mod Risen
@@ -10,6 +11,7 @@ pub mod Sizes
 pub mod Sweep
 pub mod Traced
 pub mod WholeRuns
+pub mod halves
 pub mod ideal
 pub mod simulation
 pub mod whole

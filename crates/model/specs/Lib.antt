@@ -3,8 +3,11 @@ pub mod Best
 pub mod Calls
 pub mod Clean
 pub mod Exam
+pub mod Halves
 pub mod History
 pub mod Listing
+pub mod Merge
+pub mod Merges
 pub mod Needed
 pub mod Numbers
 pub mod Outcomes

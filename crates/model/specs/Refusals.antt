@@ -11,7 +11,7 @@ use Rattle.laws.specs.Search.{anyBelow}
 use Rattle.model.specs.declared.Message.{Message}
 use Rattle.model.specs.declared.Run.{Run}
 use Rattle.model.specs.declared.Refusal.{Refusal}
-use Rattle.model.specs.declared.Refusal.the-variants.{CountOutsideRange, UnsoundState, ListTooShort, NoSuchProcess, SenderIsReceiver, NoSuchFailedProcess, NotUnderWay, TooManyUnderWay, MessageNumbersUsed, IntervalsUsed, NoFirstByte, LeftOverBytes, MalformedRecord, BlockCountOutsideRange, BlocksUsed, TooManyRecords}
+use Rattle.model.specs.declared.Refusal.the-variants.{CountOutsideRange, UnsoundState, ListTooShort, NoSuchProcess, SenderIsReceiver, NoSuchFailedProcess, NotUnderWay, TooManyUnderWay, MessageNumbersUsed, IntervalsUsed, NoFirstByte, LeftOverBytes, MalformedRecord, BlockCountOutsideRange, BlocksUsed, TooManyRecords, HalvesMismatch, NeitherReady}
 use Rattle.model.specs.Words.{places, mostUnderWay, mostMessages, mostInterval, mostBlocks, blockCount, process, own}
 use Rattle.model.specs.Steps.{found, forces, latestAllowed}
 use Rattle.model.specs.Sound.{isBlockCount, sound}
@@ -34,6 +34,8 @@ number MalformedRecord = 14
 number BlockCountOutsideRange = 15
 number BlocksUsed = 16
 number TooManyRecords = 17
+number HalvesMismatch = 23
+number NeitherReady = 24
 
 -- A condition of the table with the refusal that it gives.
 pub record Rule : Type 0 where

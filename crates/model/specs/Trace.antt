@@ -27,7 +27,7 @@ fields bytes = record { kind = word bytes / 536870912; process = word bytes / 33
 
 -- "Kinds: 0 checkpoint (argument zero); 1 send (argument is the receiver); 2 deliver and 3 lose (process zero, argument is the message number);
 -- 4 recover (process zero, argument is the failed set); 5 to 7 unused." None: refusal 14, "unused kind, or a field that must be zero is not".
-unfoldable pub ifZero : ℕ → Event → Option Event
+unfoldable pub ifZero : {A : Type 0} → ℕ → A → Option A
 ifZero zero e = some e
 ifZero (suc k) e = none
 

@@ -83,6 +83,8 @@ pub enum Refusal {
     BlockCountOutsideRange,
     BlocksUsed,
     TooManyRecords,
+    HalvesMismatch,
+    NeitherReady,
 }
 
 pub enum StartAnswer {
@@ -123,6 +125,12 @@ pub enum LineAnswer {
 pub enum RecoverAnswer {
     Refused(Refusal),
     Recovered(usize, usize),
+}
+
+// Merged: how many bytes the merged trace has.
+pub enum MergeAnswer {
+    Refused(Refusal),
+    Merged(usize),
 }
 
 // The three fields of a record of a trace: 3, 4 and 25 bits.

@@ -34,6 +34,8 @@ pub fn number_of(r: Refusal) -> u8
         Refusal::BlockCountOutsideRange => 15,
         Refusal::BlocksUsed => 16,
         Refusal::TooManyRecords => 17,
+        Refusal::HalvesMismatch => 23,
+        Refusal::NeitherReady => 24,
     }
 }
 

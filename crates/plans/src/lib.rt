@@ -290,7 +290,7 @@ pub fn lose_plan(mark: bool, t: Lookup) -> Plan
 }
 
 // The failed set has a bit at n or above: something is left of it once its lowest n bits are gone.
-fn is_outside(failed: u32, n: usize) -> bool
+pub fn is_outside(failed: u32, n: usize) -> bool
     ensures { λ r. ⌜ r ≡ leb (2 ^ n) failed ⌝ }
 {
     let mut left = failed;

@@ -9,7 +9,8 @@ use lib.ListN.{length, take, drop, replicate}
 use Rattle.laws.specs.Choice.{pick}
 use Rattle.laws.specs.Lists.{orElse}
 use Rattle.model.specs.declared.Event.{Event}
-use Rattle.model.specs.Trace.{decoded, fits, encoded}
+use Rattle.model.specs.declared.Fields.{Fields}
+use Rattle.model.specs.Trace.{fields, decoded, fits, encoded}
 use Rattle.trace.specs.declared.Decoded.{Decoded}
 use Rattle.trace.specs.declared.Decoded.the-variants.{Malformed, StandsFor}
 use Rattle.trace.specs.declared.Encoded.{Encoded}
@@ -17,6 +18,10 @@ use Rattle.trace.specs.declared.Encoded.{Encoded}
 -- The four bytes of a trace from a place on; nothing if fewer are left.
 unfoldable pub recordAt : List ℕ → ℕ → List ℕ
 recordAt trace at = pick (leb (at + 4) (length trace)) (take 4 (drop at trace)) []
+
+-- The fields of a part of a trace; zeros unless it has four bytes.
+unfoldable pub fieldsRead : List ℕ → Fields
+fieldsRead part = pick (eqb (length part) 4) (fields part) (record { kind = 0; process = 0; argument = 0 })
 
 -- The event that a part of a trace stands for; none unless it has four bytes.
 unfoldable pub eventIn : List ℕ → Option Event

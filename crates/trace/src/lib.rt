@@ -5,7 +5,7 @@ ghost use mathlib.Core.Path.{_≡_};
 ghost use Prim.Native.Nat.{_≤_, _<_};
 ghost use lib.ListN.{length};
 ghost use Rattle.model.specs.Trace.{word, fields, ifZero, eventOf, fieldsOf, wordOf, bytesOf};
-ghost use Rattle.trace.specs.Answers.{recordAt, eventIn, eventRead, recordOf};
+ghost use Rattle.trace.specs.Answers.{recordAt, fieldsRead, eventIn, eventRead, recordOf};
 
 // What a part of a trace is found to be.
 pub enum Decoded {
@@ -34,7 +34,8 @@ pub fn record_part<'a>(trace: &'a [u8], at: usize) -> &'a [u8]
     }
 }
 
-fn wide(byte: u8) -> u32
+// A byte as a wider number.
+pub fn wide(byte: u8) -> u32
     ensures { λ r. ⌜ (r ≡ byte) × (r < 256) ⌝ }
 {
     byte as u32
@@ -58,6 +59,20 @@ fn fields_in(part: &[u8]) -> Fields
         process: (w / 33554432 % 16) as usize,
         argument: w % 33554432,
     }
+}
+
+// The fields of a part of a trace; zeros where it is no four bytes long.
+pub fn read_fields(part: &[u8]) -> Fields
+    ensures { λ r. ⌜ r ≡ fieldsRead (now (part .entry)) ⌝ }
+{
+    if part.len() != 4 {
+        return Fields {
+            kind: 0,
+            process: 0,
+            argument: 0,
+        };
+    }
+    fields_in(part)
 }
 
 // The event, if the field that must be zero is.

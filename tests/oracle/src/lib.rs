@@ -14,6 +14,7 @@
 
 pub mod cases;
 pub mod generate;
+pub mod halves;
 pub mod hold;
 pub mod judge;
 pub mod replay;

@@ -1,0 +1,117 @@
+-- `halves::merge` meets its contract. Behind the first `match` both halves are such that no rule refuses them before any record (`fine`).
+-- Assumes nothing.
+use mathlib.Core.Path.{_≡_, refl, sym, _∙_}
+use mathlib.Core.List.{List}
+use mathlib.Core.Option.{none}
+use Prim.Native.Nat.{ℕ}
+use native.Mathlib.Omega.{arith}
+use lib.ListN.{getD, length-set}
+use denote.Ref.{now}
+use borrow.Author.Needs.{needs}
+use Rattle.model.specs.Halves.{OrdersAgree}
+use Rattle.model.specs.Merge.{mergeRefusal, MergePromise}
+use Rattle.model.proofs.halves.Orders.{orders-agree}
+use Rattle.model.proofs.halves.Replaying.{Fine, fine, merge-promise}
+use Rattle.halves.proofs.Rules.{behind-is, count-is}
+use Rattle.halves.proofs.Whole.{refused-early, refused-late, merged, accepted, refused}
+use Rattle.halves.proofs.merge.Statement.{statement}
+use Rattle.halves.proofs.merge.Tie as tie
+
+-- What is lent.
+module _ (start : tie.Start) where
+  abbrev first : List ℕ
+  first = now (start .args .first)
+
+  abbrev second : List ℕ
+  second = now (start .args .second)
+
+  abbrev result : List ℕ
+  result = now (start .args .result)
+
+  promised : MergePromise first second (start .args .set) result × OrdersAgree
+  promised = (merge-promise first second (start .args .set) result, orders-agree)
+
+-- Behind the first `match`, where the halves are accepted.
+module _ (told : tie.After-enum-told) where
+  abbrev start : tie.Start
+  start = told .before .before .before .before .before .before
+
+  passed : mergeRefusal (first start) (second start) (start .args .set) (result start) ≡ none
+  passed = let judged = told .before .before .judge-halves in accepted (judged .result) _ (told .enum-told .given .1) (judged .ensures (result start) refl)
+
+  halves : Fine (first start) (second start) (result start)
+  halves = fine (first start) (second start) (start .args .set) (result start) passed
+
+take-all-requires : tie.Need-take-all-requires
+take-all-requires c κs =
+    let told = c .before .before in
+    let h = halves told in (
+      (rw (c .before .count-of .ensures) (h .count), omega (arith, h .first-byte), omega (arith, h .second-byte)),
+      (omega (arith, h .few-first, h .few-second, behind-is (first (start told)), behind-is (second (start told))), search needs),
+    )
+
+sub-count : tie.Need-sub-count
+sub-count c = omega (arith, halves (c .before .before .before .before .before .before) .first-byte)
+
+sub-count-2 : tie.Need-sub-count-2
+sub-count-2 c = omega (arith, halves (c .before .before .before .before .before .before) .second-byte)
+
+shared-slice-read-result : tie.Need-shared-slice-read-result
+shared-slice-read-result c = omega (arith, halves (c .before .before .before .before .before .before .before) .first-byte)
+
+slice-write-result : tie.Need-slice-write-result
+slice-write-result c = let h = halves (c .before .before .before .before .before .before .before) in omega (arith, h .first-byte, h .room)
+
+write-all-requires : tie.Need-write-all-requires
+write-all-requires c κs =
+    let told = c .before .before .before .before .before .before .before .before .before in
+    let h = halves told in (
+      omega (arith, h .few-first, h .few-second, behind-is (first (start told)), behind-is (second (start told))),
+      simp length-set (omega (arith, h .first-byte, h .second-byte, h .room)),
+    )
+
+returns : tie.Need-returns
+returns c =
+    let s = c .before .before .before .before .before .before .before in
+    let judged = c .before .before .before .judge-halves in
+    let early = refused-early (first s) (second s) (s .args .set) (result s) _ (refused (judged .result) _ _ (c .before .judged .given .1) (judged .ensures (result s) refl)) in
+    (early .0, (early .1, promised s))
+
+returns-2 : tie.Need-returns-2
+returns-2 c =
+    let told = c .before .before .before .before .before .before .before in
+    let s = start told in
+    let count = c .before .before .before .before .before .before .count-of in
+    let taken = c .before .before .before .before .take-all in
+    let late = refused-late (first s) (second s) (s .args .set) (result s) (passed told) (count .result) (count .ensures) _ _ (rw (c .before .taken .given .1) at (taken .ensures)) in
+    (late .0, (late .1, promised s))
+
+same-length : tie.Need-same-length
+same-length c =
+    let s = c .before .before .before .before .before .before .before .before .before .before .before .before .before .before .before .before .before .before in
+    c .before .before .write-all .kept .1 .1 .0 ∙ length-set (result s) 0 (getD (first s) 0 0)
+
+returns-3 : tie.Need-returns-3
+returns-3 c =
+    let told = c .before .before .before .before .before .before .before .before .before .before .before .before in
+    let s = start told in
+    let count = c .before .before .before .before .before .before .before .before .before .before .before .count-of in
+    let taken = c .before .before .before .before .before .before .before .before .before .take-all in
+    let all = merged (first s) (second s) (s .args .set) (result s) (passed told) (count .result) (count .ensures) _ (rw (c .before .before .before .before .before .before .enum-told2 .given .1) at (taken .ensures)) in
+    let first-byte = sym (count-is (first s) (halves told .first-byte)) ∙ sym (count .ensures) in
+    (all .0, ((rw first-byte at (c .before .before .write-all .ensures)) ∙ all .1, promised s))
+
+pub merge-spec : {M : Type 1} → statement M
+merge-spec =
+    tie.close
+    (tie.spec (λ c κs. search needs) (λ c. search needs) (λ c. search needs) (λ c κs. search needs) (λ c. search needs)
+    take-all-requires (λ c. search needs) (λ c. search needs)
+    sub-count
+    sub-count-2 (λ c. search needs)
+    shared-slice-read-result
+    slice-write-result (λ c. search needs)
+    write-all-requires (λ c. search needs) (λ c. search needs)
+    returns
+    returns-2
+    same-length
+    returns-3)

@@ -1,0 +1,6 @@
+-- Laws that belong to no one function.
+pub mod Program
+pub mod Putting
+pub mod Reading
+pub mod Setting
+pub mod Standing

@@ -1,0 +1,83 @@
+// The only ways in which the program ends: it puts the merged trace, or the number of the refusal, or says what is wrong with its arguments, its files or
+// its output.
+use libc::STDERR_FILENO;
+use libc::STDOUT_FILENO;
+ghost use mathlib.Core.Path.{_≡_};
+ghost use mathlib.Core.List.{[]};
+ghost use Prim.Native.Nat.{_≤_};
+ghost use lib.ListN.{length, take};
+ghost use Rattle.merge.specs.Printed.{printed, refusedText};
+
+// This file makes the only values of this type.
+pub struct Ended {
+    failed: bool,
+}
+
+// A line of text.
+pub struct Line {
+    pub text: [u8; 11],
+    pub size: usize,
+}
+
+// `refused` and the number.
+pub fn refusal_line(number: u8) -> Line
+    requires { ⌜ number ≤ 99 ⌝ }
+    ensures { λ r. ⌜ (take (r .size) (r .text) ≡ refusedText number) × (r .size ≤ length (r .text)) ⌝ }
+{
+    let mut text = [
+        b'r',
+        b'e',
+        b'f',
+        b'u',
+        b's',
+        b'e',
+        b'd',
+        b' ',
+        b'0',
+        b'\n',
+        b'\n',
+    ];
+    if number < 10 {
+        text[8] = 48 + number;
+        return Line { text, size: 10 };
+    }
+    text[8] = 48 + number / 10;
+    text[9] = 48 + number % 10;
+    Line { text, size: 11 }
+}
+
+// The merged trace.
+pub fn put_trace(first: &[u8], second: &[u8], set: u16, trace: &[u8]) -> Ended
+    requires { ⌜ (printed (now first) (now second) set .trace ≡ now trace) × (printed (now first) (now second) set .refusal ≡ []) ⌝ }
+{
+    let is_written = io::write_all(STDOUT_FILENO, trace);
+    if !is_written {
+        os::fail(b"merge: standard output");
+    }
+    Ended {
+        failed: !is_written,
+    }
+}
+
+// Why there is none.
+pub fn put_refusal(first: &[u8], second: &[u8], set: u16, line: &[u8]) -> Ended
+    requires { ⌜ (printed (now first) (now second) set .trace ≡ []) × (printed (now first) (now second) set .refusal ≡ now line) ⌝ }
+{
+    let is_written = io::write_all(STDERR_FILENO, line);
+    Ended {
+        failed: !is_written,
+    }
+}
+
+// The words that the program was started with are not two files and a set.
+pub fn say_usage() -> Ended {
+    let is_written = io::write_all(STDERR_FILENO, b"usage: merge FIRST SECOND SET > TRACE\n");
+    Ended {
+        failed: !is_written,
+    }
+}
+
+// A file could not be read, which was said.
+pub fn end_by_error() -> Ended {
+    Ended { failed: true }
+}

@@ -1,0 +1,115 @@
+// A half, as its file is read. What is held of it is its first 16,392 bytes at most, those of 4,097 records and three more: a longer half is refused
+// whatever it says, and which number it meets depends on its first byte and on how many bytes are left over behind its records.
+ghost use mathlib.Core.Path.{_≡_};
+ghost use Prim.Native.Nat.{_+_, _≤_};
+ghost use lib.ListN.{length};
+ghost use Rattle.merge.specs.Held.{heldSize, Fills, Holding};
+
+// Whether a read failed, and how many bytes it brought; none at the end of the file.
+pub struct Filled {
+    pub failed: bool,
+    pub more: usize,
+}
+
+// One read behind the bytes that stand in the buffer.
+fn fill(fd: i32, half: &mut [u8], total: usize) -> Filled
+    requires { ⌜ (length (now half) ≡ 16392) × (total ≤ 16392) ⌝ }
+    ensures { λ r. ⌜ Fills (now (half .entry)) total (r .more) (now (half .exit)) × (r .more ≤ 16392) ⌝ }
+{
+    let got = libc::read(fd, &mut half[total..]);
+    let more = io::count(got, &half[total..]);
+    Filled {
+        failed: got < 0,
+        more,
+    }
+}
+
+// One read of bytes that are only counted.
+fn skip(fd: i32) -> Filled
+    ensures { λ r. ⌜ r .more ≤ 16392 ⌝ }
+{
+    let mut bytes = io::buffer();
+    let got = libc::read(fd, &mut bytes);
+    let more = io::count(got, &bytes);
+    Filled {
+        failed: got < 0,
+        more,
+    }
+}
+
+// The next bytes of the file.
+fn read_some(fd: i32, half: &mut [u8], total: usize) -> Filled
+    requires { ⌜ length (now half) ≡ 16392 ⌝ }
+    ensures { λ r. ⌜ (Holding (now (half .entry)) total → Holding (now (half .exit)) (total + r .more)) ⌝ }
+    ensures { λ r. ⌜ r .more ≤ 16392 ⌝ }
+{
+    if total < 16392 {
+        return fill(fd, half, total);
+    }
+    skip(fd)
+}
+
+// Whether the file could not be read, and how many bytes it has.
+pub struct Source {
+    pub failed: bool,
+    pub total: usize,
+}
+
+// Read by read, to the end of the file.
+fn read_all(fd: i32, half: &mut [u8]) -> Source
+    requires { ⌜ length (now half) ≡ 16392 ⌝ }
+    ensures { λ r. ⌜ Holding (now (half .exit)) (r .total) ⌝ }
+{
+    let mut total = 0;
+    while total < 9000000000000000000 {
+        let filled = read_some(fd, half, total);
+        if filled.failed {
+            return Source {
+                failed: true,
+                total: 0,
+            };
+        }
+        if filled.more == 0 {
+            return Source {
+                failed: false,
+                total,
+            };
+        }
+        total += filled.more;
+    }
+    Source {
+        failed: false,
+        total,
+    }
+}
+
+// The half that a file holds. What cannot be opened or read is said on standard error.
+pub fn read(path: &[u8], half: &mut [u8]) -> Source
+    requires { ⌜ length (now half) ≡ 16392 ⌝ }
+    ensures { λ r. ⌜ Holding (now (half .exit)) (r .total) ⌝ }
+{
+    let fd = os::open_read(path);
+    if fd < 0 {
+        os::fail(path);
+        return Source {
+            failed: true,
+            total: 0,
+        };
+    }
+    let source = read_all(fd, half);
+    if source.failed {
+        os::fail(path);
+    }
+    libc::close(fd);
+    source
+}
+
+// How many bytes are held of a half of so many.
+pub fn held_size(total: usize) -> usize
+    ensures { λ r. ⌜ (r ≡ heldSize total) × (r ≤ 16392) ⌝ }
+{
+    if total <= 16392 {
+        return total;
+    }
+    16389 + (total - 1) % 4
+}

@@ -1,0 +1,19 @@
+-- `trace::read_fields` meets its contract: the test says whether the part has four bytes.
+-- Assumes nothing.
+use mathlib.Core.Path.{_∙_}
+use borrow.Author.Tests.{eq-eqb, ne-eqb}
+use borrow.Author.Needs.{needs}
+use Rattle.trace.specs.Answers.{fieldsRead}
+use Rattle.trace.proofs.read_fields.Statement.{statement}
+use Rattle.trace.proofs.read_fields.Tie as tie
+
+returns : tie.Need-returns
+unfolding fieldsRead
+returns c = rw (ne-eqb _ _ (c .if1 .taken))
+
+returns-2 : tie.Need-returns-2
+unfolding fieldsRead
+returns-2 c = c .fields-in .ensures ∙ rw (eq-eqb _ _ (c .before .if1 .left))
+
+pub read-fields-spec : {M : Type 1} → statement M
+read-fields-spec = tie.close (tie.spec returns (λ c κs. search needs) returns-2)
