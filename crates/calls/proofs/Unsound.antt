@@ -5,6 +5,7 @@ use mathlib.Core.Bool.{Bool, true, false, not}
 use mathlib.Core.List.{List}
 use mathlib.Core.Option.{some}
 use Prim.Native.Nat.{ℕ}
+use Rattle.model.specs.declared.Named.{Named}
 use Rattle.model.specs.declared.Run.{Run}
 use Rattle.model.specs.declared.Refusal.the-variants.{UnsoundState}
 use Rattle.model.specs.declared.CheckpointAnswer.the-variants as checkpoint-answer
@@ -15,6 +16,7 @@ use Rattle.model.specs.declared.LineAnswer.the-variants as line-answer
 use Rattle.model.specs.declared.RecoverAnswer.the-variants as recover-answer
 use Rattle.model.specs.Sound.{sound}
 use Rattle.model.specs.Refusals.{firstOf, checkpointRefusal, sendRefusal, deliverRefusal, loseRefusal, lineRefusal, recoverRefusal}
+use Rattle.model.specs.Earliest.{earliestRefusal, earliestOutcome}
 use Rattle.model.specs.Outcomes.{checkpointOutcome, sendOutcome, deliverOutcome, loseOutcome, lineOutcome, recoverOutcome}
 
 -- What a test of soundness and the branch that was taken say of the state.
@@ -61,3 +63,8 @@ module _ (s : Run) (h : sound s ≡ false) where
       × ((deleted ≡ recoverOutcome s F deleted lent .deleted) × (lent ≡ recoverOutcome s F deleted lent .line)))
   unfolding recoverOutcome recoverRefusal firstOf
   recover-unsound F deleted lent = rw h (refl, (refl, (refl, refl)))
+
+  pub earliest-unsound : (l : List Named) (lent : List ℕ) → (s ≡ earliestOutcome s l lent .run)
+      × ((line-answer.Refused UnsoundState ≡ earliestOutcome s l lent .answer) × (lent ≡ earliestOutcome s l lent .line))
+  unfolding earliestOutcome earliestRefusal firstOf
+  earliest-unsound l lent = rw h (refl, (refl, refl))

@@ -1,10 +1,14 @@
-// The library: start, checkpoint, send, deliver, lose, line and recover. Each takes any state and any arguments, and says in its contract what it
+// The library: start, checkpoint, send, deliver, lose, line, recover and earliest. Each takes any state and any arguments, and says in its contract what it
 // returns and what it leaves of the lists that it is lent, refused or accepted: specs/Outcomes of the crate model has the definitions.
-// A state that is not sound is refused first, with number 2. The rest is done by the crates steps and rollback, which ask plans what the call changes.
+// A state that is not sound is refused first, with number 2. The rest is done by the crates steps and rollback, which ask plans what the call changes, and by the
+// crate earliest.
+use earliest::call::EarliestOutcome;
+use earliest::list::Copied;
 use model::CheckpointAnswer;
 use model::DeliverAnswer;
 use model::LineAnswer;
 use model::LoseAnswer;
+use model::Named;
 use model::RecoverAnswer;
 use model::Refusal;
 use model::Run;
@@ -17,10 +21,15 @@ use steps::lose::LoseOutcome;
 use steps::send::SendOutcome;
 use steps::start::StartOutcome;
 ghost use mathlib.Core.Path.{_≡_};
+ghost use mathlib.Core.List.{List};
+ghost use lib.ListN.{take};
+ghost use Rattle.model.specs.declared.Named.{Named};
 ghost use Rattle.model.specs.Outcomes.{startOutcome, checkpointOutcome, sendOutcome, deliverOutcome, loseOutcome, lineOutcome, recoverOutcome};
 ghost use Rattle.model.specs.Calls as made;
-ghost use Rattle.model.specs.WholeRuns.{LinePromise, StatePromise};
+ghost use Rattle.model.specs.WholeRuns.{LinePromise, StatePromise, EarliestPromise};
 ghost use Rattle.model.specs.Clean.{CleanPromise};
+ghost use Rattle.model.specs.Earliest.{earliestOutcome};
+ghost use Rattle.earliest.specs.Copying.{copyOf, IsCopy};
 
 // A run of n processes, with the block count of each: the state in which it starts. The counts at n and above are neither judged nor stored.
 pub fn start(n: usize, counts: [u32; 16]) -> StartOutcome
@@ -127,4 +136,47 @@ pub fn recover(s: Run, failed: u16, deleted: &mut [u16], line: &mut [u16]) -> Re
         return RecoverOutcome { run: s, answer };
     }
     rollback::recover::recover(s, failed, deleted, line)
+}
+
+// The earliest line through the checkpoints of a list that was copied.
+fn earliest_of(s: Run, copied: Copied, line: &mut [u16]) -> EarliestOutcome
+    requires { ⌜ IsCopy copied ⌝ }
+    ensures { λ r. ⌜ ((l : List Named) → copied ≡ copyOf l → (r .run ≡ earliestOutcome s l (now (line .entry)) .run) × (r .answer ≡ earliestOutcome s l (now (line .entry)) .answer) × (now (line .exit) ≡ earliestOutcome s l (now (line .entry)) .line)) ⌝ }
+{
+    let sound = soundness::is_sound(s);
+    if !sound {
+        let answer = LineAnswer::Refused(Refusal::UnsoundState);
+        return EarliestOutcome { run: s, answer };
+    }
+    earliest::call::earliest(s, copied, line)
+}
+
+// The earliest consistent line through every named checkpoint: its indexes go to the front of the lent line list. Nothing else changes. The list of named checkpoints is
+// a lent slice of structs, so this function is proved by hand.
+// Wherever calls from an accepted start led to s, the line is right, and 20 is given only where no consistent line passes through all of them (document 02, Note 8). The
+// line may name deleted checkpoints and live states: it is to be shown, not restarted from.
+pub fn earliest(s: Run, named: &[Named], line: &mut [u16]) -> EarliestOutcome
+    ensures { λ r. ⌜ r .run ≡ earliestOutcome s (now (named .entry)) (now (line .entry)) .run ⌝ }
+    ensures { λ r. ⌜ r .answer ≡ earliestOutcome s (now (named .entry)) (now (line .entry)) .answer ⌝ }
+    ensures { λ r. ⌜ now (line .exit) ≡ earliestOutcome s (now (named .entry)) (now (line .entry)) .line ⌝ }
+    ensures { λ r. ⌜ EarliestPromise s (now (named .entry)) (now (line .entry)) ⌝ }
+{
+    let copied = earliest::list::copy_out(named);
+    earliest_of(s, copied, line)
+}
+
+// The same for who holds the named checkpoints at the front of an array: covered for every caller.
+pub fn earliest_among(
+    s: Run,
+    named: [Named; 16],
+    length: usize,
+    line: &mut [u16],
+) -> EarliestOutcome
+    ensures { λ r. ⌜ r .run ≡ earliestOutcome s (take length named) (now (line .entry)) .run ⌝ }
+    ensures { λ r. ⌜ r .answer ≡ earliestOutcome s (take length named) (now (line .entry)) .answer ⌝ }
+    ensures { λ r. ⌜ now (line .exit) ≡ earliestOutcome s (take length named) (now (line .entry)) .line ⌝ }
+    ensures { λ r. ⌜ EarliestPromise s (take length named) (now (line .entry)) ⌝ }
+{
+    let copied = earliest::list::copy_front(named, length);
+    earliest_of(s, copied, line)
 }

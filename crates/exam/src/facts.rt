@@ -137,7 +137,7 @@ fn processes(s: Run) {
     }
 }
 
-fn wide(x: u16) -> u64 {
+pub(crate) fn wide(x: u16) -> u64 {
     x as u64
 }
 

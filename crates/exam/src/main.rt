@@ -18,6 +18,9 @@ mod limits;
 // disk.rt: the blocks on disk
 mod disk;
 
+// named.rt: the earliest line through named checkpoints
+mod named;
+
 // What a case says of the state that it reaches.
 fn case(number: u64, s: After) {
     say::case(number);
@@ -142,4 +145,5 @@ fn main() {
     sweep_0();
     disk::disk_1();
     disk::disk_2();
+    named::note_8();
 }

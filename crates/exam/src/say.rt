@@ -68,6 +68,13 @@ pub(crate) fn step(number: u64) {
     end();
 }
 
+// The cases of a change request.
+pub(crate) fn note(number: u64) {
+    text(b"note");
+    value(number);
+    end();
+}
+
 // The answer of a call: 0, or the refusal number.
 pub(crate) fn answer(call: &[u8], refused: u8) {
     text(call);

@@ -8,6 +8,7 @@ pub mod Elements
 pub mod Front
 pub mod Lists
 pub mod Loops
+pub mod Members
 pub mod Prefixes
 pub mod Ranges
 pub mod Rows

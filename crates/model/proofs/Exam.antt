@@ -13,16 +13,18 @@ use Rattle.model.specs.Steps.{settled, listed, gone, deletions, billed, 
 use Rattle.model.specs.Sound.{countSound, ownSound, within, vectorsSound, ascending, keptSound, pinSound, pinsSound, messageSound, messagesSound, zeroFrom, unusedCheckpoint, unusedMessage, isNothing, nothingFrom, rowUnused, unusedSound, causeSound, isBlockCount, recordSound, keptBlocks, diskSound, sound}
 use Rattle.model.specs.Refusals.{number, firstOf, startRefusal, checkpointRefusal, sendRefusal, forcesPast, forcesOver, deliverRefusal, loseRefusal, noMember, lineRefusal, recoverRefusal}
 use Rattle.model.specs.Outcomes.{pairs, startOutcome, checkpointOutcome, sendOutcome, deliverAnswer, deliverOutcome, loseOutcome, lineOutcome, recoverOutcome, startReport, checkpointReport, sendReport, deliverReport, loseReport, lineReport, recoverReport}
+use Rattle.model.specs.Earliest.{isNamed, namedVector, greatest, earliestLine, someAbsent, repeats, unfit, notKept, someOrdered, earliestRefusal, earliestOutcome}
 use Rattle.model.specs.Calls.{answered, call, stateAfter, transcript}
 use Rattle.model.specs.Trace.{word, fields, ifZero, eventOf, decoded, isRecord, stands, wellFormed, fieldsOf, fits, wordOf, bytesOf, encoded}
 use Rattle.model.specs.Listing.{digits, decimal, valueText, deletionsText, acceptedText, lineText, refusalText, callOf, perform, asksForAll, goesOn, records, started as startedListing, listing}
 use Rattle.model.specs.Exam.{sameRows, optional, pinNumber, answerRight, answersRight, lineRight, keptRows, blocksAre, right, traceCalls, traceAnswers, sweepCalls, sweepAnswers, exam, disksAre, disksRight, diskCalls, diskCases, disks, exampleTrace, exampleListing}
 use Rattle.model.specs.Numbers.{startMeets, callMeets, tracePrints, stopPrints, argumentAsks, ofZeros, starts, calls, traces, stops, arguments, numbersRight}
+use Rattle.model.specs.EarliestExam.{shownState, earliestCaseRight, earliestCases, earliestsRight}
 use Rattle.model.specs.Seen.{forcedIn, seenOf, isAccepted, seen, isRecovery, unrecovered, SeenExamples}
 
--- Every case of the exam table with the example trace, the disks of Note 5, the whole table of the numbers, and what is seen in the examples.
-computed : ((every right exam && same (listing true exampleTrace) exampleListing && same (listing false exampleTrace) exampleListing) ≡ true) × (disks ≡ true) × (numbersRight ≡ true) × SeenExamples
-unfolding named live blocksOf blockCount blank process withProcess own underWay withMessages withDisk settled listed gone deletions billed withProcesses checkpointZero started opening startState advanced storing checkpointed checkpointState checkpointDeletions sentMessage marked sendState found others newer forces takenEntry takenVector takenPin takenPins risen takenIn delivered deliverState deliverRisen deliverDeletions loseState allowed states latestAllowed member lineOf rolledBack vectorAfter notLost ownAfter latestPin movedPin pinAfter pinsAfter recovered lostBy stillUnderWay goneAt deletedAt recoverState recoverDeletions rolledBackCount countSound ownSound within vectorsSound ascending keptSound pinSound pinsSound messageSound messagesSound zeroFrom unusedCheckpoint unusedMessage isNothing nothingFrom rowUnused unusedSound causeSound isBlockCount recordSound keptBlocks diskSound sound number firstOf startRefusal checkpointRefusal sendRefusal forcesPast forcesOver deliverRefusal loseRefusal noMember lineRefusal recoverRefusal pairs startOutcome checkpointOutcome sendOutcome deliverAnswer deliverOutcome loseOutcome lineOutcome recoverOutcome startReport checkpointReport sendReport deliverReport loseReport lineReport recoverReport answered call stateAfter transcript word fields ifZero eventOf decoded isRecord stands wellFormed fieldsOf fits wordOf bytesOf encoded digits decimal valueText deletionsText acceptedText lineText refusalText callOf perform asksForAll goesOn records startedListing listing same sameRows optional pinNumber answerRight answersRight lineRight keptRows blocksAre right traceCalls traceAnswers sweepCalls sweepAnswers exam disksAre disksRight diskCalls diskCases disks exampleTrace exampleListing bitsOf select lastOf table gather placed allBelow anyBelow sumBelow countBelow every some-of startMeets callMeets tracePrints stopPrints argumentAsks ofZeros starts calls traces stops arguments numbersRight forcedIn seenOf isAccepted seen isRecovery unrecovered
+-- Every case of the exam table with the example trace, the disks of Note 5, the whole table of the numbers, what is seen in the examples, and Note 8's table.
+computed : ((every right exam && same (listing true exampleTrace) exampleListing && same (listing false exampleTrace) exampleListing) ≡ true) × (disks ≡ true) × (numbersRight ≡ true) × SeenExamples × (earliestsRight ≡ true)
+unfolding isNamed namedVector greatest earliestLine someAbsent repeats unfit notKept someOrdered earliestRefusal earliestOutcome shownState earliestCaseRight earliestCases earliestsRight named live blocksOf blockCount blank process withProcess own underWay withMessages withDisk settled listed gone deletions billed withProcesses checkpointZero started opening startState advanced storing checkpointed checkpointState checkpointDeletions sentMessage marked sendState found others newer forces takenEntry takenVector takenPin takenPins risen takenIn delivered deliverState deliverRisen deliverDeletions loseState allowed states latestAllowed member lineOf rolledBack vectorAfter notLost ownAfter latestPin movedPin pinAfter pinsAfter recovered lostBy stillUnderWay goneAt deletedAt recoverState recoverDeletions rolledBackCount countSound ownSound within vectorsSound ascending keptSound pinSound pinsSound messageSound messagesSound zeroFrom unusedCheckpoint unusedMessage isNothing nothingFrom rowUnused unusedSound causeSound isBlockCount recordSound keptBlocks diskSound sound number firstOf startRefusal checkpointRefusal sendRefusal forcesPast forcesOver deliverRefusal loseRefusal noMember lineRefusal recoverRefusal pairs startOutcome checkpointOutcome sendOutcome deliverAnswer deliverOutcome loseOutcome lineOutcome recoverOutcome startReport checkpointReport sendReport deliverReport loseReport lineReport recoverReport answered call stateAfter transcript word fields ifZero eventOf decoded isRecord stands wellFormed fieldsOf fits wordOf bytesOf encoded digits decimal valueText deletionsText acceptedText lineText refusalText callOf perform asksForAll goesOn records startedListing listing same sameRows optional pinNumber answerRight answersRight lineRight keptRows blocksAre right traceCalls traceAnswers sweepCalls sweepAnswers exam disksAre disksRight diskCalls diskCases disks exampleTrace exampleListing bitsOf select lastOf table gather placed allBelow anyBelow sumBelow countBelow every some-of startMeets callMeets tracePrints stopPrints argumentAsks ofZeros starts calls traces stops arguments numbersRight forcedIn seenOf isAccepted seen isRecovery unrecovered
 computed = (
   refl,
   refl,
@@ -39,6 +41,7 @@ computed = (
     sweep = refl;
     refused-recovery = refl;
   },
+  refl,
 )
 
 pub exam-right : (every right exam && same (listing true exampleTrace) exampleListing && same (listing false exampleTrace) exampleListing) ≡ true
@@ -52,3 +55,6 @@ numbers-right = computed .2
 
 pub seen-examples : SeenExamples
 seen-examples = computed .3
+
+pub earliests-right : earliestsRight ≡ true
+earliests-right = computed .4

@@ -17,7 +17,7 @@ use Rattle.model.specs.declared.Run.{Run}
 use Rattle.model.specs.declared.Refusal.{Refusal}
 use Rattle.model.specs.Words.{basic, forced}
 use Rattle.model.specs.Outcomes.{startOutcome}
-use Rattle.model.specs.Calls.{Call, checkpoint, send, deliver, lose, recover, line, call, stateAfter, transcript}
+use Rattle.model.specs.Calls.{Call, checkpoint, send, deliver, lose, recover, line, earliest, call, stateAfter, transcript}
 use Rattle.model.specs.Survival.{Surviving, beginning, after, survivingFrom, surviving}
 use Rattle.model.specs.Seen.{seenOf, isAccepted, seen, allAccepted, isRecovery, unrecovered, NothingMoreCouldGo, SafeRule, NoRuleDeletesMore}
 use Rattle.model.specs.laws.Refusals.{by-refusal}
@@ -65,6 +65,7 @@ step-rises r v (deliver m deleted) under q p f = delivered-rises (because forced
 step-rises r v (lose m) under q p f = omega arith
 step-rises r v (recover F deleted lent) under q p f = never-both true refl q
 step-rises r v (line F lent) under q p f = omega arith
+step-rises r v (earliest l lent) under q p f = omega arith
 
 delivers : (n : ℕ) (s : Run) (h : Surviving) (r : Ideal) → Reached n s h r → (c : Call) → refusal (stateOf r) c ≡ none → (m : ℕ) (deleted : List ℕ) → c ≡ deliver m deleted → r .transit m ≡ true
 unfolding refusal

@@ -19,6 +19,7 @@ use Rattle.laws.specs.Truth.{and-left, and-right}
 use Rattle.model.specs.declared.Interval.{Interval}
 use Rattle.model.specs.declared.Checkpoint.{Checkpoint}
 use Rattle.model.specs.declared.Message.{Message}
+use Rattle.model.specs.declared.Named.{Named}
 use Rattle.model.specs.declared.Run.{Run}
 use Rattle.model.specs.declared.Event.{Event}
 use Rattle.model.specs.declared.Refusal.{Refusal}
@@ -30,7 +31,8 @@ use Rattle.model.specs.Refusals.{number, checkpointRefusal, sendRefusal,
 use Rattle.model.specs.laws.Refusals.{by-refusal, number-range}
 use Rattle.model.specs.laws.Sound.{sound-state, sound-message}
 use Rattle.model.specs.Outcomes.{Report, refusing, accepting, message, deliverAnswer, checkpointOutcome, checkpointReport, sendOutcome, sendReport, deliverOutcome, deliverReport, loseOutcome, loseReport, lineOutcome, lineReport, recoverOutcome, recoverReport}
-use Rattle.model.specs.Calls.{Call, checkpoint, send, deliver, lose, recover, line, answered, call}
+use Rattle.model.specs.Earliest.{earliestRefusal, earliestOutcome}
+use Rattle.model.specs.Calls.{Call, checkpoint, send, deliver, lose, recover, line, earliest, answered, call}
 use Rattle.model.specs.Listing.{callOf, perform}
 use Rattle.model.proofs.simulation.Accepted.{checkpoint-out, send-out, deliver-out, recover-out}
 use Rattle.model.proofs.simulation.Handed.{gather-length}
@@ -134,6 +136,10 @@ line-small : (s : Run) (F : ℕ) (lent : List ℕ) → Small (lineReport (lineOu
 unfolding lineReport lineOutcome
 line-small s F lent = by-refusal (lineRefusal s F lent) (λ e. rw e (small-none 0 (omega arith))) (λ x e. rw e (small-refused x))
 
+earliest-small : (s : Run) (l : List Named) (lent : List ℕ) → Small (lineReport (earliestOutcome s l lent .answer))
+unfolding earliestOutcome lineReport
+earliest-small s l lent = by-refusal (earliestRefusal s l lent) (λ e. rw e (small-none 0 (omega arith))) (λ x e. rw e (small-refused x))
+
 deliver-small : (s : Run) (m : ℕ) (deleted : List ℕ) → Small (deliverReport (deliverOutcome s m deleted .answer))
 unfolding deliverReport deliverOutcome deliverAnswer live own
 deliver-small s m deleted = by-refusal (deliverRefusal s m deleted)
@@ -161,6 +167,7 @@ call-small s (deliver m deleted) = deliver-small s m deleted
 call-small s (lose m) = lose-small s m
 call-small s (recover F deleted lent) = recover-small s F deleted lent
 call-small s (line F lent) = line-small s F lent
+call-small s (earliest l lent) = earliest-small s l lent
 
 pub record-small : (s : Run) (e : Option Event) → Small (perform s e .reply .report)
 unfolding perform

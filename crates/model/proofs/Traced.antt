@@ -20,7 +20,7 @@ use Rattle.model.specs.Words.{places, ones, blockCount, process}
 use Rattle.model.specs.Steps.{startState}
 use Rattle.model.specs.Refusals.{number, startRefusal}
 use Rattle.model.specs.Outcomes.{startOutcome}
-use Rattle.model.specs.Calls.{Call, checkpoint, send, deliver, lose, recover, line, Exchange, call, stateAfter, transcript}
+use Rattle.model.specs.Calls.{Call, checkpoint, send, deliver, lose, recover, line, earliest, Exchange, call, stateAfter, transcript}
 use Rattle.model.specs.Survival.{Surviving, beginning, accepted, after, survivingFrom, storedBy, countOf}
 use Rattle.model.specs.Answers.{Reason, lowest, pastBound, reasons}
 use Rattle.model.specs.Trace.{decoded}
@@ -142,14 +142,15 @@ module _ (n : ℕ) (h : Surviving) (room : (p : ℕ) → pastBound h p ≡ false
       (λ q. never-both (pastBound h p) (rw q at e) (room p))
       (λ q. never-both false (rw q at e) refl)
 
-  none-is-16 : (forcing : Bool) (c : Call) → NoneIs16 (reasons n h forcing c)
+  none-is-16 : (forcing ordered : Bool) (c : Call) → NoneIs16 (reasons n h forcing ordered c)
   unfolding reasons
-  none-is-16 b (checkpoint i deleted) = (λ q e. omega arith, (λ q e. omega arith, (λ q e. omega arith, (λ q e. never-both (pastBound h i) q (room i), tt))))
-  none-is-16 b (send i j) = (λ q e. omega arith, (λ q e. omega arith, (λ q e. omega arith, (λ q e. omega arith, tt))))
-  none-is-16 b (deliver m deleted) = (λ q e. omega arith, (λ q e. omega arith, (λ q e. omega arith, (λ q e. forced-room b (h .receiver m) q, tt))))
-  none-is-16 b (lose m) = (λ q e. omega arith, tt)
-  none-is-16 b (recover F deleted lent) = (λ q e. omega arith, (λ q e. omega arith, tt))
-  none-is-16 b (line F lent) = (λ q e. omega arith, (λ q e. omega arith, tt))
+  none-is-16 b o (checkpoint i deleted) = (λ q e. omega arith, (λ q e. omega arith, (λ q e. omega arith, (λ q e. never-both (pastBound h i) q (room i), tt))))
+  none-is-16 b o (send i j) = (λ q e. omega arith, (λ q e. omega arith, (λ q e. omega arith, (λ q e. omega arith, tt))))
+  none-is-16 b o (deliver m deleted) = (λ q e. omega arith, (λ q e. omega arith, (λ q e. omega arith, (λ q e. forced-room b (h .receiver m) q, tt))))
+  none-is-16 b o (lose m) = (λ q e. omega arith, tt)
+  none-is-16 b o (recover F deleted lent) = (λ q e. omega arith, (λ q e. omega arith, tt))
+  none-is-16 b o (line F lent) = (λ q e. omega arith, (λ q e. omega arith, tt))
+  none-is-16 b o (earliest l lent) = (λ q e. omega arith, (λ q e. omega arith, (λ q e. omega arith, (λ q e. omega arith, (λ q e. omega arith, tt)))))
 
 module _ (n : ℕ) (ok : startRefusal n ones ≡ none) where
   -- A state that at most so many calls from the start reach.
@@ -195,7 +196,7 @@ module _ (n : ℕ) (ok : startRefusal n ones ≡ none) where
     not-16 : (c : Call) → call (stateAfter (startOutcome n ones .run) calls) c .reply .report .refused ≡ 16 → ⊥
     not-16 c e =
         let a = reached-answer n (stateAfter (startOutcome n ones .run) calls) h (runAfter (begun n ones) calls) (reachable-reached n ones ok calls) c in
-        lowest-other (reasons n h (a .forcing) c) (none-is-16 n h room (a .forcing) c) (sym (a .number) ∙ e)
+        lowest-other (reasons n h (a .forcing) (a .ordered) c) (none-is-16 n h room (a .forcing) (a .ordered) c) (sym (a .number) ∙ e)
 
   next-not-16 : (most : ℕ) (s : Run) → Within most s → most ≤ mostRecords → (e : Option Event) → perform s e .reply .report .refused ≡ 16 → ⊥
   unfolding perform number

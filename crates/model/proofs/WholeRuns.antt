@@ -1,6 +1,6 @@
 -- Demand 3, proved: right over whole runs. And what later work cites of states that calls from a start reach.
 -- Assumes nothing.
-use mathlib.Core.Path.{_≡_, refl, sym, _∙_, ap}
+use mathlib.Core.Path.{_≡_, refl, sym, _∙_, ap, subst}
 use mathlib.Core.Bool.{true}
 use mathlib.Core.List.{List, [], _∷_, _++_}
 use mathlib.Core.Option.{Option, none, some}
@@ -11,6 +11,7 @@ use borrow.Author.Tests.{eq-eqb, eqb-true}
 use Rattle.laws.specs.Choice.{by-eq}
 use Rattle.laws.specs.Counting.{count-mono}
 use Rattle.laws.specs.Elements.{same-test}
+use Rattle.model.specs.declared.Named.{Named}
 use Rattle.model.specs.declared.Run.{Run}
 use Rattle.model.specs.declared.StartAnswer.the-variants.{Started}
 use Rattle.model.specs.Steps.{startState}
@@ -19,10 +20,10 @@ use Rattle.model.specs.History.{checkpoints}
 use Rattle.model.specs.Refusals.{startRefusal}
 use Rattle.model.specs.Outcomes.{startOutcome, checkpointOutcome, deliverOutcome, recoverOutcome, startReport}
 use Rattle.model.specs.laws.Refusals.{by-refusal}
-use Rattle.model.specs.Calls.{Call, checkpoint, send, deliver, lose, recover, line, Exchange, answered, call, stateAfter, transcript}
+use Rattle.model.specs.Calls.{Call, checkpoint, send, deliver, lose, recover, line, earliest, Exchange, answered, call, stateAfter, transcript}
 use Rattle.model.specs.Survival.{Surviving, beginning, after, survivingFrom, surviving}
 use Rattle.model.specs.Answers.{AnswerIsRight, AnswersAreRight}
-use Rattle.model.specs.WholeRuns.{LineIsRight, KeptIsRight, StartsAreRight, RightOverWholeRuns, Reachable, LinePromise, StatePromise}
+use Rattle.model.specs.WholeRuns.{LineIsRight, KeptIsRight, StartsAreRight, RightOverWholeRuns, Reachable, LinePromise, StatePromise, EarliestIsRight, EarliestPromise}
 use Rattle.model.proofs.ideal.Run.{Ideal, begin, openLedger, begun, keeps}
 use Rattle.model.proofs.ideal.Ledger.{ledger-keeps, ledger-inv}
 use Rattle.model.proofs.ideal.Invariant.{Inv}
@@ -43,12 +44,13 @@ use Rattle.model.proofs.whole.Answers.{answer-right}
 use Rattle.model.proofs.whole.Because.{basic-step, forced-step}
 use Rattle.model.proofs.whole.BlocksRight.{reached-blocks}
 use Rattle.model.proofs.whole.Refused.{numberOf, members-found, start-number}
+use Rattle.model.proofs.whole.Earliest.{earliest-right}
 use Rattle.model.proofs.whole.LineRight.{line-right}
 use Rattle.model.proofs.whole.Reached.{Reached, exchange, refusal, refused-reached}
 use Rattle.model.proofs.whole.Recovers.{recover-step}
 use Rattle.model.proofs.whole.Restarts.{begin-restarted, step-restarted, needed-in, needed-out}
 use Rattle.model.proofs.whole.Runs.{stepped, unlessRefused, runAfter}
-use Rattle.model.proofs.whole.Steps.{send-step, lose-step, line-step}
+use Rattle.model.proofs.whole.Steps.{send-step, lose-step, line-step, earliest-step}
 
 -- The history of the start agrees with the run as functions at its start.
 begin-keeps : (n p k : ℕ) → p < n → keeps (begin n) p k ≡ eqb k 0
@@ -112,6 +114,7 @@ step n h r v fit memory size g (deliver m deleted) e = forced-step n h r v fit m
 step n h r v fit memory size g (lose m) e = lose-step n h r v fit memory size g m e
 step n h r v fit memory size g (recover F deleted lent) e = recover-step n h r v fit memory size g F deleted lent e
 step n h r v fit memory size g (line F lent) e = line-step n h r v fit memory size g F lent e
+step n h r v fit memory size g (earliest l lent) e = earliest-step n h r v fit memory size g l lent e
 
 -- What stands for s may be put for it.
 on-state : (n : ℕ) (s : Run) (h : Surviving) (c : Call) (r r′ : Ideal) → s ≡ stateOf r → Reached n (call (stateOf r) c .run) (after n h (exchange (stateOf r) c)) r′
@@ -250,6 +253,16 @@ unfolding RightOverWholeRuns LinePromise
 line-promise s F n counts ok calls e inside =
     let w = right-over-whole-runs n counts ok calls in
     rw e (w .4 F inside, w .2)
+
+-- Note 8 as its call says it of the state that it is handed,
+pub earliest-promise : (s : Run) (l : List Named) (lent : List ℕ) → EarliestPromise s l lent
+unfolding EarliestPromise surviving
+earliest-promise s l lent n counts ok calls e =
+    let r = runAfter (begun n counts) calls in
+    let v = reachable-reached n counts ok calls in
+    let h = survivingFrom n (beginning n counts) (transcript (startOutcome n counts .run) calls) in
+    subst (λ (t : Run). EarliestIsRight n t h l lent) (sym (e ∙ v .state))
+    (subst (λ (x : ℕ). EarliestIsRight x (stateOf r) h l lent) (v .size) (earliest-right h r (v .inv) (v .limits) (v .agrees) l lent))
 
 -- and as a call says it of the state that it returns.
 state-promise : (s : Run) (c : Call) (t : Run) → t ≡ call s c .run → StatePromise s c t

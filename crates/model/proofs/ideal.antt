@@ -6,6 +6,7 @@ pub mod Invariant
 pub mod Rule
 pub mod Line
 pub mod Maximal
+pub mod Earliest
 pub mod Messages
 pub mod Begin
 pub mod Lost

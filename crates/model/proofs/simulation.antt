@@ -3,6 +3,7 @@ pub mod Admitted
 pub mod Billing
 pub mod Checkpoint
 pub mod Deliver
+pub mod Earliest
 pub mod Handed
 pub mod Kept
 pub mod Lines

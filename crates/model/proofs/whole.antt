@@ -3,6 +3,7 @@ pub mod Accepted
 pub mod Answers
 pub mod Because
 pub mod BlocksRight
+pub mod Earliest
 pub mod Follow
 pub mod Gone
 pub mod LineRight

@@ -3,8 +3,10 @@
 -- Assumes nothing.
 use mathlib.Core.List.{List, [], _∷_}
 use Prim.Native.Nat.{ℕ}
+use Rattle.model.specs.declared.Named.{Named}
 use Rattle.model.specs.declared.Run.{Run}
 use Rattle.model.specs.Outcomes.{Outcome, Report, checkpointOutcome, checkpointReport, sendOutcome, sendReport, deliverOutcome, deliverReport, loseOutcome, loseReport, lineOutcome, lineReport, recoverOutcome, recoverReport}
+use Rattle.model.specs.Earliest.{earliestOutcome}
 
 -- "holds checkpoint, send, deliver, lose, recover and line calls, with any arguments and lent lists". A lent list is given as it stood before the call.
 pub data Call : Type 0 where
@@ -19,6 +21,8 @@ pub data Call : Type 0 where
   recover : ℕ → List ℕ → List ℕ → Call
   -- the failed set; the line list
   line : ℕ → List ℕ → Call
+  -- Note 8: the named checkpoints; the line list
+  earliest : List Named → List ℕ → Call
 
 -- All that a call returns beside the state: its report, the set of entries that rose, and its lent lists as they then stand.
 pub record Reply : Type 0 where
@@ -42,6 +46,7 @@ call s (deliver m deleted) = answered deliverReport (deliverOutcome s m deleted)
 call s (lose m) = answered loseReport (loseOutcome s m)
 call s (recover F deleted lent) = answered recoverReport (recoverOutcome s F deleted lent)
 call s (line F lent) = answered lineReport (lineOutcome s F lent)
+call s (earliest l lent) = answered lineReport (earliestOutcome s l lent)
 
 -- "Each gets the state the one before it returned, after a refusal the state as it came".
 unfoldable pub stateAfter : Run → List Call → Run

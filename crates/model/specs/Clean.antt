@@ -12,7 +12,8 @@ use Rattle.model.specs.Outcomes.{startOutcome}
 use Rattle.model.specs.Calls.{Call, recover, stateAfter, transcript}
 use Rattle.model.specs.Survival.{surviving}
 use Rattle.model.specs.Best.{Best, InBestLine}
-use Rattle.model.specs.WholeRuns.{reported, keepsIn}
+use Rattle.model.specs.Words.{keepsIn}
+use Rattle.model.specs.WholeRuns.{reported}
 
 -- The line that a line or recover call reports is the best line: for every list of calls from an accepted start and every failed set.
 unfoldable pub ReportedIsBest : Type 0

@@ -39,6 +39,14 @@ behind (suc k) (stored ∷ l) = behind k l
 behind k (sent m ∷ l) = behind k l
 behind k (received m ∷ l) = behind k l
 
+-- The part of a list before checkpoint k.
+unfoldable pub beforeCheckpoint : ℕ → List HistoryEvent → List HistoryEvent
+beforeCheckpoint k [] = []
+beforeCheckpoint zero (stored ∷ l) = []
+beforeCheckpoint (suc k) (stored ∷ l) = stored ∷ beforeCheckpoint k l
+beforeCheckpoint k (sent m ∷ l) = sent m ∷ beforeCheckpoint k l
+beforeCheckpoint k (received m ∷ l) = received m ∷ beforeCheckpoint k l
+
 -- "A line names one state of each process": the index of a checkpoint in its list, or of its live state.
 abbrev pub Line : Type 0
 Line = ℕ → ℕ

@@ -2,6 +2,8 @@ pub mod Answers
 pub mod Best
 pub mod Calls
 pub mod Clean
+pub mod Earliest
+pub mod EarliestExam
 pub mod Exam
 pub mod Halves
 pub mod History

@@ -1,20 +1,11 @@
 -- Which checkpoints are kept, by the places in the lists alone: what the pins of document 01 name, said without a pin, a vector or a pair handed out.
 -- "A pin of i for f names one kept checkpoint of i, or none. A checkpoint is kept exactly while a pin names it."
 -- Assumes nothing.
-use mathlib.Core.List.{List, [], _∷_}
 use mathlib.Core.Logic.{_⊎_}
-use Prim.Native.Nat.{ℕ, zero, suc, _-_, _<_}
-use Rattle.model.specs.History.{HistoryEvent, stored, sent, received, Lists, checkpoints}
+use Prim.Native.Nat.{ℕ, _-_, _<_}
+use Rattle.model.specs.History.{Lists, checkpoints, beforeCheckpoint}
 use Rattle.model.specs.Survival.{Surviving}
 use Rattle.model.specs.Answers.{ComesBefore}
-
--- The part of a list before checkpoint k.
-unfoldable pub beforeCheckpoint : ℕ → List HistoryEvent → List HistoryEvent
-beforeCheckpoint k [] = []
-beforeCheckpoint zero (stored ∷ l) = []
-beforeCheckpoint (suc k) (stored ∷ l) = stored ∷ beforeCheckpoint k l
-beforeCheckpoint k (sent m ∷ l) = sent m ∷ beforeCheckpoint k l
-beforeCheckpoint k (received m ∷ l) = received m ∷ beforeCheckpoint k l
 
 -- The live state of p knows more of f than p knew at checkpoint k: some checkpoint of f comes causally before the one and not before the other.
 unfoldable pub KnewLess : Lists → ℕ → ℕ → ℕ → Type 0

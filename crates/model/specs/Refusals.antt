@@ -11,12 +11,12 @@ use Rattle.laws.specs.Search.{anyBelow}
 use Rattle.model.specs.declared.Message.{Message}
 use Rattle.model.specs.declared.Run.{Run}
 use Rattle.model.specs.declared.Refusal.{Refusal}
-use Rattle.model.specs.declared.Refusal.the-variants.{CountOutsideRange, UnsoundState, ListTooShort, NoSuchProcess, SenderIsReceiver, NoSuchFailedProcess, NotUnderWay, TooManyUnderWay, MessageNumbersUsed, IntervalsUsed, NoFirstByte, LeftOverBytes, MalformedRecord, BlockCountOutsideRange, BlocksUsed, TooManyRecords, HalvesMismatch, NeitherReady}
+use Rattle.model.specs.declared.Refusal.the-variants.{CountOutsideRange, UnsoundState, ListTooShort, NoSuchProcess, SenderIsReceiver, NoSuchFailedProcess, NotUnderWay, TooManyUnderWay, MessageNumbersUsed, IntervalsUsed, NoFirstByte, LeftOverBytes, MalformedRecord, BlockCountOutsideRange, BlocksUsed, TooManyRecords, UnfitNamedList, NotKept, CausallyOrdered, HalvesMismatch, NeitherReady}
 use Rattle.model.specs.Words.{places, mostUnderWay, mostMessages, mostInterval, mostBlocks, blockCount, process, own}
 use Rattle.model.specs.Steps.{found, forces, latestAllowed}
 use Rattle.model.specs.Sound.{isBlockCount, sound}
 
--- The number that document 01 gives each refusal. Note 4: "Refusal 6 never occurs any more." No refusal has it.
+-- The number that document 01 gives each refusal, and document 02 those from 15 on. Note 4: "Refusal 6 never occurs any more." No refusal has it.
 unfoldable pub number : Refusal → ℕ
 number CountOutsideRange = 1
 number UnsoundState = 2
@@ -34,6 +34,9 @@ number MalformedRecord = 14
 number BlockCountOutsideRange = 15
 number BlocksUsed = 16
 number TooManyRecords = 17
+number UnfitNamedList = 18
+number NotKept = 19
+number CausallyOrdered = 20
 number HalvesMismatch = 23
 number NeitherReady = 24
 

@@ -13,7 +13,7 @@ use Rattle.model.specs.declared.Run.{Run}
 use Rattle.model.specs.Words.{ones}
 use Rattle.model.specs.Refusals.{startRefusal}
 use Rattle.model.specs.Outcomes.{message, startOutcome}
-use Rattle.model.specs.Calls.{Call, checkpoint, send, deliver, lose, recover, line, call, transcript}
+use Rattle.model.specs.Calls.{Call, checkpoint, send, deliver, lose, recover, line, earliest, call, transcript}
 use Rattle.model.specs.Survival.{surviving}
 use Rattle.model.specs.Best.{InBestLine}
 
@@ -44,6 +44,7 @@ seenOf i s (deliver m deleted) =
 seenOf i s (lose m) = []
 seenOf i s (recover F deleted lent) = []
 seenOf i s (line F lent) = []
+seenOf i s (earliest l lent) = []
 
 unfoldable pub isAccepted : Run → Call → Bool
 isAccepted s c = eqb (call s c .reply .report .refused) 0
@@ -66,6 +67,7 @@ isRecovery (deliver m deleted) = false
 isRecovery (lose m) = false
 isRecovery (recover F deleted lent) = true
 isRecovery (line F lent) = false
+isRecovery (earliest l lent) = false
 
 unfoldable pub unrecovered : Run → List Call → Bool
 unrecovered s [] = true

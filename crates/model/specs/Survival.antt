@@ -12,7 +12,7 @@ use Rattle.laws.specs.Sums.{sumBelow}
 use Rattle.laws.specs.Update.{upd}
 use Rattle.model.specs.Words.{initial, basic, forced}
 use Rattle.model.specs.History.{HistoryEvent, stored, sent, received, Lists, checkpoints, upTo}
-use Rattle.model.specs.Calls.{Call, checkpoint, send, deliver, lose, recover, line, Reply, Exchange}
+use Rattle.model.specs.Calls.{Call, checkpoint, send, deliver, lose, recover, line, earliest, Reply, Exchange}
 
 -- The surviving history: the lists, and what they were right after the last accepted recover, or the start; how many sends were accepted; the receiver that each send named; which messages are under way: sent by an accepted
 -- send, neither delivered nor lost since by an accepted call, and not lost by a recovery; which checkpoints are kept.
@@ -62,7 +62,7 @@ cut n lists indexes p = pick (ltb p n && ltb (getD indexes p 0) (checkpoints (li
 -- The lists after an accepted call. "An accepted checkpoint at i adds to i's list the next checkpoint".
 -- "Accepted sends are numbered 1, 2, 3 and on, over recoveries too; number m adds "sent m" to its sender's list."
 -- "An accepted delivery of m adds to the list of the receiver its send named the next checkpoint, if the answer names a forced one, then "received m"."
--- "Lose, line .. change nothing."
+-- "Lose, line .. change nothing." Nor does Note 8's call: "It changes no state."
 unfoldable pub listsAfter : ℕ → Surviving → Call → Reply → Lists
 listsAfter n h (checkpoint i deleted) r = added (h .lists) i stored
 listsAfter n h (send i j) r = added (h .lists) i (sent (h .sends + 1))
@@ -70,6 +70,7 @@ listsAfter n h (deliver m deleted) r = added (forcedFirst (h .lists) (h .receive
 listsAfter n h (lose m) r = h .lists
 listsAfter n h (recover F deleted lent) r = cut n (h .lists) (r .line)
 listsAfter n h (line F lent) r = h .lists
+listsAfter n h (earliest l lent) r = h .lists
 
 -- What the lists were right after the last accepted recover.
 unfoldable pub restartAfter : ℕ → Surviving → Call → Reply → Lists
@@ -79,6 +80,7 @@ restartAfter n h (deliver m deleted) r = h .restart
 restartAfter n h (lose m) r = h .restart
 restartAfter n h (recover F deleted lent) r = cut n (h .lists) (r .line)
 restartAfter n h (line F lent) r = h .restart
+restartAfter n h (earliest l lent) r = h .restart
 
 -- How many sends were accepted, and whom each named.
 unfoldable pub sendsAfter : Surviving → Call → ℕ
@@ -88,6 +90,7 @@ sendsAfter h (deliver m deleted) = h .sends
 sendsAfter h (lose m) = h .sends
 sendsAfter h (recover F deleted lent) = h .sends
 sendsAfter h (line F lent) = h .sends
+sendsAfter h (earliest l lent) = h .sends
 
 unfoldable pub receiverAfter : Surviving → Call → ℕ → ℕ
 receiverAfter h (checkpoint i deleted) = h .receiver
@@ -96,6 +99,7 @@ receiverAfter h (deliver m deleted) = h .receiver
 receiverAfter h (lose m) = h .receiver
 receiverAfter h (recover F deleted lent) = h .receiver
 receiverAfter h (line F lent) = h .receiver
+receiverAfter h (earliest l lent) = h .receiver
 
 -- "sent m" stands in a list; it does in one of the lists of the n processes.
 unfoldable pub isSent : ℕ → List HistoryEvent → Bool
@@ -117,6 +121,7 @@ underwayAfter n h lists (deliver m deleted) = upd (h .underway) m false
 underwayAfter n h lists (lose m) = upd (h .underway) m false
 underwayAfter n h lists (recover F deleted lent) = λ m. h .underway m && stillSent n lists m
 underwayAfter n h lists (line F lent) = h .underway
+underwayAfter n h lists (earliest l lent) = h .underway
 
 -- The answer hands out the pair p, k.
 unfoldable pub handedOut : Reply → ℕ → ℕ → Bool
@@ -138,6 +143,7 @@ storedBy h (deliver m deleted) r = forcedAt h m (r .report .value)
 storedBy h (lose m) r = none
 storedBy h (recover F deleted lent) r = none
 storedBy h (line F lent) r = none
+storedBy h (earliest l lent) r = none
 
 -- Note 5: "its cause (0 initial, 1 basic, 2 forced)", by the call that stored it. The others store none.
 unfoldable pub causeOf : Call → ℕ
@@ -147,6 +153,7 @@ causeOf (deliver m deleted) = forced
 causeOf (lose m) = 0
 causeOf (recover F deleted lent) = 0
 causeOf (line F lent) = 0
+causeOf (earliest l lent) = 0
 
 -- The causes after it: the new checkpoint is "numbered one above the last there". Where a recovery took that number from the list, it is stored again, and the
 -- cause is the new one's.

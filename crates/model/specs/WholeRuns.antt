@@ -12,21 +12,23 @@ use Rattle.laws.specs.Search.{allBelow}
 use Rattle.laws.specs.Sums.{sumBelow}
 use Rattle.laws.specs.Tests.{countBelow, every, some-of}
 use Rattle.model.specs.declared.Checkpoint.{Checkpoint}
+use Rattle.model.specs.declared.Named.{Named}
 use Rattle.model.specs.declared.Run.{Run}
 use Rattle.model.specs.declared.Event.{Event}
-use Rattle.model.specs.declared.Refusal.the-variants.{ListTooShort}
+use Rattle.model.specs.declared.Refusal.the-variants.{ListTooShort, CausallyOrdered}
 use Rattle.model.specs.declared.StartAnswer.the-variants.{Started}
-use Rattle.model.specs.Words.{ones, lastStored, comesBefore, names, process, own, failed}
+use Rattle.model.specs.Words.{ones, lastStored, comesBefore, names, process, keepsIn, own, failed}
 use Rattle.model.specs.Steps.{startState, allowed, lineOf}
 use Rattle.model.specs.History.{Line, checkpoints}
 use Rattle.model.specs.Sound.{sound}
 use Rattle.model.specs.Refusals.{startRefusal, lineRefusal, recoverRefusal}
 use Rattle.model.specs.Outcomes.{startOutcome, lineOutcome, recoverOutcome, startReport}
+use Rattle.model.specs.Earliest.{greatest, earliestRefusal}
 use Rattle.model.specs.Calls.{Call, stateAfter, transcript}
 use Rattle.model.specs.Listing.{mostRecords, perform, stateAfterRecords}
 use Rattle.model.specs.Survival.{Surviving, surviving}
 use Rattle.model.specs.Needed.{Needed}
-use Rattle.model.specs.Answers.{lowest, startReasons, RightLine, AnswersAreRight}
+use Rattle.model.specs.Answers.{lowest, startReasons, RightLine, AnswersAreRight, RightEarliest, NoneThrough}
 
 -- "The reported line is the n indexes that a line or recover call for the failed set then writes"
 abbrev pub reported : Run → ℕ → Line
@@ -48,10 +50,6 @@ pub record LineIsRight (n : ℕ) (s : Run) (h : Surviving) (F : ℕ) : Type 0 wh
   pub by-precedence : (c : Checkpoint) → allowed s F c ≡ allBelow n (λ f. not (failed F f && comesBefore (lastStored (own s f)) f (c .vector)))
   -- the line is right by the history
   pub right : RightLine n h F (reported s F)
-
--- The state keeps checkpoint k of process p.
-abbrev pub keepsIn : Run → ℕ → ℕ → Bool
-keepsIn s p k = some-of (λ c. eqb (c .index .0) k) (process s p .kept)
 
 -- What is promised of a state and its surviving history whoever fails: kept by the pairs handed out are exactly the checkpoints that the state keeps,
 -- "the pins name exactly the kept ones", and "no process keeps more than n".
@@ -108,6 +106,18 @@ unfoldable pub LinePromise : Run → ℕ → Type 0
 LinePromise s F = (n : ℕ) (counts : List ℕ) → startRefusal n counts ≡ none → (calls : List Call) → s ≡ stateAfter (startOutcome n counts .run) calls → F < 2 ^ n →
     let h = surviving n counts (transcript (startOutcome n counts .run) calls) in
     (LineIsRight n s h F) × (KeptIsRight n s h)
+
+-- Note 8: what is promised of a state s and the surviving history h before a call for the named checkpoints l, with the line list as it is lent.
+pub record EarliestIsRight (n : ℕ) (s : Run) (h : Surviving) (l : List Named) (lent : List ℕ) : Type 0 where
+  -- the line of an accepted call is right by the history
+  pub right : earliestRefusal s l lent ≡ none → RightEarliest n h l (greatest s l)
+  -- 20 is given only where no consistent line passes through all of them
+  pub none-through : earliestRefusal s l lent ≡ some CausallyOrdered → NoneThrough n h l
+
+-- Note 8 as the call says it of the state that it is handed: "On every state reached from a start".
+unfoldable pub EarliestPromise : Run → List Named → List ℕ → Type 0
+EarliestPromise s l lent = (n : ℕ) (counts : List ℕ) → startRefusal n counts ≡ none → (calls : List Call) → s ≡ stateAfter (startOutcome n counts .run) calls
+    → EarliestIsRight n s (surviving n counts (transcript (startOutcome n counts .run) calls)) l lent
 
 -- Demand 3 as a call c on the state s says it of the state t that it returns: whatever calls from an accepted start led to s, what t keeps and its blocks
 -- are right, judged by the surviving history of those calls and of this one behind them, refused or accepted.

@@ -144,6 +144,10 @@ process s p = record {
   kept = take (getD (s .held) p 0) (getD (s .kept .0) p []);
 }
 
+-- The state keeps checkpoint k of process p.
+abbrev pub keepsIn : Run → ℕ → ℕ → Bool
+keepsIn s p k = some-of (λ c. eqb (c .index .0) k) (process s p .kept)
+
 -- The state with another part for process p.
 unfoldable pub withProcess : Run → ℕ → Process → Run
 withProcess s p P = record {

@@ -37,6 +37,12 @@ pub struct Pins(pub [[Pin; 16]; 16]);
 // Row p: the checkpoints that process p keeps, ascending.
 pub struct Kept(pub [[Checkpoint; 16]; 16]);
 
+// A checkpoint as a caller names it: a process, and the index of a checkpoint that it keeps.
+pub struct Named {
+    pub process: usize,
+    pub index: CheckpointIndex,
+}
+
 // "The state also carries blocks written and blocks deleted." (Note 5)
 pub struct Disk {
     pub written: u64,
@@ -83,6 +89,9 @@ pub enum Refusal {
     BlockCountOutsideRange,
     BlocksUsed,
     TooManyRecords,
+    UnfitNamedList,
+    NotKept,
+    CausallyOrdered,
     HalvesMismatch,
     NeitherReady,
 }
@@ -116,6 +125,7 @@ pub enum LoseAnswer {
     Lost,
 }
 
+// The answer of a call that writes a line and changes no state: the line for a failed set, and the earliest line through named checkpoints.
 pub enum LineAnswer {
     Refused(Refusal),
     Written,

@@ -34,6 +34,9 @@ pub fn number_of(r: Refusal) -> u8
         Refusal::BlockCountOutsideRange => 15,
         Refusal::BlocksUsed => 16,
         Refusal::TooManyRecords => 17,
+        Refusal::UnfitNamedList => 18,
+        Refusal::NotKept => 19,
+        Refusal::CausallyOrdered => 20,
         Refusal::HalvesMismatch => 23,
         Refusal::NeitherReady => 24,
     }

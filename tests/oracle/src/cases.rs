@@ -1,8 +1,8 @@
 //! The exam text: the cases 1 to 10 of the exam sheet, one of the wrong marks
-//! on past papers, two cases of messages that a recovery loses, a sweep, and
-//! what is on the disks, by real calls.
+//! on past papers, two cases of messages that a recovery loses, a sweep,
+//! what is on the disks, and earliest lines, by real calls.
 
-use crate::run::{Counts, Run, MAX_PROCESSES, MOST_WRITTEN, ONES};
+use crate::run::{Counts, Named, Run, MAX_PROCESSES, MOST_WRITTEN, ONES};
 use std::fmt::{Display, Write as _};
 use std::io;
 
@@ -160,6 +160,22 @@ const DELETIONS: usize = 2 * MAX_PROCESSES * MAX_PROCESSES;
 ///   deliver 1, `recovered F: R`, for F = 0, 1, recover F.
 /// * `own E: R` for E = 65534, 65535: new run, n = 1, so many times checkpoint 0
 ///   that the own entry is E; with T written and T - 1 deleted; checkpoint 0.
+///
+/// # Earliest
+///
+/// Note 8. n = 3. Send 0 to 1 (message 1), deliver 1, send 1 to 2 (message 2),
+/// checkpoint 1, deliver 2, checkpoint 2, send 1 to 2 (message 3), deliver 3,
+/// checkpoint 2, checkpoint 0, checkpoint 0. Prints `note 8` and the facts of
+/// the state. Then come the lists of `NAMED`, the K-th of them from 1, each with
+/// two lines:
+///
+/// * `named K: p:i ..`        the list: process and index of each;
+/// * `earliest K: R m0 m1 ..` 0 if the call is accepted, then the n indexes
+///   that it writes, else only the refusal number.
+///
+/// Then, for n = 1, then 2, then 16, with L = n, then L = n - 1:
+/// `earliestline n L: R`: new run, earliest of checkpoint 0 of process 0 alone,
+/// with a line list of L.
 pub fn print<W: io::Write>(output: &mut W) -> io::Result<()> {
     output.write_all(text().as_bytes())?;
     output.flush()
@@ -179,8 +195,50 @@ pub fn text() -> String {
     sweep(&mut text);
     disk_1(&mut text);
     disk_2(&mut text);
+    earliest(&mut text);
     text
 }
+
+/// The lists of the section "Earliest" of the exam text, as (process, index).
+///
+/// In its state process 0 keeps 2, process 1 keeps 0 and 1, process 2 keeps 0,
+/// 1 and 2. Their vectors are (2,0,0); (0,0,0), (1,1,0); (0,0,0), (1,1,1),
+/// (1,2,2).
+pub const NAMED: [&[(usize, u16)]; 25] = [
+    // One checkpoint: its own vector. The second line has process 1 live, all
+    // but the first a deleted checkpoint of process 0.
+    &[(0, 2)],
+    &[(2, 2)],
+    &[(2, 1)],
+    &[(1, 1)],
+    &[(2, 0)],
+    // Several: for each process the greatest, be it the first's or the last's.
+    &[(0, 2), (2, 1)],
+    &[(2, 2), (0, 2)],
+    &[(0, 2), (1, 1), (2, 0)],
+    &[(2, 0), (1, 0)],
+    // An entry equal to the index is not causally before.
+    &[(1, 1), (2, 1)],
+    &[(2, 1), (0, 2), (1, 1)],
+    // One comes causally before another, first or last in the list.
+    &[(1, 1), (2, 2)],
+    &[(2, 2), (1, 1)],
+    &[(1, 0), (0, 2), (2, 1)],
+    // Not kept: deleted, the live state, never stored; before 20.
+    &[(0, 1)],
+    &[(1, 2)],
+    &[(2, 65_535)],
+    &[(1, 1), (2, 2), (0, 0)],
+    // Empty, a process twice (before 19 and 20), longer than n.
+    &[],
+    &[(1, 1), (1, 1)],
+    &[(0, 0), (1, 1), (0, 0)],
+    &[(1, 0), (1, 1)],
+    &[(0, 2), (1, 1), (2, 1), (0, 2)],
+    // A process not below n, the last of a list that is too long, or twice.
+    &[(0, 2), (1, 1), (2, 1), (3, 0)],
+    &[(0, 0), (0, 0), (3, 0)],
+];
 
 /// The state after the first records of the ten-record example.
 pub fn example(records: usize) -> Run {
@@ -473,6 +531,54 @@ fn facts_of_last_blocks(text: &mut String) {
             [checkpoint(&mut run, 0)],
         );
     }
+}
+
+fn earliest(text: &mut String) {
+    let mut run = new_run(3);
+    send(&mut run, 0, 1);
+    deliver(&mut run, 1);
+    send(&mut run, 1, 2);
+    checkpoint(&mut run, 1);
+    deliver(&mut run, 2);
+    checkpoint(&mut run, 2);
+    send(&mut run, 1, 2);
+    deliver(&mut run, 3);
+    checkpoint(&mut run, 2);
+    checkpoint(&mut run, 0);
+    checkpoint(&mut run, 0);
+    fact(text, "note", [8]);
+    facts_of_state(text, &run);
+    for (list, place) in NAMED.iter().zip(1..) {
+        facts_of_earliest(text, &run, place, list);
+    }
+    for count in [1, 2, 16] {
+        for length in [count, count - 1] {
+            let first = named(&[(0, 0)]);
+            let answer = number(new_run(count).earliest(&first, &mut vec![0; length]));
+            fact(text, &format!("earliestline {count} {length}:"), [answer]);
+        }
+    }
+}
+
+fn facts_of_earliest(text: &mut String, run: &Run, place: usize, list: &[(usize, u16)]) {
+    let pairs = list
+        .iter()
+        .map(|(process, index)| format!("{process}:{index}"));
+    fact(text, &format!("named {place}:"), pairs);
+    let mut line = [0; MAX_PROCESSES];
+    let answer = run.earliest(&named(list), &mut line);
+    let mut values = vec![number(answer) as u16];
+    if answer.is_ok() {
+        values.extend(&line[..run.count()]);
+    }
+    fact(text, &format!("earliest {place}:"), values);
+}
+
+fn named(list: &[(usize, u16)]) -> Vec<Named> {
+    let pairs = list.iter();
+    pairs
+        .map(|&(process, index)| Named { process, index })
+        .collect()
 }
 
 fn facts_of_state(text: &mut String, run: &Run) {

@@ -52,6 +52,9 @@ pub mod refusal {
     pub const INTERVALS_USED_UP: u8 = 11;
     pub const COUNT_OF_BLOCKS_OUTSIDE: u8 = 15;
     pub const BLOCKS_USED_UP: u8 = 16;
+    pub const BAD_NAMED_LIST: u8 = 18;
+    pub const NOT_KEPT: u8 = 19;
+    pub const CAUSALLY_ORDERED: u8 = 20;
 }
 use refusal::*;
 
@@ -166,6 +169,13 @@ pub struct Delivered {
 pub struct Recovered {
     pub rolled_back: usize,
     pub deletions: usize,
+}
+
+/// Note 8: "a list of named checkpoints, each a process and an index".
+#[derive(Clone, Copy, Debug, PartialEq, Eq)]
+pub struct Named {
+    pub process: usize,
+    pub index: u16,
 }
 
 /// The state of one process that a line names: its live state, or the
@@ -385,6 +395,54 @@ impl Run {
             rolled_back,
             deletions: deletions.count,
         })
+    }
+}
+
+/// Note 8.
+impl Run {
+    /// "the earliest consistent line through all of them", the named
+    /// checkpoints.
+    pub fn earliest(&self, named: &[Named], line: &mut [u16]) -> Result<(), u8> {
+        self.judge_line_list(line)?;
+        // "The list is judged for 4 before 18."
+        for one in named {
+            self.judge_process(one.process)?;
+        }
+        // "18, after 7, for a list that is empty, longer than n or names a
+        // process twice".
+        let twice = |place: usize| {
+            let mut earlier = named[..place].iter();
+            earlier.any(|one| one.process == named[place].process)
+        };
+        if named.is_empty() || named.len() > self.count || (0..named.len()).any(twice) {
+            return Err(BAD_NAMED_LIST);
+        }
+        // "19 for a checkpoint not kept".
+        let found: Option<Vec<Checkpoint>> = named.iter().map(|one| self.find_kept(*one)).collect();
+        let vectors = found.ok_or(NOT_KEPT)?;
+        // "20 for two of which one comes causally before the other."
+        for one in named {
+            if vectors
+                .iter()
+                .any(|other| comes_before(*one, &other.vector))
+            {
+                return Err(CAUSALLY_ORDERED);
+            }
+        }
+
+        // "At each process the line, written to a lent line list, has the
+        // greatest of the named checkpoints' entries for it."
+        for f in 0..self.count {
+            let entries = vectors.iter().map(|checkpoint| checkpoint.vector[f]);
+            line[f] = entries.max().expect("the list is not empty");
+        }
+        Ok(())
+    }
+
+    fn find_kept(&self, named: Named) -> Option<Checkpoint> {
+        let kept = self.kept[named.process].checkpoints().iter();
+        kept.copied()
+            .find(|checkpoint| checkpoint.index == named.index)
     }
 }
 
@@ -685,6 +743,12 @@ impl Run {
         (run.written, run.deleted) = (written, deleted);
         Ok(run)
     }
+}
+
+/// "Checkpoint a of f comes causally before a state exactly if a is less than
+/// that state's entry f". Not before itself: its own entry is its index.
+fn comes_before(checkpoint: Named, state: &Vector) -> bool {
+    checkpoint.index < state[checkpoint.process]
 }
 
 /// Is some entry of `carried` greater than the one in `vector`? Goes over all

@@ -463,8 +463,9 @@ fn the_exam_text() {
     let [mark, lost_1, lost_2] = parts[..] else {
         panic!("one mark and two cases of lost messages");
     };
-    let (lost_2, sweep) = lost_2.split_once("sweep ").unwrap();
-    let (sweep, disks) = sweep.split_once("disk 1\n").unwrap();
+    let (lost_2, rest) = lost_2.split_once("sweep ").unwrap();
+    let (sweep, rest) = rest.split_once("disk 1\n").unwrap();
+    let (disks, earliest) = rest.split_once("note ").unwrap();
     the_disks(disks);
     let cases: Vec<&str> = cases.split("case ").skip(1).collect();
     assert_eq!(cases.len(), 10);
@@ -565,6 +566,42 @@ fn the_exam_text() {
          line 0: 2 3\nline 1: 1 3\nline 2: 2 2\nline 3: 1 2\n\
          deliver 2: 0\nrisen 2: 1\n"
     );
+    the_earliest_lines(earliest);
+}
+
+/// The section of Note 8, line by line.
+fn the_earliest_lines(section: &str) {
+    let (state, facts) = section.split_once("named 1:").unwrap();
+    let state: Vec<&str> = state.lines().collect();
+    for fact in [
+        "vector 0: 3 0 0",
+        "pins 0: 2 - -",
+        "kept 0: 2",
+        "vector 1: 1 2 0",
+        "pins 1: 0 1 -",
+        "kept 1: 0 1",
+        "vector 2: 1 2 3",
+        "pins 2: 0 1 2",
+        "kept 2: 0 1 2",
+        "blocks: 8 2",
+    ] {
+        assert!(state.contains(&fact), "{fact}");
+    }
+    let answers: Vec<&str> = facts
+        .lines()
+        .filter_map(|line| line.strip_prefix("earliest "))
+        .map(|line| line.split_once(": ").unwrap().1)
+        .collect();
+    let mut expected = vec!["0 2 0 0", "0 1 2 2", "0 1 1 1", "0 1 1 0", "0 0 0 0"];
+    expected.extend(["0 2 1 1", "0 2 2 2", "0 2 1 0", "0 0 0 0"]);
+    expected.extend(["0 1 1 1", "0 2 1 1"]);
+    expected.extend(["20", "20", "20", "19", "19", "19", "19"]);
+    expected.extend(["18", "18", "18", "18", "18", "4", "4"]);
+    assert_eq!(answers, expected);
+    assert!(facts.contains("\nnamed 19:\nearliest 19: 18\n"));
+    assert!(facts.contains("\nnamed 25: 0:0 0:0 3:0\nearliest 25: 4\nearliestline 1 1: 0\n"));
+    assert!(facts.ends_with("\nearliestline 16 16: 0\nearliestline 16 15: 3\n"));
+    assert_eq!(facts.lines().count(), 2 * 25 + 6);
 }
 
 /// The exam text from the first line behind `disk 1` on.

@@ -8,7 +8,8 @@
 mod common;
 
 use common::{Random, DELETIONS, LINE};
-use oracle::run::{Counts, Run, ONES};
+use oracle::run::{Counts, Named, Run, ONES};
+use std::collections::HashMap;
 
 #[derive(Clone, Copy, PartialEq)]
 enum Event {
@@ -651,4 +652,130 @@ fn many_processes() {
         }
     }
     met.assert_all(16);
+}
+
+// ------------------------------------------------------------------- Note 8
+
+/// Lists of named checkpoints that were tried, those of which one comes causally
+/// before another, and lines with a live state in them or a deleted checkpoint.
+#[derive(Default)]
+struct Earliest {
+    lists: usize,
+    ordered: usize,
+    through_live: usize,
+    through_deleted: usize,
+}
+
+/// Note 8, for every list that names a kept checkpoint of some of the
+/// processes: the line "is consistent by messages, passes through every named
+/// one, and is nowhere later than any other consistent line that does", and 20
+/// is given exactly where there is no such line.
+fn check_earliest(run: &Run, history: &History, met: &mut Earliest) {
+    let n = run.count();
+    let states: Vec<Vec<State>> = (0..n).map(|i| history.states(i)).collect();
+    let messages = history.received();
+    // For each list, the least index of each process in any consistent line
+    // through all that it names. A list is known by its places: for each process
+    // none or a state.
+    let mut least: HashMap<Vec<Option<u16>>, Vec<u16>> = HashMap::new();
+    for_every_line(&states, |line| {
+        if !consistent(line, &messages) {
+            return;
+        }
+        for through in 1..1 << n {
+            if (0..n).any(|i| through >> i & 1 == 1 && !line[i].kept) {
+                continue;
+            }
+            let places = |i: usize| (through >> i & 1 == 1).then_some(line[i].index);
+            let found = least.entry((0..n).map(places).collect());
+            let line: Vec<u16> = line.iter().map(|state| state.index).collect();
+            let earliest = found.or_insert(line.clone());
+            for i in 0..n {
+                earliest[i] = earliest[i].min(line[i]);
+            }
+        }
+    });
+
+    for list in lists_of_kept(&states) {
+        let mut named: Vec<Named> = (0..n)
+            .filter_map(|process| list[process].map(|index| Named { process, index }))
+            .collect();
+        // The order of a list plays no part.
+        if met.lists % 2 == 0 {
+            named.reverse();
+        }
+        let mut line = vec![77; n + 1];
+        let answer = run.earliest(&named, &mut line);
+        met.lists += 1;
+        let Some(least) = least.get(&list) else {
+            assert_eq!(answer, Err(20), "no consistent line passes through all");
+            assert_eq!(line, vec![77; n + 1]);
+            met.ordered += 1;
+            continue;
+        };
+        assert_eq!(answer, Ok(()));
+        assert_eq!(line[..n], least[..], "nowhere later than another line");
+        assert_eq!(line[n], 77, "the rest is unchanged");
+        let line: Vec<State> = (0..n)
+            .map(|i| {
+                let mut states = states[i].iter();
+                *states.find(|state| state.index == line[i]).unwrap()
+            })
+            .collect();
+        assert!(consistent(&line, &messages));
+        for one in &named {
+            assert_eq!(line[one.process].index, one.index, "passes through it");
+        }
+        met.through_live += line.iter().any(|state| state.live) as usize;
+        met.through_deleted += line.iter().any(|state| !state.live && !state.kept) as usize;
+    }
+}
+
+/// Every choice of one kept checkpoint or none for each process, not none for
+/// all.
+fn lists_of_kept(states: &[Vec<State>]) -> Vec<Vec<Option<u16>>> {
+    let mut lists = vec![Vec::new()];
+    for of_one in states {
+        let kept = of_one.iter().filter(|state| state.kept);
+        let choices: Vec<Option<u16>> = [None]
+            .into_iter()
+            .chain(kept.map(|state| Some(state.index)))
+            .collect();
+        lists = lists
+            .iter()
+            .flat_map(|list| {
+                choices
+                    .iter()
+                    .map(|choice| [&list[..], &[*choice]].concat())
+            })
+            .collect();
+    }
+    lists.retain(|list| list.iter().any(|place| place.is_some()));
+    lists
+}
+
+#[test]
+fn earliest_lines() {
+    for n in 2..=4 {
+        let mut met = Earliest::default();
+        for seed in 0..2500 {
+            let mut random = Random(seed);
+            let weights = WEIGHTS[random.below(WEIGHTS.len())];
+            let mut run = Run::start(n, &ONES).unwrap();
+            let mut history = History::start(n, &ONES);
+            for _ in 0..10 + random.below(16) {
+                let calls = &mut Met::default();
+                step(&mut run, &mut history, &mut random, &weights, calls);
+                if n < 4 || seed % 4 == 0 {
+                    check_earliest(&run, &history, &mut met);
+                }
+            }
+            check_earliest(&run, &history, &mut met);
+        }
+        assert!(met.lists > 100_000, "{} lists", met.lists);
+        assert!(met.ordered > 2_000, "met {} times", met.ordered);
+        assert!(met.through_live > 2_000, "met {} times", met.through_live);
+        let deleted = met.through_deleted;
+        assert!(deleted > 30_000, "met {deleted} times");
+    }
 }

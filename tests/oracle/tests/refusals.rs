@@ -3,7 +3,7 @@
 mod common;
 
 use common::{Random, DELETIONS, LINE};
-use oracle::run::{Run, ONES};
+use oracle::run::{Named, Run, ONES};
 
 const MOST_WRITTEN: u64 = 1_000_000_000_000_000;
 
@@ -318,4 +318,68 @@ fn a_refused_call_changes_nothing_and_an_accepted_one_leaves_the_rest_of_the_lis
     assert_eq!(met[2], 0);
     // Note 4: "Refusal 6 never occurs any more."
     assert_eq!(met[6], 0);
+}
+
+/// Note 8: the line list, then 4 over the whole list, 18, 19, 20.
+#[test]
+fn named_checkpoints_are_judged_in_order() {
+    let mut run = run_of(2);
+    run.send(0, 1).unwrap();
+    run.deliver(1, &mut [0; 8]).unwrap();
+    run.checkpoint(1, &mut [0; 8]).unwrap();
+    run.checkpoint(0, &mut [0; 8]).unwrap();
+    assert_eq!(
+        (common::kept(&run, 0), common::kept(&run, 1)),
+        (vec![1], vec![0, 1])
+    );
+    let judged = |list: &[(usize, u16)], line: &mut [u16]| {
+        let named = list
+            .iter()
+            .map(|&(process, index)| Named { process, index });
+        run.earliest(&named.collect::<Vec<_>>(), line)
+    };
+    let refused: [(&[(usize, u16)], u8); 12] = [
+        (&[(2, 0)], 4),
+        (&[(0, 0), (0, 0), (2, 0)], 4),
+        (&[(usize::MAX, 0)], 4),
+        (&[], 18),
+        (&[(0, 1), (0, 1)], 18),
+        (&[(0, 0), (0, 0)], 18),
+        (&[(0, 1), (1, 1), (1, 0)], 18),
+        (&[(0, 0)], 19),
+        (&[(0, 2)], 19),
+        (&[(1, 2)], 19),
+        (&[(1, 1), (0, 2)], 19),
+        (&[(1, 1), (0, 65_535)], 19),
+    ];
+    for (list, number) in refused {
+        let mut line = [7, 7, 7];
+        assert_eq!(judged(list, &mut line), Err(number), "{list:?}");
+        assert_eq!(judged(list, &mut line[..1]), Err(3), "{list:?}");
+        assert_eq!(line, [7, 7, 7]);
+    }
+    let accepted: [(&[(usize, u16)], [u16; 2]); 5] = [
+        (&[(0, 1)], [1, 0]),
+        (&[(1, 0)], [0, 0]),
+        (&[(1, 1)], [1, 1]),
+        (&[(0, 1), (1, 0)], [1, 0]),
+        // Entry 0 of the one equals the index of the other.
+        (&[(1, 1), (0, 1)], [1, 1]),
+    ];
+    for (list, expected) in accepted {
+        let mut line = [7, 7, 7];
+        assert_eq!(judged(list, &mut line), Ok(()), "{list:?}");
+        assert_eq!(line[..2], expected);
+        assert_eq!(line[2], 7);
+        assert_eq!(judged(list, &mut line[..1]), Err(3));
+    }
+
+    // A checkpoint of 1 that knows 0's next interval.
+    run.send(0, 1).unwrap();
+    run.deliver(2, &mut [0; 8]).unwrap();
+    run.checkpoint(1, &mut [0; 8]).unwrap();
+    for list in [[(0, 1), (1, 2)], [(1, 2), (0, 1)]] {
+        let named = list.map(|(process, index)| Named { process, index });
+        assert_eq!(run.earliest(&named, &mut [0; 2]), Err(20));
+    }
 }

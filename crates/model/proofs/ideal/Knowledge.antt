@@ -9,9 +9,8 @@ use native.Mathlib.Omega.{arith}
 use lib.Dec.{ltb}
 use borrow.Author.Tests.{ltb-true, ltb-false}
 use Rattle.laws.specs.Choice.{by-bool, by-eq}
-use Rattle.model.specs.History.{HistoryEvent, sent, received, checkpoints, behind}
+use Rattle.model.specs.History.{HistoryEvent, sent, received, checkpoints, behind, beforeCheckpoint}
 use Rattle.model.specs.Answers.{before, ComesBefore, within, message}
-use Rattle.model.specs.Needed.{beforeCheckpoint}
 use Rattle.model.proofs.ideal.Places.{Stands, stands-le}
 use Rattle.model.proofs.ideal.Cuts.{stands-member, member-stands, behind-out, behind-in}
 use Rattle.model.proofs.ideal.Run.{Ideal, forces}

@@ -6,8 +6,7 @@ use mathlib.Core.List.{List, [], _∷_, List·Memᴰ, List·Memᴰ·head, List·
 use Prim.Native.Nat.{ℕ, zero, suc, _≤_, _<_}
 use native.Mathlib.Nat.{not-suc-le-zero}
 use native.Mathlib.Omega.{arith}
-use Rattle.model.specs.History.{HistoryEvent, stored, sent, received, checkpoints}
-use Rattle.model.specs.Needed.{beforeCheckpoint}
+use Rattle.model.specs.History.{HistoryEvent, stored, sent, received, checkpoints, beforeCheckpoint}
 use Rattle.model.proofs.ideal.Places.{Stands, first, weight, stands-cons, stands-nil}
 use Rattle.model.proofs.ideal.Cuts.{past-stored, past-sent, past-received}
 

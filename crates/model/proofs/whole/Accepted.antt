@@ -12,8 +12,9 @@ use Rattle.model.specs.declared.Run.{Run}
 use Rattle.model.specs.Words.{process}
 use Rattle.model.specs.Steps.{forces}
 use Rattle.model.specs.Outcomes.{checkpointOutcome, sendOutcome, deliverAnswer, deliverOutcome, message, loseOutcome, lineOutcome, recoverOutcome, checkpointReport, sendReport, deliverReport, loseReport, lineReport, recoverReport}
-use Rattle.model.specs.Calls.{Call, checkpoint, send, deliver, lose, recover, line, Reply, answered, call}
+use Rattle.model.specs.Calls.{Call, checkpoint, send, deliver, lose, recover, line, Reply, answered, call, earliest}
 use Rattle.model.specs.Survival.{Surviving, after, accepted, listsAfter, sendsAfter, receiverAfter, underwayAfter, causeOf, storedBy, causeWith, countOf, handedBlocks}
+use Rattle.model.specs.Earliest.{earliestOutcome}
 use Rattle.model.specs.Answers.{lentDeletions}
 use Rattle.model.proofs.ideal.Run.{Ideal}
 use Rattle.model.proofs.ideal.Invariant.{Inv}
@@ -33,13 +34,14 @@ delivery-report s x = by-bool (forces (process s (x .receiver)) (x .vector)) (λ
 
 -- An accepted call reports the number 0.
 pub accepted-report : (s : Run) (c : Call) → refusal s c ≡ none → call s c .reply .report .refused ≡ 0
-unfolding refusal call answered checkpointOutcome sendOutcome deliverOutcome loseOutcome lineOutcome recoverOutcome checkpointReport sendReport loseReport lineReport recoverReport
+unfolding refusal call answered checkpointOutcome sendOutcome deliverOutcome loseOutcome lineOutcome recoverOutcome earliestOutcome checkpointReport sendReport loseReport lineReport recoverReport
 accepted-report s (checkpoint i deleted) e = rw e
 accepted-report s (send i j) e = rw e
 accepted-report s (deliver m deleted) e = rw e (delivery-report s (message s m))
 accepted-report s (lose m) e = rw e
 accepted-report s (recover F deleted lent) e = rw e
 accepted-report s (line F lent) e = rw e
+accepted-report s (earliest l lent) e = rw e
 
 -- So the history takes it in.
 pub accepted-history : (n : ℕ) (s : Run) (h : Surviving) (c : Call) → refusal s c ≡ none → after n h (exchange s c) ≡ accepted n h c (call s c .reply)

@@ -2,38 +2,58 @@
 -- Assumes nothing.
 use mathlib.Core.Path.{_≡_, sym, _∙_}
 use mathlib.Core.Bool.{true}
-use mathlib.Core.List.{List}
+use mathlib.Core.List.{List, List·Memᴰ}
 use mathlib.Core.Option.{Option, none, some}
 use Prim.Native.Nat.{ℕ, _^_, _<_}
 use native.Mathlib.Omega.{arith}
-use lib.ListN.{getD}
+use lib.ListN.{length, getD}
 use borrow.Author.Tests.{eqb-false, lt-ltb, ltb-true}
+use Rattle.laws.specs.Front.{getD-written}
+use Rattle.laws.specs.Lists.{table}
+use Rattle.laws.specs.Tables.{length-table, getD-table}
+use Rattle.model.specs.declared.Named.{Named}
 use Rattle.model.specs.declared.Refusal.{Refusal}
+use Rattle.model.specs.History.{Line, Consistent}
 use Rattle.model.specs.Refusals.{number}
 use Rattle.model.specs.laws.Refusals.{by-refusal}
-use Rattle.model.specs.Calls.{Call, checkpoint, send, deliver, lose, recover, line, answered, call}
+use Rattle.model.specs.Earliest.{greatest, someOrdered, earliestRefusal}
+use Rattle.model.specs.Calls.{Call, checkpoint, send, deliver, lose, recover, line, earliest, answered, call}
 use Rattle.model.specs.Survival.{Surviving, after}
-use Rattle.model.specs.Answers.{lowest, reasons, failedSet, gonePairs, SentSince, BringsNewsOf, BringsNews, Forces, RightRisen, RightLine, AnswerIsRight}
+use Rattle.model.specs.Answers.{lowest, reasons, failedSet, gonePairs, SentSince, BringsNewsOf, BringsNews, Forces, RightRisen, RightLine, AllKept, SomeOrdered, Through, RightEarliest, NoneThrough, AnswerIsRight}
 use Rattle.model.specs.WholeRuns.{reported, LineIsRight}
 use Rattle.model.proofs.ideal.Run.{Ideal, forces}
 use Rattle.model.proofs.ideal.Invariant.{Inv}
 use Rattle.model.proofs.ideal.Memory.{Memory}
 use Rattle.model.proofs.ideal.Knowledge.{Since, NewsOf, News, newer-news, news-newer, forced-since, forced-news, news-forces}
 use Rattle.model.proofs.simulation.View.{stateOf, Limits}
+use Rattle.model.proofs.simulation.Earliest.{earliest-out}
+use Rattle.model.proofs.simulation.Reads.{count-is}
 use Rattle.model.proofs.simulation.Risen.{rose-small, rose-is, rose-past}
 use Rattle.model.proofs.simulation.SoundCalls.{deliver-run, line-run, recover-run}
 use Rattle.model.proofs.whole.Agreement.{Agrees}
 use Rattle.model.proofs.whole.Accepted.{Step, accepted-report, step-agrees}
+use Rattle.model.proofs.whole.Earliest.{ordered-in, ordered-out, refused-none, earliest-right}
 use Rattle.model.proofs.whole.Gone.{goneAll, gone-agrees}
 use Rattle.model.proofs.whole.LineRight.{same-line}
 use Rattle.model.proofs.whole.Reached.{exchange, refusal, refused-number, refused-report}
-use Rattle.model.proofs.whole.Refused.{reports-number, forcingOf, number-right}
+use Rattle.model.proofs.whole.Refused.{reports-number, numberOf, forcingOf, orderedOf, number-right}
 use Rattle.model.proofs.whole.Runs.{stepped}
-use Rattle.model.proofs.whole.Values.{refused-reply, value-right, deliver-rose, others-rose, line-list-right}
+use Rattle.model.proofs.whole.Values.{refused-reply, value-right, deliver-rose, others-rose, line-list-right, earliest-written, earliest-room}
 
 -- A refused call does not report the number 0.
 not-accepted : (x : Refusal) (k : ℕ) → k ≡ number x → k ≡ 0 → ⊥
 not-accepted x k e z = eqb-false (number x) 0 (refused-number x) (sym e ∙ z)
+
+-- Indexes that are those of an earliest line are one.
+same-earliest : (n : ℕ) (h : Surviving) (l : List Named) (a b : Line) → RightEarliest n h l a → ((c : Named) → List·Memᴰ c l → c .process < n) → ((p : ℕ) → p < n → b p ≡ a p)
+    → RightEarliest n h l b
+unfolding Consistent Through
+same-earliest n h l a b right inside e = record {
+  within = λ p hp. rw (e p hp) (right .within p hp);
+  consistent = λ q p m hq hp. rw (e q hq, e p hp) (right .consistent q p m hq hp);
+  through = λ c m. rw (e (c .process) (inside c m)) (right .through c m);
+  nowhere-later = λ other is-line consistent through p hp. rw (e p hp) (right .nowhere-later other is-line consistent through p hp);
+}
 
 module _ (h : Surviving) (r : Ideal) (v : Inv r) (fit : Limits r) (memory : Memory r) (g : Agrees h r) where
   -- Whether a delivery forces a checkpoint is what the history says.
@@ -69,7 +89,18 @@ module _ (h : Surviving) (r : Ideal) (v : Inv r) (fit : Limits r) (memory : Memo
         let e : forces r m ≡ true = sym (forcing-is c m deleted q) ∙ d in
         in-history m (forced-since r v memory m (in-transit m under) e, forced-news r v memory m (in-transit m under) e)
 
-    number-is : call (stateOf r) c .reply .report .refused ≡ lowest (reasons (r .n) h (forcingOf r c) c)
+    -- Whether one of two named checkpoints comes before the other is what the history says.
+    ordered-is : (l : List Named) (lent : List ℕ) → c ≡ earliest l lent → orderedOf r c ≡ someOrdered (stateOf r) l
+    unfolding orderedOf
+    ordered-is l lent q = rw q
+
+    ordered-if : (l : List Named) (lent : List ℕ) → c ≡ earliest l lent → AllKept (r .n) h l → SomeOrdered h l → orderedOf r c ≡ true
+    ordered-if l lent q kept d = ordered-is l lent q ∙ ordered-in h r v fit g l kept d
+
+    ordered-only-if : (l : List Named) (lent : List ℕ) → c ≡ earliest l lent → AllKept (r .n) h l → orderedOf r c ≡ true → SomeOrdered h l
+    ordered-only-if l lent q kept e = ordered-out h r v fit g l kept memory (sym (ordered-is l lent q) ∙ e)
+
+    number-is : call (stateOf r) c .reply .report .refused ≡ lowest (reasons (r .n) h (forcingOf r c) (orderedOf r c) c)
     number-is = reports-number (stateOf r) c ∙ number-right h r v fit g c
 
   -- The set of entries that rose at an accepted delivery: those that the message brings news of.
@@ -96,6 +127,7 @@ module _ (h : Surviving) (r : Ideal) (v : Inv r) (fit : Limits r) (memory : Memo
   line-answer lines (send i j) e F q = absurd (let z : _≡_ {A = ℕ} 0 1 = cc in omega arith)
   line-answer lines (deliver m deleted) e F q = absurd (let z : _≡_ {A = ℕ} 0 1 = cc in omega arith)
   line-answer lines (lose m) e F q = absurd (let z : _≡_ {A = ℕ} 0 1 = cc in omega arith)
+  line-answer lines (earliest l lent) e F q = absurd (let z : _≡_ {A = ℕ} 0 1 = cc in omega arith)
   line-answer lines (recover G deleted lent) e F q =
       let w = recover-run r v fit G deleted lent e in
       let right = lines G (w .0) in
@@ -111,6 +143,31 @@ module _ (h : Surviving) (r : Ideal) (v : Inv r) (fit : Limits r) (memory : Memo
       same-set : (a b : ℕ) → _≡_ {A = Option ℕ} (some a) (some b) → a ≡ b
       same-set a b q = cc
 
+  -- The earliest line that an accepted call wrote, and where 20 is given.
+  accepted-at : (c : Call) (l : List Named) (lent : List ℕ) → refusal (stateOf r) c ≡ none → c ≡ earliest l lent → earliestRefusal (stateOf r) l lent ≡ none
+  unfolding refusal
+  accepted-at c l lent e q = rw q at e
+
+  number-at : (c : Call) (l : List Named) (lent : List ℕ) → c ≡ earliest l lent → call (stateOf r) c .reply .report .refused ≡ numberOf (earliestRefusal (stateOf r) l lent)
+  unfolding refusal
+  number-at c l lent q = rw q (reports-number (stateOf r) (earliest l lent))
+
+  earliest-accepted : (l : List Named) (lent : List ℕ) → earliestRefusal (stateOf r) l lent ≡ none
+      → RightEarliest (r .n) h l (λ p. getD (call (stateOf r) (earliest l lent) .reply .line) p 0)
+  earliest-accepted l lent e = same-earliest (r .n) h l (greatest (stateOf r) l) _ (earliest-right h r v fit g l lent .right e)
+      (λ c m. rw (count-is r) at (earliest-out (stateOf r) l lent e .stored .present c m))
+      (λ p hp.
+      let long : length (table (r .n) (greatest (stateOf r) l)) ≡ r .n = length-table (r .n) (greatest (stateOf r) l) in
+      let room = earliest-room h r v fit memory g l lent e in
+      rw (earliest-written h r v fit memory g l lent e)
+      (getD-written lent (table (r .n) (greatest (stateOf r) l)) (omega arith) p 0 (omega arith) ∙ getD-table (r .n) (greatest (stateOf r) l) p 0 hp))
+
+  earliest-answer : (c : Call) → refusal (stateOf r) c ≡ none → (l : List Named) (lent : List ℕ) → c ≡ earliest l lent → RightEarliest (r .n) h l (λ p. getD (call (stateOf r) c .reply .line) p 0)
+  earliest-answer c e l lent q = rw q (earliest-accepted l lent (accepted-at c l lent e q))
+
+  earliest-none : (c : Call) → call (stateOf r) c .reply .report .refused ≡ 20 → (l : List Named) (lent : List ℕ) → c ≡ earliest l lent → NoneThrough (r .n) h l
+  earliest-none c e l lent q = refused-none h r v fit g l lent (sym (number-at c l lent q) ∙ e)
+
   pub answer-right : ((F : ℕ) → F < 2 ^ r .n → LineIsRight (r .n) (stateOf r) h F) → (c : Call) → (refusal (stateOf r) c ≡ none → Step (r .n) h (stateOf r) r (stepped r c) c)
       → AnswerIsRight (r .n) h (exchange (stateOf r) c)
   answer-right lines c steps = by-refusal (refusal (stateOf r) c)
@@ -123,6 +180,9 @@ module _ (h : Surviving) (r : Ideal) (v : Inv r) (fit : Limits r) (memory : Memo
         forcing = forcingOf r c;
         forces-if = forces-if c;
         only-if = only-if c;
+        ordered = orderedOf r c;
+        ordered-if = ordered-if c;
+        ordered-only-if = ordered-only-if c;
         number = number-is c;
         refused = λ no. absurd (no zero-reported);
         value = λ z. value-right h r v fit memory g c e;
@@ -132,6 +192,8 @@ module _ (h : Surviving) (r : Ideal) (v : Inv r) (fit : Limits r) (memory : Memo
         rose-right = λ z. rose-answer c e;
         rose-none = others-rose (stateOf r) c;
         line-right = λ z F q. line-answer lines c e F q;
+        earliest-right = λ z. earliest-answer c e;
+        none-through = earliest-none c;
       })
       (λ x e.
       let no = not-accepted x (call (stateOf r) c .reply .report .refused) (refused-report (stateOf r) c x e) in
@@ -139,6 +201,9 @@ module _ (h : Surviving) (r : Ideal) (v : Inv r) (fit : Limits r) (memory : Memo
         forcing = forcingOf r c;
         forces-if = forces-if c;
         only-if = only-if c;
+        ordered = orderedOf r c;
+        ordered-if = ordered-if c;
+        ordered-only-if = ordered-only-if c;
         number = number-is c;
         refused = λ not-zero. refused-reply (stateOf r) c x e;
         value = λ z. absurd (no z);
@@ -148,4 +213,6 @@ module _ (h : Surviving) (r : Ideal) (v : Inv r) (fit : Limits r) (memory : Memo
         rose-right = λ z m deleted q. absurd (no z);
         rose-none = others-rose (stateOf r) c;
         line-right = λ z F q. absurd (no z);
+        earliest-right = λ z l lent q. absurd (no z);
+        none-through = earliest-none c;
       })

@@ -18,7 +18,8 @@ use Rattle.laws.specs.Truth.{never-both, and-left}
 use Rattle.model.specs.Words as words
 use Rattle.model.specs.Words.{basic, places, mostUnderWay, mostInterval, mostBlocks}
 use Rattle.model.specs.Outcomes.{deliverAnswer, deliverOutcome, deliverReport}
-use Rattle.model.specs.Calls.{Call, checkpoint, send, deliver, lose, recover, line, answered, call}
+use Rattle.model.specs.declared.Named.{Named}
+use Rattle.model.specs.Calls.{Call, checkpoint, send, deliver, lose, recover, line, earliest, answered, call}
 use Rattle.model.specs.Refusals.{checkpointRefusal, sendRefusal, deliverRefusal, loseRefusal}
 use Rattle.model.specs.Seen.{Seen, took, forced, sentTo, got, forcedIn, seenOf, isRecovery}
 use Rattle.model.proofs.ideal.Run.{Ideal, Ledger, because, checkpointed, sending, forces, delivered, lost}
@@ -297,10 +298,14 @@ module _ (i f g : ℕ) where
           (λ d. deliver-kept (leb-true (knownOf r₁ (r .receiver m) f) g d))
           (λ d. deliver-left (leb-false (knownOf r₁ (r .receiver m) f) g d))
 
-    -- A line call changes nothing.
+    -- A call that writes a line changes nothing.
     next-line : (F : ℕ) (lent : List ℕ) → Next r r′ (line F lent)
     unfolding stepped seenOf
     next-line F lent = inl (c, refl)
+
+    next-earliest : (l : List Named) (lent : List ℕ) → Next r r′ (earliest l lent)
+    unfolding stepped seenOf
+    next-earliest l lent = inl (c, refl)
 
     -- Each accepted call but a recovery.
     pub next : (a : Call) → refusal (stateOf r) a ≡ none → isRecovery a ≡ false → knownOf (stepped r a) i f ≤ g → Next r r′ a
@@ -311,3 +316,4 @@ module _ (i f g : ℕ) where
     next (lose m) e q bound = next-lose m e
     next (recover F deleted lent) e q bound = never-both true refl (unfold isRecovery in q)
     next (line F lent) e q bound = next-line F lent
+    next (earliest l lent) e q bound = next-earliest l lent

@@ -13,7 +13,8 @@ use Rattle.model.specs.declared.Refusal.{Refusal}
 use Rattle.model.specs.Refusals.{number, checkpointRefusal, sendRefusal, deliverRefusal, loseRefusal, lineRefusal, recoverRefusal}
 use Rattle.model.specs.laws.Refusals.{number-range}
 use Rattle.model.specs.Outcomes.{checkpointOutcome, sendOutcome, deliverOutcome, loseOutcome, lineOutcome, recoverOutcome, checkpointReport, sendReport, deliverReport, loseReport, lineReport, recoverReport}
-use Rattle.model.specs.Calls.{Call, checkpoint, send, deliver, lose, recover, line, Exchange, answered, call}
+use Rattle.model.specs.Earliest.{earliestRefusal, earliestOutcome}
+use Rattle.model.specs.Calls.{Call, checkpoint, send, deliver, lose, recover, line, earliest, Exchange, answered, call}
 use Rattle.model.specs.Survival.{Surviving, after}
 use Rattle.model.proofs.ideal.Run.{Ideal}
 use Rattle.model.proofs.ideal.Invariant.{Inv}
@@ -44,6 +45,7 @@ refusal s (deliver m deleted) = deliverRefusal s m deleted
 refusal s (lose m) = loseRefusal s m
 refusal s (recover F deleted lent) = recoverRefusal s F deleted lent
 refusal s (line F lent) = lineRefusal s F lent
+refusal s (earliest l lent) = earliestRefusal s l lent
 
 -- No refusal has the number 0.
 pub refused-number : (x : Refusal) → eqb (number x) 0 ≡ false
@@ -51,23 +53,25 @@ refused-number x = ne-eqb (number x) 0 (omega (arith, number-range x .0))
 
 -- A refused call returns the state as it came.
 pub refused-state : (s : Run) (c : Call) (x : Refusal) → refusal s c ≡ some x → call s c .run ≡ s
-unfolding refusal call answered checkpointOutcome sendOutcome deliverOutcome loseOutcome lineOutcome recoverOutcome
+unfolding refusal call answered checkpointOutcome sendOutcome deliverOutcome loseOutcome lineOutcome recoverOutcome earliestOutcome
 refused-state s (checkpoint i deleted) x e = rw e
 refused-state s (send i j) x e = rw e
 refused-state s (deliver m deleted) x e = rw e
 refused-state s (lose m) x e = rw e
 refused-state s (recover F deleted lent) x e = rw e
 refused-state s (line F lent) x e = rw e
+refused-state s (earliest l lent) x e = rw e
 
 -- Its report gives the refusal's number.
 pub refused-report : (s : Run) (c : Call) (x : Refusal) → refusal s c ≡ some x → call s c .reply .report .refused ≡ number x
-unfolding refusal call answered checkpointOutcome sendOutcome deliverOutcome loseOutcome lineOutcome recoverOutcome checkpointReport sendReport deliverReport loseReport lineReport recoverReport
+unfolding refusal call answered checkpointOutcome sendOutcome deliverOutcome loseOutcome lineOutcome recoverOutcome earliestOutcome checkpointReport sendReport deliverReport loseReport lineReport recoverReport
 refused-report s (checkpoint i deleted) x e = rw e
 refused-report s (send i j) x e = rw e
 refused-report s (deliver m deleted) x e = rw e
 refused-report s (lose m) x e = rw e
 refused-report s (recover F deleted lent) x e = rw e
 refused-report s (line F lent) x e = rw e
+refused-report s (earliest l lent) x e = rw e
 
 -- The surviving history stays as it was.
 pub refused-history : (n : ℕ) (s : Run) (h : Surviving) (c : Call) (x : Refusal) → refusal s c ≡ some x → after n h (exchange s c) ≡ h

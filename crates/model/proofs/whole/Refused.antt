@@ -11,8 +11,11 @@ use lib.ListN.{length, getD}
 use borrow.Author.Tests.{leb-false, le-leb, lt-leb, ltb-true, ltb-false, not-false}
 use Rattle.laws.specs.Choice.{by-bool}
 use Rattle.laws.specs.Ranges.{any-same}
+use Rattle.laws.specs.Members.{some-same}
 use Rattle.laws.specs.Search.{anyBelow, any-out}
+use Rattle.laws.specs.Tests.{some-of}
 use Rattle.laws.specs.Truth.{never-both}
+use Rattle.model.specs.declared.Named.{Named}
 use Rattle.model.specs.declared.Run.{Run}
 use Rattle.model.specs.declared.Refusal.{Refusal}
 use Rattle.model.specs.Words.{mostBlocks, own}
@@ -21,7 +24,8 @@ use Rattle.model.specs.Sound.{isBlockCount, sound}
 use Rattle.model.specs.History.{Lists, checkpoints}
 use Rattle.model.specs.Refusals.{number, Rule, firstOf, startRefusal, shortDeletions, shortLine, absent, atLastInterval, pastBlocks, outside, checkpointRefusal, sendRefusal, missing, forcesPast, forcesOver, deliverRefusal, loseRefusal, noMember, lineRefusal, recoverRefusal}
 use Rattle.model.specs.laws.Refusals.{refusal-in, skipped, by-refusal}
-use Rattle.model.specs.Calls.{Call, checkpoint, send, deliver, lose, recover, line, call}
+use Rattle.model.specs.Earliest.{someAbsent, unfit, notKept, someOrdered, earliestRefusal}
+use Rattle.model.specs.Calls.{Call, checkpoint, send, deliver, lose, recover, line, earliest, call}
 use Rattle.model.specs.Survival.{Surviving}
 use Rattle.model.specs.Answers.{Reason, lowest, countUnderWay, tooShort, pastBound, startReasons, reasons}
 use Rattle.model.proofs.ideal.Run.{Ideal, forces}
@@ -31,6 +35,7 @@ use Rattle.model.proofs.simulation.View.{messageOf, messagesOf, stateOf
 use Rattle.model.proofs.simulation.Reads.{count-is, last-is, underway-is, own-is}
 use Rattle.model.proofs.simulation.Messages.{used-number, found-is, found-none}
 use Rattle.model.proofs.simulation.Deliver.{deliver-forces}
+use Rattle.model.proofs.simulation.Earliest.{all-present, named-kept}
 use Rattle.model.proofs.simulation.Lines.{latest-allowed}
 use Rattle.model.proofs.simulation.Sound.{state-sound}
 use Rattle.model.proofs.simulation.SoundCalls.{written-is, count-is-of}
@@ -68,6 +73,17 @@ forcingOf r (deliver m deleted) = forces r m
 forcingOf r (lose m) = false
 forcingOf r (recover F deleted lent) = false
 forcingOf r (line F lent) = false
+forcingOf r (earliest l lent) = false
+
+-- Whether one of two named checkpoints comes before the other; false of any other call.
+unfoldable pub orderedOf : Ideal → Call → Bool
+orderedOf r (checkpoint i deleted) = false
+orderedOf r (send i j) = false
+orderedOf r (deliver m deleted) = false
+orderedOf r (lose m) = false
+orderedOf r (recover F deleted lent) = false
+orderedOf r (line F lent) = false
+orderedOf r (earliest l lent) = someOrdered (stateOf r) l
 
 -- A rule that does not hold gives no number. A rule and a reason that hold alike and have the same number give the same, if those behind them do.
 never : (t : Rule) (l : List Rule) (k : ℕ) → t .holds ≡ false → numberOf (firstOf l) ≡ k → numberOf (firstOf (t ∷ l)) ≡ k
@@ -130,9 +146,9 @@ module _ (h : Surviving) (r : Ideal) (v : Inv r) (fit : Limits r) (g : Agrees h 
   blocks-same : (i : ℕ) → i < r .n → pastBlocks (stateOf r) i ≡ pastBound h i
   blocks-same i hi = λ j. ltb mostBlocks ((written-is r v fit ∙ sym (g .written)) j + (count-is-of r v fit i hi ∙ sym (ap (λ (c : ℕ → ℕ). c i) (g .counts))) j)
 
-  checkpoint-number : (b : Bool) (i : ℕ) (deleted : List ℕ) → numberOf (checkpointRefusal (stateOf r) i deleted) ≡ lowest (reasons (r .n) h b (checkpoint i deleted))
+  checkpoint-number : (b o : Bool) (i : ℕ) (deleted : List ℕ) → numberOf (checkpointRefusal (stateOf r) i deleted) ≡ lowest (reasons (r .n) h b o (checkpoint i deleted))
   unfolding checkpointRefusal reasons number
-  checkpoint-number b i deleted =
+  checkpoint-number b o i deleted =
       never _ _ _ whole
       (alike _ _ _ _ (short-same deleted) refl (λ z.
       alike _ _ _ _ (absent-same i) refl (λ present.
@@ -143,9 +159,9 @@ module _ (h : Surviving) (r : Ideal) (v : Inv r) (fit : Limits r) (g : Agrees h 
   unfolding countUnderWay
   under-way = rw (g .sends, g .underway) (sym (messages-count r))
 
-  send-number : (b : Bool) (i j : ℕ) → numberOf (sendRefusal (stateOf r) i j) ≡ lowest (reasons (r .n) h b (send i j))
+  send-number : (b o : Bool) (i j : ℕ) → numberOf (sendRefusal (stateOf r) i j) ≡ lowest (reasons (r .n) h b o (send i j))
   unfolding sendRefusal reasons number
-  send-number b i j =
+  send-number b o i j =
       never _ _ _ whole
       (alike _ _ _ _ (rw (count-is r)) refl (λ z.
       alike _ _ _ _ refl refl (λ z.
@@ -172,40 +188,58 @@ module _ (h : Surviving) (r : Ideal) (v : Inv r) (fit : Limits r) (g : Agrees h 
       let hi : r .receiver m < r .n = underway-proper r v m t .to in
       rw (found-is r m (used-number r v m t) t, g .receiver, deliver-forces r m (fit .few-processes) hi (self (r .receiver m)), blocks-same (r .receiver m) hi)
 
-  deliver-number : (m : ℕ) (deleted : List ℕ) → numberOf (deliverRefusal (stateOf r) m deleted) ≡ lowest (reasons (r .n) h (forces r m) (deliver m deleted))
+  deliver-number : (o : Bool) (m : ℕ) (deleted : List ℕ) → numberOf (deliverRefusal (stateOf r) m deleted) ≡ lowest (reasons (r .n) h (forces r m) o (deliver m deleted))
   unfolding deliverRefusal reasons number
-  deliver-number m deleted =
+  deliver-number o m deleted =
       never _ _ _ whole
       (alike _ _ _ _ (short-same deleted) refl (λ z.
       alike _ _ _ _ (missing-same m) refl (λ there.
       alike _ _ _ _ (forces-past m there) refl (λ z.
       alike _ _ _ _ (forces-over m there) refl (λ z. no-more)))))
 
-  lose-number : (b : Bool) (m : ℕ) → numberOf (loseRefusal (stateOf r) m) ≡ lowest (reasons (r .n) h b (lose m))
+  lose-number : (b o : Bool) (m : ℕ) → numberOf (loseRefusal (stateOf r) m) ≡ lowest (reasons (r .n) h b o (lose m))
   unfolding loseRefusal reasons number
-  lose-number b m = never _ _ _ whole (alike _ _ _ _ (missing-same m) refl (λ z. no-more))
+  lose-number b o m = never _ _ _ whole (alike _ _ _ _ (missing-same m) refl (λ z. no-more))
 
-  line-number : (b : Bool) (F : ℕ) (lent : List ℕ) → numberOf (lineRefusal (stateOf r) F lent) ≡ lowest (reasons (r .n) h b (line F lent))
+  line-number : (b o : Bool) (F : ℕ) (lent : List ℕ) → numberOf (lineRefusal (stateOf r) F lent) ≡ lowest (reasons (r .n) h b o (line F lent))
   unfolding lineRefusal reasons number
-  line-number b F lent =
+  line-number b o F lent =
       never _ _ _ whole
       (alike _ _ _ _ (line-same lent) refl (λ z.
       alike _ _ _ _ (outside-same F) refl (λ z.
       never _ _ _ (members-found r v fit F) no-more)))
 
-  recover-number : (b : Bool) (F : ℕ) (deleted lent : List ℕ) → numberOf (recoverRefusal (stateOf r) F deleted lent) ≡ lowest (reasons (r .n) h b (recover F deleted lent))
+  recover-number : (b o : Bool) (F : ℕ) (deleted lent : List ℕ) → numberOf (recoverRefusal (stateOf r) F deleted lent) ≡ lowest (reasons (r .n) h b o (recover F deleted lent))
   unfolding recoverRefusal reasons number
-  recover-number b F deleted lent =
+  recover-number b o F deleted lent =
       never _ _ _ whole
       (alike _ _ _ _ (rw (count-is r)) refl (λ z.
       alike _ _ _ _ (outside-same F) refl (λ z.
       never _ _ _ (members-found r v fit F) no-more)))
 
-  pub number-right : (c : Call) → numberOf (refusal (stateOf r) c) ≡ lowest (reasons (r .n) h (forcingOf r c) c)
-  unfolding refusal forcingOf
-  number-right (checkpoint i deleted) = checkpoint-number false i deleted
-  number-right (send i j) = send-number false i j
-  number-right (deliver m deleted) = deliver-number m deleted
-  number-right (lose m) = lose-number false m
-  number-right (recover F deleted lent) = recover-number false F deleted lent
-  number-right (line F lent) = line-number false F lent
+  -- Kept by the pairs handed out is kept by the state, of processes of the run.
+  kept-same : (l : List Named) → someAbsent (r .n) l ≡ false → some-of (notKept (stateOf r)) l ≡ some-of (λ c. not (h .kept (c .process) (c .index .0))) l
+  unfolding notKept
+  kept-same l e = some-same (notKept (stateOf r)) (λ c. not (h .kept (c .process) (c .index .0))) l
+      (λ c m. let hc : c .process < r .n = rw (count-is r) at (all-present (stateOf r) l (rw (count-is r) e) c m) in
+      ap not (named-kept r v (fit .few-processes) c hc ∙ sym (g .kept (c .process) (c .index .0) hc)))
+
+  pub earliest-number : (b : Bool) (l : List Named) (lent : List ℕ) → numberOf (earliestRefusal (stateOf r) l lent) ≡ lowest (reasons (r .n) h b (someOrdered (stateOf r) l) (earliest l lent))
+  unfolding earliestRefusal reasons number
+  earliest-number b l lent =
+      never _ _ _ whole
+      (alike _ _ _ _ (line-same lent) refl (λ z.
+      alike _ _ _ _ (ap (λ (c : ℕ). someAbsent c l) (count-is r)) refl (λ present.
+      alike _ _ _ _ (ap (λ (c : ℕ). unfit c l) (count-is r)) refl (λ z.
+      alike _ _ _ _ (kept-same l present) refl (λ z.
+      alike _ _ _ _ refl refl (λ z. no-more))))))
+
+  pub number-right : (c : Call) → numberOf (refusal (stateOf r) c) ≡ lowest (reasons (r .n) h (forcingOf r c) (orderedOf r c) c)
+  unfolding refusal forcingOf orderedOf
+  number-right (checkpoint i deleted) = checkpoint-number false false i deleted
+  number-right (send i j) = send-number false false i j
+  number-right (deliver m deleted) = deliver-number false m deleted
+  number-right (lose m) = lose-number false false m
+  number-right (recover F deleted lent) = recover-number false false F deleted lent
+  number-right (line F lent) = line-number false false F lent
+  number-right (earliest l lent) = earliest-number false l lent

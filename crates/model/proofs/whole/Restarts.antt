@@ -10,11 +10,11 @@ use Prim.Native.Nat.{ℕ, suc, _-_, _<_}
 use native.Mathlib.Omega.{arith}
 use Rattle.laws.specs.Rows.{by-lt}
 use Rattle.model.specs.Words.{basic, forced, failed}
-use Rattle.model.specs.History.{Lists, checkpoints}
-use Rattle.model.specs.Calls.{Call, checkpoint, send, deliver, lose, recover, line, call}
+use Rattle.model.specs.History.{Lists, checkpoints, beforeCheckpoint}
+use Rattle.model.specs.Calls.{Call, checkpoint, send, deliver, lose, recover, line, earliest, call}
 use Rattle.model.specs.Survival.{Surviving, beginning, after, accepted, listsAfter, restartAfter}
 use Rattle.model.specs.Answers.{ComesBefore}
-use Rattle.model.specs.Needed.{beforeCheckpoint, KnewLess, PinStands, PinNames, Needed}
+use Rattle.model.specs.Needed.{KnewLess, PinStands, PinNames, Needed}
 use Rattle.model.proofs.ideal.Run.{Ideal, because, begin, begun, keeps, checkpointed, delivered, recovered}
 use Rattle.model.proofs.ideal.Invariant.{Inv}
 use Rattle.model.proofs.ideal.Ledger.{ledger-inv}
@@ -61,6 +61,7 @@ module _ (n : ℕ) (h : Surviving) (r : Ideal) (v : Inv r) (fit : Limits r) (t :
   accepted-restarted (recover F deleted lent) e step =
       record { earlier = recovered r (failed F); inv = step .inv; memory = step .memory; events = step .lists; standing = recovered-standing r (failed F) v }
   accepted-restarted (line F lent) e step = goes-on h _ r _ refl (same-learns r) t
+  accepted-restarted (earliest l lent) e step = goes-on h _ r _ refl (same-learns r) t
 
   pub step-restarted : (c : Call) → refusal (stateOf r) c ≡ none → Step n h (stateOf r) r (stepped r c) c → Restarted (after n h (exchange (stateOf r) c)) (stepped r c)
   step-restarted c e step = rw (accepted-history n (stateOf r) h c e) (accepted-restarted c e step)

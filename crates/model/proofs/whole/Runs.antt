@@ -5,7 +5,7 @@ use mathlib.Core.List.{List, [], _∷_}
 use mathlib.Core.Option.{Option, none, some}
 use Rattle.model.specs.declared.Refusal.{Refusal}
 use Rattle.model.specs.Words.{basic, forced, failed}
-use Rattle.model.specs.Calls.{Call, checkpoint, send, deliver, lose, recover, line}
+use Rattle.model.specs.Calls.{Call, checkpoint, send, deliver, lose, recover, line, earliest}
 use Rattle.model.proofs.ideal.Run.{Ideal, because, stores, checkpointed, sending, delivered, lost, recovered}
 use Rattle.model.proofs.ideal.Counted.{counts-delivered}
 use Rattle.model.proofs.simulation.View.{stateOf}
@@ -19,6 +19,7 @@ stepped r (deliver m deleted) = delivered (because forced r) m
 stepped r (lose m) = lost r m
 stepped r (recover F deleted lent) = recovered r (failed F)
 stepped r (line F lent) = r
+stepped r (earliest l lent) = r
 
 -- One of two runs, by whether there is a refusal.
 unfoldable pub unlessRefused : Option Refusal → Ideal → Ideal → Ideal
@@ -43,6 +44,7 @@ counts-step r (deliver m deleted) = counts-delivered (because forced r) m
 counts-step r (lose m) = refl
 counts-step r (recover F deleted lent) = refl
 counts-step r (line F lent) = refl
+counts-step r (earliest l lent) = refl
 
 counts-unless : (o : Option Refusal) (r r′ : Ideal) → r′ .ledger .counts ≡ r .ledger .counts → unlessRefused o r r′ .ledger .counts ≡ r .ledger .counts
 unfolding unlessRefused

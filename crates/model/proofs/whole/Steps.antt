@@ -1,4 +1,4 @@
--- Each accepted call, as a step of the run as functions: checkpoint, send, deliver, lose and line. Recover has a file of its own.
+-- Each accepted call, as a step of the run as functions: checkpoint, send, deliver, lose, line and the earliest line. Recover has a file of its own.
 -- Assumes nothing.
 use mathlib.Core.Path.{_≡_, refl, sym, _∙_, ap, fun-ext}
 use mathlib.Core.Bool.{Bool, true, false, _&&_, not}
@@ -12,11 +12,13 @@ use Rattle.laws.specs.Choice.{by-bool}
 use Rattle.laws.specs.Search.{anyBelow}
 use Rattle.laws.specs.Sums.{sumBelow}
 use Rattle.model.specs.Words.{places, basic, forced, process, live}
+use Rattle.model.specs.declared.Named.{Named}
 use Rattle.model.specs.History.{Lists}
 use Rattle.model.specs.Steps.{checkpointDeletions, deliverDeletions}
 use Rattle.model.specs.Steps as steps
 use Rattle.model.specs.Outcomes.{pairs, written, checkpointOutcome, checkpointReport, sendOutcome, sendReport, message, deliverAnswer, deliverOutcome, deliverReport, loseOutcome, loseReport, lineOutcome, lineReport}
-use Rattle.model.specs.Calls.{checkpoint, send, deliver, lose, line, Reply, answered, call}
+use Rattle.model.specs.Calls.{Call, checkpoint, send, deliver, lose, line, earliest, Reply, answered, call}
+use Rattle.model.specs.Earliest.{earliestRefusal, earliestOutcome}
 use Rattle.model.specs.Refusals.{checkpointRefusal, sendRefusal, deliverRefusal, loseRefusal, lineRefusal}
 use Rattle.model.specs.Survival.{Surviving, handedOut, listsAfter, sendsAfter, receiverAfter, underwayAfter, forcedAt, storedBy, causeOf, causeWith, countOf}
 use Rattle.model.specs.Answers.{lentDeletions}
@@ -224,54 +226,42 @@ module _ (n : ℕ) (h : Surviving) (r : Ideal) (v : Inv r) (fit : Limits r) (mem
       blocks = blocks-none (call (stateOf r) (lose m) .reply) r (lost r m) lose-count (lost-keeps r m);
     }
 
-  -- Line for F: nothing changes.
-  module _ (F : ℕ) (lent : List ℕ) (e : lineRefusal (stateOf r) F lent ≡ none) where
-    line-run-state : call (stateOf r) (line F lent) .run ≡ stateOf r
-    unfolding call answered lineOutcome
-    line-run-state = rw e
-
-    line-count : call (stateOf r) (line F lent) .reply .report .deletions ≡ 0
-    unfolding call answered lineOutcome lineReport
-    line-count = rw e
-
-    line-same : (listsAfter n h (line F lent) (call (stateOf r) (line F lent) .reply) ≡ r .events) × (sendsAfter h (line F lent) ≡ r .last) × (receiverAfter h (line F lent) ≡ r .receiver) × ((lists : Lists) → underwayAfter n h lists (line F lent) ≡ r .transit)
-    unfolding listsAfter sendsAfter receiverAfter underwayAfter
-    line-same = (g .lists, g .sends, g .receiver, λ lists. g .underway)
-
-    line-none : call (stateOf r) (line F lent) .reply .deleted ≡ []
-    unfolding call answered lineOutcome
-    line-none = rw e
-
-    line-hands-over : HandsOver (call (stateOf r) (line F lent) .reply) (lentDeletions (line F lent)) r r
-    unfolding lentDeletions
-    line-hands-over = nothing-over r r (call (stateOf r) (line F lent) .reply) line-none line-count (λ p k. refl)
-
-    line-cause : causeWith h (causeOf (line F lent)) (storedBy h (line F lent) (call (stateOf r) (line F lent) .reply)) ≡ r .ledger .cause
-    unfolding storedBy
-    line-cause = none-cause h r v g (causeOf (line F lent))
-
-    line-stored : countOf h (storedBy h (line F lent) (call (stateOf r) (line F lent) .reply)) ≡ newIn r r
-    unfolding storedBy
-    line-stored = none-count h r v g ∙ sym (still-new r)
-
-    pub line-step : Step n h (stateOf r) r r (line F lent)
-    line-step = record {
+  -- A call that leaves the state, stores nothing and hands nothing out: nothing changes.
+  module _ (c : Call) (state : call (stateOf r) c .run ≡ stateOf r) (count : call (stateOf r) c .reply .report .deletions ≡ 0) (none-stored : storedBy h c (call (stateOf r) c .reply) ≡ none)
+      (same : (listsAfter n h c (call (stateOf r) c .reply) ≡ r .events) × (sendsAfter h c ≡ r .last) × (receiverAfter h c ≡ r .receiver) × ((lists : Lists) → underwayAfter n h lists c ≡ r .transit))
+      (over : HandsOver (call (stateOf r) c .reply) (lentDeletions c) r r) where
+    unchanged-step : Step n h (stateOf r) r r c
+    unchanged-step = record {
       inv = v;
       limits = fit;
       moved = record { size = refl; back = λ p k lt q. q; one = λ p. inl (omega arith) };
-      state = line-run-state;
-      lists = line-same .0;
-      sends = line-same .1;
-      receiver = line-same .2;
-      underway = line-same .3 _;
+      state = state;
+      lists = same .0;
+      sends = same .1;
+      receiver = same .2;
+      underway = same .3 _;
       memory = memory;
-      hands-out = hands-out-none (call (stateOf r) (line F lent) .reply) r r line-count (λ p k. refl);
-      hands-over = line-hands-over;
+      hands-out = hands-out-none (call (stateOf r) c .reply) r r count (λ p k. refl);
+      hands-over = over;
       paid = record { counts = refl; written = omega (arith, still-new r) };
-      cause = line-cause;
-      stored = line-stored;
-      blocks = blocks-none (call (stateOf r) (line F lent) .reply) r r line-count (λ p k. refl);
+      cause = rw none-stored (none-cause h r v g (causeOf c));
+      stored = rw none-stored (none-count h r v g ∙ sym (still-new r));
+      blocks = blocks-none (call (stateOf r) c .reply) r r count (λ p k. refl);
     }
+
+  -- Line for F.
+  module _ (F : ℕ) (lent : List ℕ) (e : lineRefusal (stateOf r) F lent ≡ none) where
+    pub line-step : Step n h (stateOf r) r r (line F lent)
+    unfolding call answered lineOutcome lineReport listsAfter sendsAfter receiverAfter underwayAfter storedBy lentDeletions
+    line-step = unchanged-step (line F lent) (rw e) (rw e) refl (g .lists, g .sends, g .receiver, λ lists. g .underway)
+        (nothing-over r r (call (stateOf r) (line F lent) .reply) (rw e) (rw e) (λ p k. refl))
+
+  -- The earliest line through named checkpoints.
+  module _ (l : List Named) (lent : List ℕ) (e : earliestRefusal (stateOf r) l lent ≡ none) where
+    pub earliest-step : Step n h (stateOf r) r r (earliest l lent)
+    unfolding call answered earliestOutcome lineReport listsAfter sendsAfter receiverAfter underwayAfter storedBy lentDeletions
+    earliest-step = unchanged-step (earliest l lent) (rw e) (rw e) refl (g .lists, g .sends, g .receiver, λ lists. g .underway)
+        (nothing-over r r (call (stateOf r) (earliest l lent) .reply) (rw e) (rw e) (λ p k. refl))
 
   -- Deliver m.
   module _ (m : ℕ) (deleted : List ℕ) (e : deliverRefusal (stateOf r) m deleted ≡ none) where

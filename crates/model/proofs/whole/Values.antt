@@ -15,6 +15,7 @@ use Rattle.laws.specs.Front.{getD-written, written-front}
 use Rattle.laws.specs.Lists.{table}
 use Rattle.laws.specs.Tables.{length-table, getD-table, table-same}
 use Rattle.laws.specs.Tests.{countBelow}
+use Rattle.model.specs.declared.Named.{Named}
 use Rattle.model.specs.declared.Run.{Run}
 use Rattle.model.specs.declared.Refusal.{Refusal}
 use Rattle.model.specs.Words.{places, failed, own}
@@ -23,9 +24,10 @@ use Rattle.model.specs.History.{Line}
 use Rattle.model.specs.Refusals.{checkpointRefusal, sendRefusal, deliverRefusal, loseRefusal, lineRefusal, recoverRefusal}
 use Rattle.model.specs.Outcomes.{written, checkpointOutcome, sendOutcome, deliverOutcome, loseOutcome, lineOutcome, recoverOutcome, checkpointReport, sendReport, deliverReport, loseReport, lineReport, recoverReport}
 use Rattle.model.specs.laws.Refusals.{by-refusal}
-use Rattle.model.specs.Calls.{Call, checkpoint, send, deliver, lose, recover, line, answered, call}
+use Rattle.model.specs.Earliest.{greatest, earliestLine, earliestRefusal, earliestOutcome}
+use Rattle.model.specs.Calls.{Call, checkpoint, send, deliver, lose, recover, line, earliest, answered, call}
 use Rattle.model.specs.Survival.{Surviving}
-use Rattle.model.specs.Answers.{valueOf, lentDeletions, lentLine, failedSet, atFront, indexesOf}
+use Rattle.model.specs.Answers.{valueOf, lentDeletions, lentLine, atFront, indexesOf}
 use Rattle.model.proofs.ideal.Run as ideal
 use Rattle.model.proofs.ideal.Run.{Ideal, forces}
 use Rattle.model.proofs.ideal.Invariant.{Inv}
@@ -35,6 +37,7 @@ use Rattle.model.proofs.simulation.View.{messageOf, stateOf, Limits}
 use Rattle.model.proofs.simulation.Reads.{count-is, last-is, own-is}
 use Rattle.model.proofs.simulation.Checkpoint.{checkpoint-index}
 use Rattle.model.proofs.simulation.Deliver.{deliver-index}
+use Rattle.model.proofs.simulation.Earliest.{earliest-out}
 use Rattle.model.proofs.simulation.Lines.{member-index, line-is}
 use Rattle.model.proofs.simulation.SoundCalls.{checkpoint-run, deliver-run, line-run, recover-run}
 use Rattle.model.proofs.whole.Agreement.{Agrees}
@@ -47,23 +50,25 @@ use Rattle.model.proofs.whole.Recovers.{written-line}
 pub refused-reply : (s : Run) (c : Call) (x : Refusal) → refusal s c ≡ some x
     → (call s c .reply .report .value ≡ none) × (call s c .reply .report .deletions ≡ 0) × (call s c .reply .deleted ≡ lentDeletions c) × (call s c .reply .line ≡ lentLine c)
     × (call s c .reply .rose ≡ 0)
-unfolding refusal call answered checkpointOutcome sendOutcome deliverOutcome loseOutcome lineOutcome recoverOutcome checkpointReport sendReport deliverReport loseReport lineReport recoverReport lentDeletions lentLine
+unfolding refusal call answered checkpointOutcome sendOutcome deliverOutcome loseOutcome lineOutcome recoverOutcome earliestOutcome checkpointReport sendReport deliverReport loseReport lineReport recoverReport lentDeletions lentLine
 refused-reply s (checkpoint i deleted) x e = (rw e, rw e, rw e, rw e, rw e)
 refused-reply s (send i j) x e = (rw e, rw e, rw e, rw e, rw e)
 refused-reply s (deliver m deleted) x e = (rw e, rw e, rw e, rw e, rw e)
 refused-reply s (lose m) x e = (rw e, rw e, rw e, rw e, rw e)
 refused-reply s (recover F deleted lent) x e = (rw e, rw e, rw e, rw e, rw e)
 refused-reply s (line F lent) x e = (rw e, rw e, rw e, rw e, rw e)
+refused-reply s (earliest l lent) x e = (rw e, rw e, rw e, rw e, rw e)
 
 -- Only a delivery says that entries rose.
 pub others-rose : (s : Run) (c : Call) → ((m : ℕ) (deleted : List ℕ) → c ≡ deliver m deleted → ⊥) → call s c .reply .rose ≡ 0
-unfolding call answered checkpointOutcome sendOutcome loseOutcome lineOutcome recoverOutcome
+unfolding call answered checkpointOutcome sendOutcome loseOutcome lineOutcome recoverOutcome earliestOutcome
 others-rose s (checkpoint i deleted) other = by-refusal (checkpointRefusal s i deleted) (λ e. rw e) (λ x e. rw e)
 others-rose s (send i j) other = by-refusal (sendRefusal s i j) (λ e. rw e) (λ x e. rw e)
 others-rose s (deliver m deleted) other = absurd (other m deleted refl)
 others-rose s (lose m) other = by-refusal (loseRefusal s m) (λ e. rw e) (λ x e. rw e)
 others-rose s (recover F deleted lent) other = by-refusal (recoverRefusal s F deleted lent) (λ e. rw e) (λ x e. rw e)
 others-rose s (line F lent) other = by-refusal (lineRefusal s F lent) (λ e. rw e) (λ x e. rw e)
+others-rose s (earliest l lent) other = by-refusal (earliestRefusal s l lent) (λ e. rw e) (λ x e. rw e)
 
 module _ (h : Surviving) (r : Ideal) (v : Inv r) (fit : Limits r) (memory : Memory r) (g : Agrees h r) where
   few : r .n ≤ places
@@ -95,6 +100,18 @@ module _ (h : Surviving) (r : Ideal) (v : Inv r) (fit : Limits r) (memory : Memo
     line-written : call (stateOf r) (line F lent) .reply .line ≡ written lent (table (r .n) (ideal.line r (failed F)))
     unfolding call answered lineOutcome
     line-written = rw e (ap (λ (l : List ℕ). written lent l) (line-is r v few F))
+
+  module _ (l : List Named) (lent : List ℕ) (e : earliestRefusal (stateOf r) l lent ≡ none) where
+    earliest-value : call (stateOf r) (earliest l lent) .reply .report .value ≡ none
+    unfolding call answered earliestOutcome lineReport
+    earliest-value = rw e
+
+    pub earliest-written : call (stateOf r) (earliest l lent) .reply .line ≡ written lent (table (r .n) (greatest (stateOf r) l))
+    unfolding call answered earliestOutcome earliestLine
+    earliest-written = rw e (ap (λ (c : ℕ). written lent (table c (greatest (stateOf r) l))) (count-is r))
+
+    pub earliest-room : r .n ≤ length lent
+    earliest-room = rw (count-is r) at (earliest-out (stateOf r) l lent e .room)
 
   module _ (F : ℕ) (deleted lent : List ℕ) (e : recoverRefusal (stateOf r) F deleted lent ≡ none) where
     recover-value : call (stateOf r) (recover F deleted lent) .reply .report .value ≡ some (rolledBackCount (stateOf r) F)
@@ -138,6 +155,7 @@ module _ (h : Surviving) (r : Ideal) (v : Inv r) (fit : Limits r) (memory : Memo
   value-right (recover F deleted lent) e = recover-value F deleted lent e ∙ ap some (recover-count F deleted lent e
       ∙ count-same (r .n) _ _ (λ p hp. rw (live-is h r v fit g p)))
   value-right (line F lent) e = line-value F lent e
+  value-right (earliest l lent) e = earliest-value l lent e
 
   -- A line list with n indexes written to its front.
   front-line : (l lent : List ℕ) (w : Line) → r .n ≤ length lent → l ≡ written lent (table (r .n) w) → l ≡ atFront (table (r .n) (λ p. getD l p 0)) lent
@@ -147,22 +165,14 @@ module _ (h : Surviving) (r : Ideal) (v : Inv r) (fit : Limits r) (memory : Memo
       (λ p hp. ap (λ (k : List ℕ). getD k p 0) e ∙ getD-written lent (table (r .n) w) (omega arith) p 0 (omega arith) ∙ getD-table (r .n) w p 0 hp) in
       e ∙ written-front lent (table (r .n) w) (omega arith) ∙ ap (λ (k : List ℕ). atFront k lent) (sym same)
 
-  no-line : (c : Call) → refusal (stateOf r) c ≡ none → failedSet c ≡ none → call (stateOf r) c .reply .line ≡ []
-  unfolding refusal failedSet call answered checkpointOutcome sendOutcome deliverOutcome loseOutcome
-  no-line (checkpoint i deleted) e q = rw e
-  no-line (send i j) e q = rw e
-  no-line (deliver m deleted) e q = rw e
-  no-line (lose m) e q = rw e
-  no-line (recover F deleted lent) e q = absurd (let z : _≡_ {A = ℕ} 0 1 = cc in omega arith)
-  no-line (line F lent) e q = absurd (let z : _≡_ {A = ℕ} 0 1 = cc in omega arith)
-
   -- The line list of an accepted call.
-  pub line-list-right : (c : Call) → refusal (stateOf r) c ≡ none → call (stateOf r) c .reply .line ≡ atFront (indexesOf (r .n) (failedSet c) (call (stateOf r) c .reply .line)) (lentLine c)
-  unfolding refusal failedSet indexesOf lentLine
-  line-list-right (checkpoint i deleted) e = no-line (checkpoint i deleted) e refl
-  line-list-right (send i j) e = no-line (send i j) e refl
-  line-list-right (deliver m deleted) e = no-line (deliver m deleted) e refl
-  line-list-right (lose m) e = no-line (lose m) e refl
+  pub line-list-right : (c : Call) → refusal (stateOf r) c ≡ none → call (stateOf r) c .reply .line ≡ atFront (indexesOf (r .n) c (call (stateOf r) c .reply .line)) (lentLine c)
+  unfolding refusal indexesOf lentLine call answered checkpointOutcome sendOutcome deliverOutcome loseOutcome
+  line-list-right (checkpoint i deleted) e = rw e
+  line-list-right (send i j) e = rw e
+  line-list-right (deliver m deleted) e = rw e
+  line-list-right (lose m) e = rw e
   line-list-right (recover F deleted lent) e =
       front-line (call (stateOf r) (recover F deleted lent) .reply .line) lent (ideal.line r (failed F)) (recover-run r v fit F deleted lent e .2) (recover-written F deleted lent e)
   line-list-right (line F lent) e = front-line (call (stateOf r) (line F lent) .reply .line) lent (ideal.line r (failed F)) (line-run r v fit F lent e .1) (line-written F lent e)
+  line-list-right (earliest l lent) e = front-line (call (stateOf r) (earliest l lent) .reply .line) lent (greatest (stateOf r) l) (earliest-room l lent e) (earliest-written l lent e)

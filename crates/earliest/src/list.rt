@@ -1,0 +1,158 @@
+// A lent list of named checkpoints, "each a process and an index". The prover covers no function over a slice of structs, so there are two, thin, and each is
+// proved by hand: one copies an element out, one walks the list and hands each element on to a covered function. Every list will do, however long.
+use model::CheckpointIndex;
+use model::Named;
+ghost use mathlib.Core.Path.{_≡_};
+ghost use mathlib.Core.Bool.{_||_};
+ghost use Prim.Native.Nat.{_+_, _<_, _≤_, _^_, max};
+ghost use lib.Dec.{eqb, ltb};
+ghost use lib.ListN.{length, getD, set, take};
+ghost use Rattle.laws.specs.Choice.{pick};
+ghost use Rattle.laws.specs.Tests.{some-of};
+ghost use Rattle.model.specs.Earliest.{repeats};
+ghost use Rattle.earliest.specs.Copying.{noNamed, nothingCopied, withElement, copyOf};
+
+// What is copied out of a list: its first 16 elements, how many elements it has, and the greatest process that one of them names.
+pub struct Copied {
+    pub named: [Named; 16],
+    pub length: usize,
+    pub process: usize,
+}
+
+// Before the first element.
+fn nothing_copied() -> Copied
+    ensures { λ r. ⌜ r ≡ nothingCopied ⌝ }
+{
+    let none = Named {
+        process: 0,
+        index: CheckpointIndex(0),
+    };
+    let named = [none; 16];
+    Copied {
+        named,
+        length: 0,
+        process: 0,
+    }
+}
+
+fn greater(a: usize, b: usize) -> usize
+    ensures { λ r. ⌜ r ≡ max a b ⌝ }
+{
+    if a < b { b } else { a }
+}
+
+// An element at its place, if that is one of the first 16.
+fn placed(named: [Named; 16], at: usize, c: Named) -> [Named; 16]
+    ensures { λ r. ⌜ r ≡ pick (ltb at 16) (set named at c) named ⌝ }
+{
+    if at < 16 {
+        let mut next = named;
+        next[at] = c;
+        return next;
+    }
+    named
+}
+
+// One element more.
+fn with_element(copied: Copied, c: Named) -> Copied
+    requires { ⌜ copied .length + 1 < 2 ^ 64 ⌝ }
+    ensures { λ r. ⌜ r ≡ withElement copied c ⌝ }
+{
+    let at = copied.length;
+    let first = copied.named;
+    let named = placed(first, at, c);
+    let process = greater(copied.process, c.process);
+    Copied {
+        named,
+        length: at + 1,
+        process,
+    }
+}
+
+// Element k, copied out of the list.
+fn element(list: &[Named], k: usize) -> Named
+    requires { ⌜ k < length (now list) ⌝ }
+    ensures { λ r. ⌜ r ≡ getD (now (list .entry)) k noNamed ⌝ }
+{
+    list[k]
+}
+
+// The whole list, element by element.
+pub fn copy_out(list: &[Named]) -> Copied
+    ensures { λ r. ⌜ r ≡ copyOf (now (list .entry)) ⌝ }
+{
+    let mut copied = nothing_copied();
+    let mut k = 0;
+    while k < list.len() {
+        copied = with_element(copied, element(list, k));
+        k = k + 1;
+    }
+    copied
+}
+
+// The same of the first m elements of an array, which has 16.
+fn copy_some(named: [Named; 16], m: usize) -> Copied
+    requires { ⌜ m ≤ 16 ⌝ }
+    ensures { λ r. ⌜ r ≡ copyOf (take m named) ⌝ }
+{
+    let mut copied = nothing_copied();
+    for k in 0..m {
+        let c = named[k];
+        copied = with_element(copied, c);
+    }
+    copied
+}
+
+// A list that stands at the front of an array: covered for every caller.
+pub fn copy_front(named: [Named; 16], length: usize) -> Copied
+    ensures { λ r. ⌜ r ≡ copyOf (take length named) ⌝ }
+{
+    if length < 16 {
+        return copy_some(named, length);
+    }
+    copy_some(named, 16)
+}
+
+// One of the first m elements names process p. There are at most 16.
+fn is_among(named: [Named; 16], m: usize, p: usize) -> bool
+    requires { ⌜ m ≤ 16 ⌝ }
+    ensures { λ r. ⌜ r ≡ some-of (λ d. eqb (d .process) p) (take m named) ⌝ }
+{
+    let mut any = false;
+    for k in 0..m {
+        let c = named[k];
+        let same = c.process == p;
+        any = any | same;
+    }
+    any
+}
+
+// Two of the first m elements name one process.
+fn names_twice(named: [Named; 16], m: usize) -> bool
+    requires { ⌜ m ≤ 16 ⌝ }
+    ensures { λ r. ⌜ r ≡ repeats (take m named) ⌝ }
+{
+    let mut any = false;
+    for k in 0..m {
+        let c = named[k];
+        let twice = is_among(named, k, c.process);
+        any = any | twice;
+    }
+    any
+}
+
+// The list that was copied is empty, longer than n, or names a process twice.
+pub(crate) fn is_unfit(copied: Copied, n: usize) -> bool
+    requires { ⌜ n ≤ 16 ⌝ }
+    ensures { λ r. ⌜ r ≡ (eqb (copied .length) 0 || ltb n (copied .length) || repeats (take (copied .length) (copied .named))) ⌝ }
+{
+    let m = copied.length;
+    if m == 0 {
+        return true;
+    }
+    if n < m {
+        return true;
+    }
+    let named = copied.named;
+    names_twice(named, m)
+}
