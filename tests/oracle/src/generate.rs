@@ -32,6 +32,7 @@
 mod foreign;
 
 use std::io::{self, Write};
+use std::path::Path;
 
 /// The most records that a trace may be asked for.
 pub const MAX_RECORDS: u64 = 1_000_000_000;
@@ -43,6 +44,16 @@ const CHECKPOINTS: u64 = 65_534;
 const ENOUGH_FOR_ALL_NUMBERS: u64 = 2_300_000;
 /// How many arguments a record's field can hold.
 const ARGUMENTS: u32 = 1 << 25;
+
+/// The trace of these arguments, which are in the usage: its bytes, and the same
+/// in a file.
+pub fn trace_in(file: &Path, arguments: &[String]) -> io::Result<Vec<u8>> {
+    let plan = Plan::from_arguments(arguments).expect("they are in the usage");
+    let mut trace = Vec::new();
+    write_trace(plan, &mut trace)?;
+    std::fs::write(file, &trace)?;
+    Ok(trace)
+}
 
 /// Writes the trace that the plan says.
 pub fn write_trace<W: Write>(plan: Plan, output: W) -> io::Result<()> {

@@ -1,11 +1,36 @@
 //! Holding another program to the oracle: many inputs by seed, one run of the
 //! program each, and the first difference in words.
 
+use std::collections::BTreeMap;
 use std::io;
-use std::path::Path;
+use std::path::{Path, PathBuf};
 use std::process::Output;
 use std::sync::atomic::{AtomicBool, AtomicU64, Ordering};
 use std::thread;
+
+/// What the command line `COUNT FIRST PROGRAM ..` asks for: how many seeds, the
+/// first of them, and N programs. None if it is another one.
+pub fn asked<const N: usize>() -> Option<(u64, u64, [PathBuf; N])> {
+    let arguments: Vec<String> = std::env::args().skip(1).collect();
+    let [count, first, programs @ ..] = arguments.as_slice() else {
+        return None;
+    };
+    let programs: Vec<PathBuf> = programs.iter().map(PathBuf::from).collect();
+    Some((
+        count.parse().ok()?,
+        first.parse().ok()?,
+        programs.try_into().ok()?,
+    ))
+}
+
+/// How often each number was met, in words.
+pub fn refused_in_words(refused: &BTreeMap<u8, usize>) -> String {
+    let words: Vec<String> = refused
+        .iter()
+        .map(|(number, times)| format!("{times} with {number}"))
+        .collect();
+    words.join(", ")
+}
 
 /// What is compared for each seed. It is called from several threads at once,
 /// and lent the name of a file for that thread alone.

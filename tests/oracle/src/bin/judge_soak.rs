@@ -4,8 +4,8 @@
 //! standard error, and end with status 0. At the first trace where it does not,
 //! the arguments of `generate` and both lines are printed, and the status is 1.
 
-use oracle::generate::{write_trace, Plan};
-use oracle::hold::{difference, on_seeds, Comparison};
+use oracle::generate::trace_in;
+use oracle::hold::{asked, difference, on_seeds, refused_in_words, Comparison};
 use oracle::judge::{judge, Verdict};
 use std::collections::BTreeMap;
 use std::fs::File;
@@ -15,10 +15,13 @@ use std::process::{Command, ExitCode};
 use std::sync::Mutex;
 
 fn main() -> ExitCode {
-    let arguments: Vec<String> = std::env::args().skip(1).collect();
-    let Some((count, first, soak)) = from_arguments(&arguments) else {
+    let Some((count, first, [program])) = asked() else {
         eprintln!("usage: judge_soak COUNT FIRST PROGRAM");
         return ExitCode::from(2);
+    };
+    let soak = Soak {
+        program,
+        met: Mutex::default(),
     };
     if !on_seeds(first, count, &soak) {
         return ExitCode::FAILURE;
@@ -31,7 +34,7 @@ fn main() -> ExitCode {
         met.pairs.len(),
         met.cycles,
         met.live,
-        met.refused_in_words()
+        refused_in_words(&met.refused)
     );
     ExitCode::SUCCESS
 }
@@ -65,14 +68,6 @@ impl Met {
             Verdict::Refused(number) => *self.refused.entry(*number).or_default() += 1,
         }
     }
-
-    fn refused_in_words(&self) -> String {
-        let words = self.refused.iter();
-        let words: Vec<String> = words
-            .map(|(number, times)| format!("{times} with {number}"))
-            .collect();
-        words.join(", ")
-    }
 }
 
 /// How many checkpoint records of this process an accepted trace has.
@@ -82,27 +77,13 @@ fn checkpoints(trace: &[u8], process: usize) -> usize {
     records.filter(|record| **record == bytes).count()
 }
 
-fn from_arguments(arguments: &[String]) -> Option<(u64, u64, Soak)> {
-    let [count, first, program] = arguments else {
-        return None;
-    };
-    let soak = Soak {
-        program: PathBuf::from(program),
-        met: Mutex::default(),
-    };
-    Some((count.parse().ok()?, first.parse().ok()?, soak))
-}
-
 impl Comparison for Soak {
     fn input(&self, seed: u64) -> String {
         format!("generate {}", arguments_of(seed).join(" "))
     }
 
     fn compare(&self, seed: u64, file: &Path) -> io::Result<Option<String>> {
-        let plan = Plan::from_arguments(&arguments_of(seed)).expect("they are in the usage");
-        let mut trace = Vec::new();
-        write_trace(plan, &mut trace)?;
-        std::fs::write(file, &trace)?;
+        let trace = trace_in(file, &arguments_of(seed))?;
         let verdict = judge(&trace);
         let mut met = self.met.lock().expect("no thread has failed");
         met.count(&verdict, &trace);

@@ -15,7 +15,7 @@
 
 use oracle::halves::draw::{drawn, Halves};
 use oracle::halves::merge::merge;
-use oracle::hold::{on_seeds, Comparison};
+use oracle::hold::{asked, on_seeds, refused_in_words, Comparison};
 use std::collections::BTreeMap;
 use std::fs::File;
 use std::io;
@@ -24,25 +24,24 @@ use std::process::{Command, ExitCode, Output};
 use std::sync::Mutex;
 
 fn main() -> ExitCode {
-    let arguments: Vec<String> = std::env::args().skip(1).collect();
-    let Some((count, first, soak)) = from_arguments(&arguments) else {
+    let Some((count, first, [program, replay])) = asked() else {
         eprintln!("usage: merge_soak COUNT FIRST PROGRAM REPLAY");
         return ExitCode::from(2);
+    };
+    let soak = Soak {
+        program,
+        replay,
+        met: Mutex::default(),
     };
     if !on_seeds(first, count, &soak) {
         return ExitCode::FAILURE;
     }
     let met = soak.met.into_inner().expect("no thread has failed");
-    let refused: Vec<String> = met
-        .refused
-        .iter()
-        .map(|(number, times)| format!("{times} with {number}"))
-        .collect();
     println!(
         "merge and oracle agree on {count} pairs of halves: {} merged, {} records, refused {}; of {} whole runs and their merges both ways {} pairs of replays end alike, {} meet a refusal",
         met.merged,
         met.records,
-        refused.join(", "),
+        refused_in_words(&met.refused),
         met.whole,
         met.alike,
         met.stopped
@@ -64,18 +63,6 @@ struct Met {
     whole: usize,
     alike: usize,
     stopped: usize,
-}
-
-fn from_arguments(arguments: &[String]) -> Option<(u64, u64, Soak)> {
-    let [count, first, program, replay] = arguments else {
-        return None;
-    };
-    let soak = Soak {
-        program: PathBuf::from(program),
-        replay: PathBuf::from(replay),
-        met: Mutex::default(),
-    };
-    Some((count.parse().ok()?, first.parse().ok()?, soak))
 }
 
 impl Comparison for Soak {

@@ -10,8 +10,8 @@
 //! status 0. At the first trace where it does not, the arguments of `generate`
 //! and the first line that differs are printed, and the status is 1.
 
-use oracle::generate::{write_trace, Plan};
-use oracle::hold::{difference, on_seeds, Comparison};
+use oracle::generate::trace_in;
+use oracle::hold::{asked, difference, on_seeds, Comparison};
 use oracle::replay::{replay, AfterRefusal};
 use std::fs::File;
 use std::io;
@@ -20,10 +20,14 @@ use std::process::{Command, ExitCode, Output};
 use std::sync::atomic::{AtomicU64, Ordering};
 
 fn main() -> ExitCode {
-    let arguments: Vec<String> = std::env::args().skip(1).collect();
-    let Some((count, first, soak)) = from_arguments(&arguments) else {
+    let Some((count, first, [program])) = asked() else {
         eprintln!("usage: soak COUNT FIRST PROGRAM");
         return ExitCode::from(2);
+    };
+    let soak = Soak {
+        program,
+        records: AtomicU64::new(0),
+        bytes: AtomicU64::new(0),
     };
     if !on_seeds(first, count, &soak) {
         return ExitCode::FAILURE;
@@ -44,29 +48,13 @@ struct Soak {
     bytes: AtomicU64,
 }
 
-fn from_arguments(arguments: &[String]) -> Option<(u64, u64, Soak)> {
-    let [count, first, program] = arguments else {
-        return None;
-    };
-    let soak = Soak {
-        program: PathBuf::from(program),
-        records: AtomicU64::new(0),
-        bytes: AtomicU64::new(0),
-    };
-    Some((count.parse().ok()?, first.parse().ok()?, soak))
-}
-
 impl Comparison for Soak {
     fn input(&self, seed: u64) -> String {
         format!("generate {}", arguments_of(seed).join(" "))
     }
 
     fn compare(&self, seed: u64, file: &Path) -> io::Result<Option<String>> {
-        let plan = Plan::from_arguments(&arguments_of(seed)).expect("they are in the usage");
-        let mut trace = Vec::new();
-        write_trace(plan, &mut trace)?;
-        std::fs::write(file, &trace)?;
-
+        let trace = trace_in(file, &arguments_of(seed))?;
         let mut whole = Vec::new();
         replay(AfterRefusal::GoOn, trace.as_slice(), &mut whole)?;
         let lines = whole.iter().filter(|byte| **byte == b'\n').count();
