@@ -7,14 +7,14 @@ use crate::say;
 ghost use Prim.Native.Nat.{_<_, _≤_};
 
 fn step(number: u64, after: After) -> After {
-    say::step(number);
+    say::title(b"step", number);
     facts::disks(after);
     after
 }
 
 // Two processes with block counts 3 and 5; those of no process are 0. Process 1 stores a forced checkpoint, goes back behind a later one, and stores it again.
 pub(crate) fn disk_1() {
-    say::disk(1);
+    say::title(b"disk", 1);
     let mut counts = [0u32; 16];
     counts[0] = 3;
     counts[1] = 5;
@@ -137,7 +137,7 @@ fn own(entry: u64, times: usize) {
 }
 
 pub(crate) fn disk_2() {
-    say::disk(2);
+    say::title(b"disk", 2);
     counts(1, 0);
     counts(1, 1);
     counts(2, 1);

@@ -153,7 +153,7 @@ fn quiet() -> u8 {
 }
 
 pub(crate) fn case_10() {
-    say::case(10);
+    say::title(b"case", 10);
     start(0);
     start(1);
     start(16);

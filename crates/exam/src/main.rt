@@ -23,7 +23,7 @@ mod named;
 
 // What a case says of the state that it reaches.
 fn case(number: u64, s: After) {
-    say::case(number);
+    say::title(b"case", number);
     facts::state(s);
 }
 
@@ -32,7 +32,7 @@ fn case(number: u64, s: After) {
 fn cases_1_to_3() -> After {
     let start = act::start(2);
     let first = act::send(start, 0, 1);
-    say::case(1);
+    say::title(b"case", 1);
     let second = facts::deliver(first, 1);
     facts::state(second);
     let third = act::checkpoint(second, 1, 512);
@@ -44,11 +44,11 @@ fn cases_1_to_3() -> After {
 
 fn cases_4_to_6(fourth: After) {
     let fifth = act::send(fourth, 1, 0);
-    say::case(4);
+    say::title(b"case", 4);
     let sixth = facts::deliver(fifth, 2);
     facts::state(sixth);
     let seventh = act::send(sixth, 0, 1);
-    say::case(5);
+    say::title(b"case", 5);
     let eighth = facts::deliver(seventh, 3);
     facts::state(eighth);
     let ninth = act::recover(eighth, 1, 512, 16);
@@ -57,14 +57,14 @@ fn cases_4_to_6(fourth: After) {
 
 // "After 4, recover {1} instead"
 fn case_7(fourth: After) {
-    say::case(7);
+    say::title(b"case", 7);
     let recovered = facts::recover(fourth, 2);
     facts::state(recovered);
 }
 
 // "Three processes, 0 to 1 sent and delivered, then 1 to 2 sent and delivered"
 fn case_8() {
-    say::case(8);
+    say::title(b"case", 8);
     let start = act::start(3);
     let first = act::send(start, 0, 1);
     let second = facts::deliver(first, 1);
@@ -75,7 +75,7 @@ fn case_8() {
 
 // "Two processes, send 0 to 1, recover {1}: line (1,0)"; document 02: "deliver 1 is then accepted"
 fn case_9() {
-    say::case(9);
+    say::title(b"case", 9);
     let start = act::start(2);
     let sent = act::send(start, 0, 1);
     let recovered = facts::recover(sent, 2);
@@ -85,7 +85,7 @@ fn case_9() {
 
 // "Forcing whenever the sent mark is set, though nothing carried is newer": process 1 has sent, and message 2 brings it nothing.
 fn mark_2() {
-    say::mark(2);
+    say::title(b"mark", 2);
     let start = act::start(2);
     let first = act::send(start, 0, 1);
     let second = act::send(first, 0, 1);
@@ -97,7 +97,7 @@ fn mark_2() {
 
 // What a recovery loses, each case by the number of the message that it does: process 0 sends and then rolls back, behind its send and between two of them.
 fn lost_1() {
-    say::lost(1);
+    say::title(b"lost", 1);
     let start = act::start(2);
     let sent = act::send(start, 0, 1);
     let recovered = facts::recover(sent, 1);
@@ -106,7 +106,7 @@ fn lost_1() {
 }
 
 fn lost_2() {
-    say::lost(2);
+    say::title(b"lost", 2);
     let start = act::start(2);
     let first = act::send(start, 0, 1);
     let stored = act::checkpoint(first, 0, 512);
@@ -119,7 +119,7 @@ fn lost_2() {
 
 // Nobody failed: a sweep that deletes, what it leaves, and behind it the delivery of a message that was under way.
 fn sweep_0() {
-    say::sweep(0);
+    say::title(b"sweep", 0);
     let start = act::start(2);
     let first = act::send(start, 0, 1);
     let second = act::checkpoint(first, 1, 512);

@@ -199,7 +199,7 @@ fn lines_of_16() {
 }
 
 pub(crate) fn note_8() {
-    say::note(8);
+    say::title(b"note", 8);
     let s = shown();
     facts::state(s);
     accepted(s);

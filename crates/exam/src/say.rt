@@ -27,50 +27,10 @@ pub(crate) fn heading(words: &[u8], x: u64) {
     text(b":");
 }
 
-pub(crate) fn case(number: u64) {
-    text(b"case");
-    value(number);
-    end();
-}
-
-// One of the wrong marks on past papers, by its place in the list.
-pub(crate) fn mark(number: u64) {
-    text(b"mark");
-    value(number);
-    end();
-}
-
-// A case about the message that a recovery loses.
-pub(crate) fn lost(message: u64) {
-    text(b"lost");
-    value(message);
-    end();
-}
-
-// A case about a recovery of an empty failed set.
-pub(crate) fn sweep(failed: u64) {
-    text(b"sweep");
-    value(failed);
-    end();
-}
-
-// A case about the blocks on disk.
-pub(crate) fn disk(number: u64) {
-    text(b"disk");
-    value(number);
-    end();
-}
-
-// A step of such a case.
-pub(crate) fn step(number: u64) {
-    text(b"step");
-    value(number);
-    end();
-}
-
-// The cases of a change request.
-pub(crate) fn note(number: u64) {
-    text(b"note");
+// What begins a case or a part of one: a word and a number, as `case 1`. `mark` is one of the wrong marks on past papers, `lost` and `sweep` are about what a
+// recovery loses and one of an empty failed set, `disk` with its `step`s about the blocks on disk, `note` about a change request.
+pub(crate) fn title(words: &[u8], number: u64) {
+    text(words);
     value(number);
     end();
 }
