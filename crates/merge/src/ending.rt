@@ -3,6 +3,7 @@
 use libc::STDERR_FILENO;
 use libc::STDOUT_FILENO;
 ghost use mathlib.Core.Path.{_≡_};
+ghost use mathlib.Core.Bool.{true};
 ghost use mathlib.Core.List.{[]};
 ghost use Prim.Native.Nat.{_≤_};
 ghost use lib.ListN.{length, take};
@@ -78,6 +79,8 @@ pub fn say_usage() -> Ended {
 }
 
 // A file could not be read, which was said.
-pub fn end_by_error() -> Ended {
+pub fn end_by_error() -> Ended
+    ensures { λ r. ⌜ r .failed ≡ true ⌝ }
+{
     Ended { failed: true }
 }
