@@ -7,7 +7,7 @@ use Prim.Native.Nat.{ℕ, _-_, _≤_, _<_}
 use native.Mathlib.Omega.{arith}
 use lib.ListN.{length, getD, set, replicate, length-set, length-replicate, getD-replicate}
 use lib.Seq.{getD-set-same, getD-set-other}
-use Rattle.model.specs.History.{checkpoints}
+use Rattle.histories.specs.History.{checkpoints}
 use Rattle.patterns.specs.Paths.{FirstBreaking}
 use Rattle.patterns.specs.Paths as paths
 use Rattle.patterns.proofs.Trail.{Trail, Right}

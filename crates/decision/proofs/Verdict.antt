@@ -11,7 +11,7 @@ use lib.ListN.{getD}
 use borrow.Author.Tests.{eqb-false, ltb-true, ltb-false, lt-ltb, le-ltb, ne-eqb}
 use Rattle.laws.specs.Choice.{pick, by-bool, by-eq}
 use Rattle.laws.specs.Loops.{either}
-use Rattle.model.specs.History.{sent, received, Lists, checkpoints}
+use Rattle.histories.specs.History.{sent, received, Lists, checkpoints}
 use Rattle.patterns.proofs.Placing.{stands-le}
 use Rattle.patterns.specs.Paths.{StandsIn, Path, one, onward, Before, FirstBreaking}
 use Rattle.patterns.specs.Paths as paths

@@ -5,7 +5,7 @@ use mathlib.Core.Path.{_≡_}
 use mathlib.Core.List.{List}
 use Prim.Native.Nat.{ℕ, suc, _-_, _≤_, _<_}
 use lib.ListN.{length, getD}
-use Rattle.model.specs.History.{sent, received, Lists, checkpoints}
+use Rattle.histories.specs.History.{sent, received, Lists, checkpoints}
 use Rattle.patterns.specs.Paths.{StandsIn, FirstBreaking}
 use Rattle.patterns.proofs.Trail.{Trail, Right}
 use Rattle.patterns.specs.declared.Verdict.{Verdict}

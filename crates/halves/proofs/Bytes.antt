@@ -9,8 +9,8 @@ use lib.ListN.{length, getD, length-append}
 use lib.Seq.{sets}
 use Rattle.laws.specs.Written.{sets-after}
 use Rattle.model.specs.Trace.{bytesOf}
-use Rattle.model.specs.Halves.{HalfEvent}
-use Rattle.model.specs.Merge.{plainBytes}
+use Rattle.merges.specs.Halves.{HalfEvent}
+use Rattle.merges.specs.Merge.{plainBytes}
 use Rattle.halves.specs.Log.{wordIn, Logged, bytesUpTo}
 
 pub bytes-none : (out log : List ℕ) → out ≡ sets out 1 (bytesUpTo 0 log)

@@ -15,8 +15,8 @@ use Rattle.laws.specs.Truth.{and-left, and-right}
 use Rattle.model.specs.declared.Fields.{Fields}
 use Rattle.model.specs.declared.Refusal.the-variants.{NeitherReady}
 use Rattle.model.specs.Trace.{fields, ifZero}
-use Rattle.model.specs.Halves.{HalfEvent, checkpointAt, sendTo, messageNumber}
-use Rattle.model.specs.Merge.{stopped, nextIs, neither, nextOfSecond, nextRecord, isReady, halfEventOf, onNext, takeFrom, fieldsIn}
+use Rattle.merges.specs.Halves.{HalfEvent, checkpointAt, sendTo, messageNumber}
+use Rattle.merges.specs.Merge.{stopped, nextIs, neither, nextOfSecond, nextRecord, isReady, halfEventOf, onNext, takeFrom, fieldsIn}
 use Rattle.trace.specs.Answers.{recordAt, fieldsRead}
 use Rattle.halves.specs.declared.record.Judged.{Judged}
 use Rattle.halves.specs.declared.record.Judged.the-variants as judged

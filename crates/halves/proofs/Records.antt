@@ -14,8 +14,8 @@ use Rattle.laws.specs.Loops.{either}
 use Rattle.model.specs.declared.Refusal.the-variants.{NoSuchProcess, SenderIsReceiver, HalvesMismatch, MalformedRecord}
 use Rattle.model.specs.Refusals.{firstOf}
 use Rattle.model.specs.Trace.{ifZero, fieldsOf, fits, wordOf}
-use Rattle.model.specs.Halves.{HalfEvent, checkpointAt, sendTo, messageNumber, receiverOf, plainEvent, happensAt}
-use Rattle.model.specs.Merge.{Taken, stopped, outOfRun, toItself, inHalf, recordRefusal, onRecord}
+use Rattle.merges.specs.Halves.{HalfEvent, checkpointAt, sendTo, messageNumber, receiverOf, plainEvent, happensAt}
+use Rattle.merges.specs.Merge.{Taken, stopped, outOfRun, toItself, inHalf, recordRefusal, onRecord}
 use Rattle.halves.specs.Log.{wordIn}
 use Rattle.halves.specs.Taking.{messageOf}
 

@@ -10,7 +10,7 @@ use lib.ListN.{length, getD}
 use borrow.Author.Tests.{eq-eqb, ne-eqb, le-leb, lt-leb, lt-ltb, le-ltb, leb-true, leb-false, ltb-true, ltb-false}
 use Rattle.laws.specs.Choice.{by-bool}
 use Rattle.model.specs.Refusals.{firstOf}
-use Rattle.model.specs.Merge.{badCount, countOf, behindCount, leftOver, tooMany, mergeRefusal}
+use Rattle.merges.specs.Merge.{badCount, countOf, behindCount, leftOver, tooMany, mergeRefusal}
 use Rattle.halves.specs.Both.{rulesOf}
 
 -- A count outside 1 to 16.

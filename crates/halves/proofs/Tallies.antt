@@ -14,7 +14,7 @@ use Rattle.laws.specs.Loops.{iter, iter-more}
 use Rattle.laws.specs.Truth.{and-left, and-right}
 use Rattle.model.specs.declared.Event.{Event}
 use Rattle.model.specs.Trace.{fieldsOf, fits, wordOf}
-use Rattle.model.specs.Halves.{HalfEvent, checkpointAt, sendTo, deliverOf, loseOf, isSend, sendBy, howMany, isSendNumber, messageNumber, receives, receiverOf, plainEvent}
+use Rattle.merges.specs.Halves.{HalfEvent, checkpointAt, sendTo, deliverOf, loseOf, isSend, sendBy, howMany, isSendNumber, messageNumber, receives, receiverOf, plainEvent}
 use Rattle.halves.specs.declared.log.Tally.{Tally}
 use Rattle.halves.specs.Log.{wordIn, Logged, tallied, noTally, tallyOf}
 

@@ -7,8 +7,8 @@ use native.Mathlib.Omega.{arith}
 use lib.ListN.{length, getD, set}
 use lib.Seq.{getD-set-same, getD-set-other}
 use Rattle.model.specs.declared.Refusal.{Refusal}
-use Rattle.model.specs.Halves.{HalfEvent}
-use Rattle.model.specs.Merge.{stopped, takeFrom}
+use Rattle.merges.specs.Halves.{HalfEvent}
+use Rattle.merges.specs.Merge.{stopped, takeFrom}
 use Rattle.halves.specs.declared.taking.Step.the-variants as step
 use Rattle.plans.specs.declared.Verdict.the-variants as verdict
 use Rattle.halves.specs.Log.{Logged}

@@ -8,8 +8,8 @@ use lib.ListN.{length, set}
 use lib.Seq.{sets}
 use Rattle.model.specs.declared.Refusal.{Refusal}
 use Rattle.model.specs.declared.MergeAnswer.the-variants as merge-answer
-use Rattle.model.specs.Merge.{takeFrom, countOf, behindCount, fieldsIn, mergeRefusal, plainBytes, MergeOutcome, finished, mergeOutcome}
-use Rattle.model.proofs.halves.Replaying.{how-many}
+use Rattle.merges.specs.Merge.{takeFrom, countOf, behindCount, fieldsIn, mergeRefusal, plainBytes, MergeOutcome, finished, mergeOutcome}
+use Rattle.merges.proofs.Replaying.{how-many}
 use Rattle.plans.specs.declared.Verdict.{Verdict}
 use Rattle.plans.specs.declared.Verdict.the-variants as verdict
 use Rattle.plans.specs.Planned.{refusalOf}

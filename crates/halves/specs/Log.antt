@@ -9,7 +9,7 @@ use lib.ListN.{length, getD}
 use Rattle.laws.specs.Choice.{pick}
 use Rattle.laws.specs.Loops.{iter}
 use Rattle.model.specs.Trace.{fieldsOf, fits, wordOf, bytesOf}
-use Rattle.model.specs.Halves.{HalfEvent, plainEvent}
+use Rattle.merges.specs.Halves.{HalfEvent, plainEvent}
 use Rattle.halves.specs.declared.log.Tally.{Tally}
 
 -- The word of record x, taken behind those of l, in the merged trace.

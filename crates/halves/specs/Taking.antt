@@ -10,8 +10,8 @@ use lib.ListN.{length, drop}
 use Rattle.laws.specs.Choice.{pick}
 use Rattle.model.specs.declared.Fields.{Fields}
 use Rattle.model.specs.Trace.{fields, fits}
-use Rattle.model.specs.Halves.{HalfEvent, deliverOf, loseOf, plainEvent}
-use Rattle.model.specs.Merge.{Taken, stopped, took, isReady, onRecord, takeFrom, fieldsIn}
+use Rattle.merges.specs.Halves.{HalfEvent, deliverOf, loseOf, plainEvent}
+use Rattle.merges.specs.Merge.{Taken, stopped, took, isReady, onRecord, takeFrom, fieldsIn}
 use Rattle.plans.specs.declared.Verdict.{Verdict}
 use Rattle.plans.specs.declared.Verdict.the-variants as verdict
 use Rattle.trace.specs.Answers.{recordAt}

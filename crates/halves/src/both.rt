@@ -7,7 +7,7 @@ ghost use Prim.Native.Nat.{ℕ, _+_};
 ghost use lib.Dec.{ltb};
 ghost use lib.ListN.{length};
 ghost use Rattle.model.specs.Refusals.{firstOf};
-ghost use Rattle.model.specs.Merge.{countOf, badCount, leftOver, tooMany, mergeRefusal};
+ghost use Rattle.merges.specs.Merge.{countOf, badCount, leftOver, tooMany, mergeRefusal};
 ghost use Rattle.plans.specs.Planned.{refusalOf};
 ghost use Rattle.halves.specs.Both.{rulesOf};
 

@@ -16,8 +16,8 @@ mod both;
 use model::MergeAnswer;
 use plans::Verdict;
 ghost use mathlib.Core.Path.{_≡_};
-ghost use Rattle.model.specs.Halves.{OrdersAgree};
-ghost use Rattle.model.specs.Merge.{mergeOutcome, MergePromise};
+ghost use Rattle.merges.specs.Halves.{OrdersAgree};
+ghost use Rattle.merges.specs.Merge.{mergeOutcome, MergePromise};
 
 // The merged trace stands at the front of `result`, and the rest of it is as it was; with a refusal all of it is. Bit p of `set` says that process p
 // belongs to the first half. Both halves' orders are kept, a replay of the result is the run of the merged calls, and any other order whose records are

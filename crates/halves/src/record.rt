@@ -8,8 +8,8 @@ ghost use mathlib.Core.Option.{some};
 ghost use Prim.Native.Nat.{ℕ, _/_, _^_, _≤_};
 ghost use lib.ListN.{length};
 ghost use Rattle.model.specs.Trace.{fields, ifZero};
-ghost use Rattle.model.specs.Halves.{HalfEvent, sendTo, checkpointAt};
-ghost use Rattle.model.specs.Merge.{inHalf, halfEventOf};
+ghost use Rattle.merges.specs.Halves.{HalfEvent, sendTo, checkpointAt};
+ghost use Rattle.merges.specs.Merge.{inHalf, halfEventOf};
 ghost use Rattle.halves.specs.Log.{Logged};
 ghost use Rattle.halves.specs.Taking.{Judges, messageOf};
 

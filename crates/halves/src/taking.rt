@@ -11,7 +11,7 @@ ghost use Prim.Native.Nat.{_+_, _*_, _-_, _/_, _%_, _≤_};
 ghost use lib.Dec.{leb};
 ghost use lib.ListN.{length};
 ghost use Rattle.laws.specs.Choice.{pick};
-ghost use Rattle.model.specs.Halves.{HalfEvent, messageNumber};
+ghost use Rattle.merges.specs.Halves.{HalfEvent, messageNumber};
 ghost use Rattle.trace.specs.Answers.{recordAt};
 ghost use Rattle.halves.specs.Log.{Logged};
 ghost use Rattle.halves.specs.Taking.{stepOf, readyAt, Steps, Takes};

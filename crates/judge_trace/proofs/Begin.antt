@@ -9,7 +9,7 @@ use lib.Dec.{eqb}
 use lib.ListN.{length, getD}
 use borrow.Author.Tests.{eq-eqb}
 use Rattle.laws.specs.Choice.{pick}
-use Rattle.model.specs.History.{HistoryEvent, stored, sent, received, checkpoints}
+use Rattle.histories.specs.History.{HistoryEvent, stored, sent, received, checkpoints}
 use Rattle.patterns.specs.Paths.{eventAt, StandsIn}
 use Rattle.patterns.proofs.Facts.{begin}
 use Rattle.decision.specs.Rows.{entryAt}

@@ -16,7 +16,7 @@ use Rattle.laws.specs.Counting.{count-same, count-none}
 use Rattle.laws.specs.Tests.{countBelow}
 use Rattle.laws.specs.Update.{upd, upd-same, upd-other}
 use Rattle.model.specs.declared.Event.the-variants.{Checkpoint, Send, Deliver, Lose}
-use Rattle.model.specs.History.{stored, sent, received, Lists, checkpoints}
+use Rattle.histories.specs.History.{stored, sent, received, Lists, checkpoints}
 use Rattle.model.specs.Survival.{added}
 use Rattle.model.specs.Refusals.{firstOf}
 use Rattle.model.specs.Words.{entry}

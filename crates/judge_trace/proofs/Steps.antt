@@ -10,9 +10,9 @@ use lib.ListN.{length, getD}
 use borrow.Author.Tests.{ltb-true, ltb-false}
 use Rattle.laws.specs.Choice.{by-bool, by-eq}
 use Rattle.laws.specs.Loops.{either}
-use Rattle.model.specs.History.{HistoryEvent, stored, sent, received, Lists, checkpoints}
+use Rattle.histories.specs.History.{HistoryEvent, stored, sent, received, Lists, checkpoints}
 use Rattle.model.specs.Survival.{added}
-use Rattle.model.proofs.ideal.Places.{checkpoints-stored, checkpoints-sent, checkpoints-received}
+use Rattle.histories.proofs.Places.{checkpoints-stored, checkpoints-sent, checkpoints-received}
 use Rattle.patterns.specs.Paths.{interval, StandsIn}
 use Rattle.patterns.proofs.Placing.{place-in}
 use Rattle.patterns.proofs.Adding.{list-same, list-other, event-old, event-new, event-cases, interval-old, interval-new}

@@ -14,7 +14,7 @@ use borrow.Author.Tests.{lt-ltb, le-ltb, le-leb, lt-leb, leb-true, leb-false, eq
 use Rattle.model.specs.declared.Event.{Event}
 use Rattle.model.specs.declared.Refusal.{Refusal}
 use Rattle.model.specs.declared.Refusal.the-variants.{CountOutsideRange, LeftOverBytes, NoFirstByte, TooManyRecords}
-use Rattle.model.specs.History.{Lists}
+use Rattle.histories.specs.History.{Lists}
 use Rattle.model.specs.Words.{ones}
 use Rattle.model.specs.Sound.{isBlockCount}
 use Rattle.model.specs.Refusals.{firstOf, startRefusal}

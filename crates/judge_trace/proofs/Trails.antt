@@ -13,7 +13,7 @@ use Rattle.laws.specs.Choice.{pick, by-bool, by-eq}
 use Rattle.laws.specs.Tables.{getD-table}
 use Rattle.laws.specs.Update.{upd, upd-same, upd-other}
 use Rattle.model.specs.declared.Interval.{Interval}
-use Rattle.model.specs.History.{stored, sent, received, Lists, checkpoints}
+use Rattle.histories.specs.History.{stored, sent, received, Lists, checkpoints}
 use Rattle.model.specs.Survival.{added}
 use Rattle.model.specs.Words.{entry, below}
 use Rattle.model.specs.Steps.{advanced, takenEntry, takenVector}

@@ -7,7 +7,7 @@ use mathlib.Core.Option.{Option, none, some}
 use Prim.Native.Nat.{ℕ, suc, _+_, _*_, _≤_, _<_}
 use lib.ListN.{length, getD, drop}
 use Rattle.model.specs.declared.Event.{Event}
-use Rattle.model.specs.History.{sent, checkpoints}
+use Rattle.histories.specs.History.{sent, checkpoints}
 use Rattle.patterns.specs.Patterns.{Pattern, empty, countUnderWay, recordRefusal, taken, readFrom, refused, whole}
 use Rattle.patterns.specs.Paths.{eventAt}
 use Rattle.patterns.proofs.Trail.{Trail, Right}

@@ -12,12 +12,12 @@ use borrow.Author.Tests.{lt-ltb, le-ltb}
 use Rattle.model.specs.declared.Fields.{Fields}
 use Rattle.model.specs.declared.Refusal.{Refusal}
 use Rattle.model.specs.declared.MergeAnswer.the-variants as merge-answer
-use Rattle.model.specs.Halves.{HalfEvent}
-use Rattle.model.specs.Merge.{halfEventOf, nextRecord, Taken, stopped, took, takeFrom, takeAll, countOf, behindCount, fieldsIn, mergeRefusal, plainBytes, MergeOutcome, finished, mergeOutcome}
+use Rattle.merges.specs.Halves.{HalfEvent}
+use Rattle.merges.specs.Merge.{halfEventOf, nextRecord, Taken, stopped, took, takeFrom, takeAll, countOf, behindCount, fieldsIn, mergeRefusal, plainBytes, MergeOutcome, finished, mergeOutcome}
 use Rattle.model.specs.laws.Refusals.{by-refusal}
 use Rattle.model.specs.Listing.{decimal, digits}
-use Rattle.model.proofs.halves.Keeping.{next-out, record-out}
-use Rattle.model.proofs.halves.Replaying.{plain-length, how-many, fine}
+use Rattle.merges.proofs.Keeping.{next-out, record-out}
+use Rattle.merges.proofs.Replaying.{plain-length, how-many, fine}
 use Rattle.halves.proofs.Rules.{behind-is}
 use Rattle.merge.specs.Printed.{refusedText, refusing, putting, printed}
 use Rattle.merge.proofs.Standing.{long-enough, refused-text}

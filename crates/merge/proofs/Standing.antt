@@ -12,9 +12,9 @@ use lib.Seq.{take-all, length-take-le}
 use borrow.Author.Tests.{eq-eqb, ne-eqb, le-leb, lt-leb, lt-ltb, le-ltb, leb-true, leb-false}
 use Rattle.laws.specs.Choice.{by-bool, by-eq}
 use Rattle.model.specs.declared.Refusal.{Refusal}
-use Rattle.model.specs.Merge.{countOf, behindCount, badCount, leftOver, tooMany, mergeRefusal}
+use Rattle.merges.specs.Merge.{countOf, behindCount, badCount, leftOver, tooMany, mergeRefusal}
 use Rattle.model.specs.laws.Refusals.{by-refusal}
-use Rattle.model.proofs.halves.Replaying.{fine}
+use Rattle.merges.proofs.Replaying.{fine}
 use Rattle.halves.proofs.Rules.{behind-is}
 use Rattle.merge.specs.Held.{heldSize, heldOf}
 use Rattle.merge.specs.Printed.{refusing, printed}

@@ -7,7 +7,7 @@ use Rattle.model.specs.declared.Refusal.{Refusal}
 use Rattle.model.specs.Refusals.{number}
 use Rattle.model.specs.Outcomes.{judged}
 use Rattle.model.specs.Listing.{decimal, space, lineFeed}
-use Rattle.model.specs.Merge.{Taken, stopped, took, takeAll, countOf, mergeRefusal, plainBytes}
+use Rattle.merges.specs.Merge.{Taken, stopped, took, takeAll, countOf, mergeRefusal, plainBytes}
 
 -- `refused`, a space, the number and a line feed.
 unfoldable pub refusedText : ℕ → List ℕ

@@ -10,7 +10,7 @@ use Rattle.laws.specs.Tables.{getD-table}
 use Rattle.laws.specs.Truth.{never-both}
 use Rattle.model.specs.declared.Run.{Run}
 use Rattle.model.specs.Words.{failed}
-use Rattle.model.specs.History.{Lists, Line, checkpoints}
+use Rattle.histories.specs.History.{Lists, Line, checkpoints}
 use Rattle.model.specs.Outcomes.{startOutcome}
 use Rattle.model.specs.Calls.{stateAfter, transcript}
 use Rattle.model.specs.Survival.{Surviving, surviving}
@@ -18,8 +18,8 @@ use Rattle.model.specs.Best.{Best, InBestLine, OneBestLine}
 use Rattle.model.specs.Answers.{RightLine}
 use Rattle.model.specs.WholeRuns.{reported, RightOverWholeRuns}
 use Rattle.model.specs.Clean.{ReportedIsBest}
-use Rattle.model.proofs.ideal.Run.{Ideal, line}
-use Rattle.model.proofs.ideal.Line.{line-at}
+use Rattle.histories.proofs.Run.{Ideal, line}
+use Rattle.histories.proofs.Line.{line-at}
 use Rattle.model.proofs.simulation.Lines.{line-is}
 use Rattle.model.proofs.whole.Reached.{Reached}
 use Rattle.model.proofs.WholeRuns.{right-over-whole-runs, reached-line}

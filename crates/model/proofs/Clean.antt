@@ -15,10 +15,10 @@ use Rattle.model.specs.Calls.{Call, recover, call, stateAfter, transcrip
 use Rattle.model.specs.Survival.{Surviving, beginning, after, survivingFrom, surviving}
 use Rattle.model.specs.WholeRuns.{StatePromise}
 use Rattle.model.specs.Clean.{OnlyNeededKept, CleanAfterRecovery, CleanPromise}
-use Rattle.model.proofs.ideal.Run.{Ideal, begun, recovered}
-use Rattle.model.proofs.ideal.Invariant.{Inv}
-use Rattle.model.proofs.ideal.Rule.{keeps-out}
-use Rattle.model.proofs.ideal.Recovered.{recovered-current}
+use Rattle.histories.proofs.Run.{Ideal, begun, recovered}
+use Rattle.histories.proofs.Invariant.{Inv}
+use Rattle.histories.proofs.Rule.{keeps-out}
+use Rattle.histories.proofs.Recovered.{recovered-current}
 use Rattle.model.proofs.whole.Reached.{Reached, exchange, refusal}
 use Rattle.model.proofs.whole.Runs.{stepped, runAfter}
 use Rattle.model.proofs.WholeRuns.{accepted-reached, reachable-reached, recover-promise}

@@ -2,16 +2,11 @@
 pub mod Best
 pub mod Blocks
 pub mod Clean
-pub mod Exam
-pub mod Merges
-pub mod NothingMore
 pub mod Records
 pub mod Risen
 pub mod Sizes
 pub mod Sweep
 pub mod Traced
 pub mod WholeRuns
-pub mod halves
-pub mod ideal
 pub mod simulation
 pub mod whole

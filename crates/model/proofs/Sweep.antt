@@ -33,12 +33,12 @@ use Rattle.model.specs.Calls.{stateAfter, transcript}
 use Rattle.model.specs.Survival.{Surviving, beginning, survivingFrom}
 use Rattle.model.specs.WholeRuns.{Reachable}
 use Rattle.model.specs.Sweep.{SweepIsQuiet, SweepIsAccepted, SweepLeavesLines}
-use Rattle.model.proofs.ideal.Run as ideal
-use Rattle.model.proofs.ideal.Run.{Ideal, Failed, begun, safe, rolled}
-use Rattle.model.proofs.ideal.Invariant.{Inv}
-use Rattle.model.proofs.ideal.Maximal.{line-by-history}
-use Rattle.model.proofs.ideal.Recovered.{recovered-inv}
-use Rattle.model.proofs.ideal.RecoveredViews.{recovered-n, recovered-events-stays}
+use Rattle.histories.proofs.Run as ideal
+use Rattle.histories.proofs.Run.{Ideal, Failed, begun, safe, rolled}
+use Rattle.histories.proofs.Invariant.{Inv}
+use Rattle.histories.proofs.Maximal.{line-by-history}
+use Rattle.histories.proofs.Recovered.{recovered-inv}
+use Rattle.histories.proofs.RecoveredViews.{recovered-n, recovered-events-stays}
 use Rattle.model.proofs.simulation.Parts.{underWay-put}
 use Rattle.model.proofs.simulation.Accepted.{recover-in}
 use Rattle.model.proofs.simulation.Lines.{line-is}

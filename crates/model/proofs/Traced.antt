@@ -26,7 +26,7 @@ use Rattle.model.specs.Answers.{Reason, lowest, pastBound, reasons}
 use Rattle.model.specs.Trace.{decoded}
 use Rattle.model.specs.Listing.{callOf, perform, mostRecords, stateAfterRecords}
 use Rattle.model.specs.WholeRuns.{Reachable, Traced, TraceMeetsNoBound}
-use Rattle.model.proofs.ideal.Run.{Ideal, begun, openLedger}
+use Rattle.histories.proofs.Run.{Ideal, begun, openLedger}
 use Rattle.model.proofs.simulation.View.{checkpointOf, processOf}
 use Rattle.model.proofs.simulation.Reads.{count-is, process-is}
 use Rattle.model.proofs.simulation.Kept.{kept-every}

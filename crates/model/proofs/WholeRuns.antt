@@ -16,7 +16,7 @@ use Rattle.model.specs.declared.Run.{Run}
 use Rattle.model.specs.declared.StartAnswer.the-variants.{Started}
 use Rattle.model.specs.Steps.{startState}
 use Rattle.model.specs.Sound.{sound}
-use Rattle.model.specs.History.{checkpoints}
+use Rattle.histories.specs.History.{checkpoints}
 use Rattle.model.specs.Refusals.{startRefusal}
 use Rattle.model.specs.Outcomes.{startOutcome, checkpointOutcome, deliverOutcome, recoverOutcome, startReport}
 use Rattle.model.specs.laws.Refusals.{by-refusal}
@@ -24,12 +24,12 @@ use Rattle.model.specs.Calls.{Call, checkpoint, send, deliver, lose, rec
 use Rattle.model.specs.Survival.{Surviving, beginning, after, survivingFrom, surviving}
 use Rattle.model.specs.Answers.{AnswerIsRight, AnswersAreRight}
 use Rattle.model.specs.WholeRuns.{LineIsRight, KeptIsRight, StartsAreRight, RightOverWholeRuns, Reachable, LinePromise, StatePromise, EarliestIsRight, EarliestPromise}
-use Rattle.model.proofs.ideal.Run.{Ideal, begin, openLedger, begun, keeps}
-use Rattle.model.proofs.ideal.Ledger.{ledger-keeps, ledger-inv}
-use Rattle.model.proofs.ideal.Invariant.{Inv}
-use Rattle.model.proofs.ideal.Begin.{begin-inv, begin-n, begin-pin-own, begin-pin-other}
-use Rattle.model.proofs.ideal.Memory.{Memory, begin-memory}
-use Rattle.model.proofs.ideal.Rule.{keeps-in, keeps-out, same-some}
+use Rattle.histories.proofs.Run.{Ideal, begin, openLedger, begun, keeps}
+use Rattle.histories.proofs.Ledger.{ledger-keeps, ledger-inv}
+use Rattle.histories.proofs.Invariant.{Inv}
+use Rattle.histories.proofs.Begin.{begin-inv, begin-n, begin-pin-own, begin-pin-other}
+use Rattle.histories.proofs.Memory.{Memory, begin-memory}
+use Rattle.histories.proofs.Rule.{keeps-in, keeps-out, same-some}
 use Rattle.model.proofs.simulation.View.{stateOf, Limits, processOf}
 use Rattle.model.proofs.simulation.Reads.{count-is, process-is}
 use Rattle.model.proofs.simulation.Accepted.{start-out}

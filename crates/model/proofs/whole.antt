@@ -4,7 +4,6 @@ pub mod Answers
 pub mod Because
 pub mod BlocksRight
 pub mod Earliest
-pub mod Follow
 pub mod Gone
 pub mod LineRight
 pub mod Listed

@@ -15,7 +15,7 @@ use Rattle.laws.specs.Search.{anyBelow}
 use Rattle.laws.specs.Tests.{countBelow, some-of}
 use Rattle.model.specs.declared.Named.{Named}
 use Rattle.model.specs.Words.{inSet, failed}
-use Rattle.model.specs.History.{HistoryEvent, stored, sent, received, Lists, Line, checkpoints, behind, beforeCheckpoint, Consistent}
+use Rattle.histories.specs.History.{HistoryEvent, stored, sent, received, Lists, Line, checkpoints, behind, beforeCheckpoint, Consistent, before, ComesBefore}
 use Rattle.model.specs.Calls.{Call, checkpoint, send, deliver, lose, recover, line, earliest, Exchange}
 use Rattle.model.specs.Earliest.{someAbsent, unfit}
 use Rattle.model.specs.Survival.{Surviving, after, surviving}
@@ -157,20 +157,6 @@ indexesOf n (lose m) list = []
 indexesOf n (recover F deleted lent) list = table n (λ p. getD list p 0)
 indexesOf n (line F lent) list = table n (λ p. getD list p 0)
 indexesOf n (earliest l lent) list = table n (λ p. getD list p 0)
-
--- The part of a list before "sent m".
-unfoldable pub before : ℕ → List HistoryEvent → List HistoryEvent
-before m [] = []
-before m (stored ∷ l) = stored ∷ before m l
-before m (received k ∷ l) = received k ∷ before m l
-before m (sent k ∷ l) = pick (eqb k m) [] (sent k ∷ before m l)
-
--- Checkpoint a of f comes causally before a place in p's list, by the messages alone; `past` is the part of the list before that place.
--- p is f and has checkpoint a there; or p received there a message m, sent by q, and checkpoint a comes before the sending of m.
-pub data ComesBefore (lists : Lists) (f a : ℕ) : ℕ → List HistoryEvent → Type 0 where
-  within : {p : ℕ} {past : List HistoryEvent} → p ≡ f → a < checkpoints past → ComesBefore lists f a p past
-  message : {p : ℕ} {past : List HistoryEvent} (q m : ℕ) → List·Memᴰ (sent m) (lists q) → ComesBefore lists f a q (before m (lists q)) → List·Memᴰ (received m) past
-      → ComesBefore lists f a p past
 
 -- "If the sent mark is set": a send stands behind the last checkpoint of p's list.
 unfoldable pub SentSince : Surviving → ℕ → Type 0

@@ -5,7 +5,7 @@ use mathlib.Core.Path.{_≡_}
 use mathlib.Core.Bool.{true}
 use Prim.Native.Nat.{ℕ, _<_, _≤_}
 use Rattle.model.specs.Words.{failed}
-use Rattle.model.specs.History.{Lists, Line, checkpoints, Consistent}
+use Rattle.histories.specs.History.{Lists, Line, checkpoints, Consistent}
 
 -- A possible line for a failed set: "A line names one state of each process: a checkpoint stored in its surviving history, deleted or not, or its live state."
 -- It is a "consistent line with the failed processes at stored checkpoints".

@@ -6,7 +6,7 @@ use mathlib.Core.List.{List, [], _∷_, _++_}
 use mathlib.Core.Option.{none}
 use Prim.Native.Nat.{ℕ, _^_, _<_, _≤_}
 use Rattle.model.specs.declared.Run.{Run}
-use Rattle.model.specs.History.{Lists}
+use Rattle.histories.specs.History.{Lists}
 use Rattle.model.specs.Refusals.{startRefusal, recoverRefusal}
 use Rattle.model.specs.Outcomes.{startOutcome}
 use Rattle.model.specs.Calls.{Call, recover, stateAfter, transcript}

@@ -3,9 +3,8 @@
 -- Assumes nothing.
 use mathlib.Core.Logic.{_⊎_}
 use Prim.Native.Nat.{ℕ, _-_, _<_}
-use Rattle.model.specs.History.{Lists, checkpoints, beforeCheckpoint}
+use Rattle.histories.specs.History.{Lists, checkpoints, beforeCheckpoint, ComesBefore}
 use Rattle.model.specs.Survival.{Surviving}
-use Rattle.model.specs.Answers.{ComesBefore}
 
 -- The live state of p knows more of f than p knew at checkpoint k: some checkpoint of f comes causally before the one and not before the other.
 unfoldable pub KnewLess : Lists → ℕ → ℕ → ℕ → Type 0

@@ -11,7 +11,7 @@ use Rattle.laws.specs.Search.{anyBelow}
 use Rattle.laws.specs.Sums.{sumBelow}
 use Rattle.laws.specs.Update.{upd}
 use Rattle.model.specs.Words.{initial, basic, forced}
-use Rattle.model.specs.History.{HistoryEvent, stored, sent, received, Lists, checkpoints, upTo}
+use Rattle.histories.specs.History.{HistoryEvent, stored, sent, received, Lists, checkpoints, upTo, stillSent}
 use Rattle.model.specs.Calls.{Call, checkpoint, send, deliver, lose, recover, line, earliest, Reply, Exchange}
 
 -- The surviving history: the lists, and what they were right after the last accepted recover, or the start; how many sends were accepted; the receiver that each send named; which messages are under way: sent by an accepted
@@ -100,16 +100,6 @@ receiverAfter h (lose m) = h .receiver
 receiverAfter h (recover F deleted lent) = h .receiver
 receiverAfter h (line F lent) = h .receiver
 receiverAfter h (earliest l lent) = h .receiver
-
--- "sent m" stands in a list; it does in one of the lists of the n processes.
-unfoldable pub isSent : ℕ → List HistoryEvent → Bool
-isSent m [] = false
-isSent m (stored ∷ l) = isSent m l
-isSent m (sent k ∷ l) = eqb k m || isSent m l
-isSent m (received k ∷ l) = isSent m l
-
-unfoldable pub stillSent : ℕ → Lists → ℕ → Bool
-stillSent n lists m = anyBelow n (λ p. isSent m (lists p))
 
 -- Which messages are under way; `lists` are the lists after the call. "Deliver: The message is no longer under way." "Lose: The message is no longer under way."
 -- Note 2: "a recovery loses a message exactly if its sender's entry in the carried vector is above the sender's index in the line": by the lists, exactly if

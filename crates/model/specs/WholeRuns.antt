@@ -19,7 +19,7 @@ use Rattle.model.specs.declared.Refusal.the-variants.{ListTooShort, Caus
 use Rattle.model.specs.declared.StartAnswer.the-variants.{Started}
 use Rattle.model.specs.Words.{ones, lastStored, comesBefore, names, process, keepsIn, own, failed}
 use Rattle.model.specs.Steps.{startState, allowed, lineOf}
-use Rattle.model.specs.History.{Line, checkpoints}
+use Rattle.histories.specs.History.{Line, checkpoints}
 use Rattle.model.specs.Sound.{sound}
 use Rattle.model.specs.Refusals.{startRefusal, lineRefusal, recoverRefusal}
 use Rattle.model.specs.Outcomes.{startOutcome, lineOutcome, recoverOutcome, startReport}

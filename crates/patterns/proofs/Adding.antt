@@ -9,7 +9,7 @@ use native.Mathlib.Omega.{arith}
 use lib.ListN.{length}
 use Rattle.laws.specs.Choice.{by-eq}
 use Rattle.laws.specs.Update.{upd-same, upd-other}
-use Rattle.model.specs.History.{HistoryEvent, stored, sent, received, Lists, checkpoints}
+use Rattle.histories.specs.History.{HistoryEvent, stored, sent, received, Lists, checkpoints}
 use Rattle.model.specs.Survival.{added}
 use Rattle.patterns.specs.Paths.{eventAt, interval, placeOf}
 

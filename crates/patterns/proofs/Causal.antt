@@ -9,7 +9,7 @@ use lib.ListN.{length}
 use lib.Dec.{ltb}
 use borrow.Author.Tests.{ltb-true, ltb-false}
 use Rattle.laws.specs.Choice.{by-bool, by-eq}
-use Rattle.model.specs.History.{HistoryEvent, stored, sent, received, Lists, checkpoints}
+use Rattle.histories.specs.History.{HistoryEvent, stored, sent, received, Lists, checkpoints}
 use Rattle.patterns.specs.Paths.{eventAt, interval, placeOf, Precedes, next, message, through, Before}
 use Rattle.patterns.proofs.Core.{Vectors, higher}
 use Rattle.patterns.proofs.Placing.{stands-at, interval-before, interval-behind, place-stored, place-le, place-end, place-rises, place-in, end-empty, along}

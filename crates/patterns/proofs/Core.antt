@@ -9,7 +9,7 @@ use native.Mathlib.Omega.{arith}
 use lib.Dec.{ltb}
 use borrow.Author.Tests.{ltb-true, ltb-false}
 use Rattle.laws.specs.Choice.{by-bool, by-eq}
-use Rattle.model.specs.History.{sent, received, Lists, checkpoints}
+use Rattle.histories.specs.History.{sent, received, Lists, checkpoints}
 use Rattle.patterns.specs.Paths.{StandsIn, Path, one, onward}
 use Rattle.patterns.proofs.Placing.{stands-le}
 

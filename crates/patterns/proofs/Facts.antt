@@ -8,7 +8,7 @@ use native.Mathlib.Omega.{arith}
 use lib.Dec.{eqb}
 use borrow.Author.Tests.{eq-eqb, ne-eqb}
 use Rattle.laws.specs.Choice.{pick, by-eq}
-use Rattle.model.specs.History.{HistoryEvent, stored, sent, received, checkpoints}
+use Rattle.histories.specs.History.{HistoryEvent, stored, sent, received, checkpoints}
 use Rattle.patterns.specs.Paths.{eventAt, interval, Path, one, onward}
 use Rattle.patterns.proofs.Core.{Vectors}
 use Rattle.patterns.proofs.Causal.{Sources}

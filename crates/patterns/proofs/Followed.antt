@@ -13,7 +13,7 @@ use Rattle.laws.specs.Update.{upd, upd-same, upd-other}
 use Rattle.model.specs.declared.Event.{Event}
 use Rattle.model.specs.declared.Event.the-variants.{Checkpoint, Send, Deliver, Lose, Recover}
 use Rattle.model.specs.declared.Refusal.{Refusal}
-use Rattle.model.specs.History.{HistoryEvent, stored, sent, received, Lists}
+use Rattle.histories.specs.History.{HistoryEvent, stored, sent, received, Lists}
 use Rattle.model.specs.Survival.{added}
 use Rattle.model.specs.Refusals.{firstOf}
 use Rattle.model.specs.Outcomes.{judged}

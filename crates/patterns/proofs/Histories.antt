@@ -12,16 +12,16 @@ use Rattle.model.specs.declared.Checkpoint.{Checkpoint}
 use Rattle.model.specs.declared.Interval.{Interval}
 use Rattle.model.specs.declared.Run.{Run}
 use Rattle.model.specs.Words.{places, entry, comesBefore, process}
-use Rattle.model.specs.History.{Lists, checkpoints}
+use Rattle.histories.specs.History.{Lists, checkpoints}
 use Rattle.model.specs.Outcomes.{startOutcome}
 use Rattle.model.specs.Calls.{stateAfter, transcript}
 use Rattle.model.specs.Survival.{Surviving, surviving}
-use Rattle.model.proofs.ideal.Invariant.{Inv}
+use Rattle.histories.proofs.Invariant.{Inv}
 use Rattle.model.proofs.simulation.View.{passing, checkpointOf, keptOf, processOf, stateOf}
 use Rattle.model.proofs.simulation.Reads.{entry-is, process-is}
 use Rattle.model.proofs.whole.Reached.{Reached}
-use Rattle.model.proofs.ideal.Run.{Ideal, begun, keeps}
-use Rattle.model.proofs.ideal.Sources.{Sources}
+use Rattle.histories.proofs.Run.{Ideal, begun, keeps}
+use Rattle.histories.proofs.Sources.{Sources}
 use Rattle.model.proofs.whole.Runs.{runAfter}
 use Rattle.model.proofs.WholeRuns.{reachable-reached}
 use Rattle.patterns.specs.Paths.{Before, Trackable}

@@ -9,7 +9,7 @@ use lib.Dec.{ltb}
 use borrow.Author.Tests.{ltb-true, ltb-false}
 use Rattle.laws.specs.Choice.{by-bool, by-eq}
 use Rattle.model.specs.declared.Refusal.{Refusal}
-use Rattle.model.specs.History.{Lists}
+use Rattle.histories.specs.History.{Lists}
 use Rattle.patterns.specs.declared.Verdict.{Verdict}
 use Rattle.patterns.specs.declared.Verdict.the-variants.{Refused, Trackable, Breaks}
 use Rattle.patterns.specs.Patterns.{Pattern, refused, whole, reading}

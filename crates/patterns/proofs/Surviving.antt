@@ -10,14 +10,13 @@ use native.Mathlib.Omega.{arith}
 use lib.Dec.{eqb, ltb}
 use borrow.Author.Tests.{lt-ltb, le-ltb, ltb-true, ltb-false, eq-eqb, ne-eqb}
 use Rattle.laws.specs.Choice.{pick, by-bool, by-eq}
-use Rattle.model.specs.History.{HistoryEvent, stored, sent, received, checkpoints}
-use Rattle.model.specs.Answers.{before}
-use Rattle.model.proofs.ideal.Places.{Stands, first, later, weight, stands-cons, stands-nil}
-use Rattle.model.proofs.ideal.Run.{Ideal}
-use Rattle.model.proofs.ideal.Invariant.{Inv}
-use Rattle.model.proofs.ideal.Line.{rising}
-use Rattle.model.proofs.ideal.Cuts.{stands-member}
-use Rattle.model.proofs.ideal.Sources.{Sources}
+use Rattle.histories.specs.History.{HistoryEvent, stored, sent, received, checkpoints, before}
+use Rattle.histories.proofs.Places.{Stands, first, later, weight, stands-cons, stands-nil}
+use Rattle.histories.proofs.Run.{Ideal}
+use Rattle.histories.proofs.Invariant.{Inv}
+use Rattle.histories.proofs.Line.{rising}
+use Rattle.histories.proofs.Cuts.{stands-member}
+use Rattle.histories.proofs.Sources.{Sources}
 use Rattle.patterns.specs.Paths.{eventAt, interval, StandsIn, placeOf, Before, Trackable}
 use Rattle.patterns.proofs.Core.{Crossing}
 use Rattle.patterns.proofs.Causal.{by-entry, entry-by}

@@ -11,9 +11,9 @@ use lib.ListN.{length, length-append}
 use borrow.Author.Tests.{ltb-true, ltb-false}
 use Rattle.laws.specs.Choice.{by-bool, by-eq}
 use Rattle.laws.specs.Update.{upd, upd-same, upd-other}
-use Rattle.model.specs.History.{HistoryEvent, stored, sent, received, Lists, checkpoints}
+use Rattle.histories.specs.History.{HistoryEvent, stored, sent, received, Lists, checkpoints}
 use Rattle.model.specs.Survival.{added}
-use Rattle.model.proofs.ideal.Places.{checkpoints-stored, checkpoints-sent, checkpoints-received}
+use Rattle.histories.proofs.Places.{checkpoints-stored, checkpoints-sent, checkpoints-received}
 use Rattle.patterns.specs.Paths.{eventAt, interval, placeOf}
 use Rattle.patterns.proofs.Placing.{stands-at, stands-le, place-le, place-end, place-rises, place-in}
 use Rattle.patterns.proofs.Adding.{list-same, list-other, event-old, event-new, event-cases, place-old, interval-old, interval-new}

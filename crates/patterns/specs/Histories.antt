@@ -7,7 +7,7 @@ use Prim.Native.Nat.{ℕ, _≤_, _<_}
 use Rattle.model.specs.declared.Checkpoint.{Checkpoint}
 use Rattle.model.specs.declared.Run.{Run}
 use Rattle.model.specs.Words.{entry, process}
-use Rattle.model.specs.History.{Lists, checkpoints}
+use Rattle.histories.specs.History.{Lists, checkpoints}
 use Rattle.model.specs.Refusals.{startRefusal}
 use Rattle.model.specs.Outcomes.{startOutcome}
 use Rattle.model.specs.Calls.{Call, stateAfter, transcript}

@@ -6,7 +6,7 @@ use mathlib.Core.Option.{Option, none, some}
 use mathlib.Core.Path.{_≡_}
 use Prim.Native.Nat.{ℕ, zero, suc, _≤_, _<_}
 use lib.ListN.{length}
-use Rattle.model.specs.History.{HistoryEvent, stored, sent, received, Lists, checkpoints}
+use Rattle.histories.specs.History.{HistoryEvent, stored, sent, received, Lists, checkpoints}
 
 -- The event at a place of a list, places counted from 0.
 unfoldable pub eventAt : List HistoryEvent → ℕ → Option HistoryEvent

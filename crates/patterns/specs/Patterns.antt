@@ -15,7 +15,7 @@ use Rattle.model.specs.declared.Event.the-variants.{Checkpoint, Send, Deliver, 
 use Rattle.model.specs.declared.Refusal.{Refusal}
 use Rattle.model.specs.declared.Refusal.the-variants.{NoSuchProcess, SenderIsReceiver, NotUnderWay, TooManyUnderWay, MessageNumbersUsed, IntervalsUsed, NoFirstByte, LeftOverBytes, MalformedRecord, TooManyRecords}
 use Rattle.model.specs.Words.{mostUnderWay, mostMessages, mostInterval, ones}
-use Rattle.model.specs.History.{stored, sent, received, Lists, checkpoints}
+use Rattle.histories.specs.History.{stored, sent, received, Lists, checkpoints}
 use Rattle.model.specs.Refusals.{firstOf, startRefusal}
 use Rattle.model.specs.Outcomes.{judged}
 use Rattle.model.specs.Survival.{added}

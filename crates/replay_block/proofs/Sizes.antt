@@ -27,7 +27,7 @@ use Rattle.model.specs.Sound.{sound}
 use Rattle.model.specs.WholeRuns.{Traced}
 use Rattle.model.proofs.WholeRuns.{reachable-reached, reachable-sound}
 use Rattle.model.proofs.Traced.{traced-reachable}
-use Rattle.model.proofs.ideal.Run.{Ideal, begun}
+use Rattle.histories.proofs.Run.{Ideal, begun}
 use Rattle.model.proofs.whole.Runs.{runAfter}
 use Rattle.model.proofs.simulation.View.{vectorOf, pinsOf, checkpointOf, processOf, messageOf, messagesOf, diskOf, partsOf, stateOf, Limits}
 use Rattle.model.proofs.simulation.Kept.{kept-most, kept-every}

@@ -24,7 +24,7 @@ use Rattle.model.specs.Calls.{answered, call}
 use Rattle.model.specs.Listing.{callOf, perform}
 use Rattle.model.specs.WholeRuns.{Reachable, LinePromise}
 use Rattle.model.specs.laws.Sound.{sound-state}
-use Rattle.model.proofs.ideal.Run.{begun}
+use Rattle.histories.proofs.Run.{begun}
 use Rattle.model.proofs.whole.Runs.{runAfter}
 use Rattle.model.proofs.WholeRuns.{reachable-reached, line-promise}
 use Rattle.model.proofs.simulation.Accepted.{start-out}

@@ -8,10 +8,10 @@ use native.Mathlib.Omega.{arith}
 use lib.ListN.{getD, length-set}
 use denote.Ref.{now}
 use borrow.Author.Needs.{needs}
-use Rattle.model.specs.Halves.{OrdersAgree}
-use Rattle.model.specs.Merge.{mergeRefusal, MergePromise}
-use Rattle.model.proofs.halves.Orders.{orders-agree}
-use Rattle.model.proofs.halves.Replaying.{Fine, fine, merge-promise}
+use Rattle.merges.specs.Halves.{OrdersAgree}
+use Rattle.merges.specs.Merge.{mergeRefusal, MergePromise}
+use Rattle.merges.proofs.Orders.{orders-agree}
+use Rattle.merges.proofs.Replaying.{Fine, fine, merge-promise}
 use Rattle.halves.proofs.Rules.{behind-is, count-is}
 use Rattle.halves.proofs.Whole.{refused-early, refused-late, merged, accepted, refused}
 use Rattle.halves.proofs.merge.Statement.{statement}

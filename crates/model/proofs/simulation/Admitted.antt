@@ -11,9 +11,9 @@ use Rattle.model.specs.declared.Message.{Message}
 use Rattle.model.specs.Words.{mostUnderWay, mostMessages, mostInterval, mostBlocks, own}
 use Rattle.model.specs.Steps.{found}
 use Rattle.model.specs.Refusals.{checkpointRefusal, sendRefusal, deliverRefusal, loseRefusal}
-use Rattle.model.proofs.ideal.Run.{Ideal, forces}
-use Rattle.model.proofs.ideal.Invariant.{Inv}
-use Rattle.model.proofs.ideal.Messages.{underway-proper}
+use Rattle.histories.proofs.Run.{Ideal, forces}
+use Rattle.histories.proofs.Invariant.{Inv}
+use Rattle.histories.proofs.Messages.{underway-proper}
 use Rattle.model.proofs.simulation.View.{messageOf, messagesOf, stateOf, Limits}
 use Rattle.model.proofs.simulation.Reads.{count-is, last-is, underway-is, own-is}
 use Rattle.model.proofs.simulation.Messages.{used-number, found-is}

@@ -16,10 +16,10 @@ use Rattle.laws.specs.Truth.{and-left}
 use Rattle.model.specs.declared.Checkpoint.{Checkpoint}
 use Rattle.model.specs.Words.{blocksOf, noCheckpoint, blockCount}
 use Rattle.model.specs.Steps.{billed}
-use Rattle.model.proofs.ideal.Run.{Ideal, keeps}
-use Rattle.model.proofs.ideal.Invariant.{Inv}
-use Rattle.model.proofs.ideal.Keeping.{Moved}
-use Rattle.model.proofs.ideal.Counted.{keptIn, goneIn, newIn, Paid, gone-one, deleted-on}
+use Rattle.histories.proofs.Run.{Ideal, keeps}
+use Rattle.histories.proofs.Invariant.{Inv}
+use Rattle.histories.proofs.Keeping.{Moved}
+use Rattle.histories.proofs.Counted.{keptIn, goneIn, newIn, Paid, gone-one, deleted-on}
 use Rattle.model.proofs.simulation.View.{passing, checkpointOf, keptOf, processOf, diskOf}
 use Rattle.model.proofs.simulation.Kept.{kept-every, kept-least}
 

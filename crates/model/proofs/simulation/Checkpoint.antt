@@ -19,12 +19,12 @@ use Rattle.model.specs.declared.Pin.the-variants.{Nothing, At}
 use Rattle.model.specs.Words.{basic, places, entry, liveIndex, named, Process, live, blocksOf, blockCount, process}
 use Rattle.model.specs.Steps as steps
 use Rattle.model.specs.Steps.{settled, listed, gone, deletions, billed, checkpointState, checkpointDeletions}
-use Rattle.model.proofs.ideal.Run.{Ideal, keeps, stores, checkpointed}
-use Rattle.model.proofs.ideal.Invariant.{Inv}
-use Rattle.model.proofs.ideal.Keeping.{checkpointed-moved}
-use Rattle.model.proofs.ideal.Checkpointed.{checkpointed-inv}
-use Rattle.model.proofs.ideal.Counted.{keptIn, checkpointed-new, checkpointed-paid}
-use Rattle.model.proofs.ideal.CheckpointedViews.{checkpointed-n, checkpointed-own, checkpointed-own-other, checkpointed-vector, checkpointed-mark, checkpointed-mark-other, checkpointed-pin, checkpointed-pin-row, checkpointed-pin-column, checkpointed-keeps-old, checkpointed-keeps-new, checkpointed-last}
+use Rattle.histories.proofs.Run.{Ideal, keeps, stores, checkpointed}
+use Rattle.histories.proofs.Invariant.{Inv}
+use Rattle.histories.proofs.Keeping.{checkpointed-moved}
+use Rattle.histories.proofs.Checkpointed.{checkpointed-inv}
+use Rattle.histories.proofs.Counted.{keptIn, checkpointed-new, checkpointed-paid}
+use Rattle.histories.proofs.CheckpointedViews.{checkpointed-n, checkpointed-own, checkpointed-own-other, checkpointed-vector, checkpointed-mark, checkpointed-mark-other, checkpointed-pin, checkpointed-pin-row, checkpointed-pin-column, checkpointed-keeps-old, checkpointed-keeps-new, checkpointed-last}
 use Rattle.model.proofs.simulation.View.{passing, vectorOf, pinOf, pinsOf, checkpointOf, keptOf, processOf, messageOf, messagesOf, diskOf, stateOf}
 use Rattle.model.proofs.simulation.Passing.{passing-same, passing-yes, passing-no}
 use Rattle.model.proofs.simulation.Reads.{entry-is, vector-same, disk-is, process-is, live-is}

@@ -9,15 +9,15 @@ use Rattle.model.specs.declared.Disk.{Disk}
 use Rattle.model.specs.Words.{forced, places, live, blocksOf, blockCount, process}
 use Rattle.model.specs.Steps as steps
 use Rattle.model.specs.Steps.{settled, listed, gone, deletions, billed, deliverState, deliverDeletions, others}
-use Rattle.model.proofs.ideal.Run.{Ideal, Ledger, keeps, checkpointed, takenBy, takenIn, forces, delivered, lost}
-use Rattle.model.proofs.ideal.Invariant.{Inv}
-use Rattle.model.proofs.ideal.Keeping.{delivered-moved}
-use Rattle.model.proofs.ideal.Delivered.{delivered-inv}
-use Rattle.model.proofs.ideal.Counted.{keptIn, newIn, delivered-new-forced, delivered-new-plain, delivered-paid}
-use Rattle.model.proofs.ideal.Rule.{keeps-in}
-use Rattle.model.proofs.ideal.CheckpointedViews.{checkpointed-n, checkpointed-own, checkpointed-own-other, checkpointed-vector, checkpointed-mark, checkpointed-mark-other, checkpointed-pin, checkpointed-pin-row, checkpointed-last}
-use Rattle.model.proofs.ideal.TakenInViews.{takenIn-n, takenIn-own, takenIn-vector, takenIn-mark, takenIn-pin-other, takenIn-last}
-use Rattle.model.proofs.ideal.Run as ideal
+use Rattle.histories.proofs.Run.{Ideal, Ledger, keeps, checkpointed, takenBy, takenIn, forces, delivered, lost}
+use Rattle.histories.proofs.Invariant.{Inv}
+use Rattle.histories.proofs.Keeping.{delivered-moved}
+use Rattle.histories.proofs.Delivered.{delivered-inv}
+use Rattle.histories.proofs.Counted.{keptIn, newIn, delivered-new-forced, delivered-new-plain, delivered-paid}
+use Rattle.histories.proofs.Rule.{keeps-in}
+use Rattle.histories.proofs.CheckpointedViews.{checkpointed-n, checkpointed-own, checkpointed-own-other, checkpointed-vector, checkpointed-mark, checkpointed-mark-other, checkpointed-pin, checkpointed-pin-row, checkpointed-last}
+use Rattle.histories.proofs.TakenInViews.{takenIn-n, takenIn-own, takenIn-vector, takenIn-mark, takenIn-pin-other, takenIn-last}
+use Rattle.histories.proofs.Run as ideal
 use Rattle.model.proofs.simulation.View.{passing, vectorOf, checkpointOf, keptOf, processOf, messageOf, messagesOf, diskOf, stateOf}
 use Rattle.model.proofs.simulation.Reads.{last-is, disk-is, process-is}
 use Rattle.model.proofs.simulation.Rows.{keeps-same, process-same, standing}

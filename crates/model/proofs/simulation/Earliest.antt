@@ -20,13 +20,13 @@ use Rattle.model.specs.declared.Checkpoint.{Checkpoint}
 use Rattle.model.specs.declared.Named.{Named}
 use Rattle.model.specs.declared.Run.{Run}
 use Rattle.model.specs.Words.{places, entry, comesBefore, noCheckpoint, Process, process, keepsIn}
-use Rattle.model.specs.History.{Line}
+use Rattle.histories.specs.History.{Line}
 use Rattle.model.specs.laws.Refusals.{no-rule}
 use Rattle.model.specs.Earliest.{isNamed, namedVector, greatest, someAbsent, repeats, unfit, notKept, someOrdered, earliestRefusal}
-use Rattle.model.proofs.ideal.Run.{Ideal, keeps}
-use Rattle.model.proofs.ideal.Invariant.{Inv}
-use Rattle.model.proofs.ideal.Line.{keeps-below}
-use Rattle.model.proofs.ideal.Earliest.{Topped}
+use Rattle.histories.proofs.Run.{Ideal, keeps}
+use Rattle.histories.proofs.Invariant.{Inv}
+use Rattle.histories.proofs.Line.{keeps-below}
+use Rattle.histories.proofs.Earliest.{Topped}
 use Rattle.model.proofs.simulation.View.{vectorOf, checkpointOf, keptOf, processOf, stateOf}
 use Rattle.model.proofs.simulation.Passing.{select-passing, last-passing}
 use Rattle.model.proofs.simulation.Reads.{entry-is, count-is, process-is}

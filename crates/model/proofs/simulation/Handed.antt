@@ -24,10 +24,10 @@ use Rattle.model.specs.Steps.{Deletion, listed, checkpointDeletions, del
 use Rattle.model.specs.Outcomes.{pairs, written}
 use Rattle.model.specs.Calls.{Reply}
 use Rattle.model.specs.Survival.{handedOut}
-use Rattle.model.proofs.ideal.Run.{Ideal, keeps, checkpointed, delivered, recovered}
-use Rattle.model.proofs.ideal.Invariant.{Inv}
-use Rattle.model.proofs.ideal.Line.{keeps-below}
-use Rattle.model.proofs.ideal.Counted.{goneIn, gone-one}
+use Rattle.histories.proofs.Run.{Ideal, keeps, checkpointed, delivered, recovered}
+use Rattle.histories.proofs.Invariant.{Inv}
+use Rattle.histories.proofs.Line.{keeps-below}
+use Rattle.histories.proofs.Counted.{goneIn, gone-one}
 use Rattle.model.proofs.simulation.View.{passing, checkpointOf, keptOf, messageOf, stateOf}
 use Rattle.model.proofs.simulation.Passing.{some-passing, length-passing}
 use Rattle.model.proofs.simulation.Kept.{kept-most}

@@ -18,9 +18,9 @@ use Rattle.laws.specs.Counting.{count-any, count-some}
 use Rattle.model.specs.declared.Checkpoint.{Checkpoint}
 use Rattle.model.specs.Words.{places, names, named}
 use Rattle.model.specs.Sound.{ascending}
-use Rattle.model.proofs.ideal.Run.{Ideal, keeps, names as namesIn}
-use Rattle.model.proofs.ideal.Invariant.{Inv}
-use Rattle.model.proofs.ideal.Line.{keeps-below, last-kept}
+use Rattle.histories.proofs.Run.{Ideal, keeps, names as namesIn}
+use Rattle.histories.proofs.Invariant.{Inv}
+use Rattle.histories.proofs.Line.{keeps-below, last-kept}
 use Rattle.model.proofs.simulation.View.{passing, pinsOf, checkpointOf, keptOf}
 use Rattle.model.proofs.simulation.Passing.{passing-yes, some-passing, length-passing, map-passing}
 use Rattle.model.proofs.simulation.Rows.{named-is}

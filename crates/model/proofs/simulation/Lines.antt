@@ -14,9 +14,9 @@ use Rattle.laws.specs.Tables.{table-same}
 use Rattle.model.specs.Words.{places, entry, below, process, own, failed}
 use Rattle.model.specs.Steps as steps
 use Rattle.model.specs.Steps.{allowed, states, latestAllowed, lineOf, rolledBack}
-use Rattle.model.proofs.ideal.Run.{Ideal, safe, member, line, rolled}
-use Rattle.model.proofs.ideal.Invariant.{Inv}
-use Rattle.model.proofs.ideal.Line.{line-found, line-back, line-live}
+use Rattle.histories.proofs.Run.{Ideal, safe, member, line, rolled}
+use Rattle.histories.proofs.Invariant.{Inv}
+use Rattle.histories.proofs.Line.{line-found, line-back, line-live}
 use Rattle.model.proofs.simulation.View.{passing, checkpointOf, processOf, stateOf}
 use Rattle.model.proofs.simulation.Passing.{passing-same, select-passing, last-passing}
 use Rattle.model.proofs.simulation.Reads.{entry-is, count-is, process-is, own-is}

@@ -16,10 +16,10 @@ use Rattle.laws.specs.Update.{upd-same, upd-other, upds}
 use Rattle.model.specs.declared.Message.{Message}
 use Rattle.model.specs.Words.{places}
 use Rattle.model.specs.Steps.{sentMessage, marked, sendState, found, others, loseState}
-use Rattle.model.proofs.ideal.Run.{Ideal, keeps, sending, lost}
-use Rattle.model.proofs.ideal.Invariant.{Inv}
-use Rattle.model.proofs.ideal.Counted.{keptIn}
-use Rattle.model.proofs.ideal.Lost.{lost-n, lost-own, lost-vector, lost-mark, lost-pin, lost-last}
+use Rattle.histories.proofs.Run.{Ideal, keeps, sending, lost}
+use Rattle.histories.proofs.Invariant.{Inv}
+use Rattle.histories.proofs.Counted.{keptIn}
+use Rattle.histories.proofs.Lost.{lost-n, lost-own, lost-vector, lost-mark, lost-pin, lost-last}
 use Rattle.model.proofs.simulation.View.{passing, pinsOf, checkpointOf, keptOf, processOf, messageOf, messagesOf, diskOf, stateOf}
 use Rattle.model.proofs.simulation.Passing.{passing-same, passing-yes, select-passing, last-passing}
 use Rattle.model.proofs.simulation.Reads.{last-is, underWay-is, process-is}

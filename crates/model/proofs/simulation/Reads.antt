@@ -11,7 +11,7 @@ use Rattle.laws.specs.Tables.{getD-table, getD-table-past, table-same}
 use Rattle.model.specs.declared.Pin.the-variants.{Nothing}
 use Rattle.model.specs.Words.{places, entry, live, zeroVector, blank, process, own, underWay, withMessages, withDisk}
 use Rattle.model.specs.Steps.{withProcesses}
-use Rattle.model.proofs.ideal.Run.{Ideal}
+use Rattle.histories.proofs.Run.{Ideal}
 use Rattle.model.proofs.simulation.View.{vectorOf, pinOf, pinsOf, checkpointOf, processOf, messagesOf, diskOf, partsOf, stateOf}
 use Rattle.model.proofs.simulation.Parts.{unused, underWay-put, count-all, room-blank, process-all, process-above, process-blank}
 

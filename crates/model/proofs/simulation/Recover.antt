@@ -20,13 +20,13 @@ use Rattle.model.specs.declared.Disk.{Disk}
 use Rattle.model.specs.Words.{places, entry, below, named, blocksOf, process, withMessages, withDisk, failed}
 use Rattle.model.specs.Steps as steps
 use Rattle.model.specs.Steps.{listed, billed, goneAt, withProcesses, latestPin, movedPin, pinsAfter, notLost, rolledBack, lostBy, stillUnderWay, recoverState, deletedAt, recoverDeletions}
-use Rattle.model.proofs.ideal.Run.{Ideal, Failed, keeps, line, rolled, ownAfter, vectorAfter, pinAfter, outlives, recovered}
-use Rattle.model.proofs.ideal.Invariant.{Inv}
-use Rattle.model.proofs.ideal.Keeping.{recovered-moved}
-use Rattle.model.proofs.ideal.Recovered.{recovered-inv}
-use Rattle.model.proofs.ideal.Counted.{keptIn, recovered-new, recovered-paid}
-use Rattle.model.proofs.ideal.Messages.{underway-proper}
-use Rattle.model.proofs.ideal.Rule.{keeps-in, keeps-out}
+use Rattle.histories.proofs.Run.{Ideal, Failed, keeps, line, rolled, ownAfter, vectorAfter, pinAfter, outlives, recovered}
+use Rattle.histories.proofs.Invariant.{Inv}
+use Rattle.histories.proofs.Keeping.{recovered-moved}
+use Rattle.histories.proofs.Recovered.{recovered-inv}
+use Rattle.histories.proofs.Counted.{keptIn, recovered-new, recovered-paid}
+use Rattle.histories.proofs.Messages.{underway-proper}
+use Rattle.histories.proofs.Rule.{keeps-in, keeps-out}
 use Rattle.model.proofs.simulation.View.{passing, pinOf, pinsOf, checkpointOf, keptOf, processOf, messageOf, messagesOf, diskOf, stateOf}
 use Rattle.model.proofs.simulation.Passing.{passing-same, passing-none, select-passing, last-passing}
 use Rattle.model.proofs.simulation.Reads.{entry-is, entry-past, pin-is, pin-past, count-is, last-is, disk-is, underWay-is, process-is}

@@ -16,9 +16,9 @@ use Rattle.model.specs.declared.Interval.{Interval}
 use Rattle.model.specs.Words.{places, entry, below, inSet}
 use Rattle.model.specs.Steps.{advanced, risen, deliverRisen}
 use Rattle.model.proofs.Risen.{risen-is-exact}
-use Rattle.model.proofs.ideal.Run.{Ideal, forces}
-use Rattle.model.proofs.ideal.Invariant.{Inv}
-use Rattle.model.proofs.ideal.Messages.{underway-proper, underway-own}
+use Rattle.histories.proofs.Run.{Ideal, forces}
+use Rattle.histories.proofs.Invariant.{Inv}
+use Rattle.histories.proofs.Messages.{underway-proper, underway-own}
 use Rattle.model.proofs.simulation.View.{vectorOf, processOf, messageOf, stateOf}
 use Rattle.model.proofs.simulation.Reads.{process-is}
 use Rattle.model.proofs.simulation.Taking.{below-is, below-past, forces-is}

@@ -12,9 +12,9 @@ use Rattle.laws.specs.Update.{upd, upd-same, upd-other}
 use Rattle.model.specs.Words.{places, live, own, failed}
 use Rattle.model.specs.Steps as steps
 use Rattle.model.specs.Steps.{allowed, states, latestAllowed, rolledBack, notLost}
-use Rattle.model.proofs.ideal.Run.{Ideal, Failed, keeps, line, rolled, ownAfter, vectorAfter}
-use Rattle.model.proofs.ideal.Invariant.{Inv}
-use Rattle.model.proofs.ideal.Line.{line-back, line-live, line-le}
+use Rattle.histories.proofs.Run.{Ideal, Failed, keeps, line, rolled, ownAfter, vectorAfter}
+use Rattle.histories.proofs.Invariant.{Inv}
+use Rattle.histories.proofs.Line.{line-back, line-live, line-le}
 use Rattle.model.proofs.simulation.View.{passing, vectorOf, checkpointOf, keptOf, processOf, stateOf}
 use Rattle.model.proofs.simulation.Parts.{unused}
 use Rattle.model.proofs.simulation.Passing.{passing-same, passing-wider, select-passing}

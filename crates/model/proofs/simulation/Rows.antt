@@ -23,8 +23,8 @@ use Rattle.model.specs.declared.Pin.the-variants.{Nothing}
 use Rattle.model.specs.declared.Checkpoint.{Checkpoint}
 use Rattle.model.specs.Words.{places, names, named, Process, live}
 use Rattle.model.specs.Steps.{advanced}
-use Rattle.model.proofs.ideal.Run as ideal
-use Rattle.model.proofs.ideal.Run.{Ideal, keeps}
+use Rattle.histories.proofs.Run as ideal
+use Rattle.histories.proofs.Run.{Ideal, keeps}
 use Rattle.model.proofs.simulation.View.{passing, vectorOf, pinOf, pinsOf, checkpointOf, keptOf, processOf}
 use Rattle.model.proofs.simulation.Passing.{passing-same, passing-yes, select-passing}
 use Rattle.model.proofs.simulation.Reads.{entry-is, vector-same, live-is}

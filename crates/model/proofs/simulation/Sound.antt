@@ -21,11 +21,11 @@ use Rattle.model.specs.declared.Checkpoint.{Checkpoint}
 use Rattle.model.specs.declared.Message.{Message}
 use Rattle.model.specs.Words.{places, mostUnderWay, mostMessages, mostBlocks, entry, names, named, Process, blocksOf, noCheckpoint, process, own, underWay}
 use Rattle.model.specs.Sound.{countSound, ownSound, within, vectorsSound, ascending, keptSound, pinSound, pinsSound, messageSound, messagesSound, recordSound, keptBlocks, diskSound, sound}
-use Rattle.model.proofs.ideal.Run.{Ideal, keeps}
-use Rattle.model.proofs.ideal.Rule.{keeps-in}
-use Rattle.model.proofs.ideal.Invariant.{Inv, Proper}
-use Rattle.model.proofs.ideal.Line.{interval, own-pin}
-use Rattle.model.proofs.ideal.Counted.{keptIn}
+use Rattle.histories.proofs.Run.{Ideal, keeps}
+use Rattle.histories.proofs.Rule.{keeps-in}
+use Rattle.histories.proofs.Invariant.{Inv, Proper}
+use Rattle.histories.proofs.Line.{interval, own-pin}
+use Rattle.histories.proofs.Counted.{keptIn}
 use Rattle.model.proofs.simulation.View.{vectorOf, pinOf, pinsOf, checkpointOf, keptOf, processOf, messageOf, messagesOf, diskOf, stateOf, Limits}
 use Rattle.model.proofs.simulation.Reads.{entry-is, pin-is, count-is, last-is, disk-is, underway-is, underWay-is, process-is, own-is}
 use Rattle.model.proofs.simulation.Passing.{some-passing, map-passing}

@@ -13,9 +13,9 @@ use Rattle.model.specs.declared.Message.{Message}
 use Rattle.model.specs.Words.{mostInterval, mostBlocks, blockCount, process, own}
 use Rattle.model.specs.Steps.{found}
 use Rattle.model.specs.Refusals.{outside, checkpointRefusal, sendRefusal, deliverRefusal, loseRefusal, lineRefusal, recoverRefusal}
-use Rattle.model.proofs.ideal.Run.{Ideal, sending, forces}
-use Rattle.model.proofs.ideal.Invariant.{Inv}
-use Rattle.model.proofs.ideal.Messages.{underway-proper}
+use Rattle.histories.proofs.Run.{Ideal, sending, forces}
+use Rattle.histories.proofs.Invariant.{Inv}
+use Rattle.histories.proofs.Messages.{underway-proper}
 use Rattle.model.proofs.simulation.View.{messageOf, diskOf, stateOf, Limits}
 use Rattle.model.proofs.simulation.Reads.{count-is, last-is, underway-is, disk-is, process-is, own-is}
 use Rattle.model.proofs.simulation.Billing.{count-of}

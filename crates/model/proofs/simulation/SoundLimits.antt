@@ -17,17 +17,17 @@ use Rattle.laws.specs.Update.{upd, upd-same, upd-other, upd-same₁, upd-other�
 use Rattle.laws.specs.Counting.{count-none, count-mono}
 use Rattle.model.specs.Words.{places, mostUnderWay, mostMessages, mostBlockCount, mostBlocks}
 use Rattle.model.specs.Sound.{causeSound, isBlockCount}
-use Rattle.model.proofs.ideal.Run.{Ideal, Ledger, Failed, begin, openLedger, begun, keeps, stores, checkpointed, sending, forces, takenBy, takenIn, delivered, lost, outlives, recovered}
-use Rattle.model.proofs.ideal.Invariant.{Inv}
-use Rattle.model.proofs.ideal.Messages.{underway-proper}
-use Rattle.model.proofs.ideal.Keeping.{Moved, checkpointed-moved, delivered-moved, recovered-moved}
-use Rattle.model.proofs.ideal.CheckpointedViews.{checkpointed-own, checkpointed-own-other}
-use Rattle.model.proofs.ideal.Checkpointed.{checkpointed-inv}
-use Rattle.model.proofs.ideal.DeliveredViews.{delivered-n, delivered-last, delivered-own-forced, delivered-own-plain, delivered-own-other}
-use Rattle.model.proofs.ideal.Delivered.{delivered-inv}
-use Rattle.model.proofs.ideal.RecoveredStates.{recovered-own-le}
-use Rattle.model.proofs.ideal.Recovered.{recovered-inv}
-use Rattle.model.proofs.ideal.Counted.{keptIn, Paid, paid-on, checkpointed-new, checkpointed-paid, delivered-new-forced, delivered-paid, delivered-ledger-forced, delivered-ledger-plain, recovered-paid}
+use Rattle.histories.proofs.Run.{Ideal, Ledger, Failed, begin, openLedger, begun, keeps, stores, checkpointed, sending, forces, takenBy, takenIn, delivered, lost, outlives, recovered}
+use Rattle.histories.proofs.Invariant.{Inv}
+use Rattle.histories.proofs.Messages.{underway-proper}
+use Rattle.histories.proofs.Keeping.{Moved, checkpointed-moved, delivered-moved, recovered-moved}
+use Rattle.histories.proofs.CheckpointedViews.{checkpointed-own, checkpointed-own-other}
+use Rattle.histories.proofs.Checkpointed.{checkpointed-inv}
+use Rattle.histories.proofs.DeliveredViews.{delivered-n, delivered-last, delivered-own-forced, delivered-own-plain, delivered-own-other}
+use Rattle.histories.proofs.Delivered.{delivered-inv}
+use Rattle.histories.proofs.RecoveredStates.{recovered-own-le}
+use Rattle.histories.proofs.Recovered.{recovered-inv}
+use Rattle.histories.proofs.Counted.{keptIn, Paid, paid-on, checkpointed-new, checkpointed-paid, delivered-new-forced, delivered-paid, delivered-ledger-forced, delivered-ledger-plain, recovered-paid}
 use Rattle.model.proofs.simulation.View.{messageOf, messagesOf, Fits, Limits}
 use Rattle.model.proofs.simulation.Passing.{length-passing}
 use Rattle.model.proofs.simulation.Start.{start-kept-in}

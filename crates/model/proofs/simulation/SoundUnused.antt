@@ -20,7 +20,7 @@ use Rattle.model.specs.declared.Run.{Run}
 use Rattle.model.specs.Words.{places, mostUnderWay, Process, zeroVector, noPins, noCheckpoint, noMessage, blank, withProcess, underWay, withMessages, withDisk}
 use Rattle.model.specs.Steps.{withProcesses}
 use Rattle.model.specs.Sound.{zeroFrom, unusedCheckpoint, unusedMessage, isNothing, nothingFrom, rowUnused, unusedSound}
-use Rattle.model.proofs.ideal.Run.{Ideal}
+use Rattle.histories.proofs.Run.{Ideal}
 use Rattle.model.proofs.simulation.View.{vectorOf, pinsOf, checkpointOf, keptOf, processOf, messageOf, messagesOf, partsOf, stateOf}
 use Rattle.model.proofs.simulation.Parts.{Room, room-all, room-blank}
 use Rattle.model.proofs.simulation.Reads.{entry-past, pin-past, count-is, underWay-is, process-is}

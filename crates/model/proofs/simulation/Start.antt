@@ -22,8 +22,8 @@ use Rattle.model.specs.declared.Pin.the-variants.{Nothing, At}
 use Rattle.model.specs.declared.Run.{Run}
 use Rattle.model.specs.Words.{places, zeroVector, noPins, blank, withMessages, withDisk}
 use Rattle.model.specs.Steps.{withProcesses, checkpointZero, started, opening, startState}
-use Rattle.model.proofs.ideal.Run.{begin, openLedger, begun, keeps, names}
-use Rattle.model.proofs.ideal.Counted.{keptIn}
+use Rattle.histories.proofs.Run.{begin, openLedger, begun, keeps, names}
+use Rattle.histories.proofs.Counted.{keptIn}
 use Rattle.model.proofs.simulation.View.{passing, vectorOf, pinOf, pinsOf, checkpointOf, keptOf, processOf, messagesOf, diskOf, partsOf, stateOf}
 use Rattle.model.proofs.simulation.Parts.{all-agree, all-messages}
 use Rattle.model.proofs.simulation.Reads.{vector-same}

@@ -11,7 +11,7 @@ use Rattle.model.specs.declared.Disk.{Disk}
 use Rattle.model.specs.declared.Run.{Run}
 use Rattle.model.specs.Words.{Process, blank, withProcess, withMessages, withDisk}
 use Rattle.model.specs.Steps.{withProcesses}
-use Rattle.model.proofs.ideal.Run.{Ideal}
+use Rattle.histories.proofs.Run.{Ideal}
 use Rattle.model.proofs.simulation.View.{processOf, messagesOf, diskOf, partsOf, stateOf}
 use Rattle.model.proofs.simulation.Parts.{put-one, all-all, all-agree, all-messages, all-disk, put-messages, messages-twice}
 

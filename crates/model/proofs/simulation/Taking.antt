@@ -17,9 +17,9 @@ use Rattle.model.specs.declared.Pin.the-variants.{Nothing}
 use Rattle.model.specs.Words.{places, entry, below, Process}
 use Rattle.model.specs.Steps as steps
 use Rattle.model.specs.Steps.{settled, gone, takenEntry, takenVector, takenPin, takenPins}
-use Rattle.model.proofs.ideal.Run.{Ideal, Ledger, keeps, takenBy, takenIn}
-use Rattle.model.proofs.ideal.TakenInViews.{takenIn-n, takenIn-own, takenIn-live, takenIn-vector, takenIn-mark, takenIn-keeps-old}
-use Rattle.model.proofs.ideal.Run as ideal
+use Rattle.histories.proofs.Run.{Ideal, Ledger, keeps, takenBy, takenIn}
+use Rattle.histories.proofs.TakenInViews.{takenIn-n, takenIn-own, takenIn-live, takenIn-vector, takenIn-mark, takenIn-keeps-old}
+use Rattle.histories.proofs.Run as ideal
 use Rattle.model.proofs.simulation.View.{passing, vectorOf, pinOf, pinsOf, checkpointOf, keptOf, processOf}
 use Rattle.model.proofs.simulation.Passing.{passing-same}
 use Rattle.model.proofs.simulation.Reads.{entry-is, entry-past, vector-same, pin-is, pin-past}

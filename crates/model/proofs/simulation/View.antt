@@ -19,8 +19,8 @@ use Rattle.model.specs.declared.Run.{Run}
 use Rattle.model.specs.Words.{places, mostUnderWay, mostMessages, mostBlocks, Process, blank, withMessages, withDisk}
 use Rattle.model.specs.Steps.{withProcesses}
 use Rattle.model.specs.Sound.{causeSound, isBlockCount}
-use Rattle.model.proofs.ideal.Run.{Ideal, keeps}
-use Rattle.model.proofs.ideal.Counted.{keptIn}
+use Rattle.histories.proofs.Run.{Ideal, keeps}
+use Rattle.histories.proofs.Counted.{keptIn}
 
 -- The values at the numbers below a bound that pass a test, in ascending order.
 unfoldable pub passing : {A : Type 0} → ℕ → (ℕ → Bool) → (ℕ → A) → List A

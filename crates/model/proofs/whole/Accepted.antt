@@ -16,11 +16,11 @@ use Rattle.model.specs.Calls.{Call, checkpoint, send, deliver, lose, rec
 use Rattle.model.specs.Survival.{Surviving, after, accepted, listsAfter, sendsAfter, receiverAfter, underwayAfter, causeOf, storedBy, causeWith, countOf, handedBlocks}
 use Rattle.model.specs.Earliest.{earliestOutcome}
 use Rattle.model.specs.Answers.{lentDeletions}
-use Rattle.model.proofs.ideal.Run.{Ideal}
-use Rattle.model.proofs.ideal.Invariant.{Inv}
-use Rattle.model.proofs.ideal.Keeping.{Moved}
-use Rattle.model.proofs.ideal.Memory.{Memory}
-use Rattle.model.proofs.ideal.Counted.{goneIn, newIn, Paid, blocks-over}
+use Rattle.histories.proofs.Run.{Ideal}
+use Rattle.histories.proofs.Invariant.{Inv}
+use Rattle.histories.proofs.Keeping.{Moved}
+use Rattle.histories.proofs.Memory.{Memory}
+use Rattle.histories.proofs.Counted.{goneIn, newIn, Paid, blocks-over}
 use Rattle.model.proofs.simulation.View.{stateOf, Limits}
 use Rattle.model.proofs.simulation.Handed.{pairBlocks}
 use Rattle.model.proofs.whole.Agreement.{Agrees, Restarted, HandsOut, kept-agrees}

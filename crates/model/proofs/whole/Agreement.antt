@@ -6,16 +6,16 @@ use mathlib.Core.Bool.{Bool, true, false, _&&_, _||_, not}
 use Prim.Native.Nat.{ℕ, _+_, _<_}
 use lib.Dec.{ltb, leb}
 use borrow.Author.Tests.{lt-ltb, ltb-true, leb-true, leb-false}
-use Rattle.model.specs.History.{Lists, checkpoints}
+use Rattle.histories.specs.History.{Lists, checkpoints}
 use Rattle.model.specs.Calls.{Reply}
 use Rattle.model.specs.Survival.{Surviving, handedOut, keptAfter}
-use Rattle.model.proofs.ideal.Run.{Ideal, keeps}
-use Rattle.model.proofs.ideal.Invariant.{Inv}
-use Rattle.model.proofs.ideal.Memory.{Memory}
-use Rattle.model.proofs.ideal.Standing.{Standing}
-use Rattle.model.proofs.ideal.Line.{keeps-below}
-use Rattle.model.proofs.ideal.Keeping.{Moved, moved-new}
-use Rattle.model.proofs.ideal.Counted.{keptIn}
+use Rattle.histories.proofs.Run.{Ideal, keeps}
+use Rattle.histories.proofs.Invariant.{Inv}
+use Rattle.histories.proofs.Memory.{Memory}
+use Rattle.histories.proofs.Standing.{Standing}
+use Rattle.histories.proofs.Line.{keeps-below}
+use Rattle.histories.proofs.Keeping.{Moved, moved-new}
+use Rattle.histories.proofs.Counted.{keptIn}
 
 -- The history h tells of the run r what r itself holds.
 pub record Agrees (h : Surviving) (r : Ideal) : Type 0 where

@@ -13,7 +13,7 @@ use Rattle.laws.specs.Lists.{table}
 use Rattle.laws.specs.Tables.{length-table, getD-table}
 use Rattle.model.specs.declared.Named.{Named}
 use Rattle.model.specs.declared.Refusal.{Refusal}
-use Rattle.model.specs.History.{Line, Consistent}
+use Rattle.histories.specs.History.{Line, Consistent}
 use Rattle.model.specs.Refusals.{number}
 use Rattle.model.specs.laws.Refusals.{by-refusal}
 use Rattle.model.specs.Earliest.{greatest, someOrdered, earliestRefusal}
@@ -21,10 +21,10 @@ use Rattle.model.specs.Calls.{Call, checkpoint, send, deliver, lose, rec
 use Rattle.model.specs.Survival.{Surviving, after}
 use Rattle.model.specs.Answers.{lowest, reasons, failedSet, gonePairs, SentSince, BringsNewsOf, BringsNews, Forces, RightRisen, RightLine, AllKept, SomeOrdered, Through, RightEarliest, NoneThrough, AnswerIsRight}
 use Rattle.model.specs.WholeRuns.{reported, LineIsRight}
-use Rattle.model.proofs.ideal.Run.{Ideal, forces}
-use Rattle.model.proofs.ideal.Invariant.{Inv}
-use Rattle.model.proofs.ideal.Memory.{Memory}
-use Rattle.model.proofs.ideal.Knowledge.{Since, NewsOf, News, newer-news, news-newer, forced-since, forced-news, news-forces}
+use Rattle.histories.proofs.Run.{Ideal, forces}
+use Rattle.histories.proofs.Invariant.{Inv}
+use Rattle.histories.proofs.Memory.{Memory}
+use Rattle.histories.proofs.Knowledge.{Since, NewsOf, News, newer-news, news-newer, forced-since, forced-news, news-forces}
 use Rattle.model.proofs.simulation.View.{stateOf, Limits}
 use Rattle.model.proofs.simulation.Earliest.{earliest-out}
 use Rattle.model.proofs.simulation.Reads.{count-is}

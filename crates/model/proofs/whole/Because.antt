@@ -10,11 +10,11 @@ use Rattle.model.specs.Words.{basic, forced}
 use Rattle.model.specs.Refusals.{checkpointRefusal, deliverRefusal}
 use Rattle.model.specs.Calls.{Call, checkpoint, deliver}
 use Rattle.model.specs.Survival.{Surviving}
-use Rattle.model.proofs.ideal.Run.{Ideal, because, keeps, checkpointed, delivered}
-use Rattle.model.proofs.ideal.Invariant.{Inv}
-use Rattle.model.proofs.ideal.Ledger.{ledger-inv}
-use Rattle.model.proofs.ideal.Memory.{Memory}
-use Rattle.model.proofs.ideal.Counted.{keptIn, goneIn, newIn}
+use Rattle.histories.proofs.Run.{Ideal, because, keeps, checkpointed, delivered}
+use Rattle.histories.proofs.Invariant.{Inv}
+use Rattle.histories.proofs.Ledger.{ledger-inv}
+use Rattle.histories.proofs.Memory.{Memory}
+use Rattle.histories.proofs.Counted.{keptIn, goneIn, newIn}
 use Rattle.model.proofs.simulation.View.{pinsOf, checkpointOf, keptOf, processOf, messageOf, messagesOf, diskOf, partsOf, stateOf, Fits, Limits}
 use Rattle.model.proofs.whole.Agreement.{Agrees, HandsOut}
 use Rattle.model.proofs.whole.Accepted.{Step}

@@ -14,11 +14,11 @@ use Rattle.laws.specs.Truth.{and-both}
 use Rattle.model.specs.declared.Disk.{Disk}
 use Rattle.model.specs.declared.Run.{Run}
 use Rattle.model.specs.Words.{process}
-use Rattle.model.specs.History.{Lists, checkpoints}
+use Rattle.histories.specs.History.{Lists, checkpoints}
 use Rattle.model.specs.Survival.{Surviving}
 use Rattle.model.specs.WholeRuns.{BlocksAreRight}
-use Rattle.model.proofs.ideal.Run.{Ideal, keeps}
-use Rattle.model.proofs.ideal.Counted.{keptIn}
+use Rattle.histories.proofs.Run.{Ideal, keeps}
+use Rattle.histories.proofs.Counted.{keptIn}
 use Rattle.model.proofs.simulation.View.{checkpointOf, diskOf, stateOf, processOf}
 use Rattle.model.proofs.simulation.Reads.{disk-is, process-is}
 use Rattle.model.proofs.simulation.Kept.{kept-every}

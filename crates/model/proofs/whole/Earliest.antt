@@ -17,18 +17,18 @@ use Rattle.model.specs.declared.Named.{Named}
 use Rattle.model.specs.declared.Refusal.{Refusal}
 use Rattle.model.specs.declared.Refusal.the-variants.{CausallyOrdered}
 use Rattle.model.specs.Words.{places, comesBefore, entry}
-use Rattle.model.specs.History.{Consistent}
+use Rattle.histories.specs.History.{Consistent, ComesBefore}
 use Rattle.model.specs.Refusals.{number}
 use Rattle.model.specs.Earliest.{namedVector, greatest, someAbsent, unfit, someOrdered, earliestRefusal}
 use Rattle.model.specs.Calls.{earliest}
 use Rattle.model.specs.Survival.{Surviving}
-use Rattle.model.specs.Answers.{lowest, reasons, ComesBefore, AllKept, SomeOrdered, Through, RightEarliest, NoneThrough}
+use Rattle.model.specs.Answers.{lowest, reasons, AllKept, SomeOrdered, Through, RightEarliest, NoneThrough}
 use Rattle.model.specs.WholeRuns.{EarliestIsRight}
-use Rattle.model.proofs.ideal.Run.{Ideal}
-use Rattle.model.proofs.ideal.Invariant.{Inv}
-use Rattle.model.proofs.ideal.Memory.{Memory}
-use Rattle.model.proofs.ideal.Knowledge.{stored-less, stored-knows}
-use Rattle.model.proofs.ideal.Earliest.{earliest-within, earliest-through, earliest-consistent, earliest-least, consistent-unordered}
+use Rattle.histories.proofs.Run.{Ideal}
+use Rattle.histories.proofs.Invariant.{Inv}
+use Rattle.histories.proofs.Memory.{Memory}
+use Rattle.histories.proofs.Knowledge.{stored-less, stored-knows}
+use Rattle.histories.proofs.Earliest.{earliest-within, earliest-through, earliest-consistent, earliest-least, consistent-unordered}
 use Rattle.model.proofs.simulation.View.{stateOf, Limits}
 use Rattle.model.proofs.simulation.Reads.{count-is}
 use Rattle.model.proofs.simulation.Earliest.{Stored, earliest-out, named-kept, inside, below, entry-of, Chosen, named-topped}

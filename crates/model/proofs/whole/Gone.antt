@@ -13,14 +13,14 @@ use Rattle.laws.specs.Select.{map-append}
 use Rattle.laws.specs.Tables.{gather-same}
 use Rattle.model.specs.Words.{places, basic, forced, failed}
 use Rattle.model.specs.Steps.{Deletion, listed, checkpointDeletions, deliverDeletions, recoverDeletions}
-use Rattle.model.specs.History.{Lists, checkpoints}
+use Rattle.histories.specs.History.{Lists, checkpoints}
 use Rattle.model.specs.Outcomes.{pairs}
 use Rattle.model.specs.Calls.{Reply}
 use Rattle.model.specs.Survival.{Surviving}
 use Rattle.model.specs.Answers.{liveOf, atFront, gonePairs}
-use Rattle.model.proofs.ideal.Run.{Ideal, keeps, checkpointed, delivered, recovered}
-use Rattle.model.proofs.ideal.Invariant.{Inv}
-use Rattle.model.proofs.ideal.CheckpointedViews.{checkpointed-n, checkpointed-pin-row}
+use Rattle.histories.proofs.Run.{Ideal, keeps, checkpointed, delivered, recovered}
+use Rattle.histories.proofs.Invariant.{Inv}
+use Rattle.histories.proofs.CheckpointedViews.{checkpointed-n, checkpointed-pin-row}
 use Rattle.model.proofs.simulation.View.{passing, checkpointOf, messageOf, stateOf}
 use Rattle.model.proofs.simulation.Rows.{keeps-same}
 use Rattle.model.proofs.simulation.Checkpoint.{checkpoint-deletions}

@@ -24,7 +24,7 @@ use Rattle.model.specs.declared.Refusal.the-variants.{ListTooShort}
 use Rattle.model.specs.Words.{entry, lastStored, comesBefore, own, failed}
 use Rattle.model.specs.Steps.{allowed, lineOf}
 use Rattle.model.specs.Sound.{sound}
-use Rattle.model.specs.History.{Lists, Line, checkpoints, Consistent}
+use Rattle.histories.specs.History.{Lists, Line, checkpoints, Consistent}
 use Rattle.model.specs.Refusals.{shortDeletions, shortLine, noMember, lineRefusal, recoverRefusal}
 use Rattle.model.specs.laws.Refusals.{refusal-in}
 use Rattle.model.specs.laws.Sound.{sound-state}
@@ -32,10 +32,10 @@ use Rattle.model.specs.Outcomes.{lineOutcome, recoverOutcome}
 use Rattle.model.specs.Survival.{Surviving}
 use Rattle.model.specs.Answers.{RightLine}
 use Rattle.model.specs.WholeRuns.{reported, LineIsRight}
-use Rattle.model.proofs.ideal.Run.{Ideal, line}
-use Rattle.model.proofs.ideal.Invariant.{Inv}
-use Rattle.model.proofs.ideal.Line.{line-le, line-consistent, failed-back, below-kept}
-use Rattle.model.proofs.ideal.Maximal.{line-maximal}
+use Rattle.histories.proofs.Run.{Ideal, line}
+use Rattle.histories.proofs.Invariant.{Inv}
+use Rattle.histories.proofs.Line.{line-le, line-consistent, failed-back, below-kept}
+use Rattle.histories.proofs.Maximal.{line-maximal}
 use Rattle.model.proofs.simulation.Accepted.{line-in, recover-in}
 use Rattle.model.proofs.whole.Agreement.{Agrees}
 

@@ -12,13 +12,13 @@ use lib.ListN.{getD}
 use borrow.Author.Tests.{ltb-true, ltb-false}
 use Rattle.laws.specs.Choice.{by-bool}
 use Rattle.laws.specs.Update.{upd}
-use Rattle.model.specs.History.{Lists, checkpoints}
+use Rattle.histories.specs.History.{Lists, checkpoints}
 use Rattle.model.specs.Calls.{checkpoint, send, deliver, Reply}
 use Rattle.model.specs.Survival.{Surviving, added, forcedFirst, cut, listsAfter, sendsAfter, receiverAfter, underwayAfter, causeWith, countOf}
-use Rattle.model.proofs.ideal.Run.{Ideal, Failed, stores, checkpointed, sending, forces, takenIn, takenBy, delivered, recovered, rolled, line}
-use Rattle.model.proofs.ideal.Invariant.{Inv}
-use Rattle.model.proofs.ideal.Rule.{safe-in}
-use Rattle.model.proofs.ideal.Line.{line-judged}
+use Rattle.histories.proofs.Run.{Ideal, Failed, stores, checkpointed, sending, forces, takenIn, takenBy, delivered, recovered, rolled, line}
+use Rattle.histories.proofs.Invariant.{Inv}
+use Rattle.histories.proofs.Rule.{safe-in}
+use Rattle.histories.proofs.Line.{line-judged}
 use Rattle.model.proofs.whole.Agreement.{Agrees}
 
 module _ (n : ℕ) (h : Surviving) (r : Ideal) (g : Agrees h r) where

@@ -16,9 +16,9 @@ use Rattle.model.specs.Outcomes.{checkpointOutcome, sendOutcome, deliver
 use Rattle.model.specs.Earliest.{earliestRefusal, earliestOutcome}
 use Rattle.model.specs.Calls.{Call, checkpoint, send, deliver, lose, recover, line, earliest, Exchange, answered, call}
 use Rattle.model.specs.Survival.{Surviving, after}
-use Rattle.model.proofs.ideal.Run.{Ideal}
-use Rattle.model.proofs.ideal.Invariant.{Inv}
-use Rattle.model.proofs.ideal.Memory.{Memory}
+use Rattle.histories.proofs.Run.{Ideal}
+use Rattle.histories.proofs.Invariant.{Inv}
+use Rattle.histories.proofs.Memory.{Memory}
 use Rattle.model.proofs.simulation.View.{stateOf, Limits}
 use Rattle.model.proofs.whole.Agreement.{Agrees, Restarted}
 

@@ -16,13 +16,13 @@ use Rattle.model.specs.Calls.{recover, answered, call}
 use Rattle.model.specs.Refusals.{recoverRefusal}
 use Rattle.model.specs.Survival.{Surviving, listsAfter, sendsAfter, receiverAfter, underwayAfter, storedBy, causeOf, causeWith, countOf}
 use Rattle.model.specs.Answers.{lentDeletions}
-use Rattle.model.proofs.ideal.Run.{Ideal, line, recovered}
-use Rattle.model.proofs.ideal.Invariant.{Inv}
-use Rattle.model.proofs.ideal.Memory.{Memory, recovered-memory}
-use Rattle.model.proofs.ideal.Keeping.{recovered-moved}
-use Rattle.model.proofs.ideal.Counted.{goneIn, newIn, recovered-new, recovered-paid}
-use Rattle.model.proofs.ideal.Recovered.{recovered-inv}
-use Rattle.model.proofs.ideal.Outliving.{still-sent}
+use Rattle.histories.proofs.Run.{Ideal, line, recovered}
+use Rattle.histories.proofs.Invariant.{Inv}
+use Rattle.histories.proofs.Memory.{Memory, recovered-memory}
+use Rattle.histories.proofs.Keeping.{recovered-moved}
+use Rattle.histories.proofs.Counted.{goneIn, newIn, recovered-new, recovered-paid}
+use Rattle.histories.proofs.Recovered.{recovered-inv}
+use Rattle.histories.proofs.Outliving.{still-sent}
 use Rattle.model.proofs.simulation.View.{stateOf, Limits}
 use Rattle.model.proofs.simulation.SoundCalls.{recover-run}
 use Rattle.model.proofs.simulation.SoundLimits.{limits-recover}

@@ -21,16 +21,16 @@ use Rattle.model.specs.declared.Refusal.{Refusal}
 use Rattle.model.specs.Words.{mostBlocks, own}
 use Rattle.model.specs.Steps.{found, latestAllowed}
 use Rattle.model.specs.Sound.{isBlockCount, sound}
-use Rattle.model.specs.History.{Lists, checkpoints}
+use Rattle.histories.specs.History.{Lists, checkpoints}
 use Rattle.model.specs.Refusals.{number, Rule, firstOf, startRefusal, shortDeletions, shortLine, absent, atLastInterval, pastBlocks, outside, checkpointRefusal, sendRefusal, missing, forcesPast, forcesOver, deliverRefusal, loseRefusal, noMember, lineRefusal, recoverRefusal}
 use Rattle.model.specs.laws.Refusals.{refusal-in, skipped, by-refusal}
 use Rattle.model.specs.Earliest.{someAbsent, unfit, notKept, someOrdered, earliestRefusal}
 use Rattle.model.specs.Calls.{Call, checkpoint, send, deliver, lose, recover, line, earliest, call}
 use Rattle.model.specs.Survival.{Surviving}
 use Rattle.model.specs.Answers.{Reason, lowest, countUnderWay, tooShort, pastBound, startReasons, reasons}
-use Rattle.model.proofs.ideal.Run.{Ideal, forces}
-use Rattle.model.proofs.ideal.Invariant.{Inv}
-use Rattle.model.proofs.ideal.Messages.{underway-proper}
+use Rattle.histories.proofs.Run.{Ideal, forces}
+use Rattle.histories.proofs.Invariant.{Inv}
+use Rattle.histories.proofs.Messages.{underway-proper}
 use Rattle.model.proofs.simulation.View.{messageOf, messagesOf, stateOf, Limits}
 use Rattle.model.proofs.simulation.Reads.{count-is, last-is, underway-is, own-is}
 use Rattle.model.proofs.simulation.Messages.{used-number, found-is, found-none}

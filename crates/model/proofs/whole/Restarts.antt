@@ -10,21 +10,20 @@ use Prim.Native.Nat.{ℕ, suc, _-_, _<_}
 use native.Mathlib.Omega.{arith}
 use Rattle.laws.specs.Rows.{by-lt}
 use Rattle.model.specs.Words.{basic, forced, failed}
-use Rattle.model.specs.History.{Lists, checkpoints, beforeCheckpoint}
+use Rattle.histories.specs.History.{Lists, checkpoints, beforeCheckpoint, ComesBefore}
 use Rattle.model.specs.Calls.{Call, checkpoint, send, deliver, lose, recover, line, earliest, call}
 use Rattle.model.specs.Survival.{Surviving, beginning, after, accepted, listsAfter, restartAfter}
-use Rattle.model.specs.Answers.{ComesBefore}
 use Rattle.model.specs.Needed.{KnewLess, PinStands, PinNames, Needed}
-use Rattle.model.proofs.ideal.Run.{Ideal, because, begin, begun, keeps, checkpointed, delivered, recovered}
-use Rattle.model.proofs.ideal.Invariant.{Inv}
-use Rattle.model.proofs.ideal.Ledger.{ledger-inv}
-use Rattle.model.proofs.ideal.Rule.{keeps-in, keeps-out}
-use Rattle.model.proofs.ideal.Line.{rising}
-use Rattle.model.proofs.ideal.Messages.{underway-proper}
-use Rattle.model.proofs.ideal.Memory.{Memory, begin-memory}
-use Rattle.model.proofs.ideal.Begin.{begin-inv}
-use Rattle.model.proofs.ideal.Knowledge.{live-less, live-knows, stored-less, stored-knows}
-use Rattle.model.proofs.ideal.Standing.{row, Learns, same-learns, sending-learns, lost-learns, checkpointed-learns, delivered-learns, Current, next-standing, begin-standing, recovered-standing}
+use Rattle.histories.proofs.Run.{Ideal, because, begin, begun, keeps, checkpointed, delivered, recovered}
+use Rattle.histories.proofs.Invariant.{Inv}
+use Rattle.histories.proofs.Ledger.{ledger-inv}
+use Rattle.histories.proofs.Rule.{keeps-in, keeps-out}
+use Rattle.histories.proofs.Line.{rising}
+use Rattle.histories.proofs.Messages.{underway-proper}
+use Rattle.histories.proofs.Memory.{Memory, begin-memory}
+use Rattle.histories.proofs.Begin.{begin-inv}
+use Rattle.histories.proofs.Knowledge.{live-less, live-knows, stored-less, stored-knows}
+use Rattle.histories.proofs.Standing.{row, Learns, same-learns, sending-learns, lost-learns, checkpointed-learns, delivered-learns, Current, next-standing, begin-standing, recovered-standing}
 use Rattle.model.proofs.simulation.View.{stateOf, Limits}
 use Rattle.model.proofs.simulation.SoundCalls.{deliver-run}
 use Rattle.model.proofs.whole.Agreement.{Agrees, Restarted}

@@ -6,8 +6,8 @@ use mathlib.Core.Option.{Option, none, some}
 use Rattle.model.specs.declared.Refusal.{Refusal}
 use Rattle.model.specs.Words.{basic, forced, failed}
 use Rattle.model.specs.Calls.{Call, checkpoint, send, deliver, lose, recover, line, earliest}
-use Rattle.model.proofs.ideal.Run.{Ideal, because, stores, checkpointed, sending, delivered, lost, recovered}
-use Rattle.model.proofs.ideal.Counted.{counts-delivered}
+use Rattle.histories.proofs.Run.{Ideal, because, stores, checkpointed, sending, delivered, lost, recovered}
+use Rattle.histories.proofs.Counted.{counts-delivered}
 use Rattle.model.proofs.simulation.View.{stateOf}
 use Rattle.model.proofs.whole.Reached.{refusal}
 

@@ -13,7 +13,7 @@ use Rattle.laws.specs.Search.{anyBelow}
 use Rattle.laws.specs.Sums.{sumBelow}
 use Rattle.model.specs.Words.{places, basic, forced, process, live}
 use Rattle.model.specs.declared.Named.{Named}
-use Rattle.model.specs.History.{Lists}
+use Rattle.histories.specs.History.{Lists}
 use Rattle.model.specs.Steps.{checkpointDeletions, deliverDeletions}
 use Rattle.model.specs.Steps as steps
 use Rattle.model.specs.Outcomes.{pairs, written, checkpointOutcome, checkpointReport, sendOutcome, sendReport, message, deliverAnswer, deliverOutcome, deliverReport, loseOutcome, loseReport, lineOutcome, lineReport}
@@ -22,18 +22,18 @@ use Rattle.model.specs.Earliest.{earliestRefusal, earliestOutcome}
 use Rattle.model.specs.Refusals.{checkpointRefusal, sendRefusal, deliverRefusal, loseRefusal, lineRefusal}
 use Rattle.model.specs.Survival.{Surviving, handedOut, listsAfter, sendsAfter, receiverAfter, underwayAfter, forcedAt, storedBy, causeOf, causeWith, countOf}
 use Rattle.model.specs.Answers.{lentDeletions}
-use Rattle.model.proofs.ideal.Run.{Ideal, Ledger, keeps, checkpointed, sending, forces, delivered, lost}
-use Rattle.model.proofs.ideal.Counted.{goneIn, newIn, gone-none, still-new, checkpointed-new, checkpointed-paid, sending-new, sending-paid, lost-new, lost-paid, delivered-new-forced, delivered-new-plain, delivered-ledger-forced, delivered-ledger-plain, delivered-paid}
-use Rattle.model.proofs.ideal.Invariant.{Inv}
-use Rattle.model.proofs.ideal.Messages.{underway-proper}
-use Rattle.model.proofs.ideal.Memory.{Memory, checkpointed-memory, sending-memory, lost-memory, delivered-memory}
-use Rattle.model.proofs.ideal.Keeping.{checkpointed-moved, sending-moved, lost-moved, delivered-moved}
-use Rattle.model.proofs.ideal.CheckpointedViews.{checkpointed-last}
-use Rattle.model.proofs.ideal.Checkpointed.{checkpointed-inv}
-use Rattle.model.proofs.ideal.Sending.{sending-inv, sending-keeps}
-use Rattle.model.proofs.ideal.Lost.{lost-inv, lost-keeps}
-use Rattle.model.proofs.ideal.Delivered.{delivered-inv}
-use Rattle.model.proofs.ideal.DeliveredViews.{delivered-last, delivered-receiver}
+use Rattle.histories.proofs.Run.{Ideal, Ledger, keeps, checkpointed, sending, forces, delivered, lost}
+use Rattle.histories.proofs.Counted.{goneIn, newIn, gone-none, still-new, checkpointed-new, checkpointed-paid, sending-new, sending-paid, lost-new, lost-paid, delivered-new-forced, delivered-new-plain, delivered-ledger-forced, delivered-ledger-plain, delivered-paid}
+use Rattle.histories.proofs.Invariant.{Inv}
+use Rattle.histories.proofs.Messages.{underway-proper}
+use Rattle.histories.proofs.Memory.{Memory, checkpointed-memory, sending-memory, lost-memory, delivered-memory}
+use Rattle.histories.proofs.Keeping.{checkpointed-moved, sending-moved, lost-moved, delivered-moved}
+use Rattle.histories.proofs.CheckpointedViews.{checkpointed-last}
+use Rattle.histories.proofs.Checkpointed.{checkpointed-inv}
+use Rattle.histories.proofs.Sending.{sending-inv, sending-keeps}
+use Rattle.histories.proofs.Lost.{lost-inv, lost-keeps}
+use Rattle.histories.proofs.Delivered.{delivered-inv}
+use Rattle.histories.proofs.DeliveredViews.{delivered-last, delivered-receiver}
 use Rattle.model.proofs.simulation.View.{messageOf, stateOf, Limits}
 use Rattle.model.proofs.simulation.SoundCalls.{checkpoint-run, send-run, deliver-run}
 use Rattle.model.proofs.simulation.SoundLimits.{fits-checkpoint, limits-checkpoint, fits-deliver, limits-deliver, limits-lose}

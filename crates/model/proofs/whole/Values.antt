@@ -20,7 +20,7 @@ use Rattle.model.specs.declared.Run.{Run}
 use Rattle.model.specs.declared.Refusal.{Refusal}
 use Rattle.model.specs.Words.{places, failed, own}
 use Rattle.model.specs.Steps.{deliverRisen, rolledBack, rolledBackCount}
-use Rattle.model.specs.History.{Line}
+use Rattle.histories.specs.History.{Line}
 use Rattle.model.specs.Refusals.{checkpointRefusal, sendRefusal, deliverRefusal, loseRefusal, lineRefusal, recoverRefusal}
 use Rattle.model.specs.Outcomes.{written, checkpointOutcome, sendOutcome, deliverOutcome, loseOutcome, lineOutcome, recoverOutcome, checkpointReport, sendReport, deliverReport, loseReport, lineReport, recoverReport}
 use Rattle.model.specs.laws.Refusals.{by-refusal}
@@ -28,11 +28,11 @@ use Rattle.model.specs.Earliest.{greatest, earliestLine, earliestRefusal
 use Rattle.model.specs.Calls.{Call, checkpoint, send, deliver, lose, recover, line, earliest, answered, call}
 use Rattle.model.specs.Survival.{Surviving}
 use Rattle.model.specs.Answers.{valueOf, lentDeletions, lentLine, atFront, indexesOf}
-use Rattle.model.proofs.ideal.Run as ideal
-use Rattle.model.proofs.ideal.Run.{Ideal, forces}
-use Rattle.model.proofs.ideal.Invariant.{Inv}
-use Rattle.model.proofs.ideal.Memory.{Memory}
-use Rattle.model.proofs.ideal.Messages.{underway-proper}
+use Rattle.histories.proofs.Run as ideal
+use Rattle.histories.proofs.Run.{Ideal, forces}
+use Rattle.histories.proofs.Invariant.{Inv}
+use Rattle.histories.proofs.Memory.{Memory}
+use Rattle.histories.proofs.Messages.{underway-proper}
 use Rattle.model.proofs.simulation.View.{messageOf, stateOf, Limits}
 use Rattle.model.proofs.simulation.Reads.{count-is, last-is, own-is}
 use Rattle.model.proofs.simulation.Checkpoint.{checkpoint-index}

@@ -1,7 +1,7 @@
 -- `halves::record::in_half` meets its contract.
 -- Assumes nothing.
 use borrow.Author.Needs.{needs}
-use Rattle.model.specs.Merge.{inHalf}
+use Rattle.merges.specs.Merge.{inHalf}
 use Rattle.halves.proofs.record.in_half.Statement.{statement}
 use Rattle.halves.proofs.record.in_half.Tie as tie
 

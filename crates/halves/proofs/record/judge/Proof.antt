@@ -3,7 +3,7 @@
 use mathlib.Core.Path.{refl, _∙_}
 use mathlib.Core.Logic.{inl, inr}
 use borrow.Author.Needs.{needs}
-use Rattle.model.specs.Merge.{onRecord}
+use Rattle.merges.specs.Merge.{onRecord}
 use Rattle.halves.specs.Taking.{Judges}
 use Rattle.halves.proofs.Ready.{read-is, half-zero, half-one, half-two, half-three, half-none}
 use Rattle.halves.proofs.record.judge.Statement.{statement}

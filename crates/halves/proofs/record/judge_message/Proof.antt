@@ -5,8 +5,8 @@ use Prim.Native.Nat.{ℕ, _/_, _%_, _<_}
 use native.Mathlib.Omega.{arith}
 use denote.Ref.{now}
 use borrow.Author.Needs.{needs}
-use Rattle.model.specs.Halves.{messageNumber}
-use Rattle.model.specs.Merge.{inHalf}
+use Rattle.merges.specs.Halves.{messageNumber}
+use Rattle.merges.specs.Merge.{inHalf}
 use Rattle.halves.specs.declared.log.Tally.{Tally}
 use Rattle.halves.specs.Log.{tallyOf}
 use Rattle.halves.specs.Taking.{Judges}

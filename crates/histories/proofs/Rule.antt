@@ -1,0 +1,101 @@
+-- What the tests of the run say: a state passes the rule of the line, a process rolls back, a checkpoint is kept.
+use mathlib.Core.Path.{_≡_, refl, ap}
+use mathlib.Core.Bool.{true, false, _||_}
+use mathlib.Core.Logic.{_⊎_, inl, inr}
+use mathlib.Core.Option.{Option, none, some}
+use Prim.Native.Nat.{ℕ, suc, _≤_, _<_}
+use native.Mathlib.Omega.{arith}
+use lib.Dec.{eqb}
+use borrow.Author.Tests.{lt-ltb, ltb-true, ltb-false, eq-eqb, eqb-true, not-true, not-false}
+use Rattle.laws.specs.Choice.{by-bool}
+use Rattle.laws.specs.Search.{any-out, any-in, all-out, all-in, all-fails, latest-out, latest-is}
+use Rattle.laws.specs.Truth.{never-both, and-left, and-right, and-both, and-no-right, or-left, or-right, or-in-right}
+use Rattle.histories.proofs.Run.{Ideal, Failed, safe, names, keeps, member, rolled}
+
+-- A state that passes the rule has entries below the own entries of the failed.
+pub safe-out : (r : Ideal) (F : Failed) (p k : ℕ) → safe r F p k ≡ true → (f : ℕ) → f < r .n → F f ≡ true → r .vector p k f < r .own f
+unfolding safe
+safe-out r F p k e f hf q = let z = all-out (r .n) _ e f hf in ltb-true _ _ (rw q at z)
+
+-- A state whose entries are below the own entries of the failed passes the rule.
+pub safe-in : (r : Ideal) (F : Failed) (p k : ℕ) → ((f : ℕ) → f < r .n → F f ≡ true → r .vector p k f < r .own f) → safe r F p k ≡ true
+unfolding safe
+safe-in r F p k h = all-in (r .n) _ (λ f hf. by-bool (F f)
+    (λ q. rw q (lt-ltb (r .vector p k f) (r .own f) (h f hf q)))
+    (λ q. rw q))
+
+-- A state that does not pass the rule knows the current interval of some failed process.
+pub unsafe-out : (r : Ideal) (F : Failed) (p k : ℕ) → safe r F p k ≡ false → (f : ℕ) × (f < r .n) × (F f ≡ true) × (r .own f ≤ r .vector p k f)
+unfolding safe
+unsafe-out r F p k e =
+    let w = all-fails (r .n) _ e in
+    by-bool (F (w .0))
+    (λ q. (w .0, w .1, q, ltb-false _ _ (rw q at (w .2))))
+    (λ q. never-both true refl (rw q at (w .2)))
+
+-- A process rolls back where its live state does not pass.
+pub rolled-out : (r : Ideal) (F : Failed) (p : ℕ) → rolled r F p ≡ true → safe r F p (r .own p) ≡ false
+unfolding rolled
+rolled-out r F p e = not-true _ e
+
+-- A process stays where its live state passes.
+pub stays-out : (r : Ideal) (F : Failed) (p : ℕ) → rolled r F p ≡ false → safe r F p (r .own p) ≡ true
+unfolding rolled
+stays-out r F p e = not-false _ e
+
+-- A checkpoint that a pin names is kept.
+pub keeps-in : (r : Ideal) (p f k : ℕ) → f < r .n → r .pin p f ≡ some k → keeps r p k ≡ true
+unfolding keeps
+keeps-in r p f k hf e = any-in (r .n) _ f hf (rw e (eq-eqb k k refl))
+
+-- What a pin names.
+names-out : (o : Option ℕ) (k : ℕ) → names o k ≡ true → o ≡ some k
+names-out none k e = never-both false e refl
+names-out (some j) k e = ap some (eqb-true j k e)
+
+-- A kept checkpoint is named by a pin.
+pub keeps-out : (r : Ideal) (p k : ℕ) → keeps r p k ≡ true → (f : ℕ) × (f < r .n) × (r .pin p f ≡ some k)
+unfolding keeps
+keeps-out r p k e = let w = any-out (r .n) _ e in (w .0, w .1, names-out (r .pin p (w .0)) k (w .2))
+
+-- A pin names one checkpoint.
+pub same-some : (o : Option ℕ) (j k : ℕ) → o ≡ some j → o ≡ some k → j ≡ k
+same-some o j k p q = cc
+
+-- A candidate of the rule: the live state or a kept checkpoint.
+candidate-out : (r : Ideal) (p k : ℕ) → (eqb k (r .own p) || keeps r p k) ≡ true → (k ≡ r .own p) ⊎ (keeps r p k ≡ true)
+candidate-out r p k e = by-bool (eqb k (r .own p))
+    (λ q. inl (eqb-true k (r .own p) q))
+    (λ q. inr (or-right (eqb k (r .own p)) (keeps r p k) q e))
+
+-- The live state and kept checkpoints are candidates.
+candidate-in : (r : Ideal) (p k : ℕ) → (k ≡ r .own p) ⊎ (keeps r p k ≡ true) → (eqb k (r .own p) || keeps r p k) ≡ true
+candidate-in r p k c = elim c [
+  | inl q ↦ or-left (eqb k (r .own p)) (keeps r p k) (eq-eqb k (r .own p) q)
+  | inr q ↦ or-in-right (eqb k (r .own p)) (keeps r p k) q
+]
+
+-- What the member is: the live state or a kept checkpoint, it passes the rule, and no later one of these does.
+pub member-out : (r : Ideal) (F : Failed) (p k : ℕ) → member r F p ≡ some k
+    → (k ≤ r .own p) × ((k ≡ r .own p) ⊎ (keeps r p k ≡ true)) × (safe r F p k ≡ true)
+    × ((j : ℕ) → k < j → j ≤ r .own p → (j ≡ r .own p) ⊎ (keeps r p j ≡ true) → safe r F p j ≡ false)
+unfolding member
+member-out r F p k e =
+    let w = latest-out (suc (r .own p)) _ k e in (
+      omega (arith, w .0),
+      candidate-out r p k (and-left (eqb k (r .own p) || keeps r p k) (safe r F p k) (w .1)),
+      and-right (eqb k (r .own p) || keeps r p k) (safe r F p k) (w .1),
+      λ j a b c. by-bool (safe r F p j)
+          (λ q. never-both _ (and-both (eqb j (r .own p) || keeps r p j) (safe r F p j) (candidate-in r p j c) q) (w .2 j a (omega arith)))
+          (λ q. q),
+    )
+
+-- Whatever is so is the member.
+pub member-is : (r : Ideal) (F : Failed) (p k : ℕ) → k ≤ r .own p → (k ≡ r .own p) ⊎ (keeps r p k ≡ true) → safe r F p k ≡ true
+    → ((j : ℕ) → k < j → j ≤ r .own p → (j ≡ r .own p) ⊎ (keeps r p j ≡ true) → safe r F p j ≡ false) → member r F p ≡ some k
+unfolding member
+member-is r F p k le c ok above = latest-is (suc (r .own p)) _ k (omega arith)
+    (and-both (eqb k (r .own p) || keeps r p k) (safe r F p k) (candidate-in r p k c) ok)
+    (λ j a b. by-bool (eqb j (r .own p) || keeps r p j)
+    (λ q. and-no-right (eqb j (r .own p) || keeps r p j) (safe r F p j) (above j a (omega arith) (candidate-out r p j q)))
+    (λ q. rw q))

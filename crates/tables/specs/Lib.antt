@@ -1,0 +1,3 @@
+pub mod EarliestExam
+pub mod Exam
+pub mod Numbers
