@@ -30,6 +30,7 @@ use Rattle.decision.specs.Rows.{entryAt, rowOf, putRow, put-same, put-other, pu
 use Rattle.decision.specs.Held.{intervalOf, Held}
 use Rattle.judge_trace.specs.declared.reading.Progress.{Progress}
 use Rattle.judge_trace.specs.declared.reading.Found.{Found}
+use Rattle.plans.proofs.Cases.{verdict-rules}
 use Rattle.judge_trace.specs.Readings.{Roomy, liveEntry, checkpointRefusal, withRow, SendRoom, sendRefusal, sentCarried, withMessage, isUnderWay, foundIn, withoutOne, DeliverRoom, receiptVectors, FirstRows}
 use Rattle.judge_trace.specs.Kept.{Tables, tables, Waits, Kept}
 use Rattle.judge_trace.proofs.Begin.{own-begin, begin-held}
@@ -161,7 +162,7 @@ module _ (n read : ℕ) (t : Pattern) (tr : Trail) (s : Progress) (T : Tables) (
 
   pub send-refusal : (i j : ℕ) → recordRefusal n t (some (Send i j)) ≡ sendRefusal n s i j
   unfolding recordRefusal sendRefusal
-  send-refusal i j = let last : t .sends ≡ s .last = h .sends ∙ sym (h .last) in rw (sym (h .counted), last)
+  send-refusal i j = let last : t .sends ≡ s .last = h .sends ∙ sym (h .last) in rw (sym (h .counted), last) (sym (verdict-rules i j n (s .underway) (s .last)))
 
   -- A checkpoint.
   module _ (i : ℕ) (li : i < n) where

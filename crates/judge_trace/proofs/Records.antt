@@ -58,12 +58,9 @@ module _ (n : ℕ) (s : Progress) (T : Tables) where
       let w = send-taken n s i j (T .vectors) (T .carried) (T .passing) (T .from) (T .to) (sym e) in
       let free = send-free n s i j e in
       after-taken n read t (some (Send i j)) r _ (withMessage s) (a ∙ sym (w .0)) (send-refusal n read t tr s T h more i j ∙ e) (sending tr (h .right) i)
-      (rw (b ∙ sym (w .1), c ∙ sym (w .2), d ∙ sym (w .3), f ∙ sym (w .4)) (kept-send n read t tr s T h more i j (free .0) (free .1) (few e))))
+      (rw (b ∙ sym (w .1), c ∙ sym (w .2), d ∙ sym (w .3), f ∙ sym (w .4)) (kept-send n read t tr s T h more i j (free .0) (free .1) (free .2))))
       (λ why e. after-refused n read t (some (Send i j)) r _ why s (a ∙ said why e) (send-refusal n read t tr s T h more i j ∙ e))
     where
-      few : sendRefusal n s i j ≡ none → s .underway < 64
-      few e = unfold sendRefusal in leb-false mostUnderWay (s .underway) (no-rule _ e 2)
-
       said : (why : Refusal) → sendRefusal n s i j ≡ some why → sendStep n s i j ≡ refusedStep why s
       said why e = unfold sendStep in rw e
 

@@ -13,11 +13,15 @@ use lib.Seq.{getD-set-same, getD-set-other}
 use Rattle.laws.specs.Choice.{pick, by-bool, by-eq}
 use Rattle.model.specs.declared.Interval.{Interval}
 use Rattle.model.specs.declared.Refusal.{Refusal}
-use Rattle.model.specs.declared.Refusal.the-variants.{NoSuchProcess, SenderIsReceiver, NotUnderWay, TooManyUnderWay, MessageNumbersUsed, IntervalsUsed}
+use Rattle.model.specs.declared.Refusal.the-variants.{NoSuchProcess, NotUnderWay, IntervalsUsed}
 use Rattle.model.specs.Words.{entry, ones, mostUnderWay, mostMessages, mostInterval}
 use Rattle.model.specs.Steps.{advanced, takenVector, started}
 use Rattle.model.specs.Refusals.{firstOf}
 use Rattle.model.specs.Outcomes.{judged}
+use Rattle.plans.specs.declared.Verdict.{Verdict}
+use Rattle.plans.specs.declared.Verdict.the-variants as verdict
+use Rattle.plans.specs.Planned.{refusalOf, sendVerdict}
+use Rattle.plans.proofs.Cases.{accepted-send}
 use Rattle.decision.specs.Rows.{rowOf, putRow, entryAt, put-same, put-other, put-length}
 use Rattle.judge_trace.specs.declared.reading.Progress.{Progress}
 use Rattle.judge_trace.specs.declared.reading.Taking.{Taking}
@@ -107,14 +111,9 @@ module _ (n : ℕ) (s : Progress) (i : ℕ) (vectors process : List ℕ) where
   unfolding checkpointStep checkpointVectors checkpointProcess
   checkpoint-taken e v is = (rw e, rw (e, is), rw e)
 
--- A send. The refusals in document 01's order.
+-- A send.
 unfoldable pub sendRefusal : ℕ → Progress → ℕ → ℕ → Option Refusal
-sendRefusal n s i j = firstOf (
-    record { holds = leb n i || leb n j; gives = NoSuchProcess }
-    ∷ record { holds = eqb i j; gives = SenderIsReceiver }
-    ∷ record { holds = leb mostUnderWay (s .underway); gives = TooManyUnderWay }
-    ∷ record { holds = leb mostMessages (s .last); gives = MessageNumbersUsed }
-    ∷ [])
+sendRefusal n s i j = refusalOf (sendVerdict i j n (s .underway) (s .last))
 
 unfoldable pub withMessage : Progress → Progress
 withMessage s = record { rows = s .rows; current = s .current; underway = s .underway + 1; last = s .last + 1 }
@@ -150,16 +149,13 @@ unfoldable pub sendTo : ℕ → Progress → ℕ → ℕ → List ℕ → List �
 sendTo n s i j to = tableBy (sendRefusal n s i j) to (set to (s .last) 0)
 
 -- A send that is not refused; and the two ends of a send, by the answer of `send_refusal`.
-pub send-free : (n : ℕ) (s : Progress) (i j : ℕ) → sendRefusal n s i j ≡ none → (i < n) × (j < n)
-unfolding sendRefusal firstOf
-send-free n s i j e = by-bool (leb n i)
-    (λ a. absurd (some-none (rw a at e)))
-    (λ a. by-bool (leb n j)
-    (λ b. absurd (some-none (rw (a, b) at e)))
-    (λ b. (leb-false n i a, leb-false n j b)))
+pub send-free : (n : ℕ) (s : Progress) (i j : ℕ) → sendRefusal n s i j ≡ none → (i < n) × (j < n) × (s .underway < 64) × (s .last < 1000000)
+unfolding sendRefusal
+send-free n s i j e = accepted-send i j n (s .underway) (s .last) (accepted _ e)
   where
-    some-none : {r : Refusal} → some r ≡ none → ⊥
-    some-none e = let z : _≡_ {A = ℕ} 0 1 = cc in omega arith
+    accepted : (v : Verdict) → refusalOf v ≡ none → v ≡ verdict.Accepted
+    accepted verdict.Accepted d = refl
+    accepted (verdict.Refused why) d = unfold refusalOf in absurd (let z : _≡_ {A = ℕ} 0 1 = cc in omega arith)
 
 module _ (n : ℕ) (s : Progress) (i j : ℕ) (vectors carried passing from to : List ℕ) where
   pub send-refused : (why : Refusal) → some why ≡ sendRefusal n s i j

@@ -3,6 +3,7 @@
 // the row of its send, and `to` the row of its receipt and 1, or 0.
 use model::Event;
 use model::Refusal;
+use plans::Verdict;
 use trace::Decoded;
 ghost use mathlib.Core.Path.{_≡_};
 ghost use mathlib.Core.Option.{some};
@@ -91,7 +92,8 @@ fn read_checkpoint(
     let row = s.current[i];
     let v = decision::flat::row_at(vectors, row);
     let own = v[i];
-    if 65535 <= own.0 {
+    let full = plans::is_last_interval(own);
+    if full {
         return refuse(Refusal::IntervalsUsed, s);
     }
     let w = rows::vector::advanced(v, i);
@@ -102,28 +104,16 @@ fn read_checkpoint(
     take(more)
 }
 
-// Whether a send is refused, in document 01's order.
+// Whether a send is refused, and why.
 fn send_refusal(s: Progress, n: usize, i: usize, receiver: usize) -> Taking
+    requires { ⌜ s .last < 4096 ⌝ }
     ensures { λ r. ⌜ refusalIn r ≡ sendRefusal n s i receiver ⌝ }
 {
-    if n <= i {
-        return Taking::Refused(Refusal::NoSuchProcess);
+    let verdict = plans::send_verdict(i, receiver, n, s.underway, s.last as u32);
+    match verdict {
+        Verdict::Refused(why) => Taking::Refused(why),
+        Verdict::Accepted => Taking::Taken,
     }
-    if n <= receiver {
-        return Taking::Refused(Refusal::NoSuchProcess);
-    }
-    if i == receiver {
-        return Taking::Refused(Refusal::SenderIsReceiver);
-    }
-    let underway = s.underway;
-    if 64 <= underway {
-        return Taking::Refused(Refusal::TooManyUnderWay);
-    }
-    let last = s.last;
-    if 1000000 <= last {
-        return Taking::Refused(Refusal::MessageNumbersUsed);
-    }
-    Taking::Taken
 }
 
 // One message more.

@@ -2,22 +2,84 @@
 -- forces has an index left and room for its blocks.
 -- Assumes nothing.
 use mathlib.Core.Path.{_≡_, refl, _∙_}
-use mathlib.Core.Bool.{Bool, true, false, _&&_}
-use mathlib.Core.List.{List}
-use Prim.Native.Nat.{ℕ}
-use lib.Dec.{leb}
-use Rattle.laws.specs.Choice.{pick}
+use mathlib.Core.Bool.{Bool, true, false, _&&_, _||_}
+use mathlib.Core.List.{List, [], _∷_}
+use Prim.Native.Nat.{ℕ, _<_}
+use native.Mathlib.Omega.{arith}
+use lib.Dec.{eqb, leb}
+use borrow.Author.Tests.{leb-false}
+use Rattle.laws.specs.Choice.{pick, by-bool}
 use Rattle.model.specs.declared.Interval.{Interval}
-use Rattle.model.specs.declared.Refusal.the-variants.{NotUnderWay, IntervalsUsed, BlocksUsed}
+use Rattle.model.specs.declared.Refusal.{Refusal}
+use Rattle.model.specs.declared.Refusal.the-variants.{NoSuchProcess, SenderIsReceiver, NotUnderWay, TooManyUnderWay, MessageNumbersUsed, IntervalsUsed, BlocksUsed}
+use Rattle.model.specs.Words.{mostUnderWay, mostMessages}
 use Rattle.model.specs.Steps.{newer}
+use Rattle.model.specs.Refusals.{firstOf}
 use Rattle.plans.specs.declared.Lookup.{Lookup}
 use Rattle.plans.specs.declared.Plan.{Plan}
-use Rattle.plans.specs.Planned.{unchanged, pastMost, withoutIt, receiptPlan, deliverPlan, losePlan}
+use Rattle.plans.specs.declared.Verdict.{Verdict}
+use Rattle.plans.specs.declared.Verdict.the-variants.{Accepted, Refused}
+use Rattle.plans.specs.Planned.{refusalOf, unchanged, pastMost, sentPlan, sendVerdict, planBy, sendPlan, withoutIt, receiptPlan, deliverPlan, losePlan}
 
 -- What holds of both of two plans holds of one of them that a test picks.
 pub either-plan : (Q : Plan → Type 0) (b : Bool) (x y : Plan) → (b ≡ true → Q x) → (b ≡ false → Q y) → Q (pick b x y)
 either-plan Q true x y f g = f refl
 either-plan Q false x y f g = g refl
+
+-- An accepted send is from one process of the run to another; it has room in the table, and a number is left.
+pub accepted-send : (i j n underway last : ℕ) → sendVerdict i j n underway last ≡ Accepted → (i < n) × (j < n) × (underway < 64) × (last < 1000000)
+unfolding sendVerdict
+accepted-send i j n underway last =
+    unless (leb n i) NoSuchProcess _ (λ from. unless (leb n j) NoSuchProcess _ (λ to. unless (eqb i j) SenderIsReceiver _
+    (λ apart. unless (leb 64 underway) TooManyUnderWay _ (λ few. unless (leb 1000000 last) MessageNumbersUsed _
+    (λ left e. (leb-false n i from, leb-false n j to, leb-false 64 underway few, leb-false 1000000 last left))))))
+  where
+    unless : {P : Type 0} (b : Bool) (why : Refusal) (v : Verdict) → (b ≡ false → v ≡ Accepted → P) → pick b (Refused why) v ≡ Accepted → P
+    unless true why v f e = absurd (let z : _≡_ {A = ℕ} 0 1 = cc in omega arith)
+    unless false why v f e = f refl e
+
+-- The verdict is the first of the rules that holds.
+pub verdict-rules : (i j n underway last : ℕ) → refusalOf (sendVerdict i j n underway last) ≡ firstOf (
+    record { holds = leb n i || leb n j; gives = NoSuchProcess }
+    ∷ record { holds = eqb i j; gives = SenderIsReceiver }
+    ∷ record { holds = leb mostUnderWay underway; gives = TooManyUnderWay }
+    ∷ record { holds = leb mostMessages last; gives = MessageNumbersUsed }
+    ∷ [])
+unfolding refusalOf sendVerdict firstOf
+verdict-rules i j n underway last = by-bool (leb n i) (λ a. rw a)
+    (λ a. by-bool (leb n j) (λ b. rw (a, b))
+    (λ b. by-bool (eqb i j) (λ d. rw (a, b, d))
+    (λ d. by-bool (leb 64 underway) (λ e. rw (a, b, d, e))
+    (λ e. by-bool (leb 1000000 last) (λ f. rw (a, b, d, e, f)) (λ f. rw (a, b, d, e, f))))))
+
+-- A send in its cases: which test refuses it, those before it passed, or none does.
+module _ (i j n : ℕ) (vector : List Interval) (mark : Bool) (t : Lookup) (Q : Plan → Type 0) where
+  abbrev Says : Verdict → Type 0
+  Says v = Q (planBy v mark t (sentPlan i j vector t))
+
+  either-says : (b : Bool) (v w : Verdict) → (b ≡ true → Says v) → (b ≡ false → Says w) → Says (pick b v w)
+  either-says true v w f g = f refl
+  either-says false v w f g = g refl
+
+  pub send-cases : (leb n i ≡ true → Q (unchanged NoSuchProcess mark t))
+      → (leb n i ≡ false → leb n j ≡ true → Q (unchanged NoSuchProcess mark t))
+      → (leb n i ≡ false → leb n j ≡ false → eqb i j ≡ true → Q (unchanged SenderIsReceiver mark t))
+      → (leb n i ≡ false → leb n j ≡ false → eqb i j ≡ false → leb 64 (t .underway) ≡ true → Q (unchanged TooManyUnderWay mark t))
+      → (leb n i ≡ false → leb n j ≡ false → eqb i j ≡ false → leb 64 (t .underway) ≡ false → leb 1000000 (t .last) ≡ true → Q (unchanged MessageNumbersUsed mark t))
+      → (leb n i ≡ false → leb n j ≡ false → eqb i j ≡ false → leb 64 (t .underway) ≡ false → leb 1000000 (t .last) ≡ false → Q (sentPlan i j vector t))
+      → Q (sendPlan i j n vector mark t)
+  unfolding sendPlan sendVerdict planBy
+  send-cases no-sender no-receiver itself many used sent =
+      either-says (leb n i) _ _ no-sender
+      (λ a. either-says (leb n j) _ _ (no-receiver a)
+      (λ b. either-says (eqb i j) _ _ (itself a b)
+      (λ d. either-says (leb 64 (t .underway)) _ _ (many a b d)
+      (λ e. either-says (leb 1000000 (t .last)) _ _ (used a b d e) (sent a b d e)))))
+
+  -- The same where it does not matter which test refuses it.
+  pub send-either : ((why : Refusal) → Q (unchanged why mark t)) → (leb 64 (t .underway) ≡ false → Q (sentPlan i j vector t)) → Q (sendPlan i j n vector mark t)
+  send-either refused sent = send-cases (λ a. refused NoSuchProcess) (λ a b. refused NoSuchProcess) (λ a b d. refused SenderIsReceiver) (λ a b d e. refused TooManyUnderWay)
+      (λ a b d e f. refused MessageNumbersUsed) (λ a b d e f. sent e)
 
 first : (b : Bool) (x y : Plan) → b ≡ true → pick b x y ≡ x
 first b x y e = rw e

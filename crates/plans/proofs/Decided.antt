@@ -39,7 +39,7 @@ use Rattle.plans.specs.Planned.{rowOf, unchanged, pastMost, storedPlan, 
 use Rattle.plans.specs.Sized.{Sized}
 use Rattle.plans.specs.Tables.{LooksUp}
 use Rattle.plans.proofs.Facts.{row-is}
-use Rattle.plans.proofs.Cases.{either-plan, deliver-missing, deliver-cases}
+use Rattle.plans.proofs.Cases.{either-plan, deliver-missing, deliver-cases, send-cases, send-either}
 use Rattle.plans.proofs.Fulfilled.{refused-plan}
 use Rattle.plans.proofs.Looked.{found-it, receiver-present, some-underway}
 use Rattle.plans.proofs.Receiving.{forces-none, still-plan, forces-marked, received-plan}
@@ -136,32 +136,23 @@ module _ (s : Run) (h : sound s ≡ true) (size : Sized s) (table : List Message
         (rw e (sent-plan h size look i j present room))
 
     pub send-decided : (s .underway < 64 → tail < length table) → Fulfils s table first (rowOf i) send (sendRefusal s i j) (sendOutcome s i j .run) []
-    unfolding sendPlan sendRefusal
+    unfolding sendRefusal
     send-decided behind =
-        let either = either-plan (λ p. Fulfils s table first (rowOf i) p (sendRefusal s i j) (sendOutcome s i j .run) []) in
-        either (leb (s .count) i) _ _ (λ e. send-refused NoSuchProcess (refusal-in _ (some NoSuchProcess) (1, (rw h, tt), or-left (leb (s .count) i) _ e, refl)))
-        (λ from. either (leb (s .count) j) _ _
-        (λ e. send-refused NoSuchProcess (refusal-in _ (some NoSuchProcess) (1, (rw h, tt), or-in-right (leb (s .count) i) _ e, refl)))
-        (λ to. let present = or-neither (leb (s .count) i) (leb (s .count) j) from to in
-        either (eqb i j) _ _ (λ e. send-refused SenderIsReceiver (refusal-in _ (some SenderIsReceiver) (2, (rw h, (present, tt)), e, refl)))
-        (λ apart. either (leb 64 (t .underway)) _ _
-        (λ e. send-refused TooManyUnderWay (refusal-in _ (some TooManyUnderWay) (3, (rw h, (present, (apart, tt))), ap (leb 64) (sym (look .many)) ∙ e, refl)))
-        (λ few. let few = ap (leb 64) (sym (look .many)) ∙ few in
-        either (leb 1000000 (t .last)) _ _
-        (λ e. send-refused MessageNumbersUsed
-        (refusal-in _ (some MessageNumbersUsed) (4, (rw h, (present, (apart, (few, tt)))), ap (leb 1000000) (sym (look .used)) ∙ e, refl)))
-        (λ left. send-accepted (leb-false _ _ from) (behind (leb-false _ _ few))
-        (refusal-in _ none (rw h, (present, (apart, (few, (ap (leb 1000000) (sym (look .used)) ∙ left, tt)))))))))))
+        let present : leb (s .count) i ≡ false → leb (s .count) j ≡ false → (leb (s .count) i || leb (s .count) j) ≡ false = or-neither (leb (s .count) i) (leb (s .count) j) in
+        let few : (b : Bool) → leb 64 (t .underway) ≡ b → leb 64 (s .underway) ≡ b = λ b e. ap (leb 64) (sym (look .many)) ∙ e in
+        let used : (b : Bool) → leb 1000000 (t .last) ≡ b → leb 1000000 (s .last) ≡ b = λ b e. ap (leb 1000000) (sym (look .used)) ∙ e in
+        send-cases i j (s .count) (vectorAt s (rowOf i)) (getD (s .sent) (rowOf i) false) t (λ p. Fulfils s table first (rowOf i) p (sendRefusal s i j) (sendOutcome s i j .run) [])
+        (λ a. send-refused NoSuchProcess (refusal-in _ (some NoSuchProcess) (1, (rw h, tt), or-left (leb (s .count) i) _ a, refl)))
+        (λ a b. send-refused NoSuchProcess (refusal-in _ (some NoSuchProcess) (1, (rw h, tt), or-in-right (leb (s .count) i) _ b, refl)))
+        (λ a b e. send-refused SenderIsReceiver (refusal-in _ (some SenderIsReceiver) (2, (rw h, (present a b, tt)), e, refl)))
+        (λ a b d e. send-refused TooManyUnderWay (refusal-in _ (some TooManyUnderWay) (3, (rw h, (present a b, (d, tt))), few true e, refl)))
+        (λ a b d e f. send-refused MessageNumbersUsed (refusal-in _ (some MessageNumbersUsed) (4, (rw h, (present a b, (d, (few false e, tt)))), used true f, refl)))
+        (λ a b d e f. send-accepted (leb-false _ _ a) (behind (leb-false _ _ (few false e)))
+        (refusal-in _ none (rw h, (present a b, (d, (few false e, (used false f, tt)))))))
 
     -- an accepted one is numbered, and none stores a checkpoint
     sent-only : (Q : Plan → Type 0) → ((why : Refusal) → Q (unchanged why (getD (s .sent) (rowOf i) false) t)) → Q (sentPlan i j (vectorAt s (rowOf i)) t) → Q send
-    unfolding sendPlan
-    sent-only Q refused sent =
-        either-plan Q (leb (s .count) i) _ _ (λ e. refused NoSuchProcess)
-        (λ e. either-plan Q (leb (s .count) j) _ _ (λ e. refused NoSuchProcess)
-        (λ e. either-plan Q (eqb i j) _ _ (λ e. refused SenderIsReceiver)
-        (λ e. either-plan Q (leb 64 (t .underway)) _ _ (λ e. refused TooManyUnderWay)
-        (λ e. either-plan Q (leb 1000000 (t .last)) _ _ (λ e. refused MessageNumbersUsed) (λ e. sent)))))
+    sent-only Q refused sent = send-either i j (s .count) (vectorAt s (rowOf i)) (getD (s .sent) (rowOf i) false) t Q refused (λ few. sent)
 
     pub send-numbers : send .verdict ≡ Accepted → (send .sends ≡ true) × (send .last ≡ s .last + 1)
     unfolding unchanged sentPlan

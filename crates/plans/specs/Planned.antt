@@ -89,14 +89,23 @@ sentPlan i j vector t = record {
   cause = initial;
 }
 
+-- Whether a send is refused, and why.
+unfoldable pub sendVerdict : ℕ → ℕ → ℕ → ℕ → ℕ → Verdict
+sendVerdict i j n underway last =
+    pick (leb n i) (Refused NoSuchProcess)
+    (pick (leb n j) (Refused NoSuchProcess)
+    (pick (eqb i j) (Refused SenderIsReceiver)
+    (pick (leb 64 underway) (Refused TooManyUnderWay)
+    (pick (leb 1000000 last) (Refused MessageNumbersUsed)
+    Accepted))))
+
+-- A plan for an accepted call; a refused one changes nothing.
+unfoldable pub planBy : Verdict → Bool → Lookup → Plan → Plan
+planBy Accepted mark t p = p
+planBy (Refused why) mark t p = unchanged why mark t
+
 unfoldable pub sendPlan : ℕ → ℕ → ℕ → List Interval → Bool → Lookup → Plan
-sendPlan i j n vector mark t =
-    pick (leb n i) (unchanged NoSuchProcess mark t)
-    (pick (leb n j) (unchanged NoSuchProcess mark t)
-    (pick (eqb i j) (unchanged SenderIsReceiver mark t)
-    (pick (leb 64 (t .underway)) (unchanged TooManyUnderWay mark t)
-    (pick (leb 1000000 (t .last)) (unchanged MessageNumbersUsed mark t)
-    (sentPlan i j vector t)))))
+sendPlan i j n vector mark t = planBy (sendVerdict i j n (t .underway) (t .last)) mark t (sentPlan i j vector t)
 
 -- The message is no longer under way: its place is unused then.
 unfoldable pub withoutIt : Bool → Lookup → Plan

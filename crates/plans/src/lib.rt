@@ -6,11 +6,11 @@ use model::Message;
 use model::Refusal;
 ghost use mathlib.Core.Path.{_≡_};
 ghost use mathlib.Core.Bool.{true};
-ghost use Prim.Native.Nat.{_≤_};
+ghost use Prim.Native.Nat.{_≤_, _<_};
 ghost use lib.Dec.{leb};
 ghost use Prim.Native.Nat.{_^_};
 ghost use Rattle.model.specs.Words.{noMessage};
-ghost use Rattle.plans.specs.Planned.{rowOf, unchanged, pastMost, checkpointPlan, sendPlan, withoutIt, receiptPlan, deliverPlan, losePlan, recoveryVerdict, recoveryIf};
+ghost use Rattle.plans.specs.Planned.{rowOf, unchanged, pastMost, checkpointPlan, sendVerdict, sentPlan, sendPlan, withoutIt, receiptPlan, deliverPlan, losePlan, recoveryVerdict, recoveryIf};
 
 pub enum Verdict {
     Accepted,
@@ -96,6 +96,13 @@ pub fn unchanged(why: Refusal, mark: bool, t: Lookup) -> Plan
     }
 }
 
+// The own entry is that of the last interval: no checkpoint can follow.
+pub fn is_last_interval(own: Interval) -> bool
+    ensures { λ r. ⌜ r ≡ leb 65535 (own .0) ⌝ }
+{
+    65535 <= own.0
+}
+
 // One more checkpoint of `blocks` blocks would take the blocks written past the bound. The difference is tested: no sum of a free number is made.
 fn is_past_bound(written: u64, blocks: u16) -> bool
     ensures { λ r. ⌜ r ≡ pastMost written blocks ⌝ }
@@ -119,7 +126,8 @@ pub fn checkpoint_plan(
     if n <= i {
         return unchanged(Refusal::NoSuchProcess, mark, t);
     }
-    if 65535 <= own.0 {
+    let full = is_last_interval(own);
+    if full {
         return unchanged(Refusal::IntervalsUsed, mark, t);
     }
     let past = is_past_bound(written, blocks);
@@ -145,33 +153,39 @@ pub fn checkpoint_plan(
     }
 }
 
-// A send. `vector` is the sender's; the message goes behind those under way.
-pub fn send_plan(
+// Whether a send is refused, and why, where `underway` messages are under way and `last` is the last number used.
+pub fn send_verdict(
     sender: usize,
     receiver: usize,
     n: usize,
-    vector: [Interval; 16],
-    mark: bool,
-    t: Lookup,
-) -> Plan
-    requires { ⌜ t .tail ≤ 1087 ⌝ }
-    ensures { λ r. ⌜ r ≡ sendPlan sender receiver n vector mark t ⌝ }
+    underway: usize,
+    last: u32,
+) -> Verdict
+    ensures { λ r. ⌜ r ≡ sendVerdict sender receiver n underway last ⌝ }
 {
     if n <= sender {
-        return unchanged(Refusal::NoSuchProcess, mark, t);
+        return Verdict::Refused(Refusal::NoSuchProcess);
     }
     if n <= receiver {
-        return unchanged(Refusal::NoSuchProcess, mark, t);
+        return Verdict::Refused(Refusal::NoSuchProcess);
     }
     if sender == receiver {
-        return unchanged(Refusal::SenderIsReceiver, mark, t);
+        return Verdict::Refused(Refusal::SenderIsReceiver);
     }
-    if 64 <= t.underway {
-        return unchanged(Refusal::TooManyUnderWay, mark, t);
+    if 64 <= underway {
+        return Verdict::Refused(Refusal::TooManyUnderWay);
     }
-    if 1000000 <= t.last {
-        return unchanged(Refusal::MessageNumbersUsed, mark, t);
+    if 1000000 <= last {
+        return Verdict::Refused(Refusal::MessageNumbersUsed);
     }
+    Verdict::Accepted
+}
+
+// The message goes behind those under way; `vector` is the sender's.
+fn sent_plan(sender: usize, receiver: usize, vector: [Interval; 16], t: Lookup) -> Plan
+    requires { ⌜ (t .tail ≤ 1087) × (t .underway < 64) × (t .last < 1000000) ⌝ }
+    ensures { λ r. ⌜ r ≡ sentPlan sender receiver vector t ⌝ }
+{
     let number = t.last + 1;
     let message = Message {
         number,
@@ -192,6 +206,25 @@ pub fn send_plan(
         last: number,
         tail: t.tail + 1,
         cause: 0,
+    }
+}
+
+// A send. `vector` is the sender's.
+pub fn send_plan(
+    sender: usize,
+    receiver: usize,
+    n: usize,
+    vector: [Interval; 16],
+    mark: bool,
+    t: Lookup,
+) -> Plan
+    requires { ⌜ t .tail ≤ 1087 ⌝ }
+    ensures { λ r. ⌜ r ≡ sendPlan sender receiver n vector mark t ⌝ }
+{
+    let verdict = send_verdict(sender, receiver, n, t.underway, t.last);
+    match verdict {
+        Verdict::Refused(why) => unchanged(why, mark, t),
+        Verdict::Accepted => sent_plan(sender, receiver, vector, t),
     }
 }
 
@@ -265,7 +298,7 @@ pub fn deliver_plan(
     if !newer {
         return without_it(mark, t);
     }
-    let full = 65535 <= own.0;
+    let full = is_last_interval(own);
     if mark & full {
         return unchanged(Refusal::IntervalsUsed, mark, t);
     }

@@ -13,14 +13,14 @@ use Rattle.model.specs.declared.Interval.{Interval}
 use Rattle.model.specs.declared.Event.{Event}
 use Rattle.model.specs.declared.Event.the-variants.{Checkpoint as CheckpointEvent, Send, Deliver, Lose, Recover}
 use Rattle.model.specs.declared.Refusal.{Refusal}
-use Rattle.model.specs.declared.Refusal.the-variants.{NoSuchProcess, SenderIsReceiver, NoSuchFailedProcess, NotUnderWay, TooManyUnderWay, MessageNumbersUsed, IntervalsUsed, MalformedRecord, BlocksUsed}
+use Rattle.model.specs.declared.Refusal.the-variants.{NoSuchProcess, NoSuchFailedProcess, NotUnderWay, IntervalsUsed, MalformedRecord, BlocksUsed}
 use Rattle.model.specs.Words.{noMessage}
 use Rattle.plans.specs.declared.Lookup.{Lookup}
 use Rattle.plans.specs.declared.Plan.{Plan}
 use Rattle.plans.specs.declared.Verdict.{Verdict}
 use Rattle.plans.specs.declared.Verdict.the-variants.{Accepted, Refused}
-use Rattle.plans.specs.Planned.{unchanged, pastMost, storedPlan, checkpointPlan, sentPlan, sendPlan, withoutIt, receiptPlan, losePlan, recoveryVerdict}
-use Rattle.plans.proofs.Cases.{either-plan, deliver-cases}
+use Rattle.plans.specs.Planned.{unchanged, pastMost, storedPlan, checkpointPlan, sentPlan, withoutIt, receiptPlan, losePlan, recoveryVerdict}
+use Rattle.plans.proofs.Cases.{either-plan, send-either, deliver-cases}
 use Rattle.replay_block.specs.Record.{refusedPlan, planOf, numberOf}
 
 module _ (mark : Bool) (t : Lookup) where
@@ -31,18 +31,13 @@ module _ (mark : Bool) (t : Lookup) where
 
   pub every-plan : (n : ℕ) (vector : List Interval) (own : Interval) (written : ℕ) (Q : Plan → Type 0) → ((why : Refusal) → Q (unchanged why mark t)) → Q (storedPlan t)
       → ((i j : ℕ) → Q (sentPlan i j vector t)) → Q (withoutIt mark t) → Q (receiptPlan mark t) → (e : Option Event) → Q (planOf e n vector own mark written t)
-  unfolding planOf checkpointPlan sendPlan losePlan
+  unfolding planOf checkpointPlan losePlan
   every-plan n vector own written Q refused stored sent without received none = refused MalformedRecord
   every-plan n vector own written Q refused stored sent without received (some (CheckpointEvent i)) =
       either-plan Q (leb n i) _ _ (λ e. refused NoSuchProcess)
       (λ e. either-plan Q (leb 65535 (own .0)) _ _ (λ e. refused IntervalsUsed)
       (λ e. either-plan Q (pastMost written 1) _ _ (λ e. refused BlocksUsed) (λ e. stored)))
-  every-plan n vector own written Q refused stored sent without received (some (Send i j)) =
-      either-plan Q (leb n i) _ _ (λ e. refused NoSuchProcess)
-      (λ e. either-plan Q (leb n j) _ _ (λ e. refused NoSuchProcess)
-      (λ e. either-plan Q (eqb i j) _ _ (λ e. refused SenderIsReceiver)
-      (λ e. either-plan Q (leb 64 (t .underway)) _ _ (λ e. refused TooManyUnderWay)
-      (λ e. either-plan Q (leb 1000000 (t .last)) _ _ (λ e. refused MessageNumbersUsed) (λ e. sent i j)))))
+  every-plan n vector own written Q refused stored sent without received (some (Send i j)) = send-either i j n vector mark t Q refused (λ few. sent i j)
   every-plan n vector own written Q refused stored sent without received (some (Deliver m)) =
       deliver-cases vector own mark 1 written t Q (λ e. refused NotUnderWay) (λ e q. without) (λ e q g. refused IntervalsUsed) (λ e q g k. refused BlocksUsed) (λ e q g k. received)
   every-plan n vector own written Q refused stored sent without received (some (Lose m)) =

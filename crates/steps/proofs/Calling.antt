@@ -45,7 +45,7 @@ use Rattle.plans.specs.Sized.{Sized}
 use Rattle.plans.specs.Tables.{inUse, messagesIn, LooksUp}
 use Rattle.plans.proofs.Facts.{row-is}
 use Rattle.plans.proofs.Filled.{messages-filled, messages-many}
-use Rattle.plans.proofs.Cases.{either-plan}
+use Rattle.plans.proofs.Cases.{either-plan, send-either}
 use Rattle.plans.proofs.Decided.{found-underway, checkpoint-decided, checkpoint-stores, send-decided, send-numbers, deliver-decided, deliver-forces, deliver-rises, lose-decided}
 use Rattle.plans.proofs.Looked.{put-back, put-behind, receiver-present}
 use Rattle.steps.specs.Messages.{noneNamed, lookedUp, Closed}
@@ -141,14 +141,8 @@ module _ (s : Run) (h : sound s ≡ true) (size : Sized s) where
         )
 
     straight : (vector : List Interval) (mark : Bool) → Straight (sendPlan i j (s .count) vector mark t)
-    unfolding sendPlan
-    straight vector mark =
-        either-plan Straight (leb (s .count) i) _ _ (λ e. same-table NoSuchProcess mark)
-        (λ e. either-plan Straight (leb (s .count) j) _ _ (λ e. same-table NoSuchProcess mark)
-        (λ e. either-plan Straight (eqb i j) _ _ (λ e. same-table SenderIsReceiver mark)
-        (λ e. either-plan Straight (leb 64 (t .underway)) _ _ (λ e. same-table TooManyUnderWay mark)
-        (λ few. either-plan Straight (leb 1000000 (t .last)) _ _ (λ e. same-table MessageNumbersUsed mark)
-        (λ e. one-more vector (leb-false 64 (s .underway) (ap (leb 64) (sym (look .many)) ∙ few)))))))
+    straight vector mark = send-either i j (s .count) vector mark t Straight (λ why. same-table why mark)
+        (λ few. one-more vector (leb-false 64 (s .underway) (ap (leb 64) (sym (look .many)) ∙ few)))
 
     module _ {row : ℕ} {vectors : List (List Interval)} {p : Plan} (e-row : row ≡ rowOf i) (e-vectors : vectors ≡ s .vectors .0)
         (e-p : p ≡ sendPlan i j (s .count) (getD vectors row []) (getD (s .sent) row false) t) where

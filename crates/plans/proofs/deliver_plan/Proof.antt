@@ -33,22 +33,26 @@ returns-2 c =
 
 returns-3 : tie.Need-returns-3
 returns-3 c =
-    let e = c .before .before .before in
+    let f = c .before .before in
+    let e = f .before in
     let n = e .before in
     let a = start n .args in
     let new = sym (n .is-newer .ensures) ∙ not-false _ (e .if2 .left) in
-    c .unchanged2 .ensures ∙ sym (deliver-full (a .vector) (a .own) (a .mark) (a .blocks) (a .written) (a .t) (not-false _ (there n .if1 .left)) new (c .before .if3 .taken))
+    let full = ap (λ (b : Bool). a .mark && b) (sym (f .is-last-interval .ensures)) ∙ c .before .if3 .taken in
+    c .unchanged2 .ensures ∙ sym (deliver-full (a .vector) (a .own) (a .mark) (a .blocks) (a .written) (a .t) (not-false _ (there n .if1 .left)) new full)
 
 returns-4 : tie.Need-returns-4
 returns-4 c =
     let p = c .before .before in
-    let e = p .before .before .before in
+    let f = p .before .before in
+    let e = f .before in
     let n = e .before in
     let a = start n .args in
     let new = sym (n .is-newer .ensures) ∙ not-false _ (e .if2 .left) in
+    let free = ap (λ (b : Bool). a .mark && b) (sym (f .is-last-interval .ensures)) ∙ p .before .if3 .left in
     let over = ap (λ (b : Bool). a .mark && b) (sym (p .is-past-bound .ensures)) ∙ c .before .if4 .taken in
     c .unchanged3 .ensures
-    ∙ sym (deliver-over (a .vector) (a .own) (a .mark) (a .blocks) (a .written) (a .t) (not-false _ (there n .if1 .left)) new (p .before .if3 .left) over)
+    ∙ sym (deliver-over (a .vector) (a .own) (a .mark) (a .blocks) (a .written) (a .t) (not-false _ (there n .if1 .left)) new free over)
 
 receipt-plan-requires : tie.Need-receipt-plan-requires
 receipt-plan-requires c κs = let n = c .before .before .before .before .before in start n .pre (not-false _ (there n .if1 .left))
@@ -56,13 +60,15 @@ receipt-plan-requires c κs = let n = c .before .before .before .before .before 
 returns-5 : tie.Need-returns-5
 returns-5 c =
     let p = c .before .before in
-    let e = p .before .before .before in
+    let f = p .before .before in
+    let e = f .before in
     let n = e .before in
     let a = start n .args in
     let new = sym (n .is-newer .ensures) ∙ not-false _ (e .if2 .left) in
+    let free = ap (λ (b : Bool). a .mark && b) (sym (f .is-last-interval .ensures)) ∙ p .before .if3 .left in
     let left = ap (λ (b : Bool). a .mark && b) (sym (p .is-past-bound .ensures)) ∙ c .before .if4 .left in
     c .receipt-plan .ensures
-    ∙ sym (deliver-new (a .vector) (a .own) (a .mark) (a .blocks) (a .written) (a .t) (not-false _ (there n .if1 .left)) new (p .before .if3 .left) left)
+    ∙ sym (deliver-new (a .vector) (a .own) (a .mark) (a .blocks) (a .written) (a .t) (not-false _ (there n .if1 .left)) new free left)
 
 pub deliver-plan-spec : {M : Type 1} → statement M
 deliver-plan-spec =
@@ -73,6 +79,7 @@ deliver-plan-spec =
     (λ c κs. search needs)
     without-it-requires
     returns-2
+    (λ c κs. search needs)
     (λ c κs. search needs)
     returns-3
     (λ c κs. search needs)

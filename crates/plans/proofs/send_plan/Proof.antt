@@ -1,87 +1,35 @@
--- `plans::send_plan` meets its contract, refusal by refusal.
+-- `plans::send_plan` meets its contract, by the verdict.
 -- Assumes nothing.
-use native.Mathlib.Omega.{arith}
+use mathlib.Core.Path.{_≡_, sym, _∙_}
 use borrow.Author.Needs.{needs}
-use borrow.Author.Tests.{le-leb, lt-leb, eq-eqb, ne-eqb}
-use Rattle.plans.specs.Planned.{sentPlan, sendPlan}
+use Rattle.plans.specs.declared.Verdict.the-variants.{Accepted}
+use Rattle.plans.specs.Planned.{planBy, sendPlan}
+use Rattle.plans.proofs.Cases.{accepted-send}
 use Rattle.plans.proofs.send_plan.Statement.{statement}
 use Rattle.plans.proofs.send_plan.Tie as tie
 
+sent-plan-requires : tie.Need-sent-plan-requires
+sent-plan-requires c κs =
+    let a = c .before .before .before .args in
+    let v : c .before .before .send-verdict .result ≡ Accepted = search needs in
+    let room = accepted-send (a .sender) (a .receiver) (a .n) (a .t .underway) (a .t .last) (sym (c .before .before .send-verdict .ensures) ∙ v) in
+    (c .before .before .before .pre, room .2, room .3)
+
 returns : tie.Need-returns
-unfolding sendPlan
-returns c =
-    let a = c .before .before .args in
-    rw (le-leb (a .n) (a .sender) (c .before .if1 .taken)) (c .unchanged .ensures)
+unfolding planBy sendPlan
+returns c = rw (sym (c .before .before .before .before .send-verdict .ensures), c .before .before .verdict .given .1) (c .unchanged .ensures)
 
 returns-2 : tie.Need-returns-2
-unfolding sendPlan
+unfolding planBy sendPlan
 returns-2 c =
-    let a = c .before .before .before .args in
-    rw (
-      lt-leb (a .n) (a .sender) (c .before .before .if1 .left),
-      le-leb (a .n) (a .receiver) (c .before .if2 .taken),
-    ) (c .unchanged2 .ensures)
-
-returns-3 : tie.Need-returns-3
-unfolding sendPlan
-returns-3 c =
-    let a = c .before .before .before .before .args in
-    rw (
-      lt-leb (a .n) (a .sender) (c .before .before .before .if1 .left),
-      lt-leb (a .n) (a .receiver) (c .before .before .if2 .left),
-      eq-eqb (a .sender) (a .receiver) (c .before .if3 .taken),
-    ) (c .unchanged3 .ensures)
-
-returns-4 : tie.Need-returns-4
-unfolding sendPlan
-returns-4 c =
-    let a = c .before .before .before .before .before .before .args in
-    rw (
-      lt-leb (a .n) (a .sender) (c .before .before .before .before .before .if1 .left),
-      lt-leb (a .n) (a .receiver) (c .before .before .before .before .if2 .left),
-      ne-eqb (a .sender) (a .receiver) (c .before .before .before .if3 .left),
-      le-leb 64 (a .t .underway) (c .before .if4 .taken),
-    ) (c .unchanged4 .ensures)
-
-returns-5 : tie.Need-returns-5
-unfolding sendPlan
-returns-5 c =
-    let a = c .before .before .before .before .before .before .before .before .args in
-    rw (
-      lt-leb (a .n) (a .sender) (c .before .before .before .before .before .before .before .if1 .left),
-      lt-leb (a .n) (a .receiver) (c .before .before .before .before .before .before .if2 .left),
-      ne-eqb (a .sender) (a .receiver) (c .before .before .before .before .before .if3 .left),
-      lt-leb 64 (a .t .underway) (c .before .before .before .if4 .left),
-      le-leb 1000000 (a .t .last) (omega (arith, c .before .if5 .taken)),
-    ) (c .unchanged5 .ensures)
-
-returns-6 : tie.Need-returns-6
-unfolding sendPlan sentPlan
-returns-6 c =
-    let a = c .before .before .before .before .before .before .before .before .before .before .args in
-    rw (
-      lt-leb (a .n) (a .sender) (c .before .before .before .before .before .before .before .before .before .if1 .left),
-      lt-leb (a .n) (a .receiver) (c .before .before .before .before .before .before .before .before .if2 .left),
-      ne-eqb (a .sender) (a .receiver) (c .before .before .before .before .before .before .before .if3 .left),
-      lt-leb 64 (a .t .underway) (c .before .before .before .before .before .if4 .left),
-      lt-leb 1000000 (a .t .last) (c .before .before .before .if5 .left),
-    )
+    let v : c .before .before .before .send-verdict .result ≡ Accepted = search needs in
+    rw (sym (c .before .before .before .send-verdict .ensures), v) (c .sent-plan .ensures)
 
 pub send-plan-spec : {M : Type 1} → statement M
 send-plan-spec =
     tie.close
     (tie.spec
-    (λ c κs. search needs)
+    (λ c κs. search needs) (λ c. search needs) (λ c κs. search needs) (λ c. search needs)
+    sent-plan-requires
     returns
-    (λ c κs. search needs)
-    returns-2
-    (λ c κs. search needs)
-    returns-3
-    (λ c κs. search needs)
-    returns-4
-    (λ c κs. search needs)
-    returns-5
-    (λ c. search needs)
-    (λ c. search needs)
-    (λ c. search needs)
-    returns-6)
+    returns-2)

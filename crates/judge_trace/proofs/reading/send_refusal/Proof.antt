@@ -1,34 +1,20 @@
--- `judge_trace::reading::send_refusal` meets its contract: one test after the other.
+-- `judge_trace::reading::send_refusal` meets its contract, by the verdict.
 -- Assumes nothing.
-use borrow.Author.Tests.{le-leb, lt-leb, eq-eqb, ne-eqb}
-use Rattle.model.specs.Refusals.{firstOf}
+use mathlib.Core.Path.{_≡_, sym, _∙_, ap}
+use borrow.Author.Needs.{needs}
+use Rattle.plans.specs.declared.Verdict.the-variants.{Accepted}
+use Rattle.plans.specs.Planned.{refusalOf}
 use Rattle.judge_trace.specs.Readings.{refusalIn, sendRefusal}
 use Rattle.judge_trace.proofs.reading.send_refusal.Statement.{statement}
 use Rattle.judge_trace.proofs.reading.send_refusal.Tie as tie
 
 returns : tie.Need-returns
-unfolding refusalIn sendRefusal firstOf
-returns c = rw (le-leb _ _ (c .if1 .taken))
+unfolding refusalIn refusalOf sendRefusal
+returns c = rw (sym (c .before .before .before .send-verdict .ensures), c .before .verdict .given .1)
 
 returns-2 : tie.Need-returns-2
-unfolding refusalIn sendRefusal firstOf
-returns-2 c = rw (lt-leb _ _ (c .before .if1 .left), le-leb _ _ (c .if2 .taken))
-
-returns-3 : tie.Need-returns-3
-unfolding refusalIn sendRefusal firstOf
-returns-3 c = rw (lt-leb _ _ (c .before .before .if1 .left), lt-leb _ _ (c .before .if2 .left), eq-eqb _ _ (c .if3 .taken))
-
-returns-4 : tie.Need-returns-4
-unfolding refusalIn sendRefusal firstOf
-returns-4 c = rw (lt-leb _ _ (c .before .before .before .if1 .left), lt-leb _ _ (c .before .before .if2 .left), ne-eqb _ _ (c .before .if3 .left), le-leb _ _ (c .if4 .taken))
-
-returns-5 : tie.Need-returns-5
-unfolding refusalIn sendRefusal firstOf
-returns-5 c = rw (lt-leb _ _ (c .before .before .before .before .if1 .left), lt-leb _ _ (c .before .before .before .if2 .left), ne-eqb _ _ (c .before .before .if3 .left), lt-leb _ _ (c .before .if4 .left), le-leb _ _ (c .if5 .taken))
-
-returns-6 : tie.Need-returns-6
-unfolding refusalIn sendRefusal firstOf
-returns-6 c = rw (lt-leb _ _ (c .before .before .before .before .if1 .left), lt-leb _ _ (c .before .before .before .if2 .left), ne-eqb _ _ (c .before .before .if3 .left), lt-leb _ _ (c .before .if4 .left), lt-leb _ _ (c .if5 .left))
+unfolding refusalIn refusalOf sendRefusal
+returns-2 c = let v : c .before .before .send-verdict .result ≡ Accepted = search needs in rw (sym (c .before .before .send-verdict .ensures), v)
 
 pub send-refusal-spec : {M : Type 1} → statement M
-send-refusal-spec = tie.close (tie.spec returns returns-2 returns-3 returns-4 returns-5 returns-6)
+send-refusal-spec = tie.close (tie.spec (λ c. search needs) (λ c κs. search needs) (λ c. search needs) (λ c. search needs) returns returns-2)
