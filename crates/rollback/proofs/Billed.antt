@@ -18,7 +18,7 @@ use Rattle.model.specs.Steps.{billed}
 use Rattle.rows.proofs.Blocks.{times-at-most, take-most}
 use Rattle.recovery.specs.Recovery.{stays}
 use Rattle.rollback.specs.Members.{firstCount, HeldAtMost, CountsAtMost}
-use Rattle.rollback.specs.Returned.{noIndex}
+use Rattle.going_back.specs.Returned.{noIndex}
 use Rattle.rollback.specs.After.{rowAt, goneAt, lossesAt, blocksBelow}
 use Rattle.rollback.proofs.Recovering.{listed-length}
 

@@ -7,4 +7,3 @@ pub mod RecoverCall
 pub mod Recovered
 pub mod Recovering
 pub mod Restores
-pub mod Returning

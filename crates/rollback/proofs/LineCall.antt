@@ -4,17 +4,15 @@ use mathlib.Core.Path.{_≡_, refl}
 use mathlib.Core.Bool.{Bool, true, false}
 use mathlib.Core.List.{List, [], _∷_}
 use mathlib.Core.Option.{none, some}
-use Prim.Native.Nat.{ℕ, _<_}
-use lib.ListN.{length}
+use Prim.Native.Nat.{ℕ}
 use lib.Seq.{sets}
-use borrow.Author.Tests.{lt-ltb}
 use Rattle.model.specs.declared.Run.{Run}
 use Rattle.model.specs.declared.Refusal.{Refusal}
 use Rattle.model.specs.declared.Refusal.the-variants.{ListTooShort}
 use Rattle.model.specs.declared.LineAnswer.the-variants.{Refused, Written}
 use Rattle.model.specs.Sound.{sound}
 use Rattle.model.specs.Steps.{lineOf}
-use Rattle.model.specs.Refusals.{firstOf, lineRefusal}
+use Rattle.model.specs.Refusals.{shortLine, firstOf, lineRefusal}
 use Rattle.model.specs.Outcomes.{lineOutcome}
 use Rattle.model.specs.laws.Refusals.{refusal-in}
 use Rattle.rollback.specs.declared.line.LineOutcome.{LineOutcome}
@@ -26,9 +24,9 @@ one-holds b x e = refusal-in _ (some x) (0, tt, e, refl)
 pub one-fails : (b : Bool) (x : Refusal) → b ≡ false → firstOf (record { holds = b; gives = x } ∷ []) ≡ none
 one-fails b x e = refusal-in _ none (e, tt)
 
-pub line-short : (s : Run) (F : ℕ) (l : List ℕ) → sound s ≡ true → length l < s .count → lineRefusal s F l ≡ some ListTooShort
+pub line-short : (s : Run) (F : ℕ) (l : List ℕ) → sound s ≡ true → shortLine s l ≡ true → lineRefusal s F l ≡ some ListTooShort
 unfolding lineRefusal
-line-short s F l h short = refusal-in _ (some ListTooShort) (1, (rw h, tt), lt-ltb _ _ short, refl)
+line-short s F l h short = refusal-in _ (some ListTooShort) (1, (rw h, tt), short, refl)
 
 module _ (s : Run) (F : ℕ) (l m : List ℕ) (o : LineOutcome) where
   abbrev pub LineFits : Type 0

@@ -12,6 +12,7 @@ use Rattle.laws.specs.Loops.{below-at}
 use Rattle.laws.specs.Tables.{table-same}
 use Rattle.laws.specs.Below.{not-out, all-not-any, below-same}
 use Rattle.model.specs.declared.Interval.{Interval}
+use Rattle.model.specs.declared.CheckpointIndex.{CheckpointIndex}
 use Rattle.model.specs.declared.Checkpoint.{Checkpoint}
 use Rattle.model.specs.declared.Run.{Run}
 use Rattle.model.specs.Words.{pastEnd, noCheckpoint, live, process}
@@ -22,6 +23,7 @@ use Rattle.members.specs.Line.{liveFrom, ownRow, failedRow, allowedBy, latestBy
 use Rattle.members.specs.Turn.{memberBy, memberFrom}
 use Rattle.members.proofs.LineRule.{own-row-at, latest-by-row}
 use Rattle.members.proofs.Member.{member-from, found-from}
+use Rattle.going_back.proofs.Returning.{Returning, same-vector}
 use Rattle.rollback.specs.declared.line.Members.{Members}
 use Rattle.rollback.specs.Members.{latestAt, memberAt, unusedRow, membersOf, statesOf, membersIn}
 
@@ -49,6 +51,17 @@ unfolding memberAt membersOf
 member-state n F vectors kept held p most lt =
     let size : length unusedRow ≡ 16 = length-replicate 16 noCheckpoint in
     sym (below-at (memberAt n (ownRow vectors) F vectors kept held) unusedRow n p pastEnd lt (omega arith))
+
+-- A loop that finds each member when it comes to its process: from the rows of the next one as they stand.
+pub next-member : {n : ℕ} {vectors₀ : List (List Interval)} {sent₀ : List Bool} {vectors : List (List Interval)} {sent rolled : List Bool}
+    {members : List CheckpointIndex} {back f : ℕ} (F : ℕ) (kept : List (List Checkpoint)) (held : List ℕ)
+    → Returning n (statesOf n F vectors₀ kept held) vectors₀ sent₀ vectors sent rolled members back f → n ≤ 16 → f < n → (m : Checkpoint)
+    → m ≡ memberBy (failedRow n F) (ownRow vectors₀) f (getD vectors f []) (getD held f 0) (getD kept f [])
+    → m ≡ getD (statesOf n F vectors₀ kept held) f pastEnd
+next-member {n} {vectors₀} {sent₀} {vectors} {sent} {rolled} {members} {back} {f} F kept held so-far most lt m e =
+    e
+    ∙ ap (λ (v : List Interval). memberBy (failedRow n F) (ownRow vectors₀) f v (getD held f 0) (getD kept f [])) (same-vector so-far)
+    ∙ member-state n F vectors₀ kept held f most lt
 
 -- What is found is in the state, where the own entries are the state's.
 module _ (s : Run) (few : s .count ≤ 16) (F : ℕ) where

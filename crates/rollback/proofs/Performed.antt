@@ -34,7 +34,7 @@ use Rattle.plans.specs.Planned.{recoveryVerdict}
 use Rattle.plans.proofs.Outside.{accepted-inside}
 use Rattle.rollback.specs.Restored.{Restored, Restores, restored}
 use Rattle.rows.proofs.Blocks.{take-most}
-use Rattle.rollback.proofs.RecoverCall.{twice-square}
+use Rattle.lent_lists.proofs.Room.{twice-square}
 
 -- The call is accepted, with lists that are long enough.
 accepted : (s : Run) → Reachable s → (F : ℕ) → recoveryVerdict (s .count) F ≡ Accepted → recoverRefusal s F (replicate 512 0) (replicate 16 0) ≡ none

@@ -1,16 +1,14 @@
 -- The recover call: what the outcome is, by the refusal; when a list is too short, and what an accepted recovery leaves.
 -- Assumes nothing.
-use mathlib.Core.Path.{_≡_, refl, sym, _∙_}
-use mathlib.Core.Bool.{Bool, true, false, _||_}
+use mathlib.Core.Path.{_≡_, refl, _∙_}
+use mathlib.Core.Bool.{true, false, _||_}
 use mathlib.Core.List.{List}
 use mathlib.Core.Option.{none, some}
-use Prim.Native.Nat.{ℕ, _*_, _<_, _≤_}
-use native.Mathlib.Nat.{mul-le-mul-right}
-use native.Mathlib.Omega.{arith}
+use Prim.Native.Nat.{ℕ, _≤_}
 use lib.Dec.{ltb}
 use lib.ListN.{length}
 use lib.Seq.{sets}
-use borrow.Author.Tests.{lt-ltb, le-ltb, ltb-false}
+use borrow.Author.Tests.{ltb-false}
 use Rattle.laws.specs.Choice.{by-bool}
 use Rattle.laws.specs.Truth.{never-both, or-left}
 use Rattle.model.specs.declared.Run.{Run}
@@ -28,19 +26,7 @@ use Rattle.rollback.specs.Members.{membersIn}
 use Rattle.rollback.specs.Restored.{restored, restoredIn, lossesIn}
 use Rattle.rollback.proofs.Recovered.{run-in-state, rolled-in-state, gone-in-state, losses-in-state}
 
--- The room that a deletion list needs is a number that fits, for at most 16 processes.
-pub twice-square : (n : ℕ) → n ≤ 16 → 2 * n * n ≤ 512
-twice-square n h =
-    let most : 2 * n * n ≤ 32 * n = mul-le-mul-right n (omega arith) in
-    omega arith
-
--- A list is too short: the first, or the second, or neither.
-pub short-first : (d m : ℕ) (b : Bool) → d < m → true ≡ (ltb d m || b)
-short-first d m b h = sym (or-left (ltb d m) b (lt-ltb d m h))
-
-pub short-second : (d m : ℕ) (b : Bool) → m ≤ d → b ≡ (ltb d m || b)
-short-second d m b h = rw (le-ltb d m h)
-
+-- Neither list is too short.
 pub rooms : (d m l n : ℕ) → (ltb d m || ltb l n) ≡ false → (m ≤ d) × (n ≤ l)
 rooms d m l n e = by-bool (ltb d m)
     (λ q. never-both (ltb d m || ltb l n) (or-left (ltb d m) (ltb l n) q) e)

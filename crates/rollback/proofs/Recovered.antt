@@ -36,11 +36,12 @@ use Rattle.recovery.proofs.Restoring as recovering
 use Rattle.rows.proofs.Blocks.{first-count}
 use Rattle.plans.proofs.Billing.{blocks-of-some}
 use Rattle.plans.proofs.SoundFacts.{vector-there, own-unused}
-use Rattle.rollback.specs.declared.recover.Returned.{Returned}
+use Rattle.going_back.specs.declared.Returned.{Returned}
 use Rattle.rollback.specs.Members.{firstCount, membersIn}
-use Rattle.rollback.specs.Returned.{noIndex, stepAt, returnedOf}
+use Rattle.going_back.specs.Returned.{noIndex, stepAt, returnedOf}
 use Rattle.rollback.specs.After.{pinsAt, leftAt, goneAt, lossesAt, lossesOf, blocksBelow, keptBelow, heldBelow, rowsOf}
-use Rattle.rollback.specs.Restored.{stillOf, restored, returnedIn, pinsIn, rowsIn, restoredFrom, restoredIn, lossesFrom, lossesIn}
+use Rattle.going_back.specs.Still.{stillOf}
+use Rattle.rollback.specs.Restored.{restored, returnedIn, pinsIn, rowsIn, restoredFrom, restoredIn, lossesFrom, lossesIn}
 use Rattle.rollback.proofs.Members.{state-at}
 
 -- A state in which each process below n takes the part that f gives it: its rows.

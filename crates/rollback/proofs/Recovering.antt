@@ -30,7 +30,7 @@ use Rattle.retention.specs.Kept.{keptRow}
 use Rattle.recovery.specs.Recovery.{notLater, restoredPins, stays}
 use Rattle.rollback.specs.declared.recover.RowsAfter.{RowsAfter}
 use Rattle.rollback.specs.Members.{HeldAtMost}
-use Rattle.rollback.specs.Returned.{noIndex}
+use Rattle.going_back.specs.Returned.{noIndex}
 use Rattle.rollback.specs.After.{pinsAt, leftAt, goneAt, lossesAt, lossesOf, blocksBelow, keptBelow, heldBelow, rowsOf}
 
 -- The numbers of pairs one behind the other.

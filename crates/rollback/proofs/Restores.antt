@@ -20,14 +20,14 @@ use Rattle.model.specs.Outcomes.{pairs}
 use Rattle.members.specs.Line.{ownRow}
 use Rattle.members.specs.Turn.{outlives}
 use Rattle.rollback.specs.declared.line.Members.{Members}
-use Rattle.rollback.specs.declared.recover.Returned.{Returned}
+use Rattle.going_back.specs.declared.Returned.{Returned}
 use Rattle.rollback.specs.declared.recover.RowsAfter.{RowsAfter}
 use Rattle.rollback.specs.Members.{statesOf, membersIn}
 use Rattle.rollback.specs.After.{pinsAt, blocksBelow, rowsOf}
 use Rattle.rollback.specs.Restored.{Restored, Restores, restored, pinsIn, rowsIn, restoredFrom, restoredIn, lossesFrom, lossesIn}
 use Rattle.rollback.proofs.Members.{members-in-state}
 use Rattle.rollback.proofs.Recovered.{run-in-state, rolled-in-state, gone-in-state, losses-in-state}
-use Rattle.rollback.proofs.Returning.{Returning, all-returned}
+use Rattle.going_back.proofs.Returning.{Returning, all-returned}
 use Rattle.rollback.proofs.Recovering.{Recovering, all-rows, all-listed}
 
 -- The members' states of a state, as the loops find them.

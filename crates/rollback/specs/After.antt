@@ -18,7 +18,7 @@ use Rattle.model.specs.Steps.{Deletion, listed, billed}
 use Rattle.recovery.specs.Recovery.{notLater, restoredPins, stays}
 use Rattle.rollback.specs.declared.recover.RowsAfter.{RowsAfter}
 use Rattle.rollback.specs.Members.{firstCount}
-use Rattle.rollback.specs.Returned.{noIndex}
+use Rattle.going_back.specs.Returned.{noIndex}
 
 -- what process p kept
 abbrev pub rowAt : List (List Checkpoint) → List ℕ → ℕ → List Checkpoint

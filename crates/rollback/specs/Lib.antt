@@ -1,4 +1,3 @@
 pub mod After
 pub mod Members
 pub mod Restored
-pub mod Returned

@@ -7,7 +7,7 @@ use mathlib.Core.Path.{_≡_}
 use Prim.Native.Nat.{ℕ}
 use lib.ListN.{length}
 use lib.Seq.{sets}
-use Rattle.laws.specs.Lists.{placed, select}
+use Rattle.laws.specs.Lists.{select}
 use Rattle.model.specs.declared.Checkpoint.{Checkpoint}
 use Rattle.model.specs.declared.Disk.{Disk}
 use Rattle.model.specs.declared.Kept.{Kept}
@@ -16,15 +16,15 @@ use Rattle.model.specs.declared.Pin.{Pin}
 use Rattle.model.specs.declared.Pins.{Pins}
 use Rattle.model.specs.declared.Run.{Run}
 use Rattle.model.specs.declared.Vectors.{Vectors}
-use Rattle.model.specs.Words.{mostUnderWay, noMessage, underWay}
+use Rattle.model.specs.Words.{underWay}
 use Rattle.model.specs.Steps.{Deletion, recoverState, recoverDeletions, rolledBackCount}
 use Rattle.model.specs.Outcomes.{pairs}
 use Rattle.members.specs.Line.{ownRow}
 use Rattle.members.specs.Turn.{outlives}
-use Rattle.rollback.specs.declared.recover.Returned.{Returned}
+use Rattle.going_back.specs.declared.Returned.{Returned}
 use Rattle.rollback.specs.declared.recover.RowsAfter.{RowsAfter}
-use Rattle.rollback.specs.declared.recover.UnderWay.{UnderWay}
-use Rattle.rollback.specs.Returned.{returnedOf}
+use Rattle.going_back.specs.Returned.{returnedOf}
+use Rattle.going_back.specs.Still.{stillOf}
 use Rattle.rollback.specs.After.{pinsAt, lossesOf, rowsOf}
 
 -- The parts of a state after a recovery, with the messages that are still under way, how many processes rolled back, how many checkpoints were deleted,
@@ -39,10 +39,6 @@ pub record Restored : Type 0 where
   pub rolled : ℕ
   pub gone : ℕ
   pub disk : Disk
-
--- messages that are still under way, in the table of a state
-unfoldable pub stillOf : List Message → UnderWay
-stillOf l = record { messages = placed mostUnderWay noMessage l; count = length l }
 
 -- the state with these parts
 abbrev pub restored : Run → Restored → Run

@@ -9,12 +9,9 @@ use plans::Verdict;
 ghost use mathlib.Core.Path.{_≡_};
 ghost use mathlib.Core.Bool.{true, false};
 ghost use Prim.Native.Nat.{_≤_};
-ghost use lib.ListN.{length, getD, take};
-ghost use lib.Seq.{sets};
-ghost use Rattle.laws.specs.Lists.{table};
+ghost use lib.ListN.{take};
 ghost use Rattle.model.specs.Sound.{sound};
 ghost use Rattle.model.specs.Outcomes.{lineOutcome};
-ghost use Rattle.model.specs.Words.{pastEnd};
 ghost use Rattle.members.specs.Line.{latestBy, latestIs};
 ghost use Rattle.rollback.specs.Members.{membersOf, membersIn, OwnAtLeastOne, HeldAtMost};
 
@@ -93,18 +90,6 @@ pub(crate) fn members_of(s: Run, failed: u16) -> Members
     find_members(vectors, kept, held, owns, failed, n)
 }
 
-// The indexes of the first n states go to the front of the lent list.
-pub(crate) fn write_line(line: &mut [u16], states: [Checkpoint; 16], n: usize)
-    requires { ⌜ (n ≤ 16) × (n ≤ length (now line)) ⌝ }
-    ensures { λ r. ⌜ now (line .exit) ≡ sets (now (line .entry)) 0 (table n (λ p. getD states p pastEnd .index .0)) ⌝ }
-{
-    for p in 0..n {
-        let c = states[p];
-        let index = c.index;
-        line[p] = index.0;
-    }
-}
-
 // A refusal returns the state as it came.
 fn refuse(s: Run, why: Refusal) -> LineOutcome
     ensures { λ r. ⌜ r ≡ record { run = s; answer = LineAnswer.Refused why } ⌝ }
@@ -123,7 +108,8 @@ pub fn line(s: Run, failed: u16, line: &mut [u16]) -> LineOutcome
     ensures { λ r. ⌜ now (line .exit) ≡ lineOutcome s failed (now (line .entry)) .line ⌝ }
 {
     let n = s.count;
-    if line.len() < n {
+    let short = lent_lists::is_line_short(line.len(), n);
+    if short {
         return refuse(s, Refusal::ListTooShort);
     }
     let verdict = plans::recovery_verdict(failed as u32, n);
@@ -136,7 +122,7 @@ pub fn line(s: Run, failed: u16, line: &mut [u16]) -> LineOutcome
         return refuse(s, Refusal::UnsoundState);
     }
     let states = members.states;
-    write_line(line, states, n);
+    lent_lists::write_line(line, states, n);
     LineOutcome {
         run: s,
         answer: LineAnswer::Written,

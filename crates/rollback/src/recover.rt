@@ -5,43 +5,27 @@ use model::CheckpointIndex;
 use model::Disk;
 use model::Interval;
 use model::Kept;
-use model::Message;
 use model::Pin;
 use model::Pins;
 use model::RecoverAnswer;
 use model::Refusal;
 use model::Run;
-use model::Vectors;
 use plans::Verdict;
 ghost use mathlib.Core.Path.{_≡_};
-ghost use mathlib.Core.Bool.{true, _||_};
+ghost use mathlib.Core.Bool.{true};
 ghost use Prim.Native.Nat.{_*_, _^_, _<_, _≤_};
-ghost use lib.Dec.{ltb};
-ghost use lib.ListN.{length, take};
+ghost use lib.ListN.{length};
 ghost use lib.Seq.{sets};
-ghost use Rattle.laws.specs.Lists.{select};
-ghost use Rattle.laws.specs.Tests.{every};
 ghost use Rattle.model.specs.Sound.{sound};
 ghost use Rattle.model.specs.Outcomes.{pairs, recoverOutcome};
-ghost use Rattle.members.specs.Turn.{outlives};
 ghost use Rattle.rollback.specs.Members.{HeldAtMost, CountsAtMost};
-ghost use Rattle.rollback.specs.Returned.{returnedOf};
 ghost use Rattle.rollback.specs.After.{pinsAt, rowsOf, lossesOf};
-ghost use Rattle.rollback.specs.Restored.{stillOf, restored, restoredIn, lossesIn};
+ghost use Rattle.rollback.specs.Restored.{restored, restoredIn, lossesIn};
 
 // What a recover call returns beside the lent lists.
 pub struct RecoverOutcome {
     pub run: Run,
     pub answer: RecoverAnswer,
-}
-
-// What the processes are left with when each has gone back to its member: who rolled back, the indexes of the members, and how many rolled back.
-pub struct Returned {
-    pub vectors: Vectors,
-    pub sent: [bool; 16],
-    pub rolled: [bool; 16],
-    pub members: [CheckpointIndex; 16],
-    pub back: usize,
 }
 
 // The pins of all processes after a recovery, what they keep, how many checkpoints each, how many were deleted, and the blocks written and deleted then.
@@ -51,50 +35,6 @@ pub struct RowsAfter {
     pub held: [usize; 16],
     pub deleted: usize,
     pub disk: Disk,
-}
-
-// The messages under way after a recovery, and how many.
-pub struct UnderWay {
-    pub messages: [Message; 64],
-    pub count: usize,
-}
-
-// Each of n processes goes back to its member of the line, which `states` has.
-fn go_back(
-    vectors: [[Interval; 16]; 16],
-    sent: [bool; 16],
-    states: [Checkpoint; 16],
-    n: usize,
-) -> Returned
-    requires { ⌜ n ≤ 16 ⌝ }
-    ensures { λ r. ⌜ r ≡ returnedOf n vectors sent states ⌝ }
-{
-    let mut after = vectors;
-    let mut marks = sent;
-    let mut rolled = [false; 16];
-    let mut members = [CheckpointIndex(0); 16];
-    let mut back = 0;
-    for p in 0..n {
-        let member = states[p];
-        let current = after[p];
-        let mark = marks[p];
-        let step = members::turn::step_back(member, current, mark, p, back);
-        let vector = step.vector;
-        let index = step.index;
-        after[p] = vector;
-        marks[p] = step.sent;
-        rolled[p] = step.rolled;
-        members[p] = index;
-        back = step.back;
-    }
-    let all = rows::squares::vectors_from(after);
-    Returned {
-        vectors: all,
-        sent: marks,
-        rolled,
-        members,
-        back,
-    }
 }
 
 // The pins after the recovery and what the processes keep; `vectors` and `owns` are the vectors and the own entries after it, `rolled` says who rolled back,
@@ -151,32 +91,6 @@ fn rows_after(
     }
 }
 
-// Those of the messages under way that outlive the recovery to the members with these indexes, one behind the other. The places behind them hold zero.
-fn still_under_way(
-    messages: [Message; 64],
-    underway: usize,
-    members: [CheckpointIndex; 16],
-) -> UnderWay
-    requires { ⌜ (underway ≤ 64) × (every (λ x. ltb (x .sender) 16) (take underway messages) ≡ true) ⌝ }
-    ensures { λ r. ⌜ r ≡ stillOf (select (outlives members) (take underway messages)) ⌝ }
-{
-    let unused = plans::no_message();
-    let mut left = [unused; 64];
-    let mut count = 0;
-    for k in 0..underway {
-        let x = messages[k];
-        let stays = members::turn::does_outlive(x, members);
-        if stays {
-            left[count] = x;
-            count += 1;
-        }
-    }
-    UnderWay {
-        messages: left,
-        count,
-    }
-}
-
 // A recovery that is accepted, to these members.
 fn run_after(s: Run, states: [Checkpoint; 16], deleted: &mut [u16]) -> RecoverOutcome
     requires { ⌜ (sound s ≡ true) × (2 * s .count * s .count ≤ length (now deleted)) ⌝ }
@@ -190,7 +104,7 @@ fn run_after(s: Run, states: [Checkpoint; 16], deleted: &mut [u16]) -> RecoverOu
     let old_sent = s.sent;
     let old_held = s.held;
     let old_messages = s.messages;
-    let returned = go_back(old_vectors, old_sent, states, n);
+    let returned = going_back::go_back(old_vectors, old_sent, states, n);
     let vectors = returned.vectors;
     let sent = returned.sent;
     let rolled = returned.rolled;
@@ -213,7 +127,7 @@ fn run_after(s: Run, states: [Checkpoint; 16], deleted: &mut [u16]) -> RecoverOu
     let kept = all.kept;
     let held = all.held;
     let disk = all.disk;
-    let still = still_under_way(old_messages, s.underway, members);
+    let still = going_back::still_under_way(old_messages, s.underway, members);
     let messages = still.messages;
     let run = Run {
         count: n,
@@ -243,14 +157,6 @@ fn refuse(s: Run, why: Refusal) -> RecoverOutcome
     }
 }
 
-// One of the lent lists is too short, by their lengths: a deletion list below 2 × n × n entries, or a line list below n.
-fn is_too_short(deleted: usize, line: usize, n: usize) -> bool
-    requires { ⌜ n ≤ 16 ⌝ }
-    ensures { λ r. ⌜ r ≡ (ltb deleted (2 * n * n) || ltb line n) ⌝ }
-{
-    if deleted < 2 * n * n { true } else { line < n }
-}
-
 // The recovery of a failed set, bit p of which stands for process p.
 pub fn recover(s: Run, failed: u16, deleted: &mut [u16], line: &mut [u16]) -> RecoverOutcome
     requires { ⌜ sound s ≡ true ⌝ }
@@ -260,7 +166,7 @@ pub fn recover(s: Run, failed: u16, deleted: &mut [u16], line: &mut [u16]) -> Re
     ensures { λ r. ⌜ now (line .exit) ≡ recoverOutcome s failed (now (deleted .entry)) (now (line .entry)) .line ⌝ }
 {
     let n = s.count;
-    let short = is_too_short(deleted.len(), line.len(), n);
+    let short = lent_lists::is_too_short(deleted.len(), line.len(), n);
     if short {
         return refuse(s, Refusal::ListTooShort);
     }
@@ -274,6 +180,6 @@ pub fn recover(s: Run, failed: u16, deleted: &mut [u16], line: &mut [u16]) -> Re
         return refuse(s, Refusal::UnsoundState);
     }
     let states = members.states;
-    super::line::write_line(line, states, n);
+    lent_lists::write_line(line, states, n);
     run_after(s, states, deleted)
 }

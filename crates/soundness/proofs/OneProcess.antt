@@ -26,7 +26,10 @@ use Rattle.model.specs.declared.Checkpoint.{Checkpoint}
 use Rattle.model.specs.Words.{pastEnd, blocksOf, entry, lastStored, names, noCheckpoint}
 use Rattle.model.specs.Sound.{causeSound, isBlockCount, ascending}
 use Rattle.rows.proofs.Blocks.{blocks-equal}
-use Rattle.soundness.specs.Clauses.{indexOf, vectorSound, pinnedIndexes, among, ownEntryIsIndex, recordTested, placeSound, countIn, fit, processTests, processSound, keepsIt}
+use Rattle.sound_vectors.specs.Clauses.{vectorSound}
+use Rattle.sound_pins.specs.Clauses.{pinnedIndexes, among, fit}
+use Rattle.sound_kept.specs.Clauses.{indexOf, ownEntryIsIndex, recordTested, placeSound}
+use Rattle.soundness.specs.Clauses.{countIn, processTests, processSound, keepsIt}
 use Rattle.soundness.proofs.StandIn.{pinned-kept, kept-pinned}
 
 last-of : (row : List Checkpoint) (held k : ℕ) → held ≡ suc k → k < length row → lastOf (take held row) ≡ some (getD row k pastEnd)

@@ -19,7 +19,8 @@ use Rattle.model.specs.declared.Pin.the-variants.{Nothing, At}
 use Rattle.model.specs.declared.Checkpoint.{Checkpoint}
 use Rattle.model.specs.Words.{names, named}
 use Rattle.model.specs.Sound.{pinSound}
-use Rattle.soundness.specs.Clauses.{pinOr, pinnedIndexes, among, keepsIt}
+use Rattle.sound_pins.specs.Clauses.{pinOr, pinnedIndexes, among}
+use Rattle.soundness.specs.Clauses.{keepsIt}
 
 -- Which number is asked for first does not matter.
 eqb-swap : (a b : ℕ) → eqb a b ≡ eqb b a

@@ -18,10 +18,13 @@ use Rattle.model.specs.declared.CheckpointIndex.{CheckpointIndex}
 use Rattle.model.specs.declared.Checkpoint.{Checkpoint}
 use Rattle.model.specs.Words.{pastEnd, zeroVector}
 use Rattle.model.specs.Sound.{ascending, zeroFrom}
-use Rattle.soundness.specs.declared.kept.Walk.{Walk}
-use Rattle.soundness.specs.Clauses.{indexOf, metBy, keepsIt, placeSound, vectorSound, Joins, noneWalked, walkedOne, walkSound}
-use Rattle.soundness.proofs.Ascent.{ascent-turn, ascent-end}
-use Rattle.soundness.proofs.Vectors.{zero-sound}
+use Rattle.sound_kept.specs.declared.kept.Walk.{Walk}
+use Rattle.sound_vectors.specs.Clauses.{vectorSound, Joins}
+use Rattle.sound_pins.specs.Clauses.{metBy}
+use Rattle.sound_kept.specs.Clauses.{indexOf, placeSound, noneWalked, walkedOne, walkSound}
+use Rattle.soundness.specs.Clauses.{keepsIt}
+use Rattle.sound_vectors.proofs.Ascent.{ascent-turn, ascent-end}
+use Rattle.sound_vectors.proofs.Vectors.{zero-sound}
 
 abbrev noIndex : CheckpointIndex
 noIndex = record { 0 = 0 }

@@ -25,8 +25,10 @@ use Rattle.model.specs.declared.Message.{Message}
 use Rattle.model.specs.declared.Run.{Run}
 use Rattle.model.specs.Words.{mostUnderWay, mostMessages, mostBlocks, blockCount, entry, lastStored, names, named, zeroVector, noCheckpoint, process, own, underWay}
 use Rattle.model.specs.Sound.{sound, countSound, ownSound, within, vectorsSound, ascending, keptSound, pinSound, pinsSound, messageSound, messagesSound, zeroFrom, unusedCheckpoint, unusedMessage, nothingFrom, rowUnused, unusedSound, recordSound, keptBlocks, diskSound}
-use Rattle.soundness.specs.Clauses.{vectorSound, indexOf, ownEntryIsIndex, recordTested, countIn, balanced, blocksIn, processTests, processSound, restUnused, messageNumber, messageTested, messagesTests, messagesTested, ownEntries, currentSound}
-use Rattle.soundness.proofs.Vectors.{zero-by}
+use Rattle.sound_vectors.specs.Clauses.{vectorSound, messageNumber, messageTested, messagesTests, messagesTested}
+use Rattle.sound_kept.specs.Clauses.{indexOf, ownEntryIsIndex, recordTested, balanced}
+use Rattle.soundness.specs.Clauses.{countIn, blocksIn, processTests, processSound, restUnused, ownEntries, currentSound}
+use Rattle.sound_vectors.proofs.Vectors.{zero-by}
 
 -- A test is asked only where another one holds.
 under : (h a b : Bool) → (h ≡ true → a ≡ b) → (h && a) ≡ (h && b)

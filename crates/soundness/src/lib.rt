@@ -5,21 +5,6 @@ use model::Run;
 ghost use mathlib.Core.Path.{_≡_};
 ghost use Rattle.model.specs.Sound.{sound};
 
-// vector.rt: one vector against the own entries
-mod vector;
-
-// pins.rt: the pins of one process against the checkpoints that it keeps
-mod pins;
-
-// kept.rt: the checkpoints that one process keeps
-mod kept;
-
-// messages.rt: the messages under way
-mod messages;
-
-// disk.rt: the blocks written and deleted
-mod disk;
-
 // tables.rt: the rows of all processes
 mod tables;
 
@@ -47,6 +32,6 @@ pub fn is_sound(s: Run) -> bool
     let unmarked = tables::unmarked_from(sent, n);
     let none = tables::none_held_from(held, n);
     let nothing = tables::nothing_rows_from(pins, n);
-    let carried = messages::are_messages_sound(messages, own, n, s.underway, s.last);
+    let carried = sound_vectors::messages::are_messages_sound(messages, own, n, s.underway, s.last);
     current & processes & zero & unmarked & none & nothing & carried
 }

@@ -1,8 +1,4 @@
 // The tables of a state, row by row: the vectors, the pins and kept checkpoints, and what stands at the count and above.
-use crate::disk;
-use crate::kept;
-use crate::pins;
-use crate::vector;
 use model::Checkpoint;
 use model::Disk;
 use model::Interval;
@@ -16,7 +12,8 @@ ghost use lib.ListN.{getD, drop};
 ghost use Rattle.laws.specs.Search.{allBelow};
 ghost use Rattle.laws.specs.Tests.{every};
 ghost use Rattle.model.specs.Sound.{zeroFrom, nothingFrom};
-ghost use Rattle.soundness.specs.Clauses.{ownEntries, currentSound, processSound, restUnused, balanced, blocksIn};
+ghost use Rattle.sound_kept.specs.Clauses.{balanced};
+ghost use Rattle.soundness.specs.Clauses.{ownEntries, currentSound, processSound, restUnused, blocksIn};
 
 // The own entries of the n processes, zero at n and above.
 pub fn own_entries(vectors: [[Interval; 16]; 16], n: usize) -> [Interval; 16]
@@ -40,7 +37,7 @@ pub fn are_current_sound(vectors: [[Interval; 16]; 16], own: [Interval; 16], n: 
     for p in 0..n {
         let row = vectors[p];
         let x = own[p];
-        let within = vector::within_own(row, own);
+        let within = sound_vectors::vector::within_own(row, own);
         let ok = (1 <= x.0) & within;
         if !ok {
             return false;
@@ -54,7 +51,7 @@ pub fn zero_rows_from(vectors: [[Interval; 16]; 16], from: usize) -> bool
 {
     for p in from..16 {
         let row = vectors[p];
-        let zero = vector::is_zero(row);
+        let zero = sound_vectors::vector::is_zero(row);
         if !zero {
             return false;
         }
@@ -67,7 +64,7 @@ pub fn nothing_rows_from(pins: [[Pin; 16]; 16], from: usize) -> bool
 {
     for p in from..16 {
         let row = pins[p];
-        let nothing = pins::nothing_from(row, 0);
+        let nothing = sound_pins::nothing_from(row, 0);
         if !nothing {
             return false;
         }
@@ -95,38 +92,38 @@ pub fn are_processes_sound(
         let count = held[p];
         let x = own[p];
         let last = rows::vector::last_stored(x);
-        let fit = pins::is_fit(row_pins, last, count, n, p);
+        let fit = sound_pins::is_fit(row_pins, last, count, n, p);
         if !fit {
             return false;
         }
         // the last stored checkpoint is kept and pinned, so it can stand for "none"
-        let pinned = pins::pinned_indexes(row_pins, last);
+        let pinned = sound_pins::pinned_indexes(row_pins, last);
         let first = kept[p][0];
         let blocks = first.blocks;
-        let mut walk = kept::none_walked();
+        let mut walk = sound_kept::kept::none_walked();
         'walk: for k in 0..count {
             let c = kept[p][k];
-            let further = kept::walked(walk, c, pinned, blocks, p);
+            let further = sound_kept::kept::walked(walk, c, pinned, blocks, p);
             walk = further;
         }
-        let ok = kept::is_walk_sound(walk, last, own);
+        let ok = sound_kept::kept::is_walk_sound(walk, last, own);
         if !ok {
             return false;
         }
         // all that it keeps have the same count
-        all_blocks = disk::with_blocks(all_blocks, count, blocks);
+        all_blocks = sound_kept::disk::with_blocks(all_blocks, count, blocks);
     }
     let mut unused = rows::start::no_checkpoint();
     'rows: for q in 0..16 {
         let from = held[q];
         'places: for j in from..16 {
             let place = kept[q][j];
-            let both = kept::joined(unused, place);
+            let both = sound_kept::kept::joined(unused, place);
             unused = both;
         }
     }
-    let rest = kept::is_unused(unused);
-    let balanced = disk::is_balanced(disk, all_blocks);
+    let rest = sound_kept::kept::is_unused(unused);
+    let balanced = sound_kept::disk::is_balanced(disk, all_blocks);
     rest & balanced
 }
 

@@ -6,7 +6,7 @@ use mathlib.Core.List.{List, [], _∷_, _++_}
 use mathlib.Core.Option.{Option, none, some}
 use Prim.Native.Nat.{ℕ, _+_, _*_, _≤_, _<_}
 use native.Mathlib.Omega.{arith}
-use borrow.Author.Tests.{ltb-true, lt-ltb, leb-false, ne-eqb}
+use borrow.Author.Tests.{ltb-true, leb-false, ne-eqb}
 use lib.Dec.{eqb, ltb, leb}
 use lib.ListN.{length, getD, set, take, length-map}
 use lib.Seq.{set-getD, sets}
@@ -30,7 +30,7 @@ use Rattle.model.specs.declared.LoseAnswer.the-variants as lose-answer
 use Rattle.model.specs.Words.{pastEnd, mostUnderWay, entry, liveIndex, noMessage, process, live, underWay}
 use Rattle.model.specs.Steps.{Deletion, listed, checkpointDeletions, sendState, found, forces, deliverRisen, deliverDeletions, loseState}
 use Rattle.model.specs.Sound.{sound}
-use Rattle.model.specs.Refusals.{missing, checkpointRefusal, sendRefusal, deliverRefusal, loseRefusal}
+use Rattle.model.specs.Refusals.{shortDeletions, missing, checkpointRefusal, sendRefusal, deliverRefusal, loseRefusal}
 use Rattle.model.specs.Outcomes.{Outcome, judged, pairs, checkpointOutcome, sendOutcome, deliverAnswer, message, deliverOutcome, loseOutcome}
 use Rattle.model.specs.laws.Refusals.{refusal-in, no-rule}
 use Rattle.model.specs.laws.Sound.{sound-state}
@@ -42,15 +42,15 @@ use Rattle.plans.specs.declared.Verdict.the-variants.{Accepted, Refused}
 use Rattle.plans.specs.Carried.{countAt, messagesThen, unnamedBy, roseBy, unmoved, moved, Fulfils}
 use Rattle.plans.specs.Planned.{rowOf, refusalOf, unchanged, pastMost, storedPlan, checkpointPlan, sentPlan, sendPlan, withoutIt, deliverPlan, losePlan}
 use Rattle.plans.specs.Sized.{Sized}
-use Rattle.plans.specs.Tables.{inUse, messagesIn, LooksUp}
+use Rattle.plans.specs.Tables.{LooksUp}
 use Rattle.plans.proofs.Facts.{row-is}
 use Rattle.plans.proofs.Filled.{messages-filled, messages-many}
 use Rattle.plans.proofs.Cases.{either-plan, send-either}
 use Rattle.plans.proofs.Decided.{found-underway, checkpoint-decided, checkpoint-stores, send-decided, send-numbers, deliver-decided, deliver-forces, deliver-rises, lose-decided}
 use Rattle.plans.proofs.Looked.{put-back, put-behind, receiver-present}
-use Rattle.steps.specs.Messages.{noneNamed, lookedUp, Closed}
-use Rattle.steps.proofs.ClosedTables.{front, closed}
-use Rattle.steps.proofs.Looks.{entry-any, none-looks-up, looks-up}
+use Rattle.messages.specs.Messages.{noneNamed, lookedUp, Closed}
+use Rattle.messages.proofs.ClosedTables.{front, closed}
+use Rattle.messages.proofs.Looks.{entry-any, none-looks-up, looks-up}
 
 -- A row of the state.
 pub row-there : (i : ℕ) {row : ℕ} → row ≡ rowOf i → row < 16
@@ -68,12 +68,6 @@ listed-many p l = length-map l _
 
 -- A plan carried out with the table that it leaves: the state of its call, and what is deleted.
 module _ {s : Run} {i : ℕ} {p : Plan} {refusal : Option Refusal} {run : Run} {deleted : List Deletion} (does : Fulfils s (s .messages) 0 i p refusal run deleted) where
-  -- where places may be left unused, the table is closed up
-  pub closed-up : {without after : List Message} → without ≡ set (s .messages) (p .place) (p .message)
-      → after ≡ placed mostUnderWay noMessage (inUse (take (p .tail) without)) → after ≡ placed mostUnderWay noMessage (messagesThen (s .messages) 0 p)
-  unfolding messagesIn
-  closed-up e-without e-after = e-after ∙ ap (λ (l : List Message). placed mostUnderWay noMessage (inUse (take (p .tail) l))) e-without
-
   module _ (table : List Message) (laid : table ≡ placed mostUnderWay noMessage (messagesThen (s .messages) 0 p)) where
     pub put-closed : Closed table (p .underway)
     put-closed = closed table (messagesThen (s .messages) 0 p) (p .underway) laid (does .many)
@@ -167,9 +161,9 @@ module _ (s : Run) (h : sound s ≡ true) (size : Sized s) where
 
   -- A checkpoint.
   module _ (i : ℕ) (lent : List ℕ) where
-    pub checkpoint-short : length lent < 2 * s .count * s .count → checkpointRefusal s i lent ≡ some ListTooShort
+    pub checkpoint-short : shortDeletions s lent ≡ true → checkpointRefusal s i lent ≡ some ListTooShort
     unfolding checkpointRefusal
-    checkpoint-short short = refusal-in _ (some ListTooShort) (1, (rw h, tt), lt-ltb (length lent) (2 * s .count * s .count) short, refl)
+    checkpoint-short short = refusal-in _ (some ListTooShort) (1, (rw h, tt), short, refl)
 
     pub checkpoint-refused : (why : Refusal) → checkpointRefusal s i lent ≡ some why
         → checkpointOutcome s i lent ≡ record { run = s; answer = checkpoint-answer.Refused why; rose = 0; deleted = lent; line = [] }
@@ -307,9 +301,9 @@ module _ (s : Run) (h : sound s ≡ true) (size : Sized s) where
         still-rose still = sym (rises ∙ rw still)
 
   module _ (m : ℕ) (lent : List ℕ) where
-    pub deliver-short : length lent < 2 * s .count * s .count → deliverRefusal s m lent ≡ some ListTooShort
+    pub deliver-short : shortDeletions s lent ≡ true → deliverRefusal s m lent ≡ some ListTooShort
     unfolding deliverRefusal
-    deliver-short short = refusal-in _ (some ListTooShort) (1, (rw h, tt), lt-ltb (length lent) (2 * s .count * s .count) short, refl)
+    deliver-short short = refusal-in _ (some ListTooShort) (1, (rw h, tt), short, refl)
 
     pub deliver-refused : (why : Refusal) → deliverRefusal s m lent ≡ some why
         → deliverOutcome s m lent ≡ record { run = s; answer = deliver-answer.Refused why; rose = 0; deleted = lent; line = [] }

@@ -1,6 +1,4 @@
 // Checkpoint at i: the vector is stored under index own entry, the own pin names it, 1 is added to the own entry, the sent mark is cleared.
-use crate::messages;
-use crate::parts;
 use model::CheckpointAnswer;
 use model::Refusal;
 use model::Run;
@@ -29,13 +27,14 @@ pub fn checkpoint(s: Run, i: usize, deleted: &mut [u16]) -> CheckpointOutcome
     ensures { λ r. ⌜ now (deleted .exit) ≡ checkpointOutcome s i (now (deleted .entry)) .deleted ⌝ }
 {
     let n = s.count;
-    if deleted.len() < 2 * n * n {
+    let short = lent_lists::are_deletions_short(deleted.len(), n);
+    if short {
         return refuse(s, Refusal::ListTooShort);
     }
     let row = plans::row_of(i);
     let vectors = rows::squares::vector_rows(s.vectors);
     let own = vectors[row][row];
-    let blocks = parts::block_count(s.kept, row);
+    let blocks = apply::block_count(s.kept, row);
     let disk = s.disk;
     let marks = s.sent;
     let table = s.messages;
@@ -46,7 +45,7 @@ pub fn checkpoint(s: Run, i: usize, deleted: &mut [u16]) -> CheckpointOutcome
         Verdict::Refused(why) => refuse(s, why),
         Verdict::Accepted => {
             let index = rows::vector::live_index(own);
-            let moved = parts::move_rows(s, row, blocks, p, table, deleted);
+            let moved = apply::move_rows(s, row, blocks, p, table, deleted);
             let answer = CheckpointAnswer::Stored(index, moved.gone);
             let run = moved.run;
             CheckpointOutcome { run, answer }

@@ -1,6 +1,4 @@
 // Deliver message m to its receiver, which takes in the vector that it carries, and stores a checkpoint before it where that is forced.
-use crate::messages;
-use crate::parts;
 use model::DeliverAnswer;
 use model::Interval;
 use model::Refusal;
@@ -55,7 +53,8 @@ pub fn deliver(s: Run, m: u32, deleted: &mut [u16]) -> DeliverOutcome
     ensures { λ r. ⌜ now (deleted .exit) ≡ deliverOutcome s m (now (deleted .entry)) .deleted ⌝ }
 {
     let n = s.count;
-    if deleted.len() < 2 * n * n {
+    let short = lent_lists::are_deletions_short(deleted.len(), n);
+    if short {
         return refuse(s, Refusal::ListTooShort);
     }
     let table = s.messages;
@@ -65,7 +64,7 @@ pub fn deliver(s: Run, m: u32, deleted: &mut [u16]) -> DeliverOutcome
     let vectors = rows::squares::vector_rows(s.vectors);
     let vector = vectors[row];
     let own = vector[row];
-    let blocks = parts::block_count(s.kept, row);
+    let blocks = apply::block_count(s.kept, row);
     let disk = s.disk;
     let marks = s.sent;
     let p = plans::deliver_plan(vector, own, marks[row], blocks, disk.written, named);
@@ -73,17 +72,16 @@ pub fn deliver(s: Run, m: u32, deleted: &mut [u16]) -> DeliverOutcome
     match verdict {
         Verdict::Refused(why) => refuse(s, why),
         Verdict::Accepted => {
-            let without = messages::put(table, p);
-            let after = messages::closed_up(without, p.tail);
+            let after = messages::after(table, p);
             if p.moves {
-                let moved = parts::move_rows(s, row, blocks, p, after, deleted);
+                let moved = apply::move_rows(s, row, blocks, p, after, deleted);
                 let answer = answer_of(p.stores, own, moved.gone);
                 let run = moved.run;
                 let rose = moved.rose;
                 return DeliverOutcome { run, answer, rose };
             }
             // nothing that it carries is newer, so no row moves and no entry rises
-            let run = parts::put(s, row, p, after);
+            let run = apply::put(s, row, p, after);
             let answer = answer_of(p.stores, own, 0);
             DeliverOutcome {
                 run,

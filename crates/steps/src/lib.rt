@@ -2,12 +2,6 @@
 // A call is: the length of its list, the rows that it needs, the decision (plans), and what comes out put into the state. Soundness is not judged here: the
 // exported calls judge it first and then call these. The replay asks the same decisions, on states that it reached itself, all of which are sound.
 
-// parts.rt: a plan carried out on a state
-pub mod parts;
-
-// messages.rt: the table of the messages under way
-pub mod messages;
-
 // start.rt: the first state of a run
 pub mod start;
 

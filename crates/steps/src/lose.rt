@@ -1,6 +1,4 @@
 // Lose: the message is no longer under way; nothing else changes.
-use crate::messages;
-use crate::parts;
 use model::LoseAnswer;
 use model::Run;
 use plans::Verdict;
@@ -33,9 +31,8 @@ pub fn lose(s: Run, m: u32) -> LoseOutcome
     let named = messages::look_up(table, s.underway, s.last, m);
     let marks = s.sent;
     let p = plans::lose_plan(marks[0], named);
-    let without = messages::put(table, p);
-    let after = messages::closed_up(without, p.tail);
-    let run = parts::put(s, 0, p, after);
+    let after = messages::after(table, p);
+    let run = apply::put(s, 0, p, after);
     let verdict = p.verdict;
     let answer = answer_of(verdict);
     LoseOutcome { run, answer }

@@ -1,6 +1,4 @@
 // Send from i to j: the message carries i's vector, and i's sent mark is set.
-use crate::messages;
-use crate::parts;
 use model::Run;
 use model::SendAnswer;
 use plans::Verdict;
@@ -37,7 +35,7 @@ pub fn send(s: Run, i: usize, j: usize) -> SendOutcome
     let table = s.messages;
     let named = messages::none_named(table[0], s.underway, s.last);
     let p = plans::send_plan(i, j, s.count, vector, mark, named);
-    let run = parts::put_message(s, row, p);
+    let run = apply::put_message(s, row, p);
     let verdict = p.verdict;
     let answer = answer_of(verdict, p.last);
     SendOutcome { run, answer }

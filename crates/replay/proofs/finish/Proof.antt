@@ -7,7 +7,7 @@ use native.Mathlib.Omega.{arith}
 use lib.ListN.{length}
 use lib.Seq.{length-take-le}
 use Rattle.position.proofs.Going.{due-going}
-use Rattle.replay.proofs.Texts.{front-text}
+use Rattle.replay_read.proofs.Texts.{front-text}
 use Rattle.replay.proofs.finish.Statement.{statement}
 use Rattle.replay.proofs.finish.Tie as tie
 

@@ -10,7 +10,7 @@ use lib.ListN.{length, drop}
 use lib.Seq.{length-take-le, length-front}
 use Rattle.model.specs.Listing.{listing}
 use Rattle.position.specs.declared.Position.{Position}
-use Rattle.replay.proofs.Texts.{front-text}
+use Rattle.replay_read.proofs.Texts.{front-text}
 use Rattle.replay.proofs.Starting.{begun, not-begun, reached-first, first-byte}
 use Rattle.replay.proofs.start.Statement.{statement}
 use Rattle.replay.proofs.start.Tie as tie

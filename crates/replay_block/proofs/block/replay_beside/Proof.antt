@@ -56,11 +56,13 @@ use Rattle.listing.specs.Lines.{longestLine}
 use Rattle.listing.specs.Said.{Says}
 use Rattle.listing.specs.declared.Summary.{Summary}
 use Rattle.listing.specs.declared.Value.the-variants.{Number}
+use Rattle.going_back.specs.Returned.{noIndex}
+use Rattle.going_back.specs.Still.{stillOf}
+use Rattle.going_back.proofs.Returning.{Returning, none-returned, back-few, same-vector, one-returned}
 use Rattle.rollback.specs.Members.{statesOf, HeldAtMost}
 use Rattle.rollback.specs.After.{pinsAt, blocksBelow}
-use Rattle.rollback.specs.Returned.{noIndex}
-use Rattle.rollback.specs.Restored.{Restores, stillOf}
-use Rattle.rollback.proofs.Returning.{Returning, none-returned, back-few, same-vector, one-returned, next-member}
+use Rattle.rollback.specs.Restored.{Restores}
+use Rattle.rollback.proofs.Members.{next-member}
 use Rattle.rollback.proofs.Recovering.{Recovering, none-done, same-row, same-held, row-most, row-room, gone-few, one-done}
 use Rattle.rollback.proofs.Restores.{in-place-restores}
 use Rattle.replay_block.specs.Blocks.{Stops}

@@ -27,13 +27,14 @@ use Rattle.plans.proofs.Billing.{count-small, written-small, deleted-small}
 use Rattle.members.specs.Line.{ownRow}
 use Rattle.members.specs.Turn.{outlives}
 use Rattle.rollback.specs.declared.recover.RecoverOutcome.{RecoverOutcome}
-use Rattle.rollback.specs.declared.recover.Returned.{Returned}
+use Rattle.going_back.specs.declared.Returned.{Returned}
 use Rattle.rollback.specs.declared.recover.RowsAfter.{RowsAfter}
-use Rattle.rollback.specs.declared.recover.UnderWay.{UnderWay}
+use Rattle.going_back.specs.declared.UnderWay.{UnderWay}
 use Rattle.rollback.specs.Members.{CountsAtMost}
-use Rattle.rollback.specs.Returned.{returnedOf}
+use Rattle.going_back.specs.Returned.{returnedOf}
 use Rattle.rollback.specs.After.{pinsAt, lossesOf, rowsOf}
-use Rattle.rollback.specs.Restored.{stillOf, restored, pinsIn, rowsIn, restoredFrom, restoredIn, lossesFrom, lossesIn}
+use Rattle.going_back.specs.Still.{stillOf}
+use Rattle.rollback.specs.Restored.{restored, pinsIn, rowsIn, restoredFrom, restoredIn, lossesFrom, lossesIn}
 use Rattle.rollback.proofs.recover.run_after.Statement.{statement}
 use Rattle.rollback.proofs.recover.run_after.Tie as tie
 

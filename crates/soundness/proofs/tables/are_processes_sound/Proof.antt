@@ -22,7 +22,9 @@ use Rattle.model.specs.Words.{pastEnd, blocksOf, noCheckpoint}
 use Rattle.model.specs.Sound.{zeroFrom, unusedCheckpoint}
 use Rattle.model.proofs.Checkpoint as checkpoint
 use Rattle.model.proofs.Pin as pin
-use Rattle.soundness.specs.Clauses.{fit, processSound, restUnused, blocksIn, balanced}
+use Rattle.sound_pins.specs.Clauses.{fit}
+use Rattle.sound_kept.specs.Clauses.{balanced}
+use Rattle.soundness.specs.Clauses.{processSound, restUnused, blocksIn}
 use Rattle.soundness.proofs.OneProcess.{before-fails, low, high, process-blocks, tests-decide}
 use Rattle.soundness.proofs.Sizes.{row-long}
 use Rattle.soundness.proofs.Walks.{Walked, none-walked, one-walked, all-walked}

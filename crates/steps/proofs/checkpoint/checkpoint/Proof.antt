@@ -1,29 +1,35 @@
 -- `steps::checkpoint::checkpoint` meets its contract: its plan, carried out, is the outcome (proofs/Calling). Assumes nothing.
 use Prim.Native.Nat.{_*_, _≤_}
-use mathlib.Core.Path.{refl, _∙_}
+use mathlib.Core.Path.{refl, sym, _∙_}
+use borrow.Author.Tests.{ltb-false}
+use lib.ListN.{length}
 use Rattle.model.specs.declared.Refusal.the-variants.{ListTooShort}
 use Rattle.model.specs.laws.Sound.{sound-state}
-use Rattle.plans.proofs.Facts.{square-most}
 use Rattle.plans.proofs.SoundFacts.{own-least}
 use Rattle.steps.proofs.Calling.{row-there, put-closed, move-state, move-gone, move-list, count-at, first-look, checkpoint-short, checkpoint-refused, checkpoint-does, checkpoint-no, checkpoint-moves, checkpoint-laid, checkpoint-outcome}
-use Rattle.steps.proofs.Sizes.{sizes}
+use Rattle.apply.proofs.Sizes.{sizes}
 use borrow.Author.Needs.{needs}
 use Rattle.steps.proofs.checkpoint.checkpoint.Statement.{statement}
 use Rattle.steps.proofs.checkpoint.checkpoint.Tie as tie
 
-mul-if1 : tie.Need-mul-if1
-mul-if1 c = let a = c .before in let most : a .args .s .count ≤ 16 = sound-state (a .args .s) (a .pre) .count-most in search needs
-
-mul-if1-2 : tie.Need-mul-if1-2
-mul-if1-2 c = let a = c .before in let most : 2 * a .args .s .count * a .args .s .count ≤ 512 = square-most (a .args .s) (a .pre) in search needs
+are-deletions-short-requires : tie.Need-are-deletions-short-requires
+are-deletions-short-requires c κs = sound-state (c .before .args .s) (c .before .pre) .count-most
 
 returns : tie.Need-returns
 returns c =
-    let u = c .before .before .before in
+    let asked = c .before .before in
+    let u = asked .before .before in
     let a = u .args in
     let size = sizes (a .s) _ (u .good .0) in
-    let e = checkpoint-short (a .s) (u .pre) size (a .i) (a .deleted .now) (c .before .if1 .taken) in
+    let e = checkpoint-short (a .s) (u .pre) size (a .i) (a .deleted .now) (sym (asked .are-deletions-short .ensures) ∙ c .before .if1 .taken) in
     rw (checkpoint-refused (a .s) (u .pre) size (a .i) (a .deleted .now) ListTooShort e, c .refuse .ensures) ((refl, refl), refl)
+
+-- where the list is not too short
+abbrev start : tie.Else1 → tie.Start
+start c = c .before .before .before
+
+room : (c : tie.Else1) → let a = start c .args in 2 * a .s .count * a .s .count ≤ length (a .deleted .now)
+room c = let a = start c .args in ltb-false (length (a .deleted .now)) (2 * a .s .count * a .s .count) (sym (c .before .are-deletions-short .ensures) ∙ c .if1 .left)
 
 mul-own : tie.Need-mul-own
 mul-own c = let less = row-there _ (c .before .row-of .ensures) in search needs
@@ -49,11 +55,11 @@ live-index-requires c κs =
     let b = k .before .before .before .before .before .before in
     let v = b .before .before in
     let r = v .before in
-    let u = r .before .before .before in
+    let u = start (r .before) in
     let a = u .args in
     let h = u .pre in
     let size = sizes (a .s) _ (u .good .0) in
-    let long = r .before .if1 .left in
+    let long = room (r .before) in
     let look = first-look (a .s) h size (k .before .none-named .ensures) in
     let does = checkpoint-does (a .s) h size (a .i) (a .deleted .now) long look (r .row-of .ensures) (v .vector-rows .ensures) (b .block-count .ensures) (k .checkpoint-plan .ensures) in
     let moves = checkpoint-moves (a .s) h size (a .i) (a .deleted .now) long look (r .row-of .ensures) (v .vector-rows .ensures) (b .block-count .ensures) (k .checkpoint-plan .ensures) (c .enum-told .given .1) in
@@ -65,11 +71,11 @@ move-rows-requires c κs =
     let b = k .before .before .before .before .before .before in
     let v = b .before .before in
     let r = v .before in
-    let u = r .before .before .before in
+    let u = start (r .before) in
     let a = u .args in
     let h = u .pre in
     let size = sizes (a .s) _ (u .good .0) in
-    let long = r .before .if1 .left in
+    let long = room (r .before) in
     let look = first-look (a .s) h size (k .before .none-named .ensures) in
     let does = checkpoint-does (a .s) h size (a .i) (a .deleted .now) long look (r .row-of .ensures) (v .vector-rows .ensures) (b .block-count .ensures) (k .checkpoint-plan .ensures) in
     let moves = checkpoint-moves (a .s) h size (a .i) (a .deleted .now) long look (r .row-of .ensures) (v .vector-rows .ensures) (b .block-count .ensures) (k .checkpoint-plan .ensures) (c .before .before .enum-told .given .1) in
@@ -82,11 +88,11 @@ returns-2 c =
     let b = k .before .before .before .before .before .before in
     let v = b .before .before in
     let r = v .before in
-    let u = r .before .before .before in
+    let u = start (r .before) in
     let a = u .args in
     let h = u .pre in
     let size = sizes (a .s) _ (u .good .0) in
-    let long = r .before .if1 .left in
+    let long = room (r .before) in
     let look = first-look (a .s) h size (k .before .none-named .ensures) in
     let does = checkpoint-does (a .s) h size (a .i) (a .deleted .now) long look (r .row-of .ensures) (v .vector-rows .ensures) (b .block-count .ensures) (k .checkpoint-plan .ensures) in
     let e = checkpoint-no (a .s) h size (a .i) (a .deleted .now) long look (r .row-of .ensures) (v .vector-rows .ensures) (b .block-count .ensures) (k .checkpoint-plan .ensures) _ (c .before .before .verdict .given .1) in
@@ -98,11 +104,11 @@ returns-3 c =
     let b = k .before .before .before .before .before .before in
     let v = b .before .before in
     let r = v .before in
-    let u = r .before .before .before in
+    let u = start (r .before) in
     let a = u .args in
     let h = u .pre in
     let size = sizes (a .s) _ (u .good .0) in
-    let long = r .before .if1 .left in
+    let long = room (r .before) in
     let look = first-look (a .s) h size (k .before .none-named .ensures) in
     let does = checkpoint-does (a .s) h size (a .i) (a .deleted .now) long look (r .row-of .ensures) (v .vector-rows .ensures) (b .block-count .ensures) (k .checkpoint-plan .ensures) in
     let moves = checkpoint-moves (a .s) h size (a .i) (a .deleted .now) long look (r .row-of .ensures) (v .vector-rows .ensures) (b .block-count .ensures) (k .checkpoint-plan .ensures) (c .before .before .before .before .before .before .enum-told .given .1) in
@@ -116,8 +122,7 @@ pub checkpoint-spec : {M : Type 1} → statement M
 checkpoint-spec =
     tie.close
     (tie.spec
-    mul-if1
-    mul-if1-2
+    are-deletions-short-requires
     (λ c κs. search needs)
     returns
     (λ c κs. search needs) (λ c κs. search needs)

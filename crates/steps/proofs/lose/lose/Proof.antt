@@ -1,8 +1,8 @@
 -- `steps::lose::lose` meets its contract: its plan, carried out, is the outcome (proofs/Calling). Assumes nothing.
 use native.Mathlib.Omega.{arith}
 use Rattle.model.specs.laws.Sound.{sound-state}
-use Rattle.steps.proofs.Calling.{put-closed, put-state, closed-up, some-underway, lose-does, lose-still, lose-answers}
-use Rattle.steps.proofs.Sizes.{sizes}
+use Rattle.steps.proofs.Calling.{put-closed, put-state, some-underway, lose-does, lose-still, lose-answers}
+use Rattle.apply.proofs.Sizes.{sizes}
 use borrow.Author.Needs.{needs}
 use Rattle.steps.proofs.lose.lose.Statement.{statement}
 use Rattle.steps.proofs.lose.lose.Tie as tie
@@ -18,43 +18,34 @@ lose-plan-requires c κs =
     let size = sizes (a .s) _ (u .good .0) in
     some-underway (a .s) h size (a .m) (c .before .look-up .ensures)
 
-put-requires : tie.Need-put-requires
-put-requires c κs =
+after-requires : tie.Need-after-requires
+after-requires c κs =
     let u = c .before .before .before .before in
     let a = u .args in
     let h = u .pre in
     let size = sizes (a .s) _ (u .good .0) in
     let does = lose-does (a .s) h size (a .m) (c .before .before .look-up .ensures) (c .lose-plan .ensures) in
-    omega (arith, does .place-there, size .messages)
+    (omega (arith, does .place-there, size .messages), omega (arith, does .tail-there, size .messages))
 
-closed-up-requires : tie.Need-closed-up-requires
-closed-up-requires c κs =
+put-requires : tie.Need-put-requires
+put-requires c κs =
     let u = c .before .before .before .before .before in
     let a = u .args in
     let h = u .pre in
     let size = sizes (a .s) _ (u .good .0) in
     let does = lose-does (a .s) h size (a .m) (c .before .before .before .look-up .ensures) (c .before .lose-plan .ensures) in
-    omega (arith, does .tail-there, size .messages)
-
-put-requires-2 : tie.Need-put-requires-2
-put-requires-2 c κs =
-    let u = c .before .before .before .before .before .before in
-    let a = u .args in
-    let h = u .pre in
-    let size = sizes (a .s) _ (u .good .0) in
-    let does = lose-does (a .s) h size (a .m) (c .before .before .before .before .look-up .ensures) (c .before .before .lose-plan .ensures) in
-    (omega arith, put-closed does _ (closed-up does (c .before .put .ensures) (c .closed-up .ensures)))
+    (omega arith, put-closed does _ (c .after .ensures))
 
 returns : tie.Need-returns
 returns c =
-    let u = c .before .before .before .before .before .before .before .before in
+    let u = c .before .before .before .before .before .before .before in
     let a = u .args in
     let h = u .pre in
     let size = sizes (a .s) _ (u .good .0) in
-    let does = lose-does (a .s) h size (a .m) (c .before .before .before .before .before .before .look-up .ensures) (c .before .before .before .before .lose-plan .ensures) in
-    let still = lose-still (a .s) h size (a .m) (c .before .before .before .before .before .before .look-up .ensures) (c .before .before .before .before .lose-plan .ensures) in (
-      put-state does _ (closed-up does (c .before .before .before .put .ensures) (c .before .before .closed-up .ensures)) still (c .before .put2 .ensures),
-      lose-answers (a .s) h size (a .m) (c .before .before .before .before .before .before .look-up .ensures) (c .before .before .before .before .lose-plan .ensures) (c .answer-of .ensures),
+    let does = lose-does (a .s) h size (a .m) (c .before .before .before .before .before .look-up .ensures) (c .before .before .before .lose-plan .ensures) in
+    let still = lose-still (a .s) h size (a .m) (c .before .before .before .before .before .look-up .ensures) (c .before .before .before .lose-plan .ensures) in (
+      put-state does _ (c .before .before .after .ensures) still (c .before .put .ensures),
+      lose-answers (a .s) h size (a .m) (c .before .before .before .before .before .look-up .ensures) (c .before .before .before .lose-plan .ensures) (c .answer-of .ensures),
     )
 
 pub lose-spec : {M : Type 1} → statement M
@@ -64,8 +55,7 @@ lose-spec =
     look-up-requires
     (λ c. search needs)
     lose-plan-requires
+    after-requires
     put-requires
-    closed-up-requires
-    put-requires-2
     (λ c κs. search needs)
     returns)

@@ -2,7 +2,7 @@
 use native.Mathlib.Omega.{arith}
 use Rattle.model.specs.laws.Sound.{sound-state}
 use Rattle.steps.proofs.Calling.{row-there, put-closed, put-state, first-look, send-does, send-straight, send-answers}
-use Rattle.steps.proofs.Sizes.{sizes}
+use Rattle.apply.proofs.Sizes.{sizes}
 use borrow.Author.Needs.{needs}
 use Rattle.steps.proofs.send.send.Statement.{statement}
 use Rattle.steps.proofs.send.send.Tie as tie

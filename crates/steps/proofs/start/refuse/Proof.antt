@@ -2,7 +2,7 @@
 use mathlib.Core.Path.{refl}
 use native.Mathlib.Omega.{arith}
 use Rattle.laws.specs.Search.{allBelow}
-use Rattle.steps.proofs.Starting.{started-none}
+use Rattle.first_state.proofs.Starting.{started-none}
 use Rattle.steps.proofs.start.refuse.Statement.{statement}
 use Rattle.steps.proofs.start.refuse.Tie as tie
 

@@ -1,0 +1,12 @@
+-- `sound_vectors::messages::is_unused` meets its contract. Assumes nothing.
+use borrow.Author.Needs.{needs}
+use Rattle.model.specs.Sound.{unusedMessage}
+use Rattle.sound_vectors.proofs.messages.is_unused.Statement.{statement}
+use Rattle.sound_vectors.proofs.messages.is_unused.Tie as tie
+
+returns : tie.Need-returns
+unfolding unusedMessage
+returns c = rw (c .before .before .before .is-zero .ensures)
+
+pub is-unused-spec : {M : Type 1} → statement M
+is-unused-spec = tie.close (tie.spec (λ c κs. search needs) returns)
