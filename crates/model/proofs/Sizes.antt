@@ -46,7 +46,7 @@ unfolding process
 few-kept s h p lt = rw (length-take (getD (s .held) p 0) (getD (s .kept .0) p [])) (omega (arith, few-processes s h, sound-state s h .processes p lt .held-most))
 
 -- The last element of a list passes a test that every element passes.
-last-passes : {A : Type 0} (u : A → Bool) (l : List A) (x : A) → every u l ≡ true → lastOf l ≡ some x → u x ≡ true
+pub last-passes : {A : Type 0} (u : A → Bool) (l : List A) (x : A) → every u l ≡ true → lastOf l ≡ some x → u x ≡ true
 unfolding every lastOf
 last-passes u [] x h e = absurd (let z : _≡_ {A = ℕ} 0 1 = cc in omega arith)
 last-passes u (y ∷ l) x h e =

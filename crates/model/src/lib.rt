@@ -92,6 +92,7 @@ pub enum Refusal {
     UnfitNamedList,
     NotKept,
     CausallyOrdered,
+    BufferTooShort,
     HalvesMismatch,
     NeitherReady,
 }

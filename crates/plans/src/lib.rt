@@ -154,13 +154,7 @@ pub fn checkpoint_plan(
 }
 
 // Whether a send is refused, and why, where `underway` messages are under way and `last` is the last number used.
-pub fn send_verdict(
-    sender: usize,
-    receiver: usize,
-    n: usize,
-    underway: usize,
-    last: u32,
-) -> Verdict
+pub fn send_verdict(sender: usize, receiver: usize, n: usize, underway: usize, last: u32) -> Verdict
     ensures { λ r. ⌜ r ≡ sendVerdict sender receiver n underway last ⌝ }
 {
     if n <= sender {

@@ -12,6 +12,8 @@
 //! from a start and the calls on it. (The door for tests, at the end, judges the
 //! sums that it is handed.)
 
+pub mod record;
+
 /// "A run has n processes, 1 to 16, numbered from 0."
 pub const MAX_PROCESSES: usize = 16;
 

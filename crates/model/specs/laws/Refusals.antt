@@ -11,7 +11,7 @@ use lib.ListN.{getD, take}
 use Rattle.laws.specs.Choice.{by-bool}
 use Rattle.laws.specs.Truth.{never-both}
 use Rattle.model.specs.declared.Refusal.{Refusal}
-use Rattle.model.specs.declared.Refusal.the-variants.{CountOutsideRange, UnsoundState, ListTooShort, NoSuchProcess, SenderIsReceiver, NoSuchFailedProcess, NotUnderWay, TooManyUnderWay, MessageNumbersUsed, IntervalsUsed, NoFirstByte, LeftOverBytes, MalformedRecord, BlockCountOutsideRange, BlocksUsed, TooManyRecords, UnfitNamedList, NotKept, CausallyOrdered, HalvesMismatch, NeitherReady}
+use Rattle.model.specs.declared.Refusal.the-variants.{CountOutsideRange, UnsoundState, ListTooShort, NoSuchProcess, SenderIsReceiver, NoSuchFailedProcess, NotUnderWay, TooManyUnderWay, MessageNumbersUsed, IntervalsUsed, NoFirstByte, LeftOverBytes, MalformedRecord, BlockCountOutsideRange, BlocksUsed, TooManyRecords, UnfitNamedList, NotKept, CausallyOrdered, BufferTooShort, HalvesMismatch, NeitherReady}
 use Rattle.model.specs.Refusals.{number, Rule, firstOf}
 
 -- No rule of a list holds.
@@ -94,5 +94,6 @@ number-range TooManyRecords = (omega arith, omega arith)
 number-range UnfitNamedList = (omega arith, omega arith)
 number-range NotKept = (omega arith, omega arith)
 number-range CausallyOrdered = (omega arith, omega arith)
+number-range BufferTooShort = (omega arith, omega arith)
 number-range HalvesMismatch = (omega arith, omega arith)
 number-range NeitherReady = (omega arith, omega arith)

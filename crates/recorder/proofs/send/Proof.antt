@@ -1,0 +1,72 @@
+-- `recorder::send` meets its contract: the three ways of a call through the recorder.
+-- Assumes nothing.
+use mathlib.Core.Bool.{true, _&&_}
+use mathlib.Core.Path.{_≡_, _∙_}
+use Prim.Native.Nat.{ℕ, _<_}
+use native.Mathlib.Omega.{arith}
+use lib.Dec.{ltb}
+use lib.ListN.{length}
+use borrow.Author.Needs.{needs}
+use borrow.Author.Tests.{ltb-true}
+use Rattle.laws.specs.Truth.{and-right}
+use Rattle.model.specs.declared.Event.the-variants.{Send}
+use Rattle.model.specs.Trace.{fits, fieldsOf}
+use Rattle.recorder_parts.proofs.Ways.{has-room, no-room, send-accepted, send-refused, send-short, send-done}
+use Rattle.recorder.proofs.Leaves.{leaves-all, leaves-written}
+use Rattle.recorder.proofs.send.Statement.{statement}
+use Rattle.recorder.proofs.send.Tie as tie
+
+-- A receiver whose record fits is small.
+small : (i j : ℕ) → fits (Send i j) ≡ true → j < 33554432
+unfolding fits fieldsOf
+small i j h = ltb-true j 33554432 (and-right (ltb i 16) (ltb j 33554432) h)
+
+returns : tie.Need-returns
+returns c =
+    let a = c .before .before .before .before .args in
+    let done = c .before .before .send .ensures in
+    let l = leaves-all _ _ _ _ (send-refused (a .s) (a .i) (a .j) (a .buffer .now) (a .place) (done .1) (c .before .send2 .ensures) (c .if1 .taken)) in
+    (done .0 ∙ l .run, (done .1 ∙ l .answer, (l .buffer, l .place)))
+
+returns-2 : tie.Need-returns-2
+returns-2 c =
+    let a = c .before .before .before .before .before .before .args in
+    let ok = send-accepted (a .s) (a .i) (a .j) (a .buffer .now) (a .place) (c .before .before .before .before .send .ensures .1) (c .before .before .before .send2 .ensures) (c .before .before .if1 .left) in
+    let room = no-room (length (a .buffer .now)) (a .place) (c .before .has-room .ensures) (c .if2 .taken) in
+    let l = leaves-all _ _ _ _ (send-short (a .s) (a .i) (a .j) (a .buffer .now) (a .place) (ok .0) (ok .2) room) in
+    (l .run, (l .answer, (l .buffer, l .place)))
+
+cast-t18 : tie.Need-cast-t18
+cast-t18 c =
+    let a = c .before .before .before .before .before .before .before .args in
+    let ok = send-accepted (a .s) (a .i) (a .j) (a .buffer .now) (a .place) (c .before .before .before .before .before .send .ensures .1) (c .before .before .before .before .send2 .ensures) (c .before .before .before .if1 .left) in
+    record { fits = omega (arith, small (a .i) (a .j) (ok .1)) }
+
+append-requires : tie.Need-append-requires
+append-requires c κs =
+    let a = c .before .before .before .before .before .before .before .args in
+    let ok = send-accepted (a .s) (a .i) (a .j) (a .buffer .now) (a .place) (c .before .before .before .before .before .send .ensures .1) (c .before .before .before .before .send2 .ensures) (c .before .before .before .if1 .left) in
+    (has-room (length (a .buffer .now)) (a .place) (c .before .before .has-room .ensures) (c .before .if2 .left) .1, ok .1)
+
+returns-3 : tie.Need-returns-3
+returns-3 c =
+    let a = c .before .before .before .before .before .before .before .before .before .before .args in
+    let done = c .before .before .before .before .before .before .before .before .send .ensures in
+    let written = c .before .before .append .ensures in
+    let ok = send-accepted (a .s) (a .i) (a .j) (a .buffer .now) (a .place) (done .1) (c .before .before .before .before .before .before .before .send2 .ensures) (c .before .before .before .before .before .before .if1 .left) in
+    let room = has-room (length (a .buffer .now)) (a .place) (c .before .before .before .before .before .has-room .ensures) (c .before .before .before .before .if2 .left) in
+    let l = leaves-written _ _ _ _ _ (send-done (a .s) (a .i) (a .j) (a .buffer .now) (a .place) (ok .0) (ok .2) (room .0)) in
+    (done .0 ∙ l .run, (done .1 ∙ l .answer, (written .0 ∙ l .buffer, written .1 ∙ l .place)))
+
+pub send-spec : {M : Type 1} → statement M
+send-spec =
+    tie.close
+    (tie.spec
+    (λ c κs. search needs) (λ c κs. search needs)
+    returns
+    (λ c κs. search needs)
+    returns-2
+    cast-t18
+    append-requires
+    (λ c. search needs)
+    returns-3)

@@ -1,0 +1,16 @@
+-- `recorder_parts::accepted::recover` meets its contract, by the cases of the answer.
+-- Assumes nothing.
+use mathlib.Core.Path.{refl, sym}
+use borrow.Author.Needs.{needs}
+use Rattle.model.specs.Outcomes.{recoverReport}
+use Rattle.model.proofs.whole.Reached.{refused-number}
+use Rattle.recorder_parts.proofs.accepted.recover.Statement.{statement}
+use Rattle.recorder_parts.proofs.accepted.recover.Tie as tie
+
+returns : tie.Need-returns
+unfolding recoverReport
+returns c = rw (c .enum-told .given .1) (sym (refused-number _))
+
+pub recover-spec : {M : Type 1} → statement M
+unfolding recoverReport
+recover-spec = tie.close (tie.spec (λ c. search needs) (λ c. search needs) returns (λ c. rw (c .enum-told2 .given .1) refl))

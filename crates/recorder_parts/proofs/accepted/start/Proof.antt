@@ -1,0 +1,16 @@
+-- `recorder_parts::accepted::start` meets its contract, by the cases of the answer.
+-- Assumes nothing.
+use mathlib.Core.Path.{refl, sym}
+use borrow.Author.Needs.{needs}
+use Rattle.model.specs.Outcomes.{startReport}
+use Rattle.model.proofs.whole.Reached.{refused-number}
+use Rattle.recorder_parts.proofs.accepted.start.Statement.{statement}
+use Rattle.recorder_parts.proofs.accepted.start.Tie as tie
+
+returns : tie.Need-returns
+unfolding startReport
+returns c = rw (c .enum-told .given .1) (sym (refused-number _))
+
+pub start-spec : {M : Type 1} → statement M
+unfolding startReport
+start-spec = tie.close (tie.spec (λ c. search needs) (λ c. search needs) returns (λ c. rw (c .enum-told2 .given .1) refl))

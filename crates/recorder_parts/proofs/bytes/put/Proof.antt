@@ -1,0 +1,72 @@
+-- `recorder::bytes::put` meets its contract: four stores, one behind the other.
+-- Assumes nothing.
+use borrow.Author.Needs.{needs}
+use mathlib.Core.Path.{_≡_, refl}
+use mathlib.Core.List.{List, [], _∷_}
+use Prim.Native.Nat.{ℕ, suc, _+_}
+use native.Mathlib.Omega.{arith}
+use lib.ListN.{length, getD, set, length-set}
+use lib.Seq.{sets}
+use Rattle.recorder_parts.proofs.bytes.put.Statement.{statement}
+use Rattle.recorder_parts.proofs.bytes.put.Tie as tie
+
+-- Four stores one after the other.
+four : (b l : List ℕ) (k : ℕ) → length b ≡ 4 → set (set (set (set l k (getD b 0 0)) (k + 1) (getD b 1 0)) (k + 2) (getD b 2 0)) (k + 3) (getD b 3 0) ≡ sets l k b
+four [] l k e = absurd (omega arith)
+four (x ∷ []) l k e = absurd (omega arith)
+four (x ∷ y ∷ []) l k e = absurd (omega arith)
+four (x ∷ y ∷ z ∷ []) l k e = absurd (omega arith)
+four (x ∷ y ∷ z ∷ w ∷ []) l k e = rw (one, two, three)
+  where
+    one : k + 1 ≡ suc k
+    one = omega arith
+
+    two : k + 2 ≡ suc (suc k)
+    two = omega arith
+
+    three : k + 3 ≡ suc (suc (suc k))
+    three = omega arith
+four (x ∷ y ∷ z ∷ w ∷ v ∷ b) l k e = absurd (omega arith)
+
+array-read-buffer : tie.Need-array-read-buffer
+array-read-buffer c = search needs
+
+slice-write-buffer : tie.Need-slice-write-buffer
+slice-write-buffer c = search needs
+
+array-read-buffer-2 : tie.Need-array-read-buffer-2
+array-read-buffer-2 c = search needs
+
+add-buffer : tie.Need-add-buffer
+add-buffer c = search needs
+
+slice-write-buffer-2 : tie.Need-slice-write-buffer-2
+slice-write-buffer-2 c = simp length-set (omega arith)
+
+array-read-buffer-3 : tie.Need-array-read-buffer-3
+array-read-buffer-3 c = search needs
+
+add-buffer-2 : tie.Need-add-buffer-2
+add-buffer-2 c = search needs
+
+slice-write-buffer-3 : tie.Need-slice-write-buffer-3
+slice-write-buffer-3 c = simp length-set (omega arith)
+
+array-read-buffer-4 : tie.Need-array-read-buffer-4
+array-read-buffer-4 c = search needs
+
+add-buffer-3 : tie.Need-add-buffer-3
+add-buffer-3 c = search needs
+
+slice-write-buffer-4 : tie.Need-slice-write-buffer-4
+slice-write-buffer-4 c = simp length-set (omega arith)
+
+same-length : tie.Need-same-length
+same-length c = search needs
+
+returns : tie.Need-returns
+returns c = four (c .args .t3) _ (c .args .place) (search needs)
+
+pub put-spec : {M : Type 1} → statement M
+put-spec =
+    tie.close (tie.spec array-read-buffer slice-write-buffer array-read-buffer-2 add-buffer slice-write-buffer-2 array-read-buffer-3 add-buffer-2 slice-write-buffer-3 array-read-buffer-4 add-buffer-3 slice-write-buffer-4 same-length returns)

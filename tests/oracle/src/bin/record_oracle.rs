@@ -1,0 +1,15 @@
+//! `record_oracle [BYTES] < TRACE` plays a trace through a recorder (Note 9) with
+//! a buffer of so many bytes, as many as are needed if not given, and prints what
+//! was recorded.
+
+use std::io::{self, ErrorKind, Read, Write};
+
+fn main() -> io::Result<()> {
+    let mut trace = Vec::new();
+    io::stdin().read_to_end(&mut trace)?;
+    let room = match std::env::args().nth(1) {
+        None => trace.len(),
+        Some(bytes) => bytes.parse().map_err(|_| ErrorKind::InvalidInput)?,
+    };
+    io::stdout().write_all(&oracle::run::record::recorded(&trace, room))
+}

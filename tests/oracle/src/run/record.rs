@@ -1,0 +1,144 @@
+//! Note 9: a recorder. "A writer takes a call, does it, and appends the record
+//! to a lent buffer whose first byte is the count; the start writes that byte."
+
+use super::{Checkpointed, Counts, Delivered, Recovered, Run, MAX_PROCESSES, ONES};
+
+/// "21, after all numbers of the call itself, for fewer bytes left in the buffer
+/// than it would write."
+pub const NO_ROOM: u8 = 21;
+
+/// The state, the buffer and the place that the call before left.
+pub struct Recorder<'a> {
+    run: Run,
+    buffer: &'a mut [u8],
+    place: usize,
+}
+
+/// Each call is done on a copy of the state and of its lent lists, and they are
+/// taken over once its record is written: where there is no room for it nothing
+/// is done. "A refused call writes no byte".
+impl<'a> Recorder<'a> {
+    pub fn start(count: usize, counts: &Counts, buffer: &'a mut [u8]) -> Result<Recorder<'a>, u8> {
+        let run = Run::start(count, counts)?;
+        let mut recorder = Recorder {
+            run,
+            buffer,
+            place: 0,
+        };
+        recorder.append(&[count as u8])?;
+        Ok(recorder)
+    }
+
+    pub fn checkpoint(&mut self, i: usize, deletions: &mut [u16]) -> Result<Checkpointed, u8> {
+        let (mut run, mut deleted) = (self.run.clone(), deletions.to_vec());
+        let answer = run.checkpoint(i, &mut deleted)?;
+        self.append_record(0, i as u32, 0)?;
+        self.run = run;
+        deletions.copy_from_slice(&deleted);
+        Ok(answer)
+    }
+
+    pub fn send(&mut self, i: usize, j: usize) -> Result<u32, u8> {
+        let mut run = self.run.clone();
+        let answer = run.send(i, j)?;
+        self.append_record(1, i as u32, j as u32)?;
+        self.run = run;
+        Ok(answer)
+    }
+
+    pub fn deliver(&mut self, number: u32, deletions: &mut [u16]) -> Result<Delivered, u8> {
+        let (mut run, mut deleted) = (self.run.clone(), deletions.to_vec());
+        let answer = run.deliver(number, &mut deleted)?;
+        self.append_record(2, 0, number)?;
+        self.run = run;
+        deletions.copy_from_slice(&deleted);
+        Ok(answer)
+    }
+
+    pub fn lose(&mut self, number: u32) -> Result<(), u8> {
+        let mut run = self.run.clone();
+        run.lose(number)?;
+        self.append_record(3, 0, number)?;
+        self.run = run;
+        Ok(())
+    }
+
+    pub fn recover(
+        &mut self,
+        failed: u32,
+        deletions: &mut [u16],
+        line: &mut [u16],
+    ) -> Result<Recovered, u8> {
+        let mut run = self.run.clone();
+        let (mut deleted, mut written) = (deletions.to_vec(), line.to_vec());
+        let answer = run.recover(failed, &mut deleted, &mut written)?;
+        self.append_record(4, 0, failed)?;
+        self.run = run;
+        deletions.copy_from_slice(&deleted);
+        line.copy_from_slice(&written);
+        Ok(answer)
+    }
+
+    /// "a line request [...] writes none."
+    pub fn line(&self, failed: u32, line: &mut [u16]) -> Result<(), u8> {
+        self.run.line(failed, line)
+    }
+
+    pub fn run(&self) -> &Run {
+        &self.run
+    }
+
+    /// How many bytes are recorded.
+    pub fn place(&self) -> usize {
+        self.place
+    }
+
+    fn append_record(&mut self, kind: u32, process: u32, argument: u32) -> Result<(), u8> {
+        self.append(&(kind << 29 | process << 25 | argument).to_be_bytes())
+    }
+
+    fn append(&mut self, bytes: &[u8]) -> Result<(), u8> {
+        let left = &mut self.buffer[self.place..];
+        if left.len() < bytes.len() {
+            return Err(NO_ROOM);
+        }
+        left[..bytes.len()].copy_from_slice(bytes);
+        self.place += bytes.len();
+        Ok(())
+    }
+}
+
+/// What a buffer of this many bytes has recorded once each record of the trace
+/// was a call. Calls that are refused are passed over, and so are records that
+/// are no call (14) and left-over bytes.
+pub fn recorded(trace: &[u8], room: usize) -> Vec<u8> {
+    let mut buffer = vec![0; room];
+    let length = record_trace(trace, &mut buffer);
+    buffer.truncate(length);
+    buffer
+}
+
+fn record_trace(trace: &[u8], buffer: &mut [u8]) -> usize {
+    let Some((first, records)) = trace.split_first() else {
+        return 0;
+    };
+    let Ok(mut recorder) = Recorder::start(*first as usize, &ONES, buffer) else {
+        return 0;
+    };
+    let deletions = &mut [0; 2 * MAX_PROCESSES * MAX_PROCESSES];
+    let line = &mut [0; MAX_PROCESSES];
+    for bytes in records.chunks_exact(4) {
+        let record = u32::from_be_bytes([bytes[0], bytes[1], bytes[2], bytes[3]]);
+        let (process, argument) = ((record >> 25 & 0b1111) as usize, record & 0x1FF_FFFF);
+        // Refused or not: the next record comes.
+        let _ = match (record >> 29, process, argument) {
+            (0, _, 0) => recorder.checkpoint(process, deletions).err(),
+            (1, _, _) => recorder.send(process, argument as usize).err(),
+            (2, 0, _) => recorder.deliver(argument, deletions).err(),
+            (3, 0, _) => recorder.lose(argument).err(),
+            (4, 0, _) => recorder.recover(argument, deletions, line).err(),
+            _ => None,
+        };
+    }
+    recorder.place()
+}
