@@ -1,3 +1,4 @@
 -- Laws that belong to no one function.
+pub mod ClosedTables
 pub mod Moving
 pub mod Sizes

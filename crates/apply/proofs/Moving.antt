@@ -26,7 +26,7 @@ use Rattle.retention.specs.Kept.{keptRow}
 use Rattle.retention.specs.Receipt.{takenThen, vectorThen, pinsThen, keptThen}
 use Rattle.plans.specs.declared.Plan.{Plan}
 use Rattle.plans.specs.Carried.{countAt, unnamedBy, roseBy, moved}
-use Rattle.messages.specs.Messages.{Closed}
+use Rattle.apply.specs.Closed.{Closed}
 
 module _ (s : Run) (i : ℕ) (p : Plan) {vectors : List (List Interval)} {all-pins : List (List Pin)} {all-kept : List (List Checkpoint)} {blocks : ℕ} {stored : Checkpoint} {pins : List Pin}
     (e-vectors : vectors ≡ s .vectors .0) (e-all-pins : all-pins ≡ s .pins .0) (e-all-kept : all-kept ≡ s .kept .0) (e-blocks : blocks ≡ countAt s i)

@@ -15,7 +15,7 @@ ghost use Rattle.model.specs.Sound.{sound};
 ghost use Rattle.model.specs.Steps.{listed};
 ghost use Rattle.model.specs.Outcomes.{pairs, written};
 ghost use Rattle.plans.specs.Carried.{ownAt, countAt, unnamedBy, roseBy, unmoved, moved};
-ghost use Rattle.messages.specs.Messages.{Closed};
+ghost use Rattle.apply.specs.Closed.{Closed};
 
 // The state after a plan for process i that moves no rows. There are places for 16.
 pub fn put(s: Run, i: usize, p: Plan, messages: [Message; 64]) -> Run

@@ -1,15 +1,14 @@
--- The messages under way in the table of a state: what a look-up in it answers, and a table with no unused place before the last message.
+-- The messages under way in the table of a state: what a look-up in it answers.
 -- Assumes nothing.
-use mathlib.Core.Path.{_≡_}
 use mathlib.Core.Bool.{Bool, false}
 use mathlib.Core.List.{List}
 use Prim.Native.Nat.{ℕ}
 use lib.Dec.{eqb}
-use lib.ListN.{length, getD, take}
-use Rattle.laws.specs.Lists.{orElse, placed}
+use lib.ListN.{getD}
+use Rattle.laws.specs.Lists.{orElse}
 use Rattle.laws.specs.Search.{anyBelow, latest}
 use Rattle.model.specs.declared.Message.{Message}
-use Rattle.model.specs.Words.{mostUnderWay, noMessage}
+use Rattle.model.specs.Words.{noMessage}
 use Rattle.plans.specs.declared.Lookup.{Lookup}
 
 -- The answer to a call that names no message.
@@ -33,7 +32,3 @@ lookedUp messages underway last number = record {
   last = last;
   tail = underway;
 }
-
--- The first k places of a table are used, and the others are not.
-abbrev pub Closed : List Message → ℕ → Type 0
-Closed table k = (table ≡ placed mostUnderWay noMessage (take k table)) × (k ≡ length (take k table))

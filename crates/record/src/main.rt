@@ -13,8 +13,11 @@ use model::Run;
 use model::StartAnswer;
 use trace::Decoded;
 ghost use mathlib.Core.Path.{_≡_};
+ghost use mathlib.Core.Option.{some};
 ghost use Prim.Native.Nat.{_+_, _≤_};
 ghost use lib.ListN.{length};
+ghost use Rattle.trace.specs.Answers.{eventIn};
+ghost use Rattle.record.specs.Tapes.{tapeOf, tapeBehind, LeadsTo, Left, WasRecorded};
 
 // The state, and the place that the next byte goes to.
 struct Tape {
@@ -73,7 +76,9 @@ fn fill(input: &mut [u8]) -> Filled
     }
 }
 
-fn checkpoint(t: Tape, i: usize, buffer: &mut [u8]) -> Tape {
+fn checkpoint(t: Tape, i: usize, buffer: &mut [u8]) -> Tape
+    ensures { λ r. ⌜ tapeOf (r .run) (now (buffer .exit)) (r .place) ≡ tapeBehind (tapeOf (t .run) (now (buffer .entry)) (t .place)) (some (Event.Checkpoint i)) ⌝ }
+{
     let run = t.run;
     let mut deleted = [0u16; 512];
     let recorded = recorder::checkpoint(run, i, &mut deleted, buffer, t.place);
@@ -83,7 +88,9 @@ fn checkpoint(t: Tape, i: usize, buffer: &mut [u8]) -> Tape {
     Tape { run, place }
 }
 
-fn send(t: Tape, i: usize, j: u32, buffer: &mut [u8]) -> Tape {
+fn send(t: Tape, i: usize, j: u32, buffer: &mut [u8]) -> Tape
+    ensures { λ r. ⌜ tapeOf (r .run) (now (buffer .exit)) (r .place) ≡ tapeBehind (tapeOf (t .run) (now (buffer .entry)) (t .place)) (some (Event.Send i j)) ⌝ }
+{
     let run = t.run;
     let recorded = recorder::send(run, i, j as usize, buffer, t.place);
     let outcome = recorded.outcome;
@@ -92,7 +99,9 @@ fn send(t: Tape, i: usize, j: u32, buffer: &mut [u8]) -> Tape {
     Tape { run, place }
 }
 
-fn deliver(t: Tape, m: u32, buffer: &mut [u8]) -> Tape {
+fn deliver(t: Tape, m: u32, buffer: &mut [u8]) -> Tape
+    ensures { λ r. ⌜ tapeOf (r .run) (now (buffer .exit)) (r .place) ≡ tapeBehind (tapeOf (t .run) (now (buffer .entry)) (t .place)) (some (Event.Deliver m)) ⌝ }
+{
     let run = t.run;
     let mut deleted = [0u16; 512];
     let recorded = recorder::deliver(run, m, &mut deleted, buffer, t.place);
@@ -102,7 +111,9 @@ fn deliver(t: Tape, m: u32, buffer: &mut [u8]) -> Tape {
     Tape { run, place }
 }
 
-fn lose(t: Tape, m: u32, buffer: &mut [u8]) -> Tape {
+fn lose(t: Tape, m: u32, buffer: &mut [u8]) -> Tape
+    ensures { λ r. ⌜ tapeOf (r .run) (now (buffer .exit)) (r .place) ≡ tapeBehind (tapeOf (t .run) (now (buffer .entry)) (t .place)) (some (Event.Lose m)) ⌝ }
+{
     let run = t.run;
     let recorded = recorder::lose(run, m, buffer, t.place);
     let outcome = recorded.outcome;
@@ -112,7 +123,9 @@ fn lose(t: Tape, m: u32, buffer: &mut [u8]) -> Tape {
 }
 
 // A set with a bit at 16 or above is refused on every state (7), and nothing is recorded.
-fn recover(t: Tape, failed: u32, buffer: &mut [u8]) -> Tape {
+fn recover(t: Tape, failed: u32, buffer: &mut [u8]) -> Tape
+    ensures { λ r. ⌜ tapeOf (r .run) (now (buffer .exit)) (r .place) ≡ tapeBehind (tapeOf (t .run) (now (buffer .entry)) (t .place)) (some (Event.Recover failed)) ⌝ }
+{
     if 65535 < failed {
         return t;
     }
@@ -126,7 +139,9 @@ fn recover(t: Tape, failed: u32, buffer: &mut [u8]) -> Tape {
     Tape { run, place }
 }
 
-fn perform(t: Tape, e: Event, buffer: &mut [u8]) -> Tape {
+fn perform(t: Tape, e: Event, buffer: &mut [u8]) -> Tape
+    ensures { λ r. ⌜ tapeOf (r .run) (now (buffer .exit)) (r .place) ≡ tapeBehind (tapeOf (t .run) (now (buffer .entry)) (t .place)) (some e) ⌝ }
+{
     match e {
         Event::Checkpoint(i) => checkpoint(t, i, buffer),
         Event::Send(i, j) => send(t, i, j, buffer),
@@ -137,7 +152,9 @@ fn perform(t: Tape, e: Event, buffer: &mut [u8]) -> Tape {
 }
 
 // A record that is malformed is no call.
-fn take(t: Tape, part: &[u8], buffer: &mut [u8]) -> Tape {
+fn take(t: Tape, part: &[u8], buffer: &mut [u8]) -> Tape
+    ensures { λ r. ⌜ tapeOf (r .run) (now (buffer .exit)) (r .place) ≡ tapeBehind (tapeOf (t .run) (now (buffer .entry)) (t .place)) (eventIn (now (part .entry))) ⌝ }
+{
     let decoded = trace::decode(part);
     match decoded {
         Decoded::Malformed => t,
@@ -153,7 +170,9 @@ struct Turned {
 }
 
 // The next record of the input.
-fn turn(t: Tape, buffer: &mut [u8]) -> Turned {
+fn turn(t: Tape, buffer: &mut [u8]) -> Turned
+    ensures { λ r. ⌜ LeadsTo (tapeOf (t .run) (now (buffer .entry)) (t .place)) (tapeOf (r .tape .run) (now (buffer .exit)) (r .tape .place)) ⌝ }
+{
     let mut word = [0u8; 4];
     let filled = fill(&mut word);
     let failed = filled.failed;
@@ -179,7 +198,9 @@ struct Played {
 }
 
 // Every whole record of the input, up to the last that a replay takes.
-fn play(from: Tape, buffer: &mut [u8]) -> Played {
+fn play(from: Tape, buffer: &mut [u8]) -> Played
+    ensures { λ r. ⌜ Left (tapeOf (from .run) (now (buffer .entry)) (from .place)) (now (buffer .exit)) (r .place) ⌝ }
+{
     let mut at = from;
     let mut taken: usize = 0;
     while taken < 1000000000 {
@@ -199,8 +220,10 @@ fn play(from: Tape, buffer: &mut [u8]) -> Played {
     }
 }
 
-// What stands in front of a place is written.
-fn put(buffer: &[u8], place: usize) {
+// What stands in front of a place is written. It was recorded behind an accepted start, so it replays the same (`written-replays`).
+fn put(buffer: &[u8], place: usize)
+    requires { ⌜ WasRecorded (now buffer) place ⌝ }
+{
     let size = words::least(place, buffer.len());
     let is_written = io::write_all(STDOUT_FILENO, &buffer[..size]);
     if !is_written {

@@ -6,7 +6,7 @@ use mathlib.Core.List.{List, [], _∷_}
 use mathlib.Core.Option.{none, some}
 use Prim.Native.Nat.{ℕ, _-_, _≤_}
 use native.Mathlib.Omega.{arith}
-use lib.Dec.{eqb, ltb}
+use lib.Dec.{eqb}
 use lib.ListN.{length}
 use borrow.Author.Tests.{lt-ltb, le-ltb}
 use Rattle.model.specs.declared.Refusal.{Refusal}
@@ -14,7 +14,7 @@ use Rattle.model.specs.declared.Refusal.the-variants.{BufferTooShort}
 use Rattle.model.specs.declared.StartAnswer.{StartAnswer}
 use Rattle.model.specs.declared.StartAnswer.the-variants as start-answer
 use Rattle.model.specs.Words.{blank}
-use Rattle.model.specs.Refusals.{number, firstOf, startRefusal}
+use Rattle.model.specs.Refusals.{firstOf, startRefusal}
 use Rattle.model.specs.laws.Refusals.{by-refusal}
 use Rattle.model.specs.Outcomes.{startOutcome, startReport}
 use Rattle.model.proofs.simulation.Accepted.{start-out}

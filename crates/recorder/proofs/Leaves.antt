@@ -5,7 +5,6 @@ use mathlib.Core.List.{List}
 use Prim.Native.Nat.{ℕ, _+_}
 use lib.ListN.{length}
 use lib.Seq.{sets}
-use Rattle.model.specs.declared.Run.{Run}
 use Rattle.model.specs.Outcomes.{Outcome}
 use Rattle.recording.specs.Recording.{Recorded, unwritten, appended}
 

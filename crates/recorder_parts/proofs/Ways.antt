@@ -2,15 +2,13 @@
 -- Assumes nothing.
 use mathlib.Core.Path.{_≡_, refl, sym, _∙_, ap}
 use mathlib.Core.Bool.{Bool, true, false, not}
-use mathlib.Core.List.{List, [], _∷_}
+use mathlib.Core.List.{List, []}
 use mathlib.Core.Option.{Option, none, some}
 use Prim.Native.Nat.{ℕ, _+_, _-_, _≤_}
 use native.Mathlib.Omega.{arith}
 use lib.Dec.{eqb, ltb}
 use lib.ListN.{length}
-use lib.Seq.{sets}
 use borrow.Author.Tests.{ltb-false}
-use Rattle.laws.specs.Choice.{by-bool}
 use Rattle.model.specs.declared.Run.{Run}
 use Rattle.model.specs.declared.Event.{Event}
 use Rattle.model.specs.declared.Event.the-variants.{Checkpoint, Send, Deliver, Lose, Recover}
@@ -32,7 +30,7 @@ use Rattle.model.specs.laws.Refusals.{by-refusal}
 use Rattle.model.specs.Outcomes.{Outcome, judged, checkpointOutcome, checkpointReport, sendOutcome, sendReport, deliverOutcome, deliverReport, loseOutcome, loseReport, recoverOutcome, recoverReport}
 use Rattle.model.specs.Calls.{Call, checkpoint, send, deliver, lose, recover, answered, call}
 use Rattle.recording.specs.Replay.{recordBytes}
-use Rattle.recording.specs.Recording.{Recorded, unwritten, appended, recording, recordedCheckpoint, recordedSend, recordedDeliver, recordedLose, recordedRecover, eventOfCall}
+use Rattle.recording.specs.Recording.{unwritten, appended, recording, recordedCheckpoint, recordedSend, recordedDeliver, recordedLose, recordedRecover, eventOfCall}
 use Rattle.recording.proofs.Replay.{record-of}
 use Rattle.recording.proofs.Recording.{fits-event}
 use Rattle.model.proofs.whole.Reached.{refusal, refused-number, refused-report}
@@ -108,11 +106,6 @@ module _ (s : Run) (i : ℕ) (deleted : List ℕ) (buffer : List ℕ) (place : �
   unfolding recordedCheckpoint
   checkpoint-done ok four b = done-way (checkpointRefusal s i deleted) (checkpointOutcome s i deleted) _ (recordBytes (Checkpoint i)) buffer place ok four b
 
-  pub checkpoint-short : checkpointRefusal s i deleted ≡ none → length (recordBytes (Checkpoint i)) ≡ 4 → ltb (length buffer - place) 4 ≡ true
-      → recordedCheckpoint s i deleted buffer place ≡ unwritten (record { run = s; answer = checkpoint-answer.Refused BufferTooShort; rose = 0; deleted = deleted; line = [] }) buffer place
-  unfolding recordedCheckpoint
-  checkpoint-short ok four b = short-way (checkpointRefusal s i deleted) (checkpointOutcome s i deleted) _ (recordBytes (Checkpoint i)) buffer place ok four b
-
   -- Without room: the state and the lists as they came, and the answer of the call's own refusal, else 21.
   pub checkpoint-without : (answer : CheckpointAnswer) → ltb (length buffer - place) 4 ≡ true
       → answer ≡ judged (checkpointRefusal s i deleted) (λ x. checkpoint-answer.Refused x) (checkpoint-answer.Refused BufferTooShort)
@@ -167,11 +160,6 @@ module _ (s : Run) (m : ℕ) (deleted : List ℕ) (buffer : List ℕ) (place : �
   unfolding recordedDeliver
   deliver-done ok four b = done-way (deliverRefusal s m deleted) (deliverOutcome s m deleted) _ (recordBytes (Deliver m)) buffer place ok four b
 
-  pub deliver-short : deliverRefusal s m deleted ≡ none → length (recordBytes (Deliver m)) ≡ 4 → ltb (length buffer - place) 4 ≡ true
-      → recordedDeliver s m deleted buffer place ≡ unwritten (record { run = s; answer = deliver-answer.Refused BufferTooShort; rose = 0; deleted = deleted; line = [] }) buffer place
-  unfolding recordedDeliver
-  deliver-short ok four b = short-way (deliverRefusal s m deleted) (deliverOutcome s m deleted) _ (recordBytes (Deliver m)) buffer place ok four b
-
   -- Without room: the state and the lists as they came, and the answer of the call's own refusal, else 21.
   pub deliver-without : (answer : DeliverAnswer) → ltb (length buffer - place) 4 ≡ true
       → answer ≡ judged (deliverRefusal s m deleted) (λ x. deliver-answer.Refused x) (deliver-answer.Refused BufferTooShort)
@@ -225,11 +213,6 @@ module _ (s : Run) (F : ℕ) (deleted lent : List ℕ) (buffer : List ℕ) (plac
       → recordedRecover s F deleted lent buffer place ≡ appended (recoverOutcome s F deleted lent) (recordBytes (Recover F)) buffer place
   unfolding recordedRecover
   recover-done ok four b = done-way (recoverRefusal s F deleted lent) (recoverOutcome s F deleted lent) _ (recordBytes (Recover F)) buffer place ok four b
-
-  pub recover-short : recoverRefusal s F deleted lent ≡ none → length (recordBytes (Recover F)) ≡ 4 → ltb (length buffer - place) 4 ≡ true
-      → recordedRecover s F deleted lent buffer place ≡ unwritten (record { run = s; answer = recover-answer.Refused BufferTooShort; rose = 0; deleted = deleted; line = lent }) buffer place
-  unfolding recordedRecover
-  recover-short ok four b = short-way (recoverRefusal s F deleted lent) (recoverOutcome s F deleted lent) _ (recordBytes (Recover F)) buffer place ok four b
 
   -- Without room: the state and the lists as they came, and the answer of the call's own refusal, else 21.
   pub recover-without : (answer : RecoverAnswer) → ltb (length buffer - place) 4 ≡ true

@@ -48,9 +48,10 @@ use Rattle.plans.proofs.Filled.{messages-filled, messages-many}
 use Rattle.plans.proofs.Cases.{either-plan, send-either}
 use Rattle.plans.proofs.Decided.{found-underway, checkpoint-decided, checkpoint-stores, send-decided, send-numbers, deliver-decided, deliver-forces, deliver-rises, lose-decided}
 use Rattle.plans.proofs.Looked.{put-back, put-behind, receiver-present}
-use Rattle.messages.specs.Messages.{noneNamed, lookedUp, Closed}
-use Rattle.messages.proofs.ClosedTables.{front, closed}
+use Rattle.messages.specs.Messages.{noneNamed, lookedUp}
 use Rattle.messages.proofs.Looks.{entry-any, none-looks-up, looks-up}
+use Rattle.apply.specs.Closed.{Closed}
+use Rattle.apply.proofs.ClosedTables.{front, closed}
 
 -- A row of the state.
 pub row-there : (i : ℕ) {row : ℕ} → row ≡ rowOf i → row < 16

@@ -6,7 +6,6 @@ use Prim.Native.Nat.{ℕ, _-_, _<_}
 use native.Mathlib.Omega.{arith}
 use lib.Dec.{ltb, leb}
 use borrow.Author.Tests.{lt-ltb, le-ltb, leb-true, leb-false}
-use borrow.Author.Needs.{needs}
 use Rattle.laws.specs.Choice.{by-bool}
 use Rattle.recorder_parts.proofs.bytes.has_room.Statement.{statement}
 use Rattle.recorder_parts.proofs.bytes.has_room.Tie as tie

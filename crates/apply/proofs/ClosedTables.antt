@@ -8,7 +8,7 @@ use Rattle.laws.specs.Lists.{placed}
 use Rattle.laws.specs.Tables.{take-placed}
 use Rattle.model.specs.declared.Message.{Message}
 use Rattle.model.specs.Words.{mostUnderWay, noMessage}
-use Rattle.messages.specs.Messages.{Closed}
+use Rattle.apply.specs.Closed.{Closed}
 
 -- A table into which a list is laid has the list in its first places.
 module _ (table : List Message) (l : List Message) (k : ℕ) (laid : table ≡ placed mostUnderWay noMessage l) (many : k ≡ length l) where
