@@ -11,11 +11,16 @@ use Rattle.laws.specs.Choice.{by-bool}
 use Rattle.model.specs.Calls.{Reply}
 use Rattle.model.specs.Listing.{decimal, valueText, deletionsText, acceptedText, lineText}
 use Rattle.listing.specs.Lines.{longestLine}
-use Rattle.listing.proofs.Digits.{at-most}
+use Rattle.listing.proofs.Digits.{no-more, at-most}
 
 decimal-length : (w n : ℕ) → 1 ≤ w → n < 10 ^ w → length (decimal n) ≤ w
 unfolding decimal
 decimal-length w n l h = at-most 20 w n l h
+
+-- No number has more than 20 digits.
+pub twenty-digits : (n : ℕ) → length (decimal n) ≤ 20
+unfolding decimal
+twenty-digits n = no-more 20 n
 
 value-length : (o : Option ℕ) → ((v : ℕ) → o ≡ some v → v < 10000000000) → length (valueText o) ≤ 10
 unfolding valueText

@@ -93,6 +93,7 @@ pub enum Refusal {
     NotKept,
     CausallyOrdered,
     BufferTooShort,
+    TrialOutsideRange,
     HalvesMismatch,
     NeitherReady,
 }

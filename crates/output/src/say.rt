@@ -38,6 +38,7 @@ pub fn number_of(r: Refusal) -> u8
         Refusal::NotKept => 19,
         Refusal::CausallyOrdered => 20,
         Refusal::BufferTooShort => 21,
+        Refusal::TrialOutsideRange => 22,
         Refusal::HalvesMismatch => 23,
         Refusal::NeitherReady => 24,
     }

@@ -19,3 +19,4 @@ pub mod hold;
 pub mod judge;
 pub mod replay;
 pub mod run;
+pub mod simulate;

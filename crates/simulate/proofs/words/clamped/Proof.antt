@@ -1,0 +1,18 @@
+-- `simulate::words::clamped` meets its contract.
+-- Assumes nothing.
+use borrow.Author.Needs.{needs}
+use borrow.Author.Tests.{lt-ltb, le-ltb}
+use Rattle.simulate.specs.Words.{atMost}
+use Rattle.simulate.proofs.words.clamped.Statement.{statement}
+use Rattle.simulate.proofs.words.clamped.Tie as tie
+
+returns : tie.Need-returns
+unfolding atMost
+returns c = rw (lt-ltb _ _ (c .if1 .taken))
+
+returns-2 : tie.Need-returns-2
+unfolding atMost
+returns-2 c = rw (le-ltb 4294967295 (c .before .args .x) (search needs))
+
+pub clamped-spec : {M : Type 1} → statement M
+clamped-spec = tie.close (tie.spec (λ c. search needs) returns returns-2)

@@ -1,0 +1,64 @@
+-- What the program prints of a result: its five figures, each with its name, one a line, or `refused R`; and the row of a table. Numbers are decimal.
+-- Assumes nothing.
+use mathlib.Core.List.{List, [], _∷_, _++_}
+use Prim.Native.Nat.{ℕ}
+use Rattle.model.specs.declared.Refusal.{Refusal}
+use Rattle.model.specs.Refusals.{number}
+use Rattle.model.specs.Listing.{decimal, space, lineFeed}
+use Rattle.spacing.specs.declared.TrialAnswer.{TrialAnswer}
+use Rattle.spacing.specs.declared.TrialAnswer.the-variants.{Refused, Tried}
+use Rattle.spacing.specs.declared.TrialResult.{TrialResult}
+
+-- "deliveries ", "forced ", "most-kept ", "forced-per-thousand-deliveries ", "remainder " and "refused ", byte by byte.
+abbrev pub deliveriesName : List ℕ
+deliveriesName = 100 ∷ 101 ∷ 108 ∷ 105 ∷ 118 ∷ 101 ∷ 114 ∷ 105 ∷ 101 ∷ 115 ∷ space ∷ []
+
+abbrev pub forcedName : List ℕ
+forcedName = 102 ∷ 111 ∷ 114 ∷ 99 ∷ 101 ∷ 100 ∷ space ∷ []
+
+abbrev pub mostName : List ℕ
+mostName = 109 ∷ 111 ∷ 115 ∷ 116 ∷ 45 ∷ 107 ∷ 101 ∷ 112 ∷ 116 ∷ space ∷ []
+
+abbrev pub quotientName : List ℕ
+quotientName = 102 ∷ 111 ∷ 114 ∷ 99 ∷ 101 ∷ 100 ∷ 45 ∷ 112 ∷ 101 ∷ 114 ∷ 45 ∷ 116 ∷ 104 ∷ 111 ∷ 117 ∷ 115 ∷ 97 ∷ 110 ∷ 100 ∷ 45 ∷ 100 ∷ 101 ∷ 108 ∷ 105 ∷ 118 ∷ 101 ∷ 114 ∷ 105 ∷ 101 ∷ 115 ∷ space ∷ []
+
+abbrev pub remainderName : List ℕ
+remainderName = 114 ∷ 101 ∷ 109 ∷ 97 ∷ 105 ∷ 110 ∷ 100 ∷ 101 ∷ 114 ∷ space ∷ []
+
+abbrev pub refusedName : List ℕ
+refusedName = 114 ∷ 101 ∷ 102 ∷ 117 ∷ 115 ∷ 101 ∷ 100 ∷ space ∷ []
+
+-- A name and its figure: one line.
+unfoldable pub figureText : List ℕ → ℕ → List ℕ
+figureText name x = name ++ (decimal x ++ (lineFeed ∷ []))
+
+unfoldable pub figuresText : TrialResult → List ℕ
+figuresText r = figureText deliveriesName (r .deliveries)
+    ++ (figureText forcedName (r .forced) ++ (figureText mostName (r .most) ++ (figureText quotientName (r .quotient) ++ figureText remainderName (r .remainder))))
+
+unfoldable pub refusalText : Refusal → List ℕ
+refusalText why = figureText refusedName (number why)
+
+-- What is printed of an answer, where `text` are its figures.
+unfoldable pub answerText : TrialAnswer → List ℕ → List ℕ
+answerText (Refused why) text = refusalText why
+answerText Tried text = text
+
+unfoldable pub resultText : TrialResult → List ℕ
+resultText r = answerText (r .answer) (figuresText r)
+
+-- The spacing and the five figures, single spaces between.
+unfoldable pub rowText : ℕ → TrialResult → List ℕ
+rowText spacing r = decimal spacing
+    ++ ((space ∷ decimal (r .deliveries)) ++ ((space ∷ decimal (r .forced)) ++ ((space ∷ decimal (r .most))
+    ++ ((space ∷ decimal (r .quotient)) ++ ((space ∷ decimal (r .remainder)) ++ (lineFeed ∷ []))))))
+
+-- No name is longer than 31 bytes, no number than 20; so no line is longer, and neither five lines nor a row.
+abbrev pub longestName : ℕ
+longestName = 31
+
+abbrev pub longestLine : ℕ
+longestLine = 52
+
+abbrev pub longestText : ℕ
+longestText = 260

@@ -1,0 +1,130 @@
+// The words that the program is started with: numbers, and a spacing or two with a hyphen between. 4,294,967,296 stands for every greater number, and
+// 4,294,967,297 for a word that is no number.
+ghost use mathlib.Core.Path.{_≡_};
+ghost use Prim.Native.Nat.{_≤_};
+ghost use lib.ListN.{length};
+ghost use Rattle.simulate.specs.Words.{appended, numberIn, hyphenOr, hyphenIn, spacingsIn, isWrong, isRefused, atMost};
+
+// One digit more.
+fn append(value: u64, byte: u8) -> u64
+    requires { ⌜ value ≤ 4294967297 ⌝ }
+    ensures { λ r. ⌜ (r ≡ appended value byte) × (r ≤ 4294967297) ⌝ }
+{
+    if byte < 48 {
+        return 4294967297;
+    }
+    if 57 < byte {
+        return 4294967297;
+    }
+    if 4294967295 < value {
+        return value;
+    }
+    let next = value * 10 + (byte - 48) as u64;
+    if 4294967295 < next {
+        return 4294967296;
+    }
+    next
+}
+
+// The number that a word is, by its decimal digits.
+pub fn number_in(word: &[u8]) -> u64
+    ensures { λ r. ⌜ r ≡ numberIn (now (word .entry)) ⌝ }
+{
+    if word.len() == 0 {
+        return 4294967297;
+    }
+    let mut value: u64 = 0;
+    let mut i = 0;
+    while i < word.len() {
+        let next = append(value, word[i]);
+        value = next;
+        i += 1;
+    }
+    value
+}
+
+// The place of the first hyphen once byte i was looked at too; `size` where there is none yet.
+fn hyphen_or(size: usize, i: usize, byte: u8, place: usize) -> usize
+    requires { ⌜ (i ≤ size) × (place ≤ size) ⌝ }
+    ensures { λ r. ⌜ (r ≡ hyphenOr size i byte place) × (r ≤ size) ⌝ }
+{
+    if place < size {
+        return place;
+    }
+    if byte == 45 {
+        return i;
+    }
+    place
+}
+
+// The place of the first hyphen of a word; its length where there is none.
+fn hyphen_in(word: &[u8]) -> usize
+    ensures { λ r. ⌜ (r ≡ hyphenIn (now (word .entry))) × (r ≤ length (now (word .entry))) ⌝ }
+{
+    let size = word.len();
+    let mut place = size;
+    let mut i = 0;
+    while i < size {
+        let next = hyphen_or(size, i, word[i], place);
+        place = next;
+        i += 1;
+    }
+    place
+}
+
+// What the second word asks for: one spacing, or many, all from one to another.
+pub struct Spacings {
+    pub many: bool,
+    pub from: u64,
+    pub to: u64,
+}
+
+pub fn spacings_in(word: &[u8]) -> Spacings
+    ensures { λ r. ⌜ r ≡ spacingsIn (now (word .entry)) ⌝ }
+{
+    let place = hyphen_in(word);
+    let from = number_in(&word[..place]);
+    if place == word.len() {
+        return Spacings {
+            many: false,
+            from,
+            to: from,
+        };
+    }
+    let behind = place + 1;
+    let to = number_in(&word[behind..]);
+    Spacings {
+        many: true,
+        from,
+        to,
+    }
+}
+
+// Whether a word is none of what it must be: a number, and for the starting value one of 32 bits.
+pub fn is_wrong(n: u64, spacings: Spacings, steps: u64, seed: u64) -> bool
+    ensures { λ r. ⌜ r ≡ isWrong n spacings steps seed ⌝ }
+{
+    (n == 4294967297)
+        | (spacings.from == 4294967297)
+        | (spacings.to == 4294967297)
+        | (steps == 4294967297)
+        | (4294967295 < seed)
+}
+
+// A number of 32 bits: the greatest for every greater one, since both are out of every range.
+pub fn clamped(x: u64) -> u32
+    ensures { λ r. ⌜ r ≡ atMost x ⌝ }
+{
+    if 4294967295 < x { 4294967295 } else { x as u32 }
+}
+
+// Whether a table is refused.
+pub fn is_refused(n: u32, from: u32, to: u32, steps: u32) -> bool
+    ensures { λ r. ⌜ r ≡ isRefused n from to steps ⌝ }
+{
+    let count = spacing::figures::is_outside(1, 16, n as usize);
+    let first = spacing::figures::is_outside(1, 1000, from as usize);
+    let last = spacing::figures::is_outside(1, 1000, to as usize);
+    let length = spacing::figures::is_outside(1, 30000, steps as usize);
+    count | first | last | length | (to < from)
+}

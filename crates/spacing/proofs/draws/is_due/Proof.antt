@@ -1,0 +1,13 @@
+-- `spacing::draws::is_due` meets its contract.
+-- Assumes nothing.
+use borrow.Author.Needs.{needs}
+use Rattle.spacing.specs.Spacing.{isDue}
+use Rattle.spacing.proofs.draws.is_due.Statement.{statement}
+use Rattle.spacing.proofs.draws.is_due.Tie as tie
+
+returns : tie.Need-returns
+unfolding isDue
+returns c = search needs
+
+pub is-due-spec : {M : Type 1} → statement M
+is-due-spec = tie.close (tie.spec (λ c. search needs) (λ c. search needs) returns)

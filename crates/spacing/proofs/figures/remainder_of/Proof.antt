@@ -1,0 +1,24 @@
+-- `spacing::figures::remainder_of` meets its contract.
+-- Assumes nothing.
+use borrow.Author.Needs.{needs}
+use borrow.Author.Tests.{eq-eqb, ne-eqb}
+use Rattle.spacing.specs.Spacing.{remainderOf}
+use Rattle.spacing.proofs.figures.remainder_of.Statement.{statement}
+use Rattle.spacing.proofs.figures.remainder_of.Tie as tie
+
+mul-result : tie.Need-mul-result
+mul-result c = search needs
+
+rem-result : tie.Need-rem-result
+rem-result c = search needs
+
+returns : tie.Need-returns
+unfolding remainderOf
+returns c = rw (eq-eqb _ _ (c .if1 .taken))
+
+returns-2 : tie.Need-returns-2
+unfolding remainderOf
+returns-2 c = rw (ne-eqb _ _ (c .if1 .left))
+
+pub remainder-of-spec : {M : Type 1} → statement M
+remainder-of-spec = tie.close (tie.spec mul-result rem-result returns returns-2)

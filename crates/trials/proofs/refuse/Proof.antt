@@ -1,0 +1,13 @@
+-- `trials::refuse` meets its contract.
+-- Assumes nothing.
+use mathlib.Core.Path.{refl}
+use Rattle.spacing.specs.Spacing.{noFigures}
+use Rattle.trials.proofs.refuse.Statement.{statement}
+use Rattle.trials.proofs.refuse.Tie as tie
+
+returns : tie.Need-returns
+unfolding noFigures
+returns c = refl
+
+pub refuse-spec : {M : Type 1} → statement M
+refuse-spec = tie.close (tie.spec returns)

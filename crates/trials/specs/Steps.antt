@@ -1,0 +1,39 @@
+-- What the parts of a step leave behind, by the events that they are.
+-- Assumes nothing.
+use mathlib.Core.Path.{_≡_}
+use mathlib.Core.List.{List, [], _∷_}
+use mathlib.Core.Option.{Option, none, some}
+use Prim.Native.Nat.{ℕ, _≤_, _<_}
+use lib.ListN.{length}
+use Rattle.model.specs.declared.Run.{Run}
+use Rattle.model.specs.declared.Event.{Event}
+use Rattle.model.specs.declared.DeliverAnswer.{DeliverAnswer}
+use Rattle.model.specs.declared.DeliverAnswer.the-variants.{Refused, Received, Forced}
+use Rattle.recording.specs.Replay.{stateAfterEvents, performed}
+use Rattle.spacing.specs.declared.Trial.{Trial}
+use Rattle.spacing.specs.Spacing.{deliveriesIn, forcedIn, trialAfter}
+use Rattle.trials.specs.declared.Action.{Action}
+
+-- The events of an action: a step has one or none.
+unfoldable pub eventsIn : Option Event → List Event
+eventsIn none = []
+eventsIn (some e) = e ∷ []
+
+-- What an action leaves: the state, and how many sends and deliveries, deliveries and forced checkpoints it is.
+unfoldable pub actionOf : Run → Option Event → Action
+actionOf s o = record {
+  run = stateAfterEvents s (eventsIn o);
+  acted = length (eventsIn o);
+  deliveries = deliveriesIn (performed s (eventsIn o));
+  forced = forcedIn (performed s (eventsIn o));
+}
+
+-- How many forced checkpoints an answer to a delivery names.
+unfoldable pub forcedBy : DeliverAnswer → ℕ
+forcedBy (Refused why) = 0
+forcedBy (Received count) = 0
+forcedBy (Forced index count) = 1
+
+-- A trial after fewer than 30,000 steps.
+unfoldable pub Underway : ℕ → ℕ → Trial → Type 0
+Underway n k z = (1 ≤ n) × (n ≤ 16) × (1 ≤ k) × (i : ℕ) × (seed : ℕ) × (i < 30000) × (z ≡ trialAfter n k i seed)
