@@ -1,17 +1,16 @@
 // The first state of a run: each process stores checkpoint 0 with a vector of zeros, its own entry is then 1, and its own pin names checkpoint 0.
-use model::Checkpoint;
+use model::CheckpointIndex;
 use model::Disk;
+use model::Interval;
+use model::Pin;
 use model::Run;
 ghost use mathlib.Core.Path.{_≡_};
 ghost use mathlib.Core.Bool.{true};
-ghost use mathlib.Core.List.{[], _∷_};
 ghost use Prim.Native.Nat.{_≤_};
 ghost use lib.ListN.{getD};
-ghost use Rattle.laws.specs.Lists.{placed};
 ghost use Rattle.laws.specs.Search.{allBelow};
-ghost use Rattle.model.specs.Words.{noCheckpoint};
 ghost use Rattle.model.specs.Sound.{isBlockCount};
-ghost use Rattle.model.specs.Steps.{checkpointZero, startState};
+ghost use Rattle.model.specs.Steps.{startState};
 
 // "a block count outside 1 to 65,535"
 fn is_block_count(count: u32) -> bool
@@ -34,17 +33,6 @@ pub fn are_block_counts(counts: [u32; 16], n: usize) -> bool
     ok
 }
 
-// The row of a process that keeps checkpoint 0 alone.
-fn first_row(blocks: u16) -> [Checkpoint; 16]
-    ensures { λ r. ⌜ r ≡ placed 16 noCheckpoint (checkpointZero blocks ∷ []) ⌝ }
-{
-    let unused = rows::start::no_checkpoint();
-    let first = rows::start::checkpoint_zero(blocks);
-    let mut row = [unused; 16];
-    row[0] = first;
-    row
-}
-
 // The first state of a run of n processes with these block counts. There are places for 16. The counts at n and above are not stored.
 pub fn started(n: usize, counts: [u32; 16]) -> Run
     requires { ⌜ (n ≤ 16) × (allBelow n (λ p. isBlockCount (getD counts p 0)) ≡ true) ⌝ }
@@ -62,12 +50,11 @@ pub fn started(n: usize, counts: [u32; 16]) -> Run
     let mut written: u64 = 0;
     for p in 0..n {
         let count = counts[p];
-        let vector = rows::start::first_vector(p);
-        let own_pins = rows::start::first_pins(p);
-        let row = first_row(count as u16);
-        vectors[p] = vector;
-        pins[p] = own_pins;
-        kept[p] = row;
+        let first = rows::start::checkpoint_zero(count as u16);
+        let own_pin = Pin::At(CheckpointIndex(0));
+        vectors[p][p] = Interval(1);
+        pins[p][p] = own_pin;
+        kept[p][0] = first;
         held[p] = 1;
         written = written + count as u64;
     }

@@ -48,14 +48,3 @@ pub fn checkpoint_zero(blocks: u16) -> Checkpoint
     let zeros = zero_vector();
     super::checkpoint::stored(CheckpointIndex(0), zeros, 0, blocks)
 }
-
-// The pins of process p, one of 16: its own pin is at checkpoint 0, the others are nothing.
-pub fn first_pins(p: usize) -> [Pin; 16]
-    requires { ⌜ p < 16 ⌝ }
-    ensures { λ r. ⌜ ((counts : List ℕ) → r ≡ started counts p .pins) ⌝ }
-{
-    let mut row = no_pins();
-    let pin = Pin::At(CheckpointIndex(0));
-    row[p] = pin;
-    row
-}

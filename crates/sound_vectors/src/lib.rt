@@ -3,5 +3,5 @@
 // vector.rt: one vector against the own entries
 pub mod vector;
 
-// messages.rt: the messages under way
-pub mod messages;
+// under_way.rt: the messages under way
+pub mod under_way;

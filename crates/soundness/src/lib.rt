@@ -32,6 +32,12 @@ pub fn is_sound(s: Run) -> bool
     let unmarked = tables::unmarked_from(sent, n);
     let none = tables::none_held_from(held, n);
     let nothing = tables::nothing_rows_from(pins, n);
-    let carried = sound_vectors::messages::are_messages_sound(messages, own, n, s.underway, s.last);
+    let carried = sound_vectors::under_way::are_messages_sound(
+        messages,
+        own,
+        n,
+        s.underway,
+        s.last,
+    );
     current & processes & zero & unmarked & none & nothing & carried
 }

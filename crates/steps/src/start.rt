@@ -3,39 +3,47 @@ use model::Refusal;
 use model::Run;
 use model::StartAnswer;
 ghost use mathlib.Core.Path.{_≡_};
-ghost use Rattle.model.specs.Words.{blank};
 ghost use Rattle.model.specs.Outcomes.{startOutcome};
+ghost use Rattle.steps.specs.Starting.{countOf};
 
 pub struct StartOutcome {
     pub run: Run,
     pub answer: StartAnswer,
 }
 
-// A refused start returns a state of zeros with every pin none: the first state of a run of no process.
-fn refuse(why: Refusal) -> StartOutcome
-    ensures { λ r. ⌜ r ≡ record { run = blank 0; answer = StartAnswer.Refused why } ⌝ }
-{
-    let none = [0u32; 16];
-    let run = first_state::started(0, none);
-    let answer = StartAnswer::Refused(why);
-    StartOutcome { run, answer }
-}
-
-// A run of n processes; `counts` has the block count of each.
-pub fn start(n: usize, counts: [u32; 16]) -> StartOutcome
-    ensures { λ r. ⌜ (r .run ≡ startOutcome n counts .run) × (r .answer ≡ startOutcome n counts .answer) ⌝ }
+// Whether a start is refused, and why.
+fn answer_of(n: usize, counts: [u32; 16]) -> StartAnswer
+    ensures { λ r. ⌜ r ≡ startOutcome n counts .answer ⌝ }
 {
     if n < 1 {
-        return refuse(Refusal::CountOutsideRange);
+        return StartAnswer::Refused(Refusal::CountOutsideRange);
     }
     if 16 < n {
-        return refuse(Refusal::CountOutsideRange);
+        return StartAnswer::Refused(Refusal::CountOutsideRange);
     }
     let ok = first_state::are_block_counts(counts, n);
     if !ok {
-        return refuse(Refusal::BlockCountOutsideRange);
+        return StartAnswer::Refused(Refusal::BlockCountOutsideRange);
     }
-    let run = first_state::started(n, counts);
-    let answer = StartAnswer::Started;
+    StartAnswer::Started
+}
+
+// How many processes the state has that a start returns. A refused one returns a state of zeros with every pin none: the first state of a run of no process.
+fn count_of(answer: StartAnswer, n: usize) -> usize
+    ensures { λ r. ⌜ r ≡ countOf answer n ⌝ }
+{
+    match answer {
+        StartAnswer::Started => n,
+        StartAnswer::Refused(_) => 0,
+    }
+}
+
+// A run of n processes; `counts` has the block count of each. The state is made in one place whatever the answer: a return of its own for each would copy it.
+pub fn start(n: usize, counts: [u32; 16]) -> StartOutcome
+    ensures { λ r. ⌜ (r .run ≡ startOutcome n counts .run) × (r .answer ≡ startOutcome n counts .answer) ⌝ }
+{
+    let answer = answer_of(n, counts);
+    let count = count_of(answer, n);
+    let run = first_state::started(count, counts);
     StartOutcome { run, answer }
 }

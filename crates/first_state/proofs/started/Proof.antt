@@ -1,22 +1,24 @@
 -- `first_state::started` meets its contract. The loop's invariant: the first p processes have their first rows. Assumes nothing.
-use Prim.Native.Nat.{ℕ, _+_, _*_, _≤_, _-_}
+use Prim.Native.Nat.{ℕ, _+_, _*_, _≤_, _<_, _-_}
 use mathlib.Core.Path.{_≡_, refl, ap, _∙_}
-use mathlib.Core.List.{List}
+use mathlib.Core.List.{List, []}
 use native.Mathlib.Numerals.{add-one}
 use native.Mathlib.Omega.{arith}
 use lib.Dec.{leb}
-use lib.ListN.{getD, replicate}
+use lib.ListN.{getD, set, replicate, getD-replicate}
 use borrow.Author.Tests.{leb-true}
-use Rattle.laws.specs.Loops.{setBelow, below-none, turn-set}
+use Rattle.laws.specs.Loops.{setBelow, below-none, turn-old, turn-set}
+use Rattle.laws.specs.Prefixes.{placed-none, placed-more}
 use Rattle.laws.specs.Search.{all-out}
 use Rattle.laws.specs.Sums.{sumBelow}
 use Rattle.laws.specs.Truth.{and-right}
 use Rattle.model.specs.declared.Interval.{Interval}
 use Rattle.model.specs.declared.Pin.{Pin}
+use Rattle.model.specs.declared.Pin.the-variants.{At}
 use Rattle.model.specs.declared.Checkpoint.{Checkpoint}
 use Rattle.model.specs.Words.{blank, zeroVector, noPins, noCheckpoint, noMessage, withDisk}
 use Rattle.model.specs.Sound.{isBlockCount}
-use Rattle.model.specs.Steps.{started}
+use Rattle.model.specs.Steps.{checkpointZero, started}
 use Rattle.first_state.specs.Starting.{firstRow, withFirst}
 use Rattle.first_state.proofs.Starting.{started-rows}
 use borrow.Author.Needs.{needs}
@@ -64,23 +66,43 @@ loop-holds c =
       omega arith,
     )
 
-cast-first-row : tie.Need-cast-first-row Inv-loop μ-loop
-cast-first-row c = search (needs, small (c .before .before))
+cast-checkpoint-zero : tie.Need-cast-checkpoint-zero Inv-loop μ-loop
+cast-checkpoint-zero c = search (needs, small c)
 
 add-written : tie.Need-add-written Inv-loop μ-loop
-add-written c = let l = c .before .before .before .before .loop in omega (arith, small (c .before .before .before), l .inv .7, c .before .before .before .loop-test .taken, c .before .before .before .before .before .before .before .before .before .pre .0)
+add-written c = let l = c .before .before .loop in omega (arith, small (c .before), l .inv .7, c .before .loop-test .taken, c .before .before .before .before .before .before .before .pre .0)
+
+-- The row of a turn is as it was before the loop; one entry of it is stored.
+module _ {A : Type 0} (f : ℕ → List A) (r : List A) (v : List (List A)) (p : ℕ) (inv : v ≡ setBelow p f (replicate 16 r)) (lt : p < 16) where
+  row-set : (k : ℕ) (x : A) → set r k x ≡ f p → set v p (set (getD v p []) k x) ≡ setBelow (p + 1) f (replicate 16 r)
+  row-set k x e = turn-set f (replicate 16 r) v p inv _ (ap (λ (l : List A). set l k x) (turn-old f (replicate 16 r) v p inv [] ∙ getD-replicate 16 p r [] lt) ∙ e)
+
+-- Checkpoint 0 in the first place of an unused row.
+first-place : (counts : List ℕ) (p : ℕ) {c : Checkpoint} → c ≡ checkpointZero (getD counts p 0) → set (replicate 16 noCheckpoint) 0 c ≡ firstRow counts p
+unfolding firstRow
+first-place counts p e =
+    rw e
+    (ap (λ (l : List Checkpoint). set l 0 (checkpointZero (getD counts p 0))) (placed-none 16 noCheckpoint) ∙ placed-more 16 noCheckpoint [] (checkpointZero (getD counts p 0)) (omega arith))
+
+own-vector : (counts : List ℕ) (p : ℕ) → set zeroVector p (record { 0 = 1 }) ≡ started counts p .vector
+unfolding started
+own-vector counts p = refl
+
+own-pins : (counts : List ℕ) (p : ℕ) → set noPins p (At (record { 0 = 0 })) ≡ started counts p .pins
+unfolding started
+own-pins counts p = refl
 
 loop-again : tie.Need-loop-again Inv-loop μ-loop
-unfolding firstRow
 loop-again c =
-    let i = c .before .before .before in
+    let i = c .before in
     let l = i .before .loop in
-    let u = i .before .before .before .before .before .before in (
+    let u = i .before .before .before .before .before .before in
+    let here : l .p < 16 = omega (arith, i .loop-test .taken, u .pre .0) in (
       search needs,
       l .inv .1,
-      turn-set _ _ (l .vectors) (l .p) (l .inv .2) _ (c .before .before .first-vector .ensures (u .args .t2)),
-      turn-set _ _ (l .pins) (l .p) (l .inv .3) _ (c .before .first-pins .ensures (u .args .t2)),
-      turn-set _ _ (l .kept) (l .p) (l .inv .4) _ (c .first-row .ensures),
+      row-set (λ k. started (u .args .t2) k .vector) zeroVector (l .vectors) (l .p) (l .inv .2) here (l .p) _ (own-vector (u .args .t2) (l .p)),
+      row-set (λ k. started (u .args .t2) k .pins) noPins (l .pins) (l .p) (l .inv .3) here (l .p) _ (own-pins (u .args .t2) (l .p)),
+      row-set (firstRow (u .args .t2)) (replicate 16 noCheckpoint) (l .kept) (l .p) (l .inv .4) here 0 _ (first-place (u .args .t2) (l .p) (c .checkpoint-zero .ensures)),
       turn-set _ _ (l .held) (l .p) (l .inv .5) _ refl,
       one-more (λ k. getD (u .args .t2) k 0) (l .p) (l .written) (l .inv .6),
       omega (arith, small i, l .inv .7),
@@ -103,10 +125,10 @@ started-spec =
     μ-loop
     (λ c κs. search needs) (λ c κs. search needs) (λ c κs. search needs) (λ c κs. search needs)
     loop-holds
-    (λ c. search needs) (λ c. search needs) (λ c κs. search needs) (λ c κs. search needs)
-    cast-first-row
+    (λ c. search needs) (λ c. search needs)
+    cast-checkpoint-zero
     (λ c κs. search needs) (λ c. search needs) (λ c. search needs) (λ c. search needs) (λ c. search needs) (λ c. search needs) (λ c. search needs)
-    (λ c. search needs) (λ c. search needs) (λ c. search needs)
+    (λ c. search needs) (λ c. search needs) (λ c. search needs) (λ c. search needs) (λ c. search needs) (λ c. search needs) (λ c. search needs) (λ c. search needs)
     add-written
     (λ c. search needs) (λ c. search needs)
     loop-again

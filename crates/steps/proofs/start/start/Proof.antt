@@ -1,38 +1,30 @@
 -- `steps::start::start` meets its contract. Assumes nothing.
-use mathlib.Core.Path.{refl, sym, _∙_}
-use borrow.Author.Tests.{not-true, not-false}
+use Prim.Native.Nat.{ℕ}
+use mathlib.Core.Path.{_≡_, ap, _∙_}
 use borrow.Author.Needs.{needs}
-use Rattle.steps.proofs.Starting.{start-few, start-many, start-outside, start-accepted}
+use Rattle.model.specs.declared.StartAnswer.{StartAnswer}
+use Rattle.model.specs.Outcomes.{startOutcome}
+use Rattle.model.specs.Steps.{startState}
+use Rattle.steps.specs.Starting.{countOf}
+use Rattle.steps.proofs.Starting.{start-fits}
 use Rattle.steps.proofs.start.start.Statement.{statement}
 use Rattle.steps.proofs.start.start.Tie as tie
 
-returns : tie.Need-returns
-returns c = let a = c .before .before .args in rw (start-few (a .n) (a .counts) (c .before .if1 .taken), c .refuse .ensures) (refl, refl)
-
-returns-2 : tie.Need-returns-2
-returns-2 c =
-    let e = c .before .before in
-    let a = e .before .args in
-    rw (start-many (a .n) (a .counts) (e .if1 .left) (c .before .if2 .taken), c .refuse2 .ensures) (refl, refl)
-
-returns-3 : tie.Need-returns-3
-returns-3 c =
-    let k = c .before .before in
-    let e = k .before in
-    let a = e .before .before .args in
-    rw (start-outside (a .n) (a .counts) (e .before .if1 .left) (e .if2 .left) (sym (k .are-block-counts .ensures) ∙ not-true _ (c .before .if3 .taken)), c .refuse3 .ensures) (refl, refl)
+-- as many as the outcome's answer says
+counted : (c : tie.After-count-of) → let a = c .before .before .args in c .count-of .result ≡ countOf (startOutcome (a .n) (a .counts) .answer) (a .n)
+counted c = let a = c .before .before .args in c .count-of .ensures ∙ ap (λ (x : StartAnswer). countOf x (a .n)) (c .before .answer-of .ensures)
 
 started-requires : tie.Need-started-requires
-started-requires c κs = let k = c .before in (k .before .if2 .left, sym (k .are-block-counts .ensures) ∙ not-false _ (c .if3 .left))
+started-requires c κs =
+    let a = c .before .before .args in
+    let fits = start-fits (a .n) (a .counts) in
+    rw (counted c) (fits .0, fits .1)
 
-returns-4 : tie.Need-returns-4
-returns-4 c =
-    let k = c .before .before in
-    let e = k .before in
-    let a = e .before .before .args in
-    rw (start-accepted (a .n) (a .counts) (e .before .if1 .left) (e .if2 .left) (sym (k .are-block-counts .ensures) ∙ not-false _ (c .before .if3 .left)), c .started .ensures) (refl, refl)
+returns : tie.Need-returns
+returns c =
+    let k = c .before in
+    let a = k .before .before .args in
+    (c .started .ensures ∙ ap (λ (m : ℕ). startState m (a .counts)) (counted k) ∙ start-fits (a .n) (a .counts) .2, k .before .answer-of .ensures)
 
 pub start-spec : {M : Type 1} → statement M
-start-spec =
-    tie.close
-    (tie.spec (λ c κs. search needs) returns (λ c κs. search needs) returns-2 (λ c κs. search needs) (λ c κs. search needs) returns-3 started-requires returns-4)
+start-spec = tie.close (tie.spec (λ c κs. search needs) (λ c κs. search needs) started-requires returns)

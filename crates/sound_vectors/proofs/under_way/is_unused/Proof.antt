@@ -1,8 +1,8 @@
--- `sound_vectors::messages::is_unused` meets its contract. Assumes nothing.
+-- `sound_vectors::under_way::is_unused` meets its contract. Assumes nothing.
 use borrow.Author.Needs.{needs}
 use Rattle.model.specs.Sound.{unusedMessage}
-use Rattle.sound_vectors.proofs.messages.is_unused.Statement.{statement}
-use Rattle.sound_vectors.proofs.messages.is_unused.Tie as tie
+use Rattle.sound_vectors.proofs.under_way.is_unused.Statement.{statement}
+use Rattle.sound_vectors.proofs.under_way.is_unused.Tie as tie
 
 returns : tie.Need-returns
 unfolding unusedMessage

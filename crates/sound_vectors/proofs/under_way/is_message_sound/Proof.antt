@@ -1,8 +1,8 @@
--- `sound_vectors::messages::is_message_sound` meets its contract. Assumes nothing.
+-- `sound_vectors::under_way::is_message_sound` meets its contract. Assumes nothing.
 use borrow.Author.Needs.{needs}
 use Rattle.sound_vectors.specs.Clauses.{messageTested}
-use Rattle.sound_vectors.proofs.messages.is_message_sound.Statement.{statement}
-use Rattle.sound_vectors.proofs.messages.is_message_sound.Tie as tie
+use Rattle.sound_vectors.proofs.under_way.is_message_sound.Statement.{statement}
+use Rattle.sound_vectors.proofs.under_way.is_message_sound.Tie as tie
 
 returns : tie.Need-returns
 unfolding messageTested

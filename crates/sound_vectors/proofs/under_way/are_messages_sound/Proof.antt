@@ -1,4 +1,4 @@
--- `sound_vectors::messages::are_messages_sound` meets its contract: as long as all so far pass, what is left of the messages decides, and then what is
+-- `sound_vectors::under_way::are_messages_sound` meets its contract: as long as all so far pass, what is left of the messages decides, and then what is
 -- left of the unused places. Assumes nothing.
 use mathlib.Core.List.{List, map, []}
 use mathlib.Core.Bool.{true, false, _&&_}
@@ -16,8 +16,8 @@ use Rattle.model.specs.declared.Message.{Message}
 use Rattle.model.specs.Sound.{ascending, unusedMessage}
 use Rattle.sound_vectors.specs.Clauses.{messageTested, messagesTests, messagesTested, messageNumber}
 use Rattle.sound_vectors.proofs.Ascent.{ascent-end, ascent-pass, ascent-stop, above}
-use Rattle.sound_vectors.proofs.messages.are_messages_sound.Statement.{statement}
-use Rattle.sound_vectors.proofs.messages.are_messages_sound.Tie as tie
+use Rattle.sound_vectors.proofs.under_way.are_messages_sound.Statement.{statement}
+use Rattle.sound_vectors.proofs.under_way.are_messages_sound.Tie as tie
 
 module _ (n : ℕ) (own : List Interval) (messages : List Message) (underway last : ℕ) where
   -- One test fails, or the two that the first loop asks.
