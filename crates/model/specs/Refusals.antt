@@ -11,7 +11,7 @@ use Rattle.laws.specs.Search.{anyBelow}
 use Rattle.model.specs.declared.Message.{Message}
 use Rattle.model.specs.declared.Run.{Run}
 use Rattle.model.specs.declared.Refusal.{Refusal}
-use Rattle.model.specs.declared.Refusal.the-variants.{CountOutsideRange, UnsoundState, ListTooShort, NoSuchProcess, SenderIsReceiver, NoSuchFailedProcess, NotUnderWay, TooManyUnderWay, MessageNumbersUsed, IntervalsUsed, NoFirstByte, LeftOverBytes, MalformedRecord, BlockCountOutsideRange, BlocksUsed, TooManyRecords, UnfitNamedList, NotKept, CausallyOrdered, BufferTooShort, TrialOutsideRange, HalvesMismatch, NeitherReady}
+use Rattle.model.specs.declared.Refusal.the-variants.{CountOutsideRange, UnsoundState, ListTooShort, NoSuchProcess, SenderIsReceiver, NoSuchFailedProcess, NotUnderWay, TooManyUnderWay, MessageNumbersUsed, IntervalsUsed, NoFirstByte, LeftOverBytes, MalformedRecord, BlockCountOutsideRange, BlocksUsed, TooManyRecords, UnfitNamedList, NotKept, CausallyOrdered, BufferTooShort, TrialOutsideRange, HalvesMismatch, NeitherReady, Denied}
 use Rattle.model.specs.Words.{places, mostUnderWay, mostMessages, mostInterval, mostBlocks, blockCount, process, own}
 use Rattle.model.specs.Steps.{found, forces, latestAllowed}
 use Rattle.model.specs.Sound.{isBlockCount, sound}
@@ -41,6 +41,7 @@ number BufferTooShort = 21
 number TrialOutsideRange = 22
 number HalvesMismatch = 23
 number NeitherReady = 24
+number Denied = 25
 
 -- A condition of the table with the refusal that it gives.
 pub record Rule : Type 0 where

@@ -96,6 +96,7 @@ pub enum Refusal {
     TrialOutsideRange,
     HalvesMismatch,
     NeitherReady,
+    Denied,
 }
 
 pub enum StartAnswer {

@@ -41,6 +41,7 @@ pub fn number_of(r: Refusal) -> u8
         Refusal::TrialOutsideRange => 22,
         Refusal::HalvesMismatch => 23,
         Refusal::NeitherReady => 24,
+        Refusal::Denied => 25,
     }
 }
 

@@ -13,6 +13,7 @@
 //! run" and, where a note is named, "New change requests".
 
 pub mod cases;
+pub mod console;
 pub mod generate;
 pub mod halves;
 pub mod hold;

@@ -11,7 +11,7 @@ use lib.ListN.{getD, take}
 use Rattle.laws.specs.Choice.{by-bool}
 use Rattle.laws.specs.Truth.{never-both}
 use Rattle.model.specs.declared.Refusal.{Refusal}
-use Rattle.model.specs.declared.Refusal.the-variants.{CountOutsideRange, UnsoundState, ListTooShort, NoSuchProcess, SenderIsReceiver, NoSuchFailedProcess, NotUnderWay, TooManyUnderWay, MessageNumbersUsed, IntervalsUsed, NoFirstByte, LeftOverBytes, MalformedRecord, BlockCountOutsideRange, BlocksUsed, TooManyRecords, UnfitNamedList, NotKept, CausallyOrdered, BufferTooShort, TrialOutsideRange, HalvesMismatch, NeitherReady}
+use Rattle.model.specs.declared.Refusal.the-variants.{CountOutsideRange, UnsoundState, ListTooShort, NoSuchProcess, SenderIsReceiver, NoSuchFailedProcess, NotUnderWay, TooManyUnderWay, MessageNumbersUsed, IntervalsUsed, NoFirstByte, LeftOverBytes, MalformedRecord, BlockCountOutsideRange, BlocksUsed, TooManyRecords, UnfitNamedList, NotKept, CausallyOrdered, BufferTooShort, TrialOutsideRange, HalvesMismatch, NeitherReady, Denied}
 use Rattle.model.specs.Refusals.{number, Rule, firstOf}
 
 -- No rule of a list holds.
@@ -98,3 +98,4 @@ number-range BufferTooShort = (omega arith, omega arith)
 number-range TrialOutsideRange = (omega arith, omega arith)
 number-range HalvesMismatch = (omega arith, omega arith)
 number-range NeitherReady = (omega arith, omega arith)
+number-range Denied = (omega arith, omega arith)

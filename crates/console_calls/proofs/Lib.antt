@@ -1,0 +1,4 @@
+-- Laws that belong to no one function.
+pub mod Denials
+pub mod Members
+pub mod Listed

@@ -1,0 +1,11 @@
+-- `console_parts::denied::is_message_denied` meets its contract: the table says no, or the caller is not entitled.
+-- Assumes nothing.
+use borrow.Author.Needs.{needs}
+use Rattle.console_parts.proofs.denied.is_message_denied.Statement.{statement}
+use Rattle.console_parts.proofs.denied.is_message_denied.Tie as tie
+
+returns : tie.Need-returns
+returns c = rw (c .is-message-entitled .ensures, c .before .may .ensures)
+
+pub is-message-denied-spec : {M : Type 1} → statement M
+is-message-denied-spec = tie.close (tie.spec (λ c κs. search needs) (λ c κs. search needs) returns)

@@ -1,0 +1,6 @@
+pub mod Console
+pub mod Denials
+pub mod Isolation
+pub mod Runs
+pub mod Shown
+pub mod Table

@@ -1,0 +1,76 @@
+//! `console_soak COUNT FIRST PROGRAM` holds PROGRAM to the oracle's console
+//! (Note 13) on COUNT scripts, of the seeds FIRST, FIRST + 1 and on. PROGRAM gets each script
+//! on standard input and must print the oracle's facts, nothing on standard
+//! error, and end with status 0. At the first difference the seed of
+//! `console_oracle` and the line are printed, and the status is 1.
+
+use oracle::console::facts;
+use oracle::console::scripts::script;
+use oracle::hold::{difference, on_seeds, Comparison};
+use std::collections::BTreeMap;
+use std::fs::File;
+use std::io;
+use std::path::{Path, PathBuf};
+use std::process::{Command, ExitCode};
+use std::sync::Mutex;
+
+fn main() -> ExitCode {
+    let arguments: Vec<String> = std::env::args().skip(1).collect();
+    let Some((count, first, soak)) = from_arguments(&arguments) else {
+        eprintln!("usage: console_soak COUNT FIRST PROGRAM");
+        return ExitCode::from(2);
+    };
+    if !on_seeds(first, count, &soak) {
+        return ExitCode::FAILURE;
+    }
+    let mut met = soak.met.into_inner().expect("no thread has failed");
+    let accepted = met.remove("0").unwrap_or(0);
+    let denied = met.remove("25").unwrap_or(0);
+    let others: Vec<String> = met
+        .iter()
+        .map(|(number, times)| format!("{times} with {number}"))
+        .collect();
+    println!(
+        "console and oracle agree on {count} scripts: {accepted} calls accepted, {denied} denied, {}",
+        others.join(", ")
+    );
+    ExitCode::SUCCESS
+}
+
+struct Soak {
+    program: PathBuf,
+    /// How often each number was met, 0 for accepted.
+    met: Mutex<BTreeMap<String, usize>>,
+}
+
+fn from_arguments(arguments: &[String]) -> Option<(u64, u64, Soak)> {
+    let [count, first, program] = arguments else {
+        return None;
+    };
+    let soak = Soak {
+        program: PathBuf::from(program),
+        met: Mutex::default(),
+    };
+    Some((count.parse().ok()?, first.parse().ok()?, soak))
+}
+
+impl Comparison for Soak {
+    fn input(&self, seed: u64) -> String {
+        format!("console_oracle {seed}")
+    }
+
+    fn compare(&self, seed: u64, file: &Path) -> io::Result<Option<String>> {
+        let script = script(seed);
+        std::fs::write(file, &script)?;
+        let expected = facts(&script);
+        let mut met = self.met.lock().expect("no thread has failed");
+        for number in expected.lines().filter_map(|line| line.split(' ').nth(1)) {
+            *met.entry(number.to_string()).or_default() += 1;
+        }
+        drop(met);
+        let got = Command::new(&self.program)
+            .stdin(File::open(file)?)
+            .output()?;
+        Ok(difference(expected.as_bytes(), &got))
+    }
+}
