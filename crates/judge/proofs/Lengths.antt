@@ -1,49 +1,36 @@
--- How long the line of a verdict can be, and that a text printed at the front of a buffer is what its front then holds.
+-- How long the line of a verdict can be, and that the processes of a right one are among 16.
 -- Assumes nothing.
-use mathlib.Core.Path.{_≡_, refl, sym, _∙_, ap}
+use mathlib.Core.Path.{_≡_, refl, sym}
 use mathlib.Core.Bool.{Bool, true, false, not, _&&_, false≢true}
 use mathlib.Core.List.{List, [], _∷_, _++_}
 use mathlib.Core.Option.{none}
-use Prim.Native.Nat.{ℕ, zero, suc, _+_, _/_, _%_, _≤_, _<_}
+use Prim.Native.Nat.{ℕ, _≤_, _<_}
 use native.Mathlib.Omega.{arith}
-use lib.Dec.{ltb, leb}
-use lib.ListN.{length, take, drop, length-append}
-use lib.Seq.{take-at}
+use lib.Dec.{leb}
+use lib.ListN.{length, length-append}
 use borrow.Author.Tests.{leb-true}
-use Rattle.laws.specs.Choice.{by-bool}
-use Rattle.laws.specs.Front.{written-front}
 use Rattle.model.specs.declared.Refusal.{Refusal}
 use Rattle.model.specs.Words.{ones}
-use Rattle.model.specs.Refusals.{number, startRefusal}
+use Rattle.model.specs.Refusals.{startRefusal}
 use Rattle.model.specs.laws.Refusals.{no-rule, by-refusal}
-use Rattle.model.specs.Listing.{digits, decimal, colon, lineFeed}
+use Rattle.model.specs.Listing.{decimal, colon, lineFeed}
 use Rattle.listing.specs.Lines.{pairText}
-use Rattle.listing.specs.Printed.{Printed}
+use Rattle.listing.proofs.Bounds.{twenty-digits}
+use Rattle.programs.proofs.Texts.{refused-length}
 use Rattle.patterns.specs.declared.Verdict.{Verdict}
 use Rattle.patterns.specs.declared.Verdict.the-variants.{Refused, Trackable, Breaks}
 use Rattle.patterns.specs.Patterns.{Pattern, refused, whole, reading}
 use Rattle.patterns.specs.Verdicts.{countOf, RightVerdict}
 use Rattle.model.specs.declared.CheckpointIndex.{CheckpointIndex}
-use Rattle.judge.specs.Text.{breaksWord, refusedWord, verdictText, Small}
-
-digits-short : (k n : ℕ) → length (digits k n) ≤ k
-unfolding digits
-digits-short zero n = omega arith
-digits-short (suc k) n = by-bool (ltb n 10)
-    (λ e. rw e (omega arith))
-    (λ e. rw e (omega (arith, length-append (digits k (n / 10)) ((48 + n % 10) ∷ []), digits-short k (n / 10))))
-
-pub decimal-short : (n : ℕ) → length (decimal n) ≤ 20
-unfolding decimal
-decimal-short n = digits-short 20 n
+use Rattle.judge.specs.Text.{breaksWord, verdictText, Small}
 
 pub pair-short : (p i : ℕ) → length (pairText p i) ≤ 42
 unfolding pairText
-pair-short p i = omega (arith, length-append (decimal p) (colon ∷ decimal i), decimal-short p, decimal-short i)
+pair-short p i = omega (arith, length-append (decimal p) (colon ∷ decimal i), twenty-digits p, twenty-digits i)
 
 pub verdict-short : (v : Verdict) → length (verdictText v) ≤ 96
 unfolding verdictText
-verdict-short (Refused why) = omega (arith, length-append refusedWord (decimal (number why) ++ (lineFeed ∷ [])), length-append (decimal (number why)) (lineFeed ∷ []), decimal-short (number why))
+verdict-short (Refused why) = omega (arith, refused-length why)
 verdict-short Trackable = omega arith
 verdict-short (Breaks p k q x) = omega (
   arith,
@@ -53,17 +40,6 @@ verdict-short (Breaks p k q x) = omega (
   pair-short p (k .0),
   pair-short q (x .0),
 )
-
-pub front-text : (out text now-out : List ℕ) (written : ℕ) → Printed out 0 text now-out written → written ≤ length out → take written now-out ≡ text
-front-text out text now-out written printed fits =
-    ap (take written) (printed .holds ∙ written-front out text (omega (arith, printed .next-place)))
-    ∙ take-at text (drop (length text) out) written (omega (arith, printed .next-place))
-
--- The number that is printed is the refusal's.
-pub refused-text : (out now-out : List ℕ) (written n : ℕ) (why : Refusal) → n ≡ number why → Printed out 0 (refusedWord ++ (decimal n ++ (lineFeed ∷ []))) now-out written
-    → Printed out 0 (verdictText (Refused why)) now-out written
-unfolding verdictText
-refused-text out now-out written n why e h = rw (← e) h
 
 pub small-pair : (v : Verdict) (p : ℕ) (k : CheckpointIndex) (q : ℕ) (x : CheckpointIndex) → v ≡ Breaks p k q x → Small v → (p < 16) × (q < 16)
 unfolding Small

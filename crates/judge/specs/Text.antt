@@ -3,25 +3,22 @@
 use mathlib.Core.Path.{_≡_}
 use mathlib.Core.List.{List, [], _∷_, _++_}
 use Prim.Native.Nat.{ℕ, _<_}
-use Rattle.model.specs.Refusals.{number}
-use Rattle.model.specs.Listing.{decimal, space, lineFeed}
+use Rattle.model.specs.Listing.{lineFeed}
 use Rattle.listing.specs.Lines.{pairText}
+use Rattle.programs.specs.Texts.{refusedText}
 use Rattle.patterns.specs.declared.Verdict.{Verdict}
 use Rattle.patterns.specs.declared.Verdict.the-variants.{Refused, Trackable, Breaks}
 use Rattle.patterns.specs.Verdicts.{RightVerdict}
 
--- "trackable", "breaks" and "refused ", byte by byte.
+-- "trackable" and "breaks", byte by byte.
 abbrev pub trackableWord : List ℕ
 trackableWord = 116 ∷ 114 ∷ 97 ∷ 99 ∷ 107 ∷ 97 ∷ 98 ∷ 108 ∷ 101 ∷ []
 
 abbrev pub breaksWord : List ℕ
 breaksWord = 98 ∷ 114 ∷ 101 ∷ 97 ∷ 107 ∷ 115 ∷ []
 
-abbrev pub refusedWord : List ℕ
-refusedWord = 114 ∷ 101 ∷ 102 ∷ 117 ∷ 115 ∷ 101 ∷ 100 ∷ space ∷ []
-
 unfoldable pub verdictText : Verdict → List ℕ
-verdictText (Refused why) = refusedWord ++ (decimal (number why) ++ (lineFeed ∷ []))
+verdictText (Refused why) = refusedText why
 verdictText Trackable = trackableWord ++ (lineFeed ∷ [])
 verdictText (Breaks p k q x) = breaksWord ++ (pairText p (k .0) ++ (pairText q (x .0) ++ (lineFeed ∷ [])))
 

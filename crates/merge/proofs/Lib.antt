@@ -2,5 +2,4 @@
 pub mod Program
 pub mod Putting
 pub mod Reading
-pub mod Setting
 pub mod Standing

@@ -4,22 +4,21 @@ use mathlib.Core.Path.{_≡_, refl, sym, _∙_, ap}
 use mathlib.Core.Bool.{false}
 use mathlib.Core.List.{List, [], _∷_, _++_}
 use mathlib.Core.Option.{none, some}
-use Prim.Native.Nat.{ℕ, zero, suc, _+_, _*_, _/_, _%_, _≤_, _<_}
+use Prim.Native.Nat.{ℕ, zero, suc, _+_, _≤_}
 use native.Mathlib.Omega.{arith}
 use lib.ListN.{length, take, drop, replicate}
 use lib.Seq.{sets, sets-eq, take-at}
-use borrow.Author.Tests.{lt-ltb, le-ltb}
+use borrow.Author.Tests.{le-ltb}
 use Rattle.model.specs.declared.Fields.{Fields}
 use Rattle.model.specs.declared.Refusal.{Refusal}
 use Rattle.model.specs.declared.MergeAnswer.the-variants as merge-answer
 use Rattle.merges.specs.Halves.{HalfEvent}
 use Rattle.merges.specs.Merge.{halfEventOf, nextRecord, Taken, stopped, took, takeFrom, takeAll, countOf, behindCount, fieldsIn, mergeRefusal, plainBytes, MergeOutcome, finished, mergeOutcome}
 use Rattle.model.specs.laws.Refusals.{by-refusal}
-use Rattle.model.specs.Listing.{decimal, digits}
 use Rattle.merges.proofs.Keeping.{next-out, record-out}
 use Rattle.merges.proofs.Replaying.{plain-length, how-many, fine}
 use Rattle.halves.proofs.Rules.{behind-is}
-use Rattle.merge.specs.Printed.{refusedText, refusing, putting, printed}
+use Rattle.merge.specs.Printed.{refusing, putting, printed}
 use Rattle.merge.proofs.Standing.{long-enough, refused-text}
 
 -- All records are taken, each once.
@@ -102,12 +101,3 @@ module _ (first second : List ℕ) (F : ℕ) (buffer : List ℕ) (room : length 
   worth = by-refusal (mergeRefusal first second F buffer)
       (λ e. rw e (worth-taken e (takeAll first second F) refl))
       (λ x e. rw e (worth-refused x (refused-text first second F x (sym refusal-is ∙ e))))
-
--- The line of a refusal with one digit or two.
-pub one-line : (k : ℕ) → k < 10 → (114 ∷ 101 ∷ 102 ∷ 117 ∷ 115 ∷ 101 ∷ 100 ∷ 32 ∷ (48 + k) ∷ 10 ∷ []) ≡ refusedText k
-unfolding refusedText decimal digits
-one-line k h = rw (lt-ltb k 10 h)
-
-pub two-lines : (k : ℕ) → 10 ≤ k → k ≤ 99 → (114 ∷ 101 ∷ 102 ∷ 117 ∷ 115 ∷ 101 ∷ 100 ∷ 32 ∷ (48 + k / 10) ∷ (48 + k % 10) ∷ 10 ∷ []) ≡ refusedText k
-unfolding refusedText decimal digits
-two-lines k h few = rw (le-ltb k 10 h, lt-ltb (k / 10) 10 (omega arith))

@@ -1,17 +1,12 @@
 -- What the program puts for two files and a set: the merged trace, or a line with the number of the refusal.
 -- Assumes nothing.
-use mathlib.Core.List.{List, [], _∷_, _++_}
+use mathlib.Core.List.{List, [], _∷_}
 use Prim.Native.Nat.{ℕ, _+_}
 use lib.ListN.{length, replicate}
 use Rattle.model.specs.declared.Refusal.{Refusal}
-use Rattle.model.specs.Refusals.{number}
 use Rattle.model.specs.Outcomes.{judged}
-use Rattle.model.specs.Listing.{decimal, space, lineFeed}
+use Rattle.programs.specs.Texts.{refusedText}
 use Rattle.merges.specs.Merge.{Taken, stopped, took, takeAll, countOf, mergeRefusal, plainBytes}
-
--- `refused`, a space, the number and a line feed.
-unfoldable pub refusedText : ℕ → List ℕ
-refusedText k = (114 ∷ 101 ∷ 102 ∷ 117 ∷ 115 ∷ 101 ∷ 100 ∷ space ∷ []) ++ (decimal k ++ (lineFeed ∷ []))
 
 -- What goes to standard output, and what to standard error.
 pub record Printed : Type 0 where
@@ -19,7 +14,7 @@ pub record Printed : Type 0 where
   pub refusal : List ℕ
 
 abbrev pub refusing : Refusal → Printed
-refusing r = record { trace = []; refusal = refusedText (number r) }
+refusing r = record { trace = []; refusal = refusedText r }
 
 unfoldable pub putting : ℕ → Taken → Printed
 putting n (stopped r) = refusing r

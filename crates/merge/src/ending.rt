@@ -5,46 +5,11 @@ use libc::STDOUT_FILENO;
 ghost use mathlib.Core.Path.{_≡_};
 ghost use mathlib.Core.Bool.{true};
 ghost use mathlib.Core.List.{[]};
-ghost use Prim.Native.Nat.{_≤_};
-ghost use lib.ListN.{length, take};
-ghost use Rattle.merge.specs.Printed.{printed, refusedText};
+ghost use Rattle.merge.specs.Printed.{printed};
 
 // This file makes the only values of this type.
 pub struct Ended {
     failed: bool,
-}
-
-// A line of text.
-pub struct Line {
-    pub text: [u8; 11],
-    pub size: usize,
-}
-
-// `refused` and the number.
-pub fn refusal_line(number: u8) -> Line
-    requires { ⌜ number ≤ 99 ⌝ }
-    ensures { λ r. ⌜ (take (r .size) (r .text) ≡ refusedText number) × (r .size ≤ length (r .text)) ⌝ }
-{
-    let mut text = [
-        b'r',
-        b'e',
-        b'f',
-        b'u',
-        b's',
-        b'e',
-        b'd',
-        b' ',
-        b'0',
-        b'\n',
-        b'\n',
-    ];
-    if number < 10 {
-        text[8] = 48 + number;
-        return Line { text, size: 10 };
-    }
-    text[8] = 48 + number / 10;
-    text[9] = 48 + number % 10;
-    Line { text, size: 11 }
 }
 
 // The merged trace.

@@ -1,44 +1,30 @@
 // A half, as its file is read. What is held of it is its first 16,392 bytes at most, those of 4,097 records and three more: a longer half is refused
 // whatever it says, and which number it meets depends on its first byte and on how many bytes are left over behind its records.
+use programs::input::Brought;
+use programs::input::read_behind;
 ghost use mathlib.Core.Path.{_≡_};
 ghost use Prim.Native.Nat.{_+_, _≤_};
 ghost use lib.ListN.{length};
 ghost use Rattle.merge.specs.Held.{heldSize, Fills, Holding};
 
-// Whether a read failed, and how many bytes it brought; none at the end of the file.
-pub struct Filled {
-    pub failed: bool,
-    pub more: usize,
-}
-
 // One read behind the bytes that stand in the buffer.
-fn fill(fd: i32, half: &mut [u8], total: usize) -> Filled
+fn fill(fd: i32, half: &mut [u8], total: usize) -> Brought
     requires { ⌜ (length (now half) ≡ 16392) × (total ≤ 16392) ⌝ }
     ensures { λ r. ⌜ Fills (now (half .entry)) total (r .more) (now (half .exit)) × (r .more ≤ 16392) ⌝ }
 {
-    let got = libc::read(fd, &mut half[total..]);
-    let more = io::count(got, &half[total..]);
-    Filled {
-        failed: got < 0,
-        more,
-    }
+    read_behind(fd, half, total)
 }
 
 // One read of bytes that are only counted.
-fn skip(fd: i32) -> Filled
+fn skip(fd: i32) -> Brought
     ensures { λ r. ⌜ r .more ≤ 16392 ⌝ }
 {
     let mut bytes = io::buffer();
-    let got = libc::read(fd, &mut bytes);
-    let more = io::count(got, &bytes);
-    Filled {
-        failed: got < 0,
-        more,
-    }
+    read_behind(fd, &mut bytes, 0)
 }
 
 // The next bytes of the file.
-fn read_some(fd: i32, half: &mut [u8], total: usize) -> Filled
+fn read_some(fd: i32, half: &mut [u8], total: usize) -> Brought
     requires { ⌜ length (now half) ≡ 16392 ⌝ }
     ensures { λ r. ⌜ (Holding (now (half .entry)) total → Holding (now (half .exit)) (total + r .more)) ⌝ }
     ensures { λ r. ⌜ r .more ≤ 16392 ⌝ }
@@ -62,20 +48,20 @@ fn read_all(fd: i32, half: &mut [u8]) -> Source
 {
     let mut total = 0;
     while total < 9000000000000000000 {
-        let filled = read_some(fd, half, total);
-        if filled.failed {
+        let brought = read_some(fd, half, total);
+        if brought.failed {
             return Source {
                 failed: true,
                 total: 0,
             };
         }
-        if filled.more == 0 {
+        if brought.more == 0 {
             return Source {
                 failed: false,
                 total,
             };
         }
-        total += filled.more;
+        total += brought.more;
     }
     Source {
         failed: false,

@@ -2,9 +2,6 @@
 // process p. The merged trace goes to standard output. A refused merge writes `refused` and the number to standard error and nothing to standard output. What
 // a merge is, is said and proved in `halves`; this program only moves bytes.
 
-// words.rt: the set, as the word that asks for it
-mod words;
-
 // half.rt: a half, as its file is read
 mod half;
 
@@ -24,10 +21,9 @@ fn merge_held<'a>(first: &'a [u8], second: &'a [u8], set: u16, result: &mut [u8]
     let answer = halves::merge(first, second, set, result);
     match answer {
         MergeAnswer::Refused(why) => {
-            let line = ending::refusal_line(output::say::number_of(why));
-            let size = line.size;
-            let text = line.text;
-            ending::put_refusal(first, second, set, &text[..size])
+            let mut line = [0u8; 29];
+            let size = programs::text::write_refused(&mut line, why);
+            ending::put_refusal(first, second, set, &line[..size])
         }
         MergeAnswer::Merged(size) => ending::put_trace(first, second, set, &result[..size]),
     }
@@ -51,7 +47,7 @@ fn merge_files(one: &[u8], other: &[u8], set: u16) -> Ended {
     merge_held(&first[..from], &second[..to], set, &mut result)
 }
 
-// The three words that the program is started with behind its name.
+// The three words that the program is started with behind its name. The set is a number of 16 bits.
 fn start() -> Ended {
     let mut one = io::buffer();
     let mut other = io::buffer();
@@ -59,7 +55,7 @@ fn start() -> Ended {
     let a = os::arg(1, &mut one);
     let b = os::arg(2, &mut other);
     let size = os::arg(3, &mut word);
-    let set = words::set_in(&word[..size]);
+    let set = programs::numbers::number_in(&word[..size]);
     if os::arg_count() != 4 {
         return ending::say_usage();
     }

@@ -2,19 +2,16 @@
 // recorded to standard output: the first byte and the records of the accepted calls. `record BYTES` lends a buffer of so many bytes. An error of the system is
 // said on standard error, and ends the program.
 
-// words.rt: the argument
-mod words;
-
 use libc::STDERR_FILENO;
-use libc::STDIN_FILENO;
 use libc::STDOUT_FILENO;
 use model::Event;
 use model::Run;
 use model::StartAnswer;
+use programs::input::Filled;
 use trace::Decoded;
 ghost use mathlib.Core.Path.{_≡_};
 ghost use mathlib.Core.Option.{some};
-ghost use Prim.Native.Nat.{_+_, _≤_};
+ghost use Prim.Native.Nat.{_≤_};
 ghost use lib.ListN.{length};
 ghost use Rattle.trace.specs.Answers.{eventIn};
 ghost use Rattle.record.specs.Tapes.{tapeOf, tapeBehind, LeadsTo, Left, WasRecorded};
@@ -25,55 +22,15 @@ struct Tape {
     place: usize,
 }
 
-// Whether a read failed, and how many bytes it brought, none at the end of the input.
-struct Brought {
-    failed: bool,
-    more: usize,
-}
-
-// One read behind the bytes held.
-fn read_behind(input: &mut [u8], held: usize) -> Brought
-    requires { ⌜ held ≤ length (now input) ⌝ }
-    ensures { λ r. ⌜ held + r .more ≤ length (now (input .entry)) ⌝ }
-{
-    let got = libc::read(STDIN_FILENO, &mut input[held..]);
-    let more = io::count(got, &input[held..]);
-    Brought {
-        failed: got < 0,
-        more,
-    }
-}
-
-// Whether a read failed, and how many bytes are held.
-struct Filled {
-    failed: bool,
-    held: usize,
-}
-
-// Reads until the buffer is full, the input ends or a read fails.
+// Reads until the buffer is full, the input ends or a read fails, which is said.
 fn fill(input: &mut [u8]) -> Filled
     ensures { λ r. ⌜ r .held ≤ length (now (input .entry)) ⌝ }
 {
-    let mut held = 0;
-    while held < input.len() {
-        let brought = read_behind(input, held);
-        if brought.failed {
-            os::fail(b"record: standard input");
-            return Filled { failed: true, held };
-        }
-        let more = brought.more;
-        if more == 0 {
-            return Filled {
-                failed: false,
-                held,
-            };
-        }
-        held += more;
+    let filled = programs::input::fill(input);
+    if filled.failed {
+        os::fail(b"record: standard input");
     }
-    Filled {
-        failed: false,
-        held,
-    }
+    filled
 }
 
 fn checkpoint(t: Tape, i: usize, buffer: &mut [u8]) -> Tape
@@ -220,11 +177,20 @@ fn play(from: Tape, buffer: &mut [u8]) -> Played
     }
 }
 
+fn least(a: usize, b: usize) -> usize
+    ensures { λ r. ⌜ r ≤ b ⌝ }
+{
+    if a < b {
+        return a;
+    }
+    b
+}
+
 // What stands in front of a place is written. It was recorded behind an accepted start, so it replays the same (`written-replays`).
 fn put(buffer: &[u8], place: usize)
     requires { ⌜ WasRecorded (now buffer) place ⌝ }
 {
-    let size = words::least(place, buffer.len());
+    let size = least(place, buffer.len());
     let is_written = io::write_all(STDOUT_FILENO, &buffer[..size]);
     if !is_written {
         os::fail(b"record: standard output");
@@ -269,7 +235,7 @@ fn size_asked() -> usize {
     }
     let mut word = io::buffer();
     let size = os::arg(1, &mut word);
-    words::number_in(&word[..size])
+    programs::numbers::number_in(&word[..size]) as usize
 }
 
 // The bytes of the largest buffer.

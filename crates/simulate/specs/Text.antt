@@ -2,14 +2,13 @@
 -- Assumes nothing.
 use mathlib.Core.List.{List, [], _∷_, _++_}
 use Prim.Native.Nat.{ℕ}
-use Rattle.model.specs.declared.Refusal.{Refusal}
-use Rattle.model.specs.Refusals.{number}
 use Rattle.model.specs.Listing.{decimal, space, lineFeed}
+use Rattle.programs.specs.Texts.{figureText, refusedText}
 use Rattle.spacing.specs.declared.TrialAnswer.{TrialAnswer}
 use Rattle.spacing.specs.declared.TrialAnswer.the-variants.{Refused, Tried}
 use Rattle.spacing.specs.declared.TrialResult.{TrialResult}
 
--- "deliveries ", "forced ", "most-kept ", "forced-per-thousand-deliveries ", "remainder " and "refused ", byte by byte.
+-- "deliveries ", "forced ", "most-kept ", "forced-per-thousand-deliveries " and "remainder ", byte by byte.
 abbrev pub deliveriesName : List ℕ
 deliveriesName = 100 ∷ 101 ∷ 108 ∷ 105 ∷ 118 ∷ 101 ∷ 114 ∷ 105 ∷ 101 ∷ 115 ∷ space ∷ []
 
@@ -25,23 +24,13 @@ quotientName = 102 ∷ 111 ∷ 114 ∷ 99 ∷ 101 ∷ 100 ∷ 45 ∷ 112 ∷ 101
 abbrev pub remainderName : List ℕ
 remainderName = 114 ∷ 101 ∷ 109 ∷ 97 ∷ 105 ∷ 110 ∷ 100 ∷ 101 ∷ 114 ∷ space ∷ []
 
-abbrev pub refusedName : List ℕ
-refusedName = 114 ∷ 101 ∷ 102 ∷ 117 ∷ 115 ∷ 101 ∷ 100 ∷ space ∷ []
-
--- A name and its figure: one line.
-unfoldable pub figureText : List ℕ → ℕ → List ℕ
-figureText name x = name ++ (decimal x ++ (lineFeed ∷ []))
-
 unfoldable pub figuresText : TrialResult → List ℕ
 figuresText r = figureText deliveriesName (r .deliveries)
     ++ (figureText forcedName (r .forced) ++ (figureText mostName (r .most) ++ (figureText quotientName (r .quotient) ++ figureText remainderName (r .remainder))))
 
-unfoldable pub refusalText : Refusal → List ℕ
-refusalText why = figureText refusedName (number why)
-
 -- What is printed of an answer, where `text` are its figures.
 unfoldable pub answerText : TrialAnswer → List ℕ → List ℕ
-answerText (Refused why) text = refusalText why
+answerText (Refused why) text = refusedText why
 answerText Tried text = text
 
 unfoldable pub resultText : TrialResult → List ℕ
@@ -53,12 +42,6 @@ rowText spacing r = decimal spacing
     ++ ((space ∷ decimal (r .deliveries)) ++ ((space ∷ decimal (r .forced)) ++ ((space ∷ decimal (r .most))
     ++ ((space ∷ decimal (r .quotient)) ++ ((space ∷ decimal (r .remainder)) ++ (lineFeed ∷ []))))))
 
--- No name is longer than 31 bytes, no number than 20; so no line is longer, and neither five lines nor a row.
-abbrev pub longestName : ℕ
-longestName = 31
-
-abbrev pub longestLine : ℕ
-longestLine = 52
-
+-- No name is longer than 31 bytes, no number than 20; so no line is longer than 52, and neither five lines nor a row than this.
 abbrev pub longestText : ℕ
 longestText = 260

@@ -16,8 +16,9 @@ ghost use mathlib.Core.Bool.{true};
 ghost use Prim.Native.Nat.{_≤_};
 ghost use lib.ListN.{length};
 ghost use Rattle.model.specs.declared.Refusal.the-variants.{TrialOutsideRange};
+ghost use Rattle.programs.specs.Texts.{refusedText};
 ghost use Rattle.spacing.specs.Spacing.{simulated};
-ghost use Rattle.simulate.specs.Text.{longestText, refusalText, resultText, rowText};
+ghost use Rattle.simulate.specs.Text.{longestText, resultText, rowText};
 ghost use Rattle.simulate.specs.Words.{isRefused};
 
 fn say_usage() -> bool {
@@ -83,7 +84,7 @@ fn print_rows(n: u32, from: u32, to: u32, steps: u32, seed: u32, out: &mut [u8])
 
 // The table is refused: the one line of that is put.
 fn put_refusal(n: u32, from: u32, to: u32, steps: u32, text: &[u8]) -> bool
-    requires { ⌜ (isRefused n from to steps ≡ true) × (now text ≡ refusalText TrialOutsideRange) ⌝ }
+    requires { ⌜ (isRefused n from to steps ≡ true) × (now text ≡ refusedText TrialOutsideRange) ⌝ }
 {
     write(text)
 }
@@ -93,7 +94,7 @@ fn print_table(n: u32, from: u32, to: u32, steps: u32, seed: u32, out: &mut [u8]
     requires { ⌜ longestText ≤ length (now out) ⌝ }
 {
     if words::is_refused(n, from, to, steps) {
-        let size = print::write_refusal(out, Refusal::TrialOutsideRange);
+        let size = programs::text::write_refused(out, Refusal::TrialOutsideRange);
         return put_refusal(n, from, to, steps, &out[..size]);
     }
     if !write(b"# spacing deliveries forced most-kept forced-per-thousand-deliveries remainder\n") {
@@ -106,7 +107,7 @@ fn print_table(n: u32, from: u32, to: u32, steps: u32, seed: u32, out: &mut [u8]
 fn number_at(place: usize) -> u64 {
     let mut word = io::large_buffer();
     let size = os::arg(place, &mut word);
-    words::number_in(&word[..size])
+    programs::numbers::number_in(&word[..size])
 }
 
 // The words behind the program's name.

@@ -1,37 +1,14 @@
 // What is printed of a result, to a lent buffer: every function hands back the place behind what it printed.
-use model::Refusal;
+use programs::text::write_figure;
+use programs::text::write_refused;
 use spacing::TrialAnswer;
 use spacing::TrialResult;
 ghost use mathlib.Core.List.{_∷_};
 ghost use Prim.Native.Nat.{_+_, _≤_};
 ghost use lib.ListN.{length};
 ghost use Rattle.model.specs.Listing.{decimal, space};
-ghost use Rattle.listing.specs.Printed.{Room, Printed};
-ghost use Rattle.simulate.specs.Text.{longestName, longestLine, longestText, figureText, figuresText, refusalText, resultText, rowText};
-
-fn write_word(out: &mut [u8], at: usize, word: &[u8]) -> usize
-    requires { ⌜ Room (now out) at (now word) ⌝ }
-    ensures { λ r. ⌜ Printed (now (out .entry)) at (now (word .entry)) (now (out .exit)) r ⌝ }
-{
-    let size = word.len();
-    let mut k = 0;
-    while k < size {
-        let byte = word[k];
-        out[at + k] = byte;
-        k += 1;
-    }
-    at + size
-}
-
-// A name and its figure: one line.
-fn write_figure(out: &mut [u8], at: usize, name: &[u8], x: u64) -> usize
-    requires { ⌜ (length (now name) ≤ longestName) × (at + longestLine ≤ length (now out)) ⌝ }
-    ensures { λ r. ⌜ Printed (now (out .entry)) at (figureText (now (name .entry)) x) (now (out .exit)) r × (r ≤ at + longestLine) ⌝ }
-{
-    let named = write_word(out, at, name);
-    let told = listing::write_number(out, named, x);
-    listing::write_byte(out, told, b'\n')
-}
+ghost use Rattle.listing.specs.Printed.{Printed};
+ghost use Rattle.simulate.specs.Text.{longestText, figuresText, resultText, rowText};
 
 // The five figures, one a line.
 fn write_figures(out: &mut [u8], r: TrialResult) -> usize
@@ -50,15 +27,6 @@ fn write_figures(out: &mut [u8], r: TrialResult) -> usize
     write_figure(out, four, b"remainder ", r.remainder as u64)
 }
 
-// `refused` and the number.
-pub fn write_refusal(out: &mut [u8], why: Refusal) -> usize
-    requires { ⌜ longestText ≤ length (now out) ⌝ }
-    ensures { λ e. ⌜ Printed (now (out .entry)) 0 (refusalText why) (now (out .exit)) e × (e ≤ longestText) ⌝ }
-{
-    let number = output::say::number_of(why);
-    write_figure(out, 0, b"refused ", number as u64)
-}
-
 // All that is printed of a result: its figures, or its refusal.
 pub fn write_result(out: &mut [u8], r: TrialResult) -> usize
     requires { ⌜ longestText ≤ length (now out) ⌝ }
@@ -66,7 +34,7 @@ pub fn write_result(out: &mut [u8], r: TrialResult) -> usize
 {
     let answer = r.answer;
     match answer {
-        TrialAnswer::Refused(why) => write_refusal(out, why),
+        TrialAnswer::Refused(why) => write_refused(out, why),
         TrialAnswer::Tried => write_figures(out, r),
     }
 }

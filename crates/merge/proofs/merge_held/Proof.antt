@@ -6,30 +6,26 @@ use lib.ListN.{take}
 use lib.Seq.{length-take-le}
 use denote.Ref.{now}
 use borrow.Author.Needs.{needs}
-use Rattle.model.specs.laws.Refusals.{number-range}
-use Rattle.merge.specs.Printed.{refusedText, Printed}
+use Rattle.programs.proofs.Texts.{front-text}
+use Rattle.merge.specs.Printed.{Printed}
 use Rattle.merge.proofs.Putting.{worth}
 use Rattle.merge.proofs.merge_held.Statement.{statement}
 use Rattle.merge.proofs.merge_held.Tie as tie
 
-refusal-line-requires : tie.Need-refusal-line-requires
-refusal-line-requires c κs = rw (c .number-of .ensures) (number-range _ .1)
-
-array-share-prefix-text : tie.Need-array-share-prefix-text
-array-share-prefix-text c = c .before .refusal-line .ensures .1
+array-share-prefix-line : tie.Need-array-share-prefix-line
+array-share-prefix-line c = let line = c .before .write-refused in omega (arith, line .ensures .1, line .kept .0)
 
 slice-aggregate-put-refusal : tie.Need-slice-aggregate-put-refusal
-slice-aggregate-put-refusal c = let line = c .before .before .refusal-line in sym (length-take-le (line .result .size) (line .result .text) (line .ensures .1))
+slice-aggregate-put-refusal c = let line = c .before .before .write-refused in sym (length-take-le (line .result) (line .last .0) (omega (arith, line .ensures .1, line .kept .0)))
 
 put-refusal-requires : tie.Need-put-refusal-requires
 put-refusal-requires c κs =
-    let line = c .before .before .refusal-line in
-    let number = c .before .before .before .number-of in
+    let line = c .before .before .write-refused in
     let merge = c .before .before .before .before .before .before .before .before .before .merge in
     let start = c .before .before .before .before .before .before .before .before .before .before .before .before .before .before in
     let is-refused = sym (merge .ensures .0) ∙ c .before .before .before .before .before .answer .given .1 in
     let prints = worth (now (start .args .first)) (now (start .args .second)) (start .args .set) (now (start .args .result)) (start .pre) .refused _ is-refused in
-    (ap (λ (p : Printed). p .trace) prints, ap (λ (p : Printed). p .refusal) prints ∙ ap refusedText (sym (number .ensures)) ∙ sym (line .ensures .0))
+    (ap (λ (p : Printed). p .trace) prints, ap (λ (p : Printed). p .refusal) prints ∙ sym (front-text _ _ (line .last .0) (line .result) (line .ensures .0) (omega (arith, line .ensures .1))))
 
 slice-reshare-prefix-put-trace : tie.Need-slice-reshare-prefix-put-trace
 slice-reshare-prefix-put-trace c =
@@ -65,9 +61,8 @@ put-trace-requires c κs =
 pub merge-held-spec : {M : Type 1} → statement M
 merge-held-spec =
     tie.close
-    (tie.spec (λ c κs. search needs) (λ c. search needs) (λ c κs. search needs)
-    refusal-line-requires
-    array-share-prefix-text
+    (tie.spec (λ c κs. search needs) (λ c. search needs) (λ c. search needs) (λ c κs. search needs)
+    array-share-prefix-line
     slice-aggregate-put-refusal
     put-refusal-requires (λ c. search needs)
     slice-reshare-prefix-put-trace

@@ -8,7 +8,7 @@ use lib.ListN.{length}
 use lib.Seq.{length-take-le}
 use denote.Ref.{now}
 use Rattle.simulate.specs.Text.{resultText}
-use Rattle.simulate.proofs.Texts.{front-text}
+use Rattle.programs.proofs.Texts.{front-text}
 use Rattle.simulate.proofs.print_result.Statement.{statement}
 use Rattle.simulate.proofs.print_result.Tie as tie
 

@@ -8,7 +8,7 @@ use lib.ListN.{length}
 use lib.Seq.{length-take-le}
 use denote.Ref.{now}
 use Rattle.simulate.specs.Text.{rowText}
-use Rattle.simulate.proofs.Texts.{front-text}
+use Rattle.programs.proofs.Texts.{front-text}
 use Rattle.simulate.proofs.print_row.Statement.{statement}
 use Rattle.simulate.proofs.print_row.Tie as tie
 

@@ -10,11 +10,12 @@ write-breaks-requires : tie.Need-write-breaks-requires
 write-breaks-requires c κs = let st = c .before .before .before .before .before in let s = small-pair _ _ _ _ _ (c .before .before .verdict2 .given .1) (st .pre .1) in (st .pre .0, s .0, s .1)
 
 returns : tie.Need-returns
-returns c = rw (c .before .before .before .before .before .verdict .given .1) (c .before .before .write-refused .ensures)
+unfolding verdictText
+returns c = rw (c .before .before .before .before .before .verdict .given .1) (c .before .before .write-refused .ensures .0)
 
 returns-2 : tie.Need-returns-2
 unfolding verdictText
-returns-2 c = rw (c .before .before .before .before .enum-told .given .1) (c .before .before .put-trackable .ensures)
+returns-2 c = rw (c .before .before .before .before .before .enum-told .given .1) (c .before .before .write-word .ensures)
 
 returns-3 : tie.Need-returns-3
 returns-3 c = rw (c .before .before .before .before .before .verdict2 .given .1) (c .before .before .write-breaks .ensures)
@@ -25,6 +26,7 @@ write-verdict-spec =
     (tie.spec
     (λ c. search needs)
     (λ c κs. search needs)
+    (λ c. search needs)
     (λ c. search needs)
     (λ c κs. search needs)
     (λ c. search needs)

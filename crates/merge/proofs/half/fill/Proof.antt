@@ -3,30 +3,20 @@
 use mathlib.Core.Path.{_∙_}
 use borrow.Author.Needs.{needs}
 use denote.Ref.{now}
-use Prim.Native.Nat.{_+_, _-_}
 use native.Mathlib.Omega.{arith}
-use lib.ListN.{length}
-use borrow.Rule.Slice.PartMut.{putMid, take-put, same-len-mid}
 use Rattle.merge.proofs.Reading.{fills}
 use Rattle.merge.proofs.half.fill.Statement.{statement}
 use Rattle.merge.proofs.half.fill.Tie as tie
 
 returns : tie.Need-returns
 returns c =
-    let start = c .before .before .before .before .before .before .before .before in
+    let start = c .before .before .before .before .before in
     let half = now (start .args .half) in
     let total = start .args .total in
-    let read = c .before .before .before .before .before .read in
-    let last = read .last .1 .0 in (
-      fills half (putMid total (length half - total) half last) total (c .count .result)
-          (take-put total (length half - total) half last (omega arith))
-          (same-len-mid total (length half - total) half last (read .kept .1 .0) ∙ start .pre .0)
-          (search needs),
-      search needs,
+    let read = c .before .before .read-behind in (
+      fills half (read .last .1 .0) total (read .result .more) (read .ensures .1) (read .kept .1 .0 ∙ start .pre .0) (omega (arith, read .ensures .0, start .pre .0)),
+      omega (arith, read .ensures .0, start .pre .0),
     )
 
 pub fill-spec : {M : Type 1} → statement M
-fill-spec =
-    tie.close
-    (tie.spec (λ c. search needs) (λ c. search needs) (λ c. search needs) (λ c κs. search needs) (λ c. search needs) (λ c. search needs) (λ c. search needs) (λ c κs. search needs) (λ c. search needs)
-    returns)
+fill-spec = tie.close (tie.spec (λ c κs. search needs) (λ c. search needs) returns)

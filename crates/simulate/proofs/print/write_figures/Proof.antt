@@ -26,16 +26,16 @@ after-5 : (c : tie.After-write-figure5) → (c .write-figure5 .result ≤ 260) �
 after-5 c = let b = after-4 (c .before .before .before .before .before .before) in (omega (arith, b .0, c .write-figure5 .ensures .1), omega (arith, b .1, c .write-figure5 .kept .0))
 
 write-figure-requires-2 : tie.Need-write-figure-requires-2
-write-figure-requires-2 c κs = let b = after-1 (c .before .before .before .before .before) in (omega arith, omega (arith, b .0, b .1))
+write-figure-requires-2 c κs = let b = after-1 (c .before .before .before .before .before) in omega (arith, b .0, b .1)
 
 write-figure-requires-3 : tie.Need-write-figure-requires-3
-write-figure-requires-3 c κs = let b = after-2 (c .before .before .before .before) in (omega arith, omega (arith, b .0, b .1))
+write-figure-requires-3 c κs = let b = after-2 (c .before .before .before .before) in omega (arith, b .0, b .1)
 
 write-figure-requires-4 : tie.Need-write-figure-requires-4
-write-figure-requires-4 c κs = let b = after-3 (c .before .before .before .before .before) in (omega arith, omega (arith, b .0, b .1))
+write-figure-requires-4 c κs = let b = after-3 (c .before .before .before .before .before) in omega (arith, b .0, b .1)
 
 write-figure-requires-5 : tie.Need-write-figure-requires-5
-write-figure-requires-5 c κs = let b = after-4 (c .before .before .before .before .before) in (omega arith, omega (arith, b .0, b .1))
+write-figure-requires-5 c κs = let b = after-4 (c .before .before .before .before .before) in omega (arith, b .0, b .1)
 
 same-length : tie.Need-same-length
 same-length c =

@@ -1,13 +1,14 @@
 -- `simulate::print::write_result` meets its contract, by the answer.
 -- Assumes nothing.
 use borrow.Author.Needs.{needs}
+use native.Mathlib.Omega.{arith}
 use Rattle.simulate.specs.Text.{figuresText, answerText, resultText}
 use Rattle.simulate.proofs.print.write_result.Statement.{statement}
 use Rattle.simulate.proofs.print.write_result.Tie as tie
 
 returns : tie.Need-returns
 unfolding resultText answerText
-returns c = (rw (c .before .before .before .before .before .answer .given .1) (c .before .before .write-refusal .ensures .0), c .before .before .write-refusal .ensures .1)
+returns c = (rw (c .before .before .before .before .before .answer .given .1) (c .before .before .write-refused .ensures .0), omega (arith, c .before .before .write-refused .ensures .1))
 
 returns-2 : tie.Need-returns-2
 unfolding resultText answerText figuresText

@@ -7,7 +7,7 @@ use Prim.Native.Nat.{_+_, _-_}
 use native.Mathlib.Omega.{arith}
 use lib.ListN.{length, drop, length-drop}
 use lib.Seq.{length-take-le, take-all}
-use Rattle.simulate.specs.Words.{numberIn}
+use Rattle.programs.specs.Numbers.{numberIn}
 use Rattle.simulate.proofs.Numbers.{one-spacing, two-spacings}
 use Rattle.simulate.proofs.words.spacings_in.Statement.{statement}
 use Rattle.simulate.proofs.words.spacings_in.Tie as tie

@@ -1,0 +1,40 @@
+-- `programs::numbers::number_in` meets its contract. The loop's invariant: the number that the first i digits are.
+-- Assumes nothing.
+use mathlib.Core.Path.{_≡_}
+use Prim.Native.Nat.{_-_, _≤_}
+use native.Mathlib.Omega.{arith}
+use lib.ListN.{length, getD}
+use denote.Ref.{now}
+use borrow.Author.Needs.{needs}
+use Rattle.laws.specs.Loops.{iter, iter-none, iter-more}
+use Rattle.programs.specs.Numbers.{appended}
+use Rattle.programs.proofs.Digits.{no-word, number-is}
+use Rattle.programs.proofs.numbers.number_in.Statement.{statement}
+use Rattle.programs.proofs.numbers.number_in.Tie as tie
+
+abbrev Inv-loop : tie.InvT-loop
+Inv-loop word value₀ i₀ value i = (i ≤ length word) × (value ≤ 4294967297) × (value ≡ iter i (λ k v. appended v (getD word k 0)) 0)
+
+abbrev μ-loop : tie.MeasureT-loop
+μ-loop word value₀ i₀ value i = length word - i
+
+returns : tie.Need-returns Inv-loop μ-loop
+returns c = no-word _ (c .if1 .taken)
+
+loop-holds : tie.Need-loop-holds Inv-loop μ-loop
+loop-holds c = (search needs, search needs, iter-none _ 0)
+
+loop-again : tie.Need-loop-again Inv-loop μ-loop
+loop-again c =
+    let l = c .before .before .before .loop in
+    (search needs, c .append .ensures .1, iter-more _ 0 (l .value) (l .i) (c .append .result) (l .inv .2) (c .append .ensures .0))
+
+returns-2 : tie.Need-returns-2 Inv-loop μ-loop
+returns-2 c =
+    let l = c .before .loop in
+    let start = c .before .before .before .before in
+    let e : l .i ≡ length (now (start .args .word)) = omega arith in
+    number-is (now (start .args .word)) (l .value) (c .before .before .if1 .left) (rw e at (l .inv .2))
+
+pub number-in-spec : {M : Type 1} → statement M
+number-in-spec = tie.close (tie.spec Inv-loop μ-loop returns loop-holds (λ c. search needs) (λ c κs. search needs) (λ c. search needs) (λ c. search needs) loop-again returns-2)

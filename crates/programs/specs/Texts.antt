@@ -1,0 +1,26 @@
+-- What programs print alike: a name and a number in one line, and the line of a refusal. Numbers are decimal.
+-- Assumes nothing.
+use mathlib.Core.List.{List, [], _∷_, _++_}
+use Prim.Native.Nat.{ℕ}
+use Rattle.model.specs.declared.Refusal.{Refusal}
+use Rattle.model.specs.Refusals.{number}
+use Rattle.model.specs.Listing.{decimal, space, lineFeed}
+
+-- A name and its figure: one line.
+unfoldable pub figureText : List ℕ → ℕ → List ℕ
+figureText name x = name ++ (decimal x ++ (lineFeed ∷ []))
+
+-- "refused ", byte by byte.
+abbrev pub refusedName : List ℕ
+refusedName = 114 ∷ 101 ∷ 102 ∷ 117 ∷ 115 ∷ 101 ∷ 100 ∷ space ∷ []
+
+-- `refused R`
+unfoldable pub refusedText : Refusal → List ℕ
+refusedText why = figureText refusedName (number why)
+
+-- No number has more than 20 digits: so many bytes at most are printed behind a name, and for a refusal.
+abbrev pub longestFigure : ℕ
+longestFigure = 21
+
+abbrev pub longestRefusal : ℕ
+longestRefusal = 29
