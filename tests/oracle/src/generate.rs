@@ -55,6 +55,17 @@ pub fn trace_in(file: &Path, arguments: &[String]) -> io::Result<Vec<u8>> {
     Ok(trace)
 }
 
+/// The arguments of the trace of a seed where every second one is damaged and the
+/// others are what their seed draws.
+pub fn half_damaged(seed: u64) -> Vec<String> {
+    let mut arguments = vec![seed.to_string()];
+    if seed % 2 == 0 {
+        arguments.push("--mix".to_string());
+        arguments.push("damaged".to_string());
+    }
+    arguments
+}
+
 /// Writes the trace that the plan says.
 pub fn write_trace<W: Write>(plan: Plan, output: W) -> io::Result<()> {
     let mut trace = Trace::new(plan, output);

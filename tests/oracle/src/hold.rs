@@ -2,9 +2,11 @@
 //! program each, and the first difference in words.
 
 use std::collections::BTreeMap;
+use std::fmt::Display;
+use std::fs::File;
 use std::io;
 use std::path::{Path, PathBuf};
-use std::process::Output;
+use std::process::{Command, Output};
 use std::sync::atomic::{AtomicBool, AtomicU64, Ordering};
 use std::thread;
 
@@ -23,8 +25,16 @@ pub fn asked<const N: usize>() -> Option<(u64, u64, [PathBuf; N])> {
     ))
 }
 
+/// What a program prints with these arguments and this file as its input.
+pub fn run_on(program: &Path, arguments: &[String], input: &Path) -> io::Result<Output> {
+    Command::new(program)
+        .args(arguments)
+        .stdin(File::open(input)?)
+        .output()
+}
+
 /// How often each number was met, in words.
-pub fn refused_in_words(refused: &BTreeMap<u8, usize>) -> String {
+pub fn refused_in_words<N: Display>(refused: &BTreeMap<N, usize>) -> String {
     let words: Vec<String> = refused
         .iter()
         .map(|(number, times)| format!("{times} with {number}"))

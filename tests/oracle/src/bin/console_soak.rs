@@ -6,19 +6,21 @@
 
 use oracle::console::facts;
 use oracle::console::scripts::script;
-use oracle::hold::{difference, on_seeds, Comparison};
+use oracle::hold::{asked, difference, on_seeds, refused_in_words, run_on, Comparison};
 use std::collections::BTreeMap;
-use std::fs::File;
 use std::io;
 use std::path::{Path, PathBuf};
-use std::process::{Command, ExitCode};
+use std::process::ExitCode;
 use std::sync::Mutex;
 
 fn main() -> ExitCode {
-    let arguments: Vec<String> = std::env::args().skip(1).collect();
-    let Some((count, first, soak)) = from_arguments(&arguments) else {
+    let Some((count, first, [program])) = asked() else {
         eprintln!("usage: console_soak COUNT FIRST PROGRAM");
         return ExitCode::from(2);
+    };
+    let soak = Soak {
+        program,
+        met: Mutex::default(),
     };
     if !on_seeds(first, count, &soak) {
         return ExitCode::FAILURE;
@@ -26,13 +28,9 @@ fn main() -> ExitCode {
     let mut met = soak.met.into_inner().expect("no thread has failed");
     let accepted = met.remove("0").unwrap_or(0);
     let denied = met.remove("25").unwrap_or(0);
-    let others: Vec<String> = met
-        .iter()
-        .map(|(number, times)| format!("{times} with {number}"))
-        .collect();
     println!(
         "console and oracle agree on {count} scripts: {accepted} calls accepted, {denied} denied, {}",
-        others.join(", ")
+        refused_in_words(&met)
     );
     ExitCode::SUCCESS
 }
@@ -41,17 +39,6 @@ struct Soak {
     program: PathBuf,
     /// How often each number was met, 0 for accepted.
     met: Mutex<BTreeMap<String, usize>>,
-}
-
-fn from_arguments(arguments: &[String]) -> Option<(u64, u64, Soak)> {
-    let [count, first, program] = arguments else {
-        return None;
-    };
-    let soak = Soak {
-        program: PathBuf::from(program),
-        met: Mutex::default(),
-    };
-    Some((count.parse().ok()?, first.parse().ok()?, soak))
 }
 
 impl Comparison for Soak {
@@ -68,9 +55,7 @@ impl Comparison for Soak {
             *met.entry(number.to_string()).or_default() += 1;
         }
         drop(met);
-        let got = Command::new(&self.program)
-            .stdin(File::open(file)?)
-            .output()?;
+        let got = run_on(&self.program, &[], file)?;
         Ok(difference(expected.as_bytes(), &got))
     }
 }

@@ -5,13 +5,12 @@
 //! the arguments of `generate` and both lines are printed, and the status is 1.
 
 use oracle::generate::trace_in;
-use oracle::hold::{asked, difference, on_seeds, refused_in_words, Comparison};
+use oracle::hold::{asked, difference, on_seeds, refused_in_words, run_on, Comparison};
 use oracle::judge::{judge, Verdict};
 use std::collections::BTreeMap;
-use std::fs::File;
 use std::io;
 use std::path::{Path, PathBuf};
-use std::process::{Command, ExitCode};
+use std::process::ExitCode;
 use std::sync::Mutex;
 
 fn main() -> ExitCode {
@@ -89,9 +88,7 @@ impl Comparison for Soak {
         met.count(&verdict, &trace);
         drop(met);
         let expected = format!("{verdict}\n");
-        let got = Command::new(&self.program)
-            .stdin(File::open(file)?)
-            .output()?;
+        let got = run_on(&self.program, &[], file)?;
         Ok(difference(expected.as_bytes(), &got))
     }
 }

@@ -15,9 +15,8 @@
 
 use oracle::halves::draw::{drawn, Halves};
 use oracle::halves::merge::merge;
-use oracle::hold::{asked, on_seeds, refused_in_words, Comparison};
+use oracle::hold::{asked, on_seeds, refused_in_words, run_on, Comparison};
 use std::collections::BTreeMap;
-use std::fs::File;
 use std::io;
 use std::path::{Path, PathBuf};
 use std::process::{Command, ExitCode, Output};
@@ -160,9 +159,7 @@ impl Soak {
             bytes.extend((process << 25).to_be_bytes());
         }
         std::fs::write(file, &bytes)?;
-        let output = Command::new(&self.replay)
-            .stdin(File::open(file)?)
-            .output()?;
+        let output = run_on(&self.replay, &[], file)?;
         let listing = String::from_utf8_lossy(&output.stdout);
         let lines: Vec<&str> = listing.split_inclusive('\n').collect();
         let records = (bytes.len() - 1) / 4;

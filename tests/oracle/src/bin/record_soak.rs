@@ -11,24 +11,29 @@
 //! At the first difference the arguments of `generate` are printed, and the
 //! status is 1.
 
-use oracle::generate::{write_trace, Plan};
-use oracle::hold::{difference, on_seeds, Comparison};
+use oracle::generate::{half_damaged, trace_in};
+use oracle::hold::{asked, difference, on_seeds, run_on, Comparison};
 use oracle::replay::{replay, AfterRefusal};
 use oracle::run::record::recorded;
-use std::fs::File;
 use std::io;
 use std::path::{Path, PathBuf};
-use std::process::{Command, ExitCode, Output};
+use std::process::{ExitCode, Output};
 use std::sync::atomic::{AtomicU64, Ordering};
 
 /// The buffer where no size is asked for.
 const BUFFER: usize = 1 << 20;
 
 fn main() -> ExitCode {
-    let arguments: Vec<String> = std::env::args().skip(1).collect();
-    let Some((count, first, soak)) = from_arguments(&arguments) else {
+    let Some((count, first, [program, replay])) = asked() else {
         eprintln!("usage: record_soak COUNT FIRST PROGRAM REPLAY");
         return ExitCode::from(2);
+    };
+    let soak = Soak {
+        program,
+        replay,
+        records: AtomicU64::new(0),
+        recorded: AtomicU64::new(0),
+        full: AtomicU64::new(0),
     };
     if !on_seeds(first, count, &soak) {
         return ExitCode::FAILURE;
@@ -50,31 +55,13 @@ struct Soak {
     full: AtomicU64,
 }
 
-fn from_arguments(arguments: &[String]) -> Option<(u64, u64, Soak)> {
-    let [count, first, program, replay] = arguments else {
-        return None;
-    };
-    let soak = Soak {
-        program: PathBuf::from(program),
-        replay: PathBuf::from(replay),
-        records: AtomicU64::new(0),
-        recorded: AtomicU64::new(0),
-        full: AtomicU64::new(0),
-    };
-    Some((count.parse().ok()?, first.parse().ok()?, soak))
-}
-
 impl Comparison for Soak {
     fn input(&self, seed: u64) -> String {
-        format!("generate {}", arguments_of(seed).join(" "))
+        format!("generate {}", half_damaged(seed).join(" "))
     }
 
     fn compare(&self, seed: u64, file: &Path) -> io::Result<Option<String>> {
-        let plan = Plan::from_arguments(&arguments_of(seed)).expect("they are in the usage");
-        let mut trace = Vec::new();
-        write_trace(plan, &mut trace)?;
-        std::fs::write(file, &trace)?;
-
+        let trace = trace_in(file, &half_damaged(seed))?;
         let room = (seed % 4 == 1).then(|| (seed / 4 % 400) as usize);
         let expected = recorded(&trace, room.unwrap_or(BUFFER));
         self.full
@@ -82,7 +69,7 @@ impl Comparison for Soak {
         let records = trace.len() as u64 / 4;
         self.records.fetch_add(records, Ordering::Relaxed);
         let room: Vec<String> = room.iter().map(|room| room.to_string()).collect();
-        let got = output(&self.program, &room, file)?;
+        let got = run_on(&self.program, &room, file)?;
         if let Some(difference) = difference_of_bytes(&expected, &got) {
             return Ok(Some(format!("record {}: {difference}", room.join(" "))));
         }
@@ -93,18 +80,11 @@ impl Comparison for Soak {
         let accepted = (expected.len() - 1) / 4;
         self.recorded.fetch_add(accepted as u64, Ordering::Relaxed);
         std::fs::write(file, &got.stdout)?;
-        let again = output(&self.replay, &[], file)?;
+        let again = run_on(&self.replay, &[], file)?;
         let listing = accepted_lines(&trace, accepted)?;
         let outcome = difference(listing.as_bytes(), &again);
         Ok(outcome.map(|difference| format!("what was recorded, replayed: {difference}")))
     }
-}
-
-fn output(program: &Path, arguments: &[String], input: &Path) -> io::Result<Output> {
-    Command::new(program)
-        .args(arguments)
-        .stdin(File::open(input)?)
-        .output()
 }
 
 fn difference_of_bytes(expected: &[u8], got: &Output) -> Option<String> {
@@ -131,14 +111,4 @@ fn accepted_lines(trace: &[u8], most: usize) -> io::Result<String> {
         .zip(accepted)
         .map(|(number, (_, answer))| format!("{number} {answer}\n"))
         .collect())
-}
-
-/// The arguments of `generate` for a seed: every second trace is damaged.
-fn arguments_of(seed: u64) -> Vec<String> {
-    let mut arguments = vec![seed.to_string()];
-    if seed % 2 == 0 {
-        arguments.push("--mix".to_string());
-        arguments.push("damaged".to_string());
-    }
-    arguments
 }

@@ -10,13 +10,12 @@
 //! status 0. At the first trace where it does not, the arguments of `generate`
 //! and the first line that differs are printed, and the status is 1.
 
-use oracle::generate::trace_in;
-use oracle::hold::{asked, difference, on_seeds, Comparison};
+use oracle::generate::{half_damaged, trace_in};
+use oracle::hold::{asked, difference, on_seeds, run_on, Comparison};
 use oracle::replay::{replay, AfterRefusal};
-use std::fs::File;
 use std::io;
 use std::path::{Path, PathBuf};
-use std::process::{Command, ExitCode, Output};
+use std::process::ExitCode;
 use std::sync::atomic::{AtomicU64, Ordering};
 
 fn main() -> ExitCode {
@@ -50,43 +49,24 @@ struct Soak {
 
 impl Comparison for Soak {
     fn input(&self, seed: u64) -> String {
-        format!("generate {}", arguments_of(seed).join(" "))
+        format!("generate {}", half_damaged(seed).join(" "))
     }
 
     fn compare(&self, seed: u64, file: &Path) -> io::Result<Option<String>> {
-        let trace = trace_in(file, &arguments_of(seed))?;
+        let trace = trace_in(file, &half_damaged(seed))?;
         let mut whole = Vec::new();
         replay(AfterRefusal::GoOn, trace.as_slice(), &mut whole)?;
         let lines = whole.iter().filter(|byte| **byte == b'\n').count();
         self.records.fetch_add(lines as u64, Ordering::Relaxed);
         self.bytes.fetch_add(whole.len() as u64, Ordering::Relaxed);
-        let got = self.output(&["all"], file)?;
+        let got = run_on(&self.program, &["all".to_string()], file)?;
         if let Some(difference) = difference(&whole, &got) {
             return Ok(Some(format!("with the argument all: {difference}")));
         }
 
         let mut stopped = Vec::new();
         replay(AfterRefusal::Stop, trace.as_slice(), &mut stopped)?;
-        let got = self.output(&[], file)?;
+        let got = run_on(&self.program, &[], file)?;
         Ok(difference(&stopped, &got))
     }
-}
-
-impl Soak {
-    fn output(&self, arguments: &[&str], trace: &Path) -> io::Result<Output> {
-        Command::new(&self.program)
-            .args(arguments)
-            .stdin(File::open(trace)?)
-            .output()
-    }
-}
-
-/// The arguments of `generate` for a seed: every second trace is damaged.
-fn arguments_of(seed: u64) -> Vec<String> {
-    let mut arguments = vec![seed.to_string()];
-    if seed % 2 == 0 {
-        arguments.push("--mix".to_string());
-        arguments.push("damaged".to_string());
-    }
-    arguments
 }
