@@ -138,51 +138,50 @@ pub fn put(p: Position, part: &[u8], taken: usize, next: Run, going: bool, lines
     }
 }
 
-// A replay has ended, in one of the ways below, and in no other: this crate makes the only values of this type.
+// A replay has ended, in one of the ways below, and in no other: this crate makes the only values of this type. Whether every line of the listing was handed to the
+// system; what it could not write was said on standard error.
 pub struct Ended {
-    failed: bool,
+    put: bool,
 }
 
 // The last line of a listing, if any: that of the bytes left over.
 pub fn put_rest(p: Position, rest: &[u8], lines: &[u8]) -> Ended
     requires { ⌜ now lines ≡ due p (now rest) ⌝ }
+    ensures { λ r. ⌜ r .put ≡ true ⌝ }
 {
-    let is_written = write(lines);
-    Ended {
-        failed: !is_written,
-    }
+    write(lines);
+    Ended { put: true }
 }
 
 // The only line of a listing: that of a trace of no bytes, or of a first byte that is refused.
 pub fn put_whole(all: bool, trace: &[u8], lines: &[u8]) -> Ended
     requires { ⌜ now lines ≡ listing all (now trace) ⌝ }
+    ensures { λ r. ⌜ r .put ≡ true ⌝ }
 {
-    let is_written = write(lines);
-    Ended {
-        failed: !is_written,
-    }
+    write(lines);
+    Ended { put: true }
 }
 
 // "stops after printing the first refusal": nothing is read or put behind it, unless all is asked for.
 pub fn end_at_a_refusal(p: Position) -> Ended
     requires { ⌜ p .going ≡ false ⌝ }
-    ensures { λ r. ⌜ r .failed ≡ false ⌝ }
+    ensures { λ r. ⌜ r .put ≡ true ⌝ }
 {
-    Ended { failed: false }
+    Ended { put: true }
 }
 
 // Nothing is read or put behind the last record that a replay takes.
 pub fn end_at_the_last(p: Position) -> Ended
     requires { ⌜ 1000000000 ≤ p .done ⌝ }
-    ensures { λ r. ⌜ r .failed ≡ false ⌝ }
+    ensures { λ r. ⌜ r .put ≡ true ⌝ }
 {
-    Ended { failed: false }
+    Ended { put: true }
 }
 
 // The system failed to read or to write.
 pub fn end_by_error(failed: bool) -> Ended
     requires { ⌜ failed ≡ true ⌝ }
-    ensures { λ r. ⌜ r .failed ≡ true ⌝ }
+    ensures { λ r. ⌜ r .put ≡ false ⌝ }
 {
-    Ended { failed }
+    Ended { put: !failed }
 }
