@@ -19,7 +19,7 @@ use Rattle.model.specs.declared.Kept.{Kept}
 use Rattle.model.specs.declared.Run.{Run}
 use Rattle.model.specs.Words.{entry, liveIndex, named, withDisk}
 use Rattle.model.specs.Steps.{listed, billed}
-use Rattle.model.specs.Outcomes.{pairs}
+use Rattle.whole_runs.specs.Outcomes.{pairs}
 use Rattle.rows.specs.declared.vector.Taken.{Taken}
 use Rattle.retention.specs.declared.kept.KeptRow.{KeptRow}
 use Rattle.retention.specs.Kept.{keptRow}

@@ -13,7 +13,7 @@ ghost use lib.ListN.{length, getD, set, take};
 ghost use Rattle.model.specs.Words.{entry, liveIndex, pastEnd};
 ghost use Rattle.model.specs.Sound.{sound};
 ghost use Rattle.model.specs.Steps.{listed};
-ghost use Rattle.model.specs.Outcomes.{pairs, written};
+ghost use Rattle.whole_runs.specs.Outcomes.{pairs, written};
 ghost use Rattle.plans.specs.Carried.{ownAt, countAt, unnamedBy, roseBy, unmoved, moved};
 ghost use Rattle.apply.specs.Closed.{Closed};
 

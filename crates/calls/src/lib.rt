@@ -1,5 +1,5 @@
 // The library: start, checkpoint, send, deliver, lose, line, recover and earliest. Each takes any state and any arguments, and says in its contract what it
-// returns and what it leaves of the lists that it is lent, refused or accepted: specs/Outcomes of the crate model has the definitions.
+// returns and what it leaves of the lists that it is lent, refused or accepted: specs/Outcomes of the crate whole_runs has the definitions.
 // A state that is not sound is refused first, with number 2. The rest is done by the crates steps and rollback, which ask plans what the call changes, and by the
 // crate earliest.
 use earliest::call::EarliestOutcome;
@@ -24,11 +24,11 @@ ghost use mathlib.Core.Path.{_≡_};
 ghost use mathlib.Core.List.{List};
 ghost use lib.ListN.{take};
 ghost use Rattle.model.specs.declared.Named.{Named};
-ghost use Rattle.model.specs.Outcomes.{startOutcome, checkpointOutcome, sendOutcome, deliverOutcome, loseOutcome, lineOutcome, recoverOutcome};
-ghost use Rattle.model.specs.Calls as made;
-ghost use Rattle.model.specs.WholeRuns.{LinePromise, StatePromise, EarliestPromise};
-ghost use Rattle.model.specs.Clean.{CleanPromise};
-ghost use Rattle.model.specs.Earliest.{earliestOutcome};
+ghost use Rattle.whole_runs.specs.Outcomes.{startOutcome, checkpointOutcome, sendOutcome, deliverOutcome, loseOutcome, lineOutcome, recoverOutcome};
+ghost use Rattle.whole_runs.specs.Calls as made;
+ghost use Rattle.whole_runs.specs.WholeRuns.{LinePromise, StatePromise, EarliestPromise};
+ghost use Rattle.whole_runs.specs.Clean.{CleanPromise};
+ghost use Rattle.whole_runs.specs.Earliest.{earliestOutcome};
 ghost use Rattle.earliest.specs.Copying.{copyOf, IsCopy};
 
 // A run of n processes, with the block count of each: the state in which it starts. The counts at n and above are neither judged nor stored.

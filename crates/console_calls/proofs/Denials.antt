@@ -18,8 +18,8 @@ use Rattle.model.specs.declared.RecoverAnswer.the-variants as recover-answer
 use Rattle.model.specs.Words.{blank, underWay}
 use Rattle.model.specs.Steps.{found}
 use Rattle.model.specs.Refusals.{firstOf, startRefusal}
-use Rattle.model.specs.Outcomes.{startOutcome, checkpointOutcome, sendOutcome, deliverOutcome, loseOutcome, lineOutcome, recoverOutcome}
-use Rattle.model.specs.Earliest.{earliestOutcome}
+use Rattle.whole_runs.specs.Outcomes.{startOutcome, checkpointOutcome, sendOutcome, deliverOutcome, loseOutcome, lineOutcome, recoverOutcome}
+use Rattle.whole_runs.specs.Earliest.{earliestOutcome}
 use Rattle.roles.specs.declared.Caller.{Caller}
 use Rattle.roles.specs.declared.ListAnswer.the-variants as list-answer
 use Rattle.roles.specs.declared.Operation.the-variants.{Start, Checkpoint, Send, Deliver, Lose, Recover, Line, Earliest, List as Listing, Counts}

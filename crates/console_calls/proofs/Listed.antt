@@ -17,8 +17,8 @@ use Rattle.model.specs.declared.LineAnswer.the-variants as line-answer
 use Rattle.model.specs.Words.{process}
 use Rattle.model.specs.Sound.{sound}
 use Rattle.model.specs.Refusals.{firstOf}
-use Rattle.model.specs.Outcomes.{pairs}
 use Rattle.model.specs.laws.Sound.{sound-state}
+use Rattle.whole_runs.specs.Outcomes.{pairs}
 use Rattle.plans.specs.Sized.{Sized}
 use Rattle.roles.specs.declared.Caller.{Caller}
 use Rattle.roles.specs.declared.ListAnswer.{ListAnswer}

@@ -23,8 +23,8 @@ use Rattle.model.specs.declared.LineAnswer.the-variants.{Refused, Written}
 use Rattle.model.specs.Sound.{sound}
 use Rattle.model.specs.Steps.{lineOf, member}
 use Rattle.model.specs.Refusals.{firstOf, lineRefusal}
-use Rattle.model.specs.Outcomes.{Outcome, judged, lineOutcome}
 use Rattle.model.specs.laws.Sound.{sound-state}
+use Rattle.whole_runs.specs.Outcomes.{Outcome, judged, lineOutcome}
 use Rattle.calls.proofs.Unsound.{line-unsound}
 use Rattle.roles.specs.declared.Caller.{Caller}
 use Rattle.roles.specs.Console.{entitled, shown}

@@ -29,7 +29,7 @@ ghost use mathlib.Core.Path.{_≡_};
 ghost use mathlib.Core.List.{List};
 ghost use lib.ListN.{take};
 ghost use Rattle.model.specs.declared.Named.{Named};
-ghost use Rattle.model.specs.Outcomes.{lineOutcome};
+ghost use Rattle.whole_runs.specs.Outcomes.{lineOutcome};
 ghost use Rattle.roles.specs.Console.{shown, consoleStart, consoleCheckpoint, consoleSend, consoleDeliver, consoleLose, consoleRecover, consoleLine, consoleEarliest, consoleList, consoleCounts};
 ghost use Rattle.earliest.specs.Copying.{copyOf, IsCopy};
 

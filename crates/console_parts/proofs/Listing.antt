@@ -16,7 +16,7 @@ use Rattle.laws.specs.Written.{sets-after}
 use Rattle.model.specs.declared.Checkpoint.{Checkpoint}
 use Rattle.model.specs.Words.{named, noPins}
 use Rattle.model.specs.Steps.{Deletion, listed}
-use Rattle.model.specs.Outcomes.{pairs}
+use Rattle.whole_runs.specs.Outcomes.{pairs}
 use Rattle.roles.specs.declared.Caller.{Caller}
 use Rattle.roles.specs.Console.{entitled}
 use Rattle.console_parts.specs.Parts.{listedOf, listedIn, HeldAtMost}

@@ -9,7 +9,7 @@ ghost use lib.Seq.{sets};
 ghost use Rattle.laws.specs.Choice.{pick};
 ghost use Rattle.laws.specs.Lists.{table};
 ghost use Rattle.laws.specs.Loops.{setBelow};
-ghost use Rattle.model.specs.Outcomes.{pairs};
+ghost use Rattle.whole_runs.specs.Outcomes.{pairs};
 ghost use Rattle.roles.specs.Console.{entitled};
 ghost use Rattle.console_parts.specs.Parts.{listedOf, listedIn, HeldAtMost};
 

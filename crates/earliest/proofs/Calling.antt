@@ -15,8 +15,8 @@ use Rattle.model.specs.declared.Refusal.{Refusal}
 use Rattle.model.specs.declared.Refusal.the-variants.{ListTooShort, NoSuchProcess, UnfitNamedList, NotKept, CausallyOrdered}
 use Rattle.model.specs.declared.LineAnswer.the-variants.{Refused, Written}
 use Rattle.model.specs.Sound.{sound}
-use Rattle.model.specs.Earliest.{earliestLine, someAbsent, unfit, notKept, someOrdered, earliestRefusal, earliestOutcome}
 use Rattle.model.specs.laws.Refusals.{refusal-in}
+use Rattle.whole_runs.specs.Earliest.{earliestLine, someAbsent, unfit, notKept, someOrdered, earliestRefusal, earliestOutcome}
 use Rattle.earliest.specs.declared.call.EarliestOutcome.{EarliestOutcome}
 use Rattle.earliest.specs.declared.list.Copied.{Copied}
 use Rattle.earliest.specs.Copying.{copyOf}

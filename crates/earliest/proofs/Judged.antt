@@ -21,8 +21,8 @@ use Rattle.model.specs.declared.Named.{Named}
 use Rattle.model.specs.declared.Run.{Run}
 use Rattle.model.specs.Words.{entry, pastEnd}
 use Rattle.model.specs.Sound.{sound}
-use Rattle.model.specs.Earliest.{namedVector, earliestLine, someAbsent, repeats, unfit, notKept, someOrdered}
 use Rattle.model.specs.laws.Sound.{sound-state}
+use Rattle.whole_runs.specs.Earliest.{namedVector, earliestLine, someAbsent, repeats, unfit, notKept, someOrdered}
 use Rattle.earliest.specs.declared.list.Copied.{Copied}
 use Rattle.earliest.specs.declared.search.Found.{Found}
 use Rattle.earliest.specs.Copying.{noNamed, copyOf}

@@ -24,7 +24,7 @@ use Rattle.model.specs.declared.Named.{Named}
 use Rattle.model.specs.declared.Run.{Run}
 use Rattle.model.specs.Words.{places, entry, comesBefore, zeroVector, pastEnd}
 use Rattle.model.specs.Steps.{takenEntry, takenVector}
-use Rattle.model.specs.Earliest.{namedVector, greatest, earliestLine, someOrdered}
+use Rattle.whole_runs.specs.Earliest.{namedVector, greatest, earliestLine, someOrdered}
 use Rattle.earliest.specs.Copying.{noNamed}
 use Rattle.earliest.specs.Through.{beforeSome, greatestOf}
 

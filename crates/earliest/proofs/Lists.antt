@@ -20,7 +20,7 @@ use Rattle.laws.specs.Select.{some-append, some-one}
 use Rattle.laws.specs.Tables.{take-placed}
 use Rattle.laws.specs.Tests.{some-of}
 use Rattle.model.specs.declared.Named.{Named}
-use Rattle.model.specs.Earliest.{someAbsent, repeats, unfit}
+use Rattle.whole_runs.specs.Earliest.{someAbsent, repeats, unfit}
 use Rattle.earliest.specs.declared.list.Copied.{Copied}
 use Rattle.earliest.specs.Copying.{noNamed, nothingCopied, withElement, copyTo, copyOf}
 

@@ -20,7 +20,7 @@ use Rattle.model.specs.declared.Checkpoint.{Checkpoint}
 use Rattle.model.specs.declared.Named.{Named}
 use Rattle.model.specs.declared.Run.{Run}
 use Rattle.model.specs.Words.{noCheckpoint, pastEnd, process}
-use Rattle.model.specs.Earliest.{isNamed, namedVector, notKept}
+use Rattle.whole_runs.specs.Earliest.{isNamed, namedVector, notKept}
 use Rattle.members.specs.declared.line.Latest.{Latest}
 use Rattle.members.specs.Line.{latestIs}
 use Rattle.earliest.specs.Copying.{noNamed}

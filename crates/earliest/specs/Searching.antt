@@ -9,7 +9,7 @@ use Rattle.laws.specs.Search.{allBelow}
 use Rattle.model.specs.declared.Checkpoint.{Checkpoint}
 use Rattle.model.specs.declared.Named.{Named}
 use Rattle.model.specs.Words.{places, noCheckpoint}
-use Rattle.model.specs.Earliest.{isNamed}
+use Rattle.whole_runs.specs.Earliest.{isNamed}
 use Rattle.members.specs.declared.line.Latest.{Latest}
 use Rattle.members.specs.Line.{latestIs}
 use Rattle.earliest.specs.declared.search.Found.{Found}

@@ -14,7 +14,7 @@ ghost use Prim.Native.Nat.{_<_, _≤_};
 ghost use lib.ListN.{length, take};
 ghost use Rattle.model.specs.declared.Named.{Named};
 ghost use Rattle.model.specs.Sound.{sound};
-ghost use Rattle.model.specs.Earliest.{earliestOutcome};
+ghost use Rattle.whole_runs.specs.Earliest.{earliestOutcome};
 ghost use Rattle.earliest.specs.Copying.{copyOf, IsCopy};
 ghost use Rattle.earliest.specs.Searching.{InRows, foundAll};
 

@@ -9,7 +9,7 @@ ghost use lib.Dec.{eqb, ltb};
 ghost use lib.ListN.{length, getD, set, take};
 ghost use Rattle.laws.specs.Choice.{pick};
 ghost use Rattle.laws.specs.Tests.{some-of};
-ghost use Rattle.model.specs.Earliest.{repeats};
+ghost use Rattle.whole_runs.specs.Earliest.{repeats};
 ghost use Rattle.earliest.specs.Copying.{noNamed, nothingCopied, withElement, copyOf};
 
 // What is copied out of a list: its first 16 elements, how many elements it has, and the greatest process that one of them names.

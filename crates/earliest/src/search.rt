@@ -8,7 +8,7 @@ ghost use Prim.Native.Nat.{_≤_};
 ghost use lib.ListN.{take};
 ghost use Rattle.laws.specs.Choice.{pick};
 ghost use Rattle.laws.specs.Lists.{select, lastOf};
-ghost use Rattle.model.specs.Earliest.{isNamed};
+ghost use Rattle.whole_runs.specs.Earliest.{isNamed};
 ghost use Rattle.members.specs.Line.{latestIs};
 ghost use Rattle.earliest.specs.Searching.{foundAll, InRows};
 

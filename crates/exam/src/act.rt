@@ -6,7 +6,7 @@ ghost use Prim.Native.Nat.{_≤_};
 ghost use mathlib.Core.Path.{_≡_};
 ghost use lib.ListN.{replicate, take};
 ghost use Rattle.model.specs.Words.{ones};
-ghost use Rattle.model.specs.Outcomes.{startOutcome, checkpointOutcome, sendOutcome, deliverOutcome, recoverOutcome, startReport, checkpointReport, sendReport, deliverReport, recoverReport};
+ghost use Rattle.whole_runs.specs.Outcomes.{startOutcome, checkpointOutcome, sendOutcome, deliverOutcome, recoverOutcome, startReport, checkpointReport, sendReport, deliverReport, recoverReport};
 
 // The state behind a call, and the number of its answer.
 pub struct After {

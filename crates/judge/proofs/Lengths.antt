@@ -13,7 +13,6 @@ use Rattle.model.specs.declared.Refusal.{Refusal}
 use Rattle.model.specs.Words.{ones}
 use Rattle.model.specs.Refusals.{startRefusal}
 use Rattle.model.specs.laws.Refusals.{no-rule, by-refusal}
-use Rattle.model.specs.Listing.{decimal, colon, lineFeed}
 use Rattle.listing.specs.Lines.{pairText}
 use Rattle.listing.proofs.Bounds.{twenty-digits}
 use Rattle.programs.proofs.Texts.{refused-length}
@@ -22,6 +21,7 @@ use Rattle.patterns.specs.declared.Verdict.the-variants.{Refused, Trackable, Br
 use Rattle.patterns.specs.Patterns.{Pattern, refused, whole, reading}
 use Rattle.patterns.specs.Verdicts.{countOf, RightVerdict}
 use Rattle.model.specs.declared.CheckpointIndex.{CheckpointIndex}
+use Rattle.whole_runs.specs.Listing.{decimal, colon, lineFeed}
 use Rattle.judge.specs.Text.{breaksWord, verdictText, Small}
 
 pub pair-short : (p i : ℕ) → length (pairText p i) ≤ 42

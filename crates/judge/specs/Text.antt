@@ -3,7 +3,7 @@
 use mathlib.Core.Path.{_≡_}
 use mathlib.Core.List.{List, [], _∷_, _++_}
 use Prim.Native.Nat.{ℕ, _<_}
-use Rattle.model.specs.Listing.{lineFeed}
+use Rattle.whole_runs.specs.Listing.{lineFeed}
 use Rattle.listing.specs.Lines.{pairText}
 use Rattle.programs.specs.Texts.{refusedText}
 use Rattle.patterns.specs.declared.Verdict.{Verdict}

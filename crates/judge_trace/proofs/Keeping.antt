@@ -17,10 +17,10 @@ use Rattle.laws.specs.Tests.{countBelow}
 use Rattle.laws.specs.Update.{upd, upd-same, upd-other}
 use Rattle.model.specs.declared.Event.the-variants.{Checkpoint, Send, Deliver, Lose}
 use Rattle.histories.specs.History.{stored, sent, received, Lists, checkpoints}
-use Rattle.model.specs.Survival.{added}
 use Rattle.model.specs.Refusals.{firstOf}
 use Rattle.model.specs.Words.{entry}
 use Rattle.model.specs.Steps.{advanced, takenVector}
+use Rattle.whole_runs.specs.Survival.{added}
 use Rattle.patterns.specs.Patterns.{Pattern, empty, recordRefusal, taken}
 use Rattle.patterns.proofs.Adding.{event-old, event-new}
 use Rattle.patterns.proofs.Followed.{Sent}

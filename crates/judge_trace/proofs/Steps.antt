@@ -11,7 +11,7 @@ use borrow.Author.Tests.{ltb-true, ltb-false}
 use Rattle.laws.specs.Choice.{by-bool, by-eq}
 use Rattle.laws.specs.Loops.{either}
 use Rattle.histories.specs.History.{HistoryEvent, stored, sent, received, Lists, checkpoints}
-use Rattle.model.specs.Survival.{added}
+use Rattle.whole_runs.specs.Survival.{added}
 use Rattle.histories.proofs.Places.{checkpoints-stored, checkpoints-sent, checkpoints-received}
 use Rattle.patterns.specs.Paths.{interval, StandsIn}
 use Rattle.patterns.proofs.Placing.{place-in}

@@ -19,8 +19,8 @@ use Rattle.model.specs.Words.{ones}
 use Rattle.model.specs.Sound.{isBlockCount}
 use Rattle.model.specs.Refusals.{firstOf, startRefusal}
 use Rattle.model.proofs.simulation.Accepted.{start-in}
-use Rattle.model.specs.Outcomes.{judged}
 use Rattle.model.specs.Trace.{decoded}
+use Rattle.whole_runs.specs.Outcomes.{judged}
 use Rattle.trace.specs.declared.Decoded.{Decoded}
 use Rattle.trace.specs.declared.Decoded.the-variants.{Malformed, StandsFor}
 use Rattle.trace.specs.Answers.{recordAt, eventIn, eventRead}

@@ -14,9 +14,9 @@ use Rattle.laws.specs.Tables.{getD-table}
 use Rattle.laws.specs.Update.{upd, upd-same, upd-other}
 use Rattle.model.specs.declared.Interval.{Interval}
 use Rattle.histories.specs.History.{stored, sent, received, Lists, checkpoints}
-use Rattle.model.specs.Survival.{added}
 use Rattle.model.specs.Words.{entry, below}
 use Rattle.model.specs.Steps.{advanced, takenEntry, takenVector}
+use Rattle.whole_runs.specs.Survival.{added}
 use Rattle.patterns.specs.Paths.{eventAt}
 use Rattle.patterns.proofs.Trail.{Trail, own, Right, storing, sending, receiving, receiving-right}
 use Rattle.decision.specs.Rows.{entryAt, rowOf, putRow, put-length, put-same, put-other, row-entry, row-length}

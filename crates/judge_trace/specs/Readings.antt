@@ -17,7 +17,7 @@ use Rattle.model.specs.declared.Refusal.the-variants.{NoSuchProcess, NotUnderWa
 use Rattle.model.specs.Words.{entry, ones, mostUnderWay, mostMessages, mostInterval}
 use Rattle.model.specs.Steps.{advanced, takenVector, started}
 use Rattle.model.specs.Refusals.{firstOf}
-use Rattle.model.specs.Outcomes.{judged}
+use Rattle.whole_runs.specs.Outcomes.{judged}
 use Rattle.plans.specs.declared.Verdict.{Verdict}
 use Rattle.plans.specs.declared.Verdict.the-variants as verdict
 use Rattle.plans.specs.Planned.{refusalOf, sendVerdict}

@@ -8,8 +8,8 @@ use native.Mathlib.Omega.{arith}
 use lib.Dec.{eqb}
 use lib.ListN.{length, getD, length-append}
 use Rattle.laws.specs.Choice.{by-bool}
-use Rattle.model.specs.Calls.{Reply}
-use Rattle.model.specs.Listing.{decimal, valueText, deletionsText, acceptedText, lineText}
+use Rattle.whole_runs.specs.Calls.{Reply}
+use Rattle.whole_runs.specs.Listing.{decimal, valueText, deletionsText, acceptedText, lineText}
 use Rattle.listing.specs.Lines.{longestLine}
 use Rattle.listing.proofs.Digits.{no-more, at-most}
 

@@ -10,7 +10,7 @@ use lib.ListN.{length, set, length-append, length-set}
 use lib.Seq.{sets, set-comm}
 use borrow.Author.Tests.{ltb-true, ltb-false, lt-ltb, le-ltb}
 use Rattle.laws.specs.Choice.{by-bool}
-use Rattle.model.specs.Listing.{digits, decimal}
+use Rattle.whole_runs.specs.Listing.{digits, decimal}
 
 -- One digit, and more than one.
 pub one-digit : (k n : ℕ) → n < 10 → digits (suc k) n ≡ (48 + n) ∷ []

@@ -3,9 +3,9 @@
 use mathlib.Core.Path.{_≡_, sym, _∙_, ap}
 use mathlib.Core.List.{List}
 use Prim.Native.Nat.{ℕ}
-use Rattle.model.specs.Outcomes.{Report}
-use Rattle.model.specs.Calls.{Reply}
-use Rattle.model.specs.Listing.{deletionsText, acceptedText, lineText}
+use Rattle.whole_runs.specs.Outcomes.{Report}
+use Rattle.whole_runs.specs.Calls.{Reply}
+use Rattle.whole_runs.specs.Listing.{deletionsText, acceptedText, lineText}
 use Rattle.listing.specs.declared.Summary.{Summary}
 use Rattle.listing.specs.Lines.{valueIn, replyOf}
 use Rattle.listing.specs.Said.{reportIn, Says}

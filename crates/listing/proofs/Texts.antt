@@ -7,7 +7,7 @@ use native.Mathlib.Omega.{arith}
 use lib.ListN.{length, getD, length-append}
 use lib.Seq.{length-sets}
 use Rattle.laws.specs.Written.{sets-append}
-use Rattle.model.specs.Listing.{decimal, space, colon, deletionsText}
+use Rattle.whole_runs.specs.Listing.{decimal, space, colon, deletionsText}
 use Rattle.listing.specs.Lines.{pairText}
 use Rattle.listing.specs.Printed.{Room, Printed}
 

@@ -6,9 +6,9 @@ use mathlib.Core.Option.{Option}
 use Prim.Native.Nat.{ℕ}
 use Rattle.model.specs.declared.Run.{Run}
 use Rattle.model.specs.declared.Event.{Event}
-use Rattle.model.specs.Outcomes.{Report}
-use Rattle.model.specs.Calls.{Reply}
-use Rattle.model.specs.Listing.{deletionsText, perform}
+use Rattle.whole_runs.specs.Outcomes.{Report}
+use Rattle.whole_runs.specs.Calls.{Reply}
+use Rattle.whole_runs.specs.Listing.{deletionsText, perform}
 use Rattle.listing.specs.declared.Summary.{Summary}
 use Rattle.listing.specs.Lines.{valueIn}
 

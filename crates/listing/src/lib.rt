@@ -1,10 +1,10 @@
-// A record's line of text, printed into a lent buffer. Every function that writes prints one text of the model's specs/Listing from a place
+// A record's line of text, printed into a lent buffer. Every function that writes prints one text of whole_runs's specs/Listing from a place
 // on, asks for room for that text and no more, and hands back the place behind it. proofs/Bounds says how long a line can be.
 ghost use mathlib.Core.Path.{_≡_};
 ghost use mathlib.Core.List.{[], _∷_};
 ghost use Prim.Native.Nat.{_*_, _≤_};
 ghost use lib.ListN.{length};
-ghost use Rattle.model.specs.Listing.{decimal, valueText, deletionsText, acceptedText, lineText};
+ghost use Rattle.whole_runs.specs.Listing.{decimal, valueText, deletionsText, acceptedText, lineText};
 ghost use Rattle.listing.specs.Lines.{valueIn, replyOf, pairText};
 ghost use Rattle.listing.specs.Printed.{Room, Printed};
 

@@ -4,7 +4,7 @@ use mathlib.Core.List.{List, [], _∷_}
 use Prim.Native.Nat.{ℕ, _+_}
 use lib.ListN.{length, replicate}
 use Rattle.model.specs.declared.Refusal.{Refusal}
-use Rattle.model.specs.Outcomes.{judged}
+use Rattle.whole_runs.specs.Outcomes.{judged}
 use Rattle.programs.specs.Texts.{refusedText}
 use Rattle.merges.specs.Merge.{Taken, stopped, took, takeAll, countOf, mergeRefusal, plainBytes}
 

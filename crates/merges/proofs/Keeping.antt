@@ -16,9 +16,9 @@ use Rattle.laws.specs.Truth.{never-both, and-both, or-right}
 use Rattle.model.specs.declared.Fields.{Fields}
 use Rattle.model.specs.declared.Refusal.{Refusal}
 use Rattle.model.specs.Words.{inSet}
-use Rattle.model.specs.Outcomes.{judged}
 use Rattle.model.specs.Trace.{ifZero}
 use Rattle.model.specs.laws.Refusals.{no-rule}
+use Rattle.whole_runs.specs.Outcomes.{judged}
 use Rattle.merges.specs.Halves.{HalfEvent, checkpointAt, sendTo, deliverOf, loseOf, sendBy, howMany, messageNumber, receiverOf, receiverIn, newestFirst, KeepsBoth, wasSent, sendsFirst, happensAt, SplitBy}
 use Rattle.merges.specs.Merge.{namedSender, namedCount, halfEventOf, isReady, Next, nextIs, neither, nextOfSecond, nextRecord, inHalf, recordRefusal, Taken, stopped, took, onRecord, onNext, takeFrom, MergeKeeps}
 use Rattle.merges.proofs.Lists.{number-out, turned-append, receiver-still}

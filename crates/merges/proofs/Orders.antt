@@ -17,11 +17,11 @@ use Rattle.laws.specs.Truth.{never-both, and-left, and-right, and-both}
 use Rattle.model.specs.declared.Run.{Run}
 use Rattle.model.specs.Words.{inSet, withMessages, withDisk, blank}
 use Rattle.model.specs.Steps.{withProcesses}
-use Rattle.model.specs.Outcomes.{startOutcome}
 use Rattle.model.specs.laws.Refusals.{by-refusal}
-use Rattle.model.specs.Calls.{Call, call, stateAfter}
-use Rattle.model.specs.Listing.{callOf}
-use Rattle.model.specs.Survival.{Surviving, beginning, after, survivingFrom}
+use Rattle.whole_runs.specs.Outcomes.{startOutcome}
+use Rattle.whole_runs.specs.Calls.{Call, call, stateAfter}
+use Rattle.whole_runs.specs.Listing.{callOf}
+use Rattle.whole_runs.specs.Survival.{Surviving, beginning, after, survivingFrom}
 use Rattle.nothing_more.specs.Seen.{isAccepted, allAccepted}
 use Rattle.merges.specs.Halves.{HalfEvent, checkpointAt, sendTo, deliverOf, loseOf, isSend, sendBy, howMany, messageNumber, receiverOf, receiverIn, plainEvent, callsFrom, newestFirst, happensAt, SplitBy, KeepsBoth, SameProcesses, OrdersAgree}
 use Rattle.histories.proofs.Run.{Ideal, begun}
@@ -33,10 +33,10 @@ use Rattle.model.proofs.simulation.View.{processOf, partsOf, stateOf}
 use Rattle.model.proofs.simulation.Rows.{process-same}
 use Rattle.model.proofs.simulation.Parts.{all-agree}
 use Rattle.model.proofs.simulation.SoundCalls.{deliver-run}
-use Rattle.model.proofs.whole.Reached.{Reached, exchange, refusal}
-use Rattle.model.proofs.whole.Runs.{stepped, runAfter, run-accepted}
+use Rattle.whole_runs.proofs.whole.Reached.{Reached, exchange, refusal}
+use Rattle.whole_runs.proofs.whole.Runs.{stepped, runAfter, run-accepted}
 use Rattle.nothing_more.proofs.NothingMore.{refused-in}
-use Rattle.model.proofs.WholeRuns.{start-reached, accepted-reached, calls-reached}
+use Rattle.whole_runs.proofs.WholeRuns.{start-reached, accepted-reached, calls-reached}
 
 module _ (n : ℕ) (counts : List ℕ) (to : ℕ → ℕ → ℕ) (records : ℕ → List HalfEvent) where
   -- One accepted record.

@@ -18,15 +18,15 @@ use Rattle.model.specs.declared.Run.{Run}
 use Rattle.model.specs.declared.Event.{Event}
 use Rattle.model.specs.Words.{places}
 use Rattle.model.specs.laws.Refusals.{no-rule, number-range}
-use Rattle.model.specs.Calls.{Call, call, stateAfter}
 use Rattle.model.specs.Trace.{decoded, fieldsOf, fits, wordOf, bytesOf, encoded}
-use Rattle.model.specs.Listing.{callOf, perform, stateAfterRecords}
+use Rattle.whole_runs.specs.Calls.{Call, call, stateAfter}
+use Rattle.whole_runs.specs.Listing.{callOf, perform, stateAfterRecords}
 use Rattle.merges.specs.Halves.{HalfEvent, checkpointAt, sendTo, deliverOf, loseOf, isSend, howMany, isSendNumber, messageNumber, plainEvent, callsFrom, newestFirst}
 use Rattle.merges.specs.Merge.{halfEventOf, nextRecord, outOfRun, recordRefusal, Taken, stopped, took, takeFrom, fieldsIn, countOf, behindCount, badCount, tooMany, mergeRefusal, plainBytes, MergeOutcome, finished, mergeOutcome, mergeReport, MergeKeeps, MergeReplays, MergePromise}
-use Rattle.model.proofs.Blocks.{states-by-block, one-state}
 use Rattle.merges.proofs.Keeping.{next-out, record-out, merge-keeps}
 use Rattle.model.proofs.Records.{records-are-events}
-use Rattle.model.proofs.WholeRuns.{after-one}
+use Rattle.whole_runs.proofs.Blocks.{states-by-block, one-state}
+use Rattle.whole_runs.proofs.WholeRuns.{after-one}
 
 -- A run-wide number is at most the count of the records taken.
 sends-few : (l : List HalfEvent) → howMany isSend l ≤ length l

@@ -14,9 +14,9 @@ use Rattle.model.specs.declared.Event.{Event}
 use Rattle.model.specs.declared.Event.the-variants.{Checkpoint, Send, Deliver, Lose}
 use Rattle.model.specs.Words.{inSet}
 use Rattle.model.specs.Refusals.{startRefusal}
-use Rattle.model.specs.Outcomes.{startOutcome}
-use Rattle.model.specs.Calls.{Call, stateAfter}
-use Rattle.model.specs.Listing.{callOf}
+use Rattle.whole_runs.specs.Outcomes.{startOutcome}
+use Rattle.whole_runs.specs.Calls.{Call, stateAfter}
+use Rattle.whole_runs.specs.Listing.{callOf}
 use Rattle.nothing_more.specs.Seen.{allAccepted}
 
 -- What a record of a half stands for. "In a half, kinds 0 to 3 occur, and in deliver and lose .. the argument names a message by .. sender, then .. that

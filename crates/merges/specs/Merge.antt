@@ -16,10 +16,10 @@ use Rattle.model.specs.declared.MergeAnswer.{MergeAnswer}
 use Rattle.model.specs.declared.MergeAnswer.the-variants as merge-answer
 use Rattle.model.specs.Words.{places, inSet}
 use Rattle.model.specs.Refusals.{firstOf}
-use Rattle.model.specs.Outcomes.{judged, written, Report, refusing, accepting}
-use Rattle.model.specs.Calls.{stateAfter}
 use Rattle.model.specs.Trace.{fields, ifZero, fieldsOf, wordOf, bytesOf}
-use Rattle.model.specs.Listing.{stateAfterRecords}
+use Rattle.whole_runs.specs.Outcomes.{judged, written, Report, refusing, accepting}
+use Rattle.whole_runs.specs.Calls.{stateAfter}
+use Rattle.whole_runs.specs.Listing.{stateAfterRecords}
 use Rattle.merges.specs.Halves.{HalfEvent, checkpointAt, sendTo, deliverOf, loseOf, messageNumber, receiverOf, plainEvent, callsFrom, newestFirst, KeepsBoth, sendsFirst, happensAt, SplitBy}
 
 -- "the argument names a message by 4 bits of sender, then 21 bits of that sender's running count": 2,097,152 is 2 to the power 21.

@@ -3,12 +3,9 @@ pub mod Admitted
 pub mod Billing
 pub mod Checkpoint
 pub mod Deliver
-pub mod Earliest
-pub mod Handed
 pub mod Kept
 pub mod Lines
 pub mod Messages
-pub mod Pairs
 pub mod Parts
 pub mod Passing
 pub mod Reads

@@ -1,5 +1,6 @@
 -- Document 02, Note 1: "Taking a carried vector into a process's own now also gives the set of entries that rose, as a number of 16 bits, exact in every case".
--- What the set is, of any two vectors, whatever their lengths. proofs/Risen has the proof; specs/Answers says the same of a delivery by the history alone.
+-- What the set is, of any two vectors, whatever their lengths. proofs/Risen has the proof. The crate whole_runs says the same of a delivery by the
+-- history alone, in specs/Answers.
 -- Assumes nothing.
 use mathlib.Core.Path.{_≡_}
 use mathlib.Core.Bool.{false, not}

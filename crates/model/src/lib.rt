@@ -1,4 +1,5 @@
-// The types of the state, the answers and the events. Document 01 as definitions is in specs/, the theorems about them are in proofs/.
+// The types of the state, the answers and the events. Document 01's words and the rules of one call are definitions in specs/, the theorems about them are in
+// proofs/. What a call's outcome is, lists of calls and the surviving history stand in the crate whole_runs.
 
 // An interval's number. "An interval number is never read as a checkpoint index": the two are types of their own.
 pub struct Interval(pub u16);

@@ -17,10 +17,10 @@ use Rattle.laws.specs.Tests.{countBelow}
 use Rattle.laws.specs.Truth.{never-both, and-left}
 use Rattle.model.specs.Words as words
 use Rattle.model.specs.Words.{basic, places, mostUnderWay, mostInterval, mostBlocks}
-use Rattle.model.specs.Outcomes.{deliverAnswer, deliverOutcome, deliverReport}
 use Rattle.model.specs.declared.Named.{Named}
-use Rattle.model.specs.Calls.{Call, checkpoint, send, deliver, lose, recover, line, earliest, answered, call}
 use Rattle.model.specs.Refusals.{checkpointRefusal, sendRefusal, deliverRefusal, loseRefusal}
+use Rattle.whole_runs.specs.Outcomes.{deliverAnswer, deliverOutcome, deliverReport}
+use Rattle.whole_runs.specs.Calls.{Call, checkpoint, send, deliver, lose, recover, line, earliest, answered, call}
 use Rattle.nothing_more.specs.Seen.{Seen, took, forced, sentTo, got, forcedIn, seenOf, isRecovery}
 use Rattle.histories.proofs.Run.{Ideal, Ledger, because, checkpointed, sending, forces, delivered, lost}
 use Rattle.histories.proofs.Invariant.{Inv}
@@ -42,8 +42,8 @@ use Rattle.model.proofs.simulation.Deliver.{deliver-forces}
 use Rattle.model.proofs.simulation.SoundCalls.{checkpoint-run, send-run, deliver-run, lose-run}
 use Rattle.model.proofs.simulation.SoundLimits.{messages-count}
 use Rattle.model.proofs.simulation.Admitted.{checkpoint-admitted, send-admitted, deliver-admitted, lose-admitted, deliver-early}
-use Rattle.model.proofs.whole.Reached.{refusal}
-use Rattle.model.proofs.whole.Runs.{stepped}
+use Rattle.whole_runs.proofs.whole.Reached.{refusal}
+use Rattle.whole_runs.proofs.whole.Runs.{stepped}
 
 -- What the receipt of message m shows to its receiver.
 unfoldable receiptOf : Ideal → ℕ → List Seen

@@ -16,11 +16,11 @@ use Rattle.laws.specs.Truth.{never-both, and-left, and-right}
 use Rattle.model.specs.declared.Run.{Run}
 use Rattle.model.specs.declared.Refusal.{Refusal}
 use Rattle.model.specs.Words.{basic, forced}
-use Rattle.model.specs.Outcomes.{startOutcome}
-use Rattle.model.specs.Calls.{Call, checkpoint, send, deliver, lose, recover, line, earliest, call, stateAfter, transcript}
-use Rattle.model.specs.Survival.{Surviving, beginning, after, survivingFrom, surviving}
 use Rattle.nothing_more.specs.Seen.{seenOf, isAccepted, seen, allAccepted, isRecovery, unrecovered, NothingMoreCouldGo, SafeRule, NoRuleDeletesMore}
 use Rattle.model.specs.laws.Refusals.{by-refusal}
+use Rattle.whole_runs.specs.Outcomes.{startOutcome}
+use Rattle.whole_runs.specs.Calls.{Call, checkpoint, send, deliver, lose, recover, line, earliest, call, stateAfter, transcript}
+use Rattle.whole_runs.specs.Survival.{Surviving, beginning, after, survivingFrom, surviving}
 use Rattle.histories.proofs.Run.{Ideal, because, begun, sending, lost}
 use Rattle.histories.proofs.Invariant.{Inv}
 use Rattle.histories.proofs.Ledger.{ledger-inv}
@@ -29,12 +29,12 @@ use Rattle.histories.proofs.Local.{Local, localOf}
 use Rattle.histories.proofs.SubRun.{SubRun, knownOf, own-part, subrun-begin, checkpointed-rises, delivered-rises}
 use Rattle.model.proofs.simulation.View.{stateOf}
 use Rattle.model.proofs.simulation.SoundCalls.{deliver-run}
-use Rattle.model.proofs.whole.Accepted.{accepted-report}
-use Rattle.model.proofs.whole.Reached.{Reached, exchange, refusal, refused-reached, refused-report, refused-number}
-use Rattle.model.proofs.whole.Runs.{stepped, unlessRefused, runAfter}
+use Rattle.whole_runs.proofs.whole.Accepted.{accepted-report}
+use Rattle.whole_runs.proofs.whole.Reached.{Reached, exchange, refusal, refused-reached, refused-report, refused-number}
+use Rattle.whole_runs.proofs.whole.Runs.{stepped, unlessRefused, runAfter}
 use Rattle.nothing_more.proofs.Follow.{next}
-use Rattle.model.proofs.WholeRuns.{start-reached, accepted-reached, calls-reached}
-use Rattle.model.proofs.Best.{in-best-line}
+use Rattle.whole_runs.proofs.WholeRuns.{start-reached, accepted-reached, calls-reached}
+use Rattle.whole_runs.proofs.Best.{in-best-line}
 
 -- Whether a call is accepted, by its refusal.
 pub accepted-in : (s : Run) (c : Call) → refusal s c ≡ none → isAccepted s c ≡ true

@@ -12,10 +12,10 @@ use Rattle.model.specs.declared.Interval.{Interval}
 use Rattle.model.specs.declared.Run.{Run}
 use Rattle.model.specs.Words.{ones}
 use Rattle.model.specs.Refusals.{startRefusal}
-use Rattle.model.specs.Outcomes.{message, startOutcome}
-use Rattle.model.specs.Calls.{Call, checkpoint, send, deliver, lose, recover, line, earliest, call, transcript}
-use Rattle.model.specs.Survival.{surviving}
-use Rattle.model.specs.Best.{InBestLine}
+use Rattle.whole_runs.specs.Outcomes.{message, startOutcome}
+use Rattle.whole_runs.specs.Calls.{Call, checkpoint, send, deliver, lose, recover, line, earliest, call, transcript}
+use Rattle.whole_runs.specs.Survival.{surviving}
+use Rattle.whole_runs.specs.Best.{InBestLine}
 
 -- "this process sees the same own events and the same carried vectors, message numbers set aside": an event of a process, as it sees it.
 pub data Seen : Type 0 where

@@ -15,10 +15,10 @@ use Rattle.model.specs.declared.StartAnswer.{StartAnswer}
 use Rattle.model.specs.declared.StartAnswer.the-variants as start-answer
 use Rattle.model.specs.Words.{ones, blank}
 use Rattle.model.specs.Refusals.{startRefusal}
-use Rattle.model.specs.Outcomes.{startOutcome}
-use Rattle.model.specs.Listing.{refusalText, mostRecords, records, started, listing}
-use Rattle.model.proofs.Blocks.{past-limit}
-use Rattle.model.proofs.Traced.{traced-start}
+use Rattle.whole_runs.specs.Outcomes.{startOutcome}
+use Rattle.whole_runs.specs.Listing.{refusalText, mostRecords, records, started, listing}
+use Rattle.whole_runs.proofs.Blocks.{past-limit}
+use Rattle.whole_runs.proofs.Traced.{traced-start}
 use Rattle.listing.specs.Printed.{Printed}
 use Rattle.listing.proofs.Texts.{nothing}
 use Rattle.output.specs.Ends.{Starts, Refused}

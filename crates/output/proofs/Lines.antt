@@ -6,9 +6,9 @@ use Prim.Native.Nat.{ℕ, _≤_, _<_}
 use native.Mathlib.Omega.{arith}
 use lib.ListN.{length, getD}
 use Rattle.model.specs.declared.Refusal.{Refusal}
-use Rattle.model.specs.Outcomes.{refusing}
-use Rattle.model.specs.Listing.{lineText, refusalText}
-use Rattle.model.proofs.Sizes.{Small}
+use Rattle.whole_runs.specs.Outcomes.{refusing}
+use Rattle.whole_runs.specs.Listing.{lineText, refusalText}
+use Rattle.whole_runs.proofs.Sizes.{Small}
 use Rattle.listing.specs.declared.Summary.{Summary}
 use Rattle.listing.specs.Lines.{replyOf, longestLine}
 use Rattle.listing.specs.Said.{reportIn}

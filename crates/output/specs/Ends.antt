@@ -7,8 +7,8 @@ use Prim.Native.Nat.{ℕ}
 use Rattle.model.specs.declared.Run.{Run}
 use Rattle.model.specs.Words.{ones, blank}
 use Rattle.model.specs.Steps.{startState}
-use Rattle.model.specs.Listing.{records, listing}
-use Rattle.model.specs.WholeRuns.{Traced}
+use Rattle.whole_runs.specs.Listing.{records, listing}
+use Rattle.whole_runs.specs.WholeRuns.{Traced}
 use Rattle.listing.specs.Printed.{Printed}
 
 -- A run that starts prints nothing for its first byte; its state is that of the start with block counts of 1, and what the whole trace prints is what its

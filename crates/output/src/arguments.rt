@@ -1,6 +1,6 @@
 // The words that the program is started with.
 ghost use mathlib.Core.Path.{_≡_};
-ghost use Rattle.model.specs.Listing.{asksForAll};
+ghost use Rattle.whole_runs.specs.Listing.{asksForAll};
 
 // Whether they ask for all, in which way a replay goes on behind a refusal: "Any other argument, or more than one, counts as none." `words` is how many they are,
 // the program's own name the first of them; `argument` is the word behind that.

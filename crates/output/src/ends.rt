@@ -8,7 +8,7 @@ ghost use mathlib.Core.List.{[]};
 ghost use Prim.Native.Nat.{_≤_, _<_};
 ghost use lib.ListN.{length};
 ghost use Rattle.model.specs.declared.Run as model-run;
-ghost use Rattle.model.specs.Listing.{records, listing};
+ghost use Rattle.whole_runs.specs.Listing.{records, listing};
 ghost use Rattle.listing.specs.Lines.{longestLine};
 ghost use Rattle.listing.specs.Printed.{Printed};
 ghost use Rattle.output.specs.Ends.{Begins};

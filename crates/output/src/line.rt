@@ -5,10 +5,10 @@ use model::Refusal;
 ghost use mathlib.Core.Path.{_≡_};
 ghost use Prim.Native.Nat.{_+_, _*_, _≤_};
 ghost use lib.ListN.{length};
-ghost use Rattle.model.specs.Listing.{lineText, refusalText, goesOn};
+ghost use Rattle.whole_runs.specs.Listing.{lineText, refusalText, goesOn};
 ghost use Rattle.listing.specs.Lines.{replyOf, longestLine};
 ghost use Rattle.listing.specs.Printed.{Printed};
-ghost use Rattle.model.proofs.Sizes.{Small};
+ghost use Rattle.whole_runs.proofs.Sizes.{Small};
 ghost use Rattle.listing.specs.Said.{reportIn};
 
 // A line whose numbers are small.

@@ -11,7 +11,7 @@ use model::SendAnswer;
 use model::StartAnswer;
 ghost use mathlib.Core.Path.{_≡_};
 ghost use Rattle.model.specs.Refusals.{number};
-ghost use Rattle.model.specs.Outcomes.{refusing, startReport, checkpointReport, sendReport, deliverReport, loseReport, lineReport, recoverReport};
+ghost use Rattle.whole_runs.specs.Outcomes.{refusing, startReport, checkpointReport, sendReport, deliverReport, loseReport, lineReport, recoverReport};
 ghost use Rattle.listing.specs.Said.{reportIn};
 
 pub fn number_of(r: Refusal) -> u8

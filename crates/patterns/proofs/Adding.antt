@@ -10,7 +10,7 @@ use lib.ListN.{length}
 use Rattle.laws.specs.Choice.{by-eq}
 use Rattle.laws.specs.Update.{upd-same, upd-other}
 use Rattle.histories.specs.History.{HistoryEvent, stored, sent, received, Lists, checkpoints}
-use Rattle.model.specs.Survival.{added}
+use Rattle.whole_runs.specs.Survival.{added}
 use Rattle.patterns.specs.Paths.{eventAt, interval, placeOf}
 
 nothing : {A : Type 0} {x : A} → none ≡ some x → ⊥

@@ -8,8 +8,8 @@ use native.Mathlib.Omega.{arith}
 use lib.ListN.{length, length-append}
 use borrow.Author.Tests.{lt-ltb, le-ltb}
 use Rattle.model.specs.declared.Refusal.{Refusal}
-use Rattle.model.specs.Outcomes.{judged}
 use Rattle.model.specs.Trace.{decoded}
+use Rattle.whole_runs.specs.Outcomes.{judged}
 use Rattle.patterns.specs.declared.Verdict.the-variants.{Refused, Trackable, Breaks}
 use Rattle.patterns.specs.Patterns.{Pattern, empty, recordRefusal, taken, Reading, refused, whole, mostJudged, readFrom, reading}
 use Rattle.patterns.specs.Verdicts.{countOf, RightVerdict, FirstRefusalEnds, LongTracesEnd}

@@ -14,10 +14,10 @@ use Rattle.model.specs.declared.Event.{Event}
 use Rattle.model.specs.declared.Event.the-variants.{Checkpoint, Send, Deliver, Lose, Recover}
 use Rattle.model.specs.declared.Refusal.{Refusal}
 use Rattle.histories.specs.History.{HistoryEvent, stored, sent, received, Lists}
-use Rattle.model.specs.Survival.{added}
 use Rattle.model.specs.Refusals.{firstOf}
-use Rattle.model.specs.Outcomes.{judged}
 use Rattle.model.specs.Trace.{decoded}
+use Rattle.whole_runs.specs.Survival.{added}
+use Rattle.whole_runs.specs.Outcomes.{judged}
 use Rattle.patterns.specs.Patterns.{Pattern, empty, recordRefusal, taken, Reading, refused, whole, readFrom}
 use Rattle.patterns.specs.Paths.{eventAt}
 use Rattle.patterns.proofs.Trail.{Trail, Right, storing, storing-right, sending, sending-right, receiving, receiving-right}

@@ -13,17 +13,17 @@ use Rattle.model.specs.declared.Interval.{Interval}
 use Rattle.model.specs.declared.Run.{Run}
 use Rattle.model.specs.Words.{places, entry, comesBefore, process}
 use Rattle.histories.specs.History.{Lists, checkpoints}
-use Rattle.model.specs.Outcomes.{startOutcome}
-use Rattle.model.specs.Calls.{stateAfter, transcript}
-use Rattle.model.specs.Survival.{Surviving, surviving}
+use Rattle.whole_runs.specs.Outcomes.{startOutcome}
+use Rattle.whole_runs.specs.Calls.{stateAfter, transcript}
+use Rattle.whole_runs.specs.Survival.{Surviving, surviving}
 use Rattle.histories.proofs.Invariant.{Inv}
 use Rattle.model.proofs.simulation.View.{passing, checkpointOf, keptOf, processOf, stateOf}
 use Rattle.model.proofs.simulation.Reads.{entry-is, process-is}
-use Rattle.model.proofs.whole.Reached.{Reached}
+use Rattle.whole_runs.proofs.whole.Reached.{Reached}
 use Rattle.histories.proofs.Run.{Ideal, begun, keeps}
 use Rattle.histories.proofs.Sources.{Sources}
-use Rattle.model.proofs.whole.Runs.{runAfter}
-use Rattle.model.proofs.WholeRuns.{reachable-reached}
+use Rattle.whole_runs.proofs.whole.Runs.{runAfter}
+use Rattle.whole_runs.proofs.WholeRuns.{reachable-reached}
 use Rattle.patterns.specs.Paths.{Before, Trackable}
 use Rattle.patterns.specs.Histories.{AllUseful, Exact, EntriesAreRight, HistoriesAreTrackable}
 use Rattle.patterns.proofs.Surviving.{run-trackable, entry-before, before-entry}

@@ -9,9 +9,9 @@ use Rattle.model.specs.declared.Run.{Run}
 use Rattle.model.specs.Words.{entry, process}
 use Rattle.histories.specs.History.{Lists, checkpoints}
 use Rattle.model.specs.Refusals.{startRefusal}
-use Rattle.model.specs.Outcomes.{startOutcome}
-use Rattle.model.specs.Calls.{Call, stateAfter, transcript}
-use Rattle.model.specs.Survival.{Surviving, surviving}
+use Rattle.whole_runs.specs.Outcomes.{startOutcome}
+use Rattle.whole_runs.specs.Calls.{Call, stateAfter, transcript}
+use Rattle.whole_runs.specs.Survival.{Surviving, surviving}
 use Rattle.patterns.specs.Paths.{Zigzag, Before, Trackable}
 
 -- Source document 001: a checkpoint that a zigzag path connects to itself is useless, no consistent line has it. Here there is none.

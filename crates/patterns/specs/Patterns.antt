@@ -17,9 +17,9 @@ use Rattle.model.specs.declared.Refusal.the-variants.{NoSuchProcess, SenderIsRe
 use Rattle.model.specs.Words.{mostUnderWay, mostMessages, mostInterval, ones}
 use Rattle.histories.specs.History.{stored, sent, received, Lists, checkpoints}
 use Rattle.model.specs.Refusals.{firstOf, startRefusal}
-use Rattle.model.specs.Outcomes.{judged}
-use Rattle.model.specs.Survival.{added}
 use Rattle.model.specs.Trace.{decoded}
+use Rattle.whole_runs.specs.Outcomes.{judged}
+use Rattle.whole_runs.specs.Survival.{added}
 
 -- The pattern (001: the checkpoint and communication pattern) of what is read so far: a list of events for each process; how many messages were sent; the
 -- receiver that each send named; which messages are under way.

@@ -26,8 +26,8 @@ use Rattle.model.specs.Words.{mostBlocks, blockCount, process, own}
 use Rattle.model.specs.Steps.{checkpointDeletions, found, newer, forces, deliverState, deliverRisen, deliverDeletions, loseState}
 use Rattle.model.specs.Sound.{sound}
 use Rattle.model.specs.Refusals.{firstOf, checkpointRefusal, sendRefusal, forcesPast, forcesOver, deliverRefusal, loseRefusal, noMember, outside, lineRefusal, recoverRefusal}
-use Rattle.model.specs.Outcomes.{judged, checkpointOutcome, sendOutcome, message, deliverOutcome, loseOutcome}
 use Rattle.model.specs.laws.Refusals.{refusal-in}
+use Rattle.whole_runs.specs.Outcomes.{judged, checkpointOutcome, sendOutcome, message, deliverOutcome, loseOutcome}
 use Rattle.model.proofs.Risen.{risen-is-exact}
 use Rattle.retention.specs.Receipt.{vectorFirst, takenThen}
 use Rattle.plans.specs.declared.Lookup.{Lookup}

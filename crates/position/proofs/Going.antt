@@ -9,9 +9,9 @@ use lib.ListN.{length, take, drop, length-append, length-drop}
 use lib.Seq.{sets, sets-eq, length-take-le, take-append-le, drop-append-le, take-add, drop-drop, take-at, drop-at, take-nil, drop-nil}
 use Rattle.laws.specs.Choice.{pick}
 use Rattle.model.specs.declared.Run.{Run}
-use Rattle.model.specs.Listing.{mostRecords, records, goesOnBehind, stateAfterRecords}
-use Rattle.model.specs.WholeRuns.{Traced}
-use Rattle.model.proofs.Blocks.{states-by-block}
+use Rattle.whole_runs.specs.Listing.{mostRecords, records, goesOnBehind, stateAfterRecords}
+use Rattle.whole_runs.specs.WholeRuns.{Traced}
+use Rattle.whole_runs.proofs.Blocks.{states-by-block}
 use Rattle.position.specs.declared.Position.{Position}
 use Rattle.position.specs.Positions.{filled, due, passed, bytesHeld, Behind, Stands, Fills, Passes, Finished, ReplaysHeld}
 

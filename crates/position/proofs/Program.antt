@@ -10,8 +10,8 @@ use lib.Seq.{length-take-le}
 use Rattle.laws.specs.Choice.{pick, pick-same}
 use Rattle.model.specs.Words.{ones}
 use Rattle.model.specs.Refusals.{startRefusal}
-use Rattle.model.specs.Listing.{mostRecords, records, started, listing}
-use Rattle.model.proofs.Blocks.{past-limit, block-by-block}
+use Rattle.whole_runs.specs.Listing.{mostRecords, records, started, listing}
+use Rattle.whole_runs.proofs.Blocks.{past-limit, block-by-block}
 use Rattle.position.specs.declared.Position.{Position}
 use Rattle.position.specs.Positions.{beginning, filled, due, passed}
 use Rattle.position.specs.Program.{Step, reads, puts, allRead, Fitting, allPut, standing, holding, PrintsTheListing}

@@ -9,8 +9,8 @@ use Rattle.laws.specs.Choice.{pick}
 use Rattle.model.specs.declared.Run.{Run}
 use Rattle.model.specs.Words.{ones}
 use Rattle.model.specs.Steps.{startState}
-use Rattle.model.specs.Listing.{mostRecords, records, goesOnBehind, stateAfterRecords}
-use Rattle.model.specs.WholeRuns.{Traced}
+use Rattle.whole_runs.specs.Listing.{mostRecords, records, goesOnBehind, stateAfterRecords}
+use Rattle.whole_runs.specs.WholeRuns.{Traced}
 use Rattle.position.specs.declared.Position.{Position}
 
 -- Before the first record of a trace whose first byte is n, to be replayed to its end (`all`) or to the first refusal.

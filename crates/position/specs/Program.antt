@@ -9,7 +9,7 @@ use lib.ListN.{length, take, drop}
 use Rattle.model.specs.declared.Refusal.{Refusal}
 use Rattle.model.specs.Words.{ones}
 use Rattle.model.specs.Refusals.{startRefusal}
-use Rattle.model.specs.Listing.{mostRecords, listing}
+use Rattle.whole_runs.specs.Listing.{mostRecords, listing}
 use Rattle.position.specs.declared.Position.{Position}
 use Rattle.position.specs.Positions.{beginning, filled, due, passed}
 

@@ -10,7 +10,7 @@ ghost use Prim.Native.Nat.{_+_, _*_, _≤_, _<_};
 ghost use lib.ListN.{length};
 ghost use Rattle.model.specs.Words.{ones};
 ghost use Rattle.model.specs.Steps.{startState};
-ghost use Rattle.model.specs.Listing.{goesOnBehind, stateAfterRecords, listing};
+ghost use Rattle.whole_runs.specs.Listing.{goesOnBehind, stateAfterRecords, listing};
 ghost use Rattle.position.specs.Positions.{beginning, due, passed, Fills};
 
 // Whether all is asked for; the state after the records that were taken, how many they are, and how many bytes are held behind them: they were read, and belong to no

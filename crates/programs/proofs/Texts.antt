@@ -11,7 +11,7 @@ use Rattle.laws.specs.Prefixes.{take-more}
 use Rattle.laws.specs.Written.{sets-after}
 use Rattle.model.specs.declared.Refusal.{Refusal}
 use Rattle.model.specs.Refusals.{number}
-use Rattle.model.specs.Listing.{decimal, lineFeed}
+use Rattle.whole_runs.specs.Listing.{decimal, lineFeed}
 use Rattle.listing.specs.Printed.{Printed}
 use Rattle.listing.proofs.Bounds.{twenty-digits}
 use Rattle.programs.specs.Texts.{figureText, refusedName, refusedText, longestRefusal}

@@ -4,7 +4,7 @@ use mathlib.Core.List.{List, [], _∷_, _++_}
 use Prim.Native.Nat.{ℕ}
 use Rattle.model.specs.declared.Refusal.{Refusal}
 use Rattle.model.specs.Refusals.{number}
-use Rattle.model.specs.Listing.{decimal, space, lineFeed}
+use Rattle.whole_runs.specs.Listing.{decimal, space, lineFeed}
 
 -- A name and its figure: one line.
 unfoldable pub figureText : List ℕ → ℕ → List ℕ

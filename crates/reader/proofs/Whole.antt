@@ -14,7 +14,7 @@ use Rattle.laws.specs.Choice.{by-bool}
 use Rattle.laws.specs.Tests.{every}
 use Rattle.model.specs.declared.Run.{Run}
 use Rattle.model.specs.Trace.{decoded}
-use Rattle.model.specs.Listing.{perform, records, stateAfterRecords}
+use Rattle.whole_runs.specs.Listing.{perform, records, stateAfterRecords}
 use Rattle.trace.specs.Answers.{recordAt}
 use Rattle.reader.specs.declared.Reader.{Reader}
 use Rattle.reader.specs.Reading.{recordAfter, recordLeft, takenAfter, newReader, readerAfter}

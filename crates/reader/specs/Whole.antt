@@ -12,7 +12,7 @@ use Rattle.laws.specs.Tests.{every}
 use Rattle.model.specs.declared.Run.{Run}
 use Rattle.model.specs.declared.Refusal.the-variants.{LeftOverBytes}
 use Rattle.model.specs.Trace.{decoded}
-use Rattle.model.specs.Listing.{perform, lineText, refusalText, mostRecords, goesOn, records, stateAfterRecords}
+use Rattle.whole_runs.specs.Listing.{perform, lineText, refusalText, mostRecords, goesOn, records, stateAfterRecords}
 use Rattle.reader.specs.declared.Reader.{Reader}
 use Rattle.reader.specs.Reading.{recordAfter, recordLeft, newReader, readerAfter}
 

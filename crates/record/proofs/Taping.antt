@@ -15,11 +15,11 @@ use Rattle.model.specs.declared.StartAnswer.the-variants.{Started}
 use Rattle.model.specs.Words.{ones}
 use Rattle.model.specs.Refusals.{recoverRefusal}
 use Rattle.model.specs.laws.Refusals.{by-refusal}
-use Rattle.model.specs.Outcomes.{recoverOutcome}
-use Rattle.model.specs.Calls.{Call}
-use Rattle.model.specs.Listing.{callOf}
-use Rattle.model.proofs.Sizes.{few-processes}
+use Rattle.whole_runs.specs.Outcomes.{recoverOutcome}
+use Rattle.whole_runs.specs.Calls.{Call}
+use Rattle.whole_runs.specs.Listing.{callOf}
 use Rattle.model.proofs.simulation.Accepted.{recover-out}
+use Rattle.whole_runs.proofs.Sizes.{few-processes}
 use Rattle.recording.specs.Recording.{Tape, unwritten, recording, recordedStart, recordedCheckpoint, recordedSend, recordedDeliver, recordedLose, recordedRecover, taped, recorded, begun, tapeAfter, entries, RecordingReplays}
 use Rattle.recording.proofs.Recording.{recording-replays}
 use Rattle.trace.specs.declared.Decoded.{Decoded}

@@ -8,8 +8,8 @@ use Rattle.model.specs.declared.Event.{Event}
 use Rattle.model.specs.declared.Run.{Run}
 use Rattle.model.specs.declared.StartAnswer.the-variants.{Started}
 use Rattle.model.specs.Words.{ones}
-use Rattle.model.specs.Calls.{Call}
-use Rattle.model.specs.Listing.{callOf}
+use Rattle.whole_runs.specs.Calls.{Call}
+use Rattle.whole_runs.specs.Listing.{callOf}
 use Rattle.recording.specs.Replay.{EventReply}
 use Rattle.recording.specs.Recording.{Tape, recordedStart, recorded, begun, tapeAfter, ReplaysTheSame}
 

@@ -16,9 +16,9 @@ use Rattle.model.specs.declared.StartAnswer.the-variants as start-answer
 use Rattle.model.specs.Words.{blank}
 use Rattle.model.specs.Refusals.{firstOf, startRefusal}
 use Rattle.model.specs.laws.Refusals.{by-refusal}
-use Rattle.model.specs.Outcomes.{startOutcome, startReport}
+use Rattle.whole_runs.specs.Outcomes.{startOutcome, startReport}
 use Rattle.model.proofs.simulation.Accepted.{start-out}
-use Rattle.model.proofs.whole.Reached.{refused-number}
+use Rattle.whole_runs.proofs.whole.Reached.{refused-number}
 use Rattle.recording.specs.Recording.{unwritten, appended, recording, recordedStart}
 use Rattle.recorder_parts.proofs.Ways.{negated, affirmed}
 

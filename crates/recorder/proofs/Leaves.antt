@@ -5,7 +5,7 @@ use mathlib.Core.List.{List}
 use Prim.Native.Nat.{ℕ, _+_}
 use lib.ListN.{length}
 use lib.Seq.{sets}
-use Rattle.model.specs.Outcomes.{Outcome}
+use Rattle.whole_runs.specs.Outcomes.{Outcome}
 use Rattle.recording.specs.Recording.{Recorded, unwritten, appended}
 
 pub record Leaves {A : Type 0} (r : Recorded A) (outcome : Outcome A) (bytes : List ℕ) (next : ℕ) : Type 0 where

@@ -18,9 +18,9 @@ use Rattle.model.specs.declared.DeliverAnswer.the-variants as deliver-answer
 use Rattle.model.specs.declared.RecoverAnswer.{RecoverAnswer}
 use Rattle.model.specs.declared.RecoverAnswer.the-variants as recover-answer
 use Rattle.model.specs.Refusals.{checkpointRefusal, deliverRefusal, recoverRefusal}
-use Rattle.model.specs.Outcomes.{judged, checkpointOutcome, checkpointReport, deliverOutcome, deliverReport, recoverOutcome, recoverReport}
-use Rattle.model.specs.Calls.{checkpoint, deliver, recover, answered, call}
-use Rattle.model.proofs.whole.Reached.{refusal}
+use Rattle.whole_runs.specs.Outcomes.{judged, checkpointOutcome, checkpointReport, deliverOutcome, deliverReport, recoverOutcome, recoverReport}
+use Rattle.whole_runs.specs.Calls.{checkpoint, deliver, recover, answered, call}
+use Rattle.whole_runs.proofs.whole.Reached.{refusal}
 use Rattle.recording.proofs.Recording.{checkpoint-scratch, deliver-scratch, recover-scratch}
 use Rattle.recorder_parts.proofs.Ways.{is-accepted, is-refused}
 

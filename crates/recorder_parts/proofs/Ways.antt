@@ -27,14 +27,14 @@ use Rattle.model.specs.declared.RecoverAnswer.the-variants as recover-answer
 use Rattle.model.specs.Trace.{fits}
 use Rattle.model.specs.Refusals.{number, checkpointRefusal, sendRefusal, deliverRefusal, loseRefusal, recoverRefusal}
 use Rattle.model.specs.laws.Refusals.{by-refusal}
-use Rattle.model.specs.Outcomes.{Outcome, judged, checkpointOutcome, checkpointReport, sendOutcome, sendReport, deliverOutcome, deliverReport, loseOutcome, loseReport, recoverOutcome, recoverReport}
-use Rattle.model.specs.Calls.{Call, checkpoint, send, deliver, lose, recover, answered, call}
+use Rattle.whole_runs.specs.Outcomes.{Outcome, judged, checkpointOutcome, checkpointReport, sendOutcome, sendReport, deliverOutcome, deliverReport, loseOutcome, loseReport, recoverOutcome, recoverReport}
+use Rattle.whole_runs.specs.Calls.{Call, checkpoint, send, deliver, lose, recover, answered, call}
 use Rattle.recording.specs.Replay.{recordBytes}
 use Rattle.recording.specs.Recording.{unwritten, appended, recording, recordedCheckpoint, recordedSend, recordedDeliver, recordedLose, recordedRecover, eventOfCall}
 use Rattle.recording.proofs.Replay.{record-of}
 use Rattle.recording.proofs.Recording.{fits-event}
-use Rattle.model.proofs.whole.Reached.{refusal, refused-number, refused-report}
-use Rattle.model.proofs.whole.Accepted.{accepted-report}
+use Rattle.whole_runs.proofs.whole.Reached.{refusal, refused-number, refused-report}
+use Rattle.whole_runs.proofs.whole.Accepted.{accepted-report}
 
 module _ {A : Type 0} (own : Option Refusal) (outcome short : Outcome A) (bytes buffer : List ℕ) (place : ℕ) where
   refused-way : (x : Refusal) → own ≡ some x → recording own outcome short bytes buffer place ≡ unwritten outcome buffer place

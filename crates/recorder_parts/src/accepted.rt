@@ -7,7 +7,7 @@ use model::SendAnswer;
 use model::StartAnswer;
 ghost use mathlib.Core.Path.{_≡_};
 ghost use lib.Dec.{eqb};
-ghost use Rattle.model.specs.Outcomes.{startReport, checkpointReport, sendReport, deliverReport, loseReport, recoverReport};
+ghost use Rattle.whole_runs.specs.Outcomes.{startReport, checkpointReport, sendReport, deliverReport, loseReport, recoverReport};
 
 pub fn start(a: StartAnswer) -> bool
     ensures { λ r. ⌜ r ≡ eqb (startReport a .refused) 0 ⌝ }

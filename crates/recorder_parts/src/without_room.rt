@@ -11,8 +11,8 @@ ghost use mathlib.Core.List.{List};
 ghost use Prim.Native.Nat.{ℕ, _≤_, min};
 ghost use lib.ListN.{length};
 ghost use Rattle.model.specs.declared.Refusal.the-variants.{BufferTooShort};
-ghost use Rattle.model.specs.Outcomes.{judged};
 ghost use Rattle.model.specs.Refusals.{checkpointRefusal, deliverRefusal, recoverRefusal};
+ghost use Rattle.whole_runs.specs.Outcomes.{judged};
 
 fn least(a: usize, b: usize) -> usize
     ensures { λ r. ⌜ (r ≡ min a b) × (r ≤ b) ⌝ }

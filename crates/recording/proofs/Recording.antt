@@ -32,12 +32,12 @@ use Rattle.model.specs.Steps.{Deletion, startState, checkpointDeletions, forces
 use Rattle.model.specs.Sound.{sound}
 use Rattle.model.specs.Refusals.{number, firstOf, startRefusal, shortDeletions, shortLine, checkpointRefusal, deliverRefusal, lineRefusal, recoverRefusal}
 use Rattle.model.specs.laws.Refusals.{by-refusal}
-use Rattle.model.specs.Outcomes.{pairs, written, startOutcome, deliverAnswer, checkpointOutcome, checkpointReport, sendReport, deliverOutcome, deliverReport, loseReport, lineOutcome, recoverOutcome, recoverReport}
-use Rattle.model.specs.Earliest.{earliestRefusal, earliestOutcome}
-use Rattle.model.specs.Calls.{Call, checkpoint, send, deliver, lose, recover, line, earliest, Reply, answered, call}
 use Rattle.model.specs.Trace.{decoded, isRecord, fits}
-use Rattle.model.specs.Survival.{Surviving, beginning}
-use Rattle.model.specs.Listing.{deletionsText, acceptedText, lineText, callOf, perform, stateAfterRecords, listing}
+use Rattle.whole_runs.specs.Outcomes.{pairs, written, startOutcome, deliverAnswer, checkpointOutcome, checkpointReport, sendReport, deliverOutcome, deliverReport, loseReport, lineOutcome, recoverOutcome, recoverReport}
+use Rattle.whole_runs.specs.Earliest.{earliestRefusal, earliestOutcome}
+use Rattle.whole_runs.specs.Calls.{Call, checkpoint, send, deliver, lose, recover, line, earliest, Reply, answered, call}
+use Rattle.whole_runs.specs.Survival.{Surviving, beginning}
+use Rattle.whole_runs.specs.Listing.{deletionsText, acceptedText, lineText, callOf, perform, stateAfterRecords, listing}
 use Rattle.recording.specs.Replay.{recordBytes, recordsOf, EventReply, repliesOf, noneRefused, linesOf}
 use Rattle.recording.specs.Recording.{unwritten, appended, recording, recordedStart, recordedCheckpoint, recordedSend, recordedDeliver, recordedLose, recordedRecover, recordedLine, recordedEarliest, Tape, taped, recorded, begun, tapeAfter, eventOfCall, entryOf, entered, entries, WritesAcceptedAlone, handed, traceOf, ReplaysTheSame, RecordingReplays}
 use Rattle.histories.proofs.Run.{Ideal, because, keeps, checkpointed, delivered, recovered, line as line-of, begun as run-begun}
@@ -50,17 +50,17 @@ use Rattle.model.proofs.simulation.Checkpoint.{checkpoint-deletions}
 use Rattle.model.proofs.simulation.Deliver.{deliver-deletions}
 use Rattle.model.proofs.simulation.Recover.{recover-deletions}
 use Rattle.model.proofs.simulation.Lines.{line-is}
-use Rattle.model.proofs.simulation.Handed.{listed-length, gather-length, room-one, gone}
-use Rattle.model.proofs.simulation.Pairs.{length-pairs}
 use Rattle.model.proofs.simulation.Accepted.{start-out, checkpoint-out, checkpoint-in, deliver-out, deliver-in, recover-out, recover-in}
 use Rattle.model.proofs.simulation.SoundCalls.{checkpoint-run, deliver-run, recover-run}
 use Rattle.model.proofs.Records.{records-are-events}
+use Rattle.whole_runs.proofs.whole.Handed.{listed-length, gather-length, room-one, gone}
+use Rattle.whole_runs.proofs.whole.Pairs.{length-pairs}
 use Rattle.recording.proofs.Replay.{fits-accepted, record-of, first-state, first-reply, lines-replayed, listing-started}
-use Rattle.model.proofs.Sizes.{few-processes}
-use Rattle.model.proofs.whole.Because.{because-state, because-limits}
-use Rattle.model.proofs.whole.Reached.{Reached, refusal, refused-number, refused-state, refused-report}
-use Rattle.model.proofs.whole.Accepted.{accepted-report}
-use Rattle.model.proofs.WholeRuns.{started-state, start-reached, call-reached}
+use Rattle.whole_runs.proofs.Sizes.{few-processes}
+use Rattle.whole_runs.proofs.whole.Because.{because-state, because-limits}
+use Rattle.whole_runs.proofs.whole.Reached.{Reached, refusal, refused-number, refused-state, refused-report}
+use Rattle.whole_runs.proofs.whole.Accepted.{accepted-report}
+use Rattle.whole_runs.proofs.WholeRuns.{started-state, start-reached, call-reached}
 
 -- The lists of a replay are long enough for every sound state.
 room : (s : Run) → sound s ≡ true → 2 * s .count * s .count ≤ length {A = ℕ} (replicate 512 0)

@@ -24,18 +24,18 @@ use Rattle.model.specs.Steps.{startState, found}
 use Rattle.model.specs.Sound.{messageSound, sound}
 use Rattle.model.specs.laws.Sound.{sound-state, sound-message}
 use Rattle.model.specs.Refusals.{startRefusal}
-use Rattle.model.specs.Calls.{call}
 use Rattle.model.specs.Trace.{decoded, isRecord, fieldsOf, fits}
-use Rattle.model.specs.Listing.{lineText, mostRecords, callOf, perform, goesOn, records, stateAfterRecords, started, listing}
-use Rattle.model.specs.WholeRuns.{Reachable, Traced}
+use Rattle.whole_runs.specs.Calls.{call}
+use Rattle.whole_runs.specs.Listing.{lineText, mostRecords, callOf, perform, goesOn, records, stateAfterRecords, started, listing}
+use Rattle.whole_runs.specs.WholeRuns.{Reachable, Traced}
 use Rattle.recording.specs.Replay.{recordBytes, recordsOf, stateAfterEvents, EventReply, performed, repliesOf, noneRefused, paired, linesOf}
 use Rattle.model.proofs.simulation.Accepted.{checkpoint-out, send-out, lose-out, deliver-out, recover-out}
 use Rattle.model.proofs.Records.{records-are-events}
-use Rattle.model.proofs.Sizes.{few-processes, last-passes}
-use Rattle.model.proofs.Blocks.{states-by-block, one-state}
-use Rattle.model.proofs.Traced.{traced-call}
-use Rattle.model.proofs.whole.Reached.{refusal}
-use Rattle.model.proofs.whole.Accepted.{accepted-report}
+use Rattle.whole_runs.proofs.Sizes.{few-processes, last-passes}
+use Rattle.whole_runs.proofs.Blocks.{states-by-block, one-state}
+use Rattle.whole_runs.proofs.Traced.{traced-call}
+use Rattle.whole_runs.proofs.whole.Reached.{refusal}
+use Rattle.whole_runs.proofs.whole.Accepted.{accepted-report}
 
 -- The number of a message that is found is one that was used.
 all-named : (m : ℕ) (l : List Message) → every (λ y. eqb (y .number) m) (select (λ y. eqb (y .number) m) l) ≡ true

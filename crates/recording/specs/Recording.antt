@@ -33,10 +33,10 @@ use Rattle.model.specs.declared.RecoverAnswer.the-variants as recover-answer
 use Rattle.model.specs.Words.{ones, blank}
 use Rattle.model.specs.Steps.{startState}
 use Rattle.model.specs.Refusals.{startRefusal, checkpointRefusal, sendRefusal, deliverRefusal, loseRefusal, recoverRefusal}
-use Rattle.model.specs.Outcomes.{Outcome, Report, judged, startOutcome, checkpointOutcome, checkpointReport, sendOutcome, sendReport, deliverOutcome, deliverReport, loseOutcome, loseReport, lineOutcome, lineReport, recoverOutcome, recoverReport}
-use Rattle.model.specs.Earliest.{earliestOutcome}
-use Rattle.model.specs.Calls.{Call, checkpoint, send, deliver, lose, recover, line, earliest, Reply, answered}
-use Rattle.model.specs.Listing.{mostRecords, stateAfterRecords, listing}
+use Rattle.whole_runs.specs.Outcomes.{Outcome, Report, judged, startOutcome, checkpointOutcome, checkpointReport, sendOutcome, sendReport, deliverOutcome, deliverReport, loseOutcome, loseReport, lineOutcome, lineReport, recoverOutcome, recoverReport}
+use Rattle.whole_runs.specs.Earliest.{earliestOutcome}
+use Rattle.whole_runs.specs.Calls.{Call, checkpoint, send, deliver, lose, recover, line, earliest, Reply, answered}
+use Rattle.whole_runs.specs.Listing.{mostRecords, stateAfterRecords, listing}
 use Rattle.recording.specs.Replay.{recordBytes, recordsOf, EventReply, repliesOf, noneRefused, linesOf}
 
 -- What a call through the writer leaves behind: the call's outcome, the buffer, and the place that the next byte goes to.

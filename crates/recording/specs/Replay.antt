@@ -9,9 +9,9 @@ use Rattle.laws.specs.Lists.{orElse}
 use Rattle.laws.specs.Tests.{every}
 use Rattle.model.specs.declared.Run.{Run}
 use Rattle.model.specs.declared.Event.{Event}
-use Rattle.model.specs.Calls.{Reply, call}
 use Rattle.model.specs.Trace.{encoded, decoded}
-use Rattle.model.specs.Listing.{lineText, callOf, perform}
+use Rattle.whole_runs.specs.Calls.{Reply, call}
+use Rattle.whole_runs.specs.Listing.{lineText, callOf, perform}
 
 -- The record of an event that fits the fields; of another there is none, and no byte stands for it.
 unfoldable pub recordBytes : Event → List ℕ

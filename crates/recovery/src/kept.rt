@@ -12,7 +12,7 @@ ghost use Rattle.laws.specs.Lists.{select};
 ghost use Rattle.laws.specs.Tests.{some-of};
 ghost use Rattle.model.specs.Words.{names};
 ghost use Rattle.model.specs.Steps.{listed};
-ghost use Rattle.model.specs.Outcomes.{pairs};
+ghost use Rattle.whole_runs.specs.Outcomes.{pairs};
 ghost use Rattle.retention.specs.Kept.{keptRow};
 ghost use Rattle.recovery.specs.Recovery.{stays};
 

@@ -7,7 +7,7 @@ use Prim.Native.Nat.{ℕ, _≤_}
 use native.Mathlib.Omega.{arith}
 use lib.ListN.{length, getD, take}
 use Rattle.model.specs.declared.Run.{Run}
-use Rattle.model.specs.WholeRuns.{Traced}
+use Rattle.whole_runs.specs.WholeRuns.{Traced}
 use Rattle.output.specs.Ends.{Starts, Refused, Begins}
 use Rattle.position.specs.declared.Position.{Position}
 use Rattle.position.specs.Positions.{beginning}

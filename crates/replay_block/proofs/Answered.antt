@@ -24,9 +24,9 @@ use Rattle.model.specs.Words.{blockCount, process, live}
 use Rattle.model.specs.Steps.{Deletion, checkpointDeletions, deliverDeletions, found, forces}
 use Rattle.model.specs.Sound.{sound}
 use Rattle.model.specs.Refusals.{checkpointRefusal, sendRefusal, deliverRefusal, loseRefusal}
-use Rattle.model.specs.Outcomes.{Report, judged, refusing, accepting, pairs, message, checkpointOutcome, checkpointReport, sendOutcome, sendReport, deliverAnswer, deliverOutcome, deliverReport, loseOutcome, loseReport, recoverOutcome, recoverReport}
-use Rattle.model.specs.Calls.{Answered, answered, call}
-use Rattle.model.specs.Listing.{callOf, perform}
+use Rattle.whole_runs.specs.Outcomes.{Report, judged, refusing, accepting, pairs, message, checkpointOutcome, checkpointReport, sendOutcome, sendReport, deliverAnswer, deliverOutcome, deliverReport, loseOutcome, loseReport, recoverOutcome, recoverReport}
+use Rattle.whole_runs.specs.Calls.{Answered, answered, call}
+use Rattle.whole_runs.specs.Listing.{callOf, perform}
 use Rattle.model.specs.laws.Refusals.{no-rule, by-refusal}
 use Rattle.model.specs.laws.Sound.{sound-state}
 use Rattle.plans.specs.declared.Lookup.{Lookup}

@@ -23,14 +23,14 @@ use Rattle.model.specs.declared.Event.{Event}
 use Rattle.model.specs.declared.Event.the-variants.{Recover}
 use Rattle.model.specs.declared.Message.{Message}
 use Rattle.model.specs.declared.Disk.{Disk}
-use Rattle.model.specs.Calls.{Reply}
-use Rattle.model.specs.Listing.{lineText, perform, goesOn}
+use Rattle.whole_runs.specs.Calls.{Reply}
+use Rattle.whole_runs.specs.Listing.{lineText, perform, goesOn}
 use Rattle.model.specs.Trace.{decoded}
 use Rattle.model.specs.Sound.{sound}
 use Rattle.model.specs.Steps.{billed, recoverDeletions}
-use Rattle.model.specs.WholeRuns.{Traced}
+use Rattle.whole_runs.specs.WholeRuns.{Traced}
 use Rattle.model.specs.laws.Sound.{sound-state}
-use Rattle.model.proofs.Traced.{traced-reachable, traced-count}
+use Rattle.whole_runs.proofs.Traced.{traced-reachable, traced-count}
 use Rattle.listing.specs.declared.Value.the-variants.{Number}
 use Rattle.listing.specs.Said.{reportIn, Says}
 use Rattle.listing.specs.Lines.{longestLine, replyOf, valueIn}

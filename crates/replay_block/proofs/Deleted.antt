@@ -7,8 +7,8 @@ use native.Mathlib.Omega.{arith}
 use lib.ListN.{length, drop}
 use lib.Seq.{sets, sets-eq}
 use Rattle.model.specs.Steps.{Deletion}
-use Rattle.model.specs.Outcomes.{pairs}
-use Rattle.model.specs.Listing.{deletionsText, decimal, space, colon}
+use Rattle.whole_runs.specs.Outcomes.{pairs}
+use Rattle.whole_runs.specs.Listing.{deletionsText, decimal, space, colon}
 
 -- two numbers for each
 pairs-many : (ds : List Deletion) → length (pairs ds) ≡ 2 * length ds

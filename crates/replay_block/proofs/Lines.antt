@@ -9,7 +9,7 @@ use borrow.Author.Tests.{eq-eqb}
 use Rattle.model.specs.Trace.{decoded}
 use Rattle.model.specs.declared.Run.{Run}
 use Rattle.model.specs.declared.Event.{Event}
-use Rattle.model.proofs.Sizes.{Small, record-small}
+use Rattle.whole_runs.proofs.Sizes.{Small, record-small}
 use Rattle.trace.specs.Answers.{eventIn}
 use Rattle.listing.specs.declared.Summary.{Summary}
 use Rattle.listing.specs.Said.{reportIn, Performs}

@@ -8,7 +8,7 @@ use native.Mathlib.Omega.{arith}
 use lib.ListN.{length}
 use Rattle.laws.specs.Loops.{either}
 use Rattle.model.specs.declared.Run.{Run}
-use Rattle.model.specs.Listing.{mostRecords, records, goesOnBehind}
+use Rattle.whole_runs.specs.Listing.{mostRecords, records, goesOnBehind}
 use Rattle.listing.specs.Lines.{longestLine}
 use Rattle.replay_block.specs.Blocks.{Replays, Stops}
 

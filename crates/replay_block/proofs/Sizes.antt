@@ -24,11 +24,11 @@ use Rattle.model.specs.declared.Run.{Run}
 use Rattle.model.specs.Words.{places, mostUnderWay, ones, Process, zeroVector, noPins, noCheckpoint, noMessage, blank, withProcess, withMessages, withDisk}
 use Rattle.model.specs.Steps.{withProcesses}
 use Rattle.model.specs.Sound.{sound}
-use Rattle.model.specs.WholeRuns.{Traced}
-use Rattle.model.proofs.WholeRuns.{reachable-reached, reachable-sound}
-use Rattle.model.proofs.Traced.{traced-reachable}
+use Rattle.whole_runs.specs.WholeRuns.{Traced}
+use Rattle.whole_runs.proofs.WholeRuns.{reachable-reached, reachable-sound}
+use Rattle.whole_runs.proofs.Traced.{traced-reachable}
 use Rattle.histories.proofs.Run.{Ideal, begun}
-use Rattle.model.proofs.whole.Runs.{runAfter}
+use Rattle.whole_runs.proofs.whole.Runs.{runAfter}
 use Rattle.model.proofs.simulation.View.{vectorOf, pinsOf, checkpointOf, processOf, messageOf, messagesOf, diskOf, partsOf, stateOf, Limits}
 use Rattle.model.proofs.simulation.Kept.{kept-most, kept-every}
 use Rattle.model.proofs.simulation.SoundPassing.{passing-every}

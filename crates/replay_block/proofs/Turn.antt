@@ -26,11 +26,11 @@ use Rattle.model.specs.declared.Run.{Run}
 use Rattle.model.specs.Words.{liveIndex, named, blockCount, noCheckpoint, noMessage, process, underWay, withDisk}
 use Rattle.model.specs.Steps.{Deletion, listed, billed}
 use Rattle.model.specs.Sound.{sound}
-use Rattle.model.specs.Outcomes.{pairs}
-use Rattle.model.specs.Calls.{Answered}
-use Rattle.model.specs.Listing.{deletionsText, perform}
-use Rattle.model.specs.WholeRuns.{Traced}
-use Rattle.model.proofs.Traced.{traced-count}
+use Rattle.whole_runs.specs.Outcomes.{pairs}
+use Rattle.whole_runs.specs.Calls.{Answered}
+use Rattle.whole_runs.specs.Listing.{deletionsText, perform}
+use Rattle.whole_runs.specs.WholeRuns.{Traced}
+use Rattle.whole_runs.proofs.Traced.{traced-count}
 use Rattle.retention.specs.Kept.{keptRow}
 use Rattle.retention.specs.Receipt.{vectorThen, pinsThen, keptThen}
 use Rattle.plans.specs.declared.Lookup.{Lookup}

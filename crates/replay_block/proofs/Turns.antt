@@ -13,13 +13,13 @@ use borrow.Author.Tests.{leb-true, leb-false}
 use Rattle.laws.specs.Choice.{by-eq}
 use Rattle.model.specs.declared.Event.{Event}
 use Rattle.model.specs.declared.Run.{Run}
-use Rattle.model.specs.Outcomes.{Report}
-use Rattle.model.specs.Listing.{lineText, perform, mostRecords, goesOn, records, goesOnBehind, stateAfterRecords}
+use Rattle.whole_runs.specs.Outcomes.{Report}
+use Rattle.whole_runs.specs.Listing.{lineText, perform, mostRecords, goesOn, records, goesOnBehind, stateAfterRecords}
 use Rattle.model.specs.Trace.{decoded}
-use Rattle.model.specs.WholeRuns.{Traced}
-use Rattle.model.proofs.Blocks.{next-line, next-goes-on, next-state}
-use Rattle.model.proofs.Sizes.{Small}
-use Rattle.model.proofs.Traced.{traced-record}
+use Rattle.whole_runs.specs.WholeRuns.{Traced}
+use Rattle.whole_runs.proofs.Blocks.{next-line, next-goes-on, next-state}
+use Rattle.whole_runs.proofs.Sizes.{Small}
+use Rattle.whole_runs.proofs.Traced.{traced-record}
 use Rattle.trace.specs.Answers.{recordAt, eventIn}
 use Rattle.reader.specs.Reading.{recordAfter, recordLeft}
 use Rattle.listing.specs.declared.Summary.{Summary}

@@ -7,7 +7,7 @@ use mathlib.Core.Logic.{_⊎_}
 use Prim.Native.Nat.{ℕ, _+_, _*_, _≤_, _<_}
 use lib.ListN.{length, take}
 use Rattle.model.specs.declared.Run.{Run}
-use Rattle.model.specs.Listing.{mostRecords, records, goesOnBehind, stateAfterRecords}
+use Rattle.whole_runs.specs.Listing.{mostRecords, records, goesOnBehind, stateAfterRecords}
 use Rattle.listing.specs.Lines.{longestLine}
 use Rattle.listing.specs.Printed.{Printed}
 

@@ -10,7 +10,7 @@ use plans::Lookup;
 ghost use mathlib.Core.Path.{_≡_};
 ghost use Prim.Native.Nat.{_+_, _≤_};
 ghost use lib.ListN.{length, drop};
-ghost use Rattle.model.specs.WholeRuns.{Traced};
+ghost use Rattle.whole_runs.specs.WholeRuns.{Traced};
 ghost use Rattle.replay_block.specs.Blocks.{Replays, Stops};
 ghost use Rattle.replay_block.specs.Window.{numbersOf};
 

@@ -8,8 +8,8 @@ use native.Mathlib.Omega.{arith}
 use lib.ListN.{length, take, drop, length-drop}
 use lib.Seq.{length-take-le, drop-drop}
 use Rattle.model.specs.declared.Run.{Run}
-use Rattle.model.specs.Listing.{mostRecords, records, goesOnBehind, stateAfterRecords}
-use Rattle.model.specs.WholeRuns.{Traced}
+use Rattle.whole_runs.specs.Listing.{mostRecords, records, goesOnBehind, stateAfterRecords}
+use Rattle.whole_runs.specs.WholeRuns.{Traced}
 use Rattle.listing.specs.Lines.{longestLine}
 use Rattle.replay_block.specs.Blocks.{Replays, Stops}
 use Rattle.replay_block.proofs.Onward.{onward}

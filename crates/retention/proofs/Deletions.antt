@@ -12,7 +12,7 @@ use Rattle.laws.specs.Prefixes.{select-yes, select-no}
 use Rattle.laws.specs.Written.{sets-two}
 use Rattle.model.specs.declared.Checkpoint.{Checkpoint}
 use Rattle.model.specs.Steps.{listed}
-use Rattle.model.specs.Outcomes.{pairs}
+use Rattle.whole_runs.specs.Outcomes.{pairs}
 use Rattle.retention.specs.Deletions.{pairsOf}
 
 pub pairs-of-none : (p : ℕ) → pairsOf p [] ≡ []

@@ -4,7 +4,7 @@ use mathlib.Core.List.{List}
 use Prim.Native.Nat.{ℕ}
 use Rattle.model.specs.declared.Checkpoint.{Checkpoint}
 use Rattle.model.specs.Steps.{listed}
-use Rattle.model.specs.Outcomes.{pairs}
+use Rattle.whole_runs.specs.Outcomes.{pairs}
 
 -- the numbers of the pairs of these checkpoints of process p
 unfoldable pub pairsOf : ℕ → List Checkpoint → List ℕ

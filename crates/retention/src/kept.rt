@@ -9,7 +9,7 @@ ghost use lib.Seq.{sets};
 ghost use Rattle.laws.specs.Lists.{select};
 ghost use Rattle.model.specs.Words.{named};
 ghost use Rattle.model.specs.Steps.{listed};
-ghost use Rattle.model.specs.Outcomes.{pairs};
+ghost use Rattle.whole_runs.specs.Outcomes.{pairs};
 ghost use Rattle.retention.specs.Kept.{keptRow, withStored};
 
 // The checkpoints that one process keeps, ascending, and how many. The places behind them hold zero.

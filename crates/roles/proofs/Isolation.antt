@@ -24,8 +24,8 @@ use Rattle.model.specs.Steps.{Deletion, listed, found, advanced, storing, check
 use Rattle.model.specs.Sound.{sound}
 use Rattle.model.specs.Refusals.{firstOf, shortDeletions, absent, atLastInterval, pastBlocks, forcesPast, forcesOver, checkpointRefusal, deliverRefusal, loseRefusal, sendRefusal}
 use Rattle.model.specs.laws.Refusals.{by-refusal}
-use Rattle.model.specs.Outcomes.{Outcome, pairs, written, judged, checkpointOutcome, deliverAnswer, deliverOutcome, loseOutcome, sendOutcome, sendReport}
-use Rattle.model.proofs.WholeRuns.{reachable-sound}
+use Rattle.whole_runs.specs.Outcomes.{Outcome, pairs, written, judged, checkpointOutcome, deliverAnswer, deliverOutcome, loseOutcome, sendOutcome, sendReport}
+use Rattle.whole_runs.proofs.WholeRuns.{reachable-sound}
 use Rattle.roles.specs.declared.Role.the-variants.{JobOwner}
 use Rattle.roles.specs.declared.Operation.{Operation}
 use Rattle.roles.specs.declared.Operation.the-variants.{Checkpoint as Checkpointing, Send, Deliver, Lose}

@@ -24,19 +24,19 @@ use Rattle.model.specs.Steps.{Deletion, listed}
 use Rattle.model.specs.Sound.{sound}
 use Rattle.model.specs.Refusals.{firstOf}
 use Rattle.histories.specs.History.{Lists, checkpoints}
-use Rattle.model.specs.Outcomes.{pairs}
-use Rattle.model.specs.Survival.{Surviving}
-use Rattle.model.specs.Answers.{liveOf}
+use Rattle.whole_runs.specs.Outcomes.{pairs}
+use Rattle.whole_runs.specs.Survival.{Surviving}
+use Rattle.whole_runs.specs.Answers.{liveOf}
 use Rattle.histories.proofs.Run.{Ideal, keeps}
 use Rattle.histories.proofs.Invariant.{Inv}
 use Rattle.model.proofs.simulation.View.{passing, checkpointOf, keptOf, processOf, stateOf}
 use Rattle.model.proofs.simulation.Reads.{count-is, process-is}
 use Rattle.model.proofs.simulation.Kept.{kept-length, kept-most}
-use Rattle.model.proofs.simulation.Pairs.{length-pairs}
-use Rattle.model.proofs.simulation.Handed.{gather-length}
-use Rattle.model.proofs.whole.Agreement.{Agrees}
-use Rattle.model.proofs.whole.Reached.{Reached}
-use Rattle.model.proofs.WholeRuns.{reached-sound}
+use Rattle.whole_runs.proofs.whole.Pairs.{length-pairs}
+use Rattle.whole_runs.proofs.whole.Handed.{gather-length}
+use Rattle.whole_runs.proofs.whole.Agreement.{Agrees}
+use Rattle.whole_runs.proofs.whole.Reached.{Reached}
+use Rattle.whole_runs.proofs.WholeRuns.{reached-sound}
 use Rattle.roles.specs.declared.Caller.{Caller}
 use Rattle.roles.specs.declared.Operation.the-variants.{List as Listing, Counts}
 use Rattle.roles.specs.Console.{denied, entitled, listedTo, listRefusal, consoleList, keptCounts, countsRefusal, consoleCounts}

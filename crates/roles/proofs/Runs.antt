@@ -14,16 +14,16 @@ use Rattle.model.specs.declared.StartAnswer.the-variants as start-answer
 use Rattle.model.specs.declared.StartAnswer.the-variants.{Started}
 use Rattle.model.specs.Refusals.{number, startRefusal, lineRefusal}
 use Rattle.model.specs.laws.Refusals.{by-refusal}
-use Rattle.model.specs.Outcomes.{startOutcome, lineOutcome, checkpointReport, sendReport, deliverReport, loseReport, lineReport, recoverReport}
-use Rattle.model.specs.Calls.{Call, checkpoint, send, deliver, lose, recover, line, earliest, Reply, Answered, answered, call, Exchange}
-use Rattle.model.specs.Survival.{Surviving, beginning, after, survivingFrom, surviving, accepted, listsAfter, restartAfter, sendsAfter, receiverAfter, underwayAfter, keptAfter, handedOut, storedBy, causeWith, countOf, handedBlocks}
-use Rattle.model.specs.WholeRuns.{Reachable}
+use Rattle.whole_runs.specs.Outcomes.{startOutcome, lineOutcome, checkpointReport, sendReport, deliverReport, loseReport, lineReport, recoverReport}
+use Rattle.whole_runs.specs.Calls.{Call, checkpoint, send, deliver, lose, recover, line, earliest, Reply, Answered, answered, call, Exchange}
+use Rattle.whole_runs.specs.Survival.{Surviving, beginning, after, survivingFrom, surviving, accepted, listsAfter, restartAfter, sendsAfter, receiverAfter, underwayAfter, keptAfter, handedOut, storedBy, causeWith, countOf, handedBlocks}
+use Rattle.whole_runs.specs.WholeRuns.{Reachable}
 use Rattle.histories.proofs.Run.{Ideal, begun}
 use Rattle.model.proofs.simulation.View.{stateOf}
-use Rattle.model.proofs.whole.Reached.{Reached, exchange, refusal}
-use Rattle.model.proofs.whole.Runs.{stepped, unlessRefused}
-use Rattle.model.proofs.whole.BlocksRight.{reached-blocks}
-use Rattle.model.proofs.WholeRuns.{start-reached, call-reached, reached-line, reached-kept, reached-answer, reachable-start, reachable-call}
+use Rattle.whole_runs.proofs.whole.Reached.{Reached, exchange, refusal}
+use Rattle.whole_runs.proofs.whole.Runs.{stepped, unlessRefused}
+use Rattle.whole_runs.proofs.whole.BlocksRight.{reached-blocks}
+use Rattle.whole_runs.proofs.WholeRuns.{start-reached, call-reached, reached-line, reached-kept, reached-answer, reachable-start, reachable-call}
 use Rattle.roles.specs.declared.Caller.{Caller}
 use Rattle.roles.specs.declared.Operation.the-variants.{Start, Checkpoint, Send, Deliver, Lose, Recover, Line, Earliest, List as Listing, Counts}
 use Rattle.roles.specs.Console.{denied, deniedProcess, deniedMessage, consoleStart, consoleCheckpoint, consoleSend, consoleDeliver, consoleLose, consoleRecover, consoleLine, consoleEarliest, consoleList, consoleCounts, listRefusal, countsRefusal, shown}

@@ -9,7 +9,7 @@ use lib.ListN.{length, getD, List·getD-eq-default}
 use borrow.Author.Tests.{ltb-true, ltb-false}
 use Rattle.laws.specs.Choice.{by-bool, pick-same}
 use Rattle.laws.specs.Tables.{length-table, getD-table, getD-table-past, table-is}
-use Rattle.model.specs.Outcomes.{lineOutcome}
+use Rattle.whole_runs.specs.Outcomes.{lineOutcome}
 use Rattle.roles.specs.declared.Caller.{Caller}
 use Rattle.roles.specs.declared.Operation.the-variants.{Line}
 use Rattle.roles.specs.Console.{entitled, denied, shown, consoleLine}

@@ -11,8 +11,8 @@ use Rattle.model.specs.Words.{named, live, blocksOf, blockCount, blank, process
 use Rattle.model.specs.Steps.{settled, listed, gone, deletions, billed, withProcesses, checkpointZero, started, opening, startState, advanced, storing, checkpointed, checkpointState, checkpointDeletions, sentMessage, marked, sendState, found, others, newer, forces, takenEntry, takenVector, takenPin, takenPins, risen, takenIn, delivered, deliverState, deliverRisen, deliverDeletions, loseState, allowed, states, latestAllowed, member, lineOf, rolledBack, vectorAfter, notLost, ownAfter, latestPin, movedPin, pinAfter, pinsAfter, recovered, lostBy, stillUnderWay, goneAt, deletedAt, recoverState, recoverDeletions, rolledBackCount}
 use Rattle.model.specs.Sound.{countSound, ownSound, within, vectorsSound, ascending, keptSound, pinSound, pinsSound, messageSound, messagesSound, zeroFrom, unusedCheckpoint, unusedMessage, isNothing, nothingFrom, rowUnused, unusedSound, causeSound, isBlockCount, recordSound, keptBlocks, diskSound, sound}
 use Rattle.model.specs.Refusals.{number, firstOf, startRefusal, checkpointRefusal, sendRefusal, forcesPast, forcesOver, deliverRefusal, loseRefusal, noMember, lineRefusal, recoverRefusal}
-use Rattle.model.specs.Outcomes.{pairs, startOutcome, checkpointOutcome, sendOutcome, deliverAnswer, deliverOutcome, loseOutcome, lineOutcome, recoverOutcome, startReport, checkpointReport, sendReport, deliverReport, loseReport, lineReport, recoverReport}
-use Rattle.model.specs.Calls.{answered, call, stateAfter}
+use Rattle.whole_runs.specs.Outcomes.{pairs, startOutcome, checkpointOutcome, sendOutcome, deliverAnswer, deliverOutcome, loseOutcome, lineOutcome, recoverOutcome, startReport, checkpointReport, sendReport, deliverReport, loseReport, lineReport, recoverReport}
+use Rattle.whole_runs.specs.Calls.{answered, call, stateAfter}
 use Rattle.tables.specs.Exam.{optional}
 use Rattle.roles.specs.Console.{may, owns, entitledBy, entitled, entitledMessageBy, entitledMessage, denied, deniedProcess, deniedMessage, shown, listedTo, listRefusal, keptCounts, countsRefusal, listReport, consoleStart, consoleCheckpoint, consoleSend, consoleDeliver, consoleLose, consoleRecover, consoleLine, consoleEarliest, consoleList, consoleCounts}
 use Rattle.roles.specs.Runs.{consoleAnswered}

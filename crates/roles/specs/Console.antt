@@ -30,8 +30,8 @@ use Rattle.model.specs.declared.RecoverAnswer.the-variants as recover-answer
 use Rattle.model.specs.Words.{blank, process, inSet}
 use Rattle.model.specs.Steps.{Deletion, listed, found}
 use Rattle.model.specs.Refusals.{firstOf, unsound, shortDeletions, shortLine}
-use Rattle.model.specs.Outcomes.{Outcome, judged, pairs, written, Report, refusing, accepting, startOutcome, checkpointOutcome, sendOutcome, deliverOutcome, loseOutcome, lineOutcome, recoverOutcome}
-use Rattle.model.specs.Earliest.{earliestOutcome}
+use Rattle.whole_runs.specs.Outcomes.{Outcome, judged, pairs, written, Report, refusing, accepting, startOutcome, checkpointOutcome, sendOutcome, deliverOutcome, loseOutcome, lineOutcome, recoverOutcome}
+use Rattle.whole_runs.specs.Earliest.{earliestOutcome}
 use Rattle.roles.specs.declared.Role.{Role}
 use Rattle.roles.specs.declared.Role.the-variants.{Operator, JobOwner, Viewer}
 use Rattle.roles.specs.declared.Operation.{Operation}

@@ -18,7 +18,7 @@ use Rattle.model.specs.declared.LineAnswer.the-variants as line-answer
 use Rattle.model.specs.declared.RecoverAnswer.the-variants as recover-answer
 use Rattle.model.specs.Words.{blank, inSet}
 use Rattle.model.specs.Steps.{found}
-use Rattle.model.specs.Outcomes.{Outcome}
+use Rattle.whole_runs.specs.Outcomes.{Outcome}
 use Rattle.roles.specs.declared.Role.the-variants.{Operator}
 use Rattle.roles.specs.declared.Operation.{Operation}
 use Rattle.roles.specs.declared.Operation.the-variants.{Start, Checkpoint, Send, Deliver, Lose, Recover, Line, Earliest, List as Listing, Counts}

@@ -11,7 +11,7 @@ use Rattle.model.specs.declared.SendAnswer.the-variants as send-answer
 use Rattle.model.specs.declared.DeliverAnswer.the-variants as deliver-answer
 use Rattle.model.specs.Words.{process}
 use Rattle.model.specs.Steps.{found}
-use Rattle.model.specs.Outcomes.{sendReport}
+use Rattle.whole_runs.specs.Outcomes.{sendReport}
 use Rattle.roles.specs.declared.Role.the-variants.{JobOwner}
 use Rattle.roles.specs.declared.Caller.{Caller}
 use Rattle.roles.specs.Console.{owns, consoleCheckpoint, consoleSend, consoleDeliver, consoleLose, consoleList}

@@ -6,11 +6,11 @@ use mathlib.Core.List.{List, [], _∷_, _++_}
 use Prim.Native.Nat.{ℕ, _^_, _<_}
 use Rattle.model.specs.declared.Run.{Run}
 use Rattle.model.specs.declared.StartAnswer.the-variants.{Started}
-use Rattle.model.specs.Outcomes.{checkpointReport, sendReport, deliverReport, loseReport, lineReport, recoverReport}
-use Rattle.model.specs.Calls.{Call, checkpoint, send, deliver, lose, recover, line, earliest, Answered, answered, call, Exchange}
-use Rattle.model.specs.Survival.{Surviving, surviving}
-use Rattle.model.specs.Answers.{AnswerIsRight}
-use Rattle.model.specs.WholeRuns.{KeptIsRight, BlocksAreRight, LineIsRight, Reachable}
+use Rattle.whole_runs.specs.Outcomes.{checkpointReport, sendReport, deliverReport, loseReport, lineReport, recoverReport}
+use Rattle.whole_runs.specs.Calls.{Call, checkpoint, send, deliver, lose, recover, line, earliest, Answered, answered, call, Exchange}
+use Rattle.whole_runs.specs.Survival.{Surviving, surviving}
+use Rattle.whole_runs.specs.Answers.{AnswerIsRight}
+use Rattle.whole_runs.specs.WholeRuns.{KeptIsRight, BlocksAreRight, LineIsRight, Reachable}
 use Rattle.roles.specs.declared.Caller.{Caller}
 use Rattle.roles.specs.Console.{consoleStart, consoleCheckpoint, consoleSend, consoleDeliver, consoleLose, consoleRecover, consoleLine, consoleEarliest, consoleList, consoleCounts, listReport}
 

@@ -13,9 +13,9 @@ use Rattle.model.specs.declared.Run.{Run}
 use Rattle.model.specs.declared.Refusal.the-variants.{ListTooShort}
 use Rattle.model.specs.declared.StartAnswer.the-variants.{Started}
 use Rattle.model.specs.declared.LineAnswer.the-variants as line-answer
-use Rattle.model.specs.Outcomes.{lineOutcome}
-use Rattle.model.specs.Survival.{Surviving}
-use Rattle.model.specs.Answers.{liveOf, atFront}
+use Rattle.whole_runs.specs.Outcomes.{lineOutcome}
+use Rattle.whole_runs.specs.Survival.{Surviving}
+use Rattle.whole_runs.specs.Answers.{liveOf, atFront}
 use Rattle.roles.specs.declared.Operation.the-variants.{Line, List as Listing, Counts}
 use Rattle.roles.specs.declared.Caller.{Caller}
 use Rattle.roles.specs.declared.ListAnswer.the-variants as list-answer

@@ -10,8 +10,8 @@ use Rattle.laws.specs.Tests.{every, same}
 use Rattle.model.specs.declared.Run.{Run}
 use Rattle.model.specs.Words.{ones, blank}
 use Rattle.model.specs.Steps.{startState}
-use Rattle.model.specs.Outcomes.{startReport}
-use Rattle.model.specs.Calls.{Call, checkpoint, send, deliver, lose, recover, line, earliest, stateAfter}
+use Rattle.whole_runs.specs.Outcomes.{startReport}
+use Rattle.whole_runs.specs.Calls.{Call, checkpoint, send, deliver, lose, recover, line, earliest, stateAfter}
 use Rattle.tables.specs.EarliestExam.{at}
 use Rattle.tables.specs.Exam.{optional, deletionList, lineList}
 use Rattle.roles.specs.declared.Role.the-variants.{Operator, Viewer}

@@ -13,8 +13,8 @@ use Rattle.model.specs.declared.LineAnswer.the-variants.{Refused, Written}
 use Rattle.model.specs.Sound.{sound}
 use Rattle.model.specs.Steps.{lineOf}
 use Rattle.model.specs.Refusals.{shortLine, firstOf, lineRefusal}
-use Rattle.model.specs.Outcomes.{lineOutcome}
 use Rattle.model.specs.laws.Refusals.{refusal-in}
+use Rattle.whole_runs.specs.Outcomes.{lineOutcome}
 use Rattle.rollback.specs.declared.line.LineOutcome.{LineOutcome}
 
 -- The one rule of a list holds, or it does not.

@@ -19,16 +19,16 @@ use Rattle.model.specs.Words.{process}
 use Rattle.model.specs.Steps.{Deletion, listed, lineOf, goneAt, deletedAt, recoverDeletions}
 use Rattle.model.specs.Sound.{sound}
 use Rattle.model.specs.Refusals.{recoverRefusal}
-use Rattle.model.specs.Outcomes.{pairs, accepting, recoverOutcome, recoverReport}
-use Rattle.model.specs.Calls.{answered, call}
-use Rattle.model.specs.Listing.{callOf, perform}
-use Rattle.model.specs.WholeRuns.{Reachable, LinePromise}
 use Rattle.model.specs.laws.Sound.{sound-state}
+use Rattle.whole_runs.specs.Outcomes.{pairs, accepting, recoverOutcome, recoverReport}
+use Rattle.whole_runs.specs.Calls.{answered, call}
+use Rattle.whole_runs.specs.Listing.{callOf, perform}
+use Rattle.whole_runs.specs.WholeRuns.{Reachable, LinePromise}
 use Rattle.histories.proofs.Run.{begun}
-use Rattle.model.proofs.whole.Runs.{runAfter}
-use Rattle.model.proofs.WholeRuns.{reachable-reached, line-promise}
 use Rattle.model.proofs.simulation.Accepted.{start-out}
 use Rattle.model.proofs.simulation.Reads.{count-is}
+use Rattle.whole_runs.proofs.whole.Runs.{runAfter}
+use Rattle.whole_runs.proofs.WholeRuns.{reachable-reached, line-promise}
 use Rattle.plans.specs.declared.Verdict.the-variants.{Accepted}
 use Rattle.plans.specs.Planned.{recoveryVerdict}
 use Rattle.plans.proofs.Outside.{accepted-inside}

@@ -18,8 +18,8 @@ use Rattle.model.specs.declared.RecoverAnswer.the-variants.{Refused, Recovered}
 use Rattle.model.specs.Sound.{sound}
 use Rattle.model.specs.Steps.{lineOf, recoverState, recoverDeletions, rolledBackCount}
 use Rattle.model.specs.Refusals.{shortDeletions, shortLine, recoverRefusal}
-use Rattle.model.specs.Outcomes.{pairs, recoverOutcome}
 use Rattle.model.specs.laws.Refusals.{refusal-in}
+use Rattle.whole_runs.specs.Outcomes.{pairs, recoverOutcome}
 use Rattle.rollback.specs.declared.line.Members.{Members}
 use Rattle.rollback.specs.declared.recover.RecoverOutcome.{RecoverOutcome}
 use Rattle.rollback.specs.Members.{membersIn}

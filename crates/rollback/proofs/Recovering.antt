@@ -24,7 +24,7 @@ use Rattle.model.specs.declared.Checkpoint.{Checkpoint}
 use Rattle.model.specs.declared.Disk.{Disk}
 use Rattle.model.specs.Words.{noCheckpoint}
 use Rattle.model.specs.Steps.{Deletion, listed, billed}
-use Rattle.model.specs.Outcomes.{pairs}
+use Rattle.whole_runs.specs.Outcomes.{pairs}
 use Rattle.retention.specs.declared.kept.KeptRow.{KeptRow}
 use Rattle.retention.specs.Kept.{keptRow}
 use Rattle.recovery.specs.Recovery.{notLater, restoredPins, stays}

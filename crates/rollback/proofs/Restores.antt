@@ -16,7 +16,7 @@ use Rattle.model.specs.Words.{underWay}
 use Rattle.model.specs.Steps.{billed}
 use Rattle.model.specs.Sound.{sound}
 use Rattle.model.specs.laws.Sound.{sound-state}
-use Rattle.model.specs.Outcomes.{pairs}
+use Rattle.whole_runs.specs.Outcomes.{pairs}
 use Rattle.members.specs.Line.{ownRow}
 use Rattle.members.specs.Turn.{outlives}
 use Rattle.rollback.specs.declared.line.Members.{Members}

@@ -18,7 +18,7 @@ use Rattle.model.specs.declared.Run.{Run}
 use Rattle.model.specs.declared.Vectors.{Vectors}
 use Rattle.model.specs.Words.{underWay}
 use Rattle.model.specs.Steps.{Deletion, recoverState, recoverDeletions, rolledBackCount}
-use Rattle.model.specs.Outcomes.{pairs}
+use Rattle.whole_runs.specs.Outcomes.{pairs}
 use Rattle.members.specs.Line.{ownRow}
 use Rattle.members.specs.Turn.{outlives}
 use Rattle.going_back.specs.declared.Returned.{Returned}

@@ -11,7 +11,7 @@ ghost use mathlib.Core.Bool.{true, false};
 ghost use Prim.Native.Nat.{_≤_};
 ghost use lib.ListN.{take};
 ghost use Rattle.model.specs.Sound.{sound};
-ghost use Rattle.model.specs.Outcomes.{lineOutcome};
+ghost use Rattle.whole_runs.specs.Outcomes.{lineOutcome};
 ghost use Rattle.members.specs.Line.{latestBy, latestIs};
 ghost use Rattle.rollback.specs.Members.{membersOf, membersIn, OwnAtLeastOne, HeldAtMost};
 

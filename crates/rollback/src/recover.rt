@@ -17,7 +17,7 @@ ghost use Prim.Native.Nat.{_*_, _^_, _<_, _≤_};
 ghost use lib.ListN.{length};
 ghost use lib.Seq.{sets};
 ghost use Rattle.model.specs.Sound.{sound};
-ghost use Rattle.model.specs.Outcomes.{pairs, recoverOutcome};
+ghost use Rattle.whole_runs.specs.Outcomes.{pairs, recoverOutcome};
 ghost use Rattle.rollback.specs.Members.{HeldAtMost, CountsAtMost};
 ghost use Rattle.rollback.specs.After.{pinsAt, rowsOf, lossesOf};
 ghost use Rattle.rollback.specs.Restored.{restored, restoredIn, lossesIn};

@@ -2,7 +2,7 @@
 -- Assumes nothing.
 use mathlib.Core.List.{List, [], _∷_, _++_}
 use Prim.Native.Nat.{ℕ}
-use Rattle.model.specs.Listing.{decimal, space, lineFeed}
+use Rattle.whole_runs.specs.Listing.{decimal, space, lineFeed}
 use Rattle.programs.specs.Texts.{figureText, refusedText}
 use Rattle.spacing.specs.declared.TrialAnswer.{TrialAnswer}
 use Rattle.spacing.specs.declared.TrialAnswer.the-variants.{Refused, Tried}

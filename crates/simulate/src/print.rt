@@ -6,7 +6,7 @@ use spacing::TrialResult;
 ghost use mathlib.Core.List.{_∷_};
 ghost use Prim.Native.Nat.{_+_, _≤_};
 ghost use lib.ListN.{length};
-ghost use Rattle.model.specs.Listing.{decimal, space};
+ghost use Rattle.whole_runs.specs.Listing.{decimal, space};
 ghost use Rattle.listing.specs.Printed.{Printed};
 ghost use Rattle.simulate.specs.Text.{longestText, figuresText, resultText, rowText};
 

@@ -26,10 +26,10 @@ use Rattle.model.specs.Words.{basic, forced, places, mostUnderWay, mostMessages
 use Rattle.model.specs.Steps.{startState}
 use Rattle.model.specs.Sound.{isBlockCount}
 use Rattle.model.specs.Refusals.{startRefusal}
-use Rattle.model.specs.Calls.{call}
-use Rattle.model.specs.Survival.{Surviving, beginning}
 use Rattle.model.specs.Trace.{fits}
-use Rattle.model.specs.Listing.{callOf}
+use Rattle.whole_runs.specs.Calls.{call}
+use Rattle.whole_runs.specs.Survival.{Surviving, beginning}
+use Rattle.whole_runs.specs.Listing.{callOf}
 use Rattle.recording.specs.Replay.{stateAfterEvents, EventReply, performed}
 use Rattle.histories.proofs.Run.{Ideal, begin, openLedger, because, stores, checkpointed, sending, delivered, forces}
 use Rattle.histories.proofs.Counted.{delivered-ledger-forced, delivered-ledger-plain, counts-delivered}
@@ -39,9 +39,9 @@ use Rattle.model.proofs.simulation.Reads.{underway-is, underWay-is}
 use Rattle.model.proofs.simulation.SoundPassing.{passing-every}
 use Rattle.model.proofs.simulation.Accepted.{start-in}
 use Rattle.model.proofs.simulation.Admitted.{checkpoint-admitted, send-admitted, deliver-admitted}
-use Rattle.model.proofs.whole.Reached.{Reached, refusal}
-use Rattle.model.proofs.whole.Runs.{stepped as stepOf}
-use Rattle.model.proofs.WholeRuns.{started-state, start-reached, accepted-reached}
+use Rattle.whole_runs.proofs.whole.Reached.{Reached, refusal}
+use Rattle.whole_runs.proofs.whole.Runs.{stepped as stepOf}
+use Rattle.whole_runs.proofs.WholeRuns.{started-state, start-reached, accepted-reached}
 use Rattle.recording.proofs.Replay.{Accepts, none-left, one-more, fits-accepted, state-append, performed-append, accepts-append}
 use Rattle.spacing.specs.declared.Trial.{Trial}
 use Rattle.spacing.specs.Spacing.{draw, generated, drawnProcess, drawnNumber, headOf, oldestTo, chosenReceiver, sends, delivers, action, isDue, withCheckpoint, stepEvents, isDelivery, hasValue, deliveriesIn, forcedIn, stepped, trialStart, trialAfter, eventsOf}

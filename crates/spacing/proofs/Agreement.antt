@@ -14,7 +14,7 @@ use Rattle.laws.specs.Truth.{and-left, and-right}
 use Rattle.model.specs.Words.{places, ones}
 use Rattle.model.specs.Steps.{startState}
 use Rattle.model.specs.laws.Refusals.{no-rule}
-use Rattle.model.specs.Listing.{stateAfterRecords}
+use Rattle.whole_runs.specs.Listing.{stateAfterRecords}
 use Rattle.recording.proofs.Replay.{replays, lines-replayed, listing-started}
 use Rattle.spacing.specs.Spacing.{deliveriesIn, forcedIn, greatestBelow, mostKept, stepped, trialStart, trialAfter, outOfRange, trialRefusal, quotientOf, remainderOf, figures, simulated, eventsOf, traceOf, replayed, Divides, AgreesWithReplay, TrialsAgree}
 use Rattle.spacing.proofs.Accepted.{ones-start, tried}

@@ -15,13 +15,13 @@ use Rattle.model.specs.declared.Run.{Run}
 use Rattle.model.specs.declared.Event.{Event}
 use Rattle.model.specs.Words.{places, ones, process}
 use Rattle.model.specs.Steps.{startState}
-use Rattle.model.specs.WholeRuns.{Traced}
+use Rattle.whole_runs.specs.WholeRuns.{Traced}
 use Rattle.recording.specs.Replay.{EventReply, performed}
 use Rattle.model.proofs.simulation.View.{processOf}
 use Rattle.model.proofs.simulation.Reads.{count-is, process-is}
 use Rattle.model.proofs.simulation.SoundUnused.{row-is}
-use Rattle.model.proofs.WholeRuns.{started-state}
-use Rattle.model.proofs.Traced.{traced-start}
+use Rattle.whole_runs.proofs.WholeRuns.{started-state}
+use Rattle.whole_runs.proofs.Traced.{traced-start}
 use Rattle.recording.proofs.Replay.{traced-events}
 use Rattle.spacing.specs.declared.Trial.{Trial}
 use Rattle.spacing.specs.Spacing.{drawnProcess, drawnNumber, action, isDue, withCheckpoint, stepEvents, isDelivery, hasValue, deliveriesIn, forcedIn, greatestBelow, mostKept, counted, stepped, trialStart, trialAfter, eventsOf}

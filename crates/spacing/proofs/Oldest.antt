@@ -16,7 +16,7 @@ use Rattle.model.specs.declared.Message.{Message}
 use Rattle.model.specs.Words.{underWay}
 use Rattle.model.specs.Sound.{ascending}
 use Rattle.model.specs.laws.Sound.{sound-state}
-use Rattle.model.proofs.WholeRuns.{reachable-sound}
+use Rattle.whole_runs.proofs.WholeRuns.{reachable-sound}
 use Rattle.spacing.specs.Spacing.{headOf, oldestTo, OldestDelivered}
 
 some-is : {A : Type 0} (x y : A) → some x ≡ some y → x ≡ y

@@ -19,11 +19,11 @@ use Rattle.model.specs.declared.Refusal.the-variants.{TrialOutsideRange}
 use Rattle.model.specs.Words.{places, mostUnderWay, ones, process, underWay}
 use Rattle.model.specs.Steps.{startState}
 use Rattle.model.specs.Refusals.{firstOf}
-use Rattle.model.specs.Outcomes.{judged, Report, refusing, accepting}
-use Rattle.model.specs.Calls.{Reply}
 use Rattle.model.specs.Trace.{fits}
-use Rattle.model.specs.Listing.{stateAfterRecords, listing}
-use Rattle.model.specs.WholeRuns.{Reachable}
+use Rattle.whole_runs.specs.Outcomes.{judged, Report, refusing, accepting}
+use Rattle.whole_runs.specs.Calls.{Reply}
+use Rattle.whole_runs.specs.Listing.{stateAfterRecords, listing}
+use Rattle.whole_runs.specs.WholeRuns.{Reachable}
 use Rattle.recording.specs.Replay.{recordsOf, stateAfterEvents, EventReply, performed, repliesOf, noneRefused, paired, linesOf}
 use Rattle.spacing.specs.declared.Trial.{Trial}
 use Rattle.spacing.specs.declared.TrialAnswer.{TrialAnswer}

@@ -31,9 +31,9 @@ use Rattle.model.specs.Words.{pastEnd, mostUnderWay, entry, liveIndex, noMessag
 use Rattle.model.specs.Steps.{Deletion, listed, checkpointDeletions, sendState, found, forces, deliverRisen, deliverDeletions, loseState}
 use Rattle.model.specs.Sound.{sound}
 use Rattle.model.specs.Refusals.{shortDeletions, missing, checkpointRefusal, sendRefusal, deliverRefusal, loseRefusal}
-use Rattle.model.specs.Outcomes.{Outcome, judged, pairs, checkpointOutcome, sendOutcome, deliverAnswer, message, deliverOutcome, loseOutcome}
 use Rattle.model.specs.laws.Refusals.{refusal-in, no-rule}
 use Rattle.model.specs.laws.Sound.{sound-state}
+use Rattle.whole_runs.specs.Outcomes.{Outcome, judged, pairs, checkpointOutcome, sendOutcome, deliverAnswer, message, deliverOutcome, loseOutcome}
 use Rattle.rows.proofs.Blocks.{first-count}
 use Rattle.plans.specs.declared.Lookup.{Lookup}
 use Rattle.plans.specs.declared.Plan.{Plan}

@@ -18,7 +18,7 @@ use Rattle.model.specs.Words.{places, blank}
 use Rattle.model.specs.Steps.{startState}
 use Rattle.model.specs.Sound.{isBlockCount}
 use Rattle.model.specs.Refusals.{firstOf, startRefusal}
-use Rattle.model.specs.Outcomes.{Outcome, startOutcome}
+use Rattle.whole_runs.specs.Outcomes.{Outcome, startOutcome}
 use Rattle.first_state.proofs.Starting.{started-none}
 use Rattle.steps.specs.Starting.{countOf}
 

@@ -6,7 +6,7 @@ use plans::Verdict;
 ghost use mathlib.Core.Path.{_≡_};
 ghost use mathlib.Core.Bool.{true};
 ghost use Rattle.model.specs.Sound.{sound};
-ghost use Rattle.model.specs.Outcomes.{checkpointOutcome};
+ghost use Rattle.whole_runs.specs.Outcomes.{checkpointOutcome};
 
 pub struct CheckpointOutcome {
     pub run: Run,

@@ -10,7 +10,7 @@ ghost use Prim.Native.Nat.{_≤_};
 ghost use Rattle.laws.specs.Choice.{pick};
 ghost use Rattle.model.specs.Words.{liveIndex};
 ghost use Rattle.model.specs.Sound.{sound};
-ghost use Rattle.model.specs.Outcomes.{deliverOutcome};
+ghost use Rattle.whole_runs.specs.Outcomes.{deliverOutcome};
 
 // What a deliver call returns beside the lent list. `rose` is the set of the receiver's entries that rose, bit f for entry f; 0 with a refusal.
 pub struct DeliverOutcome {

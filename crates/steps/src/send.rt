@@ -5,7 +5,7 @@ use plans::Verdict;
 ghost use mathlib.Core.Path.{_≡_};
 ghost use mathlib.Core.Bool.{true};
 ghost use Rattle.model.specs.Sound.{sound};
-ghost use Rattle.model.specs.Outcomes.{judged, sendOutcome};
+ghost use Rattle.whole_runs.specs.Outcomes.{judged, sendOutcome};
 ghost use Rattle.plans.specs.Planned.{refusalOf};
 
 pub struct SendOutcome {

@@ -3,7 +3,7 @@ use model::Refusal;
 use model::Run;
 use model::StartAnswer;
 ghost use mathlib.Core.Path.{_≡_};
-ghost use Rattle.model.specs.Outcomes.{startOutcome};
+ghost use Rattle.whole_runs.specs.Outcomes.{startOutcome};
 ghost use Rattle.steps.specs.Starting.{countOf};
 
 pub struct StartOutcome {

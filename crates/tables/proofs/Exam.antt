@@ -12,11 +12,11 @@ use Rattle.model.specs.Words.{named, live, blocksOf, blockCount, blank, process
 use Rattle.model.specs.Steps.{settled, listed, gone, deletions, billed, withProcesses, checkpointZero, started, opening, startState, advanced, storing, checkpointed, checkpointState, checkpointDeletions, sentMessage, marked, sendState, found, others, newer, forces, takenEntry, takenVector, takenPin, takenPins, risen, takenIn, delivered, deliverState, deliverRisen, deliverDeletions, loseState, allowed, states, latestAllowed, member, lineOf, rolledBack, vectorAfter, notLost, ownAfter, latestPin, movedPin, pinAfter, pinsAfter, recovered, lostBy, stillUnderWay, goneAt, deletedAt, recoverState, recoverDeletions, rolledBackCount}
 use Rattle.model.specs.Sound.{countSound, ownSound, within, vectorsSound, ascending, keptSound, pinSound, pinsSound, messageSound, messagesSound, zeroFrom, unusedCheckpoint, unusedMessage, isNothing, nothingFrom, rowUnused, unusedSound, causeSound, isBlockCount, recordSound, keptBlocks, diskSound, sound}
 use Rattle.model.specs.Refusals.{number, firstOf, startRefusal, checkpointRefusal, sendRefusal, forcesPast, forcesOver, deliverRefusal, loseRefusal, noMember, lineRefusal, recoverRefusal}
-use Rattle.model.specs.Outcomes.{pairs, startOutcome, checkpointOutcome, sendOutcome, deliverAnswer, deliverOutcome, loseOutcome, lineOutcome, recoverOutcome, startReport, checkpointReport, sendReport, deliverReport, loseReport, lineReport, recoverReport}
-use Rattle.model.specs.Earliest.{isNamed, namedVector, greatest, earliestLine, someAbsent, repeats, unfit, notKept, someOrdered, earliestRefusal, earliestOutcome}
-use Rattle.model.specs.Calls.{answered, call, stateAfter, transcript}
 use Rattle.model.specs.Trace.{word, fields, ifZero, eventOf, decoded, isRecord, stands, wellFormed, fieldsOf, fits, wordOf, bytesOf, encoded}
-use Rattle.model.specs.Listing.{digits, decimal, valueText, deletionsText, acceptedText, lineText, refusalText, callOf, perform, asksForAll, goesOn, records, started as startedListing, listing}
+use Rattle.whole_runs.specs.Outcomes.{pairs, startOutcome, checkpointOutcome, sendOutcome, deliverAnswer, deliverOutcome, loseOutcome, lineOutcome, recoverOutcome, startReport, checkpointReport, sendReport, deliverReport, loseReport, lineReport, recoverReport}
+use Rattle.whole_runs.specs.Earliest.{isNamed, namedVector, greatest, earliestLine, someAbsent, repeats, unfit, notKept, someOrdered, earliestRefusal, earliestOutcome}
+use Rattle.whole_runs.specs.Calls.{answered, call, stateAfter, transcript}
+use Rattle.whole_runs.specs.Listing.{digits, decimal, valueText, deletionsText, acceptedText, lineText, refusalText, callOf, perform, asksForAll, goesOn, records, started as startedListing, listing}
 use Rattle.tables.specs.Exam.{sameRows, optional, pinNumber, answerRight, answersRight, lineRight, keptRows, blocksAre, right, traceCalls, traceAnswers, sweepCalls, sweepAnswers, exam, disksAre, disksRight, diskCalls, diskCases, disks, exampleTrace, exampleListing}
 use Rattle.tables.specs.Numbers.{startMeets, callMeets, tracePrints, stopPrints, argumentAsks, ofZeros, starts, calls, traces, stops, arguments, numbersRight}
 use Rattle.tables.specs.EarliestExam.{shownState, earliestCaseRight, earliestCases, earliestsRight}

@@ -10,7 +10,7 @@ use Rattle.model.specs.declared.Named.{Named}
 use Rattle.model.specs.declared.Run.{Run}
 use Rattle.model.specs.Words.{ones}
 use Rattle.model.specs.Steps.{startState}
-use Rattle.model.specs.Calls.{checkpoint, send, deliver, earliest, call, stateAfter}
+use Rattle.whole_runs.specs.Calls.{checkpoint, send, deliver, earliest, call, stateAfter}
 use Rattle.tables.specs.Exam.{deletionList, lineList}
 
 -- A list, the number, and the line list that was lent with 9 in each of its entries.

@@ -13,8 +13,8 @@ use Rattle.model.specs.declared.Pin.the-variants.{Nothing, At}
 use Rattle.model.specs.declared.Checkpoint.{Checkpoint}
 use Rattle.model.specs.declared.Run.{Run}
 use Rattle.model.specs.Words.{ones, entry, process}
-use Rattle.model.specs.Outcomes.{startOutcome}
-use Rattle.model.specs.Calls.{Call, checkpoint, send, deliver, recover, line, Reply, Exchange, call, stateAfter, transcript}
+use Rattle.whole_runs.specs.Outcomes.{startOutcome}
+use Rattle.whole_runs.specs.Calls.{Call, checkpoint, send, deliver, recover, line, Reply, Exchange, call, stateAfter, transcript}
 
 -- Two lists of rows are the same.
 unfoldable pub sameRows : List (List ℕ) → List (List ℕ) → Bool

@@ -15,9 +15,9 @@ use Rattle.model.specs.declared.Run.{Run}
 use Rattle.model.specs.Words.{places, mostUnderWay, initial, basic, ones, zeroVector, noPins, blank, withProcess, withMessages, withDisk}
 use Rattle.model.specs.Steps.{startState}
 use Rattle.model.specs.Sound.{zeroFrom, nothingFrom, unusedCheckpoint, unusedMessage}
-use Rattle.model.specs.Outcomes.{startOutcome, startReport}
-use Rattle.model.specs.Calls.{Call, checkpoint, send, deliver, lose, recover, line, call, stateAfter}
-use Rattle.model.specs.Listing.{asksForAll, listing}
+use Rattle.whole_runs.specs.Outcomes.{startOutcome, startReport}
+use Rattle.whole_runs.specs.Calls.{Call, checkpoint, send, deliver, lose, recover, line, call, stateAfter}
+use Rattle.whole_runs.specs.Listing.{asksForAll, listing}
 use Rattle.tables.specs.Exam.{deletionList, lineList}
 
 -- A count and block counts, and the number that a start with them meets; 0: accepted.

@@ -19,9 +19,9 @@ use Rattle.model.specs.declared.Event.the-variants.{Checkpoint, Send, Deliver}
 use Rattle.model.specs.declared.DeliverAnswer.{DeliverAnswer}
 use Rattle.model.specs.declared.DeliverAnswer.the-variants.{Refused, Received, Forced}
 use Rattle.model.specs.Words.{mostUnderWay}
-use Rattle.model.specs.Outcomes.{checkpointOutcome, sendOutcome, deliverOutcome, deliverReport}
-use Rattle.model.specs.Calls.{answered, call}
-use Rattle.model.specs.Listing.{callOf}
+use Rattle.whole_runs.specs.Outcomes.{checkpointOutcome, sendOutcome, deliverOutcome, deliverReport}
+use Rattle.whole_runs.specs.Calls.{answered, call}
+use Rattle.whole_runs.specs.Listing.{callOf}
 use Rattle.recording.specs.Replay.{stateAfterEvents, performed}
 use Rattle.spacing.specs.declared.draws.Found.{Found}
 use Rattle.spacing.specs.Found.{foundIn}

@@ -19,11 +19,11 @@ use Rattle.model.specs.Steps.{startState}
 use Rattle.model.specs.Sound.{sound}
 use Rattle.model.specs.laws.Sound.{sound-state}
 use Rattle.model.specs.laws.Refusals.{refusal-in}
-use Rattle.model.specs.Outcomes.{startOutcome}
-use Rattle.model.specs.WholeRuns.{Traced}
+use Rattle.whole_runs.specs.Outcomes.{startOutcome}
+use Rattle.whole_runs.specs.WholeRuns.{Traced}
 use Rattle.recording.specs.Replay.{stateAfterEvents}
-use Rattle.model.proofs.WholeRuns.{started-state, reachable-sound}
-use Rattle.model.proofs.Traced.{traced-reachable}
+use Rattle.whole_runs.proofs.WholeRuns.{started-state, reachable-sound}
+use Rattle.whole_runs.proofs.Traced.{traced-reachable}
 use Rattle.recording.proofs.Replay.{traced-events}
 use Rattle.spacing.specs.declared.Trial.{Trial}
 use Rattle.spacing.specs.Spacing.{draw, generated, drawnProcess, drawnNumber, action, isDue, withCheckpoint, stepEvents, greatestBelow, mostKept, counted, stepped, trialStart, trialAfter, outOfRange, trialRefusal, figures, noFigures, simulated}

@@ -1,7 +1,7 @@
--- `calls::checkpoint` meets its contract: an unsound state is refused with 2, on a sound one the step does it. Demand 3 is the model's theorem.
+-- `calls::checkpoint` meets its contract: an unsound state is refused with 2, on a sound one the step does it. Demand 3 is the theorem of `whole_runs`.
 -- Assumes nothing.
 use borrow.Author.Needs.{needs}
-use Rattle.model.proofs.WholeRuns.{checkpoint-promise}
+use Rattle.whole_runs.proofs.WholeRuns.{checkpoint-promise}
 use Rattle.calls.proofs.Unsound.{is-sound, is-unsound, checkpoint-unsound}
 use Rattle.calls.proofs.checkpoint.Statement.{statement}
 use Rattle.calls.proofs.checkpoint.Tie as tie

@@ -1,7 +1,7 @@
--- `calls::deliver` meets its contract: an unsound state is refused with 2, on a sound one the step does it. Demand 3 is the model's theorem.
+-- `calls::deliver` meets its contract: an unsound state is refused with 2, on a sound one the step does it. Demand 3 is the theorem of `whole_runs`.
 -- Assumes nothing.
 use borrow.Author.Needs.{needs}
-use Rattle.model.proofs.WholeRuns.{deliver-promise}
+use Rattle.whole_runs.proofs.WholeRuns.{deliver-promise}
 use Rattle.calls.proofs.Unsound.{is-sound, is-unsound, deliver-unsound}
 use Rattle.calls.proofs.deliver.Statement.{statement}
 use Rattle.calls.proofs.deliver.Tie as tie

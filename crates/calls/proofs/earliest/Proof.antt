@@ -1,5 +1,5 @@
 -- `calls::earliest` meets its contract: a walk of its MIR, by hand. The list is copied out, and the covered function on what was copied does the rest. Of the list a copy of
--- the reference is passed on, the line list goes for good. Note 8 is the model's theorem.
+-- the reference is passed on, the line list goes for good. Note 8 is the theorem of `whole_runs`.
 -- Assumes nothing.
 use mathlib.Core.Path.{_≡_, refl}
 use Prim.Native.Nat.{ℕ}
@@ -40,12 +40,12 @@ use denote.Triple.Table.{entered, cited}
 use denote.Triple.Walked.{says, Stays, stay-none, stay-none-slice, gave-slice, walkOf, ends-at, walked, goes-none, goes-none-slice, goes-gave-slice, walk-meets}
 use Rattle.model.specs.declared.Named.{Named}
 use Rattle.model.specs.declared.Run.{Run}
-use Rattle.model.specs.Earliest.{earliestOutcome}
-use Rattle.model.specs.WholeRuns.{EarliestPromise}
-use Rattle.model.proofs.WholeRuns.{earliest-promise}
+use Rattle.whole_runs.specs.Earliest.{earliestOutcome}
+use Rattle.whole_runs.specs.WholeRuns.{EarliestPromise}
 use Rattle.model.proofs.Named as N
 use Rattle.model.proofs.Run as R
 use Rattle.model.proofs.Run.Laws as R′
+use Rattle.whole_runs.proofs.WholeRuns.{earliest-promise}
 use Rattle.earliest.specs.declared.list.Copied.{Copied}
 use Rattle.earliest.specs.declared.call.EarliestOutcome.{EarliestOutcome}
 use Rattle.earliest.specs.Copying.{copyOf, IsCopy}

@@ -2,7 +2,7 @@
 -- Assumes nothing.
 use borrow.Author.Needs.{needs}
 use lib.ListN.{take}
-use Rattle.model.proofs.WholeRuns.{earliest-promise}
+use Rattle.whole_runs.proofs.WholeRuns.{earliest-promise}
 use Rattle.earliest.specs.Copying.{IsCopy}
 use Rattle.calls.proofs.earliest_among.Statement.{statement}
 use Rattle.calls.proofs.earliest_among.Tie as tie

@@ -1,7 +1,7 @@
--- `calls::line` meets its contract: an unsound state is refused with 2, on a sound one the step does it. Demand 3 is the model's theorem.
+-- `calls::line` meets its contract: an unsound state is refused with 2, on a sound one the step does it. Demand 3 is the theorem of `whole_runs`.
 -- Assumes nothing.
 use borrow.Author.Needs.{needs}
-use Rattle.model.proofs.WholeRuns.{line-promise}
+use Rattle.whole_runs.proofs.WholeRuns.{line-promise}
 use Rattle.calls.proofs.Unsound.{is-sound, is-unsound, line-unsound}
 use Rattle.calls.proofs.line.Statement.{statement}
 use Rattle.calls.proofs.line.Tie as tie

@@ -1,8 +1,8 @@
--- `calls::recover` meets its contract: an unsound state is refused with 2, on a sound one the step does it. Demand 3 is the model's theorem.
+-- `calls::recover` meets its contract: an unsound state is refused with 2, on a sound one the step does it. Demand 3 is the theorem of `whole_runs`.
 -- Assumes nothing.
 use borrow.Author.Needs.{needs}
-use Rattle.model.proofs.WholeRuns.{line-promise, recover-promise}
-use Rattle.model.proofs.Clean.{clean-promise}
+use Rattle.whole_runs.proofs.WholeRuns.{line-promise, recover-promise}
+use Rattle.whole_runs.proofs.Clean.{clean-promise}
 use Rattle.calls.proofs.Unsound.{is-sound, is-unsound, recover-unsound}
 use Rattle.calls.proofs.recover.Statement.{statement}
 use Rattle.calls.proofs.recover.Tie as tie

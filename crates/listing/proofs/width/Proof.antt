@@ -7,7 +7,7 @@ use native.Mathlib.Numerals.{add-one}
 use native.Mathlib.Omega.{arith}
 use lib.ListN.{length}
 use borrow.Author.Needs.{needs}
-use Rattle.model.specs.Listing.{decimal}
+use Rattle.whole_runs.specs.Listing.{decimal}
 use Rattle.listing.proofs.Digits.{at-most, more-than, no-more, at-least-one}
 use Rattle.listing.proofs.width.Statement.{statement}
 use Rattle.listing.proofs.width.Tie as tie

@@ -4,7 +4,7 @@ use borrow.Author.Needs.{needs}
 use mathlib.Core.List.{List, [], _∷_, _++_}
 use Prim.Native.Nat.{ℕ}
 use denote.Ref.{now}
-use Rattle.model.specs.Listing.{decimal, space, valueText, deletionsText, acceptedText}
+use Rattle.whole_runs.specs.Listing.{decimal, space, valueText, deletionsText, acceptedText}
 use Rattle.listing.specs.Lines.{valueIn, replyOf}
 use Rattle.listing.specs.Printed.{Room}
 use Rattle.listing.proofs.Texts.{then, room-first, room-rest}

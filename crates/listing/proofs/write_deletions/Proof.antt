@@ -7,7 +7,7 @@ use native.Mathlib.Omega.{arith}
 use lib.ListN.{length, getD}
 use denote.Ref.{now}
 use borrow.Author.Needs.{needs}
-use Rattle.model.specs.Listing.{deletionsText}
+use Rattle.whole_runs.specs.Listing.{deletionsText}
 use Rattle.listing.specs.Lines.{pairText}
 use Rattle.listing.specs.Printed.{Printed}
 use Rattle.listing.proofs.Texts.{then, nothing, room-rest, one-more, room-for-one-more}

@@ -8,7 +8,7 @@ use lib.Dec.{eqb}
 use denote.Ref.{now}
 use borrow.Author.Tests.{ne-eqb}
 use Rattle.laws.specs.Choice.{pick}
-use Rattle.model.specs.Listing.{digits, decimal, space, lineFeed, acceptedText, lineText}
+use Rattle.whole_runs.specs.Listing.{digits, decimal, space, lineFeed, acceptedText, lineText}
 use Rattle.listing.specs.Lines.{replyOf}
 use Rattle.listing.specs.Printed.{Room}
 use Rattle.listing.proofs.Texts.{then, room-first, room-rest}

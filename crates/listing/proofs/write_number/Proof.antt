@@ -8,7 +8,7 @@ use lib.ListN.{length, set, length-set}
 use lib.Seq.{sets}
 use denote.Ref.{now}
 use borrow.Author.Needs.{needs}
-use Rattle.model.specs.Listing.{decimal}
+use Rattle.whole_runs.specs.Listing.{decimal}
 use Rattle.listing.proofs.Digits.{Storing, none-stored, between, two-stored, all-stored, all-stored-by-two}
 use Rattle.listing.proofs.write_number.Statement.{statement}
 use Rattle.listing.proofs.write_number.Tie as tie

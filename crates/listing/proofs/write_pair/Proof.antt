@@ -3,7 +3,7 @@
 use borrow.Author.Needs.{needs}
 use mathlib.Core.List.{[], _∷_, _++_}
 use denote.Ref.{now}
-use Rattle.model.specs.Listing.{decimal, space, colon}
+use Rattle.whole_runs.specs.Listing.{decimal, space, colon}
 use Rattle.listing.specs.Lines.{pairText}
 use Rattle.listing.specs.Printed.{Room}
 use Rattle.listing.proofs.Texts.{then, room-first, room-rest}

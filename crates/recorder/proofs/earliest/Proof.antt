@@ -41,8 +41,8 @@ use denote.Triple.Table.{entered, cited}
 use denote.Triple.Walked.{Stays, stay-none, stay-none-slice, gave-slice, walkOf, ends-at, walked, goes-none, goes-none-slice, goes-gave-slice, walk-meets}
 use Rattle.model.specs.declared.Named.{Named}
 use Rattle.model.specs.declared.Run.{Run}
-use Rattle.model.specs.Earliest.{earliestOutcome}
-use Rattle.model.specs.WholeRuns.{EarliestPromise}
+use Rattle.whole_runs.specs.Earliest.{earliestOutcome}
+use Rattle.whole_runs.specs.WholeRuns.{EarliestPromise}
 use Rattle.recording.specs.Recording.{unwritten, recordedEarliest}
 use Rattle.model.proofs.Named as N
 use Rattle.model.proofs.Run as R

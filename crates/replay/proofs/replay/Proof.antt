@@ -10,7 +10,7 @@ use Prim.Native.Nat.{ℕ, _+_, _-_, _*_, _≤_, _<_}
 use native.Mathlib.Omega.{arith}
 use denote.Ref.{now}
 use lib.ListN.{length, drop}
-use Rattle.model.specs.WholeRuns.{Traced}
+use Rattle.whole_runs.specs.WholeRuns.{Traced}
 use Rattle.position.specs.declared.Position.{Position}
 use Rattle.position.specs.Positions.{bytesHeld, Stands}
 use Rattle.position.proofs.Going.{stands-first}

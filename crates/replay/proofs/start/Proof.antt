@@ -8,7 +8,7 @@ use native.Mathlib.Omega.{arith}
 use denote.Ref.{now}
 use lib.ListN.{length, drop}
 use lib.Seq.{length-take-le, length-front}
-use Rattle.model.specs.Listing.{listing}
+use Rattle.whole_runs.specs.Listing.{listing}
 use Rattle.position.specs.declared.Position.{Position}
 use Rattle.replay_read.proofs.Texts.{front-text}
 use Rattle.replay.proofs.Starting.{begun, not-begun, reached-first, first-byte}

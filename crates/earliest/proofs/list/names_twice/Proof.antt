@@ -5,7 +5,7 @@ use mathlib.Core.Path.{_≡_, refl}
 use native.Mathlib.Omega.{arith}
 use borrow.Author.Needs.{needs}
 use lib.ListN.{take}
-use Rattle.model.specs.Earliest.{repeats}
+use Rattle.whole_runs.specs.Earliest.{repeats}
 use Rattle.earliest.proofs.Lists.{repeats-more}
 use Rattle.earliest.proofs.list.names_twice.Statement.{statement}
 use Rattle.earliest.proofs.list.names_twice.Tie as tie

@@ -7,7 +7,7 @@ use borrow.Author.Needs.{needs}
 use lib.ListN.{take}
 use Rattle.laws.specs.Lists.{select, lastOf}
 use Rattle.model.specs.Words.{pastEnd}
-use Rattle.model.specs.Earliest.{isNamed}
+use Rattle.whole_runs.specs.Earliest.{isNamed}
 use Rattle.members.specs.Line.{latestIs}
 use Rattle.earliest.proofs.Searches.{search-none, search-more}
 use Rattle.earliest.proofs.search.find.Statement.{statement}

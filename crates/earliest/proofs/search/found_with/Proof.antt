@@ -1,7 +1,7 @@
 -- `earliest::search::found_with` meets its contract, by whether the checkpoint is the named one.
 -- Assumes nothing.
 use borrow.Author.Tests.{eq-eqb, ne-eqb}
-use Rattle.model.specs.Earliest.{isNamed}
+use Rattle.whole_runs.specs.Earliest.{isNamed}
 use Rattle.earliest.proofs.search.found_with.Statement.{statement}
 use Rattle.earliest.proofs.search.found_with.Tie as tie
 

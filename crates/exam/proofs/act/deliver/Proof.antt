@@ -4,7 +4,7 @@ use lib.Seq.{length-take-le}
 use lib.ListN.{replicate}
 use borrow.Author.Needs.{needs}
 use Rattle.model.specs.declared.DeliverAnswer.{DeliverAnswer}
-use Rattle.model.specs.Outcomes.{Report, deliverReport}
+use Rattle.whole_runs.specs.Outcomes.{Report, deliverReport}
 use Rattle.listing.specs.Said.{reportIn}
 use Rattle.exam.proofs.act.deliver.Statement.{statement}
 use Rattle.exam.proofs.act.deliver.Tie as tie

@@ -4,7 +4,7 @@ use lib.Seq.{length-take-le}
 use lib.ListN.{replicate}
 use borrow.Author.Needs.{needs}
 use Rattle.model.specs.declared.RecoverAnswer.{RecoverAnswer}
-use Rattle.model.specs.Outcomes.{Report, recoverReport}
+use Rattle.whole_runs.specs.Outcomes.{Report, recoverReport}
 use Rattle.listing.specs.Said.{reportIn}
 use Rattle.exam.proofs.act.recover.Statement.{statement}
 use Rattle.exam.proofs.act.recover.Tie as tie

@@ -6,7 +6,7 @@ use mathlib.Core.List.{List}
 use Prim.Native.Nat.{ℕ}
 use denote.Ref.{now}
 use lib.ListN.{getD}
-use Rattle.model.specs.Listing.{asksForAll}
+use Rattle.whole_runs.specs.Listing.{asksForAll}
 use Rattle.output.proofs.Words.{three-bytes, not-three}
 use Rattle.output.proofs.arguments.asks_for_all.Statement.{statement}
 use Rattle.output.proofs.arguments.asks_for_all.Tie as tie

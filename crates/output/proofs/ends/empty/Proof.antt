@@ -1,7 +1,7 @@
 -- `output::ends::empty` meets its contract: the line of a trace of no bytes is that of the refusal.
 -- Assumes nothing.
 use borrow.Author.Needs.{needs}
-use Rattle.model.specs.Listing.{listing}
+use Rattle.whole_runs.specs.Listing.{listing}
 use Rattle.output.proofs.ends.empty.Statement.{statement}
 use Rattle.output.proofs.ends.empty.Tie as tie
 

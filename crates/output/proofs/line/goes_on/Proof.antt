@@ -1,6 +1,6 @@
 -- `output::line::goes_on` meets its contract, by the way that is asked for.
 -- Assumes nothing.
-use Rattle.model.specs.Listing.{goesOn}
+use Rattle.whole_runs.specs.Listing.{goesOn}
 use Rattle.output.proofs.line.goes_on.Statement.{statement}
 use Rattle.output.proofs.line.goes_on.Tie as tie
 

@@ -5,7 +5,7 @@ use native.Mathlib.Omega.{arith}
 use lib.ListN.{length}
 use Prim.Native.Nat.{_≤_}
 use denote.Ref.{now}
-use Rattle.model.specs.Listing.{lineText}
+use Rattle.whole_runs.specs.Listing.{lineText}
 use Rattle.listing.specs.Lines.{replyOf, longestLine}
 use Rattle.output.proofs.Lines.{line-fits}
 use Rattle.output.proofs.line.print.Statement.{statement}

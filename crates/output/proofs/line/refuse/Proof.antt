@@ -4,10 +4,10 @@ use borrow.Author.Needs.{needs}
 use mathlib.Core.Path.{_≡_, ap}
 use mathlib.Core.List.{_∷_, []}
 use native.Mathlib.Omega.{arith}
-use Rattle.model.specs.Outcomes.{Report, refusing}
+use Rattle.whole_runs.specs.Outcomes.{Report, refusing}
 use Rattle.listing.specs.Said.{reportIn}
 use Rattle.output.proofs.Lines.{refusal-line}
-use Rattle.model.proofs.Sizes.{small-refused}
+use Rattle.whole_runs.proofs.Sizes.{small-refused}
 use Rattle.output.proofs.line.refuse.Statement.{statement}
 use Rattle.output.proofs.line.refuse.Tie as tie
 

@@ -2,7 +2,7 @@
 -- Assumes nothing.
 use borrow.Author.Needs.{needs}
 use Rattle.listing.specs.Lines.{valueIn}
-use Rattle.model.specs.Outcomes.{deliverReport}
+use Rattle.whole_runs.specs.Outcomes.{deliverReport}
 use Rattle.listing.specs.Said.{reportIn}
 use Rattle.output.proofs.say.of_deliver.Statement.{statement}
 use Rattle.output.proofs.say.of_deliver.Tie as tie

@@ -2,7 +2,7 @@
 -- Assumes nothing.
 use borrow.Author.Needs.{needs}
 use Rattle.listing.specs.Lines.{valueIn}
-use Rattle.model.specs.Outcomes.{lineReport}
+use Rattle.whole_runs.specs.Outcomes.{lineReport}
 use Rattle.listing.specs.Said.{reportIn}
 use Rattle.output.proofs.say.of_line.Statement.{statement}
 use Rattle.output.proofs.say.of_line.Tie as tie

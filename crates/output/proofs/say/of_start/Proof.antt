@@ -2,7 +2,7 @@
 -- Assumes nothing.
 use borrow.Author.Needs.{needs}
 use Rattle.listing.specs.Lines.{valueIn}
-use Rattle.model.specs.Outcomes.{startReport}
+use Rattle.whole_runs.specs.Outcomes.{startReport}
 use Rattle.listing.specs.Said.{reportIn}
 use Rattle.output.proofs.say.of_start.Statement.{statement}
 use Rattle.output.proofs.say.of_start.Tie as tie

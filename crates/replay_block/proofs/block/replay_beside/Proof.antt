@@ -26,13 +26,13 @@ use Rattle.model.specs.declared.Checkpoint.{Checkpoint}
 use Rattle.model.specs.declared.Message.{Message}
 use Rattle.model.specs.declared.Disk.{Disk}
 use Rattle.model.specs.Steps.{listed, billed}
-use Rattle.model.specs.Outcomes.{pairs}
+use Rattle.whole_runs.specs.Outcomes.{pairs}
 use Rattle.model.specs.Words.{liveIndex, noCheckpoint, noMessage, named, process, underWay}
 use Rattle.model.specs.laws.Sound.{sound-state}
 use Rattle.model.specs.Sound.{sound}
 use Rattle.model.specs.Trace.{decoded}
-use Rattle.model.specs.Listing.{perform}
-use Rattle.model.specs.WholeRuns.{Traced}
+use Rattle.whole_runs.specs.Listing.{perform}
+use Rattle.whole_runs.specs.WholeRuns.{Traced}
 use Rattle.retention.specs.declared.kept.KeptRow.{KeptRow}
 use Rattle.retention.specs.Kept.{keptRow}
 use Rattle.retention.specs.Receipt.{pinsThen, keptThen}

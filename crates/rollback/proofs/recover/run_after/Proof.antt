@@ -18,10 +18,10 @@ use Rattle.model.specs.declared.Pin.{Pin}
 use Rattle.model.specs.declared.Checkpoint.{Checkpoint}
 use Rattle.model.specs.declared.Run.{Run}
 use Rattle.model.specs.declared.RecoverAnswer.the-variants.{Recovered}
-use Rattle.model.specs.Outcomes.{pairs}
 use Rattle.model.specs.Words.{noMessage, blockCount, process, underWay}
 use Rattle.model.specs.Sound.{messageSound, sound}
 use Rattle.model.specs.laws.Sound.{sound-state, sound-message}
+use Rattle.whole_runs.specs.Outcomes.{pairs}
 use Rattle.rows.proofs.Blocks.{first-count}
 use Rattle.plans.proofs.Billing.{count-small, written-small, deleted-small}
 use Rattle.members.specs.Line.{ownRow}

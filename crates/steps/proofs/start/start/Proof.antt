@@ -3,8 +3,8 @@ use Prim.Native.Nat.{ℕ}
 use mathlib.Core.Path.{_≡_, ap, _∙_}
 use borrow.Author.Needs.{needs}
 use Rattle.model.specs.declared.StartAnswer.{StartAnswer}
-use Rattle.model.specs.Outcomes.{startOutcome}
 use Rattle.model.specs.Steps.{startState}
+use Rattle.whole_runs.specs.Outcomes.{startOutcome}
 use Rattle.steps.specs.Starting.{countOf}
 use Rattle.steps.proofs.Starting.{start-fits}
 use Rattle.steps.proofs.start.start.Statement.{statement}

@@ -1,0 +1,189 @@
+-- Note 4: a sweep. Nobody rolls back, of any state; the messages under way stay, of a sound one; the lines stay, of a state that calls from a start reach.
+-- Assumes nothing.
+use mathlib.Core.Path.{_≡_, refl, sym, _∙_, ap, fun-ext}
+use mathlib.Core.Bool.{Bool, true, false, _&&_, not}
+use mathlib.Core.List.{[]}
+use mathlib.Core.Option.{some}
+use Prim.Native.Nat.{ℕ, zero, suc, _<_}
+use native.Mathlib.Nat.{div-eq-of-lt, one-le-pow}
+use native.Mathlib.Omega.{arith}
+use lib.Dec.{eqb, ltb}
+use lib.ListN.{getD}
+use lib.Seq.{set-getD}
+use borrow.Author.Tests.{le-ltb, leb-true}
+use Rattle.laws.specs.Choice.{pick, by-bool}
+use Rattle.laws.specs.Counting.{count-none}
+use Rattle.laws.specs.Rows.{every-at, every-by}
+use Rattle.laws.specs.Search.{anyBelow, any-out, all-in, all-out}
+use Rattle.laws.specs.Select.{all-chosen, lastOf-snoc}
+use Rattle.laws.specs.Tables.{table-same}
+use Rattle.laws.specs.Truth.{never-both}
+use Rattle.model.specs.declared.Pin.the-variants.{Nothing}
+use Rattle.model.specs.declared.Checkpoint.{Checkpoint}
+use Rattle.model.specs.declared.Message.{Message}
+use Rattle.model.specs.declared.Run.{Run}
+use Rattle.model.specs.Words.{entry, Process, live, noCheckpoint, noMessage, process, withProcess, own, underWay, withMessages, withDisk, failed}
+use Rattle.model.specs.Steps.{withProcesses, allowed, states, latestAllowed, member, lineOf, rolledBack, vectorAfter, ownAfter, pinAfter, recovered, lostBy, stillUnderWay, recoverState, rolledBackCount}
+use Rattle.model.specs.Sound.{within, messageSound, sound}
+use Rattle.model.specs.Refusals.{missing, noMember, recoverRefusal}
+use Rattle.model.specs.laws.Refusals.{by-refusal}
+use Rattle.model.specs.laws.Sound.{sound-state, sound-message}
+use Rattle.whole_runs.specs.Outcomes.{startOutcome, recoverOutcome}
+use Rattle.whole_runs.specs.Calls.{stateAfter, transcript}
+use Rattle.whole_runs.specs.Survival.{Surviving, beginning, survivingFrom}
+use Rattle.whole_runs.specs.WholeRuns.{Reachable}
+use Rattle.whole_runs.specs.Sweep.{SweepIsQuiet, SweepIsAccepted, SweepLeavesLines}
+use Rattle.histories.proofs.Run as ideal
+use Rattle.histories.proofs.Run.{Ideal, Failed, begun, safe, rolled}
+use Rattle.histories.proofs.Invariant.{Inv}
+use Rattle.histories.proofs.Maximal.{line-by-history}
+use Rattle.histories.proofs.Recovered.{recovered-inv}
+use Rattle.histories.proofs.RecoveredViews.{recovered-n, recovered-events-stays}
+use Rattle.model.proofs.simulation.Parts.{underWay-put}
+use Rattle.model.proofs.simulation.Accepted.{recover-in}
+use Rattle.model.proofs.simulation.Lines.{line-is}
+use Rattle.model.proofs.simulation.Recover.{recover-is}
+use Rattle.whole_runs.proofs.whole.Reached.{Reached}
+use Rattle.whole_runs.proofs.whole.Runs.{runAfter}
+use Rattle.whole_runs.proofs.WholeRuns.{reachable-reached}
+
+-- No process is in the empty set.
+nobody-failed : (f : ℕ) → failed 0 f ≡ false
+nobody-failed f = rw (div-eq-of-lt (one-le-pow f 2 (omega arith)))
+
+module _ (s : Run) where
+  -- So the line rule accepts every state,
+  allowed-all : (c : Checkpoint) → allowed s 0 c ≡ true
+  unfolding allowed
+  allowed-all c = all-in (s .count) _ (λ f lt. rw (nobody-failed f))
+
+  -- and the latest is the live one.
+  latest-live : (p : ℕ) → latestAllowed s 0 p ≡ some (live p (process s p))
+  unfolding latestAllowed states
+  latest-live p = rw (all-chosen (allowed s 0) _ (every-by (allowed s 0) _ noCheckpoint (λ k lt. allowed-all _))) (lastOf-snoc (process s p .kept) (live p (process s p)))
+
+  member-live : (p : ℕ) → member s 0 p ≡ live p (process s p)
+  unfolding member
+  member-live p = rw (latest-live p)
+
+  member-index : (p : ℕ) → member s 0 p .index .0 ≡ own s p .0
+  unfolding live own
+  member-index p = rw (member-live p)
+
+  nobody-back : (p : ℕ) → rolledBack s 0 p ≡ false
+  unfolding rolledBack
+  nobody-back p = rw (member-index p) (le-ltb (own s p .0) (own s p .0) (omega arith))
+
+  vector-stays : (p : ℕ) → vectorAfter s 0 p ≡ process s p .vector
+  unfolding vectorAfter
+  vector-stays p = rw (nobody-back p)
+
+  mark-stays : (p : ℕ) → (process s p .mark && not (rolledBack s 0 p)) ≡ process s p .mark
+  mark-stays p = rw (nobody-back p) (and-true (process s p .mark))
+    where
+      and-true : (b : Bool) → (b && true) ≡ b
+      and-true true = refl
+      and-true false = refl
+
+  -- A part that stays in each process stays as a whole.
+  vectors-stay : (n : ℕ) (f : ℕ → Process) → ((p : ℕ) → f p .vector ≡ process s p .vector) → withProcesses n f s .vectors ≡ s .vectors
+  unfolding withProcesses withProcess process
+  vectors-stay zero f h = refl
+  vectors-stay (suc n) f h = rw (vectors-stay n f h, h n, set-getD (s .vectors .0) n [])
+
+  marks-stay : (n : ℕ) (f : ℕ → Process) → ((p : ℕ) → f p .mark ≡ process s p .mark) → withProcesses n f s .sent ≡ s .sent
+  unfolding withProcesses withProcess process
+  marks-stay zero f h = refl
+  marks-stay (suc n) f h = rw (marks-stay n f h, h n, set-getD (s .sent) n false)
+
+  sweep-members : noMember s 0 ≡ false
+  unfolding noMember
+  sweep-members = by-bool (anyBelow (s .count) (λ p. missing (latestAllowed s 0 p)))
+      (λ e. let w = any-out (s .count) _ e in never-both (missing (latestAllowed s 0 (w .0))) (w .2) (rw (latest-live (w .0))))
+      (λ e. e)
+
+  sweep-pins : (p f : ℕ) → pinAfter s 0 p f ≡ pick (eqb (entry (process s p .vector) f .0) (own s f .0)) (getD (process s p .pins) f Nothing) Nothing
+  unfolding pinAfter ownAfter own
+  sweep-pins p f = rw (vector-stays p, vector-stays f, nobody-back p)
+
+  sweep-vectors : recoverState s 0 .vectors ≡ s .vectors
+  unfolding recoverState withDisk withMessages recovered
+  sweep-vectors = vectors-stay (s .count) (recovered s 0) vector-stays
+
+  sweep-marks : recoverState s 0 .sent ≡ s .sent
+  unfolding recoverState withDisk withMessages recovered
+  sweep-marks = marks-stay (s .count) (recovered s 0) mark-stays
+
+  pub sweep-is-quiet : SweepIsQuiet s
+  unfolding lineOf rolledBackCount
+  sweep-is-quiet = record {
+    line = table-same (s .count) _ _ (λ p lt. member-index p);
+    members = sweep-members;
+    nobody = count-none (s .count) (rolledBack s 0) (λ p lt. nobody-back p);
+    vectors = sweep-vectors;
+    marks = sweep-marks;
+    pins = sweep-pins;
+  }
+
+  -- In a sound state no message carries an entry above its sender's own, so none is lost.
+  module _ (whole : sound s ≡ true) where
+    carried-below : (x : Message) → messageSound s x ≡ true → within s (x .vector) ≡ true → not (lostBy s 0 x) ≡ true
+    unfolding within lostBy
+    carried-below x good inside =
+        let from = sound-message s x good .from in
+        rw (member-index (x .sender), le-ltb _ _ (leb-true _ _ (all-out (s .count) _ inside (x .sender) from)))
+
+    none-lost : stillUnderWay s 0 ≡ underWay s
+    unfolding stillUnderWay
+    none-lost = all-chosen _ (underWay s) (every-by _ (underWay s) noMessage (λ k lt. carried-below (getD (underWay s) k noMessage)
+        (every-at (messageSound s) (underWay s) k noMessage lt (sound-state s whole .messages-sound))
+        (every-at (λ x. within s (x .vector)) (underWay s) k noMessage lt (sound-state s whole .carried-within))))
+
+    messages-stay : underWay (recoverState s 0) ≡ underWay s
+    unfolding recoverState withDisk underWay
+    messages-stay = underWay-put (withProcesses (s .count) (recovered s 0) s) (stillUnderWay s 0) (s .last) ∙ none-lost
+
+    pub sweep-is-accepted : SweepIsAccepted s
+    sweep-is-accepted = record {
+      accepted = λ deleted lent room line-room. recover-in s 0 deleted lent (record {
+        whole = whole;
+        room = room;
+        line-room = line-room;
+        set = one-le-pow (s .count) 2 (omega arith);
+        members = sweep-members;
+      });
+      messages = messages-stay;
+    }
+
+-- A sweep takes nothing from the history, and the line follows from the history.
+module _ (r : Ideal) (v : Inv r) where
+  nobody-rolls : (p : ℕ) → rolled r (failed 0) p ≡ false
+  unfolding rolled safe
+  nobody-rolls p = rw (all-in (r .n) (λ f. pick (failed 0 f) (ltb (r .vector p (r .own p) f) (r .own f)) true) (λ f lt. rw (nobody-failed f)))
+
+  same-events : ideal.recovered r (failed 0) .events ≡ r .events
+  same-events = fun-ext (λ p. recovered-events-stays r (failed 0) p (nobody-rolls p))
+
+  same-line : (F : Failed) (p : ℕ) → p < r .n → ideal.line (ideal.recovered r (failed 0)) F p ≡ ideal.line r F p
+  same-line F p hp = line-by-history (ideal.recovered r (failed 0)) r (recovered-inv r v (failed 0)) v (recovered-n r (failed 0)) same-events F p hp
+
+reached-lines : (n : ℕ) (s : Run) (h : Surviving) (r : Ideal) → Reached n s h r → (F : ℕ) → lineOf (recoverState s 0) F ≡ lineOf s F
+unfolding ideal.recovered
+reached-lines n s h r v F =
+    let few = v .limits .few-processes in
+    rw (v .state) (ap (λ (t : Run). lineOf t F) (recover-is r (v .inv) few 0 (v .limits .ledger .paid))
+    ∙ line-is (ideal.recovered r (failed 0)) (recovered-inv r (v .inv) (failed 0)) few F
+    ∙ table-same (r .n) _ _ (λ p lt. same-line r (v .inv) (failed F) p lt)
+    ∙ sym (line-is r (v .inv) few F))
+
+pub sweep-leaves-lines : (s : Run) → Reachable s → SweepLeavesLines s
+unfolding Reachable SweepLeavesLines recoverOutcome
+sweep-leaves-lines s v deleted lent F = by-refusal (recoverRefusal s 0 deleted lent)
+    (λ e. rw e (
+    let n = v .0 in
+    let counts = v .1 in
+    let s₀ = startOutcome n counts .run in
+    let calls = v .3 in
+    rw (v .4) (reached-lines n (stateAfter s₀ calls) (survivingFrom n (beginning n counts) (transcript s₀ calls)) (runAfter (begun n counts) calls)
+    (reachable-reached n counts (v .2) calls) F)))
+    (λ x e. rw e)

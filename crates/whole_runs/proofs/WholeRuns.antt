@@ -1,0 +1,284 @@
+-- Demand 3, proved: right over whole runs. And what later work cites of states that calls from a start reach.
+-- Assumes nothing.
+use mathlib.Core.Path.{_≡_, refl, sym, _∙_, ap, subst}
+use mathlib.Core.Bool.{true}
+use mathlib.Core.List.{List, [], _∷_, _++_}
+use mathlib.Core.Option.{Option, none, some}
+use Prim.Native.Nat.{ℕ, _^_, _<_}
+use native.Mathlib.Omega.{arith}
+use lib.Dec.{eqb}
+use borrow.Author.Tests.{eq-eqb, eqb-true}
+use Rattle.laws.specs.Choice.{by-eq}
+use Rattle.laws.specs.Counting.{count-mono}
+use Rattle.laws.specs.Elements.{same-test}
+use Rattle.model.specs.declared.Named.{Named}
+use Rattle.model.specs.declared.Run.{Run}
+use Rattle.model.specs.declared.StartAnswer.the-variants.{Started}
+use Rattle.model.specs.Steps.{startState}
+use Rattle.model.specs.Sound.{sound}
+use Rattle.histories.specs.History.{checkpoints}
+use Rattle.model.specs.Refusals.{startRefusal}
+use Rattle.model.specs.laws.Refusals.{by-refusal}
+use Rattle.whole_runs.specs.Outcomes.{startOutcome, checkpointOutcome, deliverOutcome, recoverOutcome, startReport}
+use Rattle.whole_runs.specs.Calls.{Call, checkpoint, send, deliver, lose, recover, line, earliest, Exchange, answered, call, stateAfter, transcript}
+use Rattle.whole_runs.specs.Survival.{Surviving, beginning, after, survivingFrom, surviving}
+use Rattle.whole_runs.specs.Answers.{AnswerIsRight, AnswersAreRight}
+use Rattle.whole_runs.specs.WholeRuns.{LineIsRight, KeptIsRight, StartsAreRight, RightOverWholeRuns, Reachable, LinePromise, StatePromise, EarliestIsRight, EarliestPromise}
+use Rattle.histories.proofs.Run.{Ideal, begin, openLedger, begun, keeps}
+use Rattle.histories.proofs.Ledger.{ledger-keeps, ledger-inv}
+use Rattle.histories.proofs.Invariant.{Inv}
+use Rattle.histories.proofs.Begin.{begin-inv, begin-n, begin-pin-own, begin-pin-other}
+use Rattle.histories.proofs.Memory.{Memory, begin-memory}
+use Rattle.histories.proofs.Rule.{keeps-in, keeps-out, same-some}
+use Rattle.model.proofs.simulation.View.{stateOf, Limits, processOf}
+use Rattle.model.proofs.simulation.Reads.{count-is, process-is}
+use Rattle.model.proofs.simulation.Accepted.{start-out}
+use Rattle.model.proofs.simulation.Start.{start-kept-in, start-is}
+use Rattle.model.proofs.simulation.Kept.{few-kept, pins-name, kept-holds}
+use Rattle.model.proofs.simulation.Lines.{line-is}
+use Rattle.model.proofs.simulation.Sound.{state-sound}
+use Rattle.model.proofs.simulation.SoundLimits.{limits-begin}
+use Rattle.whole_runs.proofs.whole.Agreement.{Agrees}
+use Rattle.whole_runs.proofs.whole.Accepted.{Step, step-reached}
+use Rattle.whole_runs.proofs.whole.Answers.{answer-right}
+use Rattle.whole_runs.proofs.whole.Because.{basic-step, forced-step}
+use Rattle.whole_runs.proofs.whole.BlocksRight.{reached-blocks}
+use Rattle.whole_runs.proofs.whole.Refused.{numberOf, members-found, start-number}
+use Rattle.whole_runs.proofs.whole.Earliest.{earliest-right}
+use Rattle.whole_runs.proofs.whole.LineRight.{line-right}
+use Rattle.whole_runs.proofs.whole.Reached.{Reached, exchange, refusal, refused-reached}
+use Rattle.whole_runs.proofs.whole.Recovers.{recover-step}
+use Rattle.whole_runs.proofs.whole.Restarts.{begin-restarted, step-restarted, needed-in, needed-out}
+use Rattle.whole_runs.proofs.whole.Runs.{stepped, unlessRefused, runAfter}
+use Rattle.whole_runs.proofs.whole.Steps.{send-step, lose-step, line-step, earliest-step}
+
+-- The history of the start agrees with the run as functions at its start.
+begin-keeps : (n p k : ℕ) → p < n → keeps (begin n) p k ≡ eqb k 0
+begin-keeps n p k hp = same-test (keeps (begin n) p k) (eqb k 0)
+    (λ e. let w = keeps-out (begin n) p k e in by-eq p (w .0)
+    (λ c. eq-eqb k 0 (same-some (begin n .pin p (w .0)) k 0 (w .2) (rw (← c) (begin-pin-own n p))))
+    (λ ne. absurd (nothing-named k (sym (begin-pin-other n p (w .0) ne) ∙ w .2))))
+    (λ e. keeps-in (begin n) p p k (rw (begin-n n) hp) (begin-pin-own n p ∙ ap some (sym (eqb-true k 0 e))))
+  where
+    nothing-named : (k : ℕ) → _≡_ {A = Option ℕ} none (some k) → ⊥
+    nothing-named k e = let z : _≡_ {A = ℕ} 0 1 = cc in omega arith
+
+begun-keeps : (n : ℕ) (counts : List ℕ) (p k : ℕ) → p < n → eqb k 0 ≡ keeps (begun n counts) p k
+begun-keeps n counts p k hp = sym (ledger-keeps (begin n) (openLedger n counts) p k ∙ begin-keeps n p k hp)
+
+begin-agrees : (n : ℕ) (counts : List ℕ) → Agrees (beginning n counts) (begun n counts)
+unfolding beginning begin openLedger
+begin-agrees n counts = record {
+  lists = refl;
+  sends = refl;
+  receiver = refl;
+  underway = refl;
+  kept = λ p k hp. begun-keeps n counts p k hp;
+  counts = refl;
+  cause = refl;
+  written = refl;
+  deleted = omega (arith, start-kept-in n counts);
+}
+
+-- An accepted start reaches the state that it returns.
+pub started-state : (n : ℕ) (counts : List ℕ) → startRefusal n counts ≡ none → startOutcome n counts .run ≡ startState n counts
+unfolding startOutcome
+started-state n counts ok = rw ok
+
+started-answer : (n : ℕ) (counts : List ℕ) → startRefusal n counts ≡ none → startOutcome n counts .answer ≡ Started
+unfolding startOutcome
+started-answer n counts ok = rw ok
+
+begun-memory : (n : ℕ) (counts : List ℕ) → Memory (begun n counts)
+begun-memory n counts = let m = begin-memory n in record { marks = m .marks; sources = m .sources }
+
+pub start-reached : (n : ℕ) (counts : List ℕ) → startRefusal n counts ≡ none → Reached n (startOutcome n counts .run) (beginning n counts) (begun n counts)
+start-reached n counts ok =
+    let w = start-out n counts ok in
+    record {
+      inv = ledger-inv (begin n) (openLedger n counts) (begin-inv n);
+      limits = limits-begin n counts (w .0) (w .1) (w .2);
+      memory = begun-memory n counts;
+      size = begin-n n;
+      state = started-state n counts ok ∙ start-is n counts;
+      agrees = begin-agrees n counts;
+      restarted = begin-restarted n counts;
+    }
+
+-- Each accepted call is a step of the run as functions.
+step : (n : ℕ) (h : Surviving) (r : Ideal) → Inv r → Limits r → Memory r → r .n ≡ n → Agrees h r → (c : Call) → refusal (stateOf r) c ≡ none → Step n h (stateOf r) r (stepped r c) c
+unfolding refusal stepped
+step n h r v fit memory size g (checkpoint i deleted) e = basic-step n h r v fit memory size g i deleted e
+step n h r v fit memory size g (send i j) e = send-step n h r v fit memory size g i j e
+step n h r v fit memory size g (deliver m deleted) e = forced-step n h r v fit memory size g m deleted e
+step n h r v fit memory size g (lose m) e = lose-step n h r v fit memory size g m e
+step n h r v fit memory size g (recover F deleted lent) e = recover-step n h r v fit memory size g F deleted lent e
+step n h r v fit memory size g (line F lent) e = line-step n h r v fit memory size g F lent e
+step n h r v fit memory size g (earliest l lent) e = earliest-step n h r v fit memory size g l lent e
+
+-- What stands for s may be put for it.
+on-state : (n : ℕ) (s : Run) (h : Surviving) (c : Call) (r r′ : Ideal) → s ≡ stateOf r → Reached n (call (stateOf r) c .run) (after n h (exchange (stateOf r) c)) r′
+    → Reached n (call s c .run) (after n h (exchange s c)) r′
+on-state n s h c r r′ e v = rw e v
+
+-- An accepted call reaches its step, a refused one what was reached before.
+pub accepted-reached : (n : ℕ) (s : Run) (h : Surviving) (r : Ideal) → Reached n s h r → (c : Call) → refusal (stateOf r) c ≡ none
+    → Reached n (call s c .run) (after n h (exchange s c)) (stepped r c)
+accepted-reached n s h r v c e =
+    let t = step n h r (v .inv) (v .limits) (v .memory) (v .size) (v .agrees) c e in
+    on-state n s h c r (stepped r c) (v .state)
+    (step-reached n r (stepped r c) h c (v .inv) (v .size) (v .agrees) e t (step-restarted n h r (v .inv) (v .limits) (v .restarted) c e t))
+
+pub call-reached : (n : ℕ) (s : Run) (h : Surviving) (r : Ideal) → Reached n s h r → (c : Call)
+    → Reached n (call s c .run) (after n h (exchange s c)) (unlessRefused (refusal (stateOf r) c) r (stepped r c))
+unfolding unlessRefused
+call-reached n s h r v c = by-refusal (refusal (stateOf r) c)
+    (λ e. rw e (accepted-reached n s h r v c e))
+    (λ x e. rw e (refused-reached n s h r c x (rw (v .state) e) v))
+
+pub calls-reached : (n : ℕ) (s : Run) (h : Surviving) (r : Ideal) → Reached n s h r → (calls : List Call)
+    → Reached n (stateAfter s calls) (survivingFrom n h (transcript s calls)) (runAfter r calls)
+unfolding stateAfter survivingFrom transcript runAfter
+calls-reached n s h r v [] = v
+calls-reached n s h r v (c ∷ calls) =
+    calls-reached n (call s c .run) (after n h (exchange s c)) (unlessRefused (refusal (stateOf r) c) r (stepped r c)) (call-reached n s h r v c) calls
+
+-- The line of a reached state is right, for every failed set.
+pub reached-line : (n : ℕ) (s : Run) (h : Surviving) (r : Ideal) → Reached n s h r → (F : ℕ) → F < 2 ^ n → LineIsRight n s h F
+reached-line n s h r v F less = rw (← v .size, v .state)
+    (line-right r (v .inv) (stateOf r) h (v .agrees) F (count-is r) (state-sound r (v .inv) (v .limits))
+    (line-is r (v .inv) (v .limits .few-processes) F) (members-found r (v .inv) (v .limits) F) (rw (v .size) less))
+
+-- What a reached state keeps is right.
+pub reached-kept : (n : ℕ) (s : Run) (h : Surviving) (r : Ideal) → Reached n s h r → KeptIsRight n s h
+unfolding processOf
+reached-kept n s h r v =
+    let few = v .limits .few-processes in
+    rw (← v .size, v .state) (record {
+      kept-in-state = λ p k hp. rw (process-is r p few hp) (kept-holds r (v .inv) p k ∙ sym (v .agrees .kept p k hp));
+      kept-by-pins = λ p k hp. rw (process-is r p few hp) (pins-name r p k few ∙ sym (v .agrees .kept p k hp));
+      needed = λ p k hp e. needed-in h r (v .inv) (v .memory) (v .agrees) (v .restarted) p k (sym (v .agrees .kept p k hp) ∙ e);
+      kept-if-needed = λ p k hp d. v .agrees .kept p k hp ∙ needed-out h r (v .inv) (v .memory) (v .agrees) (v .restarted) p k d;
+      at-most-n = λ p hp. omega (arith, count-mono (checkpoints (h .lists p)) (h .kept p) (keeps r p) (λ j lt e. sym (v .agrees .kept p j hp) ∙ e), few-kept r p (checkpoints (h .lists p)));
+    })
+
+-- A reached state is sound.
+pub reached-sound : (n : ℕ) (s : Run) (h : Surviving) (r : Ideal) → Reached n s h r → sound s ≡ true
+reached-sound n s h r v = rw (v .state) (state-sound r (v .inv) (v .limits))
+
+-- Every answer that a call on a reached state gets is right.
+pub reached-answer : (n : ℕ) (s : Run) (h : Surviving) (r : Ideal) → Reached n s h r → (c : Call) → AnswerIsRight n h (exchange s c)
+reached-answer n s h r v c =
+    rw (← v .size, v .state) (answer-right h r (v .inv) (v .limits) (v .memory) (v .agrees)
+    (λ F less. line-right r (v .inv) (stateOf r) h (v .agrees) F (count-is r) (state-sound r (v .inv) (v .limits))
+    (line-is r (v .inv) (v .limits .few-processes) F) (members-found r (v .inv) (v .limits) F) less) c
+    (step (r .n) h r (v .inv) (v .limits) (v .memory) refl (v .agrees) c))
+
+-- Two transcripts that are the same have the same first exchange and the same rest.
+same-first : (a b : Exchange) (l k : List Exchange) → a ∷ l ≡ b ∷ k → (a ≡ b) × (l ≡ k)
+same-first a b l k e = (cc, cc)
+
+not-empty : (a : Exchange) (l k : List Exchange) → _≡_ {A = List Exchange} [] (k ++ (a ∷ l)) → ⊥
+not-empty a l [] e = let z : _≡_ {A = ℕ} 0 1 = cc in omega arith
+not-empty a l (b ∷ k) e = let z : _≡_ {A = ℕ} 0 1 = cc in omega arith
+
+-- So is every answer of a list of calls, wherever it stands in the transcript.
+answers-from : (n : ℕ) (calls : List Call) (s : Run) (h : Surviving) (r : Ideal) → Reached n s h r → (earlier later : List Exchange) (e : Exchange)
+    → transcript s calls ≡ earlier ++ (e ∷ later) → AnswerIsRight n (survivingFrom n h earlier) e
+unfolding transcript survivingFrom
+answers-from n [] s h r v earlier later e q = absurd (not-empty e later earlier q)
+answers-from n (c ∷ calls) s h r v [] later e q =
+    let w = same-first (exchange s c) e (transcript (call s c .run) calls) later q in
+    rw (← w .0) (reached-answer n s h r v c)
+answers-from n (c ∷ calls) s h r v (x ∷ earlier) later e q =
+    let w = same-first (exchange s c) x (transcript (call s c .run) calls) (earlier ++ (e ∷ later)) q in
+    rw (← w .0) (answers-from n calls (call s c .run) (after n h (exchange s c)) (unlessRefused (refusal (stateOf r) c) r (stepped r c)) (call-reached n s h r v c) earlier later e (w .1))
+
+pub answers-right : (n : ℕ) (counts : List ℕ) → startRefusal n counts ≡ none → (calls : List Call) → AnswersAreRight n counts (transcript (startOutcome n counts .run) calls)
+unfolding AnswersAreRight surviving
+answers-right n counts ok calls = answers-from n calls (startOutcome n counts .run) (beginning n counts) (begun n counts) (start-reached n counts ok)
+
+-- Demand 3.
+pub right-over-whole-runs : RightOverWholeRuns
+unfolding RightOverWholeRuns surviving
+right-over-whole-runs n counts ok calls =
+    let r = runAfter (begun n counts) calls in
+    let s = stateAfter (startOutcome n counts .run) calls in
+    let h = survivingFrom n (beginning n counts) (transcript (startOutcome n counts .run) calls) in
+    let v = calls-reached n (startOutcome n counts .run) (beginning n counts) (begun n counts) (start-reached n counts ok) calls in (
+      started-answer n counts ok,
+      answers-right n counts ok calls,
+      reached-kept n s h r v,
+      reached-blocks n s h r v,
+      reached-line n s h r v,
+    )
+
+-- The number of a start.
+reports-start : (n : ℕ) (counts : List ℕ) → startReport (startOutcome n counts .answer) .refused ≡ numberOf (startRefusal n counts)
+unfolding startReport startOutcome numberOf
+reports-start n counts = by-refusal (startRefusal n counts) (λ e. rw e) (λ x e. rw e)
+
+pub starts-are-right : StartsAreRight
+unfolding StartsAreRight
+starts-are-right n counts = reports-start n counts ∙ start-number n counts
+
+-- Reachable states: the start, what a call makes of one, and that each is sound.
+pub reachable-start : (n : ℕ) (counts : List ℕ) → startRefusal n counts ≡ none → Reachable (startOutcome n counts .run)
+unfolding Reachable stateAfter
+reachable-start n counts ok = (n, counts, ok, [], refl)
+
+pub after-one : (s : Run) (calls : List Call) (c : Call) → stateAfter s (calls ++ (c ∷ [])) ≡ call (stateAfter s calls) c .run
+unfolding stateAfter
+after-one s [] c = refl
+after-one s (b ∷ calls) c = after-one (call s b .run) calls c
+
+pub reachable-call : (s : Run) → Reachable s → (c : Call) → Reachable (call s c .run)
+unfolding Reachable
+reachable-call s v c = (v .0, v .1, v .2, v .3 ++ (c ∷ []), ap (λ (t : Run). call t c .run) (v .4) ∙ sym (after-one (startOutcome (v .0) (v .1) .run) (v .3) c))
+
+pub reachable-reached : (n : ℕ) (counts : List ℕ) → startRefusal n counts ≡ none → (calls : List Call)
+    → Reached n (stateAfter (startOutcome n counts .run) calls) (survivingFrom n (beginning n counts) (transcript (startOutcome n counts .run) calls)) (runAfter (begun n counts) calls)
+reachable-reached n counts ok calls = calls-reached n (startOutcome n counts .run) (beginning n counts) (begun n counts) (start-reached n counts ok) calls
+
+pub reachable-sound : (s : Run) → Reachable s → sound s ≡ true
+unfolding Reachable
+reachable-sound s v =
+    ap sound (v .4)
+    ∙ reached-sound (v .0) (stateAfter (startOutcome (v .0) (v .1) .run) (v .3)) (survivingFrom (v .0) (beginning (v .0) (v .1)) (transcript (startOutcome (v .0) (v .1) .run) (v .3)))
+    (runAfter (begun (v .0) (v .1)) (v .3)) (reachable-reached (v .0) (v .1) (v .2) (v .3))
+
+-- Demand 3 as a line or recover call says it of the state that it is handed,
+pub line-promise : (s : Run) (F : ℕ) → LinePromise s F
+unfolding RightOverWholeRuns LinePromise
+line-promise s F n counts ok calls e inside =
+    let w = right-over-whole-runs n counts ok calls in
+    rw e (w .4 F inside, w .2)
+
+-- Note 8 as its call says it of the state that it is handed,
+pub earliest-promise : (s : Run) (l : List Named) (lent : List ℕ) → EarliestPromise s l lent
+unfolding EarliestPromise surviving
+earliest-promise s l lent n counts ok calls e =
+    let r = runAfter (begun n counts) calls in
+    let v = reachable-reached n counts ok calls in
+    let h = survivingFrom n (beginning n counts) (transcript (startOutcome n counts .run) calls) in
+    subst (λ (t : Run). EarliestIsRight n t h l lent) (sym (e ∙ v .state))
+    (subst (λ (x : ℕ). EarliestIsRight x (stateOf r) h l lent) (v .size) (earliest-right h r (v .inv) (v .limits) (v .agrees) l lent))
+
+-- and as a call says it of the state that it returns.
+state-promise : (s : Run) (c : Call) (t : Run) → t ≡ call s c .run → StatePromise s c t
+unfolding RightOverWholeRuns StatePromise
+state-promise s c t same n counts ok calls e =
+    let w = right-over-whole-runs n counts ok (calls ++ (c ∷ [])) in
+    rw (same, e, ← after-one (startOutcome n counts .run) calls c) (w .2, w .3)
+
+pub checkpoint-promise : (s : Run) (i : ℕ) (deleted : List ℕ) (t : Run) → t ≡ checkpointOutcome s i deleted .run → StatePromise s (checkpoint i deleted) t
+unfolding call answered
+checkpoint-promise s i deleted t same = state-promise s (checkpoint i deleted) t same
+
+pub deliver-promise : (s : Run) (m : ℕ) (deleted : List ℕ) (t : Run) → t ≡ deliverOutcome s m deleted .run → StatePromise s (deliver m deleted) t
+unfolding call answered
+deliver-promise s m deleted t same = state-promise s (deliver m deleted) t same
+
+pub recover-promise : (s : Run) (F : ℕ) (deleted lent : List ℕ) (t : Run) → t ≡ recoverOutcome s F deleted lent .run → StatePromise s (recover F deleted lent) t
+unfolding call answered
+recover-promise s F deleted lent t same = state-promise s (recover F deleted lent) t same

@@ -1,0 +1,11 @@
+pub mod Answers
+pub mod Best
+pub mod Calls
+pub mod Clean
+pub mod Earliest
+pub mod Listing
+pub mod Needed
+pub mod Outcomes
+pub mod Survival
+pub mod Sweep
+pub mod WholeRuns

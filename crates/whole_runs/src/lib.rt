@@ -1,0 +1,2 @@
+// What each call's outcome is, lists of calls with their surviving history, and demand 3 of document 01, "Right over whole runs": the definitions are in specs/, the
+// theorems about them in proofs/. The rules of one call, and what they are proved of, are in the crate model.
