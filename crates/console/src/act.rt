@@ -52,7 +52,7 @@ fn checkpoint(s: Run, number: u64, c: Call) -> After {
     let outcome = console_calls::checkpoint(c.caller, s, c.process, &mut deleted[..length]);
     let run = outcome.run;
     let answer = outcome.answer;
-    let said = output::say::of_checkpoint(answer);
+    let said = summaries::of_checkpoint(answer);
     let written = say_checkpoint(number, said, &deleted);
     After { run, written }
 }
@@ -69,7 +69,7 @@ fn send(s: Run, number: u64, c: Call) -> After {
     let outcome = console_calls::send(c.caller, s, c.process, c.argument as usize);
     let run = outcome.run;
     let answer = outcome.answer;
-    let said = output::say::of_send(answer);
+    let said = summaries::of_send(answer);
     let written = say_send(number, said);
     After { run, written }
 }
@@ -92,7 +92,7 @@ fn deliver(s: Run, number: u64, c: Call) -> After {
     let outcome = console_calls::deliver(c.caller, s, c.argument, &mut deleted[..length]);
     let run = outcome.run;
     let answer = outcome.answer;
-    let said = output::say::of_deliver(answer);
+    let said = summaries::of_deliver(answer);
     let written = say_delivery(number, said, outcome.rose, &deleted);
     After { run, written }
 }
@@ -109,7 +109,7 @@ fn lose(s: Run, number: u64, c: Call) -> After {
     let outcome = console_calls::lose(c.caller, s, c.argument);
     let run = outcome.run;
     let answer = outcome.answer;
-    let said = output::say::of_lose(answer);
+    let said = summaries::of_lose(answer);
     let written = say_bare(number, said.refused);
     After { run, written }
 }
@@ -144,7 +144,7 @@ fn recover(s: Run, number: u64, c: Call) -> After {
     );
     let run = outcome.run;
     let answer = outcome.answer;
-    let said = output::say::of_recover(answer);
+    let said = summaries::of_recover(answer);
     let written = say_recovery(number, said, &line, n, &deleted);
     After { run, written }
 }
@@ -167,7 +167,7 @@ fn line(s: Run, number: u64, c: Call) -> After {
     let outcome = console_calls::line(c.caller, s, failed, &mut line[..members]);
     let run = outcome.run;
     let answer = outcome.answer;
-    let said = output::say::of_line(answer);
+    let said = summaries::of_line(answer);
     let written = say_line(number, said.refused, &line, n);
     After { run, written }
 }
@@ -186,14 +186,14 @@ fn earliest(s: Run, number: u64, c: Call) -> After {
     let outcome = console_calls::earliest_among(c.caller, s, named, 1, &mut line[..members]);
     let run = outcome.run;
     let answer = outcome.answer;
-    let said = output::say::of_line(answer);
+    let said = summaries::of_line(answer);
     let written = say_line(number, said.refused, &line, n);
     After { run, written }
 }
 
 fn say_list(number: u64, answer: ListAnswer, list: &[u16; 512]) -> bool {
     match answer {
-        ListAnswer::Refused(why) => say::refused(number, output::say::number_of(why)),
+        ListAnswer::Refused(why) => say::refused(number, summaries::number_of(why)),
         ListAnswer::Listed(count) => {
             say::accepted(number) && say::pairs(list, count) && say::end()
         }
@@ -217,7 +217,7 @@ fn counts(s: Run, number: u64, c: Call) -> After {
     let outcome = console_calls::counts(c.caller, s, &mut line[..members]);
     let run = outcome.run;
     let answer = outcome.answer;
-    let said = output::say::of_line(answer);
+    let said = summaries::of_line(answer);
     let written = say_line(number, said.refused, &line, n);
     After { run, written }
 }
@@ -227,7 +227,7 @@ fn start(s: Run, number: u64, c: Call) -> After {
     let outcome = console_calls::start(c.caller, c.process, [1; 16]);
     let run = outcome.run;
     let answer = outcome.answer;
-    let said = output::say::of_start(answer);
+    let said = summaries::of_start(answer);
     let written = say_bare(number, said.refused);
     if said.refused == 0 {
         return After { run, written };

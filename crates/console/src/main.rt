@@ -125,7 +125,7 @@ fn start(n: u8) {
     let answer = outcome.answer;
     match answer {
         StartAnswer::Refused(why) => {
-            told(say::refused(0, output::say::number_of(why)));
+            told(say::refused(0, summaries::number_of(why)));
         }
         StartAnswer::Started => make_calls(run),
     }

@@ -21,7 +21,7 @@ pub(crate) fn start_with(n: usize, counts: [u32; 16]) -> After
     let outcome = calls::start(n, counts);
     let run = outcome.run;
     let answer = outcome.answer;
-    let said = output::say::of_start(answer);
+    let said = summaries::of_start(answer);
     let refused = said.refused;
     After { run, refused }
 }
@@ -49,7 +49,7 @@ pub(crate) fn checkpoint(before: After, i: usize, length: usize) -> After
     let outcome = calls::checkpoint(before.run, i, &mut deleted[..length]);
     let run = outcome.run;
     let answer = outcome.answer;
-    let said = output::say::of_checkpoint(answer);
+    let said = summaries::of_checkpoint(answer);
     let refused = said.refused;
     After { run, refused }
 }
@@ -60,7 +60,7 @@ pub(crate) fn send(before: After, i: usize, j: usize) -> After
     let outcome = calls::send(before.run, i, j);
     let run = outcome.run;
     let answer = outcome.answer;
-    let said = output::say::of_send(answer);
+    let said = summaries::of_send(answer);
     let refused = said.refused;
     After { run, refused }
 }
@@ -73,7 +73,7 @@ pub(crate) fn deliver(before: After, m: u32, length: usize) -> After
     let outcome = calls::deliver(before.run, m, &mut deleted[..length]);
     let run = outcome.run;
     let answer = outcome.answer;
-    let said = output::say::of_deliver(answer);
+    let said = summaries::of_deliver(answer);
     let refused = said.refused;
     After { run, refused }
 }
@@ -93,7 +93,7 @@ pub(crate) fn recover(before: After, failed: u16, length: usize, members: usize)
     );
     let run = outcome.run;
     let answer = outcome.answer;
-    let said = output::say::of_recover(answer);
+    let said = summaries::of_recover(answer);
     let refused = said.refused;
     After { run, refused }
 }

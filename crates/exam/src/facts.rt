@@ -206,7 +206,7 @@ pub(crate) fn deliver(before: After, m: u32) -> After {
     let outcome = calls::deliver(before.run, m, &mut deleted);
     let run = outcome.run;
     let answer = outcome.answer;
-    let said = output::say::of_deliver(answer);
+    let said = summaries::of_deliver(answer);
     let refused = said.refused;
     of_delivery(b"deliver", m, refused as u64);
     of_delivery(b"risen", m, outcome.rose as u64);
@@ -253,7 +253,7 @@ pub(crate) fn recover(before: After, failed: u16) -> After {
     let answer = outcome.answer;
     indexes(b"written", failed, &line, n);
     recovery(failed, answer, &deleted);
-    let said = output::say::of_recover(answer);
+    let said = summaries::of_recover(answer);
     let refused = said.refused;
     After { run, refused }
 }

@@ -54,7 +54,7 @@ fn line(n: usize, length: usize)
     let mut line = [0u16; 16];
     let outcome = calls::line(start.run, 1, &mut line[..length]);
     let answer = outcome.answer;
-    let said = output::say::of_line(answer);
+    let said = summaries::of_line(answer);
     with_list(b"line", n, length, said.refused);
 }
 

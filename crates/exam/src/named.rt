@@ -101,7 +101,7 @@ fn show(s: After, number: u64, list: NamedList) {
     let mut line = [0u16; 16];
     let outcome = calls::earliest_among(s.run, named, list.length, &mut line);
     let answer = outcome.answer;
-    let said = output::say::of_line(answer);
+    let said = summaries::of_line(answer);
     let refused = said.refused;
     say::heading(b"earliest", number);
     say::value(refused as u64);
@@ -167,7 +167,7 @@ fn with_line(n: usize, length: u64, line: &mut [u16]) {
     let named = list.named;
     let outcome = calls::earliest_among(start.run, named, list.length, line);
     let answer = outcome.answer;
-    let said = output::say::of_line(answer);
+    let said = summaries::of_line(answer);
     say::text(b"earliestline");
     say::value(n as u64);
     say::value(length);

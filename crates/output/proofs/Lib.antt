@@ -1,5 +1,3 @@
 -- Laws that belong to no one function.
 pub mod Endings
 pub mod Lines
-pub mod Moves
-pub mod Words

@@ -1,5 +1,4 @@
 // A line printed into a lent buffer that has room for the longest one, and whether the replay goes on behind it.
-use crate::say;
 use listing::Summary;
 use model::Refusal;
 ghost use mathlib.Core.Path.{_≡_};
@@ -25,7 +24,7 @@ pub(crate) fn refuse(number: u64, why: Refusal, out: &mut [u8]) -> usize
     ensures { λ r. ⌜ Printed (now (out .entry)) 0 (refusalText number why) (now (out .exit)) r × (r ≤ length (now (out .entry))) ⌝ }
 {
     let none = [0u16; 1];
-    let said = say::refused(why);
+    let said = summaries::refused(why);
     print(said, &none, number, out, 0)
 }
 

@@ -82,7 +82,7 @@ pub fn fill(p: Position, input: &mut [u8]) -> Filled
     ensures { λ r. ⌜ Fills p (now (input .entry)) (r .more) (r .position) (now (input .exit)) ⌝ }
 {
     let from = 1 + p.held;
-    let to = 1 + output::buffer::fill_to(p.done, input.len() - 1);
+    let to = 1 + replay_input::buffer::fill_to(p.done, input.len() - 1);
     let got = libc::read(STDIN_FILENO, &mut input[from..to]);
     let more = io::count(got, &input[from..to]);
     let run = p.run;

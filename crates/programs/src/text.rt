@@ -34,6 +34,6 @@ pub fn write_refused(out: &mut [u8], why: Refusal) -> usize
     requires { ⌜ longestRefusal ≤ length (now out) ⌝ }
     ensures { λ r. ⌜ Printed (now (out .entry)) 0 (refusedText why) (now (out .exit)) r × (r ≤ longestRefusal) ⌝ }
 {
-    let number = output::say::number_of(why);
+    let number = summaries::number_of(why);
     write_figure(out, 0, b"refused ", number as u64)
 }

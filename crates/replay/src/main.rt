@@ -76,7 +76,7 @@ fn start(all: bool, input: &mut [u8], out: &mut [u8]) -> Ended
 fn is_all_asked() -> bool {
     let mut word = [0u8; 4];
     let size = os::arg(1, &mut word);
-    output::arguments::asks_for_all(os::arg_count(), &word[..size])
+    replay_input::arguments::asks_for_all(os::arg_count(), &word[..size])
 }
 
 fn main() {

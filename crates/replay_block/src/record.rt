@@ -138,7 +138,7 @@ fn number_of(verdict: Verdict) -> u8
 {
     match verdict {
         Verdict::Accepted => 0,
-        Verdict::Refused(why) => output::say::number_of(why),
+        Verdict::Refused(why) => summaries::number_of(why),
     }
 }
 

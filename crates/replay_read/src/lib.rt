@@ -53,6 +53,6 @@ pub fn replay_held(p: Position, input: &mut [u8], out: &mut [u8]) -> Passed
     let size = 1 + held;
     let passed = pass_all(p, &input[..size], out);
     let at = passed.position;
-    output::buffer::keep(input, 1, size - at.held(), size);
+    replay_input::buffer::keep(input, 1, size - at.held(), size);
     passed
 }

@@ -13,7 +13,7 @@ pub(crate) fn starts(s: Run, times: u32) -> u8 {
         let outcome = calls::start(16, [1; 16]);
         last = outcome.run;
         let answer = outcome.answer;
-        let said = output::say::of_start(answer);
+        let said = summaries::of_start(answer);
         refused = said.refused;
     }
     left(last, refused)
@@ -27,7 +27,7 @@ pub(crate) fn checkpoints(s: Run, times: u32) -> u8 {
         let outcome = calls::checkpoint(s, 3, &mut deleted);
         last = outcome.run;
         let answer = outcome.answer;
-        let said = output::say::of_checkpoint(answer);
+        let said = summaries::of_checkpoint(answer);
         refused = said.refused;
     }
     left(last, refused)
@@ -40,7 +40,7 @@ pub(crate) fn sends(s: Run, times: u32) -> u8 {
         let outcome = calls::send(s, 3, 7);
         last = outcome.run;
         let answer = outcome.answer;
-        let said = output::say::of_send(answer);
+        let said = summaries::of_send(answer);
         refused = said.refused;
     }
     left(last, refused)
@@ -54,7 +54,7 @@ pub(crate) fn delivers(s: Run, times: u32) -> u8 {
         let outcome = calls::deliver(s, 113, &mut deleted);
         last = outcome.run;
         let answer = outcome.answer;
-        let said = output::say::of_deliver(answer);
+        let said = summaries::of_deliver(answer);
         refused = said.refused;
     }
     left(last, refused)
@@ -67,7 +67,7 @@ pub(crate) fn loses(s: Run, times: u32) -> u8 {
         let outcome = calls::lose(s, 113);
         last = outcome.run;
         let answer = outcome.answer;
-        let said = output::say::of_lose(answer);
+        let said = summaries::of_lose(answer);
         refused = said.refused;
     }
     left(last, refused)
@@ -81,7 +81,7 @@ pub(crate) fn lines(s: Run, times: u32) -> u8 {
         let outcome = calls::line(s, 8, &mut line);
         last = outcome.run;
         let answer = outcome.answer;
-        let said = output::say::of_line(answer);
+        let said = summaries::of_line(answer);
         refused = said.refused;
     }
     left(last, refused)
@@ -96,7 +96,7 @@ pub(crate) fn recovers(s: Run, times: u32) -> u8 {
         let outcome = calls::recover(s, 8, &mut deleted, &mut line);
         last = outcome.run;
         let answer = outcome.answer;
-        let said = output::say::of_recover(answer);
+        let said = summaries::of_recover(answer);
         refused = said.refused;
     }
     left(last, refused)

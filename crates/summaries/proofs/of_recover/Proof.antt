@@ -1,11 +1,11 @@
--- `output::say::of_recover` meets its contract, by the cases of the answer.
+-- `summaries::of_recover` meets its contract, by the cases of the answer.
 -- Assumes nothing.
 use borrow.Author.Needs.{needs}
 use Rattle.listing.specs.Lines.{valueIn}
 use Rattle.whole_runs.specs.Outcomes.{recoverReport}
 use Rattle.listing.specs.Said.{reportIn}
-use Rattle.output.proofs.say.of_recover.Statement.{statement}
-use Rattle.output.proofs.say.of_recover.Tie as tie
+use Rattle.summaries.proofs.of_recover.Statement.{statement}
+use Rattle.summaries.proofs.of_recover.Tie as tie
 
 returns : tie.Need-returns
 unfolding recoverReport

@@ -1,11 +1,11 @@
--- `output::say::of_checkpoint` meets its contract, by the cases of the answer.
+-- `summaries::of_checkpoint` meets its contract, by the cases of the answer.
 -- Assumes nothing.
 use borrow.Author.Needs.{needs}
 use Rattle.listing.specs.Lines.{valueIn}
 use Rattle.whole_runs.specs.Outcomes.{checkpointReport}
 use Rattle.listing.specs.Said.{reportIn}
-use Rattle.output.proofs.say.of_checkpoint.Statement.{statement}
-use Rattle.output.proofs.say.of_checkpoint.Tie as tie
+use Rattle.summaries.proofs.of_checkpoint.Statement.{statement}
+use Rattle.summaries.proofs.of_checkpoint.Tie as tie
 
 returns : tie.Need-returns
 unfolding checkpointReport

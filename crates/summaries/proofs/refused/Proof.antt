@@ -1,10 +1,10 @@
--- `output::say::refused` meets its contract: its number is the refusal's.
+-- `summaries::refused` meets its contract: its number is the refusal's.
 -- Assumes nothing.
 use borrow.Author.Needs.{needs}
 use Rattle.listing.specs.Said.{reportIn}
 use Rattle.listing.specs.Lines.{valueIn}
-use Rattle.output.proofs.say.refused.Statement.{statement}
-use Rattle.output.proofs.say.refused.Tie as tie
+use Rattle.summaries.proofs.refused.Statement.{statement}
+use Rattle.summaries.proofs.refused.Tie as tie
 
 returns : tie.Need-returns
 unfolding reportIn valueIn

@@ -1,4 +1,4 @@
--- `output::buffer::keep` meets its contract: so far the first k bytes are moved.
+-- `replay_input::buffer::keep` meets its contract: so far the first k bytes are moved.
 -- Assumes nothing.
 use borrow.Author.Needs.{needs}
 use mathlib.Core.Path.{_≡_, refl, _∙_, ap}
@@ -7,9 +7,9 @@ use native.Mathlib.Omega.{arith}
 use denote.Ref.{now}
 use lib.ListN.{length, take, drop}
 use lib.Seq.{sets, length-sets}
-use Rattle.output.proofs.Moves.{one-moved}
-use Rattle.output.proofs.buffer.keep.Statement.{statement}
-use Rattle.output.proofs.buffer.keep.Tie as tie
+use Rattle.replay_input.proofs.Moves.{one-moved}
+use Rattle.replay_input.proofs.buffer.keep.Statement.{statement}
+use Rattle.replay_input.proofs.buffer.keep.Tie as tie
 
 abbrev Inv-loop : tie.InvT-loop
 Inv-loop buffer₀ to from end left k₀ buffer k = (k ≤ left) × (left ≡ end - from) × (buffer ≡ sets buffer₀ to (take k (drop from buffer₀)))

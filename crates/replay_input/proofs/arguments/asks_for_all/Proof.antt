@@ -1,4 +1,4 @@
--- `output::arguments::asks_for_all` meets its contract, test by test.
+-- `replay_input::arguments::asks_for_all` meets its contract, test by test.
 -- Assumes nothing.
 use borrow.Author.Needs.{needs}
 use borrow.Author.Tests.{eq-eqb, ne-eqb}
@@ -7,9 +7,9 @@ use Prim.Native.Nat.{ℕ}
 use denote.Ref.{now}
 use lib.ListN.{getD}
 use Rattle.whole_runs.specs.Listing.{asksForAll}
-use Rattle.output.proofs.Words.{three-bytes, not-three}
-use Rattle.output.proofs.arguments.asks_for_all.Statement.{statement}
-use Rattle.output.proofs.arguments.asks_for_all.Tie as tie
+use Rattle.replay_input.proofs.Words.{three-bytes, not-three}
+use Rattle.replay_input.proofs.arguments.asks_for_all.Statement.{statement}
+use Rattle.replay_input.proofs.arguments.asks_for_all.Tie as tie
 
 -- Where there are two words and the second has three bytes.
 module _ (c : tie.Else2) where

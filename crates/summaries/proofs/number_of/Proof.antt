@@ -1,10 +1,10 @@
--- `output::say::number_of` meets its contract, by computation in each case: first that each variant has its key, then the number of each, by what the match tells.
+-- `summaries::number_of` meets its contract, by computation in each case: first that each variant has its key, then the number of each, by what the match tells.
 -- Assumes nothing.
 use mathlib.Core.Path.{refl}
 use borrow.Author.Needs.{needs}
 use Rattle.model.specs.Refusals.{number}
-use Rattle.output.proofs.say.number_of.Statement.{statement}
-use Rattle.output.proofs.say.number_of.Tie as tie
+use Rattle.summaries.proofs.number_of.Statement.{statement}
+use Rattle.summaries.proofs.number_of.Tie as tie
 
 pub number-of-spec : {M : Type 1} → statement M
 unfolding number

@@ -45,7 +45,7 @@ pub fn number_of(r: Refusal) -> u8
     }
 }
 
-pub(crate) fn refused(r: Refusal) -> Summary
+pub fn refused(r: Refusal) -> Summary
     ensures { λ x. ⌜ reportIn x ≡ refusing r ⌝ }
 {
     Summary {
