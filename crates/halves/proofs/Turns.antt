@@ -10,7 +10,7 @@ use Rattle.model.specs.declared.Refusal.{Refusal}
 use Rattle.merges.specs.Halves.{HalfEvent}
 use Rattle.merges.specs.Merge.{stopped, takeFrom}
 use Rattle.halves.specs.declared.taking.Step.the-variants as step
-use Rattle.plans.specs.declared.Verdict.the-variants as verdict
+use Rattle.verdicts.specs.declared.Verdict.the-variants as verdict
 use Rattle.halves.specs.Log.{Logged}
 use Rattle.halves.specs.Taking.{left, Steps, Takes}
 

@@ -10,9 +10,9 @@ use Rattle.model.specs.declared.Refusal.{Refusal}
 use Rattle.model.specs.declared.MergeAnswer.the-variants as merge-answer
 use Rattle.merges.specs.Merge.{takeFrom, countOf, behindCount, fieldsIn, mergeRefusal, plainBytes, MergeOutcome, finished, mergeOutcome}
 use Rattle.merges.proofs.Replaying.{how-many}
-use Rattle.plans.specs.declared.Verdict.{Verdict}
-use Rattle.plans.specs.declared.Verdict.the-variants as verdict
-use Rattle.plans.specs.Planned.{refusalOf}
+use Rattle.verdicts.specs.declared.Verdict.{Verdict}
+use Rattle.verdicts.specs.declared.Verdict.the-variants as verdict
+use Rattle.verdicts.specs.Verdicts.{refusalOf}
 use Rattle.halves.specs.Log.{bytesUpTo}
 use Rattle.halves.specs.Taking.{left, Takes}
 use Rattle.halves.proofs.Bytes.{bytes-length, logged-bytes}

@@ -12,8 +12,8 @@ use Rattle.model.specs.declared.Fields.{Fields}
 use Rattle.model.specs.Trace.{fields, fits}
 use Rattle.merges.specs.Halves.{HalfEvent, deliverOf, loseOf, plainEvent}
 use Rattle.merges.specs.Merge.{Taken, stopped, took, isReady, onRecord, takeFrom, fieldsIn}
-use Rattle.plans.specs.declared.Verdict.{Verdict}
-use Rattle.plans.specs.declared.Verdict.the-variants as verdict
+use Rattle.verdicts.specs.declared.Verdict.{Verdict}
+use Rattle.verdicts.specs.declared.Verdict.the-variants as verdict
 use Rattle.trace.specs.Answers.{recordAt}
 use Rattle.halves.specs.declared.record.Judged.{Judged}
 use Rattle.halves.specs.declared.record.Judged.the-variants as judged

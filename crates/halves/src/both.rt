@@ -1,6 +1,6 @@
 // What is judged of both halves, the set and the result buffer before any record: 1, 3, 12, 23, 7, 13, 17, in this order.
 use model::Refusal;
-use plans::Verdict;
+use verdicts::Verdict;
 ghost use mathlib.Core.Path.{_≡_};
 ghost use mathlib.Core.List.{List, [], _∷_};
 ghost use Prim.Native.Nat.{ℕ, _+_};
@@ -8,7 +8,7 @@ ghost use lib.Dec.{ltb};
 ghost use lib.ListN.{length};
 ghost use Rattle.model.specs.Refusals.{firstOf};
 ghost use Rattle.merges.specs.Merge.{countOf, badCount, leftOver, tooMany, mergeRefusal};
-ghost use Rattle.plans.specs.Planned.{refusalOf};
+ghost use Rattle.verdicts.specs.Verdicts.{refusalOf};
 ghost use Rattle.halves.specs.Both.{rulesOf};
 
 // "The first byte is n"; 0 where there is none.
@@ -106,7 +106,7 @@ pub(crate) fn judge_halves(first: &[u8], second: &[u8], set: u16, room: usize) -
     let empty = (first.len() == 0) | (second.len() == 0);
     let n = count_of(first);
     let unequal = n != count_of(second);
-    let outside = plans::is_outside(set as u32, n);
+    let outside = verdicts::is_outside(set as u32, n);
     let left = left_over(first) | left_over(second);
     let many = too_many(first) | too_many(second);
     first_rule(bad, short, empty, unequal, outside, left, many)

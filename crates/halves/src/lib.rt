@@ -14,7 +14,7 @@ mod taking;
 mod both;
 
 use model::MergeAnswer;
-use plans::Verdict;
+use verdicts::Verdict;
 ghost use mathlib.Core.Path.{_≡_};
 ghost use Rattle.merges.specs.Halves.{OrdersAgree};
 ghost use Rattle.merges.specs.Merge.{mergeOutcome, MergePromise};

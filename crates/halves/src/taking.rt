@@ -2,8 +2,8 @@
 use crate::log;
 use crate::record;
 use model::Refusal;
-use plans::Verdict;
 use record::Judged;
+use verdicts::Verdict;
 ghost use mathlib.Core.Path.{_≡_};
 ghost use mathlib.Core.Bool.{true};
 ghost use mathlib.Core.List.{List};

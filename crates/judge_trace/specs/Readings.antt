@@ -18,9 +18,9 @@ use Rattle.model.specs.Words.{entry, ones, mostUnderWay, mostMessages, mostInte
 use Rattle.model.specs.Steps.{advanced, takenVector, started}
 use Rattle.model.specs.Refusals.{firstOf}
 use Rattle.whole_runs.specs.Outcomes.{judged}
-use Rattle.plans.specs.declared.Verdict.{Verdict}
-use Rattle.plans.specs.declared.Verdict.the-variants as verdict
-use Rattle.plans.specs.Planned.{refusalOf, sendVerdict}
+use Rattle.verdicts.specs.declared.Verdict.{Verdict}
+use Rattle.verdicts.specs.declared.Verdict.the-variants as verdict
+use Rattle.verdicts.specs.Verdicts.{refusalOf, sendVerdict}
 use Rattle.plans.proofs.Cases.{accepted-send}
 use Rattle.decision.specs.Rows.{rowOf, putRow, entryAt, put-same, put-other, put-length}
 use Rattle.judge_trace.specs.declared.reading.Progress.{Progress}

@@ -3,8 +3,8 @@
 // the row of its send, and `to` the row of its receipt and 1, or 0.
 use model::Event;
 use model::Refusal;
-use plans::Verdict;
 use trace::Decoded;
+use verdicts::Verdict;
 ghost use mathlib.Core.Path.{_≡_};
 ghost use mathlib.Core.Option.{some};
 ghost use Prim.Native.Nat.{_+_, _*_, _≤_, _<_};
@@ -92,7 +92,7 @@ fn read_checkpoint(
     let row = s.current[i];
     let v = decision::flat::row_at(vectors, row);
     let own = v[i];
-    let full = plans::is_last_interval(own);
+    let full = verdicts::is_last_interval(own);
     if full {
         return refuse(Refusal::IntervalsUsed, s);
     }
@@ -109,7 +109,7 @@ fn send_refusal(s: Progress, n: usize, i: usize, receiver: usize) -> Taking
     requires { ⌜ s .last < 4096 ⌝ }
     ensures { λ r. ⌜ refusalIn r ≡ sendRefusal n s i receiver ⌝ }
 {
-    let verdict = plans::send_verdict(i, receiver, n, s.underway, s.last as u32);
+    let verdict = verdicts::send_verdict(i, receiver, n, s.underway, s.last as u32);
     match verdict {
         Verdict::Refused(why) => Taking::Refused(why),
         Verdict::Accepted => Taking::Taken,

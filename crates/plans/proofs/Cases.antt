@@ -17,9 +17,10 @@ use Rattle.model.specs.Steps.{newer}
 use Rattle.model.specs.Refusals.{firstOf}
 use Rattle.plans.specs.declared.Lookup.{Lookup}
 use Rattle.plans.specs.declared.Plan.{Plan}
-use Rattle.plans.specs.declared.Verdict.{Verdict}
-use Rattle.plans.specs.declared.Verdict.the-variants.{Accepted, Refused}
-use Rattle.plans.specs.Planned.{refusalOf, unchanged, pastMost, sentPlan, sendVerdict, planBy, sendPlan, withoutIt, receiptPlan, deliverPlan, losePlan}
+use Rattle.verdicts.specs.declared.Verdict.{Verdict}
+use Rattle.verdicts.specs.declared.Verdict.the-variants.{Accepted, Refused}
+use Rattle.plans.specs.Planned.{unchanged, sentPlan, planBy, sendPlan, withoutIt, receiptPlan, deliverPlan, losePlan}
+use Rattle.verdicts.specs.Verdicts.{refusalOf, pastMost, sendVerdict}
 
 -- What holds of both of two plans holds of one of them that a test picks.
 pub either-plan : (Q : Plan → Type 0) (b : Bool) (x y : Plan) → (b ≡ true → Q x) → (b ≡ false → Q y) → Q (pick b x y)

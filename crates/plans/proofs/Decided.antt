@@ -32,10 +32,11 @@ use Rattle.model.proofs.Risen.{risen-is-exact}
 use Rattle.retention.specs.Receipt.{vectorFirst, takenThen}
 use Rattle.plans.specs.declared.Lookup.{Lookup}
 use Rattle.plans.specs.declared.Plan.{Plan}
-use Rattle.plans.specs.declared.Verdict.{Verdict}
-use Rattle.plans.specs.declared.Verdict.the-variants.{Accepted, Refused}
+use Rattle.verdicts.specs.declared.Verdict.{Verdict}
+use Rattle.verdicts.specs.declared.Verdict.the-variants.{Accepted, Refused}
 use Rattle.plans.specs.Carried.{vectorAt, ownAt, countAt, roseBy, Fulfils}
-use Rattle.plans.specs.Planned.{rowOf, unchanged, pastMost, storedPlan, checkpointPlan, sentPlan, sendPlan, withoutIt, receiptPlan, deliverPlan, losePlan, recoveryVerdict}
+use Rattle.plans.specs.Planned.{rowOf, unchanged, storedPlan, checkpointPlan, sentPlan, sendPlan, withoutIt, receiptPlan, deliverPlan, losePlan}
+use Rattle.verdicts.specs.Verdicts.{pastMost, recoveryVerdict}
 use Rattle.plans.specs.Sized.{Sized}
 use Rattle.plans.specs.Tables.{LooksUp}
 use Rattle.plans.proofs.Facts.{row-is}

@@ -18,7 +18,8 @@ use Rattle.retention.specs.Receipt.{vectorThen, keptThen}
 use Rattle.plans.specs.declared.Lookup.{Lookup}
 use Rattle.plans.specs.declared.Plan.{Plan}
 use Rattle.plans.specs.Carried.{vectorAt, ownAt, keptAt, storedAt, pinsBy, unnamedBy, diskBy, unmoved, moved, messagesThen, Fulfils}
-use Rattle.plans.specs.Planned.{refusalOf, unchanged}
+use Rattle.plans.specs.Planned.{unchanged}
+use Rattle.verdicts.specs.Verdicts.{refusalOf}
 use Rattle.plans.specs.Sized.{Sized}
 use Rattle.plans.specs.Tables.{LooksUp}
 use Rattle.plans.proofs.Filled.{messages-many}

@@ -6,7 +6,6 @@ pub mod Facts
 pub mod Filled
 pub mod Fulfilled
 pub mod Looked
-pub mod Outside
 pub mod Parts
 pub mod Receipts
 pub mod Receiving

@@ -20,7 +20,8 @@ use Rattle.model.specs.Sound.{sound}
 use Rattle.plans.specs.declared.Lookup.{Lookup}
 use Rattle.plans.specs.declared.Plan.{Plan}
 use Rattle.plans.specs.Carried.{vectorAt, ownAt, pinsBy, unnamedBy, diskBy, messagesThen, Fulfils}
-use Rattle.plans.specs.Planned.{refusalOf, withoutIt, receiptPlan}
+use Rattle.plans.specs.Planned.{withoutIt, receiptPlan}
+use Rattle.verdicts.specs.Verdicts.{refusalOf}
 use Rattle.plans.specs.Sized.{Sized}
 use Rattle.plans.specs.Tables.{LooksUp}
 use Rattle.plans.proofs.Billing.{blocks-of-some, billed-none}

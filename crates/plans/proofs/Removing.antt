@@ -14,7 +14,8 @@ use Rattle.model.specs.Steps.{others}
 use Rattle.model.specs.Sound.{sound}
 use Rattle.plans.specs.declared.Lookup.{Lookup}
 use Rattle.plans.specs.Carried.{messagesThen, Fulfils}
-use Rattle.plans.specs.Planned.{refusalOf, withoutIt}
+use Rattle.plans.specs.Planned.{withoutIt}
+use Rattle.verdicts.specs.Verdicts.{refusalOf}
 use Rattle.plans.specs.Sized.{Sized}
 use Rattle.plans.specs.Tables.{LooksUp}
 use Rattle.plans.proofs.Fulfilled.{unmoved-plan}

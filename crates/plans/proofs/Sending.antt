@@ -16,7 +16,8 @@ use Rattle.model.specs.Sound.{sound}
 use Rattle.plans.specs.declared.Lookup.{Lookup}
 use Rattle.plans.specs.declared.Plan.{Plan}
 use Rattle.plans.specs.Carried.{vectorAt, messagesThen, Fulfils}
-use Rattle.plans.specs.Planned.{refusalOf, sentPlan}
+use Rattle.plans.specs.Planned.{sentPlan}
+use Rattle.verdicts.specs.Verdicts.{refusalOf}
 use Rattle.plans.specs.Sized.{Sized}
 use Rattle.plans.specs.Tables.{LooksUp}
 use Rattle.plans.proofs.Filled.{messages-many}

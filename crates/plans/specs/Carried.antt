@@ -22,7 +22,7 @@ use Rattle.retention.specs.declared.kept.KeptRow.{KeptRow}
 use Rattle.retention.specs.Kept.{keptRow}
 use Rattle.retention.specs.Receipt.{takenThen, vectorThen, pinsThen, keptThen}
 use Rattle.plans.specs.declared.Plan.{Plan}
-use Rattle.plans.specs.Planned.{refusalOf}
+use Rattle.verdicts.specs.Verdicts.{refusalOf}
 use Rattle.plans.specs.Tables.{messagesIn}
 
 -- The rows of process i, and what a plan that moves them leaves of them.

@@ -3,29 +3,23 @@
 -- Assumes nothing.
 use mathlib.Core.Bool.{Bool, true, false, _&&_}
 use mathlib.Core.List.{List}
-use mathlib.Core.Option.{Option, none, some}
-use Prim.Native.Nat.{ℕ, _+_, _-_, _^_}
-use lib.Dec.{eqb, ltb, leb}
+use Prim.Native.Nat.{ℕ, _+_, _-_}
+use lib.Dec.{ltb, leb}
 use Rattle.laws.specs.Choice.{pick}
 use Rattle.model.specs.declared.Interval.{Interval}
 use Rattle.model.specs.declared.Refusal.{Refusal}
-use Rattle.model.specs.declared.Refusal.the-variants.{NoSuchProcess, SenderIsReceiver, NoSuchFailedProcess, NotUnderWay, TooManyUnderWay, MessageNumbersUsed, IntervalsUsed, BlocksUsed}
-use Rattle.model.specs.Words.{initial, basic, forced, mostBlocks, zeroVector, noMessage}
+use Rattle.model.specs.declared.Refusal.the-variants.{NoSuchProcess, NotUnderWay, IntervalsUsed, BlocksUsed}
+use Rattle.model.specs.Words.{initial, basic, forced, zeroVector, noMessage}
 use Rattle.model.specs.Steps.{newer}
 use Rattle.plans.specs.declared.Lookup.{Lookup}
 use Rattle.plans.specs.declared.Plan.{Plan}
-use Rattle.plans.specs.declared.Recovery.{Recovery}
-use Rattle.plans.specs.declared.Verdict.{Verdict}
-use Rattle.plans.specs.declared.Verdict.the-variants.{Accepted, Refused}
+use Rattle.verdicts.specs.declared.Verdict.{Verdict}
+use Rattle.verdicts.specs.declared.Verdict.the-variants.{Accepted, Refused}
+use Rattle.verdicts.specs.Verdicts.{pastMost, sendVerdict}
 
 -- The row of a process in the state, which has 16.
 unfoldable pub rowOf : ℕ → ℕ
 rowOf i = pick (ltb i 16) i 0
-
--- A verdict is a refusal or none.
-unfoldable pub refusalOf : Verdict → Option Refusal
-refusalOf Accepted = none
-refusalOf (Refused why) = some why
 
 -- A refusal changes nothing. `cause` says why a checkpoint is stored, where one is.
 unfoldable pub unchanged : Refusal → Bool → Lookup → Plan
@@ -61,10 +55,6 @@ storedPlan t = record {
   cause = basic;
 }
 
--- One more checkpoint of so many blocks would take the blocks written past the bound.
-unfoldable pub pastMost : ℕ → ℕ → Bool
-pastMost written blocks = ltb mostBlocks (written + blocks)
-
 unfoldable pub checkpointPlan : ℕ → ℕ → Interval → Bool → ℕ → ℕ → Lookup → Plan
 checkpointPlan i n ownEntry mark blocks written t =
     pick (leb n i) (unchanged NoSuchProcess mark t)
@@ -88,16 +78,6 @@ sentPlan i j vector t = record {
   tail = t .tail + 1;
   cause = initial;
 }
-
--- Whether a send is refused, and why.
-unfoldable pub sendVerdict : ℕ → ℕ → ℕ → ℕ → ℕ → Verdict
-sendVerdict i j n underway last =
-    pick (leb n i) (Refused NoSuchProcess)
-    (pick (leb n j) (Refused NoSuchProcess)
-    (pick (eqb i j) (Refused SenderIsReceiver)
-    (pick (leb 64 underway) (Refused TooManyUnderWay)
-    (pick (leb 1000000 last) (Refused MessageNumbersUsed)
-    Accepted))))
 
 -- A plan for an accepted call; a refused one changes nothing.
 unfoldable pub planBy : Verdict → Bool → Lookup → Plan → Plan
@@ -152,15 +132,3 @@ deliverPlan vector ownEntry mark blocks written t =
 
 unfoldable pub losePlan : Bool → Lookup → Plan
 losePlan mark t = pick (t .found) (withoutIt mark t) (unchanged NotUnderWay mark t)
-
--- A line or a recovery for failed set F in a run of n processes, whether somebody failed or nobody.
-unfoldable pub recoveryVerdict : ℕ → ℕ → Verdict
-recoveryVerdict n F = pick (leb (2 ^ n) F) (Refused NoSuchFailedProcess) Accepted
-
--- The recovery that it asks for, if it is not refused.
-unfoldable pub noRecovery : Recovery
-noRecovery = record { asked = false; failed = 0 }
-
-unfoldable pub recoveryIf : Verdict → ℕ → Recovery
-recoveryIf Accepted F = record { asked = true; failed = F }
-recoveryIf (Refused why) F = noRecovery

@@ -4,18 +4,14 @@
 use model::Interval;
 use model::Message;
 use model::Refusal;
+use verdicts::Verdict;
 ghost use mathlib.Core.Path.{_≡_};
 ghost use mathlib.Core.Bool.{true};
 ghost use Prim.Native.Nat.{_≤_, _<_};
 ghost use lib.Dec.{leb};
 ghost use Prim.Native.Nat.{_^_};
 ghost use Rattle.model.specs.Words.{noMessage};
-ghost use Rattle.plans.specs.Planned.{rowOf, unchanged, pastMost, checkpointPlan, sendVerdict, sentPlan, sendPlan, withoutIt, receiptPlan, deliverPlan, losePlan, recoveryVerdict, recoveryIf};
-
-pub enum Verdict {
-    Accepted,
-    Refused(Refusal),
-}
+ghost use Rattle.plans.specs.Planned.{rowOf, unchanged, checkpointPlan, sentPlan, sendPlan, withoutIt, receiptPlan, deliverPlan, losePlan};
 
 // A look-up of a message in a table with unused places: whether it is under way, its place, and what stands there; with it how many messages are under way, the
 // last number used and the end of the places in use. Where `found` is false the place is any one.
@@ -44,12 +40,6 @@ pub struct Plan {
     pub last: u32,
     pub tail: usize,
     pub cause: u8,
-}
-
-// The recovery that is carried out for a failed set, and whether there is one at all. That nobody failed is a set as any other: it asks for a sweep.
-pub struct Recovery {
-    pub asked: bool,
-    pub failed: u16,
 }
 
 // What an unused place of a table of messages holds.
@@ -96,20 +86,6 @@ pub fn unchanged(why: Refusal, mark: bool, t: Lookup) -> Plan
     }
 }
 
-// The own entry is that of the last interval: no checkpoint can follow.
-pub fn is_last_interval(own: Interval) -> bool
-    ensures { λ r. ⌜ r ≡ leb 65535 (own .0) ⌝ }
-{
-    65535 <= own.0
-}
-
-// One more checkpoint of `blocks` blocks would take the blocks written past the bound. The difference is tested: no sum of a free number is made.
-fn is_past_bound(written: u64, blocks: u16) -> bool
-    ensures { λ r. ⌜ r ≡ pastMost written blocks ⌝ }
-{
-    1000000000000000 - (blocks as u64) < written
-}
-
 // Process i of n takes a checkpoint; `own` is its own entry, `blocks` its block count, and `written` the blocks written so far. It is stored as by a receipt that
 // carries nothing new.
 pub fn checkpoint_plan(
@@ -126,11 +102,11 @@ pub fn checkpoint_plan(
     if n <= i {
         return unchanged(Refusal::NoSuchProcess, mark, t);
     }
-    let full = is_last_interval(own);
+    let full = verdicts::is_last_interval(own);
     if full {
         return unchanged(Refusal::IntervalsUsed, mark, t);
     }
-    let past = is_past_bound(written, blocks);
+    let past = verdicts::is_past_bound(written, blocks);
     if past {
         return unchanged(Refusal::BlocksUsed, mark, t);
     }
@@ -151,28 +127,6 @@ pub fn checkpoint_plan(
         tail: t.tail,
         cause: 1,
     }
-}
-
-// Whether a send is refused, and why, where `underway` messages are under way and `last` is the last number used.
-pub fn send_verdict(sender: usize, receiver: usize, n: usize, underway: usize, last: u32) -> Verdict
-    ensures { λ r. ⌜ r ≡ sendVerdict sender receiver n underway last ⌝ }
-{
-    if n <= sender {
-        return Verdict::Refused(Refusal::NoSuchProcess);
-    }
-    if n <= receiver {
-        return Verdict::Refused(Refusal::NoSuchProcess);
-    }
-    if sender == receiver {
-        return Verdict::Refused(Refusal::SenderIsReceiver);
-    }
-    if 64 <= underway {
-        return Verdict::Refused(Refusal::TooManyUnderWay);
-    }
-    if 1000000 <= last {
-        return Verdict::Refused(Refusal::MessageNumbersUsed);
-    }
-    Verdict::Accepted
 }
 
 // The message goes behind those under way; `vector` is the sender's.
@@ -215,7 +169,7 @@ pub fn send_plan(
     requires { ⌜ t .tail ≤ 1087 ⌝ }
     ensures { λ r. ⌜ r ≡ sendPlan sender receiver n vector mark t ⌝ }
 {
-    let verdict = send_verdict(sender, receiver, n, t.underway, t.last);
+    let verdict = verdicts::send_verdict(sender, receiver, n, t.underway, t.last);
     match verdict {
         Verdict::Refused(why) => unchanged(why, mark, t),
         Verdict::Accepted => sent_plan(sender, receiver, vector, t),
@@ -292,11 +246,11 @@ pub fn deliver_plan(
     if !newer {
         return without_it(mark, t);
     }
-    let full = is_last_interval(own);
+    let full = verdicts::is_last_interval(own);
     if mark & full {
         return unchanged(Refusal::IntervalsUsed, mark, t);
     }
-    let past = is_past_bound(written, blocks);
+    let past = verdicts::is_past_bound(written, blocks);
     if mark & past {
         return unchanged(Refusal::BlocksUsed, mark, t);
     }
@@ -313,45 +267,5 @@ pub fn lose_plan(mark: bool, t: Lookup) -> Plan
         without_it(mark, t)
     } else {
         unchanged(Refusal::NotUnderWay, mark, t)
-    }
-}
-
-// The failed set has a bit at n or above: something is left of it once its lowest n bits are gone.
-pub fn is_outside(failed: u32, n: usize) -> bool
-    ensures { λ r. ⌜ r ≡ leb (2 ^ n) failed ⌝ }
-{
-    let mut left = failed;
-    for k in 0..n {
-        left = left / 2;
-    }
-    1 <= left
-}
-
-// Whether a line or a recovery for a failed set is refused. A record's set may have more than 16 bits.
-pub fn recovery_verdict(failed: u32, n: usize) -> Verdict
-    ensures { λ r. ⌜ r ≡ recoveryVerdict n failed ⌝ }
-{
-    let outside = is_outside(failed, n);
-    if outside {
-        return Verdict::Refused(Refusal::NoSuchFailedProcess);
-    }
-    Verdict::Accepted
-}
-
-// A failed set asks for a recovery exactly if it is not refused. Its bits are then below n.
-pub fn recovery_asked(failed: u32, n: usize) -> Recovery
-    requires { ⌜ n ≤ 16 ⌝ }
-    ensures { λ r. ⌜ r ≡ recoveryIf (recoveryVerdict n failed) failed ⌝ }
-{
-    let verdict = recovery_verdict(failed, n);
-    match verdict {
-        Verdict::Refused(why) => Recovery {
-            asked: false,
-            failed: 0,
-        },
-        Verdict::Accepted => Recovery {
-            asked: true,
-            failed: failed as u16,
-        },
     }
 }

@@ -31,10 +31,11 @@ use Rattle.model.specs.laws.Refusals.{no-rule, by-refusal}
 use Rattle.model.specs.laws.Sound.{sound-state}
 use Rattle.plans.specs.declared.Lookup.{Lookup}
 use Rattle.plans.specs.declared.Plan.{Plan}
-use Rattle.plans.specs.declared.Verdict.{Verdict}
-use Rattle.plans.specs.declared.Verdict.the-variants.{Accepted, Refused}
+use Rattle.verdicts.specs.declared.Verdict.{Verdict}
+use Rattle.verdicts.specs.declared.Verdict.the-variants.{Accepted, Refused}
 use Rattle.plans.specs.Carried.{vectorAt, ownAt, countAt, Fulfils}
-use Rattle.plans.specs.Planned.{rowOf, refusalOf, unchanged, recoveryVerdict, recoveryIf}
+use Rattle.plans.specs.Planned.{rowOf, unchanged}
+use Rattle.verdicts.specs.Verdicts.{refusalOf, recoveryVerdict, recoveryIf}
 use Rattle.plans.specs.Sized.{Sized}
 use Rattle.plans.specs.Tables.{LooksUp}
 use Rattle.plans.proofs.Facts.{row-is, square-most}

@@ -7,9 +7,9 @@ use Prim.Native.Nat.{ℕ}
 use Rattle.laws.specs.Truth.{never-both}
 use Rattle.model.specs.declared.Event.{Event}
 use Rattle.model.specs.declared.Event.the-variants.{Checkpoint as CheckpointEvent, Send, Deliver, Lose, Recover}
-use Rattle.plans.specs.declared.Verdict.{Verdict}
-use Rattle.plans.specs.declared.Verdict.the-variants.{Accepted, Refused}
-use Rattle.plans.specs.Planned.{recoveryVerdict, noRecovery, recoveryIf}
+use Rattle.verdicts.specs.declared.Verdict.{Verdict}
+use Rattle.verdicts.specs.declared.Verdict.the-variants.{Accepted, Refused}
+use Rattle.verdicts.specs.Verdicts.{recoveryVerdict, noRecovery, recoveryIf}
 use Rattle.replay_block.specs.Record.{recoveryOf}
 
 -- The record that asks for it.

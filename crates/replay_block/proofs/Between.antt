@@ -39,9 +39,9 @@ use Rattle.listing.specs.declared.Summary.{Summary}
 use Rattle.retention.specs.Kept.{keptRow}
 use Rattle.retention.specs.Receipt.{keptThen}
 use Rattle.plans.specs.Tables.{messagesIn}
-use Rattle.plans.specs.declared.Recovery.{Recovery}
-use Rattle.plans.specs.declared.Verdict.the-variants.{Accepted}
-use Rattle.plans.specs.Planned.{recoveryVerdict}
+use Rattle.verdicts.specs.declared.Recovery.{Recovery}
+use Rattle.verdicts.specs.declared.Verdict.the-variants.{Accepted}
+use Rattle.verdicts.specs.Verdicts.{recoveryVerdict}
 use Rattle.rows.proofs.Blocks.{first-count}
 use Rattle.rollback.specs.Members.{firstCount}
 use Rattle.rollback.specs.After.{pinsAt, lossesAt, blocksBelow}

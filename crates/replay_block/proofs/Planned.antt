@@ -17,9 +17,10 @@ use Rattle.model.specs.declared.Refusal.the-variants.{NoSuchProcess, NoSuchFail
 use Rattle.model.specs.Words.{noMessage}
 use Rattle.plans.specs.declared.Lookup.{Lookup}
 use Rattle.plans.specs.declared.Plan.{Plan}
-use Rattle.plans.specs.declared.Verdict.{Verdict}
-use Rattle.plans.specs.declared.Verdict.the-variants.{Accepted, Refused}
-use Rattle.plans.specs.Planned.{unchanged, pastMost, storedPlan, checkpointPlan, sentPlan, withoutIt, receiptPlan, losePlan, recoveryVerdict}
+use Rattle.verdicts.specs.declared.Verdict.{Verdict}
+use Rattle.verdicts.specs.declared.Verdict.the-variants.{Accepted, Refused}
+use Rattle.plans.specs.Planned.{unchanged, storedPlan, checkpointPlan, sentPlan, withoutIt, receiptPlan, losePlan}
+use Rattle.verdicts.specs.Verdicts.{pastMost, recoveryVerdict}
 use Rattle.plans.proofs.Cases.{either-plan, send-either, deliver-cases}
 use Rattle.replay_block.specs.Record.{refusedPlan, planOf, numberOf}
 

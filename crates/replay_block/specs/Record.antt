@@ -12,10 +12,11 @@ use Rattle.model.specs.declared.Refusal.the-variants.{NoSuchFailedProcess, Malf
 use Rattle.model.specs.Refusals.{number}
 use Rattle.plans.specs.declared.Lookup.{Lookup}
 use Rattle.plans.specs.declared.Plan.{Plan}
-use Rattle.plans.specs.declared.Recovery.{Recovery}
-use Rattle.plans.specs.declared.Verdict.{Verdict}
-use Rattle.plans.specs.declared.Verdict.the-variants.{Accepted, Refused}
-use Rattle.plans.specs.Planned.{rowOf, unchanged, checkpointPlan, sendPlan, deliverPlan, losePlan, recoveryVerdict, noRecovery, recoveryIf}
+use Rattle.verdicts.specs.declared.Recovery.{Recovery}
+use Rattle.verdicts.specs.declared.Verdict.{Verdict}
+use Rattle.verdicts.specs.declared.Verdict.the-variants.{Accepted, Refused}
+use Rattle.plans.specs.Planned.{rowOf, unchanged, checkpointPlan, sendPlan, deliverPlan, losePlan}
+use Rattle.verdicts.specs.Verdicts.{recoveryVerdict, noRecovery, recoveryIf}
 use Rattle.listing.specs.declared.Summary.{Summary}
 use Rattle.listing.specs.declared.Value.{Value}
 use Rattle.listing.specs.declared.Value.the-variants.{Hyphen, Number}

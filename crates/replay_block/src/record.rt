@@ -6,15 +6,15 @@ use model::Interval;
 use model::Refusal;
 use plans::Lookup;
 use plans::Plan;
-use plans::Recovery;
-use plans::Verdict;
 use trace::Decoded;
+use verdicts::Recovery;
+use verdicts::Verdict;
 ghost use mathlib.Core.Path.{_≡_};
 ghost use mathlib.Core.Bool.{true};
 ghost use mathlib.Core.Option.{some};
 ghost use Prim.Native.Nat.{_≤_};
 ghost use Rattle.trace.specs.Answers.{eventRead};
-ghost use Rattle.plans.specs.Planned.{recoveryVerdict};
+ghost use Rattle.verdicts.specs.Verdicts.{recoveryVerdict};
 ghost use Rattle.replay_block.specs.Record.{recoveryOf, sought, rowFor, refusedPlan, planOf, numberOf, valueBy, summaryOf};
 
 // Whether a record asks for a recovery that is not refused, and for which failed set.
@@ -44,7 +44,7 @@ pub fn recovery_of(d: Decoded, n: usize) -> Recovery
                 asked: false,
                 failed: 0,
             },
-            Event::Recover(failed) => plans::recovery_asked(failed, n),
+            Event::Recover(failed) => verdicts::recovery_asked(failed, n),
         },
     }
 }
@@ -85,7 +85,7 @@ pub fn row_of(d: Decoded, receiver: usize) -> usize
 fn recover_plan(failed: u32, n: usize, mark: bool, t: Lookup) -> Plan
     ensures { λ r. ⌜ r ≡ refusedPlan (recoveryVerdict n failed) mark t ⌝ }
 {
-    let verdict = plans::recovery_verdict(failed, n);
+    let verdict = verdicts::recovery_verdict(failed, n);
     match verdict {
         Verdict::Refused(why) => plans::unchanged(why, mark, t),
         Verdict::Accepted => plans::unchanged(Refusal::NoSuchFailedProcess, mark, t),

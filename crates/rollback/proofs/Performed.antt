@@ -29,9 +29,9 @@ use Rattle.model.proofs.simulation.Accepted.{start-out}
 use Rattle.model.proofs.simulation.Reads.{count-is}
 use Rattle.whole_runs.proofs.whole.Runs.{runAfter}
 use Rattle.whole_runs.proofs.WholeRuns.{reachable-reached, line-promise}
-use Rattle.plans.specs.declared.Verdict.the-variants.{Accepted}
-use Rattle.plans.specs.Planned.{recoveryVerdict}
-use Rattle.plans.proofs.Outside.{accepted-inside}
+use Rattle.verdicts.specs.declared.Verdict.the-variants.{Accepted}
+use Rattle.verdicts.specs.Verdicts.{recoveryVerdict}
+use Rattle.verdicts.proofs.Outside.{accepted-inside}
 use Rattle.rollback.specs.Restored.{Restored, Restores, restored}
 use Rattle.rows.proofs.Blocks.{take-most}
 use Rattle.lent_lists.proofs.Room.{twice-square}

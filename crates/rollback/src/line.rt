@@ -5,7 +5,7 @@ use model::Interval;
 use model::LineAnswer;
 use model::Refusal;
 use model::Run;
-use plans::Verdict;
+use verdicts::Verdict;
 ghost use mathlib.Core.Path.{_≡_};
 ghost use mathlib.Core.Bool.{true, false};
 ghost use Prim.Native.Nat.{_≤_};
@@ -112,7 +112,7 @@ pub fn line(s: Run, failed: u16, line: &mut [u16]) -> LineOutcome
     if short {
         return refuse(s, Refusal::ListTooShort);
     }
-    let verdict = plans::recovery_verdict(failed as u32, n);
+    let verdict = verdicts::recovery_verdict(failed as u32, n);
     if let Verdict::Refused(why) = verdict {
         return refuse(s, why);
     }

@@ -10,7 +10,7 @@ use model::Pins;
 use model::RecoverAnswer;
 use model::Refusal;
 use model::Run;
-use plans::Verdict;
+use verdicts::Verdict;
 ghost use mathlib.Core.Path.{_≡_};
 ghost use mathlib.Core.Bool.{true};
 ghost use Prim.Native.Nat.{_*_, _^_, _<_, _≤_};
@@ -170,7 +170,7 @@ pub fn recover(s: Run, failed: u16, deleted: &mut [u16], line: &mut [u16]) -> Re
     if short {
         return refuse(s, Refusal::ListTooShort);
     }
-    let verdict = plans::recovery_verdict(failed as u32, n);
+    let verdict = verdicts::recovery_verdict(failed as u32, n);
     if let Verdict::Refused(why) = verdict {
         return refuse(s, why);
     }

@@ -37,10 +37,11 @@ use Rattle.whole_runs.specs.Outcomes.{Outcome, judged, pairs, checkpointOutcome
 use Rattle.rows.proofs.Blocks.{first-count}
 use Rattle.plans.specs.declared.Lookup.{Lookup}
 use Rattle.plans.specs.declared.Plan.{Plan}
-use Rattle.plans.specs.declared.Verdict.{Verdict}
-use Rattle.plans.specs.declared.Verdict.the-variants.{Accepted, Refused}
+use Rattle.verdicts.specs.declared.Verdict.{Verdict}
+use Rattle.verdicts.specs.declared.Verdict.the-variants.{Accepted, Refused}
 use Rattle.plans.specs.Carried.{countAt, messagesThen, unnamedBy, roseBy, unmoved, moved, Fulfils}
-use Rattle.plans.specs.Planned.{rowOf, refusalOf, unchanged, pastMost, storedPlan, checkpointPlan, sentPlan, sendPlan, withoutIt, deliverPlan, losePlan}
+use Rattle.plans.specs.Planned.{rowOf, unchanged, storedPlan, checkpointPlan, sentPlan, sendPlan, withoutIt, deliverPlan, losePlan}
+use Rattle.verdicts.specs.Verdicts.{refusalOf, pastMost}
 use Rattle.plans.specs.Sized.{Sized}
 use Rattle.plans.specs.Tables.{LooksUp}
 use Rattle.plans.proofs.Facts.{row-is}

@@ -2,7 +2,7 @@
 use model::CheckpointAnswer;
 use model::Refusal;
 use model::Run;
-use plans::Verdict;
+use verdicts::Verdict;
 ghost use mathlib.Core.Path.{_≡_};
 ghost use mathlib.Core.Bool.{true};
 ghost use Rattle.model.specs.Sound.{sound};

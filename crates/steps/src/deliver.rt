@@ -3,7 +3,7 @@ use model::DeliverAnswer;
 use model::Interval;
 use model::Refusal;
 use model::Run;
-use plans::Verdict;
+use verdicts::Verdict;
 ghost use mathlib.Core.Path.{_≡_};
 ghost use mathlib.Core.Bool.{true};
 ghost use Prim.Native.Nat.{_≤_};

@@ -1,12 +1,12 @@
 // Lose: the message is no longer under way; nothing else changes.
 use model::LoseAnswer;
 use model::Run;
-use plans::Verdict;
+use verdicts::Verdict;
 ghost use mathlib.Core.Path.{_≡_};
 ghost use mathlib.Core.Bool.{true};
 ghost use Rattle.model.specs.Sound.{sound};
 ghost use Rattle.whole_runs.specs.Outcomes.{judged, loseOutcome};
-ghost use Rattle.plans.specs.Planned.{refusalOf};
+ghost use Rattle.verdicts.specs.Verdicts.{refusalOf};
 
 pub struct LoseOutcome {
     pub run: Run,

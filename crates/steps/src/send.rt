@@ -1,12 +1,12 @@
 // Send from i to j: the message carries i's vector, and i's sent mark is set.
 use model::Run;
 use model::SendAnswer;
-use plans::Verdict;
+use verdicts::Verdict;
 ghost use mathlib.Core.Path.{_≡_};
 ghost use mathlib.Core.Bool.{true};
 ghost use Rattle.model.specs.Sound.{sound};
 ghost use Rattle.whole_runs.specs.Outcomes.{judged, sendOutcome};
-ghost use Rattle.plans.specs.Planned.{refusalOf};
+ghost use Rattle.verdicts.specs.Verdicts.{refusalOf};
 
 pub struct SendOutcome {
     pub run: Run,

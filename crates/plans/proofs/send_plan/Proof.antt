@@ -2,7 +2,7 @@
 -- Assumes nothing.
 use mathlib.Core.Path.{_≡_, sym, _∙_}
 use borrow.Author.Needs.{needs}
-use Rattle.plans.specs.declared.Verdict.the-variants.{Accepted}
+use Rattle.verdicts.specs.declared.Verdict.the-variants.{Accepted}
 use Rattle.plans.specs.Planned.{planBy, sendPlan}
 use Rattle.plans.proofs.Cases.{accepted-send}
 use Rattle.plans.proofs.send_plan.Statement.{statement}

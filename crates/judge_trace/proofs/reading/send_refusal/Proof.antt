@@ -2,8 +2,8 @@
 -- Assumes nothing.
 use mathlib.Core.Path.{_≡_, sym, _∙_, ap}
 use borrow.Author.Needs.{needs}
-use Rattle.plans.specs.declared.Verdict.the-variants.{Accepted}
-use Rattle.plans.specs.Planned.{refusalOf}
+use Rattle.verdicts.specs.declared.Verdict.the-variants.{Accepted}
+use Rattle.verdicts.specs.Verdicts.{refusalOf}
 use Rattle.judge_trace.specs.Readings.{refusalIn, sendRefusal}
 use Rattle.judge_trace.proofs.reading.send_refusal.Statement.{statement}
 use Rattle.judge_trace.proofs.reading.send_refusal.Tie as tie

@@ -41,9 +41,9 @@ use Rattle.members.specs.Turn.{outlives}
 use Rattle.members.proofs.LineRule.{latest-none, latest-more}
 use Rattle.recovery.specs.Recovery.{notLater, latestFound, restoredPins, stays}
 use Rattle.recovery.proofs.Restoring.{found-none, found-more}
-use Rattle.plans.specs.declared.Recovery.{Recovery}
-use Rattle.plans.specs.declared.Verdict.the-variants.{Accepted}
-use Rattle.plans.specs.Planned.{recoveryVerdict}
+use Rattle.verdicts.specs.declared.Recovery.{Recovery}
+use Rattle.verdicts.specs.declared.Verdict.the-variants.{Accepted}
+use Rattle.verdicts.specs.Verdicts.{recoveryVerdict}
 use Rattle.plans.specs.Sized.{Sized}
 use Rattle.plans.specs.Carried.{vectorAt, ownAt}
 use Rattle.plans.specs.Tables.{messagesIn}

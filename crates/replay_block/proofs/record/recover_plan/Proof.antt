@@ -2,7 +2,7 @@
 -- Assumes nothing.
 use mathlib.Core.Path.{_≡_, sym}
 use borrow.Author.Needs.{needs}
-use Rattle.plans.specs.declared.Verdict.the-variants.{Accepted}
+use Rattle.verdicts.specs.declared.Verdict.the-variants.{Accepted}
 use Rattle.replay_block.specs.Record.{refusedPlan}
 use Rattle.replay_block.proofs.record.recover_plan.Statement.{statement}
 use Rattle.replay_block.proofs.record.recover_plan.Tie as tie

@@ -2,7 +2,7 @@
 -- Assumes nothing.
 use mathlib.Core.Path.{_≡_}
 use borrow.Author.Needs.{needs}
-use Rattle.plans.specs.Planned.{noRecovery}
+use Rattle.verdicts.specs.Verdicts.{noRecovery}
 use Rattle.trace.specs.declared.Decoded.the-variants.{Malformed}
 use Rattle.trace.specs.Answers.{eventRead}
 use Rattle.replay_block.specs.Record.{recoveryOf}

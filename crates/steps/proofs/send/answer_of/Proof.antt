@@ -1,6 +1,6 @@
 -- `steps::send::answer_of` meets its contract. Assumes nothing.
 use mathlib.Core.Path.{refl}
-use Rattle.plans.specs.Planned.{refusalOf}
+use Rattle.verdicts.specs.Verdicts.{refusalOf}
 use borrow.Author.Needs.{needs}
 use Rattle.steps.proofs.send.answer_of.Statement.{statement}
 use Rattle.steps.proofs.send.answer_of.Tie as tie

@@ -1,13 +1,13 @@
--- `plans::is_outside` meets its contract. The loop's invariant: what is left of the failed set is its bits from k on.
+-- `verdicts::is_outside` meets its contract. The loop's invariant: what is left of the failed set is its bits from k on.
 -- Assumes nothing.
 use Prim.Native.Nat.{_≤_, _-_, _/_, _^_}
 use mathlib.Core.Path.{_≡_}
 use native.Mathlib.Omega.{arith}
 use borrow.Author.Needs.{needs}
 use Rattle.laws.specs.Bits.{bits-all, bits-next}
-use Rattle.plans.proofs.Outside.{bits-left}
-use Rattle.plans.proofs.is_outside.Statement.{statement}
-use Rattle.plans.proofs.is_outside.Tie as tie
+use Rattle.verdicts.proofs.Outside.{bits-left}
+use Rattle.verdicts.proofs.is_outside.Statement.{statement}
+use Rattle.verdicts.proofs.is_outside.Tie as tie
 
 abbrev Inv-loop : tie.InvT-loop
 Inv-loop failed n left₀ k₀ left k = (k ≤ n) × (left ≡ failed / (2 ^ k))

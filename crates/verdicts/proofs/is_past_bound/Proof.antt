@@ -1,4 +1,4 @@
--- `plans::is_past_bound` meets its contract: a block count is far below the bound.
+-- `verdicts::is_past_bound` meets its contract: a block count is far below the bound.
 -- Assumes nothing.
 use mathlib.Core.Path.{_≡_}
 use Prim.Native.Nat.{ℕ, _+_, _-_, _<_}
@@ -8,9 +8,9 @@ use borrow.Author.Tests.{ltb-true, lt-ltb}
 use lib.Dec.{ltb}
 use Rattle.laws.specs.Elements.{same-test}
 use Rattle.model.specs.Words.{mostBlocks}
-use Rattle.plans.specs.Planned.{pastMost}
-use Rattle.plans.proofs.is_past_bound.Statement.{statement}
-use Rattle.plans.proofs.is_past_bound.Tie as tie
+use Rattle.verdicts.specs.Verdicts.{pastMost}
+use Rattle.verdicts.proofs.is_past_bound.Statement.{statement}
+use Rattle.verdicts.proofs.is_past_bound.Tie as tie
 
 difference : (written blocks : ℕ) → blocks < 65536 → ltb (mostBlocks - blocks) written ≡ ltb mostBlocks (written + blocks)
 difference written blocks small = same-test (ltb (mostBlocks - blocks) written) (ltb mostBlocks (written + blocks))

@@ -8,8 +8,8 @@ use native.Mathlib.Omega.{arith}
 use lib.Dec.{leb}
 use borrow.Author.Tests.{le-leb, lt-leb, leb-true, leb-false}
 use Rattle.laws.specs.Choice.{by-bool}
-use Rattle.plans.specs.declared.Verdict.the-variants.{Accepted, Refused}
-use Rattle.plans.specs.Planned.{recoveryVerdict}
+use Rattle.verdicts.specs.declared.Verdict.the-variants.{Accepted, Refused}
+use Rattle.verdicts.specs.Verdicts.{recoveryVerdict}
 
 some-power : (n : ℕ) → 0 < 2 ^ n
 some-power n = pow-le-pow-right {n = 2} (omega arith) {i = 0} {j = n} (omega arith)

@@ -1,12 +1,12 @@
--- `plans::recovery_asked` meets its contract, by the verdict. An accepted failed set fits into 16 bits.
+-- `verdicts::recovery_asked` meets its contract, by the verdict. An accepted failed set fits into 16 bits.
 -- Assumes nothing.
 use mathlib.Core.Path.{_≡_, refl, sym, _∙_}
 use borrow.Author.Needs.{needs}
-use Rattle.plans.specs.declared.Verdict.the-variants.{Accepted}
-use Rattle.plans.specs.Planned.{recoveryIf, noRecovery}
-use Rattle.plans.proofs.Outside.{accepted-fits}
-use Rattle.plans.proofs.recovery_asked.Statement.{statement}
-use Rattle.plans.proofs.recovery_asked.Tie as tie
+use Rattle.verdicts.specs.declared.Verdict.the-variants.{Accepted}
+use Rattle.verdicts.specs.Verdicts.{recoveryIf, noRecovery}
+use Rattle.verdicts.proofs.Outside.{accepted-fits}
+use Rattle.verdicts.proofs.recovery_asked.Statement.{statement}
+use Rattle.verdicts.proofs.recovery_asked.Tie as tie
 
 returns : tie.Need-returns
 unfolding recoveryIf noRecovery

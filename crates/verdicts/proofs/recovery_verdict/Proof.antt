@@ -1,10 +1,10 @@
--- `plans::recovery_verdict` meets its contract, refusal by refusal.
+-- `verdicts::recovery_verdict` meets its contract, refusal by refusal.
 -- Assumes nothing.
 use mathlib.Core.Path.{sym, _∙_}
 use borrow.Author.Needs.{needs}
-use Rattle.plans.specs.Planned.{recoveryVerdict}
-use Rattle.plans.proofs.recovery_verdict.Statement.{statement}
-use Rattle.plans.proofs.recovery_verdict.Tie as tie
+use Rattle.verdicts.specs.Verdicts.{recoveryVerdict}
+use Rattle.verdicts.proofs.recovery_verdict.Statement.{statement}
+use Rattle.verdicts.proofs.recovery_verdict.Tie as tie
 
 returns : tie.Need-returns
 unfolding recoveryVerdict

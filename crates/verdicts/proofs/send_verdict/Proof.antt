@@ -1,9 +1,9 @@
--- `plans::send_verdict` meets its contract: one test after the other.
+-- `verdicts::send_verdict` meets its contract: one test after the other.
 -- Assumes nothing.
 use borrow.Author.Tests.{le-leb, lt-leb, eq-eqb, ne-eqb}
-use Rattle.plans.specs.Planned.{sendVerdict}
-use Rattle.plans.proofs.send_verdict.Statement.{statement}
-use Rattle.plans.proofs.send_verdict.Tie as tie
+use Rattle.verdicts.specs.Verdicts.{sendVerdict}
+use Rattle.verdicts.proofs.send_verdict.Statement.{statement}
+use Rattle.verdicts.proofs.send_verdict.Tie as tie
 
 returns : tie.Need-returns
 unfolding sendVerdict

@@ -1,0 +1,11 @@
+-- `verdicts::is_last_interval` meets its contract: it is the test.
+-- Assumes nothing.
+use mathlib.Core.Path.{refl}
+use Rattle.verdicts.proofs.is_last_interval.Statement.{statement}
+use Rattle.verdicts.proofs.is_last_interval.Tie as tie
+
+returns : tie.Need-returns
+returns c = refl
+
+pub is-last-interval-spec : {M : Type 1} → statement M
+is-last-interval-spec = tie.close (tie.spec returns)

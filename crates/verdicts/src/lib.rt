@@ -1,0 +1,95 @@
+// Whether a call is refused, and why, by the counts of a state and what the call names: the tests that several functions ask. The calls of the library, the replay of
+// a trace and the judge of a foreign one ask the same.
+use model::Interval;
+use model::Refusal;
+ghost use mathlib.Core.Path.{_≡_};
+ghost use Prim.Native.Nat.{_≤_, _^_};
+ghost use lib.Dec.{leb};
+ghost use Rattle.verdicts.specs.Verdicts.{pastMost, sendVerdict, recoveryVerdict, recoveryIf};
+
+pub enum Verdict {
+    Accepted,
+    Refused(Refusal),
+}
+
+// The recovery that is carried out for a failed set, and whether there is one at all. That nobody failed is a set as any other: it asks for a sweep.
+pub struct Recovery {
+    pub asked: bool,
+    pub failed: u16,
+}
+
+// The own entry is that of the last interval: no checkpoint can follow.
+pub fn is_last_interval(own: Interval) -> bool
+    ensures { λ r. ⌜ r ≡ leb 65535 (own .0) ⌝ }
+{
+    65535 <= own.0
+}
+
+// One more checkpoint of `blocks` blocks would take the blocks written past the bound. The difference is tested: no sum of a free number is made.
+pub fn is_past_bound(written: u64, blocks: u16) -> bool
+    ensures { λ r. ⌜ r ≡ pastMost written blocks ⌝ }
+{
+    1000000000000000 - (blocks as u64) < written
+}
+
+// Whether a send is refused, and why, where `underway` messages are under way and `last` is the last number used.
+pub fn send_verdict(sender: usize, receiver: usize, n: usize, underway: usize, last: u32) -> Verdict
+    ensures { λ r. ⌜ r ≡ sendVerdict sender receiver n underway last ⌝ }
+{
+    if n <= sender {
+        return Verdict::Refused(Refusal::NoSuchProcess);
+    }
+    if n <= receiver {
+        return Verdict::Refused(Refusal::NoSuchProcess);
+    }
+    if sender == receiver {
+        return Verdict::Refused(Refusal::SenderIsReceiver);
+    }
+    if 64 <= underway {
+        return Verdict::Refused(Refusal::TooManyUnderWay);
+    }
+    if 1000000 <= last {
+        return Verdict::Refused(Refusal::MessageNumbersUsed);
+    }
+    Verdict::Accepted
+}
+
+// The failed set has a bit at n or above: something is left of it once its lowest n bits are gone.
+pub fn is_outside(failed: u32, n: usize) -> bool
+    ensures { λ r. ⌜ r ≡ leb (2 ^ n) failed ⌝ }
+{
+    let mut left = failed;
+    for k in 0..n {
+        left = left / 2;
+    }
+    1 <= left
+}
+
+// Whether a line or a recovery for a failed set is refused. A record's set may have more than 16 bits.
+pub fn recovery_verdict(failed: u32, n: usize) -> Verdict
+    ensures { λ r. ⌜ r ≡ recoveryVerdict n failed ⌝ }
+{
+    let outside = is_outside(failed, n);
+    if outside {
+        return Verdict::Refused(Refusal::NoSuchFailedProcess);
+    }
+    Verdict::Accepted
+}
+
+// A failed set asks for a recovery exactly if it is not refused. Its bits are then below n.
+pub fn recovery_asked(failed: u32, n: usize) -> Recovery
+    requires { ⌜ n ≤ 16 ⌝ }
+    ensures { λ r. ⌜ r ≡ recoveryIf (recoveryVerdict n failed) failed ⌝ }
+{
+    let verdict = recovery_verdict(failed, n);
+    match verdict {
+        Verdict::Refused(why) => Recovery {
+            asked: false,
+            failed: 0,
+        },
+        Verdict::Accepted => Recovery {
+            asked: true,
+            failed: failed as u16,
+        },
+    }
+}
