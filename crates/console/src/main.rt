@@ -10,63 +10,23 @@ mod say;
 // act.rt: each call and its line
 mod act;
 
-use libc::STDIN_FILENO;
 use model::Run;
 use model::StartAnswer;
+use programs::input::Filled;
 use roles::Caller;
 use roles::Role;
-ghost use Prim.Native.Nat.{_+_, _≤_};
+ghost use Prim.Native.Nat.{_≤_};
 ghost use lib.ListN.{length};
 
-// Whether a read failed, and how many bytes it brought, none at the end of the input.
-struct Brought {
-    failed: bool,
-    more: usize,
-}
-
-// One read behind the bytes held.
-fn read_behind(input: &mut [u8], held: usize) -> Brought
-    requires { ⌜ held ≤ length (now input) ⌝ }
-    ensures { λ r. ⌜ held + r .more ≤ length (now (input .entry)) ⌝ }
-{
-    let got = libc::read(STDIN_FILENO, &mut input[held..]);
-    let more = io::count(got, &input[held..]);
-    Brought {
-        failed: got < 0,
-        more,
-    }
-}
-
-// Whether a read failed, and how many bytes are held.
-struct Filled {
-    failed: bool,
-    held: usize,
-}
-
-// Reads until the buffer is full, the input ends or a read fails.
+// Standard input until the buffer is full or the input ends; that a read failed is said.
 fn fill(input: &mut [u8]) -> Filled
     ensures { λ r. ⌜ r .held ≤ length (now (input .entry)) ⌝ }
 {
-    let mut held = 0;
-    while held < input.len() {
-        let brought = read_behind(input, held);
-        if brought.failed {
-            os::fail(b"console: standard input");
-            return Filled { failed: true, held };
-        }
-        let more = brought.more;
-        if more == 0 {
-            return Filled {
-                failed: false,
-                held,
-            };
-        }
-        held += more;
+    let filled = programs::input::fill(input);
+    if filled.failed {
+        os::fail(b"console: standard input");
     }
-    Filled {
-        failed: false,
-        held,
-    }
+    filled
 }
 
 // Whether a line is written, or that it is not is said.
