@@ -70,7 +70,7 @@ pub fn start(n: usize, counts: [u32; 16], buffer: &mut [u8]) -> StartRecorded
 {
     let outcome = calls::start(n, counts);
     let answer = outcome.answer;
-    let done = recorder_parts::accepted::start(answer);
+    let done = recorder_bytes::accepted::start(answer);
     if !done {
         return StartRecorded { outcome, place: 0 };
     }
@@ -99,7 +99,7 @@ pub fn checkpoint(
     ensures { λ r. ⌜ now (buffer .exit) ≡ recordedCheckpoint s i (now (deleted .entry)) (now (buffer .entry)) place .buffer ⌝ }
     ensures { λ r. ⌜ r .place ≡ recordedCheckpoint s i (now (deleted .entry)) (now (buffer .entry)) place .place ⌝ }
 {
-    let room = recorder_parts::bytes::has_room(buffer.len(), place);
+    let room = recorder_bytes::bytes::has_room(buffer.len(), place);
     if !room {
         let answer = recorder_parts::without_room::checkpoint(s, i, deleted.len());
         let outcome = CheckpointOutcome { run: s, answer };
@@ -107,11 +107,11 @@ pub fn checkpoint(
     }
     let outcome = calls::checkpoint(s, i, deleted);
     let answer = outcome.answer;
-    let done = recorder_parts::accepted::checkpoint(answer);
+    let done = recorder_bytes::accepted::checkpoint(answer);
     if !done {
         return CheckpointRecorded { outcome, place };
     }
-    let next = recorder_parts::bytes::append(buffer, place, Event::Checkpoint(i));
+    let next = recorder_bytes::bytes::append(buffer, place, Event::Checkpoint(i));
     CheckpointRecorded {
         outcome,
         place: next,
@@ -127,17 +127,17 @@ pub fn send(s: Run, i: usize, j: usize, buffer: &mut [u8], place: usize) -> Send
 {
     let outcome = calls::send(s, i, j);
     let answer = outcome.answer;
-    let done = recorder_parts::accepted::send(answer);
+    let done = recorder_bytes::accepted::send(answer);
     if !done {
         return SendRecorded { outcome, place };
     }
-    let room = recorder_parts::bytes::has_room(buffer.len(), place);
+    let room = recorder_bytes::bytes::has_room(buffer.len(), place);
     if !room {
         let answer = SendAnswer::Refused(Refusal::BufferTooShort);
         let outcome = SendOutcome { run: s, answer };
         return SendRecorded { outcome, place };
     }
-    let next = recorder_parts::bytes::append(buffer, place, Event::Send(i, j as u32));
+    let next = recorder_bytes::bytes::append(buffer, place, Event::Send(i, j as u32));
     SendRecorded {
         outcome,
         place: next,
@@ -159,7 +159,7 @@ pub fn deliver(
     ensures { λ r. ⌜ now (buffer .exit) ≡ recordedDeliver s m (now (deleted .entry)) (now (buffer .entry)) place .buffer ⌝ }
     ensures { λ r. ⌜ r .place ≡ recordedDeliver s m (now (deleted .entry)) (now (buffer .entry)) place .place ⌝ }
 {
-    let room = recorder_parts::bytes::has_room(buffer.len(), place);
+    let room = recorder_bytes::bytes::has_room(buffer.len(), place);
     if !room {
         let answer = recorder_parts::without_room::deliver(s, m, deleted.len());
         let outcome = DeliverOutcome {
@@ -171,11 +171,11 @@ pub fn deliver(
     }
     let outcome = calls::deliver(s, m, deleted);
     let answer = outcome.answer;
-    let done = recorder_parts::accepted::deliver(answer);
+    let done = recorder_bytes::accepted::deliver(answer);
     if !done {
         return DeliverRecorded { outcome, place };
     }
-    let next = recorder_parts::bytes::append(buffer, place, Event::Deliver(m));
+    let next = recorder_bytes::bytes::append(buffer, place, Event::Deliver(m));
     DeliverRecorded {
         outcome,
         place: next,
@@ -191,17 +191,17 @@ pub fn lose(s: Run, m: u32, buffer: &mut [u8], place: usize) -> LoseRecorded
 {
     let outcome = calls::lose(s, m);
     let answer = outcome.answer;
-    let done = recorder_parts::accepted::lose(answer);
+    let done = recorder_bytes::accepted::lose(answer);
     if !done {
         return LoseRecorded { outcome, place };
     }
-    let room = recorder_parts::bytes::has_room(buffer.len(), place);
+    let room = recorder_bytes::bytes::has_room(buffer.len(), place);
     if !room {
         let answer = LoseAnswer::Refused(Refusal::BufferTooShort);
         let outcome = LoseOutcome { run: s, answer };
         return LoseRecorded { outcome, place };
     }
-    let next = recorder_parts::bytes::append(buffer, place, Event::Lose(m));
+    let next = recorder_bytes::bytes::append(buffer, place, Event::Lose(m));
     LoseRecorded {
         outcome,
         place: next,
@@ -236,7 +236,7 @@ pub fn recover(
     ensures { λ r. ⌜ now (buffer .exit) ≡ recordedRecover s failed (now (deleted .entry)) (now (line .entry)) (now (buffer .entry)) place .buffer ⌝ }
     ensures { λ r. ⌜ r .place ≡ recordedRecover s failed (now (deleted .entry)) (now (line .entry)) (now (buffer .entry)) place .place ⌝ }
 {
-    let room = recorder_parts::bytes::has_room(buffer.len(), place);
+    let room = recorder_bytes::bytes::has_room(buffer.len(), place);
     if !room {
         let answer = recorder_parts::without_room::recover(s, failed, deleted.len(), line.len());
         let outcome = RecoverOutcome { run: s, answer };
@@ -244,11 +244,11 @@ pub fn recover(
     }
     let outcome = calls::recover(s, failed, deleted, line);
     let answer = outcome.answer;
-    let done = recorder_parts::accepted::recover(answer);
+    let done = recorder_bytes::accepted::recover(answer);
     if !done {
         return RecoverRecorded { outcome, place };
     }
-    let next = recorder_parts::bytes::append(buffer, place, Event::Recover(failed as u32));
+    let next = recorder_bytes::bytes::append(buffer, place, Event::Recover(failed as u32));
     RecoverRecorded {
         outcome,
         place: next,

@@ -1,11 +1,11 @@
 // What a call answers where the buffer has no room for its record: its own refusal, else 21. "A refused call writes no byte", and lent lists keep every
 // entry: so the call is made with lists of its own. A refusal looks at the length of a lent list alone, and 512 entries, or 16, are as good as more.
-use crate::accepted;
 use model::CheckpointAnswer;
 use model::DeliverAnswer;
 use model::RecoverAnswer;
 use model::Refusal;
 use model::Run;
+use recorder_bytes::accepted;
 ghost use mathlib.Core.Path.{_≡_};
 ghost use mathlib.Core.List.{List};
 ghost use Prim.Native.Nat.{ℕ, _≤_, min};

@@ -1,11 +1,11 @@
--- `recorder_parts::accepted::lose` meets its contract, by the cases of the answer.
+-- `recorder_bytes::accepted::lose` meets its contract, by the cases of the answer.
 -- Assumes nothing.
 use mathlib.Core.Path.{refl, sym}
 use borrow.Author.Needs.{needs}
 use Rattle.whole_runs.specs.Outcomes.{loseReport}
 use Rattle.whole_runs.proofs.whole.Reached.{refused-number}
-use Rattle.recorder_parts.proofs.accepted.lose.Statement.{statement}
-use Rattle.recorder_parts.proofs.accepted.lose.Tie as tie
+use Rattle.recorder_bytes.proofs.accepted.lose.Statement.{statement}
+use Rattle.recorder_bytes.proofs.accepted.lose.Tie as tie
 
 returns : tie.Need-returns
 unfolding loseReport

@@ -7,8 +7,8 @@ use Prim.Native.Nat.{ℕ, suc, _+_}
 use native.Mathlib.Omega.{arith}
 use lib.ListN.{length, getD, set, length-set}
 use lib.Seq.{sets}
-use Rattle.recorder_parts.proofs.bytes.put.Statement.{statement}
-use Rattle.recorder_parts.proofs.bytes.put.Tie as tie
+use Rattle.recorder_bytes.proofs.bytes.put.Statement.{statement}
+use Rattle.recorder_bytes.proofs.bytes.put.Tie as tie
 
 -- Four stores one after the other.
 four : (b l : List ℕ) (k : ℕ) → length b ≡ 4 → set (set (set (set l k (getD b 0 0)) (k + 1) (getD b 1 0)) (k + 2) (getD b 2 0)) (k + 3) (getD b 3 0) ≡ sets l k b

@@ -1,4 +1,4 @@
--- `recorder_parts::bytes::append` meets its contract: the record of an event that fits is what the crate trace encodes.
+-- `recorder_bytes::bytes::append` meets its contract: the record of an event that fits is what the crate trace encodes.
 -- Assumes nothing.
 use mathlib.Core.Path.{_≡_, refl, sym, _∙_, ap}
 use mathlib.Core.Bool.{true}
@@ -13,8 +13,8 @@ use Rattle.trace.specs.declared.Encoded.{Encoded}
 use Rattle.trace.specs.Answers.{recordOf}
 use Rattle.recording.specs.Replay.{recordBytes}
 use Rattle.recording.proofs.Replay.{record-of}
-use Rattle.recorder_parts.proofs.bytes.append.Statement.{statement}
-use Rattle.recorder_parts.proofs.bytes.append.Tie as tie
+use Rattle.recorder_bytes.proofs.bytes.append.Statement.{statement}
+use Rattle.recorder_bytes.proofs.bytes.append.Tie as tie
 
 -- What is encoded of an event that fits is its record.
 is-record : (e : Event) → fits e ≡ true → recordOf e .bytes ≡ recordBytes e

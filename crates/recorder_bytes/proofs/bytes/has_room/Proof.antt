@@ -7,8 +7,8 @@ use native.Mathlib.Omega.{arith}
 use lib.Dec.{ltb, leb}
 use borrow.Author.Tests.{lt-ltb, le-ltb, leb-true, leb-false}
 use Rattle.laws.specs.Choice.{by-bool}
-use Rattle.recorder_parts.proofs.bytes.has_room.Statement.{statement}
-use Rattle.recorder_parts.proofs.bytes.has_room.Tie as tie
+use Rattle.recorder_bytes.proofs.bytes.has_room.Statement.{statement}
+use Rattle.recorder_bytes.proofs.bytes.has_room.Tie as tie
 
 -- No byte is left behind a place past the end.
 past : (size place : ℕ) → size < place → false ≡ not (ltb (size - place) 4)
