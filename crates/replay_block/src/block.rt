@@ -98,14 +98,13 @@ fn replay_beside(
             let said = record::summary_of(verdict, p.stores, p.sends, own, last);
             if p.moves {
                 let index = rows::vector::live_index(own);
-                let pins_before = pins[i];
                 let carried = p.carried;
                 let moved = retention::receipt::pins_then(
                     p.stores,
                     index,
                     vector,
                     carried,
-                    pins_before,
+                    pins[i],
                     i,
                 );
                 let received = retention::receipt::vector_then(p.stores, vector, carried, i);
@@ -119,8 +118,7 @@ fn replay_beside(
                     let c = kept[i][j];
                     kept[i][j] = empty;
                     j += 1;
-                    let stays = retention::pins::is_named(moved, c.index);
-                    if stays {
+                    if retention::pins::is_named(moved, c.index) {
                         kept[i][to] = c;
                         to += 1;
                     } else {
@@ -128,9 +126,8 @@ fn replay_beside(
                         gone += 1;
                     }
                 }
-                let first_kept = kept[i][0];
                 // a trace run uses 1 for every block count
-                let stored = kept::stored(p.stores, index, vector, p.cause, 1, to, first_kept);
+                let stored = kept::stored(p.stores, index, vector, p.cause, 1, to, kept[i][0]);
                 let stored_at = stored.place;
                 let put_there = stored.checkpoint;
                 kept[i][stored_at] = put_there;
@@ -159,19 +156,16 @@ fn replay_beside(
             let mut f = 0;
             'returned: while f < n {
                 let current = vectors[f];
-                let held_now = held[f];
                 let allowed = members::line::is_allowed(current, owns, marks);
-                let searched = members::turn::to_search(!allowed, held_now);
+                let searched = members::turn::to_search(!allowed, held[f]);
                 let mut latest = members::line::none_allowed();
                 let mut a = 0;
                 'allowed: while a < searched {
-                    let candidate = kept[f][a];
-                    latest = members::line::latest_with(latest, candidate, owns, marks);
+                    latest = members::line::latest_with(latest, kept[f][a], owns, marks);
                     a += 1;
                 }
                 let member = members::turn::member(current, f, latest, allowed);
-                let sent_now = sent[f];
-                let step = members::turn::step_back(member, current, sent_now, f, back);
+                let step = members::turn::step_back(member, current, sent[f], f, back);
                 let went_back = step.vector;
                 vectors[f] = went_back;
                 sent[f] = step.sent;
@@ -187,24 +181,26 @@ fn replay_beside(
             let mut q = 0;
             'restored: while q < n {
                 let has_rolled = rolled[q];
-                let known = vectors[q];
                 let held_then = held[q];
-                let pins_now = pins[q];
                 let last_kept = members[q];
                 let to_find = members::turn::to_search(has_rolled, held_then);
                 let mut known_last = recovery::pins::nothing_found();
                 let mut b = 0;
                 'found: while b < to_find {
-                    let seen = kept[q][b];
-                    known_last = recovery::pins::found_with(known_last, seen, last_kept, owns_then);
+                    known_last = recovery::pins::found_with(
+                        known_last,
+                        kept[q][b],
+                        last_kept,
+                        owns_then,
+                    );
                     b += 1;
                 }
                 let pins_then = recovery::pins::pins_found(
                     has_rolled,
-                    known,
+                    vectors[q],
                     owns_then,
                     known_last,
-                    pins_now,
+                    pins[q],
                 );
                 pins[q] = pins_then;
                 let mut stay = 0;
@@ -213,8 +209,7 @@ fn replay_beside(
                     let x = kept[q][k];
                     kept[q][k] = empty;
                     k += 1;
-                    let keeps = recovery::kept::does_stay(x.index, last_kept, pins_then);
-                    if keeps {
+                    if recovery::kept::does_stay(x.index, last_kept, pins_then) {
                         kept[q][stay] = x;
                         stay += 1;
                     } else {
@@ -234,8 +229,7 @@ fn replay_beside(
                 let here = z;
                 z += 1;
                 if y.number != 0 {
-                    let outlives = members::turn::does_outlive(y, members);
-                    if outlives {
+                    if members::turn::does_outlive(y, members) {
                         first = window::first_from(outlived, first, here);
                         outlived += 1;
                     } else {

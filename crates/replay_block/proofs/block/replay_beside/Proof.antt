@@ -90,10 +90,10 @@ abbrev μ-collected : tie.MeasureT-collected
 
 -- The member of process f: the latest allowed one of the first a that it keeps.
 abbrev Inv-allowed : tie.InvT-allowed
-Inv-allowed all done trace out deleted numbers n vectors pins kept sent held underway last disk window base first tail empty unused taken written going number owns failed marks rolled members back f current held-now allowed searched latest₀ a₀ latest a = (a ≤ searched) × (latest ≡ latestIs (latestBy marks owns (take a (getD kept f []))))
+Inv-allowed all done trace out deleted numbers n vectors pins kept sent held underway last disk window base first tail empty unused taken written going number owns failed marks rolled members back f current allowed searched latest₀ a₀ latest a = (a ≤ searched) × (latest ≡ latestIs (latestBy marks owns (take a (getD kept f []))))
 
 abbrev μ-allowed : tie.MeasureT-allowed
-μ-allowed all done trace out deleted numbers n vectors pins kept sent held underway last disk window base first tail empty unused taken written going number owns failed marks rolled members back f current held-now allowed searched latest₀ a₀ latest a = searched - a
+μ-allowed all done trace out deleted numbers n vectors pins kept sent held underway last disk window base first tail empty unused taken written going number owns failed marks rolled members back f current allowed searched latest₀ a₀ latest a = searched - a
 
 -- The first f processes have gone back to their members.
 abbrev Inv-returned : tie.InvT-returned
@@ -104,10 +104,10 @@ abbrev μ-returned : tie.MeasureT-returned
 
 -- The pins of process q: what is found among the first b that it keeps.
 abbrev Inv-found : tie.InvT-found
-Inv-found all done trace out deleted numbers n vectors pins kept sent held underway last disk window base first tail empty unused taken written going number failed rolled members back f owns-then all-gone q has-rolled known held-then pins-now last-kept to-find known-last₀ b₀ known-last b = (b ≤ to-find) × (known-last ≡ latestFound owns-then (notLater last-kept (take b (getD kept q []))))
+Inv-found all done trace out deleted numbers n vectors pins kept sent held underway last disk window base first tail empty unused taken written going number failed rolled members back f owns-then all-gone q has-rolled held-then last-kept to-find known-last₀ b₀ known-last b = (b ≤ to-find) × (known-last ≡ latestFound owns-then (notLater last-kept (take b (getD kept q []))))
 
 abbrev μ-found : tie.MeasureT-found
-μ-found all done trace out deleted numbers n vectors pins kept sent held underway last disk window base first tail empty unused taken written going number failed rolled members back f owns-then all-gone q has-rolled known held-then pins-now last-kept to-find known-last₀ b₀ known-last b = to-find - b
+μ-found all done trace out deleted numbers n vectors pins kept sent held underway last disk window base first tail empty unused taken written going number failed rolled members back f owns-then all-gone q has-rolled held-then last-kept to-find known-last₀ b₀ known-last b = to-find - b
 
 -- Its row: the first k checkpoints are collected.
 abbrev Inv-left : tie.InvT-left
@@ -219,6 +219,9 @@ After-live-index = tie.After-live-index Inv-collected μ-collected Inv-allowed �
 
 abbrev After-carried : Type 0
 After-carried = tie.After-carried Inv-collected μ-collected Inv-allowed μ-allowed Inv-returned μ-returned Inv-found μ-found Inv-left μ-left Inv-restored μ-restored Inv-sifted μ-sifted Inv-records μ-records
+
+abbrev After-pins-then-arg : Type 0
+After-pins-then-arg = tie.After-pins-then-arg Inv-collected μ-collected Inv-allowed μ-allowed Inv-returned μ-returned Inv-found μ-found Inv-left μ-left Inv-restored μ-restored Inv-sifted μ-sifted Inv-records μ-records
 
 abbrev After-pins-then : Type 0
 After-pins-then = tie.After-pins-then Inv-collected μ-collected Inv-allowed μ-allowed Inv-returned μ-returned Inv-found μ-found Inv-left μ-left Inv-restored μ-restored Inv-sifted μ-sifted Inv-records μ-records
@@ -348,6 +351,9 @@ After-found = tie.After-found Inv-collected μ-collected Inv-allowed μ-allowed 
 
 abbrev After-found-with : Type 0
 After-found-with = tie.After-found-with Inv-collected μ-collected Inv-allowed μ-allowed Inv-returned μ-returned Inv-found μ-found Inv-left μ-left Inv-restored μ-restored Inv-sifted μ-sifted Inv-records μ-records
+
+abbrev After-pins-found-arg : Type 0
+After-pins-found-arg = tie.After-pins-found-arg Inv-collected μ-collected Inv-allowed μ-allowed Inv-returned μ-returned Inv-found μ-found Inv-left μ-left Inv-restored μ-restored Inv-sifted μ-sifted Inv-records μ-records
 
 abbrev After-pins-found : Type 0
 After-pins-found = tie.After-pins-found Inv-collected μ-collected Inv-allowed μ-allowed Inv-returned μ-returned Inv-found μ-found Inv-left μ-left Inv-restored μ-restored Inv-sifted μ-sifted Inv-records μ-records
@@ -496,35 +502,8 @@ from-After-billed2-to-Else5 c = c .before .before .before .before .before .befor
 abbrev from-After-billed2-to-Start : After-billed2 → Start
 from-After-billed2-to-Start c = c .before .before .before .before .before .before .before .before .before .before .before .before .before .before .before .before .before .before .before .before .before .before .before .before .before .before .before .before .before .before .before .before .before .before
 
-abbrev from-After-carried-to-After-decode : After-carried → After-decode
-from-After-carried-to-After-decode c = c .before .before .before .before .before .before .before .before .before .before .before .before .before .before .before .before .before
-
-abbrev from-After-carried-to-After-is-there : After-carried → After-is-there
-from-After-carried-to-After-is-there c = c .before .before .before .before .before .before .before .before .before .before
-
-abbrev from-After-carried-to-After-place-in : After-carried → After-place-in
-from-After-carried-to-After-place-in c = c .before .before .before .before .before .before .before .before .before .before .before .before
-
-abbrev from-After-carried-to-After-plan-of : After-carried → After-plan-of
-from-After-carried-to-After-plan-of c = c .before .before .before .before .before .before
-
 abbrev from-After-carried-to-After-row-of : After-carried → After-row-of
-from-After-carried-to-After-row-of c = c .before .before .before .before .before .before .before .before .before
-
-abbrev from-After-carried-to-After-sought : After-carried → After-sought
-from-After-carried-to-After-sought c = c .before .before .before .before .before .before .before .before .before .before .before .before .before
-
-abbrev from-After-carried-to-At-records : After-carried → At-records
-from-After-carried-to-At-records c = c .before .before .before .before .before .before .before .before .before .before .before .before .before .before .before .before .before .before .before .before .before .before .before .before .before
-
-abbrev from-After-carried-to-In-records : After-carried → In-records
-from-After-carried-to-In-records c = c .before .before .before .before .before .before .before .before .before .before .before .before .before .before .before .before .before .before .before .before .before .before .before .before
-
-abbrev from-After-carried-to-Then5 : After-carried → Then5
-from-After-carried-to-Then5 c = c .before .before .before .before .before .before .before .before .before .before .before .before .before .before
-
-abbrev from-After-carried-to-Then6 : After-carried → Then6
-from-After-carried-to-Then6 c = c .before .before .before
+from-After-carried-to-After-row-of c = c .before .before .before .before .before .before .before .before
 
 abbrev from-After-collected-to-After-decode : After-collected → After-decode
 from-After-collected-to-After-decode c = c .before .before .before .before .before .before .before .before .before .before .before .before .before .before .before .before .before .before .before .before .before
@@ -592,6 +571,9 @@ from-After-first-from-to-Then9 c = c .before .before .before
 abbrev from-After-found-to-After-to-search2 : After-found → After-to-search2
 from-After-found-to-After-to-search2 c = c .before .before .before
 
+abbrev from-After-found-to-In-restored : After-found → In-restored
+from-After-found-to-In-restored c = c .before .before .before .before .before
+
 abbrev from-After-found-with-to-After-to-search2 : After-found-with → After-to-search2
 from-After-found-with-to-After-to-search2 c = c .before .before .before .before .before
 
@@ -599,10 +581,10 @@ abbrev from-After-found-with-to-At-found : After-found-with → At-found
 from-After-found-with-to-At-found c = c .before .before .before
 
 abbrev from-After-found-with-to-At-restored : After-found-with → At-restored
-from-After-found-with-to-At-restored c = c .before .before .before .before .before .before .before .before .before .before
+from-After-found-with-to-At-restored c = c .before .before .before .before .before .before .before .before
 
 abbrev from-After-found-with-to-In-restored : After-found-with → In-restored
-from-After-found-with-to-In-restored c = c .before .before .before .before .before .before .before .before .before
+from-After-found-with-to-In-restored c = c .before .before .before .before .before .before .before
 
 abbrev from-After-goes-on-to-After-decode : After-goes-on → After-decode
 from-After-goes-on-to-After-decode c = c .before .before .before .before .before .before .before .before .before .before .before .before .before .before .before .before .before .before .before .before
@@ -781,11 +763,20 @@ from-After-own-to-In-records c = c .before .before .before .before .before .befo
 abbrev from-After-own-to-Then5 : After-own → Then5
 from-After-own-to-Then5 c = c .before .before .before .before .before .before .before
 
+abbrev from-After-pins-found-arg-to-In-restored : After-pins-found-arg → In-restored
+from-After-pins-found-arg-to-In-restored c = c .before .before .before .before .before .before
+
+abbrev from-After-pins-found-to-After-found : After-pins-found → After-found
+from-After-pins-found-to-After-found c = c .before .before .before
+
 abbrev from-After-pins-found-to-After-own-entries2 : After-pins-found → After-own-entries2
 from-After-pins-found-to-After-own-entries2 c = c .before .before .before .before .before .before .before .before .before .before
 
 abbrev from-After-pins-found-to-After-to-search2 : After-pins-found → After-to-search2
-from-After-pins-found-to-After-to-search2 c = c .before .before .before .before
+from-After-pins-found-to-After-to-search2 c = c .before .before .before .before .before .before
+
+abbrev from-After-pins-found-to-At-found : After-pins-found → At-found
+from-After-pins-found-to-At-found c = c .before .before .before .before
 
 abbrev from-After-pins-found-to-At-restored : After-pins-found → At-restored
 from-After-pins-found-to-At-restored c = c .before .before .before .before .before .before .before .before .before
@@ -795,6 +786,36 @@ from-After-pins-found-to-At-returned c = c .before .before .before .before .befo
 
 abbrev from-After-pins-found-to-In-restored : After-pins-found → In-restored
 from-After-pins-found-to-In-restored c = c .before .before .before .before .before .before .before .before
+
+abbrev from-After-pins-then-arg-to-After-decode : After-pins-then-arg → After-decode
+from-After-pins-then-arg-to-After-decode c = c .before .before .before .before .before .before .before .before .before .before .before .before .before .before .before .before .before
+
+abbrev from-After-pins-then-arg-to-After-is-there : After-pins-then-arg → After-is-there
+from-After-pins-then-arg-to-After-is-there c = c .before .before .before .before .before .before .before .before .before .before
+
+abbrev from-After-pins-then-arg-to-After-place-in : After-pins-then-arg → After-place-in
+from-After-pins-then-arg-to-After-place-in c = c .before .before .before .before .before .before .before .before .before .before .before .before
+
+abbrev from-After-pins-then-arg-to-After-plan-of : After-pins-then-arg → After-plan-of
+from-After-pins-then-arg-to-After-plan-of c = c .before .before .before .before .before .before
+
+abbrev from-After-pins-then-arg-to-After-row-of : After-pins-then-arg → After-row-of
+from-After-pins-then-arg-to-After-row-of c = c .before .before .before .before .before .before .before .before .before
+
+abbrev from-After-pins-then-arg-to-After-sought : After-pins-then-arg → After-sought
+from-After-pins-then-arg-to-After-sought c = c .before .before .before .before .before .before .before .before .before .before .before .before .before
+
+abbrev from-After-pins-then-arg-to-At-records : After-pins-then-arg → At-records
+from-After-pins-then-arg-to-At-records c = c .before .before .before .before .before .before .before .before .before .before .before .before .before .before .before .before .before .before .before .before .before .before .before .before .before
+
+abbrev from-After-pins-then-arg-to-In-records : After-pins-then-arg → In-records
+from-After-pins-then-arg-to-In-records c = c .before .before .before .before .before .before .before .before .before .before .before .before .before .before .before .before .before .before .before .before .before .before .before .before
+
+abbrev from-After-pins-then-arg-to-Then5 : After-pins-then-arg → Then5
+from-After-pins-then-arg-to-Then5 c = c .before .before .before .before .before .before .before .before .before .before .before .before .before .before
+
+abbrev from-After-pins-then-arg-to-Then6 : After-pins-then-arg → Then6
+from-After-pins-then-arg-to-Then6 c = c .before .before .before
 
 abbrev from-After-pins-then-to-After-decode : After-pins-then → After-decode
 from-After-pins-then-to-After-decode c = c .before .before .before .before .before .before .before .before .before .before .before .before .before .before .before .before .before .before
@@ -1112,13 +1133,10 @@ abbrev from-After-to-search-to-In-returned : After-to-search → In-returned
 from-After-to-search-to-In-returned c = c .before .before .before
 
 abbrev from-After-to-search2-to-At-restored : After-to-search2 → At-restored
-from-After-to-search2-to-At-restored c = c .before .before .before .before .before
+from-After-to-search2-to-At-restored c = c .before .before .before
 
 abbrev from-After-to-search2-to-At-returned : After-to-search2 → At-returned
-from-After-to-search2-to-At-returned c = c .before .before .before .before .before .before .before .before
-
-abbrev from-After-to-search2-to-In-restored : After-to-search2 → In-restored
-from-After-to-search2-to-In-restored c = c .before .before .before .before
+from-After-to-search2-to-At-returned c = c .before .before .before .before .before .before
 
 abbrev from-After-vector-then-to-After-row-of : After-vector-then → After-row-of
 from-After-vector-then-to-After-row-of c = c .before .before .before .before .before .before .before .before .before .before .before
@@ -1211,7 +1229,7 @@ abbrev from-In-found-to-After-to-search2 : In-found → After-to-search2
 from-In-found-to-After-to-search2 c = c .before .before .before
 
 abbrev from-In-found-to-In-restored : In-found → In-restored
-from-In-found-to-In-restored c = c .before .before .before .before .before .before .before
+from-In-found-to-In-restored c = c .before .before .before .before .before
 
 abbrev from-In-left-to-At-records : In-left → At-records
 from-In-left-to-At-records c = c .before .before .before .before .before .before .before .before .before .before .before .before .before .before .before .before .before .before .before .before .before .before .before .before .before .before .before .before
@@ -1431,11 +1449,11 @@ array-set-from-window : tie.Need-array-set-from-window Inv-collected μ-collecte
 array-set-from-window c = omega (arith, turn.place-there (whole (from-After-put-to-At-records c)) (reach (from-After-put-to-At-records c)) (event (from-After-put-to-After-decode c)) (not-asked (from-After-put-to-Then5 c)) (from-After-put-to-At-records c .records .inv .windowed) (from-After-put-to-In-records c .records-test .taken) (holds (from-After-put-to-At-records c)) refl (from-After-put-to-After-sought c .sought .ensures) (from-After-put-to-After-place-in c .place-in .ensures) (message-is (from-After-put-to-After-place-in c) _) (from-After-put-to-After-is-there c .is-there .ensures) (from-After-put-to-After-row-of c .row-of .ensures) (c .before .plan-of .ensures))
 
 -- The pins of its process move.
-mul-pins-before : tie.Need-mul-pins-before Inv-collected μ-collected Inv-allowed μ-allowed Inv-returned μ-returned Inv-found μ-found Inv-left μ-left Inv-restored μ-restored Inv-sifted μ-sifted Inv-records μ-records
-mul-pins-before c = omega (arith, in-rows (from-After-live-index-to-After-row-of c))
+mul-pins-then : tie.Need-mul-pins-then Inv-collected μ-collected Inv-allowed μ-allowed Inv-returned μ-returned Inv-found μ-found Inv-left μ-left Inv-restored μ-restored Inv-sifted μ-sifted Inv-records μ-records
+mul-pins-then c = omega (arith, in-rows (from-After-carried-to-After-row-of c))
 
-array-copy-out-pins-before : tie.Need-array-copy-out-pins-before Inv-collected μ-collected Inv-allowed μ-allowed Inv-returned μ-returned Inv-found μ-found Inv-left μ-left Inv-restored μ-restored Inv-sifted μ-sifted Inv-records μ-records
-array-copy-out-pins-before c = omega (arith, in-rows (from-After-live-index-to-After-row-of c))
+array-copy-out-pins-then : tie.Need-array-copy-out-pins-then Inv-collected μ-collected Inv-allowed μ-allowed Inv-returned μ-returned Inv-found μ-found Inv-left μ-left Inv-restored μ-restored Inv-sifted μ-sifted Inv-records μ-records
+array-copy-out-pins-then c = omega (arith, in-rows (from-After-carried-to-After-row-of c))
 
 mul-vectors : tie.Need-mul-vectors Inv-collected μ-collected Inv-allowed μ-allowed Inv-returned μ-returned Inv-found μ-found Inv-left μ-left Inv-restored μ-restored Inv-sifted μ-sifted Inv-records μ-records
 mul-vectors c = omega (arith, in-rows (from-After-vector-then-to-After-row-of c))
@@ -1459,7 +1477,7 @@ live-index-requires : tie.Need-live-index-requires Inv-collected μ-collected In
 live-index-requires c κs = turn.moved-own (whole (from-Then6-to-At-records c)) (reach (from-Then6-to-At-records c)) (event (from-Then6-to-After-decode c)) (not-asked (from-Then6-to-Then5 c)) (from-Then6-to-At-records c .records .inv .windowed) (from-Then6-to-In-records c .records-test .taken) (holds (from-Then6-to-At-records c)) refl (from-Then6-to-After-sought c .sought .ensures) (from-Then6-to-After-place-in c .place-in .ensures) (message-is (from-Then6-to-After-place-in c) _) (from-Then6-to-After-is-there c .is-there .ensures) (from-Then6-to-After-row-of c .row-of .ensures) (from-Then6-to-After-plan-of c .plan-of .ensures) (c .if6 .taken)
 
 pins-then-requires : tie.Need-pins-then-requires Inv-collected μ-collected Inv-allowed μ-allowed Inv-returned μ-returned Inv-found μ-found Inv-left μ-left Inv-restored μ-restored Inv-sifted μ-sifted Inv-records μ-records
-pins-then-requires c κs = (in-rows (from-After-carried-to-After-row-of c), turn.moved-room (whole (from-After-carried-to-At-records c)) (reach (from-After-carried-to-At-records c)) (event (from-After-carried-to-After-decode c)) (not-asked (from-After-carried-to-Then5 c)) (from-After-carried-to-At-records c .records .inv .windowed) (from-After-carried-to-In-records c .records-test .taken) (holds (from-After-carried-to-At-records c)) refl (from-After-carried-to-After-sought c .sought .ensures) (from-After-carried-to-After-place-in c .place-in .ensures) (message-is (from-After-carried-to-After-place-in c) _) (from-After-carried-to-After-is-there c .is-there .ensures) (from-After-carried-to-After-row-of c .row-of .ensures) (from-After-carried-to-After-plan-of c .plan-of .ensures) (from-After-carried-to-Then6 c .if6 .taken))
+pins-then-requires c κs = (in-rows (from-After-pins-then-arg-to-After-row-of c), turn.moved-room (whole (from-After-pins-then-arg-to-At-records c)) (reach (from-After-pins-then-arg-to-At-records c)) (event (from-After-pins-then-arg-to-After-decode c)) (not-asked (from-After-pins-then-arg-to-Then5 c)) (from-After-pins-then-arg-to-At-records c .records .inv .windowed) (from-After-pins-then-arg-to-In-records c .records-test .taken) (holds (from-After-pins-then-arg-to-At-records c)) refl (from-After-pins-then-arg-to-After-sought c .sought .ensures) (from-After-pins-then-arg-to-After-place-in c .place-in .ensures) (message-is (from-After-pins-then-arg-to-After-place-in c) _) (from-After-pins-then-arg-to-After-is-there c .is-there .ensures) (from-After-pins-then-arg-to-After-row-of c .row-of .ensures) (from-After-pins-then-arg-to-After-plan-of c .plan-of .ensures) (from-After-pins-then-arg-to-Then6 c .if6 .taken))
 
 vector-then-requires : tie.Need-vector-then-requires Inv-collected μ-collected Inv-allowed μ-allowed Inv-returned μ-returned Inv-found μ-found Inv-left μ-left Inv-restored μ-restored Inv-sifted μ-sifted Inv-records μ-records
 vector-then-requires c κs = (in-rows (from-After-pins-then-to-After-row-of c), turn.moved-room (whole (from-After-pins-then-to-At-records c)) (reach (from-After-pins-then-to-At-records c)) (event (from-After-pins-then-to-After-decode c)) (not-asked (from-After-pins-then-to-Then5 c)) (from-After-pins-then-to-At-records c .records .inv .windowed) (from-After-pins-then-to-In-records c .records-test .taken) (holds (from-After-pins-then-to-At-records c)) refl (from-After-pins-then-to-After-sought c .sought .ensures) (from-After-pins-then-to-After-place-in c .place-in .ensures) (message-is (from-After-pins-then-to-After-place-in c) _) (from-After-pins-then-to-After-is-there c .is-there .ensures) (from-After-pins-then-to-After-row-of c .row-of .ensures) (from-After-pins-then-to-After-plan-of c .plan-of .ensures) (from-After-pins-then-to-Then6 c .if6 .taken))
@@ -1581,14 +1599,14 @@ over c = omega (arith, c .before .collected .inv .1, c .collected-test .left)
 to-most : (c : After-collected) → c .before .collected .to ≤ 16
 to-most c = omega (arith, c .before .collected .inv .0 .to-most, over c, many-most (from-After-collected-to-Then6 c))
 
-mul-first-kept : tie.Need-mul-first-kept Inv-collected μ-collected Inv-allowed μ-allowed Inv-returned μ-returned Inv-found μ-found Inv-left μ-left Inv-restored μ-restored Inv-sifted μ-sifted Inv-records μ-records
-mul-first-kept c = omega (arith, in-rows (from-After-collected-to-After-row-of c))
+mul-stored : tie.Need-mul-stored Inv-collected μ-collected Inv-allowed μ-allowed Inv-returned μ-returned Inv-found μ-found Inv-left μ-left Inv-restored μ-restored Inv-sifted μ-sifted Inv-records μ-records
+mul-stored c = omega (arith, in-rows (from-After-collected-to-After-row-of c))
 
-index-1-first-kept : tie.Need-index-1-first-kept Inv-collected μ-collected Inv-allowed μ-allowed Inv-returned μ-returned Inv-found μ-found Inv-left μ-left Inv-restored μ-restored Inv-sifted μ-sifted Inv-records μ-records
-index-1-first-kept c = omega (arith, in-rows (from-After-collected-to-After-row-of c))
+index-1-stored : tie.Need-index-1-stored Inv-collected μ-collected Inv-allowed μ-allowed Inv-returned μ-returned Inv-found μ-found Inv-left μ-left Inv-restored μ-restored Inv-sifted μ-sifted Inv-records μ-records
+index-1-stored c = omega (arith, in-rows (from-After-collected-to-After-row-of c))
 
-index-2-first-kept : tie.Need-index-2-first-kept Inv-collected μ-collected Inv-allowed μ-allowed Inv-returned μ-returned Inv-found μ-found Inv-left μ-left Inv-restored μ-restored Inv-sifted μ-sifted Inv-records μ-records
-index-2-first-kept c = omega (arith, in-rows (from-After-collected-to-After-row-of c))
+index-2-stored : tie.Need-index-2-stored Inv-collected μ-collected Inv-allowed μ-allowed Inv-returned μ-returned Inv-found μ-found Inv-left μ-left Inv-restored μ-restored Inv-sifted μ-sifted Inv-records μ-records
+index-2-stored c = omega (arith, in-rows (from-After-collected-to-After-row-of c))
 
 stored-requires : tie.Need-stored-requires Inv-collected μ-collected Inv-allowed μ-allowed Inv-returned μ-returned Inv-found μ-found Inv-left μ-left Inv-restored μ-restored Inv-sifted μ-sifted Inv-records μ-records
 stored-requires c κs = to-most (c .before)
@@ -1784,16 +1802,16 @@ array-copy-out-current : tie.Need-array-copy-out-current Inv-collected μ-collec
 array-copy-out-current c =
     omega (arith, below-f (c))
 
-mul-held-now : tie.Need-mul-held-now Inv-collected μ-collected Inv-allowed μ-allowed Inv-returned μ-returned Inv-found μ-found Inv-left μ-left Inv-restored μ-restored Inv-sifted μ-sifted Inv-records μ-records
-mul-held-now c =
-    omega (arith, below-f (c .before))
+mul-to-search : tie.Need-mul-to-search Inv-collected μ-collected Inv-allowed μ-allowed Inv-returned μ-returned Inv-found μ-found Inv-left μ-left Inv-restored μ-restored Inv-sifted μ-sifted Inv-records μ-records
+mul-to-search c =
+    omega (arith, below-f (c .before .before))
 
-array-read-held-now : tie.Need-array-read-held-now Inv-collected μ-collected Inv-allowed μ-allowed Inv-returned μ-returned Inv-found μ-found Inv-left μ-left Inv-restored μ-restored Inv-sifted μ-sifted Inv-records μ-records
-array-read-held-now c =
-    omega (arith, below-f (c .before))
+array-read-to-search : tie.Need-array-read-to-search Inv-collected μ-collected Inv-allowed μ-allowed Inv-returned μ-returned Inv-found μ-found Inv-left μ-left Inv-restored μ-restored Inv-sifted μ-sifted Inv-records μ-records
+array-read-to-search c =
+    omega (arith, below-f (c .before .before))
 
-array-read-sent-now : tie.Need-array-read-sent-now Inv-collected μ-collected Inv-allowed μ-allowed Inv-returned μ-returned Inv-found μ-found Inv-left μ-left Inv-restored μ-restored Inv-sifted μ-sifted Inv-records μ-records
-array-read-sent-now c =
+array-read-step-back : tie.Need-array-read-step-back Inv-collected μ-collected Inv-allowed μ-allowed Inv-returned μ-returned Inv-found μ-found Inv-left μ-left Inv-restored μ-restored Inv-sifted μ-sifted Inv-records μ-records
+array-read-step-back c =
     omega (arith, below-f (from-After-member-to-In-returned c))
 
 mul-vectors-2 : tie.Need-mul-vectors-2 Inv-collected μ-collected Inv-allowed μ-allowed Inv-returned μ-returned Inv-found μ-found Inv-left μ-left Inv-restored μ-restored Inv-sifted μ-sifted Inv-records μ-records
@@ -1827,17 +1845,17 @@ add-f c =
 allowed-holds : tie.Need-allowed-holds Inv-collected μ-collected Inv-allowed μ-allowed Inv-returned μ-returned Inv-found μ-found Inv-left μ-left Inv-restored μ-restored Inv-sifted μ-sifted Inv-records μ-records
 allowed-holds c = (omega arith, c .none-allowed .ensures ∙ latest-none _ _)
 
-mul-candidate : tie.Need-mul-candidate Inv-collected μ-collected Inv-allowed μ-allowed Inv-returned μ-returned Inv-found μ-found Inv-left μ-left Inv-restored μ-restored Inv-sifted μ-sifted Inv-records μ-records
-mul-candidate c = omega (arith, below-f (from-In-allowed-to-In-returned c), c .allowed-test .taken, searched-most (from-In-allowed-to-After-to-search c))
+mul-latest-with : tie.Need-mul-latest-with Inv-collected μ-collected Inv-allowed μ-allowed Inv-returned μ-returned Inv-found μ-found Inv-left μ-left Inv-restored μ-restored Inv-sifted μ-sifted Inv-records μ-records
+mul-latest-with c = omega (arith, below-f (from-In-allowed-to-In-returned c), c .allowed-test .taken, searched-most (from-In-allowed-to-After-to-search c))
 
-mul-candidate-2 : tie.Need-mul-candidate-2 Inv-collected μ-collected Inv-allowed μ-allowed Inv-returned μ-returned Inv-found μ-found Inv-left μ-left Inv-restored μ-restored Inv-sifted μ-sifted Inv-records μ-records
-mul-candidate-2 c = omega (arith, below-f (from-In-allowed-to-In-returned c), c .allowed-test .taken, searched-most (from-In-allowed-to-After-to-search c))
+mul-latest-with-2 : tie.Need-mul-latest-with-2 Inv-collected μ-collected Inv-allowed μ-allowed Inv-returned μ-returned Inv-found μ-found Inv-left μ-left Inv-restored μ-restored Inv-sifted μ-sifted Inv-records μ-records
+mul-latest-with-2 c = omega (arith, below-f (from-In-allowed-to-In-returned c), c .allowed-test .taken, searched-most (from-In-allowed-to-After-to-search c))
 
-index-1-candidate : tie.Need-index-1-candidate Inv-collected μ-collected Inv-allowed μ-allowed Inv-returned μ-returned Inv-found μ-found Inv-left μ-left Inv-restored μ-restored Inv-sifted μ-sifted Inv-records μ-records
-index-1-candidate c = omega (arith, below-f (from-In-allowed-to-In-returned c), c .allowed-test .taken, searched-most (from-In-allowed-to-After-to-search c))
+index-1-latest-with : tie.Need-index-1-latest-with Inv-collected μ-collected Inv-allowed μ-allowed Inv-returned μ-returned Inv-found μ-found Inv-left μ-left Inv-restored μ-restored Inv-sifted μ-sifted Inv-records μ-records
+index-1-latest-with c = omega (arith, below-f (from-In-allowed-to-In-returned c), c .allowed-test .taken, searched-most (from-In-allowed-to-After-to-search c))
 
-index-2-candidate : tie.Need-index-2-candidate Inv-collected μ-collected Inv-allowed μ-allowed Inv-returned μ-returned Inv-found μ-found Inv-left μ-left Inv-restored μ-restored Inv-sifted μ-sifted Inv-records μ-records
-index-2-candidate c = omega (arith, below-f (from-In-allowed-to-In-returned c), c .allowed-test .taken, searched-most (from-In-allowed-to-After-to-search c))
+index-2-latest-with : tie.Need-index-2-latest-with Inv-collected μ-collected Inv-allowed μ-allowed Inv-returned μ-returned Inv-found μ-found Inv-left μ-left Inv-restored μ-restored Inv-sifted μ-sifted Inv-records μ-records
+index-2-latest-with c = omega (arith, below-f (from-In-allowed-to-In-returned c), c .allowed-test .taken, searched-most (from-In-allowed-to-After-to-search c))
 
 add-a : tie.Need-add-a Inv-collected μ-collected Inv-allowed μ-allowed Inv-returned μ-returned Inv-found μ-found Inv-left μ-left Inv-restored μ-restored Inv-sifted μ-sifted Inv-records μ-records
 add-a c = omega (arith, below-f (from-After-latest-with-to-In-returned c), c .before .before .allowed-test .taken, searched-most (from-After-latest-with-to-After-to-search c))
@@ -1898,43 +1916,43 @@ row-filled c =
     rw (same-row (c .before .restored .inv), same-held (c .before .restored .inv)) (filled.row-filled (whole at) (sized at) (fine at) (c .before .restored .q) (c .restored-test .taken))
 
 find-few : (c : After-to-search2) → c .to-search2 .result ≤ 16
-find-few c = omega (arith, held-most (from-After-to-search2-to-In-restored c), search-most (getD (from-After-to-search2-to-At-returned c .returned .rolled) (from-After-to-search2-to-At-restored c .restored .q) false) (getD (from-After-to-search2-to-At-restored c .restored .held) (from-After-to-search2-to-At-restored c .restored .q) 0) (c .to-search2 .result) (c .to-search2 .ensures))
+find-few c = omega (arith, held-most (c .before .before), search-most (getD (from-After-to-search2-to-At-returned c .returned .rolled) (from-After-to-search2-to-At-restored c .restored .q) false) (getD (from-After-to-search2-to-At-restored c .restored .held) (from-After-to-search2-to-At-restored c .restored .q) 0) (c .to-search2 .result) (c .to-search2 .ensures))
 
 array-read-has-rolled : tie.Need-array-read-has-rolled Inv-collected μ-collected Inv-allowed μ-allowed Inv-returned μ-returned Inv-found μ-found Inv-left μ-left Inv-restored μ-restored Inv-sifted μ-sifted Inv-records μ-records
 array-read-has-rolled c =
     omega (arith, below-q (c))
 
-mul-known : tie.Need-mul-known Inv-collected μ-collected Inv-allowed μ-allowed Inv-returned μ-returned Inv-found μ-found Inv-left μ-left Inv-restored μ-restored Inv-sifted μ-sifted Inv-records μ-records
-mul-known c =
-    omega (arith, below-q (c))
-
-array-copy-out-known : tie.Need-array-copy-out-known Inv-collected μ-collected Inv-allowed μ-allowed Inv-returned μ-returned Inv-found μ-found Inv-left μ-left Inv-restored μ-restored Inv-sifted μ-sifted Inv-records μ-records
-array-copy-out-known c =
-    omega (arith, below-q (c))
-
 mul-held-then : tie.Need-mul-held-then Inv-collected μ-collected Inv-allowed μ-allowed Inv-returned μ-returned Inv-found μ-found Inv-left μ-left Inv-restored μ-restored Inv-sifted μ-sifted Inv-records μ-records
 mul-held-then c =
-    omega (arith, below-q (c .before))
+    omega (arith, below-q (c))
 
 array-read-held-then : tie.Need-array-read-held-then Inv-collected μ-collected Inv-allowed μ-allowed Inv-returned μ-returned Inv-found μ-found Inv-left μ-left Inv-restored μ-restored Inv-sifted μ-sifted Inv-records μ-records
 array-read-held-then c =
-    omega (arith, below-q (c .before))
+    omega (arith, below-q (c))
 
-mul-pins-now : tie.Need-mul-pins-now Inv-collected μ-collected Inv-allowed μ-allowed Inv-returned μ-returned Inv-found μ-found Inv-left μ-left Inv-restored μ-restored Inv-sifted μ-sifted Inv-records μ-records
-mul-pins-now c =
-    omega (arith, below-q (c .before))
+mul-pins-found : tie.Need-mul-pins-found Inv-collected μ-collected Inv-allowed μ-allowed Inv-returned μ-returned Inv-found μ-found Inv-left μ-left Inv-restored μ-restored Inv-sifted μ-sifted Inv-records μ-records
+mul-pins-found c =
+    omega (arith, below-q (from-After-found-to-In-restored c))
 
-array-copy-out-pins-now : tie.Need-array-copy-out-pins-now Inv-collected μ-collected Inv-allowed μ-allowed Inv-returned μ-returned Inv-found μ-found Inv-left μ-left Inv-restored μ-restored Inv-sifted μ-sifted Inv-records μ-records
-array-copy-out-pins-now c =
-    omega (arith, below-q (c .before))
+array-copy-out-pins-found : tie.Need-array-copy-out-pins-found Inv-collected μ-collected Inv-allowed μ-allowed Inv-returned μ-returned Inv-found μ-found Inv-left μ-left Inv-restored μ-restored Inv-sifted μ-sifted Inv-records μ-records
+array-copy-out-pins-found c =
+    omega (arith, below-q (from-After-found-to-In-restored c))
+
+mul-pins-found-2 : tie.Need-mul-pins-found-2 Inv-collected μ-collected Inv-allowed μ-allowed Inv-returned μ-returned Inv-found μ-found Inv-left μ-left Inv-restored μ-restored Inv-sifted μ-sifted Inv-records μ-records
+mul-pins-found-2 c =
+    omega (arith, below-q (from-After-pins-found-arg-to-In-restored c))
+
+array-copy-out-pins-found-2 : tie.Need-array-copy-out-pins-found-2 Inv-collected μ-collected Inv-allowed μ-allowed Inv-returned μ-returned Inv-found μ-found Inv-left μ-left Inv-restored μ-restored Inv-sifted μ-sifted Inv-records μ-records
+array-copy-out-pins-found-2 c =
+    omega (arith, below-q (from-After-pins-found-arg-to-In-restored c))
 
 mul-last-kept : tie.Need-mul-last-kept Inv-collected μ-collected Inv-allowed μ-allowed Inv-returned μ-returned Inv-found μ-found Inv-left μ-left Inv-restored μ-restored Inv-sifted μ-sifted Inv-records μ-records
 mul-last-kept c =
-    omega (arith, below-q (c .before .before))
+    omega (arith, below-q (c))
 
 array-copy-out-last-kept : tie.Need-array-copy-out-last-kept Inv-collected μ-collected Inv-allowed μ-allowed Inv-returned μ-returned Inv-found μ-found Inv-left μ-left Inv-restored μ-restored Inv-sifted μ-sifted Inv-records μ-records
 array-copy-out-last-kept c =
-    omega (arith, below-q (c .before .before))
+    omega (arith, below-q (c))
 
 mul-pins-2 : tie.Need-mul-pins-2 Inv-collected μ-collected Inv-allowed μ-allowed Inv-returned μ-returned Inv-found μ-found Inv-left μ-left Inv-restored μ-restored Inv-sifted μ-sifted Inv-records μ-records
 mul-pins-2 c =
@@ -1959,17 +1977,17 @@ add-q c =
 found-holds : tie.Need-found-holds Inv-collected μ-collected Inv-allowed μ-allowed Inv-returned μ-returned Inv-found μ-found Inv-left μ-left Inv-restored μ-restored Inv-sifted μ-sifted Inv-records μ-records
 found-holds c = (omega arith, c .nothing-found .ensures ∙ sym (found-none _ _))
 
-mul-seen : tie.Need-mul-seen Inv-collected μ-collected Inv-allowed μ-allowed Inv-returned μ-returned Inv-found μ-found Inv-left μ-left Inv-restored μ-restored Inv-sifted μ-sifted Inv-records μ-records
-mul-seen c = omega (arith, below-q (from-In-found-to-In-restored c), c .found-test .taken, find-few (from-In-found-to-After-to-search2 c))
+mul-found-with : tie.Need-mul-found-with Inv-collected μ-collected Inv-allowed μ-allowed Inv-returned μ-returned Inv-found μ-found Inv-left μ-left Inv-restored μ-restored Inv-sifted μ-sifted Inv-records μ-records
+mul-found-with c = omega (arith, below-q (from-In-found-to-In-restored c), c .found-test .taken, find-few (from-In-found-to-After-to-search2 c))
 
-mul-seen-2 : tie.Need-mul-seen-2 Inv-collected μ-collected Inv-allowed μ-allowed Inv-returned μ-returned Inv-found μ-found Inv-left μ-left Inv-restored μ-restored Inv-sifted μ-sifted Inv-records μ-records
-mul-seen-2 c = omega (arith, below-q (from-In-found-to-In-restored c), c .found-test .taken, find-few (from-In-found-to-After-to-search2 c))
+mul-found-with-2 : tie.Need-mul-found-with-2 Inv-collected μ-collected Inv-allowed μ-allowed Inv-returned μ-returned Inv-found μ-found Inv-left μ-left Inv-restored μ-restored Inv-sifted μ-sifted Inv-records μ-records
+mul-found-with-2 c = omega (arith, below-q (from-In-found-to-In-restored c), c .found-test .taken, find-few (from-In-found-to-After-to-search2 c))
 
-index-1-seen : tie.Need-index-1-seen Inv-collected μ-collected Inv-allowed μ-allowed Inv-returned μ-returned Inv-found μ-found Inv-left μ-left Inv-restored μ-restored Inv-sifted μ-sifted Inv-records μ-records
-index-1-seen c = omega (arith, below-q (from-In-found-to-In-restored c), c .found-test .taken, find-few (from-In-found-to-After-to-search2 c))
+index-1-found-with : tie.Need-index-1-found-with Inv-collected μ-collected Inv-allowed μ-allowed Inv-returned μ-returned Inv-found μ-found Inv-left μ-left Inv-restored μ-restored Inv-sifted μ-sifted Inv-records μ-records
+index-1-found-with c = omega (arith, below-q (from-In-found-to-In-restored c), c .found-test .taken, find-few (from-In-found-to-After-to-search2 c))
 
-index-2-seen : tie.Need-index-2-seen Inv-collected μ-collected Inv-allowed μ-allowed Inv-returned μ-returned Inv-found μ-found Inv-left μ-left Inv-restored μ-restored Inv-sifted μ-sifted Inv-records μ-records
-index-2-seen c = omega (arith, below-q (from-In-found-to-In-restored c), c .found-test .taken, find-few (from-In-found-to-After-to-search2 c))
+index-2-found-with : tie.Need-index-2-found-with Inv-collected μ-collected Inv-allowed μ-allowed Inv-returned μ-returned Inv-found μ-found Inv-left μ-left Inv-restored μ-restored Inv-sifted μ-sifted Inv-records μ-records
+index-2-found-with c = omega (arith, below-q (from-In-found-to-In-restored c), c .found-test .taken, find-few (from-In-found-to-After-to-search2 c))
 
 add-b : tie.Need-add-b Inv-collected μ-collected Inv-allowed μ-allowed Inv-returned μ-returned Inv-found μ-found Inv-left μ-left Inv-restored μ-restored Inv-sifted μ-sifted Inv-records μ-records
 add-b c = omega (arith, below-q (from-After-found-with-to-In-restored c), c .before .before .found-test .taken, find-few (from-After-found-with-to-After-to-search2 c))
@@ -1995,7 +2013,7 @@ found-over c = omega (arith, c .before .found .inv .0, c .found-test .left)
 new-pins : (c : After-pins-found) → c .pins-found .result
     ≡ restoredPins (getD (from-After-pins-found-to-At-returned c .returned .rolled) (from-After-pins-found-to-At-restored c .restored .q) false) (getD (from-After-pins-found-to-At-returned c .returned .vectors) (from-After-pins-found-to-At-restored c .restored .q) []) (from-After-pins-found-to-After-own-entries2 c .own-entries2 .result)
     (notLater (getD (from-After-pins-found-to-At-returned c .returned .members) (from-After-pins-found-to-At-restored c .restored .q) noIndex) (take (getD (from-After-pins-found-to-At-restored c .restored .held) (from-After-pins-found-to-At-restored c .restored .q) 0) (getD (from-After-pins-found-to-At-restored c .restored .kept) (from-After-pins-found-to-At-restored c .restored .q) []))) (getD (from-After-pins-found-to-At-restored c .restored .pins) (from-After-pins-found-to-At-restored c .restored .q) [])
-new-pins c = c .pins-found .ensures _ (pins-searched _ _ _ (c .before .before .found .b) _ _ _ _ (from-After-pins-found-to-After-to-search2 c .to-search2 .ensures) (found-over (c .before)) (c .before .before .found .inv .1))
+new-pins c = c .pins-found .ensures _ (pins-searched _ _ _ (from-After-pins-found-to-At-found c .found .b) _ _ _ _ (from-After-pins-found-to-After-to-search2 c .to-search2 .ensures) (found-over (from-After-pins-found-to-After-found c)) (from-After-pins-found-to-At-found c .found .inv .1))
 
 -- Its row is collected.
 row-there : (c : In-restored) → c .before .restored .q < length (c .before .restored .kept)
@@ -2312,8 +2330,8 @@ replay-beside-spec =
     array-set-from-window
     (λ c κs. search needs)
     live-index-requires
-    mul-pins-before
-    array-copy-out-pins-before
+    mul-pins-then
+    array-copy-out-pins-then
     pins-then-requires
     vector-then-requires
     mul-vectors
@@ -2344,9 +2362,9 @@ replay-beside-spec =
     add-gone
     collected-less-2
     collected-again-2
-    mul-first-kept
-    index-1-first-kept
-    index-2-first-kept
+    mul-stored
+    index-1-stored
+    index-2-stored
     stored-requires
     mul-put-there
     mul-put-there-2
@@ -2367,20 +2385,21 @@ replay-beside-spec =
     returned-holds
     mul-current
     array-copy-out-current
-    mul-held-now
-    array-read-held-now
-    (λ c κs. search needs) (λ c κs. search needs) (λ c κs. search needs)
+    (λ c κs. search needs)
+    mul-to-search
+    array-read-to-search
+    (λ c κs. search needs) (λ c κs. search needs)
     allowed-holds
-    mul-candidate
-    mul-candidate-2
-    index-1-candidate
-    index-2-candidate
+    mul-latest-with
+    mul-latest-with-2
+    index-1-latest-with
+    index-2-latest-with
     (λ c κs. search needs)
     add-a
     allowed-less
     allowed-again
     member-requires
-    array-read-sent-now
+    array-read-step-back
     step-back-requires
     mul-vectors-2
     array-set-from-vectors-2
@@ -2394,24 +2413,24 @@ replay-beside-spec =
     (λ c κs. search needs)
     restored-holds
     array-read-has-rolled
-    mul-known
-    array-copy-out-known
     mul-held-then
     array-read-held-then
-    mul-pins-now
-    array-copy-out-pins-now
     mul-last-kept
     array-copy-out-last-kept
     (λ c κs. search needs) (λ c κs. search needs)
     found-holds
-    mul-seen
-    mul-seen-2
-    index-1-seen
-    index-2-seen
+    mul-found-with
+    mul-found-with-2
+    index-1-found-with
+    index-2-found-with
     (λ c κs. search needs)
     add-b
     found-less
     found-again
+    mul-pins-found
+    array-copy-out-pins-found
+    mul-pins-found-2
+    array-copy-out-pins-found-2
     (λ c κs. search needs)
     mul-pins-2
     array-set-from-pins-2
