@@ -1,16 +1,18 @@
 -- The turns of the loop over a block: nothing taken yet, one record more, and why it stops.
 -- Assumes nothing.
 use mathlib.Core.Path.{_≡_, refl, sym, _∙_, ap}
-use mathlib.Core.Bool.{Bool, true, false}
+use mathlib.Core.Bool.{Bool, true, false, _&&_}
 use mathlib.Core.List.{List}
 use mathlib.Core.Logic.{inl, inr}
 use mathlib.Core.Option.{Option}
 use Prim.Native.Nat.{ℕ, _+_, _-_, _*_, _≤_, _<_}
 use native.Mathlib.Omega.{arith}
+use lib.Dec.{ltb, leb}
 use lib.ListN.{length, take, drop, length-drop}
 use lib.Seq.{drop-drop, length-take-le}
-use borrow.Author.Tests.{leb-true, leb-false}
-use Rattle.laws.specs.Choice.{by-eq}
+use borrow.Author.Tests.{ltb-true, ltb-false, leb-true, leb-false}
+use Rattle.laws.specs.Choice.{by-bool, by-eq}
+use Rattle.laws.specs.Truth.{and-left, and-right}
 use Rattle.model.specs.declared.Event.{Event}
 use Rattle.model.specs.declared.Run.{Run}
 use Rattle.whole_runs.specs.Outcomes.{Report}
@@ -28,7 +30,8 @@ use Rattle.listing.specs.Printed.{Printed}
 use Rattle.listing.specs.Said.{reportIn, Says, Performs}
 use Rattle.listing.proofs.Said.{says-line}
 use Rattle.listing.proofs.Texts.{then, nothing}
-use Rattle.replay_block.specs.Blocks.{Replays, Stops}
+use Rattle.replay_block.specs.Blocks.{takesNext, Replays, Stops}
+use Rattle.replay_block.specs.Window.{windowPlaces}
 use Rattle.replay_block.proofs.Lines.{performed-small, performed-deletions, four-read}
 
 pub none-taken : (all : Bool) (s : Run) (done : ℕ) (block out : List ℕ) → Replays all s done block out s 0 out 0 true
@@ -84,26 +87,67 @@ module _ (trace : List ℕ) (taken : ℕ) where
 
 -- Why the loop stops.
 module _ (done block taken out written : ℕ) (going : Bool) where
-  pub at-limit : done + taken ≤ mostRecords → mostRecords ≤ done + taken → Stops done block taken out written going
+  at-limit : done + taken ≤ mostRecords → mostRecords ≤ done + taken → Stops done block taken out written going
   unfolding Stops
   at-limit h g = inl (omega arith)
 
-  pub no-record : block < 4 * taken + 4 → Stops done block taken out written going
+  no-record : block < 4 * taken + 4 → Stops done block taken out written going
   unfolding Stops
   no-record h = inr (inl h)
 
-  pub no-room : written ≤ out → out - written < longestLine → Stops done block taken out written going
+  no-room : out < written + longestLine → Stops done block taken out written going
   unfolding Stops
-  no-room h g = inr (inr (inl (omega arith)))
+  no-room h = inr (inr (inl h))
 
-  pub at-a-refusal : going ≡ false → Stops done block taken out written going
+  at-a-refusal : going ≡ false → Stops done block taken out written going
   unfolding Stops
   at-a-refusal h = inr (inr (inr (inl h)))
 
   -- each record takes one place at most
-  pub no-place : (tail : ℕ) → tail ≤ 64 + taken → 576 ≤ tail → Stops done block taken out written going
+  no-place : (tail : ℕ) → tail ≤ 64 + taken → 576 ≤ tail → Stops done block taken out written going
   unfolding Stops
   no-place tail h g = inr (inr (inr (inr (omega arith))))
+
+-- What holds before a record that is taken, and why the loop stops where none is.
+pub record Takes (tail done : ℕ) (trace : List ℕ) (taken out written : ℕ) (going : Bool) : Type 0 where
+  pub place : tail < windowPlaces
+  pub few : done + taken < mostRecords
+  pub room : written + longestLine ≤ out
+  pub still : going ≡ true
+  pub left : recordLeft trace taken ≡ true
+
+module _ (tail done : ℕ) (trace : List ℕ) (taken out written : ℕ) (going : Bool) where
+  pub next-taken : takesNext tail done trace taken out written going ≡ true → Takes tail done trace taken out written going
+  unfolding takesNext
+  next-taken e =
+      let a = ltb tail windowPlaces in
+      let b = ltb (done + taken) mostRecords in
+      let f = leb (written + longestLine) out in
+      let four = and-left (a && b && f && going) (recordLeft trace taken) e in
+      let three = and-left (a && b && f) going four in
+      let two = and-left (a && b) f three in record {
+        place = ltb-true tail windowPlaces (and-left a b two);
+        few = ltb-true (done + taken) mostRecords (and-right a b two);
+        room = leb-true (written + longestLine) out (and-right (a && b) f three);
+        still = and-right (a && b && f) going four;
+        left = and-right (a && b && f && going) (recordLeft trace taken) e;
+      }
+
+  pub stopped : tail ≤ 64 + taken → done + taken ≤ mostRecords → {size : ℕ} → size ≡ out → takesNext tail done trace taken size written going ≡ false
+      → Stops done (length (drop 1 trace)) taken out written going
+  unfolding takesNext
+  stopped sends few long e =
+      let block = length (drop 1 trace) in
+      let none = rw long at e in
+      by-bool (ltb tail windowPlaces)
+      (λ a. by-bool (ltb (done + taken) mostRecords)
+      (λ b. by-bool (leb (written + longestLine) out)
+      (λ f. by-bool going
+      (λ g. no-record done block taken out written going (left-none trace taken (rw (a, b, f, g) at none)))
+      (λ g. at-a-refusal done block taken out written going g))
+      (λ f. no-room done block taken out written going (leb-false (written + longestLine) out f)))
+      (λ b. at-limit done block taken out written going few (ltb-false (done + taken) mostRecords b)))
+      (λ a. no-place done block taken out written going tail sends (ltb-false tail windowPlaces a))
 
 -- What is said of a record is small.
 pub said-fits : (s : Run) (e : Option Event) (said : Summary) (deleted : List ℕ) → Says said deleted (perform s e .reply) → Small (reportIn said) × (said .deletions ≤ 256)

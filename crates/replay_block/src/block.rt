@@ -11,7 +11,7 @@ ghost use mathlib.Core.Path.{_≡_};
 ghost use Prim.Native.Nat.{_+_, _≤_};
 ghost use lib.ListN.{length, drop};
 ghost use Rattle.whole_runs.specs.WholeRuns.{Traced};
-ghost use Rattle.replay_block.specs.Blocks.{Replays, Stops};
+ghost use Rattle.replay_block.specs.Blocks.{takesNext, Replays, Stops};
 ghost use Rattle.replay_block.specs.Window.{numbersOf};
 
 // The state after the records that were taken of a block, how many they are, how many bytes of lines were written, and whether the replay goes on behind them.
@@ -20,6 +20,35 @@ pub struct Progress {
     pub taken: usize,
     pub written: usize,
     pub going: bool,
+}
+
+// Whether one more record is taken: the window has a place for the message that it may send, it is not behind record 1,000,000,000, the longest line fits into
+// the `size` bytes of the buffer, the replay goes on, and a whole record is left.
+fn takes_next(
+    tail: usize,
+    done: u64,
+    trace: &[u8],
+    taken: usize,
+    size: usize,
+    written: usize,
+    going: bool,
+) -> bool
+    requires { ⌜ (done + taken ≤ 1000000000) × (written ≤ size) ⌝ }
+    ensures { λ r. ⌜ r ≡ takesNext tail done (now (trace .entry)) taken size written going ⌝ }
+{
+    if 576 <= tail {
+        return false;
+    }
+    if 1000000000 <= done + (taken as u64) {
+        return false;
+    }
+    if size - written < 3102 {
+        return false;
+    }
+    if !going {
+        return false;
+    }
+    reader::record_left(trace, taken)
 }
 
 // It stops where no whole record is left, where the longest line might not fit, behind record 1,000,000,000, and behind a refusal unless `all` is asked for. The
@@ -58,12 +87,7 @@ fn replay_beside(
     let mut taken = 0;
     let mut written = 0;
     let mut going = true;
-    'records: while tail < 576
-        && done + (taken as u64) < 1000000000
-        && reader::record_left(trace, taken)
-        && 3102 <= out.len() - written
-        && going
-    {
+    'records: while takes_next(tail, done, trace, taken, out.len(), written, going) {
         let part = reader::record_after(trace, taken);
         let d = trace::decode(part);
         taken += 1;

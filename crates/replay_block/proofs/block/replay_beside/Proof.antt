@@ -2,11 +2,10 @@
 -- place are. A record that asks for no recovery is decided as its call is and the plan is carried out in place; a recovery goes over all processes.
 -- Assumes nothing. Made by tools/proof-text from Proof.source: edit that.
 use borrow.Author.Needs.{needs}
-use borrow.Author.Tests.{ltb-true, ltb-false, leb-true, leb-false, not-true, not-false}
+use borrow.Author.Tests.{not-true, not-false}
 use mathlib.Core.Path.{_≡_, refl, sym, _∙_, ap}
 use mathlib.Core.Bool.{Bool, true, false, not}
 use mathlib.Core.List.{List, []}
-use mathlib.Core.Logic.{_⊎_, inl, inr}
 use mathlib.Core.Option.{Option, some}
 use Prim.Native.Nat.{ℕ, _+_, _-_, _*_, _^_, _≤_, _<_}
 use native.Mathlib.Omega.{arith}
@@ -76,7 +75,7 @@ use Rattle.replay_block.proofs.Sifted as sifted
 use Rattle.replay_block.proofs.Sifted.{Sifting, none-sifted}
 use Rattle.replay_block.proofs.Sizes.{traced-sized, traced-sound}
 use Rattle.replay_block.proofs.Turn as turn
-use Rattle.replay_block.proofs.Turns.{none-taken, left-more, left-none, record-there, one-said, said-fits, accepted-goes-on, at-limit, no-record, no-room, at-a-refusal, no-place}
+use Rattle.replay_block.proofs.Turns.{Takes, next-taken, left-more, stopped, record-there, said-fits, accepted-goes-on}
 use Rattle.replay_block.proofs.Windows as windows
 use Rattle.replay_block.proofs.block.replay_beside.Statement.{statement}
 use Rattle.replay_block.proofs.block.replay_beside.Tie as tie
@@ -160,23 +159,11 @@ After-no-message = tie.After-no-message Inv-collected μ-collected Inv-allowed �
 abbrev At-records : Type 0
 At-records = tie.At-records Inv-collected μ-collected Inv-allowed μ-allowed Inv-returned μ-returned Inv-found μ-found Inv-left μ-left Inv-restored μ-restored Inv-sifted μ-sifted Inv-records μ-records
 
-abbrev In-records : Type 0
-In-records = tie.In-records Inv-collected μ-collected Inv-allowed μ-allowed Inv-returned μ-returned Inv-found μ-found Inv-left μ-left Inv-restored μ-restored Inv-sifted μ-sifted Inv-records μ-records
-
 abbrev Then1 : Type 0
 Then1 = tie.Then1 Inv-collected μ-collected Inv-allowed μ-allowed Inv-returned μ-returned Inv-found μ-found Inv-left μ-left Inv-restored μ-restored Inv-sifted μ-sifted Inv-records μ-records
 
-abbrev After-record-left : Type 0
-After-record-left = tie.After-record-left Inv-collected μ-collected Inv-allowed μ-allowed Inv-returned μ-returned Inv-found μ-found Inv-left μ-left Inv-restored μ-restored Inv-sifted μ-sifted Inv-records μ-records
-
-abbrev Then2 : Type 0
-Then2 = tie.Then2 Inv-collected μ-collected Inv-allowed μ-allowed Inv-returned μ-returned Inv-found μ-found Inv-left μ-left Inv-restored μ-restored Inv-sifted μ-sifted Inv-records μ-records
-
-abbrev Then3 : Type 0
-Then3 = tie.Then3 Inv-collected μ-collected Inv-allowed μ-allowed Inv-returned μ-returned Inv-found μ-found Inv-left μ-left Inv-restored μ-restored Inv-sifted μ-sifted Inv-records μ-records
-
-abbrev Then4 : Type 0
-Then4 = tie.Then4 Inv-collected μ-collected Inv-allowed μ-allowed Inv-returned μ-returned Inv-found μ-found Inv-left μ-left Inv-restored μ-restored Inv-sifted μ-sifted Inv-records μ-records
+abbrev Else1 : Type 0
+Else1 = tie.Else1 Inv-collected μ-collected Inv-allowed μ-allowed Inv-returned μ-returned Inv-found μ-found Inv-left μ-left Inv-restored μ-restored Inv-sifted μ-sifted Inv-records μ-records
 
 abbrev After-decode : Type 0
 After-decode = tie.After-decode Inv-collected μ-collected Inv-allowed μ-allowed Inv-returned μ-returned Inv-found μ-found Inv-left μ-left Inv-restored μ-restored Inv-sifted μ-sifted Inv-records μ-records
@@ -184,8 +171,8 @@ After-decode = tie.After-decode Inv-collected μ-collected Inv-allowed μ-allowe
 abbrev After-recovery-of : Type 0
 After-recovery-of = tie.After-recovery-of Inv-collected μ-collected Inv-allowed μ-allowed Inv-returned μ-returned Inv-found μ-found Inv-left μ-left Inv-restored μ-restored Inv-sifted μ-sifted Inv-records μ-records
 
-abbrev Then5 : Type 0
-Then5 = tie.Then5 Inv-collected μ-collected Inv-allowed μ-allowed Inv-returned μ-returned Inv-found μ-found Inv-left μ-left Inv-restored μ-restored Inv-sifted μ-sifted Inv-records μ-records
+abbrev Then2 : Type 0
+Then2 = tie.Then2 Inv-collected μ-collected Inv-allowed μ-allowed Inv-returned μ-returned Inv-found μ-found Inv-left μ-left Inv-restored μ-restored Inv-sifted μ-sifted Inv-records μ-records
 
 abbrev After-sought : Type 0
 After-sought = tie.After-sought Inv-collected μ-collected Inv-allowed μ-allowed Inv-returned μ-returned Inv-found μ-found Inv-left μ-left Inv-restored μ-restored Inv-sifted μ-sifted Inv-records μ-records
@@ -211,8 +198,8 @@ After-put = tie.After-put Inv-collected μ-collected Inv-allowed μ-allowed Inv-
 abbrev After-summary-of : Type 0
 After-summary-of = tie.After-summary-of Inv-collected μ-collected Inv-allowed μ-allowed Inv-returned μ-returned Inv-found μ-found Inv-left μ-left Inv-restored μ-restored Inv-sifted μ-sifted Inv-records μ-records
 
-abbrev Then6 : Type 0
-Then6 = tie.Then6 Inv-collected μ-collected Inv-allowed μ-allowed Inv-returned μ-returned Inv-found μ-found Inv-left μ-left Inv-restored μ-restored Inv-sifted μ-sifted Inv-records μ-records
+abbrev Then3 : Type 0
+Then3 = tie.Then3 Inv-collected μ-collected Inv-allowed μ-allowed Inv-returned μ-returned Inv-found μ-found Inv-left μ-left Inv-restored μ-restored Inv-sifted μ-sifted Inv-records μ-records
 
 abbrev After-live-index : Type 0
 After-live-index = tie.After-live-index Inv-collected μ-collected Inv-allowed μ-allowed Inv-returned μ-returned Inv-found μ-found Inv-left μ-left Inv-restored μ-restored Inv-sifted μ-sifted Inv-records μ-records
@@ -241,11 +228,11 @@ After-collected = tie.After-collected Inv-collected μ-collected Inv-allowed μ-
 abbrev After-is-named : Type 0
 After-is-named = tie.After-is-named Inv-collected μ-collected Inv-allowed μ-allowed Inv-returned μ-returned Inv-found μ-found Inv-left μ-left Inv-restored μ-restored Inv-sifted μ-sifted Inv-records μ-records
 
-abbrev Then7 : Type 0
-Then7 = tie.Then7 Inv-collected μ-collected Inv-allowed μ-allowed Inv-returned μ-returned Inv-found μ-found Inv-left μ-left Inv-restored μ-restored Inv-sifted μ-sifted Inv-records μ-records
+abbrev Then4 : Type 0
+Then4 = tie.Then4 Inv-collected μ-collected Inv-allowed μ-allowed Inv-returned μ-returned Inv-found μ-found Inv-left μ-left Inv-restored μ-restored Inv-sifted μ-sifted Inv-records μ-records
 
-abbrev Else7 : Type 0
-Else7 = tie.Else7 Inv-collected μ-collected Inv-allowed μ-allowed Inv-returned μ-returned Inv-found μ-found Inv-left μ-left Inv-restored μ-restored Inv-sifted μ-sifted Inv-records μ-records
+abbrev Else4 : Type 0
+Else4 = tie.Else4 Inv-collected μ-collected Inv-allowed μ-allowed Inv-returned μ-returned Inv-found μ-found Inv-left μ-left Inv-restored μ-restored Inv-sifted μ-sifted Inv-records μ-records
 
 abbrev After-write-pair-arg : Type 0
 After-write-pair-arg = tie.After-write-pair-arg Inv-collected μ-collected Inv-allowed μ-allowed Inv-returned μ-returned Inv-found μ-found Inv-left μ-left Inv-restored μ-restored Inv-sifted μ-sifted Inv-records μ-records
@@ -268,8 +255,8 @@ After-print-arg2 = tie.After-print-arg2 Inv-collected μ-collected Inv-allowed �
 abbrev After-slice-known4 : Type 0
 After-slice-known4 = tie.After-slice-known4 Inv-collected μ-collected Inv-allowed μ-allowed Inv-returned μ-returned Inv-found μ-found Inv-left μ-left Inv-restored μ-restored Inv-sifted μ-sifted Inv-records μ-records
 
-abbrev Else6 : Type 0
-Else6 = tie.Else6 Inv-collected μ-collected Inv-allowed μ-allowed Inv-returned μ-returned Inv-found μ-found Inv-left μ-left Inv-restored μ-restored Inv-sifted μ-sifted Inv-records μ-records
+abbrev Else3 : Type 0
+Else3 = tie.Else3 Inv-collected μ-collected Inv-allowed μ-allowed Inv-returned μ-returned Inv-found μ-found Inv-left μ-left Inv-restored μ-restored Inv-sifted μ-sifted Inv-records μ-records
 
 abbrev After-print-arg4 : Type 0
 After-print-arg4 = tie.After-print-arg4 Inv-collected μ-collected Inv-allowed μ-allowed Inv-returned μ-returned Inv-found μ-found Inv-left μ-left Inv-restored μ-restored Inv-sifted μ-sifted Inv-records μ-records
@@ -280,8 +267,8 @@ After-print2 = tie.After-print2 Inv-collected μ-collected Inv-allowed μ-allowe
 abbrev After-goes-on : Type 0
 After-goes-on = tie.After-goes-on Inv-collected μ-collected Inv-allowed μ-allowed Inv-returned μ-returned Inv-found μ-found Inv-left μ-left Inv-restored μ-restored Inv-sifted μ-sifted Inv-records μ-records
 
-abbrev Else5 : Type 0
-Else5 = tie.Else5 Inv-collected μ-collected Inv-allowed μ-allowed Inv-returned μ-returned Inv-found μ-found Inv-left μ-left Inv-restored μ-restored Inv-sifted μ-sifted Inv-records μ-records
+abbrev Else2 : Type 0
+Else2 = tie.Else2 Inv-collected μ-collected Inv-allowed μ-allowed Inv-returned μ-returned Inv-found μ-found Inv-left μ-left Inv-restored μ-restored Inv-sifted μ-sifted Inv-records μ-records
 
 abbrev After-own-entries : Type 0
 After-own-entries = tie.After-own-entries Inv-collected μ-collected Inv-allowed μ-allowed Inv-returned μ-returned Inv-found μ-found Inv-left μ-left Inv-restored μ-restored Inv-sifted μ-sifted Inv-records μ-records
@@ -370,11 +357,11 @@ After-left = tie.After-left Inv-collected μ-collected Inv-allowed μ-allowed In
 abbrev After-does-stay : Type 0
 After-does-stay = tie.After-does-stay Inv-collected μ-collected Inv-allowed μ-allowed Inv-returned μ-returned Inv-found μ-found Inv-left μ-left Inv-restored μ-restored Inv-sifted μ-sifted Inv-records μ-records
 
-abbrev Then8 : Type 0
-Then8 = tie.Then8 Inv-collected μ-collected Inv-allowed μ-allowed Inv-returned μ-returned Inv-found μ-found Inv-left μ-left Inv-restored μ-restored Inv-sifted μ-sifted Inv-records μ-records
+abbrev Then5 : Type 0
+Then5 = tie.Then5 Inv-collected μ-collected Inv-allowed μ-allowed Inv-returned μ-returned Inv-found μ-found Inv-left μ-left Inv-restored μ-restored Inv-sifted μ-sifted Inv-records μ-records
 
-abbrev Else8 : Type 0
-Else8 = tie.Else8 Inv-collected μ-collected Inv-allowed μ-allowed Inv-returned μ-returned Inv-found μ-found Inv-left μ-left Inv-restored μ-restored Inv-sifted μ-sifted Inv-records μ-records
+abbrev Else5 : Type 0
+Else5 = tie.Else5 Inv-collected μ-collected Inv-allowed μ-allowed Inv-returned μ-returned Inv-found μ-found Inv-left μ-left Inv-restored μ-restored Inv-sifted μ-sifted Inv-records μ-records
 
 abbrev After-write-pair-arg2 : Type 0
 After-write-pair-arg2 = tie.After-write-pair-arg2 Inv-collected μ-collected Inv-allowed μ-allowed Inv-returned μ-returned Inv-found μ-found Inv-left μ-left Inv-restored μ-restored Inv-sifted μ-sifted Inv-records μ-records
@@ -394,26 +381,23 @@ In-sifted = tie.In-sifted Inv-collected μ-collected Inv-allowed μ-allowed Inv-
 abbrev After-sifted : Type 0
 After-sifted = tie.After-sifted Inv-collected μ-collected Inv-allowed μ-allowed Inv-returned μ-returned Inv-found μ-found Inv-left μ-left Inv-restored μ-restored Inv-sifted μ-sifted Inv-records μ-records
 
-abbrev Then9 : Type 0
-Then9 = tie.Then9 Inv-collected μ-collected Inv-allowed μ-allowed Inv-returned μ-returned Inv-found μ-found Inv-left μ-left Inv-restored μ-restored Inv-sifted μ-sifted Inv-records μ-records
+abbrev Then6 : Type 0
+Then6 = tie.Then6 Inv-collected μ-collected Inv-allowed μ-allowed Inv-returned μ-returned Inv-found μ-found Inv-left μ-left Inv-restored μ-restored Inv-sifted μ-sifted Inv-records μ-records
 
 abbrev After-first-from : Type 0
 After-first-from = tie.After-first-from Inv-collected μ-collected Inv-allowed μ-allowed Inv-returned μ-returned Inv-found μ-found Inv-left μ-left Inv-restored μ-restored Inv-sifted μ-sifted Inv-records μ-records
 
-abbrev Else10 : Type 0
-Else10 = tie.Else10 Inv-collected μ-collected Inv-allowed μ-allowed Inv-returned μ-returned Inv-found μ-found Inv-left μ-left Inv-restored μ-restored Inv-sifted μ-sifted Inv-records μ-records
+abbrev Else7 : Type 0
+Else7 = tie.Else7 Inv-collected μ-collected Inv-allowed μ-allowed Inv-returned μ-returned Inv-found μ-found Inv-left μ-left Inv-restored μ-restored Inv-sifted μ-sifted Inv-records μ-records
 
-abbrev Else9 : Type 0
-Else9 = tie.Else9 Inv-collected μ-collected Inv-allowed μ-allowed Inv-returned μ-returned Inv-found μ-found Inv-left μ-left Inv-restored μ-restored Inv-sifted μ-sifted Inv-records μ-records
+abbrev Else6 : Type 0
+Else6 = tie.Else6 Inv-collected μ-collected Inv-allowed μ-allowed Inv-returned μ-returned Inv-found μ-found Inv-left μ-left Inv-restored μ-restored Inv-sifted μ-sifted Inv-records μ-records
 
 abbrev After-print-arg6 : Type 0
 After-print-arg6 = tie.After-print-arg6 Inv-collected μ-collected Inv-allowed μ-allowed Inv-returned μ-returned Inv-found μ-found Inv-left μ-left Inv-restored μ-restored Inv-sifted μ-sifted Inv-records μ-records
 
 abbrev After-slice-known7 : Type 0
 After-slice-known7 = tie.After-slice-known7 Inv-collected μ-collected Inv-allowed μ-allowed Inv-returned μ-returned Inv-found μ-found Inv-left μ-left Inv-restored μ-restored Inv-sifted μ-sifted Inv-records μ-records
-
-abbrev Left-records : Type 0
-Left-records = tie.Left-records Inv-collected μ-collected Inv-allowed μ-allowed Inv-returned μ-returned Inv-found μ-found Inv-left μ-left Inv-restored μ-restored Inv-sifted μ-sifted Inv-records μ-records
 
 abbrev After-closed : Type 0
 After-closed = tie.After-closed Inv-collected μ-collected Inv-allowed μ-allowed Inv-returned μ-returned Inv-found μ-found Inv-left μ-left Inv-restored μ-restored Inv-sifted μ-sifted Inv-records μ-records
@@ -422,7 +406,7 @@ abbrev After-kept-from : Type 0
 After-kept-from = tie.After-kept-from Inv-collected μ-collected Inv-allowed μ-allowed Inv-returned μ-returned Inv-found μ-found Inv-left μ-left Inv-restored μ-restored Inv-sifted μ-sifted Inv-records μ-records
 
 abbrev from-After-allowed-to-At-records : After-allowed → At-records
-from-After-allowed-to-At-records c = c .before .before .before .before .before .before .before .before .before .before .before .before .before .before .before .before .before .before .before .before .before
+from-After-allowed-to-At-records c = c .before .before .before .before .before .before .before .before .before .before .before .before .before .before .before .before .before
 
 abbrev from-After-allowed-to-At-returned : After-allowed → At-returned
 from-After-allowed-to-At-returned c = c .before .before .before .before .before .before .before
@@ -464,19 +448,19 @@ abbrev from-After-billed-to-At-collected : After-billed → At-collected
 from-After-billed-to-At-collected c = c .before .before .before .before .before
 
 abbrev from-After-billed-to-At-records : After-billed → At-records
-from-After-billed-to-At-records c = c .before .before .before .before .before .before .before .before .before .before .before .before .before .before .before .before .before .before .before .before .before .before .before .before .before .before .before .before .before .before .before .before .before
-
-abbrev from-After-billed-to-In-records : After-billed → In-records
-from-After-billed-to-In-records c = c .before .before .before .before .before .before .before .before .before .before .before .before .before .before .before .before .before .before .before .before .before .before .before .before .before .before .before .before .before .before .before .before
+from-After-billed-to-At-records c = c .before .before .before .before .before .before .before .before .before .before .before .before .before .before .before .before .before .before .before .before .before .before .before .before .before .before .before .before .before
 
 abbrev from-After-billed-to-Start : After-billed → Start
-from-After-billed-to-Start c = c .before .before .before .before .before .before .before .before .before .before .before .before .before .before .before .before .before .before .before .before .before .before .before .before .before .before .before .before .before .before .before .before .before .before .before .before .before .before .before .before .before .before .before .before .before .before .before .before
+from-After-billed-to-Start c = c .before .before .before .before .before .before .before .before .before .before .before .before .before .before .before .before .before .before .before .before .before .before .before .before .before .before .before .before .before .before .before .before .before .before .before .before .before .before .before .before .before .before .before .before
 
-abbrev from-After-billed-to-Then5 : After-billed → Then5
-from-After-billed-to-Then5 c = c .before .before .before .before .before .before .before .before .before .before .before .before .before .before .before .before .before .before .before .before .before .before
+abbrev from-After-billed-to-Then1 : After-billed → Then1
+from-After-billed-to-Then1 c = c .before .before .before .before .before .before .before .before .before .before .before .before .before .before .before .before .before .before .before .before .before .before .before .before .before .before .before
 
-abbrev from-After-billed-to-Then6 : After-billed → Then6
-from-After-billed-to-Then6 c = c .before .before .before .before .before .before .before .before .before .before .before
+abbrev from-After-billed-to-Then2 : After-billed → Then2
+from-After-billed-to-Then2 c = c .before .before .before .before .before .before .before .before .before .before .before .before .before .before .before .before .before .before .before .before .before .before
+
+abbrev from-After-billed-to-Then3 : After-billed → Then3
+from-After-billed-to-Then3 c = c .before .before .before .before .before .before .before .before .before .before .before
 
 abbrev from-After-billed2-to-After-decode : After-billed2 → After-decode
 from-After-billed2-to-After-decode c = c .before .before .before .before .before .before .before .before .before .before .before
@@ -491,16 +475,16 @@ abbrev from-After-billed2-to-After-returned : After-billed2 → After-returned
 from-After-billed2-to-After-returned c = c .before .before .before .before
 
 abbrev from-After-billed2-to-At-records : After-billed2 → At-records
-from-After-billed2-to-At-records c = c .before .before .before .before .before .before .before .before .before .before .before .before .before .before .before .before .before .before .before
+from-After-billed2-to-At-records c = c .before .before .before .before .before .before .before .before .before .before .before .before .before .before .before
 
 abbrev from-After-billed2-to-At-returned : After-billed2 → At-returned
 from-After-billed2-to-At-returned c = c .before .before .before .before .before
 
-abbrev from-After-billed2-to-Else5 : After-billed2 → Else5
-from-After-billed2-to-Else5 c = c .before .before .before .before .before .before .before .before
+abbrev from-After-billed2-to-Else2 : After-billed2 → Else2
+from-After-billed2-to-Else2 c = c .before .before .before .before .before .before .before .before
 
 abbrev from-After-billed2-to-Start : After-billed2 → Start
-from-After-billed2-to-Start c = c .before .before .before .before .before .before .before .before .before .before .before .before .before .before .before .before .before .before .before .before .before .before .before .before .before .before .before .before .before .before .before .before .before .before
+from-After-billed2-to-Start c = c .before .before .before .before .before .before .before .before .before .before .before .before .before .before .before .before .before .before .before .before .before .before .before .before .before .before .before .before .before .before
 
 abbrev from-After-carried-to-After-row-of : After-carried → After-row-of
 from-After-carried-to-After-row-of c = c .before .before .before .before .before .before .before .before
@@ -530,34 +514,25 @@ abbrev from-After-collected-to-After-summary-of : After-collected → After-summ
 from-After-collected-to-After-summary-of c = c .before .before .before .before .before .before .before .before
 
 abbrev from-After-collected-to-At-records : After-collected → At-records
-from-After-collected-to-At-records c = c .before .before .before .before .before .before .before .before .before .before .before .before .before .before .before .before .before .before .before .before .before .before .before .before .before .before .before .before .before
+from-After-collected-to-At-records c = c .before .before .before .before .before .before .before .before .before .before .before .before .before .before .before .before .before .before .before .before .before .before .before .before .before
 
-abbrev from-After-collected-to-In-records : After-collected → In-records
-from-After-collected-to-In-records c = c .before .before .before .before .before .before .before .before .before .before .before .before .before .before .before .before .before .before .before .before .before .before .before .before .before .before .before .before
+abbrev from-After-collected-to-Then1 : After-collected → Then1
+from-After-collected-to-Then1 c = c .before .before .before .before .before .before .before .before .before .before .before .before .before .before .before .before .before .before .before .before .before .before .before
 
-abbrev from-After-collected-to-Then5 : After-collected → Then5
-from-After-collected-to-Then5 c = c .before .before .before .before .before .before .before .before .before .before .before .before .before .before .before .before .before .before
+abbrev from-After-collected-to-Then2 : After-collected → Then2
+from-After-collected-to-Then2 c = c .before .before .before .before .before .before .before .before .before .before .before .before .before .before .before .before .before .before
 
-abbrev from-After-collected-to-Then6 : After-collected → Then6
-from-After-collected-to-Then6 c = c .before .before .before .before .before .before .before
-
-abbrev from-After-decode-to-After-record-left : After-decode → After-record-left
-from-After-decode-to-After-record-left c = c .before .before .before .before .before
+abbrev from-After-collected-to-Then3 : After-collected → Then3
+from-After-collected-to-Then3 c = c .before .before .before .before .before .before .before
 
 abbrev from-After-decode-to-At-records : After-decode → At-records
-from-After-decode-to-At-records c = c .before .before .before .before .before .before .before .before
+from-After-decode-to-At-records c = c .before .before .before .before
 
 abbrev from-After-decode-to-Start : After-decode → Start
-from-After-decode-to-Start c = c .before .before .before .before .before .before .before .before .before .before .before .before .before .before .before .before .before .before .before .before .before .before .before
-
-abbrev from-After-decode-to-Then2 : After-decode → Then2
-from-After-decode-to-Then2 c = c .before .before .before .before
-
-abbrev from-After-decode-to-Then3 : After-decode → Then3
-from-After-decode-to-Then3 c = c .before .before .before
+from-After-decode-to-Start c = c .before .before .before .before .before .before .before .before .before .before .before .before .before .before .before .before .before .before .before
 
 abbrev from-After-first-from-to-At-records : After-first-from → At-records
-from-After-first-from-to-At-records c = c .before .before .before .before .before .before .before .before .before .before .before .before .before .before .before .before .before .before .before .before .before .before .before .before .before .before .before
+from-After-first-from-to-At-records c = c .before .before .before .before .before .before .before .before .before .before .before .before .before .before .before .before .before .before .before .before .before .before .before
 
 abbrev from-After-first-from-to-At-sifted : After-first-from → At-sifted
 from-After-first-from-to-At-sifted c = c .before .before .before .before .before .before .before
@@ -565,8 +540,8 @@ from-After-first-from-to-At-sifted c = c .before .before .before .before .before
 abbrev from-After-first-from-to-In-sifted : After-first-from → In-sifted
 from-After-first-from-to-In-sifted c = c .before .before .before .before .before .before
 
-abbrev from-After-first-from-to-Then9 : After-first-from → Then9
-from-After-first-from-to-Then9 c = c .before .before .before
+abbrev from-After-first-from-to-Then6 : After-first-from → Then6
+from-After-first-from-to-Then6 c = c .before .before .before
 
 abbrev from-After-found-to-After-to-search2 : After-found → After-to-search2
 from-After-found-to-After-to-search2 c = c .before .before .before
@@ -608,37 +583,31 @@ abbrev from-After-goes-on-to-After-sought : After-goes-on → After-sought
 from-After-goes-on-to-After-sought c = c .before .before .before .before .before .before .before .before .before .before .before .before .before .before .before .before
 
 abbrev from-After-goes-on-to-At-records : After-goes-on → At-records
-from-After-goes-on-to-At-records c = c .before .before .before .before .before .before .before .before .before .before .before .before .before .before .before .before .before .before .before .before .before .before .before .before .before .before .before .before
+from-After-goes-on-to-At-records c = c .before .before .before .before .before .before .before .before .before .before .before .before .before .before .before .before .before .before .before .before .before .before .before .before
 
-abbrev from-After-goes-on-to-Else6 : After-goes-on → Else6
-from-After-goes-on-to-Else6 c = c .before .before .before .before .before .before
+abbrev from-After-goes-on-to-Else3 : After-goes-on → Else3
+from-After-goes-on-to-Else3 c = c .before .before .before .before .before .before
 
-abbrev from-After-goes-on-to-In-records : After-goes-on → In-records
-from-After-goes-on-to-In-records c = c .before .before .before .before .before .before .before .before .before .before .before .before .before .before .before .before .before .before .before .before .before .before .before .before .before .before .before
+abbrev from-After-goes-on-to-Then1 : After-goes-on → Then1
+from-After-goes-on-to-Then1 c = c .before .before .before .before .before .before .before .before .before .before .before .before .before .before .before .before .before .before .before .before .before .before
 
-abbrev from-After-goes-on-to-Then3 : After-goes-on → Then3
-from-After-goes-on-to-Then3 c = c .before .before .before .before .before .before .before .before .before .before .before .before .before .before .before .before .before .before .before .before .before .before .before
-
-abbrev from-After-goes-on-to-Then4 : After-goes-on → Then4
-from-After-goes-on-to-Then4 c = c .before .before .before .before .before .before .before .before .before .before .before .before .before .before .before .before .before .before .before .before .before .before
-
-abbrev from-After-goes-on-to-Then5 : After-goes-on → Then5
-from-After-goes-on-to-Then5 c = c .before .before .before .before .before .before .before .before .before .before .before .before .before .before .before .before .before
+abbrev from-After-goes-on-to-Then2 : After-goes-on → Then2
+from-After-goes-on-to-Then2 c = c .before .before .before .before .before .before .before .before .before .before .before .before .before .before .before .before .before
 
 abbrev from-After-kept-from-to-After-closed : After-kept-from → After-closed
 from-After-kept-from-to-After-closed c = c .before .before .before
 
 abbrev from-After-kept-from-to-After-no-checkpoint : After-kept-from → After-no-checkpoint
-from-After-kept-from-to-After-no-checkpoint c = c .before .before .before .before .before .before .before
+from-After-kept-from-to-After-no-checkpoint c = c .before .before .before .before .before .before .before .before
 
 abbrev from-After-kept-from-to-At-records : After-kept-from → At-records
-from-After-kept-from-to-At-records c = c .before .before .before .before .before
+from-After-kept-from-to-At-records c = c .before .before .before .before .before .before
 
-abbrev from-After-kept-from-to-Left-records : After-kept-from → Left-records
-from-After-kept-from-to-Left-records c = c .before .before .before .before
+abbrev from-After-kept-from-to-Else1 : After-kept-from → Else1
+from-After-kept-from-to-Else1 c = c .before .before .before .before
 
 abbrev from-After-kept-from-to-Start : After-kept-from → Start
-from-After-kept-from-to-Start c = c .before .before .before .before .before .before .before .before .before .before .before .before .before .before .before .before .before .before .before .before
+from-After-kept-from-to-Start c = c .before .before .before .before .before .before .before .before .before .before .before .before .before .before .before .before .before .before .before .before .before
 
 abbrev from-After-latest-with-to-After-to-search : After-latest-with → After-to-search
 from-After-latest-with-to-After-to-search c = c .before .before .before .before .before
@@ -647,7 +616,7 @@ abbrev from-After-latest-with-to-At-allowed : After-latest-with → At-allowed
 from-After-latest-with-to-At-allowed c = c .before .before .before
 
 abbrev from-After-latest-with-to-At-records : After-latest-with → At-records
-from-After-latest-with-to-At-records c = c .before .before .before .before .before .before .before .before .before .before .before .before .before .before .before .before .before .before .before .before .before .before .before
+from-After-latest-with-to-At-records c = c .before .before .before .before .before .before .before .before .before .before .before .before .before .before .before .before .before .before .before
 
 abbrev from-After-latest-with-to-At-returned : After-latest-with → At-returned
 from-After-latest-with-to-At-returned c = c .before .before .before .before .before .before .before .before .before
@@ -656,7 +625,7 @@ abbrev from-After-latest-with-to-In-returned : After-latest-with → In-returned
 from-After-latest-with-to-In-returned c = c .before .before .before .before .before .before .before .before
 
 abbrev from-After-left-to-At-records : After-left → At-records
-from-After-left-to-At-records c = c .before .before .before .before .before .before .before .before .before .before .before .before .before .before .before .before .before .before .before .before .before .before .before .before .before .before .before .before
+from-After-left-to-At-records c = c .before .before .before .before .before .before .before .before .before .before .before .before .before .before .before .before .before .before .before .before .before .before .before .before
 
 abbrev from-After-left-to-At-restored : After-left → At-restored
 from-After-left-to-At-restored c = c .before .before .before .before .before .before .before .before .before .before .before
@@ -674,7 +643,7 @@ abbrev from-After-live-index-to-After-row-of : After-live-index → After-row-of
 from-After-live-index-to-After-row-of c = c .before .before .before .before .before .before .before
 
 abbrev from-After-live-index-to-At-records : After-live-index → At-records
-from-After-live-index-to-At-records c = c .before .before .before .before .before .before .before .before .before .before .before .before .before .before .before .before .before .before .before .before .before .before .before
+from-After-live-index-to-At-records c = c .before .before .before .before .before .before .before .before .before .before .before .before .before .before .before .before .before .before .before
 
 abbrev from-After-member-index-to-After-allowed : After-member-index → After-allowed
 from-After-member-index-to-After-allowed c = c .before .before .before .before
@@ -701,7 +670,7 @@ abbrev from-After-member-index-to-At-allowed : After-member-index → At-allowed
 from-After-member-index-to-At-allowed c = c .before .before .before .before .before
 
 abbrev from-After-member-index-to-At-records : After-member-index → At-records
-from-After-member-index-to-At-records c = c .before .before .before .before .before .before .before .before .before .before .before .before .before .before .before .before .before .before .before .before .before .before .before .before .before
+from-After-member-index-to-At-records c = c .before .before .before .before .before .before .before .before .before .before .before .before .before .before .before .before .before .before .before .before .before
 
 abbrev from-After-member-index-to-At-returned : After-member-index → At-returned
 from-After-member-index-to-At-returned c = c .before .before .before .before .before .before .before .before .before .before .before
@@ -740,7 +709,7 @@ abbrev from-After-no-message-to-Start : After-no-message → Start
 from-After-no-message-to-Start c = c .before .before .before .before .before .before .before .before .before .before .before .before .before .before
 
 abbrev from-After-own-entries-to-At-records : After-own-entries → At-records
-from-After-own-entries-to-At-records c = c .before .before .before .before .before .before .before .before .before .before .before .before
+from-After-own-entries-to-At-records c = c .before .before .before .before .before .before .before .before
 
 abbrev from-After-own-to-After-decode : After-own → After-decode
 from-After-own-to-After-decode c = c .before .before .before .before .before .before .before .before .before .before
@@ -755,13 +724,13 @@ abbrev from-After-own-to-After-sought : After-own → After-sought
 from-After-own-to-After-sought c = c .before .before .before .before .before .before
 
 abbrev from-After-own-to-At-records : After-own → At-records
-from-After-own-to-At-records c = c .before .before .before .before .before .before .before .before .before .before .before .before .before .before .before .before .before .before
+from-After-own-to-At-records c = c .before .before .before .before .before .before .before .before .before .before .before .before .before .before
 
-abbrev from-After-own-to-In-records : After-own → In-records
-from-After-own-to-In-records c = c .before .before .before .before .before .before .before .before .before .before .before .before .before .before .before .before .before
+abbrev from-After-own-to-Then1 : After-own → Then1
+from-After-own-to-Then1 c = c .before .before .before .before .before .before .before .before .before .before .before .before
 
-abbrev from-After-own-to-Then5 : After-own → Then5
-from-After-own-to-Then5 c = c .before .before .before .before .before .before .before
+abbrev from-After-own-to-Then2 : After-own → Then2
+from-After-own-to-Then2 c = c .before .before .before .before .before .before .before
 
 abbrev from-After-pins-found-arg-to-In-restored : After-pins-found-arg → In-restored
 from-After-pins-found-arg-to-In-restored c = c .before .before .before .before .before .before
@@ -806,16 +775,16 @@ abbrev from-After-pins-then-arg-to-After-sought : After-pins-then-arg → After-
 from-After-pins-then-arg-to-After-sought c = c .before .before .before .before .before .before .before .before .before .before .before .before .before
 
 abbrev from-After-pins-then-arg-to-At-records : After-pins-then-arg → At-records
-from-After-pins-then-arg-to-At-records c = c .before .before .before .before .before .before .before .before .before .before .before .before .before .before .before .before .before .before .before .before .before .before .before .before .before
+from-After-pins-then-arg-to-At-records c = c .before .before .before .before .before .before .before .before .before .before .before .before .before .before .before .before .before .before .before .before .before
 
-abbrev from-After-pins-then-arg-to-In-records : After-pins-then-arg → In-records
-from-After-pins-then-arg-to-In-records c = c .before .before .before .before .before .before .before .before .before .before .before .before .before .before .before .before .before .before .before .before .before .before .before .before
+abbrev from-After-pins-then-arg-to-Then1 : After-pins-then-arg → Then1
+from-After-pins-then-arg-to-Then1 c = c .before .before .before .before .before .before .before .before .before .before .before .before .before .before .before .before .before .before .before
 
-abbrev from-After-pins-then-arg-to-Then5 : After-pins-then-arg → Then5
-from-After-pins-then-arg-to-Then5 c = c .before .before .before .before .before .before .before .before .before .before .before .before .before .before
+abbrev from-After-pins-then-arg-to-Then2 : After-pins-then-arg → Then2
+from-After-pins-then-arg-to-Then2 c = c .before .before .before .before .before .before .before .before .before .before .before .before .before .before
 
-abbrev from-After-pins-then-arg-to-Then6 : After-pins-then-arg → Then6
-from-After-pins-then-arg-to-Then6 c = c .before .before .before
+abbrev from-After-pins-then-arg-to-Then3 : After-pins-then-arg → Then3
+from-After-pins-then-arg-to-Then3 c = c .before .before .before
 
 abbrev from-After-pins-then-to-After-decode : After-pins-then → After-decode
 from-After-pins-then-to-After-decode c = c .before .before .before .before .before .before .before .before .before .before .before .before .before .before .before .before .before .before
@@ -839,22 +808,22 @@ abbrev from-After-pins-then-to-After-sought : After-pins-then → After-sought
 from-After-pins-then-to-After-sought c = c .before .before .before .before .before .before .before .before .before .before .before .before .before .before
 
 abbrev from-After-pins-then-to-At-records : After-pins-then → At-records
-from-After-pins-then-to-At-records c = c .before .before .before .before .before .before .before .before .before .before .before .before .before .before .before .before .before .before .before .before .before .before .before .before .before .before
+from-After-pins-then-to-At-records c = c .before .before .before .before .before .before .before .before .before .before .before .before .before .before .before .before .before .before .before .before .before .before
 
-abbrev from-After-pins-then-to-In-records : After-pins-then → In-records
-from-After-pins-then-to-In-records c = c .before .before .before .before .before .before .before .before .before .before .before .before .before .before .before .before .before .before .before .before .before .before .before .before .before
+abbrev from-After-pins-then-to-Then1 : After-pins-then → Then1
+from-After-pins-then-to-Then1 c = c .before .before .before .before .before .before .before .before .before .before .before .before .before .before .before .before .before .before .before .before
 
-abbrev from-After-pins-then-to-Then5 : After-pins-then → Then5
-from-After-pins-then-to-Then5 c = c .before .before .before .before .before .before .before .before .before .before .before .before .before .before .before
+abbrev from-After-pins-then-to-Then2 : After-pins-then → Then2
+from-After-pins-then-to-Then2 c = c .before .before .before .before .before .before .before .before .before .before .before .before .before .before .before
 
-abbrev from-After-pins-then-to-Then6 : After-pins-then → Then6
-from-After-pins-then-to-Then6 c = c .before .before .before .before
+abbrev from-After-pins-then-to-Then3 : After-pins-then → Then3
+from-After-pins-then-to-Then3 c = c .before .before .before .before
 
 abbrev from-After-place-in-to-At-records : After-place-in → At-records
-from-After-place-in-to-At-records c = c .before .before .before .before .before .before .before .before .before .before .before .before .before
+from-After-place-in-to-At-records c = c .before .before .before .before .before .before .before .before .before
 
-abbrev from-After-place-in-to-In-records : After-place-in → In-records
-from-After-place-in-to-In-records c = c .before .before .before .before .before .before .before .before .before .before .before .before
+abbrev from-After-place-in-to-Then1 : After-place-in → Then1
+from-After-place-in-to-Then1 c = c .before .before .before .before .before .before .before
 
 abbrev from-After-plan-of-to-After-row-of : After-plan-of → After-row-of
 from-After-plan-of-to-After-row-of c = c .before .before .before
@@ -866,19 +835,19 @@ abbrev from-After-print-arg2-to-After-decode : After-print-arg2 → After-decode
 from-After-print-arg2-to-After-decode c = c .before .before .before .before .before .before .before .before .before .before .before .before .before .before .before .before .before .before .before .before .before .before .before .before .before .before .before
 
 abbrev from-After-print-arg2-to-At-records : After-print-arg2 → At-records
-from-After-print-arg2-to-At-records c = c .before .before .before .before .before .before .before .before .before .before .before .before .before .before .before .before .before .before .before .before .before .before .before .before .before .before .before .before .before .before .before .before .before .before .before
+from-After-print-arg2-to-At-records c = c .before .before .before .before .before .before .before .before .before .before .before .before .before .before .before .before .before .before .before .before .before .before .before .before .before .before .before .before .before .before .before
 
-abbrev from-After-print-arg2-to-Then3 : After-print-arg2 → Then3
-from-After-print-arg2-to-Then3 c = c .before .before .before .before .before .before .before .before .before .before .before .before .before .before .before .before .before .before .before .before .before .before .before .before .before .before .before .before .before .before
+abbrev from-After-print-arg2-to-Then1 : After-print-arg2 → Then1
+from-After-print-arg2-to-Then1 c = c .before .before .before .before .before .before .before .before .before .before .before .before .before .before .before .before .before .before .before .before .before .before .before .before .before .before .before .before .before
 
 abbrev from-After-print-arg4-to-After-decode : After-print-arg4 → After-decode
 from-After-print-arg4-to-After-decode c = c .before .before .before .before .before .before .before .before .before .before .before .before .before .before .before .before
 
 abbrev from-After-print-arg4-to-At-records : After-print-arg4 → At-records
-from-After-print-arg4-to-At-records c = c .before .before .before .before .before .before .before .before .before .before .before .before .before .before .before .before .before .before .before .before .before .before .before .before
+from-After-print-arg4-to-At-records c = c .before .before .before .before .before .before .before .before .before .before .before .before .before .before .before .before .before .before .before .before
 
-abbrev from-After-print-arg4-to-Then3 : After-print-arg4 → Then3
-from-After-print-arg4-to-Then3 c = c .before .before .before .before .before .before .before .before .before .before .before .before .before .before .before .before .before .before .before
+abbrev from-After-print-arg4-to-Then1 : After-print-arg4 → Then1
+from-After-print-arg4-to-Then1 c = c .before .before .before .before .before .before .before .before .before .before .before .before .before .before .before .before .before .before
 
 abbrev from-After-print-arg6-to-After-billed2 : After-print-arg6 → After-billed2
 from-After-print-arg6-to-After-billed2 c = c .before .before .before .before
@@ -887,13 +856,13 @@ abbrev from-After-print-arg6-to-After-decode : After-print-arg6 → After-decode
 from-After-print-arg6-to-After-decode c = c .before .before .before .before .before .before .before .before .before .before .before .before .before .before .before
 
 abbrev from-After-print-arg6-to-At-records : After-print-arg6 → At-records
-from-After-print-arg6-to-At-records c = c .before .before .before .before .before .before .before .before .before .before .before .before .before .before .before .before .before .before .before .before .before .before .before
+from-After-print-arg6-to-At-records c = c .before .before .before .before .before .before .before .before .before .before .before .before .before .before .before .before .before .before .before
 
 abbrev from-After-print-arg6-to-At-restored : After-print-arg6 → At-restored
 from-After-print-arg6-to-At-restored c = c .before .before .before .before .before .before
 
-abbrev from-After-print-arg6-to-Then3 : After-print-arg6 → Then3
-from-After-print-arg6-to-Then3 c = c .before .before .before .before .before .before .before .before .before .before .before .before .before .before .before .before .before .before
+abbrev from-After-print-arg6-to-Then1 : After-print-arg6 → Then1
+from-After-print-arg6-to-Then1 c = c .before .before .before .before .before .before .before .before .before .before .before .before .before .before .before .before .before
 
 abbrev from-After-put-there-to-After-collected : After-put-there → After-collected
 from-After-put-there-to-After-collected c = c .before .before .before
@@ -908,10 +877,10 @@ abbrev from-After-put-there-to-At-collected : After-put-there → At-collected
 from-After-put-there-to-At-collected c = c .before .before .before .before
 
 abbrev from-After-put-there-to-At-records : After-put-there → At-records
-from-After-put-there-to-At-records c = c .before .before .before .before .before .before .before .before .before .before .before .before .before .before .before .before .before .before .before .before .before .before .before .before .before .before .before .before .before .before .before .before
+from-After-put-there-to-At-records c = c .before .before .before .before .before .before .before .before .before .before .before .before .before .before .before .before .before .before .before .before .before .before .before .before .before .before .before .before
 
-abbrev from-After-put-there-to-Then6 : After-put-there → Then6
-from-After-put-there-to-Then6 c = c .before .before .before .before .before .before .before .before .before .before
+abbrev from-After-put-there-to-Then3 : After-put-there → Then3
+from-After-put-there-to-Then3 c = c .before .before .before .before .before .before .before .before .before .before
 
 abbrev from-After-put-to-After-decode : After-put → After-decode
 from-After-put-to-After-decode c = c .before .before .before .before .before .before .before .before .before .before .before .before
@@ -929,22 +898,22 @@ abbrev from-After-put-to-After-sought : After-put → After-sought
 from-After-put-to-After-sought c = c .before .before .before .before .before .before .before .before
 
 abbrev from-After-put-to-At-records : After-put → At-records
-from-After-put-to-At-records c = c .before .before .before .before .before .before .before .before .before .before .before .before .before .before .before .before .before .before .before .before
+from-After-put-to-At-records c = c .before .before .before .before .before .before .before .before .before .before .before .before .before .before .before .before
 
-abbrev from-After-put-to-In-records : After-put → In-records
-from-After-put-to-In-records c = c .before .before .before .before .before .before .before .before .before .before .before .before .before .before .before .before .before .before .before
+abbrev from-After-put-to-Then1 : After-put → Then1
+from-After-put-to-Then1 c = c .before .before .before .before .before .before .before .before .before .before .before .before .before .before
 
-abbrev from-After-put-to-Then5 : After-put → Then5
-from-After-put-to-Then5 c = c .before .before .before .before .before .before .before .before .before
+abbrev from-After-put-to-Then2 : After-put → Then2
+from-After-put-to-Then2 c = c .before .before .before .before .before .before .before .before .before
 
 abbrev from-After-restored-to-At-records : After-restored → At-records
-from-After-restored-to-At-records c = c .before .before .before .before .before .before .before .before .before .before .before .before .before .before .before .before .before .before
+from-After-restored-to-At-records c = c .before .before .before .before .before .before .before .before .before .before .before .before .before .before
 
 abbrev from-After-restored-to-Start : After-restored → Start
-from-After-restored-to-Start c = c .before .before .before .before .before .before .before .before .before .before .before .before .before .before .before .before .before .before .before .before .before .before .before .before .before .before .before .before .before .before .before .before .before
+from-After-restored-to-Start c = c .before .before .before .before .before .before .before .before .before .before .before .before .before .before .before .before .before .before .before .before .before .before .before .before .before .before .before .before .before
 
 abbrev from-After-returned-to-Start : After-returned → Start
-from-After-returned-to-Start c = c .before .before .before .before .before .before .before .before .before .before .before .before .before .before .before .before .before .before .before .before .before .before .before .before .before .before .before .before .before .before
+from-After-returned-to-Start c = c .before .before .before .before .before .before .before .before .before .before .before .before .before .before .before .before .before .before .before .before .before .before .before .before .before .before
 
 abbrev from-After-row-of-to-After-decode : After-row-of → After-decode
 from-After-row-of-to-After-decode c = c .before .before .before .before .before .before .before .before
@@ -956,13 +925,13 @@ abbrev from-After-row-of-to-After-sought : After-row-of → After-sought
 from-After-row-of-to-After-sought c = c .before .before .before .before
 
 abbrev from-After-row-of-to-At-records : After-row-of → At-records
-from-After-row-of-to-At-records c = c .before .before .before .before .before .before .before .before .before .before .before .before .before .before .before .before
+from-After-row-of-to-At-records c = c .before .before .before .before .before .before .before .before .before .before .before .before
 
-abbrev from-After-row-of-to-In-records : After-row-of → In-records
-from-After-row-of-to-In-records c = c .before .before .before .before .before .before .before .before .before .before .before .before .before .before .before
+abbrev from-After-row-of-to-Then1 : After-row-of → Then1
+from-After-row-of-to-Then1 c = c .before .before .before .before .before .before .before .before .before .before
 
-abbrev from-After-row-of-to-Then5 : After-row-of → Then5
-from-After-row-of-to-Then5 c = c .before .before .before .before .before
+abbrev from-After-row-of-to-Then2 : After-row-of → Then2
+from-After-row-of-to-Then2 c = c .before .before .before .before .before
 
 abbrev from-After-sifted-to-After-decode : After-sifted → After-decode
 from-After-sifted-to-After-decode c = c .before .before .before .before .before .before .before .before .before .before .before .before .before
@@ -971,7 +940,7 @@ abbrev from-After-sifted-to-After-recovery-of : After-sifted → After-recovery-
 from-After-sifted-to-After-recovery-of c = c .before .before .before .before .before .before .before .before .before .before .before .before
 
 abbrev from-After-sifted-to-At-records : After-sifted → At-records
-from-After-sifted-to-At-records c = c .before .before .before .before .before .before .before .before .before .before .before .before .before .before .before .before .before .before .before .before .before
+from-After-sifted-to-At-records c = c .before .before .before .before .before .before .before .before .before .before .before .before .before .before .before .before .before
 
 abbrev from-After-sifted-to-At-restored : After-sifted → At-restored
 from-After-sifted-to-At-restored c = c .before .before .before .before
@@ -979,17 +948,17 @@ from-After-sifted-to-At-restored c = c .before .before .before .before
 abbrev from-After-sifted-to-At-returned : After-sifted → At-returned
 from-After-sifted-to-At-returned c = c .before .before .before .before .before .before .before
 
-abbrev from-After-sifted-to-Else5 : After-sifted → Else5
-from-After-sifted-to-Else5 c = c .before .before .before .before .before .before .before .before .before .before
+abbrev from-After-sifted-to-Else2 : After-sifted → Else2
+from-After-sifted-to-Else2 c = c .before .before .before .before .before .before .before .before .before .before
 
 abbrev from-After-sifted-to-Start : After-sifted → Start
-from-After-sifted-to-Start c = c .before .before .before .before .before .before .before .before .before .before .before .before .before .before .before .before .before .before .before .before .before .before .before .before .before .before .before .before .before .before .before .before .before .before .before .before
+from-After-sifted-to-Start c = c .before .before .before .before .before .before .before .before .before .before .before .before .before .before .before .before .before .before .before .before .before .before .before .before .before .before .before .before .before .before .before .before
 
 abbrev from-After-slice-known3-to-After-is-named : After-slice-known3 → After-is-named
 from-After-slice-known3-to-After-is-named c = c .before .before .before .before .before
 
 abbrev from-After-slice-known3-to-After-no-checkpoint : After-slice-known3 → After-no-checkpoint
-from-After-slice-known3-to-After-no-checkpoint c = c .before .before .before .before .before .before .before .before .before .before .before .before .before .before .before .before .before .before .before .before .before .before .before .before .before .before .before .before .before .before .before .before .before .before .before .before .before .before
+from-After-slice-known3-to-After-no-checkpoint c = c .before .before .before .before .before .before .before .before .before .before .before .before .before .before .before .before .before .before .before .before .before .before .before .before .before .before .before .before .before .before .before .before .before .before
 
 abbrev from-After-slice-known3-to-After-pins-then : After-slice-known3 → After-pins-then
 from-After-slice-known3-to-After-pins-then c = c .before .before .before .before .before .before .before .before .before .before
@@ -1001,10 +970,10 @@ abbrev from-After-slice-known3-to-At-collected : After-slice-known3 → At-colle
 from-After-slice-known3-to-At-collected c = c .before .before .before .before .before .before .before .before
 
 abbrev from-After-slice-known3-to-At-records : After-slice-known3 → At-records
-from-After-slice-known3-to-At-records c = c .before .before .before .before .before .before .before .before .before .before .before .before .before .before .before .before .before .before .before .before .before .before .before .before .before .before .before .before .before .before .before .before .before .before .before .before
+from-After-slice-known3-to-At-records c = c .before .before .before .before .before .before .before .before .before .before .before .before .before .before .before .before .before .before .before .before .before .before .before .before .before .before .before .before .before .before .before .before
 
-abbrev from-After-slice-known3-to-Else7 : After-slice-known3 → Else7
-from-After-slice-known3-to-Else7 c = c .before .before .before .before
+abbrev from-After-slice-known3-to-Else4 : After-slice-known3 → Else4
+from-After-slice-known3-to-Else4 c = c .before .before .before .before
 
 abbrev from-After-slice-known3-to-In-collected : After-slice-known3 → In-collected
 from-After-slice-known3-to-In-collected c = c .before .before .before .before .before .before .before
@@ -1034,31 +1003,25 @@ abbrev from-After-slice-known4-to-After-sought : After-slice-known4 → After-so
 from-After-slice-known4-to-After-sought c = c .before .before .before .before .before .before .before .before .before .before .before .before .before .before .before .before .before .before .before .before .before .before .before .before .before .before
 
 abbrev from-After-slice-known4-to-At-records : After-slice-known4 → At-records
-from-After-slice-known4-to-At-records c = c .before .before .before .before .before .before .before .before .before .before .before .before .before .before .before .before .before .before .before .before .before .before .before .before .before .before .before .before .before .before .before .before .before .before .before .before .before .before
-
-abbrev from-After-slice-known4-to-In-records : After-slice-known4 → In-records
-from-After-slice-known4-to-In-records c = c .before .before .before .before .before .before .before .before .before .before .before .before .before .before .before .before .before .before .before .before .before .before .before .before .before .before .before .before .before .before .before .before .before .before .before .before .before
+from-After-slice-known4-to-At-records c = c .before .before .before .before .before .before .before .before .before .before .before .before .before .before .before .before .before .before .before .before .before .before .before .before .before .before .before .before .before .before .before .before .before .before
 
 abbrev from-After-slice-known4-to-Start : After-slice-known4 → Start
-from-After-slice-known4-to-Start c = c .before .before .before .before .before .before .before .before .before .before .before .before .before .before .before .before .before .before .before .before .before .before .before .before .before .before .before .before .before .before .before .before .before .before .before .before .before .before .before .before .before .before .before .before .before .before .before .before .before .before .before .before .before
+from-After-slice-known4-to-Start c = c .before .before .before .before .before .before .before .before .before .before .before .before .before .before .before .before .before .before .before .before .before .before .before .before .before .before .before .before .before .before .before .before .before .before .before .before .before .before .before .before .before .before .before .before .before .before .before .before .before
+
+abbrev from-After-slice-known4-to-Then1 : After-slice-known4 → Then1
+from-After-slice-known4-to-Then1 c = c .before .before .before .before .before .before .before .before .before .before .before .before .before .before .before .before .before .before .before .before .before .before .before .before .before .before .before .before .before .before .before .before
+
+abbrev from-After-slice-known4-to-Then2 : After-slice-known4 → Then2
+from-After-slice-known4-to-Then2 c = c .before .before .before .before .before .before .before .before .before .before .before .before .before .before .before .before .before .before .before .before .before .before .before .before .before .before .before
 
 abbrev from-After-slice-known4-to-Then3 : After-slice-known4 → Then3
-from-After-slice-known4-to-Then3 c = c .before .before .before .before .before .before .before .before .before .before .before .before .before .before .before .before .before .before .before .before .before .before .before .before .before .before .before .before .before .before .before .before .before
-
-abbrev from-After-slice-known4-to-Then4 : After-slice-known4 → Then4
-from-After-slice-known4-to-Then4 c = c .before .before .before .before .before .before .before .before .before .before .before .before .before .before .before .before .before .before .before .before .before .before .before .before .before .before .before .before .before .before .before .before
-
-abbrev from-After-slice-known4-to-Then5 : After-slice-known4 → Then5
-from-After-slice-known4-to-Then5 c = c .before .before .before .before .before .before .before .before .before .before .before .before .before .before .before .before .before .before .before .before .before .before .before .before .before .before .before
-
-abbrev from-After-slice-known4-to-Then6 : After-slice-known4 → Then6
-from-After-slice-known4-to-Then6 c = c .before .before .before .before .before .before .before .before .before .before .before .before .before .before .before .before
+from-After-slice-known4-to-Then3 c = c .before .before .before .before .before .before .before .before .before .before .before .before .before .before .before .before
 
 abbrev from-After-slice-known6-to-After-does-stay : After-slice-known6 → After-does-stay
 from-After-slice-known6-to-After-does-stay c = c .before .before .before .before .before
 
 abbrev from-After-slice-known6-to-After-no-checkpoint : After-slice-known6 → After-no-checkpoint
-from-After-slice-known6-to-After-no-checkpoint c = c .before .before .before .before .before .before .before .before .before .before .before .before .before .before .before .before .before .before .before .before .before .before .before .before .before .before .before .before .before .before .before .before .before .before .before .before .before
+from-After-slice-known6-to-After-no-checkpoint c = c .before .before .before .before .before .before .before .before .before .before .before .before .before .before .before .before .before .before .before .before .before .before .before .before .before .before .before .before .before .before .before .before .before
 
 abbrev from-After-slice-known6-to-At-left : After-slice-known6 → At-left
 from-After-slice-known6-to-At-left c = c .before .before .before .before .before .before .before .before
@@ -1066,8 +1029,8 @@ from-After-slice-known6-to-At-left c = c .before .before .before .before .before
 abbrev from-After-slice-known6-to-At-restored : After-slice-known6 → At-restored
 from-After-slice-known6-to-At-restored c = c .before .before .before .before .before .before .before .before .before .before .before .before .before .before .before .before .before .before
 
-abbrev from-After-slice-known6-to-Else8 : After-slice-known6 → Else8
-from-After-slice-known6-to-Else8 c = c .before .before .before .before
+abbrev from-After-slice-known6-to-Else5 : After-slice-known6 → Else5
+from-After-slice-known6-to-Else5 c = c .before .before .before .before
 
 abbrev from-After-slice-known6-to-In-left : After-slice-known6 → In-left
 from-After-slice-known6-to-In-left c = c .before .before .before .before .before .before .before
@@ -1085,7 +1048,7 @@ abbrev from-After-slice-known7-to-After-sifted : After-slice-known7 → After-si
 from-After-slice-known7-to-After-sifted c = c .before .before .before .before .before
 
 abbrev from-After-slice-known7-to-At-records : After-slice-known7 → At-records
-from-After-slice-known7-to-At-records c = c .before .before .before .before .before .before .before .before .before .before .before .before .before .before .before .before .before .before .before .before .before .before .before .before .before .before
+from-After-slice-known7-to-At-records c = c .before .before .before .before .before .before .before .before .before .before .before .before .before .before .before .before .before .before .before .before .before .before
 
 abbrev from-After-slice-known7-to-At-restored : After-slice-known7 → At-restored
 from-After-slice-known7-to-At-restored c = c .before .before .before .before .before .before .before .before .before
@@ -1094,16 +1057,13 @@ abbrev from-After-slice-known7-to-At-sifted : After-slice-known7 → At-sifted
 from-After-slice-known7-to-At-sifted c = c .before .before .before .before .before .before
 
 abbrev from-After-slice-known7-to-Start : After-slice-known7 → Start
-from-After-slice-known7-to-Start c = c .before .before .before .before .before .before .before .before .before .before .before .before .before .before .before .before .before .before .before .before .before .before .before .before .before .before .before .before .before .before .before .before .before .before .before .before .before .before .before .before .before
+from-After-slice-known7-to-Start c = c .before .before .before .before .before .before .before .before .before .before .before .before .before .before .before .before .before .before .before .before .before .before .before .before .before .before .before .before .before .before .before .before .before .before .before .before .before
 
-abbrev from-After-slice-known7-to-Then3 : After-slice-known7 → Then3
-from-After-slice-known7-to-Then3 c = c .before .before .before .before .before .before .before .before .before .before .before .before .before .before .before .before .before .before .before .before .before
-
-abbrev from-After-slice-known7-to-Then4 : After-slice-known7 → Then4
-from-After-slice-known7-to-Then4 c = c .before .before .before .before .before .before .before .before .before .before .before .before .before .before .before .before .before .before .before .before
+abbrev from-After-slice-known7-to-Then1 : After-slice-known7 → Then1
+from-After-slice-known7-to-Then1 c = c .before .before .before .before .before .before .before .before .before .before .before .before .before .before .before .before .before .before .before .before
 
 abbrev from-After-sought-to-At-records : After-sought → At-records
-from-After-sought-to-At-records c = c .before .before .before .before .before .before .before .before .before .before .before .before
+from-After-sought-to-At-records c = c .before .before .before .before .before .before .before .before
 
 abbrev from-After-stored-to-After-live-index : After-stored → After-live-index
 from-After-stored-to-After-live-index c = c .before .before .before .before .before .before .before .before
@@ -1121,10 +1081,10 @@ abbrev from-After-stored-to-At-collected : After-stored → At-collected
 from-After-stored-to-At-collected c = c .before .before .before
 
 abbrev from-After-stored-to-At-records : After-stored → At-records
-from-After-stored-to-At-records c = c .before .before .before .before .before .before .before .before .before .before .before .before .before .before .before .before .before .before .before .before .before .before .before .before .before .before .before .before .before .before .before
+from-After-stored-to-At-records c = c .before .before .before .before .before .before .before .before .before .before .before .before .before .before .before .before .before .before .before .before .before .before .before .before .before .before .before
 
 abbrev from-After-to-search-to-At-records : After-to-search → At-records
-from-After-to-search-to-At-records c = c .before .before .before .before .before .before .before .before .before .before .before .before .before .before .before .before .before .before
+from-After-to-search-to-At-records c = c .before .before .before .before .before .before .before .before .before .before .before .before .before .before
 
 abbrev from-After-to-search-to-At-returned : After-to-search → At-returned
 from-After-to-search-to-At-returned c = c .before .before .before .before
@@ -1142,7 +1102,7 @@ abbrev from-After-vector-then-to-After-row-of : After-vector-then → After-row-
 from-After-vector-then-to-After-row-of c = c .before .before .before .before .before .before .before .before .before .before .before
 
 abbrev from-After-vector-then-to-At-records : After-vector-then → At-records
-from-After-vector-then-to-At-records c = c .before .before .before .before .before .before .before .before .before .before .before .before .before .before .before .before .before .before .before .before .before .before .before .before .before .before .before
+from-After-vector-then-to-At-records c = c .before .before .before .before .before .before .before .before .before .before .before .before .before .before .before .before .before .before .before .before .before .before .before
 
 abbrev from-After-went-back-to-In-returned : After-went-back → In-returned
 from-After-went-back-to-In-returned c = c .before .before .before .before .before .before .before .before .before
@@ -1156,59 +1116,62 @@ from-After-write-pair-arg2-to-In-left c = c .before .before .before .before
 abbrev from-At-records-to-Start : At-records → Start
 from-At-records-to-Start c = c .before .before .before .before .before .before .before .before .before .before .before .before .before .before .before
 
-abbrev from-Else10-to-After-no-message : Else10 → After-no-message
-from-Else10-to-After-no-message c = c .before .before .before .before .before .before .before .before .before .before .before .before .before .before .before .before .before .before .before .before .before .before .before .before .before .before .before
+abbrev from-Else1-to-Start : Else1 → Start
+from-Else1-to-Start c = c .before .before .before .before .before .before .before .before .before .before .before .before .before .before .before .before .before
 
-abbrev from-Else10-to-At-records : Else10 → At-records
-from-Else10-to-At-records c = c .before .before .before .before .before .before .before .before .before .before .before .before .before .before .before .before .before .before .before .before .before .before .before .before .before .before
+abbrev from-Else2-to-After-decode : Else2 → After-decode
+from-Else2-to-After-decode c = c .before .before .before
 
-abbrev from-Else10-to-At-sifted : Else10 → At-sifted
-from-Else10-to-At-sifted c = c .before .before .before .before .before .before
+abbrev from-Else2-to-Start : Else2 → Start
+from-Else2-to-Start c = c .before .before .before .before .before .before .before .before .before .before .before .before .before .before .before .before .before .before .before .before .before .before
 
-abbrev from-Else10-to-In-sifted : Else10 → In-sifted
-from-Else10-to-In-sifted c = c .before .before .before .before .before
+abbrev from-Else3-to-After-decode : Else3 → After-decode
+from-Else3-to-After-decode c = c .before .before .before .before .before .before .before .before .before .before .before .before .before .before
 
-abbrev from-Else5-to-After-decode : Else5 → After-decode
-from-Else5-to-After-decode c = c .before .before .before
+abbrev from-Else3-to-After-is-there : Else3 → After-is-there
+from-Else3-to-After-is-there c = c .before .before .before .before .before .before .before
 
-abbrev from-Else5-to-Start : Else5 → Start
-from-Else5-to-Start c = c .before .before .before .before .before .before .before .before .before .before .before .before .before .before .before .before .before .before .before .before .before .before .before .before .before .before
+abbrev from-Else3-to-After-place-in : Else3 → After-place-in
+from-Else3-to-After-place-in c = c .before .before .before .before .before .before .before .before .before
 
-abbrev from-Else6-to-After-decode : Else6 → After-decode
-from-Else6-to-After-decode c = c .before .before .before .before .before .before .before .before .before .before .before .before .before .before
+abbrev from-Else3-to-After-plan-of : Else3 → After-plan-of
+from-Else3-to-After-plan-of c = c .before .before .before
 
-abbrev from-Else6-to-After-is-there : Else6 → After-is-there
-from-Else6-to-After-is-there c = c .before .before .before .before .before .before .before
+abbrev from-Else3-to-After-row-of : Else3 → After-row-of
+from-Else3-to-After-row-of c = c .before .before .before .before .before .before
 
-abbrev from-Else6-to-After-place-in : Else6 → After-place-in
-from-Else6-to-After-place-in c = c .before .before .before .before .before .before .before .before .before
+abbrev from-Else3-to-After-sought : Else3 → After-sought
+from-Else3-to-After-sought c = c .before .before .before .before .before .before .before .before .before .before
 
-abbrev from-Else6-to-After-plan-of : Else6 → After-plan-of
-from-Else6-to-After-plan-of c = c .before .before .before
+abbrev from-Else3-to-At-records : Else3 → At-records
+from-Else3-to-At-records c = c .before .before .before .before .before .before .before .before .before .before .before .before .before .before .before .before .before .before
 
-abbrev from-Else6-to-After-row-of : Else6 → After-row-of
-from-Else6-to-After-row-of c = c .before .before .before .before .before .before
+abbrev from-Else3-to-Then1 : Else3 → Then1
+from-Else3-to-Then1 c = c .before .before .before .before .before .before .before .before .before .before .before .before .before .before .before .before
 
-abbrev from-Else6-to-After-sought : Else6 → After-sought
-from-Else6-to-After-sought c = c .before .before .before .before .before .before .before .before .before .before
+abbrev from-Else3-to-Then2 : Else3 → Then2
+from-Else3-to-Then2 c = c .before .before .before .before .before .before .before .before .before .before .before
 
 abbrev from-Else6-to-At-records : Else6 → At-records
-from-Else6-to-At-records c = c .before .before .before .before .before .before .before .before .before .before .before .before .before .before .before .before .before .before .before .before .before .before
+from-Else6-to-At-records c = c .before .before .before .before .before .before .before .before .before .before .before .before .before .before .before .before .before .before .before .before
 
-abbrev from-Else6-to-In-records : Else6 → In-records
-from-Else6-to-In-records c = c .before .before .before .before .before .before .before .before .before .before .before .before .before .before .before .before .before .before .before .before .before
+abbrev from-Else6-to-At-sifted : Else6 → At-sifted
+from-Else6-to-At-sifted c = c .before .before .before .before
 
-abbrev from-Else6-to-Then5 : Else6 → Then5
-from-Else6-to-Then5 c = c .before .before .before .before .before .before .before .before .before .before .before
+abbrev from-Else6-to-In-sifted : Else6 → In-sifted
+from-Else6-to-In-sifted c = c .before .before .before
 
-abbrev from-Else9-to-At-records : Else9 → At-records
-from-Else9-to-At-records c = c .before .before .before .before .before .before .before .before .before .before .before .before .before .before .before .before .before .before .before .before .before .before .before .before
+abbrev from-Else7-to-After-no-message : Else7 → After-no-message
+from-Else7-to-After-no-message c = c .before .before .before .before .before .before .before .before .before .before .before .before .before .before .before .before .before .before .before .before .before .before .before
 
-abbrev from-Else9-to-At-sifted : Else9 → At-sifted
-from-Else9-to-At-sifted c = c .before .before .before .before
+abbrev from-Else7-to-At-records : Else7 → At-records
+from-Else7-to-At-records c = c .before .before .before .before .before .before .before .before .before .before .before .before .before .before .before .before .before .before .before .before .before .before
 
-abbrev from-Else9-to-In-sifted : Else9 → In-sifted
-from-Else9-to-In-sifted c = c .before .before .before
+abbrev from-Else7-to-At-sifted : Else7 → At-sifted
+from-Else7-to-At-sifted c = c .before .before .before .before .before .before
+
+abbrev from-Else7-to-In-sifted : Else7 → In-sifted
+from-Else7-to-In-sifted c = c .before .before .before .before .before
 
 abbrev from-In-allowed-to-After-to-search : In-allowed → After-to-search
 from-In-allowed-to-After-to-search c = c .before .before .before
@@ -1220,10 +1183,10 @@ abbrev from-In-collected-to-After-row-of : In-collected → After-row-of
 from-In-collected-to-After-row-of c = c .before .before .before .before .before .before .before .before .before .before .before .before .before
 
 abbrev from-In-collected-to-At-records : In-collected → At-records
-from-In-collected-to-At-records c = c .before .before .before .before .before .before .before .before .before .before .before .before .before .before .before .before .before .before .before .before .before .before .before .before .before .before .before .before .before
+from-In-collected-to-At-records c = c .before .before .before .before .before .before .before .before .before .before .before .before .before .before .before .before .before .before .before .before .before .before .before .before .before
 
-abbrev from-In-collected-to-Then6 : In-collected → Then6
-from-In-collected-to-Then6 c = c .before .before .before .before .before .before .before
+abbrev from-In-collected-to-Then3 : In-collected → Then3
+from-In-collected-to-Then3 c = c .before .before .before .before .before .before .before
 
 abbrev from-In-found-to-After-to-search2 : In-found → After-to-search2
 from-In-found-to-After-to-search2 c = c .before .before .before
@@ -1232,7 +1195,7 @@ abbrev from-In-found-to-In-restored : In-found → In-restored
 from-In-found-to-In-restored c = c .before .before .before .before .before
 
 abbrev from-In-left-to-At-records : In-left → At-records
-from-In-left-to-At-records c = c .before .before .before .before .before .before .before .before .before .before .before .before .before .before .before .before .before .before .before .before .before .before .before .before .before .before .before .before
+from-In-left-to-At-records c = c .before .before .before .before .before .before .before .before .before .before .before .before .before .before .before .before .before .before .before .before .before .before .before .before
 
 abbrev from-In-left-to-At-restored : In-left → At-restored
 from-In-left-to-At-restored c = c .before .before .before .before .before .before .before .before .before .before .before
@@ -1241,103 +1204,91 @@ abbrev from-In-left-to-In-restored : In-left → In-restored
 from-In-left-to-In-restored c = c .before .before .before .before .before .before .before .before .before .before
 
 abbrev from-In-restored-to-At-records : In-restored → At-records
-from-In-restored-to-At-records c = c .before .before .before .before .before .before .before .before .before .before .before .before .before .before .before .before .before .before
+from-In-restored-to-At-records c = c .before .before .before .before .before .before .before .before .before .before .before .before .before .before
 
 abbrev from-In-returned-to-At-records : In-returned → At-records
-from-In-returned-to-At-records c = c .before .before .before .before .before .before .before .before .before .before .before .before .before .before .before
+from-In-returned-to-At-records c = c .before .before .before .before .before .before .before .before .before .before .before
 
 abbrev from-In-sifted-to-At-records : In-sifted → At-records
-from-In-sifted-to-At-records c = c .before .before .before .before .before .before .before .before .before .before .before .before .before .before .before .before .before .before .before .before .before
+from-In-sifted-to-At-records c = c .before .before .before .before .before .before .before .before .before .before .before .before .before .before .before .before .before
 
-abbrev from-Left-records-to-Start : Left-records → Start
-from-Left-records-to-Start c = c .before .before .before .before .before .before .before .before .before .before .before .before .before .before .before .before
+abbrev from-Then1-to-Start : Then1 → Start
+from-Then1-to-Start c = c .before .before .before .before .before .before .before .before .before .before .before .before .before .before .before .before .before
 
-abbrev from-Then2-to-At-records : Then2 → At-records
-from-Then2-to-At-records c = c .before .before .before .before
+abbrev from-Then2-to-After-decode : Then2 → After-decode
+from-Then2-to-After-decode c = c .before .before .before
+
+abbrev from-Then2-to-Start : Then2 → Start
+from-Then2-to-Start c = c .before .before .before .before .before .before .before .before .before .before .before .before .before .before .before .before .before .before .before .before .before .before
+
+abbrev from-Then3-to-After-decode : Then3 → After-decode
+from-Then3-to-After-decode c = c .before .before .before .before .before .before .before .before .before .before .before .before .before .before
+
+abbrev from-Then3-to-After-is-there : Then3 → After-is-there
+from-Then3-to-After-is-there c = c .before .before .before .before .before .before .before
+
+abbrev from-Then3-to-After-place-in : Then3 → After-place-in
+from-Then3-to-After-place-in c = c .before .before .before .before .before .before .before .before .before
+
+abbrev from-Then3-to-After-plan-of : Then3 → After-plan-of
+from-Then3-to-After-plan-of c = c .before .before .before
+
+abbrev from-Then3-to-After-row-of : Then3 → After-row-of
+from-Then3-to-After-row-of c = c .before .before .before .before .before .before
+
+abbrev from-Then3-to-After-sought : Then3 → After-sought
+from-Then3-to-After-sought c = c .before .before .before .before .before .before .before .before .before .before
 
 abbrev from-Then3-to-At-records : Then3 → At-records
-from-Then3-to-At-records c = c .before .before .before .before .before
-
-abbrev from-Then3-to-Start : Then3 → Start
-from-Then3-to-Start c = c .before .before .before .before .before .before .before .before .before .before .before .before .before .before .before .before .before .before .before .before
+from-Then3-to-At-records c = c .before .before .before .before .before .before .before .before .before .before .before .before .before .before .before .before .before .before
 
 abbrev from-Then3-to-Then1 : Then3 → Then1
-from-Then3-to-Then1 c = c .before .before .before
+from-Then3-to-Then1 c = c .before .before .before .before .before .before .before .before .before .before .before .before .before .before .before .before
 
-abbrev from-Then5-to-After-decode : Then5 → After-decode
-from-Then5-to-After-decode c = c .before .before .before
+abbrev from-Then3-to-Then2 : Then3 → Then2
+from-Then3-to-Then2 c = c .before .before .before .before .before .before .before .before .before .before .before
 
-abbrev from-Then5-to-Start : Then5 → Start
-from-Then5-to-Start c = c .before .before .before .before .before .before .before .before .before .before .before .before .before .before .before .before .before .before .before .before .before .before .before .before .before .before
+abbrev from-Then4-to-After-no-checkpoint : Then4 → After-no-checkpoint
+from-Then4-to-After-no-checkpoint c = c .before .before .before .before .before .before .before .before .before .before .before .before .before .before .before .before .before .before .before .before .before .before .before .before .before .before .before .before .before .before
 
-abbrev from-Then6-to-After-decode : Then6 → After-decode
-from-Then6-to-After-decode c = c .before .before .before .before .before .before .before .before .before .before .before .before .before .before
+abbrev from-Then4-to-After-pins-then : Then4 → After-pins-then
+from-Then4-to-After-pins-then c = c .before .before .before .before .before .before
 
-abbrev from-Then6-to-After-is-there : Then6 → After-is-there
-from-Then6-to-After-is-there c = c .before .before .before .before .before .before .before
+abbrev from-Then4-to-After-row-of : Then4 → After-row-of
+from-Then4-to-After-row-of c = c .before .before .before .before .before .before .before .before .before .before .before .before .before .before .before .before
 
-abbrev from-Then6-to-After-place-in : Then6 → After-place-in
-from-Then6-to-After-place-in c = c .before .before .before .before .before .before .before .before .before
+abbrev from-Then4-to-At-collected : Then4 → At-collected
+from-Then4-to-At-collected c = c .before .before .before .before
 
-abbrev from-Then6-to-After-plan-of : Then6 → After-plan-of
-from-Then6-to-After-plan-of c = c .before .before .before
+abbrev from-Then4-to-At-records : Then4 → At-records
+from-Then4-to-At-records c = c .before .before .before .before .before .before .before .before .before .before .before .before .before .before .before .before .before .before .before .before .before .before .before .before .before .before .before .before
 
-abbrev from-Then6-to-After-row-of : Then6 → After-row-of
-from-Then6-to-After-row-of c = c .before .before .before .before .before .before
+abbrev from-Then4-to-In-collected : Then4 → In-collected
+from-Then4-to-In-collected c = c .before .before .before
 
-abbrev from-Then6-to-After-sought : Then6 → After-sought
-from-Then6-to-After-sought c = c .before .before .before .before .before .before .before .before .before .before
+abbrev from-Then5-to-After-no-checkpoint : Then5 → After-no-checkpoint
+from-Then5-to-After-no-checkpoint c = c .before .before .before .before .before .before .before .before .before .before .before .before .before .before .before .before .before .before .before .before .before .before .before .before .before .before .before .before .before
+
+abbrev from-Then5-to-At-left : Then5 → At-left
+from-Then5-to-At-left c = c .before .before .before .before
+
+abbrev from-Then5-to-At-restored : Then5 → At-restored
+from-Then5-to-At-restored c = c .before .before .before .before .before .before .before .before .before .before .before .before .before .before
+
+abbrev from-Then5-to-In-left : Then5 → In-left
+from-Then5-to-In-left c = c .before .before .before
+
+abbrev from-Then5-to-In-restored : Then5 → In-restored
+from-Then5-to-In-restored c = c .before .before .before .before .before .before .before .before .before .before .before .before .before
 
 abbrev from-Then6-to-At-records : Then6 → At-records
-from-Then6-to-At-records c = c .before .before .before .before .before .before .before .before .before .before .before .before .before .before .before .before .before .before .before .before .before .before
+from-Then6-to-At-records c = c .before .before .before .before .before .before .before .before .before .before .before .before .before .before .before .before .before .before .before .before
 
-abbrev from-Then6-to-In-records : Then6 → In-records
-from-Then6-to-In-records c = c .before .before .before .before .before .before .before .before .before .before .before .before .before .before .before .before .before .before .before .before .before
+abbrev from-Then6-to-At-sifted : Then6 → At-sifted
+from-Then6-to-At-sifted c = c .before .before .before .before
 
-abbrev from-Then6-to-Then5 : Then6 → Then5
-from-Then6-to-Then5 c = c .before .before .before .before .before .before .before .before .before .before .before
-
-abbrev from-Then7-to-After-no-checkpoint : Then7 → After-no-checkpoint
-from-Then7-to-After-no-checkpoint c = c .before .before .before .before .before .before .before .before .before .before .before .before .before .before .before .before .before .before .before .before .before .before .before .before .before .before .before .before .before .before .before .before .before .before
-
-abbrev from-Then7-to-After-pins-then : Then7 → After-pins-then
-from-Then7-to-After-pins-then c = c .before .before .before .before .before .before
-
-abbrev from-Then7-to-After-row-of : Then7 → After-row-of
-from-Then7-to-After-row-of c = c .before .before .before .before .before .before .before .before .before .before .before .before .before .before .before .before
-
-abbrev from-Then7-to-At-collected : Then7 → At-collected
-from-Then7-to-At-collected c = c .before .before .before .before
-
-abbrev from-Then7-to-At-records : Then7 → At-records
-from-Then7-to-At-records c = c .before .before .before .before .before .before .before .before .before .before .before .before .before .before .before .before .before .before .before .before .before .before .before .before .before .before .before .before .before .before .before .before
-
-abbrev from-Then7-to-In-collected : Then7 → In-collected
-from-Then7-to-In-collected c = c .before .before .before
-
-abbrev from-Then8-to-After-no-checkpoint : Then8 → After-no-checkpoint
-from-Then8-to-After-no-checkpoint c = c .before .before .before .before .before .before .before .before .before .before .before .before .before .before .before .before .before .before .before .before .before .before .before .before .before .before .before .before .before .before .before .before .before
-
-abbrev from-Then8-to-At-left : Then8 → At-left
-from-Then8-to-At-left c = c .before .before .before .before
-
-abbrev from-Then8-to-At-restored : Then8 → At-restored
-from-Then8-to-At-restored c = c .before .before .before .before .before .before .before .before .before .before .before .before .before .before
-
-abbrev from-Then8-to-In-left : Then8 → In-left
-from-Then8-to-In-left c = c .before .before .before
-
-abbrev from-Then8-to-In-restored : Then8 → In-restored
-from-Then8-to-In-restored c = c .before .before .before .before .before .before .before .before .before .before .before .before .before
-
-abbrev from-Then9-to-At-records : Then9 → At-records
-from-Then9-to-At-records c = c .before .before .before .before .before .before .before .before .before .before .before .before .before .before .before .before .before .before .before .before .before .before .before .before
-
-abbrev from-Then9-to-At-sifted : Then9 → At-sifted
-from-Then9-to-At-sifted c = c .before .before .before .before
-
-abbrev from-Then9-to-In-sifted : Then9 → In-sifted
-from-Then9-to-In-sifted c = c .before .before .before
+abbrev from-Then6-to-In-sifted : Then6 → In-sifted
+from-Then6-to-In-sifted c = c .before .before .before
 
 -- The state that the parts are at the start of a turn, and what is known of it.
 abbrev whole : (c : At-records) → Run
@@ -1362,15 +1313,14 @@ holds c =
     let l = c .records in
     windows.under-way (whole c) (messagesIn (l .window) (l .first) (l .tail)) refl refl
 
--- A whole record is left, there is room for its line, and it is not behind the last one.
-left : (c : Then3) → 4 * from-Then3-to-At-records c .records .taken + 4 ≤ length (drop 1 (now (from-Then3-to-Start c .args .trace)))
-left c = left-more (now (from-Then3-to-Start c .args .trace)) (from-Then3-to-At-records c .records .taken) (sym (c .before .before .record-left .ensures) ∙ c .before .if2 .taken)
+-- The record is taken: a place for its message, a whole record left, room for its line, and it is not behind the last one.
+takes : (c : Then1) → Takes (c .before .before .records .tail) (from-Then1-to-Start c .args .done) (now (from-Then1-to-Start c .args .trace)) (c .before .before .records .taken) (length (c .before .before .records .out)) (c .before .before .records .written) (c .before .before .records .going)
+takes c =
+    let l = c .before .before .records in
+    next-taken (l .tail) (from-Then1-to-Start c .args .done) (now (from-Then1-to-Start c .args .trace)) (l .taken) (length (l .out)) (l .written) (l .going) (sym (c .before .takes-next .ensures) ∙ c .if1 .taken)
 
-room : (c : Then3) → from-Then3-to-At-records c .records .written + longestLine ≤ length (from-Then3-to-At-records c .records .out)
-room c = omega (arith, from-Then3-to-At-records c .records .inv .fits, from-Then3-to-At-records c .records .inv .long, leb-true longestLine (length (from-Then3-to-At-records c .records .out) - from-Then3-to-At-records c .records .written) (c .if3 .taken))
-
-few : (c : Then3) → from-Then3-to-Start c .args .done + from-Then3-to-At-records c .records .taken < 1000000000
-few c = ltb-true (from-Then3-to-Start c .args .done + from-Then3-to-At-records c .records .taken) 1000000000 (from-Then3-to-Then1 c .if1 .taken)
+left : (c : Then1) → 4 * c .before .before .records .taken + 4 ≤ length (drop 1 (now (from-Then1-to-Start c .args .trace)))
+left c = left-more (now (from-Then1-to-Start c .args .trace)) (c .before .before .records .taken) (takes c .left)
 
 -- The event that was decoded is the record's.
 abbrev event : (c : After-decode) → Option Event
@@ -1380,32 +1330,29 @@ is-event : (c : After-decode) → event c ≡ decoded (take 4 (drop (4 * from-Af
 is-event c =
     c .decode .ensures
     ∙ ap eventIn (c .before .record-after .ensures)
-    ∙ record-there (now (from-After-decode-to-Start c .args .trace)) (from-After-decode-to-At-records c .records .taken) (sym (from-After-decode-to-After-record-left c .record-left .ensures) ∙ from-After-decode-to-Then2 c .if2 .taken)
+    ∙ record-there (now (from-After-decode-to-Start c .args .trace)) (from-After-decode-to-At-records c .records .taken) (takes (c .before .before) .left)
 
-sub-if3 : tie.Need-sub-if3 Inv-collected μ-collected Inv-allowed μ-allowed Inv-returned μ-returned Inv-found μ-found Inv-left μ-left Inv-restored μ-restored Inv-sifted μ-sifted Inv-records μ-records
-sub-if3 c = omega (arith, from-Then2-to-At-records c .records .inv .fits, from-Then2-to-At-records c .records .inv .long)
-
-add-if1 : tie.Need-add-if1 Inv-collected μ-collected Inv-allowed μ-allowed Inv-returned μ-returned Inv-found μ-found Inv-left μ-left Inv-restored μ-restored Inv-sifted μ-sifted Inv-records μ-records
-add-if1 c = omega (arith, c .before .records .inv .few)
+takes-next-requires : tie.Need-takes-next-requires Inv-collected μ-collected Inv-allowed μ-allowed Inv-returned μ-returned Inv-found μ-found Inv-left μ-left Inv-restored μ-restored Inv-sifted μ-sifted Inv-records μ-records
+takes-next-requires c κs = (c .records .inv .few, omega (arith, c .records .inv .fits, c .records .inv .long))
 
 add-taken : tie.Need-add-taken Inv-collected μ-collected Inv-allowed μ-allowed Inv-returned μ-returned Inv-found μ-found Inv-left μ-left Inv-restored μ-restored Inv-sifted μ-sifted Inv-records μ-records
-add-taken c = omega (arith, few (from-After-decode-to-Then3 c))
+add-taken c = omega (arith, takes (c .before .before) .few)
 
 add-number : tie.Need-add-number Inv-collected μ-collected Inv-allowed μ-allowed Inv-returned μ-returned Inv-found μ-found Inv-left μ-left Inv-restored μ-restored Inv-sifted μ-sifted Inv-records μ-records
-add-number c = omega (arith, few (from-After-decode-to-Then3 c))
+add-number c = omega (arith, takes (c .before .before) .few)
 
 recovery-of-requires : tie.Need-recovery-of-requires Inv-collected μ-collected Inv-allowed μ-allowed Inv-returned μ-returned Inv-found μ-found Inv-left μ-left Inv-restored μ-restored Inv-sifted μ-sifted Inv-records μ-records
 recovery-of-requires c κs = most (from-After-decode-to-At-records c)
 
 -- A record that asks for no recovery.
-not-asked : (c : Then5) → recoveryOf (from-Then5-to-Start c .args .s .count) (event (from-Then5-to-After-decode c)) .asked ≡ false
-not-asked c = ap (λ (r : Recovery). r .asked) (sym (c .before .before .recovery-of .ensures)) ∙ not-true _ (c .if5 .taken)
+not-asked : (c : Then2) → recoveryOf (from-Then2-to-Start c .args .s .count) (event (from-Then2-to-After-decode c)) .asked ≡ false
+not-asked c = ap (λ (r : Recovery). r .asked) (sym (c .before .before .recovery-of .ensures)) ∙ not-true _ (c .if2 .taken)
 
 place-in-requires : tie.Need-place-in-requires Inv-collected μ-collected Inv-allowed μ-allowed Inv-returned μ-returned Inv-found μ-found Inv-left μ-left Inv-restored μ-restored Inv-sifted μ-sifted Inv-records μ-records
 place-in-requires c κs = from-After-sought-to-At-records c .records .inv .windowed .numbers-long
 
 in-window : (c : After-place-in) → c .place-in .result < 576
-in-window c = omega (arith, windows.place-most (from-After-place-in-to-At-records c .records .inv .windowed) (c .before .sought .result), c .place-in .ensures, from-After-place-in-to-In-records c .records-test .taken)
+in-window c = omega (arith, windows.place-most (from-After-place-in-to-At-records c .records .inv .windowed) (c .before .sought .result), c .place-in .ensures, takes (from-After-place-in-to-Then1 c) .place)
 
 mul-message : tie.Need-mul-message Inv-collected μ-collected Inv-allowed μ-allowed Inv-returned μ-returned Inv-found μ-found Inv-left μ-left Inv-restored μ-restored Inv-sifted μ-sifted Inv-records μ-records
 mul-message c = omega (arith, in-window c)
@@ -1419,7 +1366,7 @@ message-is c d = any-default (from-After-place-in-to-At-records c .records .wind
 
 -- What the laws of a plan take: the state, the event, the window, and what was looked up.
 in-rows : (c : After-row-of) → c .row-of .result < 16
-in-rows c = turn.row-there (whole (from-After-row-of-to-At-records c)) (reach (from-After-row-of-to-At-records c)) (event (from-After-row-of-to-After-decode c)) (not-asked (from-After-row-of-to-Then5 c)) (from-After-row-of-to-At-records c .records .inv .windowed) (from-After-row-of-to-In-records c .records-test .taken) (holds (from-After-row-of-to-At-records c)) refl (from-After-row-of-to-After-sought c .sought .ensures) (from-After-row-of-to-After-place-in c .place-in .ensures) (message-is (from-After-row-of-to-After-place-in c) _) (c .before .is-there .ensures) (c .row-of .ensures)
+in-rows c = turn.row-there (whole (from-After-row-of-to-At-records c)) (reach (from-After-row-of-to-At-records c)) (event (from-After-row-of-to-After-decode c)) (not-asked (from-After-row-of-to-Then2 c)) (from-After-row-of-to-At-records c .records .inv .windowed) (takes (from-After-row-of-to-Then1 c) .place) (holds (from-After-row-of-to-At-records c)) refl (from-After-row-of-to-After-sought c .sought .ensures) (from-After-row-of-to-After-place-in c .place-in .ensures) (message-is (from-After-row-of-to-After-place-in c) _) (c .before .is-there .ensures) (c .row-of .ensures)
 
 mul-vector : tie.Need-mul-vector Inv-collected μ-collected Inv-allowed μ-allowed Inv-returned μ-returned Inv-found μ-found Inv-left μ-left Inv-restored μ-restored Inv-sifted μ-sifted Inv-records μ-records
 mul-vector c = omega (arith, in-rows (c))
@@ -1440,13 +1387,13 @@ array-write-sent : tie.Need-array-write-sent Inv-collected μ-collected Inv-allo
 array-write-sent c = omega (arith, in-rows (from-After-plan-of-to-After-row-of c))
 
 plan-of-requires : tie.Need-plan-of-requires Inv-collected μ-collected Inv-allowed μ-allowed Inv-returned μ-returned Inv-found μ-found Inv-left μ-left Inv-restored μ-restored Inv-sifted μ-sifted Inv-records μ-records
-plan-of-requires c κs = (turn.some-there (whole (from-After-own-to-At-records c)) (reach (from-After-own-to-At-records c)) (event (from-After-own-to-After-decode c)) (not-asked (from-After-own-to-Then5 c)) (from-After-own-to-At-records c .records .inv .windowed) (from-After-own-to-In-records c .records-test .taken) (holds (from-After-own-to-At-records c)) refl (from-After-own-to-After-sought c .sought .ensures) (from-After-own-to-After-place-in c .place-in .ensures) (message-is (from-After-own-to-After-place-in c) _) (from-After-own-to-After-is-there c .is-there .ensures) (c .before .before .row-of .ensures), omega (arith, from-After-own-to-In-records c .records-test .taken))
+plan-of-requires c κs = (turn.some-there (whole (from-After-own-to-At-records c)) (reach (from-After-own-to-At-records c)) (event (from-After-own-to-After-decode c)) (not-asked (from-After-own-to-Then2 c)) (from-After-own-to-At-records c .records .inv .windowed) (takes (from-After-own-to-Then1 c) .place) (holds (from-After-own-to-At-records c)) refl (from-After-own-to-After-sought c .sought .ensures) (from-After-own-to-After-place-in c .place-in .ensures) (message-is (from-After-own-to-After-place-in c) _) (from-After-own-to-After-is-there c .is-there .ensures) (c .before .before .row-of .ensures), omega (arith, takes (from-After-own-to-Then1 c) .place))
 
 mul-window : tie.Need-mul-window Inv-collected μ-collected Inv-allowed μ-allowed Inv-returned μ-returned Inv-found μ-found Inv-left μ-left Inv-restored μ-restored Inv-sifted μ-sifted Inv-records μ-records
-mul-window c = omega (arith, turn.place-there (whole (from-After-put-to-At-records c)) (reach (from-After-put-to-At-records c)) (event (from-After-put-to-After-decode c)) (not-asked (from-After-put-to-Then5 c)) (from-After-put-to-At-records c .records .inv .windowed) (from-After-put-to-In-records c .records-test .taken) (holds (from-After-put-to-At-records c)) refl (from-After-put-to-After-sought c .sought .ensures) (from-After-put-to-After-place-in c .place-in .ensures) (message-is (from-After-put-to-After-place-in c) _) (from-After-put-to-After-is-there c .is-there .ensures) (from-After-put-to-After-row-of c .row-of .ensures) (c .before .plan-of .ensures))
+mul-window c = omega (arith, turn.place-there (whole (from-After-put-to-At-records c)) (reach (from-After-put-to-At-records c)) (event (from-After-put-to-After-decode c)) (not-asked (from-After-put-to-Then2 c)) (from-After-put-to-At-records c .records .inv .windowed) (takes (from-After-put-to-Then1 c) .place) (holds (from-After-put-to-At-records c)) refl (from-After-put-to-After-sought c .sought .ensures) (from-After-put-to-After-place-in c .place-in .ensures) (message-is (from-After-put-to-After-place-in c) _) (from-After-put-to-After-is-there c .is-there .ensures) (from-After-put-to-After-row-of c .row-of .ensures) (c .before .plan-of .ensures))
 
 array-set-from-window : tie.Need-array-set-from-window Inv-collected μ-collected Inv-allowed μ-allowed Inv-returned μ-returned Inv-found μ-found Inv-left μ-left Inv-restored μ-restored Inv-sifted μ-sifted Inv-records μ-records
-array-set-from-window c = omega (arith, turn.place-there (whole (from-After-put-to-At-records c)) (reach (from-After-put-to-At-records c)) (event (from-After-put-to-After-decode c)) (not-asked (from-After-put-to-Then5 c)) (from-After-put-to-At-records c .records .inv .windowed) (from-After-put-to-In-records c .records-test .taken) (holds (from-After-put-to-At-records c)) refl (from-After-put-to-After-sought c .sought .ensures) (from-After-put-to-After-place-in c .place-in .ensures) (message-is (from-After-put-to-After-place-in c) _) (from-After-put-to-After-is-there c .is-there .ensures) (from-After-put-to-After-row-of c .row-of .ensures) (c .before .plan-of .ensures))
+array-set-from-window c = omega (arith, turn.place-there (whole (from-After-put-to-At-records c)) (reach (from-After-put-to-At-records c)) (event (from-After-put-to-After-decode c)) (not-asked (from-After-put-to-Then2 c)) (from-After-put-to-At-records c .records .inv .windowed) (takes (from-After-put-to-Then1 c) .place) (holds (from-After-put-to-At-records c)) refl (from-After-put-to-After-sought c .sought .ensures) (from-After-put-to-After-place-in c .place-in .ensures) (message-is (from-After-put-to-After-place-in c) _) (from-After-put-to-After-is-there c .is-there .ensures) (from-After-put-to-After-row-of c .row-of .ensures) (c .before .plan-of .ensures))
 
 -- The pins of its process move.
 mul-pins-then : tie.Need-mul-pins-then Inv-collected μ-collected Inv-allowed μ-allowed Inv-returned μ-returned Inv-found μ-found Inv-left μ-left Inv-restored μ-restored Inv-sifted μ-sifted Inv-records μ-records
@@ -1474,13 +1421,13 @@ array-read-many : tie.Need-array-read-many Inv-collected μ-collected Inv-allowe
 array-read-many c = omega (arith, in-rows (from-After-vector-then-to-After-row-of c))
 
 live-index-requires : tie.Need-live-index-requires Inv-collected μ-collected Inv-allowed μ-allowed Inv-returned μ-returned Inv-found μ-found Inv-left μ-left Inv-restored μ-restored Inv-sifted μ-sifted Inv-records μ-records
-live-index-requires c κs = turn.moved-own (whole (from-Then6-to-At-records c)) (reach (from-Then6-to-At-records c)) (event (from-Then6-to-After-decode c)) (not-asked (from-Then6-to-Then5 c)) (from-Then6-to-At-records c .records .inv .windowed) (from-Then6-to-In-records c .records-test .taken) (holds (from-Then6-to-At-records c)) refl (from-Then6-to-After-sought c .sought .ensures) (from-Then6-to-After-place-in c .place-in .ensures) (message-is (from-Then6-to-After-place-in c) _) (from-Then6-to-After-is-there c .is-there .ensures) (from-Then6-to-After-row-of c .row-of .ensures) (from-Then6-to-After-plan-of c .plan-of .ensures) (c .if6 .taken)
+live-index-requires c κs = turn.moved-own (whole (from-Then3-to-At-records c)) (reach (from-Then3-to-At-records c)) (event (from-Then3-to-After-decode c)) (not-asked (from-Then3-to-Then2 c)) (from-Then3-to-At-records c .records .inv .windowed) (takes (from-Then3-to-Then1 c) .place) (holds (from-Then3-to-At-records c)) refl (from-Then3-to-After-sought c .sought .ensures) (from-Then3-to-After-place-in c .place-in .ensures) (message-is (from-Then3-to-After-place-in c) _) (from-Then3-to-After-is-there c .is-there .ensures) (from-Then3-to-After-row-of c .row-of .ensures) (from-Then3-to-After-plan-of c .plan-of .ensures) (c .if3 .taken)
 
 pins-then-requires : tie.Need-pins-then-requires Inv-collected μ-collected Inv-allowed μ-allowed Inv-returned μ-returned Inv-found μ-found Inv-left μ-left Inv-restored μ-restored Inv-sifted μ-sifted Inv-records μ-records
-pins-then-requires c κs = (in-rows (from-After-pins-then-arg-to-After-row-of c), turn.moved-room (whole (from-After-pins-then-arg-to-At-records c)) (reach (from-After-pins-then-arg-to-At-records c)) (event (from-After-pins-then-arg-to-After-decode c)) (not-asked (from-After-pins-then-arg-to-Then5 c)) (from-After-pins-then-arg-to-At-records c .records .inv .windowed) (from-After-pins-then-arg-to-In-records c .records-test .taken) (holds (from-After-pins-then-arg-to-At-records c)) refl (from-After-pins-then-arg-to-After-sought c .sought .ensures) (from-After-pins-then-arg-to-After-place-in c .place-in .ensures) (message-is (from-After-pins-then-arg-to-After-place-in c) _) (from-After-pins-then-arg-to-After-is-there c .is-there .ensures) (from-After-pins-then-arg-to-After-row-of c .row-of .ensures) (from-After-pins-then-arg-to-After-plan-of c .plan-of .ensures) (from-After-pins-then-arg-to-Then6 c .if6 .taken))
+pins-then-requires c κs = (in-rows (from-After-pins-then-arg-to-After-row-of c), turn.moved-room (whole (from-After-pins-then-arg-to-At-records c)) (reach (from-After-pins-then-arg-to-At-records c)) (event (from-After-pins-then-arg-to-After-decode c)) (not-asked (from-After-pins-then-arg-to-Then2 c)) (from-After-pins-then-arg-to-At-records c .records .inv .windowed) (takes (from-After-pins-then-arg-to-Then1 c) .place) (holds (from-After-pins-then-arg-to-At-records c)) refl (from-After-pins-then-arg-to-After-sought c .sought .ensures) (from-After-pins-then-arg-to-After-place-in c .place-in .ensures) (message-is (from-After-pins-then-arg-to-After-place-in c) _) (from-After-pins-then-arg-to-After-is-there c .is-there .ensures) (from-After-pins-then-arg-to-After-row-of c .row-of .ensures) (from-After-pins-then-arg-to-After-plan-of c .plan-of .ensures) (from-After-pins-then-arg-to-Then3 c .if3 .taken))
 
 vector-then-requires : tie.Need-vector-then-requires Inv-collected μ-collected Inv-allowed μ-allowed Inv-returned μ-returned Inv-found μ-found Inv-left μ-left Inv-restored μ-restored Inv-sifted μ-sifted Inv-records μ-records
-vector-then-requires c κs = (in-rows (from-After-pins-then-to-After-row-of c), turn.moved-room (whole (from-After-pins-then-to-At-records c)) (reach (from-After-pins-then-to-At-records c)) (event (from-After-pins-then-to-After-decode c)) (not-asked (from-After-pins-then-to-Then5 c)) (from-After-pins-then-to-At-records c .records .inv .windowed) (from-After-pins-then-to-In-records c .records-test .taken) (holds (from-After-pins-then-to-At-records c)) refl (from-After-pins-then-to-After-sought c .sought .ensures) (from-After-pins-then-to-After-place-in c .place-in .ensures) (message-is (from-After-pins-then-to-After-place-in c) _) (from-After-pins-then-to-After-is-there c .is-there .ensures) (from-After-pins-then-to-After-row-of c .row-of .ensures) (from-After-pins-then-to-After-plan-of c .plan-of .ensures) (from-After-pins-then-to-Then6 c .if6 .taken))
+vector-then-requires c κs = (in-rows (from-After-pins-then-to-After-row-of c), turn.moved-room (whole (from-After-pins-then-to-At-records c)) (reach (from-After-pins-then-to-At-records c)) (event (from-After-pins-then-to-After-decode c)) (not-asked (from-After-pins-then-to-Then2 c)) (from-After-pins-then-to-At-records c .records .inv .windowed) (takes (from-After-pins-then-to-Then1 c) .place) (holds (from-After-pins-then-to-At-records c)) refl (from-After-pins-then-to-After-sought c .sought .ensures) (from-After-pins-then-to-After-place-in c .place-in .ensures) (message-is (from-After-pins-then-to-After-place-in c) _) (from-After-pins-then-to-After-is-there c .is-there .ensures) (from-After-pins-then-to-After-row-of c .row-of .ensures) (from-After-pins-then-to-After-plan-of c .plan-of .ensures) (from-After-pins-then-to-Then3 c .if3 .taken))
 
 -- Its row has a place, is filled behind what it keeps, and keeps 16 at most.
 there : (c : After-row-of) → c .row-of .result < length (from-After-row-of-to-At-records c .records .kept)
@@ -1489,8 +1436,8 @@ there c = omega (arith, in-rows c, sized (from-After-row-of-to-At-records c) .ke
 row-long : (c : After-row-of) → length (getD (from-After-row-of-to-At-records c .records .kept) (c .row-of .result) []) ≡ 16
 row-long c = sized (from-After-row-of-to-At-records c) .kept-row (c .row-of .result) (in-rows c)
 
-many-most : (c : Then6) → getD (from-Then6-to-At-records c .records .held) (from-Then6-to-After-row-of c .row-of .result) 0 ≤ 16
-many-most c = turn.moved-held (whole (from-Then6-to-At-records c)) (reach (from-Then6-to-At-records c)) (event (from-Then6-to-After-decode c)) (not-asked (from-Then6-to-Then5 c)) (from-Then6-to-At-records c .records .inv .windowed) (from-Then6-to-In-records c .records-test .taken) (holds (from-Then6-to-At-records c)) refl (from-Then6-to-After-sought c .sought .ensures) (from-Then6-to-After-place-in c .place-in .ensures) (message-is (from-Then6-to-After-place-in c) _) (from-Then6-to-After-is-there c .is-there .ensures) (from-Then6-to-After-row-of c .row-of .ensures) (from-Then6-to-After-plan-of c .plan-of .ensures) (c .if6 .taken)
+many-most : (c : Then3) → getD (from-Then3-to-At-records c .records .held) (from-Then3-to-After-row-of c .row-of .result) 0 ≤ 16
+many-most c = turn.moved-held (whole (from-Then3-to-At-records c)) (reach (from-Then3-to-At-records c)) (event (from-Then3-to-After-decode c)) (not-asked (from-Then3-to-Then2 c)) (from-Then3-to-At-records c .records .inv .windowed) (takes (from-Then3-to-Then1 c) .place) (holds (from-Then3-to-At-records c)) refl (from-Then3-to-After-sought c .sought .ensures) (from-Then3-to-After-place-in c .place-in .ensures) (message-is (from-Then3-to-After-place-in c) _) (from-Then3-to-After-is-there c .is-there .ensures) (from-Then3-to-After-row-of c .row-of .ensures) (from-Then3-to-After-plan-of c .plan-of .ensures) (c .if3 .taken)
 
 collected-holds : tie.Need-collected-holds Inv-collected μ-collected Inv-allowed μ-allowed Inv-returned μ-returned Inv-found μ-found Inv-left μ-left Inv-restored μ-restored Inv-sifted μ-sifted Inv-records μ-records
 collected-holds c =
@@ -1499,7 +1446,7 @@ collected-holds c =
 inside : (c : In-collected) → Inside (from-In-collected-to-After-row-of c .row-of .result) (c .before .collected .j) (c .before .collected .to) (c .before .collected .gone) (c .before .collected .deleted)
 inside c =
     let v = c .before .collected .inv .0 in
-    let least : c .before .collected .j < 16 = omega (arith, c .collected-test .taken, many-most (from-In-collected-to-Then6 c)) in
+    let least : c .before .collected .j < 16 = omega (arith, c .collected-test .taken, many-most (from-In-collected-to-Then3 c)) in
     let long : length (c .before .collected .deleted) ≡ length (from-In-collected-to-At-records c .records .deleted) = collected.list-length _ _ _ (there (from-In-collected-to-After-row-of c)) _ _ v in record {
       row = in-rows (from-In-collected-to-After-row-of c);
       place = least;
@@ -1536,19 +1483,19 @@ add-j : tie.Need-add-j Inv-collected μ-collected Inv-allowed μ-allowed Inv-ret
 add-j c = let b = inside (c .before) in omega arith
 
 mul-c-3 : tie.Need-mul-c-3 Inv-collected μ-collected Inv-allowed μ-allowed Inv-returned μ-returned Inv-found μ-found Inv-left μ-left Inv-restored μ-restored Inv-sifted μ-sifted Inv-records μ-records
-mul-c-3 c = let b = inside (from-Then7-to-In-collected c) in omega arith
+mul-c-3 c = let b = inside (from-Then4-to-In-collected c) in omega arith
 
 mul-c-4 : tie.Need-mul-c-4 Inv-collected μ-collected Inv-allowed μ-allowed Inv-returned μ-returned Inv-found μ-found Inv-left μ-left Inv-restored μ-restored Inv-sifted μ-sifted Inv-records μ-records
-mul-c-4 c = let b = inside (from-Then7-to-In-collected c) in omega arith
+mul-c-4 c = let b = inside (from-Then4-to-In-collected c) in omega arith
 
 index-1-c-2 : tie.Need-index-1-c-2 Inv-collected μ-collected Inv-allowed μ-allowed Inv-returned μ-returned Inv-found μ-found Inv-left μ-left Inv-restored μ-restored Inv-sifted μ-sifted Inv-records μ-records
-index-1-c-2 c = let b = inside (from-Then7-to-In-collected c) in omega arith
+index-1-c-2 c = let b = inside (from-Then4-to-In-collected c) in omega arith
 
 index-2-c-2 : tie.Need-index-2-c-2 Inv-collected μ-collected Inv-allowed μ-allowed Inv-returned μ-returned Inv-found μ-found Inv-left μ-left Inv-restored μ-restored Inv-sifted μ-sifted Inv-records μ-records
-index-2-c-2 c = let b = inside (from-Then7-to-In-collected c) in omega arith
+index-2-c-2 c = let b = inside (from-Then4-to-In-collected c) in omega arith
 
 add-to : tie.Need-add-to Inv-collected μ-collected Inv-allowed μ-allowed Inv-returned μ-returned Inv-found μ-found Inv-left μ-left Inv-restored μ-restored Inv-sifted μ-sifted Inv-records μ-records
-add-to c = let b = inside (from-Then7-to-In-collected c) in omega arith
+add-to c = let b = inside (from-Then4-to-In-collected c) in omega arith
 
 write-pair-requires : tie.Need-write-pair-requires Inv-collected μ-collected Inv-allowed μ-allowed Inv-returned μ-returned Inv-found μ-found Inv-left μ-left Inv-restored μ-restored Inv-sifted μ-sifted Inv-records μ-records
 write-pair-requires c κs = let b = inside (from-After-write-pair-arg-to-In-collected c) in (b .row, b .few, b .room)
@@ -1557,7 +1504,7 @@ add-gone : tie.Need-add-gone Inv-collected μ-collected Inv-allowed μ-allowed I
 add-gone c = let b = inside (from-After-slice-known3-to-In-collected c) in omega arith
 
 collected-less : tie.Need-collected-less Inv-collected μ-collected Inv-allowed μ-allowed Inv-returned μ-returned Inv-found μ-found Inv-left μ-left Inv-restored μ-restored Inv-sifted μ-sifted Inv-records μ-records
-collected-less c = omega (arith, from-Then7-to-In-collected c .collected-test .taken)
+collected-less c = omega (arith, from-Then4-to-In-collected c .collected-test .taken)
 
 collected-less-2 : tie.Need-collected-less-2 Inv-collected μ-collected Inv-allowed μ-allowed Inv-returned μ-returned Inv-found μ-found Inv-left μ-left Inv-restored μ-restored Inv-sifted μ-sifted Inv-records μ-records
 collected-less-2 c = omega (arith, from-After-slice-known3-to-In-collected c .collected-test .taken)
@@ -1573,12 +1520,12 @@ in-row-now c =
 collected-again : tie.Need-collected-again Inv-collected μ-collected Inv-allowed μ-allowed Inv-returned μ-returned Inv-found μ-found Inv-left μ-left Inv-restored μ-restored Inv-sifted μ-sifted Inv-records μ-records
 unfolding named
 collected-again c =
-    let l = from-Then7-to-At-collected c .collected in
-    let i = from-Then7-to-After-row-of c .row-of .result in (
-      collected.stays (named (from-Then7-to-After-pins-then c .pins-then .result)) (from-Then7-to-At-records c .records .kept) i (there (from-Then7-to-After-row-of c)) (from-Then7-to-At-records c .records .deleted) 0 (l .inv .0) (in-row (from-Then7-to-In-collected c))
-          (any-default (getD (l .kept) i []) (l .j) _ noCheckpoint (in-row-now (from-Then7-to-In-collected c))) (ap (λ (x : Checkpoint). set (l .kept) i (set (getD (l .kept) i []) (l .j) x)) (from-Then7-to-After-no-checkpoint c .no-checkpoint .ensures))
-          (sym (c .before .is-named .ensures) ∙ c .if7 .taken),
-      omega (arith, from-Then7-to-In-collected c .collected-test .taken),
+    let l = from-Then4-to-At-collected c .collected in
+    let i = from-Then4-to-After-row-of c .row-of .result in (
+      collected.stays (named (from-Then4-to-After-pins-then c .pins-then .result)) (from-Then4-to-At-records c .records .kept) i (there (from-Then4-to-After-row-of c)) (from-Then4-to-At-records c .records .deleted) 0 (l .inv .0) (in-row (from-Then4-to-In-collected c))
+          (any-default (getD (l .kept) i []) (l .j) _ noCheckpoint (in-row-now (from-Then4-to-In-collected c))) (ap (λ (x : Checkpoint). set (l .kept) i (set (getD (l .kept) i []) (l .j) x)) (from-Then4-to-After-no-checkpoint c .no-checkpoint .ensures))
+          (sym (c .before .is-named .ensures) ∙ c .if4 .taken),
+      omega (arith, from-Then4-to-In-collected c .collected-test .taken),
     )
 
 collected-again-2 : tie.Need-collected-again-2 Inv-collected μ-collected Inv-allowed μ-allowed Inv-returned μ-returned Inv-found μ-found Inv-left μ-left Inv-restored μ-restored Inv-sifted μ-sifted Inv-records μ-records
@@ -1588,7 +1535,7 @@ collected-again-2 c =
     let i = from-After-slice-known3-to-After-row-of c .row-of .result in (
       collected.goes (named (from-After-slice-known3-to-After-pins-then c .pins-then .result)) (from-After-slice-known3-to-At-records c .records .kept) i (there (from-After-slice-known3-to-After-row-of c)) (from-After-slice-known3-to-At-records c .records .deleted) 0 (l .inv .0) (in-row (from-After-slice-known3-to-In-collected c))
           (any-default (getD (l .kept) i []) (l .j) _ noCheckpoint (in-row-now (from-After-slice-known3-to-In-collected c))) (ap (λ (x : Checkpoint). set (l .kept) i (set (getD (l .kept) i []) (l .j) x)) (from-After-slice-known3-to-After-no-checkpoint c .no-checkpoint .ensures))
-          (sym (from-After-slice-known3-to-After-is-named c .is-named .ensures) ∙ from-After-slice-known3-to-Else7 c .if7 .left) (c .before .before .write-pair .ensures),
+          (sym (from-After-slice-known3-to-After-is-named c .is-named .ensures) ∙ from-After-slice-known3-to-Else4 c .if4 .left) (c .before .before .write-pair .ensures),
       omega (arith, from-After-slice-known3-to-In-collected c .collected-test .taken),
     )
 
@@ -1597,7 +1544,7 @@ over : (c : After-collected) → c .before .collected .j ≡ getD (from-After-co
 over c = omega (arith, c .before .collected .inv .1, c .collected-test .left)
 
 to-most : (c : After-collected) → c .before .collected .to ≤ 16
-to-most c = omega (arith, c .before .collected .inv .0 .to-most, over c, many-most (from-After-collected-to-Then6 c))
+to-most c = omega (arith, c .before .collected .inv .0 .to-most, over c, many-most (from-After-collected-to-Then3 c))
 
 mul-stored : tie.Need-mul-stored Inv-collected μ-collected Inv-allowed μ-allowed Inv-returned μ-returned Inv-found μ-found Inv-left μ-left Inv-restored μ-restored Inv-sifted μ-sifted Inv-records μ-records
 mul-stored c = omega (arith, in-rows (from-After-collected-to-After-row-of c))
@@ -1631,11 +1578,11 @@ pinned c =
 kept-done : (c : After-collected) → c .before .collected .kept
     ≡ set (from-After-collected-to-At-records c .records .kept) (from-After-collected-to-After-row-of c .row-of .result) (placed 16 noCheckpoint (select (named (from-After-collected-to-After-pins-then c .pins-then .result)) (take (getD (from-After-collected-to-At-records c .records .held) (from-After-collected-to-After-row-of c .row-of .result) 0) (getD (from-After-collected-to-At-records c .records .kept) (from-After-collected-to-After-row-of c .row-of .result) []))))
 kept-done c =
-    collected.done _ _ _ (there (from-After-collected-to-After-row-of c)) _ _ (rw (over c) at (c .before .collected .inv .0)) (many-most (from-After-collected-to-Then6 c)) (turn.moved-filled (whole (from-After-collected-to-At-records c)) (reach (from-After-collected-to-At-records c)) (event (from-After-collected-to-After-decode c)) (not-asked (from-After-collected-to-Then5 c)) (from-After-collected-to-At-records c .records .inv .windowed) (from-After-collected-to-In-records c .records-test .taken) (holds (from-After-collected-to-At-records c)) refl (from-After-collected-to-After-sought c .sought .ensures) (from-After-collected-to-After-place-in c .place-in .ensures) (message-is (from-After-collected-to-After-place-in c) _) (from-After-collected-to-After-is-there c .is-there .ensures) (from-After-collected-to-After-row-of c .row-of .ensures) (from-After-collected-to-After-plan-of c .plan-of .ensures) (from-After-collected-to-Then6 c .if6 .taken)) (row-long (from-After-collected-to-After-row-of c))
+    collected.done _ _ _ (there (from-After-collected-to-After-row-of c)) _ _ (rw (over c) at (c .before .collected .inv .0)) (many-most (from-After-collected-to-Then3 c)) (turn.moved-filled (whole (from-After-collected-to-At-records c)) (reach (from-After-collected-to-At-records c)) (event (from-After-collected-to-After-decode c)) (not-asked (from-After-collected-to-Then2 c)) (from-After-collected-to-At-records c .records .inv .windowed) (takes (from-After-collected-to-Then1 c) .place) (holds (from-After-collected-to-At-records c)) refl (from-After-collected-to-After-sought c .sought .ensures) (from-After-collected-to-After-place-in c .place-in .ensures) (message-is (from-After-collected-to-After-place-in c) _) (from-After-collected-to-After-is-there c .is-there .ensures) (from-After-collected-to-After-row-of c .row-of .ensures) (from-After-collected-to-After-plan-of c .plan-of .ensures) (from-After-collected-to-Then3 c .if3 .taken)) (row-long (from-After-collected-to-After-row-of c))
 
 row-long-then : (c : After-collected) → length (getD (c .before .collected .kept) (from-After-collected-to-After-row-of c .row-of .result) []) ≡ 16
 row-long-then c =
-    collected.row-length _ _ _ (there (from-After-collected-to-After-row-of c)) _ _ (c .before .collected .inv .0) (omega (arith, over c, many-most (from-After-collected-to-Then6 c), row-long (from-After-collected-to-After-row-of c)))
+    collected.row-length _ _ _ (there (from-After-collected-to-After-row-of c)) _ _ (c .before .collected .inv .0) (omega (arith, over c, many-most (from-After-collected-to-Then3 c), row-long (from-After-collected-to-After-row-of c)))
     ∙ row-long (from-After-collected-to-After-row-of c)
 
 to-is : (c : After-collected) → c .before .collected .to
@@ -1644,7 +1591,7 @@ to-is c = c .before .collected .inv .0 .stayed ∙ ap (λ (k : ℕ). length (sel
 
 places : (c : After-collected) → from-After-collected-to-After-plan-of c .plan-of .result .stores ≡ true
     → length (select (named (from-After-collected-to-After-pins-then c .pins-then .result)) (take (getD (from-After-collected-to-At-records c .records .held) (from-After-collected-to-After-row-of c .row-of .result) 0) (getD (from-After-collected-to-At-records c .records .kept) (from-After-collected-to-After-row-of c .row-of .result) []))) < 16
-places c = turn.moved-places (whole (from-After-collected-to-At-records c)) (reach (from-After-collected-to-At-records c)) (event (from-After-collected-to-After-decode c)) (not-asked (from-After-collected-to-Then5 c)) (from-After-collected-to-At-records c .records .inv .windowed) (from-After-collected-to-In-records c .records-test .taken) (holds (from-After-collected-to-At-records c)) refl (from-After-collected-to-After-sought c .sought .ensures) (from-After-collected-to-After-place-in c .place-in .ensures) (message-is (from-After-collected-to-After-place-in c) _) (from-After-collected-to-After-is-there c .is-there .ensures) (from-After-collected-to-After-row-of c .row-of .ensures) (from-After-collected-to-After-plan-of c .plan-of .ensures) (from-After-collected-to-Then6 c .if6 .taken) (pinned (from-After-collected-to-After-pins-then c))
+places c = turn.moved-places (whole (from-After-collected-to-At-records c)) (reach (from-After-collected-to-At-records c)) (event (from-After-collected-to-After-decode c)) (not-asked (from-After-collected-to-Then2 c)) (from-After-collected-to-At-records c .records .inv .windowed) (takes (from-After-collected-to-Then1 c) .place) (holds (from-After-collected-to-At-records c)) refl (from-After-collected-to-After-sought c .sought .ensures) (from-After-collected-to-After-place-in c .place-in .ensures) (message-is (from-After-collected-to-After-place-in c) _) (from-After-collected-to-After-is-there c .is-there .ensures) (from-After-collected-to-After-row-of c .row-of .ensures) (from-After-collected-to-After-plan-of c .plan-of .ensures) (from-After-collected-to-Then3 c .if3 .taken) (pinned (from-After-collected-to-After-pins-then c))
 
 to-room : (c : After-collected) → from-After-collected-to-After-plan-of c .plan-of .result .stores ≡ true → c .before .collected .to < 16
 to-room c stores = omega (arith, places c stores, to-is c)
@@ -1700,7 +1647,7 @@ disk-room c = (written-small (whole c) (fine c), omega (arith, deleted-small (wh
 billed-requires : tie.Need-billed-requires Inv-collected μ-collected Inv-allowed μ-allowed Inv-returned μ-returned Inv-found μ-found Inv-left μ-left Inv-restored μ-restored Inv-sifted μ-sifted Inv-records μ-records
 billed-requires c κs =
     let room = disk-room (from-After-put-there-to-At-records c) in
-    (room .0, room .1, omega (arith, from-After-put-there-to-At-collected c .collected .inv .0 .gone-most, over (from-After-put-there-to-After-collected c), many-most (from-After-put-there-to-Then6 c)))
+    (room .0, room .1, omega (arith, from-After-put-there-to-At-collected c .collected .inv .0 .gone-most, over (from-After-put-there-to-After-collected c), many-most (from-After-put-there-to-Then3 c)))
 
 disk-then : (c : After-billed) → c .billed .result
     ≡ billed (from-After-billed-to-At-records c .records .disk) (pick (from-After-billed-to-After-plan-of c .plan-of .result .stores) 1 0)
@@ -1719,7 +1666,7 @@ moved-state c =
     (ap (set (from-After-billed-to-At-records c .records .vectors) i) (from-After-billed-to-After-vector-then c .vector-then .ensures))
     (row-then (c .before .before) ∙ ap (λ (x : CheckpointIndex). set (from-After-billed-to-At-records c .records .kept) i (left-with (from-After-billed-to-After-pins-then c) x .row)) (from-After-billed-to-After-live-index c .live-index .ensures))
     (ap (set (from-After-billed-to-At-records c .records .held) i) (held-then (c .before .before) ∙ ap (λ (x : CheckpointIndex). left-with (from-After-billed-to-After-pins-then c) x .held) (from-After-billed-to-After-live-index c .live-index .ensures))) (disk-then c)
-    (turn.moved-state (whole (from-After-billed-to-At-records c)) (reach (from-After-billed-to-At-records c)) (event (from-After-billed-to-After-decode c)) (not-asked (from-After-billed-to-Then5 c)) (from-After-billed-to-At-records c .records .inv .windowed) (from-After-billed-to-In-records c .records-test .taken) (holds (from-After-billed-to-At-records c)) refl (from-After-billed-to-After-sought c .sought .ensures) (from-After-billed-to-After-place-in c .place-in .ensures) (message-is (from-After-billed-to-After-place-in c) _) (from-After-billed-to-After-is-there c .is-there .ensures) (from-After-billed-to-After-row-of c .row-of .ensures) (from-After-billed-to-After-plan-of c .plan-of .ensures) (from-After-billed-to-Then6 c .if6 .taken) (pinned (from-After-billed-to-After-pins-then c)))
+    (turn.moved-state (whole (from-After-billed-to-At-records c)) (reach (from-After-billed-to-At-records c)) (event (from-After-billed-to-After-decode c)) (not-asked (from-After-billed-to-Then2 c)) (from-After-billed-to-At-records c .records .inv .windowed) (takes (from-After-billed-to-Then1 c) .place) (holds (from-After-billed-to-At-records c)) refl (from-After-billed-to-After-sought c .sought .ensures) (from-After-billed-to-After-place-in c .place-in .ensures) (message-is (from-After-billed-to-After-place-in c) _) (from-After-billed-to-After-is-there c .is-there .ensures) (from-After-billed-to-After-row-of c .row-of .ensures) (from-After-billed-to-After-plan-of c .plan-of .ensures) (from-After-billed-to-Then3 c .if3 .taken) (pinned (from-After-billed-to-After-pins-then c)))
 
 moved-says : (c : After-collected) → Says (record { refused = from-After-collected-to-After-summary-of c .summary-of .result .refused; value = from-After-collected-to-After-summary-of c .summary-of .result .value; deletions = c .before .collected .gone }) (c .before .collected .deleted) (perform (whole (from-After-collected-to-At-records c)) (event (from-After-collected-to-After-decode c)) .reply)
 unfolding summaryOf
@@ -1728,7 +1675,7 @@ moved-says c =
     let row = getD (from-After-collected-to-At-records c .records .kept) i [] in
     let gone : ℕ → List Checkpoint = λ k. select (λ x. not (named (from-After-collected-to-After-pins-then c .pins-then .result) x)) (take k row) in
     same-words (from-After-collected-to-After-summary-of c .summary-of .ensures) (gone-is c) (c .before .collected .inv .0 .list ∙ ap (λ (k : ℕ). sets (from-After-collected-to-At-records c .records .deleted) 0 (pairs (listed i (gone k)))) (over c))
-    (turn.moved-says (whole (from-After-collected-to-At-records c)) (reach (from-After-collected-to-At-records c)) (event (from-After-collected-to-After-decode c)) (not-asked (from-After-collected-to-Then5 c)) (from-After-collected-to-At-records c .records .inv .windowed) (from-After-collected-to-In-records c .records-test .taken) (holds (from-After-collected-to-At-records c)) refl (from-After-collected-to-After-sought c .sought .ensures) (from-After-collected-to-After-place-in c .place-in .ensures) (message-is (from-After-collected-to-After-place-in c) _) (from-After-collected-to-After-is-there c .is-there .ensures) (from-After-collected-to-After-row-of c .row-of .ensures) (from-After-collected-to-After-plan-of c .plan-of .ensures) (from-After-collected-to-Then6 c .if6 .taken) (pinned (from-After-collected-to-After-pins-then c)) (from-After-collected-to-At-records c .records .deleted) (from-After-collected-to-At-records c .records .inv .lent))
+    (turn.moved-says (whole (from-After-collected-to-At-records c)) (reach (from-After-collected-to-At-records c)) (event (from-After-collected-to-After-decode c)) (not-asked (from-After-collected-to-Then2 c)) (from-After-collected-to-At-records c .records .inv .windowed) (takes (from-After-collected-to-Then1 c) .place) (holds (from-After-collected-to-At-records c)) refl (from-After-collected-to-After-sought c .sought .ensures) (from-After-collected-to-After-place-in c .place-in .ensures) (message-is (from-After-collected-to-After-place-in c) _) (from-After-collected-to-After-is-there c .is-there .ensures) (from-After-collected-to-After-row-of c .row-of .ensures) (from-After-collected-to-After-plan-of c .plan-of .ensures) (from-After-collected-to-Then3 c .if3 .taken) (pinned (from-After-collected-to-After-pins-then c)) (from-After-collected-to-At-records c .records .deleted) (from-After-collected-to-At-records c .records .inv .lent))
 
 lent-moved : (c : After-collected) → length (c .before .collected .deleted) ≡ 512
 lent-moved c = collected.list-length _ _ _ (there (from-After-collected-to-After-row-of c)) _ _ (c .before .collected .inv .0) ∙ from-After-collected-to-At-records c .records .inv .lent
@@ -1736,48 +1683,48 @@ lent-moved c = collected.list-length _ _ _ (there (from-After-collected-to-After
 print-requires : tie.Need-print-requires Inv-collected μ-collected Inv-allowed μ-allowed Inv-returned μ-returned Inv-found μ-found Inv-left μ-left Inv-restored μ-restored Inv-sifted μ-sifted Inv-records μ-records
 print-requires c κs =
     let fits = said-fits (whole (from-After-print-arg2-to-At-records c)) (event (from-After-print-arg2-to-After-decode c)) _ _ (moved-says (from-After-print-arg2-to-After-collected c)) in
-    (fits .0, omega (arith, fits .1, lent-moved (from-After-print-arg2-to-After-collected c)), omega (arith, few (from-After-print-arg2-to-Then3 c)), room (from-After-print-arg2-to-Then3 c))
+    (fits .0, omega (arith, fits .1, lent-moved (from-After-print-arg2-to-After-collected c)), omega (arith, takes (from-After-print-arg2-to-Then1 c) .few), takes (from-After-print-arg2-to-Then1 c) .room)
 
 records-less : tie.Need-records-less Inv-collected μ-collected Inv-allowed μ-allowed Inv-returned μ-returned Inv-found μ-found Inv-left μ-left Inv-restored μ-restored Inv-sifted μ-sifted Inv-records μ-records
-records-less c = omega (arith, left (from-After-slice-known4-to-Then3 c))
+records-less c = omega (arith, left (from-After-slice-known4-to-Then1 c))
 
 records-less-2 : tie.Need-records-less-2 Inv-collected μ-collected Inv-allowed μ-allowed Inv-returned μ-returned Inv-found μ-found Inv-left μ-left Inv-restored μ-restored Inv-sifted μ-sifted Inv-records μ-records
-records-less-2 c = omega (arith, left (from-After-goes-on-to-Then3 c))
+records-less-2 c = omega (arith, left (from-After-goes-on-to-Then1 c))
 
 records-less-3 : tie.Need-records-less-3 Inv-collected μ-collected Inv-allowed μ-allowed Inv-returned μ-returned Inv-found μ-found Inv-left μ-left Inv-restored μ-restored Inv-sifted μ-sifted Inv-records μ-records
-records-less-3 c = omega (arith, left (from-After-slice-known7-to-Then3 c))
+records-less-3 c = omega (arith, left (from-After-slice-known7-to-Then1 c))
 
-moved-accepted : (c : Then6) → c .before .summary-of .result .refused ≡ 0
+moved-accepted : (c : Then3) → c .before .summary-of .result .refused ≡ 0
 unfolding summaryOf
-moved-accepted c = ap (λ (x : Summary). x .refused) (c .before .summary-of .ensures) ∙ turn.moved-accepted (whole (from-Then6-to-At-records c)) (reach (from-Then6-to-At-records c)) (event (from-Then6-to-After-decode c)) (not-asked (from-Then6-to-Then5 c)) (from-Then6-to-At-records c .records .inv .windowed) (from-Then6-to-In-records c .records-test .taken) (holds (from-Then6-to-At-records c)) refl (from-Then6-to-After-sought c .sought .ensures) (from-Then6-to-After-place-in c .place-in .ensures) (message-is (from-Then6-to-After-place-in c) _) (from-Then6-to-After-is-there c .is-there .ensures) (from-Then6-to-After-row-of c .row-of .ensures) (from-Then6-to-After-plan-of c .plan-of .ensures) (c .if6 .taken)
+moved-accepted c = ap (λ (x : Summary). x .refused) (c .before .summary-of .ensures) ∙ turn.moved-accepted (whole (from-Then3-to-At-records c)) (reach (from-Then3-to-At-records c)) (event (from-Then3-to-After-decode c)) (not-asked (from-Then3-to-Then2 c)) (from-Then3-to-At-records c .records .inv .windowed) (takes (from-Then3-to-Then1 c) .place) (holds (from-Then3-to-At-records c)) refl (from-Then3-to-After-sought c .sought .ensures) (from-Then3-to-After-place-in c .place-in .ensures) (message-is (from-Then3-to-After-place-in c) _) (from-Then3-to-After-is-there c .is-there .ensures) (from-Then3-to-After-row-of c .row-of .ensures) (from-Then3-to-After-plan-of c .plan-of .ensures) (c .if3 .taken)
 
 records-again : tie.Need-records-again Inv-collected μ-collected Inv-allowed μ-allowed Inv-returned μ-returned Inv-found μ-found Inv-left μ-left Inv-restored μ-restored Inv-sifted μ-sifted Inv-records μ-records
 records-again c =
-    one-more (from-After-slice-known4-to-At-records c .records .inv) (left (from-After-slice-known4-to-Then3 c)) (from-After-slice-known4-to-Then4 c .if4 .taken) (room (from-After-slice-known4-to-Then3 c)) (few (from-After-slice-known4-to-Then3 c)) (event (from-After-slice-known4-to-After-decode c)) (is-event (from-After-slice-known4-to-After-decode c))
+    one-more (from-After-slice-known4-to-At-records c .records .inv) (left (from-After-slice-known4-to-Then1 c)) (takes (from-After-slice-known4-to-Then1 c) .still) (takes (from-After-slice-known4-to-Then1 c) .room) (takes (from-After-slice-known4-to-Then1 c) .few) (event (from-After-slice-known4-to-After-decode c)) (is-event (from-After-slice-known4-to-After-decode c))
     (moved-state (from-After-slice-known4-to-After-billed c))
     (moved-says (from-After-slice-known4-to-After-collected c)) (lent-moved (from-After-slice-known4-to-After-collected c)) (c .before .before .print .ensures .0) (c .before .before .print .ensures .1) (c .before .before .print .kept .1 .1 .1 .0)
-    (accepted-goes-on (from-After-slice-known4-to-Start c .args .all) (moved-accepted (from-After-slice-known4-to-Then6 c)) (from-After-slice-known4-to-Then4 c .if4 .taken))
-    (turn.planned (whole (from-After-slice-known4-to-At-records c)) (reach (from-After-slice-known4-to-At-records c)) (event (from-After-slice-known4-to-After-decode c)) (not-asked (from-After-slice-known4-to-Then5 c)) (from-After-slice-known4-to-At-records c .records .inv .windowed) (from-After-slice-known4-to-In-records c .records-test .taken) (holds (from-After-slice-known4-to-At-records c)) refl (from-After-slice-known4-to-After-sought c .sought .ensures) (from-After-slice-known4-to-After-place-in c .place-in .ensures) (message-is (from-After-slice-known4-to-After-place-in c) _) (from-After-slice-known4-to-After-is-there c .is-there .ensures) (from-After-slice-known4-to-After-row-of c .row-of .ensures) (from-After-slice-known4-to-After-plan-of c .plan-of .ensures)) (omega (arith, turn.tail-next (whole (from-After-slice-known4-to-At-records c)) (reach (from-After-slice-known4-to-At-records c)) (event (from-After-slice-known4-to-After-decode c)) (not-asked (from-After-slice-known4-to-Then5 c)) (from-After-slice-known4-to-At-records c .records .inv .windowed) (from-After-slice-known4-to-In-records c .records-test .taken) (holds (from-After-slice-known4-to-At-records c)) refl (from-After-slice-known4-to-After-sought c .sought .ensures) (from-After-slice-known4-to-After-place-in c .place-in .ensures) (message-is (from-After-slice-known4-to-After-place-in c) _) (from-After-slice-known4-to-After-is-there c .is-there .ensures) (from-After-slice-known4-to-After-row-of c .row-of .ensures) (from-After-slice-known4-to-After-plan-of c .plan-of .ensures), from-After-slice-known4-to-At-records c .records .inv .sends))
+    (accepted-goes-on (from-After-slice-known4-to-Start c .args .all) (moved-accepted (from-After-slice-known4-to-Then3 c)) (takes (from-After-slice-known4-to-Then1 c) .still))
+    (turn.planned (whole (from-After-slice-known4-to-At-records c)) (reach (from-After-slice-known4-to-At-records c)) (event (from-After-slice-known4-to-After-decode c)) (not-asked (from-After-slice-known4-to-Then2 c)) (from-After-slice-known4-to-At-records c .records .inv .windowed) (takes (from-After-slice-known4-to-Then1 c) .place) (holds (from-After-slice-known4-to-At-records c)) refl (from-After-slice-known4-to-After-sought c .sought .ensures) (from-After-slice-known4-to-After-place-in c .place-in .ensures) (message-is (from-After-slice-known4-to-After-place-in c) _) (from-After-slice-known4-to-After-is-there c .is-there .ensures) (from-After-slice-known4-to-After-row-of c .row-of .ensures) (from-After-slice-known4-to-After-plan-of c .plan-of .ensures)) (omega (arith, turn.tail-next (whole (from-After-slice-known4-to-At-records c)) (reach (from-After-slice-known4-to-At-records c)) (event (from-After-slice-known4-to-After-decode c)) (not-asked (from-After-slice-known4-to-Then2 c)) (from-After-slice-known4-to-At-records c .records .inv .windowed) (takes (from-After-slice-known4-to-Then1 c) .place) (holds (from-After-slice-known4-to-At-records c)) refl (from-After-slice-known4-to-After-sought c .sought .ensures) (from-After-slice-known4-to-After-place-in c .place-in .ensures) (message-is (from-After-slice-known4-to-After-place-in c) _) (from-After-slice-known4-to-After-is-there c .is-there .ensures) (from-After-slice-known4-to-After-row-of c .row-of .ensures) (from-After-slice-known4-to-After-plan-of c .plan-of .ensures), from-After-slice-known4-to-At-records c .records .inv .sends))
 
 -- Nothing moves.
-unmoved-says : (c : Else6) → Says (c .before .summary-of .result) (from-Else6-to-At-records c .records .deleted) (perform (whole (from-Else6-to-At-records c)) (event (from-Else6-to-After-decode c)) .reply)
+unmoved-says : (c : Else3) → Says (c .before .summary-of .result) (from-Else3-to-At-records c .records .deleted) (perform (whole (from-Else3-to-At-records c)) (event (from-Else3-to-After-decode c)) .reply)
 unfolding summaryOf
-unmoved-says c = same-said (c .before .summary-of .ensures) (turn.unmoved-says (whole (from-Else6-to-At-records c)) (reach (from-Else6-to-At-records c)) (event (from-Else6-to-After-decode c)) (not-asked (from-Else6-to-Then5 c)) (from-Else6-to-At-records c .records .inv .windowed) (from-Else6-to-In-records c .records-test .taken) (holds (from-Else6-to-At-records c)) refl (from-Else6-to-After-sought c .sought .ensures) (from-Else6-to-After-place-in c .place-in .ensures) (message-is (from-Else6-to-After-place-in c) _) (from-Else6-to-After-is-there c .is-there .ensures) (from-Else6-to-After-row-of c .row-of .ensures) (from-Else6-to-After-plan-of c .plan-of .ensures) (c .if6 .left) (from-Else6-to-At-records c .records .deleted))
+unmoved-says c = same-said (c .before .summary-of .ensures) (turn.unmoved-says (whole (from-Else3-to-At-records c)) (reach (from-Else3-to-At-records c)) (event (from-Else3-to-After-decode c)) (not-asked (from-Else3-to-Then2 c)) (from-Else3-to-At-records c .records .inv .windowed) (takes (from-Else3-to-Then1 c) .place) (holds (from-Else3-to-At-records c)) refl (from-Else3-to-After-sought c .sought .ensures) (from-Else3-to-After-place-in c .place-in .ensures) (message-is (from-Else3-to-After-place-in c) _) (from-Else3-to-After-is-there c .is-there .ensures) (from-Else3-to-After-row-of c .row-of .ensures) (from-Else3-to-After-plan-of c .plan-of .ensures) (c .if3 .left) (from-Else3-to-At-records c .records .deleted))
 
 print-requires-2 : tie.Need-print-requires-2 Inv-collected μ-collected Inv-allowed μ-allowed Inv-returned μ-returned Inv-found μ-found Inv-left μ-left Inv-restored μ-restored Inv-sifted μ-sifted Inv-records μ-records
 print-requires-2 c κs =
     let fits = said-fits (whole (from-After-print-arg4-to-At-records c)) (event (from-After-print-arg4-to-After-decode c)) _ _ (unmoved-says (c .before .before)) in
-    (fits .0, omega (arith, from-After-print-arg4-to-At-records c .records .inv .lent), omega (arith, few (from-After-print-arg4-to-Then3 c)), room (from-After-print-arg4-to-Then3 c))
+    (fits .0, omega (arith, from-After-print-arg4-to-At-records c .records .inv .lent), omega (arith, takes (from-After-print-arg4-to-Then1 c) .few), takes (from-After-print-arg4-to-Then1 c) .room)
 
 records-again-2 : tie.Need-records-again-2 Inv-collected μ-collected Inv-allowed μ-allowed Inv-returned μ-returned Inv-found μ-found Inv-left μ-left Inv-restored μ-restored Inv-sifted μ-sifted Inv-records μ-records
 records-again-2 c =
-    one-more (from-After-goes-on-to-At-records c .records .inv) (left (from-After-goes-on-to-Then3 c)) (from-After-goes-on-to-Then4 c .if4 .taken) (room (from-After-goes-on-to-Then3 c)) (few (from-After-goes-on-to-Then3 c)) (event (from-After-goes-on-to-After-decode c)) (is-event (from-After-goes-on-to-After-decode c))
-    (turn.unmoved-state (whole (from-After-goes-on-to-At-records c)) (reach (from-After-goes-on-to-At-records c)) (event (from-After-goes-on-to-After-decode c)) (not-asked (from-After-goes-on-to-Then5 c)) (from-After-goes-on-to-At-records c .records .inv .windowed) (from-After-goes-on-to-In-records c .records-test .taken) (holds (from-After-goes-on-to-At-records c)) refl (from-After-goes-on-to-After-sought c .sought .ensures) (from-After-goes-on-to-After-place-in c .place-in .ensures) (message-is (from-After-goes-on-to-After-place-in c) _) (from-After-goes-on-to-After-is-there c .is-there .ensures) (from-After-goes-on-to-After-row-of c .row-of .ensures) (from-After-goes-on-to-After-plan-of c .plan-of .ensures) (from-After-goes-on-to-Else6 c .if6 .left)) (unmoved-says (from-After-goes-on-to-Else6 c)) (from-After-goes-on-to-At-records c .records .inv .lent) (from-After-goes-on-to-After-print2 c .print2 .ensures .0) (from-After-goes-on-to-After-print2 c .print2 .ensures .1)
-    (from-After-goes-on-to-After-print2 c .print2 .kept .1 .1 .1 .0) (c .goes-on .ensures) (turn.planned (whole (from-After-goes-on-to-At-records c)) (reach (from-After-goes-on-to-At-records c)) (event (from-After-goes-on-to-After-decode c)) (not-asked (from-After-goes-on-to-Then5 c)) (from-After-goes-on-to-At-records c .records .inv .windowed) (from-After-goes-on-to-In-records c .records-test .taken) (holds (from-After-goes-on-to-At-records c)) refl (from-After-goes-on-to-After-sought c .sought .ensures) (from-After-goes-on-to-After-place-in c .place-in .ensures) (message-is (from-After-goes-on-to-After-place-in c) _) (from-After-goes-on-to-After-is-there c .is-there .ensures) (from-After-goes-on-to-After-row-of c .row-of .ensures) (from-After-goes-on-to-After-plan-of c .plan-of .ensures)) (omega (arith, turn.tail-next (whole (from-After-goes-on-to-At-records c)) (reach (from-After-goes-on-to-At-records c)) (event (from-After-goes-on-to-After-decode c)) (not-asked (from-After-goes-on-to-Then5 c)) (from-After-goes-on-to-At-records c .records .inv .windowed) (from-After-goes-on-to-In-records c .records-test .taken) (holds (from-After-goes-on-to-At-records c)) refl (from-After-goes-on-to-After-sought c .sought .ensures) (from-After-goes-on-to-After-place-in c .place-in .ensures) (message-is (from-After-goes-on-to-After-place-in c) _) (from-After-goes-on-to-After-is-there c .is-there .ensures) (from-After-goes-on-to-After-row-of c .row-of .ensures) (from-After-goes-on-to-After-plan-of c .plan-of .ensures), from-After-goes-on-to-At-records c .records .inv .sends))
+    one-more (from-After-goes-on-to-At-records c .records .inv) (left (from-After-goes-on-to-Then1 c)) (takes (from-After-goes-on-to-Then1 c) .still) (takes (from-After-goes-on-to-Then1 c) .room) (takes (from-After-goes-on-to-Then1 c) .few) (event (from-After-goes-on-to-After-decode c)) (is-event (from-After-goes-on-to-After-decode c))
+    (turn.unmoved-state (whole (from-After-goes-on-to-At-records c)) (reach (from-After-goes-on-to-At-records c)) (event (from-After-goes-on-to-After-decode c)) (not-asked (from-After-goes-on-to-Then2 c)) (from-After-goes-on-to-At-records c .records .inv .windowed) (takes (from-After-goes-on-to-Then1 c) .place) (holds (from-After-goes-on-to-At-records c)) refl (from-After-goes-on-to-After-sought c .sought .ensures) (from-After-goes-on-to-After-place-in c .place-in .ensures) (message-is (from-After-goes-on-to-After-place-in c) _) (from-After-goes-on-to-After-is-there c .is-there .ensures) (from-After-goes-on-to-After-row-of c .row-of .ensures) (from-After-goes-on-to-After-plan-of c .plan-of .ensures) (from-After-goes-on-to-Else3 c .if3 .left)) (unmoved-says (from-After-goes-on-to-Else3 c)) (from-After-goes-on-to-At-records c .records .inv .lent) (from-After-goes-on-to-After-print2 c .print2 .ensures .0) (from-After-goes-on-to-After-print2 c .print2 .ensures .1)
+    (from-After-goes-on-to-After-print2 c .print2 .kept .1 .1 .1 .0) (c .goes-on .ensures) (turn.planned (whole (from-After-goes-on-to-At-records c)) (reach (from-After-goes-on-to-At-records c)) (event (from-After-goes-on-to-After-decode c)) (not-asked (from-After-goes-on-to-Then2 c)) (from-After-goes-on-to-At-records c .records .inv .windowed) (takes (from-After-goes-on-to-Then1 c) .place) (holds (from-After-goes-on-to-At-records c)) refl (from-After-goes-on-to-After-sought c .sought .ensures) (from-After-goes-on-to-After-place-in c .place-in .ensures) (message-is (from-After-goes-on-to-After-place-in c) _) (from-After-goes-on-to-After-is-there c .is-there .ensures) (from-After-goes-on-to-After-row-of c .row-of .ensures) (from-After-goes-on-to-After-plan-of c .plan-of .ensures)) (omega (arith, turn.tail-next (whole (from-After-goes-on-to-At-records c)) (reach (from-After-goes-on-to-At-records c)) (event (from-After-goes-on-to-After-decode c)) (not-asked (from-After-goes-on-to-Then2 c)) (from-After-goes-on-to-At-records c .records .inv .windowed) (takes (from-After-goes-on-to-Then1 c) .place) (holds (from-After-goes-on-to-At-records c)) refl (from-After-goes-on-to-After-sought c .sought .ensures) (from-After-goes-on-to-After-place-in c .place-in .ensures) (message-is (from-After-goes-on-to-After-place-in c) _) (from-After-goes-on-to-After-is-there c .is-there .ensures) (from-After-goes-on-to-After-row-of c .row-of .ensures) (from-After-goes-on-to-After-plan-of c .plan-of .ensures), from-After-goes-on-to-At-records c .records .inv .sends))
 
 -- A recovery: the record asks for it, and it is not refused.
-asked : (c : Else5) → (event (from-Else5-to-After-decode c) ≡ some (Recover (c .before .before .recovery-of .result .failed))) × (recoveryVerdict (from-Else5-to-Start c .args .s .count) (c .before .before .recovery-of .result .failed) ≡ Accepted)
-asked c = same-asked (from-Else5-to-Start c .args .s .count) (event (from-Else5-to-After-decode c)) (c .before .before .recovery-of .result) (c .before .before .recovery-of .ensures) (not-false _ (c .if5 .left))
+asked : (c : Else2) → (event (from-Else2-to-After-decode c) ≡ some (Recover (c .before .before .recovery-of .result .failed))) × (recoveryVerdict (from-Else2-to-Start c .args .s .count) (c .before .before .recovery-of .result .failed) ≡ Accepted)
+asked c = same-asked (from-Else2-to-Start c .args .s .count) (event (from-Else2-to-After-decode c)) (c .before .before .recovery-of .result) (c .before .before .recovery-of .ensures) (not-false _ (c .if2 .left))
 
 failed-marks-requires : tie.Need-failed-marks-requires Inv-collected μ-collected Inv-allowed μ-allowed Inv-returned μ-returned Inv-found μ-found Inv-left μ-left Inv-restored μ-restored Inv-sifted μ-sifted Inv-records μ-records
 failed-marks-requires c κs = most (from-After-own-entries-to-At-records c)
@@ -2069,19 +2016,19 @@ add-k : tie.Need-add-k Inv-collected μ-collected Inv-allowed μ-allowed Inv-ret
 add-k c = let b = inside-left (c .before) in omega arith
 
 mul-x-3 : tie.Need-mul-x-3 Inv-collected μ-collected Inv-allowed μ-allowed Inv-returned μ-returned Inv-found μ-found Inv-left μ-left Inv-restored μ-restored Inv-sifted μ-sifted Inv-records μ-records
-mul-x-3 c = let b = inside-left (from-Then8-to-In-left c) in omega arith
+mul-x-3 c = let b = inside-left (from-Then5-to-In-left c) in omega arith
 
 mul-x-4 : tie.Need-mul-x-4 Inv-collected μ-collected Inv-allowed μ-allowed Inv-returned μ-returned Inv-found μ-found Inv-left μ-left Inv-restored μ-restored Inv-sifted μ-sifted Inv-records μ-records
-mul-x-4 c = let b = inside-left (from-Then8-to-In-left c) in omega arith
+mul-x-4 c = let b = inside-left (from-Then5-to-In-left c) in omega arith
 
 index-1-x-2 : tie.Need-index-1-x-2 Inv-collected μ-collected Inv-allowed μ-allowed Inv-returned μ-returned Inv-found μ-found Inv-left μ-left Inv-restored μ-restored Inv-sifted μ-sifted Inv-records μ-records
-index-1-x-2 c = let b = inside-left (from-Then8-to-In-left c) in omega arith
+index-1-x-2 c = let b = inside-left (from-Then5-to-In-left c) in omega arith
 
 index-2-x-2 : tie.Need-index-2-x-2 Inv-collected μ-collected Inv-allowed μ-allowed Inv-returned μ-returned Inv-found μ-found Inv-left μ-left Inv-restored μ-restored Inv-sifted μ-sifted Inv-records μ-records
-index-2-x-2 c = let b = inside-left (from-Then8-to-In-left c) in omega arith
+index-2-x-2 c = let b = inside-left (from-Then5-to-In-left c) in omega arith
 
 add-stay : tie.Need-add-stay Inv-collected μ-collected Inv-allowed μ-allowed Inv-returned μ-returned Inv-found μ-found Inv-left μ-left Inv-restored μ-restored Inv-sifted μ-sifted Inv-records μ-records
-add-stay c = let b = inside-left (from-Then8-to-In-left c) in omega arith
+add-stay c = let b = inside-left (from-Then5-to-In-left c) in omega arith
 
 write-pair-requires-2 : tie.Need-write-pair-requires-2 Inv-collected μ-collected Inv-allowed μ-allowed Inv-returned μ-returned Inv-found μ-found Inv-left μ-left Inv-restored μ-restored Inv-sifted μ-sifted Inv-records μ-records
 write-pair-requires-2 c κs = let b = inside-left (from-After-write-pair-arg2-to-In-left c) in (b .row, b .few, b .room)
@@ -2090,7 +2037,7 @@ add-all-gone : tie.Need-add-all-gone Inv-collected μ-collected Inv-allowed μ-a
 add-all-gone c = let b = inside-left (from-After-slice-known6-to-In-left c) in omega arith
 
 left-less : tie.Need-left-less Inv-collected μ-collected Inv-allowed μ-allowed Inv-returned μ-returned Inv-found μ-found Inv-left μ-left Inv-restored μ-restored Inv-sifted μ-sifted Inv-records μ-records
-left-less c = omega (arith, from-Then8-to-In-left c .left-test .taken)
+left-less c = omega (arith, from-Then5-to-In-left c .left-test .taken)
 
 left-less-2 : tie.Need-left-less-2 Inv-collected μ-collected Inv-allowed μ-allowed Inv-returned μ-returned Inv-found μ-found Inv-left μ-left Inv-restored μ-restored Inv-sifted μ-sifted Inv-records μ-records
 left-less-2 c = omega (arith, from-After-slice-known6-to-In-left c .left-test .taken)
@@ -2106,12 +2053,12 @@ in-left-now c =
 left-again : tie.Need-left-again Inv-collected μ-collected Inv-allowed μ-allowed Inv-returned μ-returned Inv-found μ-found Inv-left μ-left Inv-restored μ-restored Inv-sifted μ-sifted Inv-records μ-records
 unfolding stays named
 left-again c =
-    let l = from-Then8-to-At-left c .left in
-    let q = from-Then8-to-At-restored c .restored .q in (
-      collected.stays _ (from-Then8-to-At-restored c .restored .kept) q (row-there (from-Then8-to-In-restored c)) (from-Then8-to-At-restored c .restored .deleted) (from-Then8-to-At-restored c .restored .all-gone) (l .inv .0) (in-left (from-Then8-to-In-left c))
-          (any-default (getD (l .kept) q []) (l .k) _ noCheckpoint (in-left-now (from-Then8-to-In-left c))) (ap (λ (x : Checkpoint). set (l .kept) q (set (getD (l .kept) q []) (l .k) x)) (from-Then8-to-After-no-checkpoint c .no-checkpoint .ensures))
-          (sym (c .before .does-stay .ensures) ∙ c .if8 .taken),
-      omega (arith, from-Then8-to-In-left c .left-test .taken),
+    let l = from-Then5-to-At-left c .left in
+    let q = from-Then5-to-At-restored c .restored .q in (
+      collected.stays _ (from-Then5-to-At-restored c .restored .kept) q (row-there (from-Then5-to-In-restored c)) (from-Then5-to-At-restored c .restored .deleted) (from-Then5-to-At-restored c .restored .all-gone) (l .inv .0) (in-left (from-Then5-to-In-left c))
+          (any-default (getD (l .kept) q []) (l .k) _ noCheckpoint (in-left-now (from-Then5-to-In-left c))) (ap (λ (x : Checkpoint). set (l .kept) q (set (getD (l .kept) q []) (l .k) x)) (from-Then5-to-After-no-checkpoint c .no-checkpoint .ensures))
+          (sym (c .before .does-stay .ensures) ∙ c .if5 .taken),
+      omega (arith, from-Then5-to-In-left c .left-test .taken),
     )
 
 left-again-2 : tie.Need-left-again-2 Inv-collected μ-collected Inv-allowed μ-allowed Inv-returned μ-returned Inv-found μ-found Inv-left μ-left Inv-restored μ-restored Inv-sifted μ-sifted Inv-records μ-records
@@ -2121,7 +2068,7 @@ left-again-2 c =
     let q = from-After-slice-known6-to-At-restored c .restored .q in (
       collected.goes _ (from-After-slice-known6-to-At-restored c .restored .kept) q (row-there (from-After-slice-known6-to-In-restored c)) (from-After-slice-known6-to-At-restored c .restored .deleted) (from-After-slice-known6-to-At-restored c .restored .all-gone) (l .inv .0) (in-left (from-After-slice-known6-to-In-left c))
           (any-default (getD (l .kept) q []) (l .k) _ noCheckpoint (in-left-now (from-After-slice-known6-to-In-left c))) (ap (λ (x : Checkpoint). set (l .kept) q (set (getD (l .kept) q []) (l .k) x)) (from-After-slice-known6-to-After-no-checkpoint c .no-checkpoint .ensures))
-          (sym (from-After-slice-known6-to-After-does-stay c .does-stay .ensures) ∙ from-After-slice-known6-to-Else8 c .if8 .left) (c .before .before .write-pair2 .ensures),
+          (sym (from-After-slice-known6-to-After-does-stay c .does-stay .ensures) ∙ from-After-slice-known6-to-Else5 c .if5 .left) (c .before .before .write-pair2 .ensures),
       omega (arith, from-After-slice-known6-to-In-left c .left-test .taken),
     )
 
@@ -2176,7 +2123,7 @@ restores c =
 recovery-says : (c : After-billed2) → Says (record { refused = 0; value = Number (from-After-billed2-to-At-returned c .returned .back); deletions = c .before .before .restored .all-gone }) (c .before .before .restored .deleted) (perform (whole (from-After-billed2-to-At-records c)) (event (from-After-billed2-to-After-decode c)) .reply)
 recovery-says c =
     let at = from-After-billed2-to-At-records c in
-    recovered-says (whole at) (reach at) (event (from-After-billed2-to-After-decode c)) (from-After-billed2-to-After-recovery-of c .recovery-of .result .failed) (asked (from-After-billed2-to-Else5 c) .0) (asked (from-After-billed2-to-Else5 c) .1) _ (from-After-billed2-to-At-records c .records .deleted) (c .before .before .restored .deleted) (restores c) (from-After-billed2-to-At-records c .records .inv .lent)
+    recovered-says (whole at) (reach at) (event (from-After-billed2-to-After-decode c)) (from-After-billed2-to-After-recovery-of c .recovery-of .result .failed) (asked (from-After-billed2-to-Else2 c) .0) (asked (from-After-billed2-to-Else2 c) .1) _ (from-After-billed2-to-At-records c .records .deleted) (c .before .before .restored .deleted) (restores c) (from-After-billed2-to-At-records c .records .inv .lent)
 
 -- The messages that were sent behind the line leave the window.
 sifted-holds : tie.Need-sifted-holds Inv-collected μ-collected Inv-allowed μ-allowed Inv-returned μ-returned Inv-found μ-found Inv-left μ-left Inv-restored μ-restored Inv-sifted μ-sifted Inv-records μ-records
@@ -2202,37 +2149,37 @@ add-z : tie.Need-add-z Inv-collected μ-collected Inv-allowed μ-allowed Inv-ret
 add-z c = omega (arith, place-at (c .before))
 
 mul-window-2 : tie.Need-mul-window-2 Inv-collected μ-collected Inv-allowed μ-allowed Inv-returned μ-returned Inv-found μ-found Inv-left μ-left Inv-restored μ-restored Inv-sifted μ-sifted Inv-records μ-records
-mul-window-2 c = omega (arith, place-at (from-Else10-to-In-sifted c))
+mul-window-2 c = omega (arith, place-at (from-Else7-to-In-sifted c))
 
 array-set-from-window-2 : tie.Need-array-set-from-window-2 Inv-collected μ-collected Inv-allowed μ-allowed Inv-returned μ-returned Inv-found μ-found Inv-left μ-left Inv-restored μ-restored Inv-sifted μ-sifted Inv-records μ-records
-array-set-from-window-2 c = omega (arith, place-at (from-Else10-to-In-sifted c))
+array-set-from-window-2 c = omega (arith, place-at (from-Else7-to-In-sifted c))
 
 does-outlive-requires : tie.Need-does-outlive-requires Inv-collected μ-collected Inv-allowed μ-allowed Inv-returned μ-returned Inv-found μ-found Inv-left μ-left Inv-restored μ-restored Inv-sifted μ-sifted Inv-records μ-records
-does-outlive-requires c κs = sifted.sender-there (from-Then9-to-At-sifted c .sifted .inv) (long-before (from-Then9-to-At-records c)) (from-Then9-to-In-sifted c .sifted-test .taken) _ (any-default (from-Then9-to-At-sifted c .sifted .window) (from-Then9-to-At-sifted c .sifted .z) _ noMessage (rw (from-Then9-to-At-sifted c .sifted .inv .windowed .long) (place-at (from-Then9-to-In-sifted c)))) (c .if9 .taken) (whole (from-Then9-to-At-records c)) (fine (from-Then9-to-At-records c)) (holds (from-Then9-to-At-records c))
+does-outlive-requires c κs = sifted.sender-there (from-Then6-to-At-sifted c .sifted .inv) (long-before (from-Then6-to-At-records c)) (from-Then6-to-In-sifted c .sifted-test .taken) _ (any-default (from-Then6-to-At-sifted c .sifted .window) (from-Then6-to-At-sifted c .sifted .z) _ noMessage (rw (from-Then6-to-At-sifted c .sifted .inv .windowed .long) (place-at (from-Then6-to-In-sifted c)))) (c .if6 .taken) (whole (from-Then6-to-At-records c)) (fine (from-Then6-to-At-records c)) (holds (from-Then6-to-At-records c))
 
 add-outlived : tie.Need-add-outlived Inv-collected μ-collected Inv-allowed μ-allowed Inv-returned μ-returned Inv-found μ-found Inv-left μ-left Inv-restored μ-restored Inv-sifted μ-sifted Inv-records μ-records
 add-outlived c = omega (arith, few-met (from-After-first-from-to-In-sifted c))
 
 sub-underway : tie.Need-sub-underway Inv-collected μ-collected Inv-allowed μ-allowed Inv-returned μ-returned Inv-found μ-found Inv-left μ-left Inv-restored μ-restored Inv-sifted μ-sifted Inv-records μ-records
-sub-underway c = omega (arith, from-Else10-to-In-sifted c .sifted-test .taken)
+sub-underway c = omega (arith, from-Else7-to-In-sifted c .sifted-test .taken)
 
 sifted-less : tie.Need-sifted-less Inv-collected μ-collected Inv-allowed μ-allowed Inv-returned μ-returned Inv-found μ-found Inv-left μ-left Inv-restored μ-restored Inv-sifted μ-sifted Inv-records μ-records
 sifted-less c = omega (arith, sifted.more-left (from-After-first-from-to-At-sifted c .sifted .inv) (long-before (from-After-first-from-to-At-records c)) (from-After-first-from-to-In-sifted c .sifted-test .taken))
 
 sifted-less-2 : tie.Need-sifted-less-2 Inv-collected μ-collected Inv-allowed μ-allowed Inv-returned μ-returned Inv-found μ-found Inv-left μ-left Inv-restored μ-restored Inv-sifted μ-sifted Inv-records μ-records
-sifted-less-2 c = omega (arith, sifted.more-left (from-Else10-to-At-sifted c .sifted .inv) (long-before (from-Else10-to-At-records c)) (from-Else10-to-In-sifted c .sifted-test .taken))
+sifted-less-2 c = omega (arith, sifted.more-left (from-Else7-to-At-sifted c .sifted .inv) (long-before (from-Else7-to-At-records c)) (from-Else7-to-In-sifted c .sifted-test .taken))
 
 sifted-less-3 : tie.Need-sifted-less-3 Inv-collected μ-collected Inv-allowed μ-allowed Inv-returned μ-returned Inv-found μ-found Inv-left μ-left Inv-restored μ-restored Inv-sifted μ-sifted Inv-records μ-records
-sifted-less-3 c = omega (arith, sifted.more-left (from-Else9-to-At-sifted c .sifted .inv) (long-before (from-Else9-to-At-records c)) (from-Else9-to-In-sifted c .sifted-test .taken))
+sifted-less-3 c = omega (arith, sifted.more-left (from-Else6-to-At-sifted c .sifted .inv) (long-before (from-Else6-to-At-records c)) (from-Else6-to-In-sifted c .sifted-test .taken))
 
 sifted-again : tie.Need-sifted-again Inv-collected μ-collected Inv-allowed μ-allowed Inv-returned μ-returned Inv-found μ-found Inv-left μ-left Inv-restored μ-restored Inv-sifted μ-sifted Inv-records μ-records
-sifted-again c = sifted.stays-there (from-After-first-from-to-At-sifted c .sifted .inv) (long-before (from-After-first-from-to-At-records c)) (from-After-first-from-to-In-sifted c .sifted-test .taken) _ (any-default (from-After-first-from-to-At-sifted c .sifted .window) (from-After-first-from-to-At-sifted c .sifted .z) _ noMessage (rw (from-After-first-from-to-At-sifted c .sifted .inv .windowed .long) (place-at (from-After-first-from-to-In-sifted c)))) (from-After-first-from-to-Then9 c .if9 .taken) (sym (c .before .before .does-outlive .ensures) ∙ c .before .if10 .taken) (c .first-from .ensures)
+sifted-again c = sifted.stays-there (from-After-first-from-to-At-sifted c .sifted .inv) (long-before (from-After-first-from-to-At-records c)) (from-After-first-from-to-In-sifted c .sifted-test .taken) _ (any-default (from-After-first-from-to-At-sifted c .sifted .window) (from-After-first-from-to-At-sifted c .sifted .z) _ noMessage (rw (from-After-first-from-to-At-sifted c .sifted .inv .windowed .long) (place-at (from-After-first-from-to-In-sifted c)))) (from-After-first-from-to-Then6 c .if6 .taken) (sym (c .before .before .does-outlive .ensures) ∙ c .before .if7 .taken) (c .first-from .ensures)
 
 sifted-again-2 : tie.Need-sifted-again-2 Inv-collected μ-collected Inv-allowed μ-allowed Inv-returned μ-returned Inv-found μ-found Inv-left μ-left Inv-restored μ-restored Inv-sifted μ-sifted Inv-records μ-records
-sifted-again-2 c = sifted.goes (from-Else10-to-At-sifted c .sifted .inv) (long-before (from-Else10-to-At-records c)) (from-Else10-to-In-sifted c .sifted-test .taken) _ (any-default (from-Else10-to-At-sifted c .sifted .window) (from-Else10-to-At-sifted c .sifted .z) _ noMessage (rw (from-Else10-to-At-sifted c .sifted .inv .windowed .long) (place-at (from-Else10-to-In-sifted c)))) (c .before .before .if9 .taken) (sym (c .before .does-outlive .ensures) ∙ c .if10 .left) (from-Else10-to-After-no-message c .no-message .ensures)
+sifted-again-2 c = sifted.goes (from-Else7-to-At-sifted c .sifted .inv) (long-before (from-Else7-to-At-records c)) (from-Else7-to-In-sifted c .sifted-test .taken) _ (any-default (from-Else7-to-At-sifted c .sifted .window) (from-Else7-to-At-sifted c .sifted .z) _ noMessage (rw (from-Else7-to-At-sifted c .sifted .inv .windowed .long) (place-at (from-Else7-to-In-sifted c)))) (c .before .before .if6 .taken) (sym (c .before .does-outlive .ensures) ∙ c .if7 .left) (from-Else7-to-After-no-message c .no-message .ensures)
 
 sifted-again-3 : tie.Need-sifted-again-3 Inv-collected μ-collected Inv-allowed μ-allowed Inv-returned μ-returned Inv-found μ-found Inv-left μ-left Inv-restored μ-restored Inv-sifted μ-sifted Inv-records μ-records
-sifted-again-3 c = sifted.passed (from-Else9-to-At-sifted c .sifted .inv) (long-before (from-Else9-to-At-records c)) (from-Else9-to-In-sifted c .sifted-test .taken) _ (any-default (from-Else9-to-At-sifted c .sifted .window) (from-Else9-to-At-sifted c .sifted .z) _ noMessage (rw (from-Else9-to-At-sifted c .sifted .inv .windowed .long) (place-at (from-Else9-to-In-sifted c)))) (c .if9 .left)
+sifted-again-3 c = sifted.passed (from-Else6-to-At-sifted c .sifted .inv) (long-before (from-Else6-to-At-records c)) (from-Else6-to-In-sifted c .sifted-test .taken) _ (any-default (from-Else6-to-At-sifted c .sifted .window) (from-Else6-to-At-sifted c .sifted .z) _ noMessage (rw (from-Else6-to-At-sifted c .sifted .inv .windowed .long) (place-at (from-Else6-to-In-sifted c)))) (c .if6 .left)
 
 -- All are met: those left in the window are the ones that the model leaves.
 still : (c : After-sifted) → messagesIn (c .before .sifted .window) (c .before .sifted .first) (from-After-sifted-to-At-records c .records .tail) ≡ select (outlives (from-After-sifted-to-At-returned c .returned .members)) (underWay (whole (from-After-sifted-to-At-records c)))
@@ -2243,19 +2190,19 @@ recovery-state : (c : After-sifted) → perform (whole (from-After-sifted-to-At-
 unfolding stillOf
 recovery-state c =
     let at = from-After-sifted-to-At-records c in
-    recovered-state (whole at) (reach at) (event (from-After-sifted-to-After-decode c)) (from-After-sifted-to-After-recovery-of c .recovery-of .result .failed) (asked (from-After-sifted-to-Else5 c) .0) (asked (from-After-sifted-to-Else5 c) .1) _ (from-After-sifted-to-At-records c .records .deleted) (from-After-sifted-to-At-restored c .restored .deleted) (restores (c .before .before))
+    recovered-state (whole at) (reach at) (event (from-After-sifted-to-After-decode c)) (from-After-sifted-to-After-recovery-of c .recovery-of .result .failed) (asked (from-After-sifted-to-Else2 c) .0) (asked (from-After-sifted-to-Else2 c) .1) _ (from-After-sifted-to-At-records c .records .deleted) (from-After-sifted-to-At-restored c .restored .deleted) (restores (c .before .before))
     ∙ ap (λ (l : List Message). stateInPlace (from-After-sifted-to-Start c .args .s .count) (from-After-sifted-to-At-returned c .returned .vectors) (from-After-sifted-to-At-restored c .restored .pins) (from-After-sifted-to-At-restored c .restored .kept) (from-After-sifted-to-At-returned c .returned .sent) (from-After-sifted-to-At-restored c .restored .held) l (from-After-sifted-to-At-records c .records .last) (c .before .before .billed2 .result)) (sym (still c))
 
 print-requires-3 : tie.Need-print-requires-3 Inv-collected μ-collected Inv-allowed μ-allowed Inv-returned μ-returned Inv-found μ-found Inv-left μ-left Inv-restored μ-restored Inv-sifted μ-sifted Inv-records μ-records
 print-requires-3 c κs =
     let fits = said-fits (whole (from-After-print-arg6-to-At-records c)) (event (from-After-print-arg6-to-After-decode c)) _ _ (recovery-says (from-After-print-arg6-to-After-billed2 c)) in
-    (fits .0, omega (arith, fits .1, from-After-print-arg6-to-At-restored c .restored .inv .long, from-After-print-arg6-to-At-records c .records .inv .lent), omega (arith, few (from-After-print-arg6-to-Then3 c)), room (from-After-print-arg6-to-Then3 c))
+    (fits .0, omega (arith, fits .1, from-After-print-arg6-to-At-restored c .restored .inv .long, from-After-print-arg6-to-At-records c .records .inv .lent), omega (arith, takes (from-After-print-arg6-to-Then1 c) .few), takes (from-After-print-arg6-to-Then1 c) .room)
 
 records-again-3 : tie.Need-records-again-3 Inv-collected μ-collected Inv-allowed μ-allowed Inv-returned μ-returned Inv-found μ-found Inv-left μ-left Inv-restored μ-restored Inv-sifted μ-sifted Inv-records μ-records
 records-again-3 c =
-    one-more (from-After-slice-known7-to-At-records c .records .inv) (left (from-After-slice-known7-to-Then3 c)) (from-After-slice-known7-to-Then4 c .if4 .taken) (room (from-After-slice-known7-to-Then3 c)) (few (from-After-slice-known7-to-Then3 c)) (event (from-After-slice-known7-to-After-decode c)) (is-event (from-After-slice-known7-to-After-decode c))
+    one-more (from-After-slice-known7-to-At-records c .records .inv) (left (from-After-slice-known7-to-Then1 c)) (takes (from-After-slice-known7-to-Then1 c) .still) (takes (from-After-slice-known7-to-Then1 c) .room) (takes (from-After-slice-known7-to-Then1 c) .few) (event (from-After-slice-known7-to-After-decode c)) (is-event (from-After-slice-known7-to-After-decode c))
     (recovery-state (from-After-slice-known7-to-After-sifted c)) (recovery-says (from-After-slice-known7-to-After-billed2 c)) (from-After-slice-known7-to-At-restored c .restored .inv .long ∙ from-After-slice-known7-to-At-records c .records .inv .lent) (c .before .before .print3 .ensures .0) (c .before .before .print3 .ensures .1)
-    (c .before .before .print3 .kept .1 .1 .1 .0) (accepted-goes-on (from-After-slice-known7-to-Start c .args .all) refl (from-After-slice-known7-to-Then4 c .if4 .taken)) (from-After-slice-known7-to-At-sifted c .sifted .inv .windowed) (omega (arith, from-After-slice-known7-to-At-records c .records .inv .sends))
+    (c .before .before .print3 .kept .1 .1 .1 .0) (accepted-goes-on (from-After-slice-known7-to-Start c .args .all) refl (takes (from-After-slice-known7-to-Then1 c) .still)) (from-After-slice-known7-to-At-sifted c .sifted .inv .windowed) (omega (arith, from-After-slice-known7-to-At-records c .records .inv .sends))
 
 -- The start and the end of the block.
 same-begin : (c : After-no-checkpoint) → stateInPlace (from-After-no-checkpoint-to-Start c .args .s .count) (from-After-no-checkpoint-to-After-vector-rows c .vector-rows .result) (from-After-no-checkpoint-to-After-pin-rows c .pin-rows .result) (from-After-no-checkpoint-to-After-kept-rows c .kept-rows .result) (from-After-no-checkpoint-to-Start c .args .s .sent) (from-After-no-checkpoint-to-Start c .args .s .held) (messagesIn (c .before .opened .result) 0 64) (from-After-no-checkpoint-to-Start c .args .s .last) (from-After-no-checkpoint-to-Start c .args .s .disk) ≡ from-After-no-checkpoint-to-Start c .args .s
@@ -2267,30 +2214,15 @@ records-holds c =
     (drop 1 (now (from-After-no-message-to-Start c .args .trace))) (now (from-After-no-message-to-Start c .args .out)) (now (from-After-no-message-to-Start c .args .deleted)) (from-After-no-message-to-Start c .pre .2) (same-begin (c .before)) (from-After-no-message-to-Start c .args .all)
 
 -- Why the loop has stopped.
-stops : (c : Left-records) → Stops (from-Left-records-to-Start c .args .done) (length (drop 1 (now (from-Left-records-to-Start c .args .trace)))) (c .before .records .taken) (length (now (from-Left-records-to-Start c .args .out))) (c .before .records .written) (c .before .records .going)
+stops : (c : Else1) → Stops (from-Else1-to-Start c .args .done) (length (drop 1 (now (from-Else1-to-Start c .args .trace)))) (c .before .before .records .taken) (length (now (from-Else1-to-Start c .args .out))) (c .before .before .records .written) (c .before .before .records .going)
 stops c =
-    let l = c .before .records in
-    let block = length (drop 1 (now (from-Left-records-to-Start c .args .trace))) in
-    let done = from-Left-records-to-Start c .args .done in
-    let out = length (now (from-Left-records-to-Start c .args .out)) in
-    by-five (c .records-test .came)
-    (λ t. at-a-refusal done block (l .taken) out (l .written) (l .going) (t .5 .left))
-    (λ t. no-room done block (l .taken) out (l .written) (l .going) (l .inv .fits) (omega (arith, l .inv .long, leb-false longestLine (length (l .out) - l .written) (t .4 .left))))
-    (λ t. no-record done block (l .taken) out (l .written) (l .going) (left-none (now (from-Left-records-to-Start c .args .trace)) (l .taken) (sym (t .2 .ensures) ∙ t .3 .left)))
-    (λ t. at-limit done block (l .taken) out (l .written) (l .going) (l .inv .few) (ltb-false (done + l .taken) 1000000000 (t .1 .left)))
-    (λ t. no-place done block (l .taken) out (l .written) (l .going) (l .tail) (l .inv .sends) (t .left))
-  where
-    by-five : {A B C D E F : Type 0} → A ⊎ (B ⊎ (C ⊎ (D ⊎ E))) → (A → F) → (B → F) → (C → F) → (D → F) → (E → F) → F
-    by-five (inl a) f g h k m = f a
-    by-five (inr (inl b)) f g h k m = g b
-    by-five (inr (inr (inl x))) f g h k m = h x
-    by-five (inr (inr (inr (inl d)))) f g h k m = k d
-    by-five (inr (inr (inr (inr e)))) f g h k m = m e
+    let l = c .before .before .records in
+    stopped (l .tail) (from-Else1-to-Start c .args .done) (now (from-Else1-to-Start c .args .trace)) (l .taken) (length (now (from-Else1-to-Start c .args .out))) (l .written) (l .going) (l .inv .sends) (l .inv .few) (l .inv .long) (sym (c .before .takes-next .ensures) ∙ c .if1 .left)
 
 closed-requires : tie.Need-closed-requires Inv-collected μ-collected Inv-allowed μ-allowed Inv-returned μ-returned Inv-found μ-found Inv-left μ-left Inv-restored μ-restored Inv-sifted μ-sifted Inv-records μ-records
 closed-requires c κs =
-    let w = c .before .records .inv .windowed in
-    (omega (arith, w .from, w .least), w .most, windows.few w (whole (c .before)) (fine (c .before)) (sized (c .before)) (holds (c .before)) refl)
+    let w = c .before .before .records .inv .windowed in
+    (omega (arith, w .from, w .least), w .most, windows.few w (whole (c .before .before)) (fine (c .before .before)) (sized (c .before .before)) (holds (c .before .before)) refl)
 
 same-length-2 : tie.Need-same-length-2 Inv-collected μ-collected Inv-allowed μ-allowed Inv-returned μ-returned Inv-found μ-found Inv-left μ-left Inv-restored μ-restored Inv-sifted μ-sifted Inv-records μ-records
 same-length-2 c = from-After-kept-from-to-At-records c .records .inv .lent ∙ sym (from-After-kept-from-to-Start c .pre .2)
@@ -2299,7 +2231,7 @@ returns : tie.Need-returns Inv-collected μ-collected Inv-allowed μ-allowed Inv
 returns c =
     let l = from-After-kept-from-to-At-records c .records in
     let e = ends (same-begin (from-After-kept-from-to-After-no-checkpoint c)) (same-end (messagesIn (l .window) (l .first) (l .tail)) (c .before .before .vectors-from .ensures) (c .before .pins-from .ensures) (c .kept-from .ensures) (from-After-kept-from-to-After-closed c .closed .ensures) (l .inv .windowed .many)) (l .inv) in
-    (e .0, (e .1, stops (from-After-kept-from-to-Left-records c)))
+    (e .0, (e .1, stops (from-After-kept-from-to-Else1 c)))
 
 pub replay-beside-spec : {M : Type 1} → statement M
 replay-beside-spec =
@@ -2307,9 +2239,7 @@ replay-beside-spec =
     (tie.spec Inv-collected μ-collected Inv-allowed μ-allowed Inv-returned μ-returned Inv-found μ-found Inv-left μ-left Inv-restored μ-restored Inv-sifted μ-sifted Inv-records μ-records
     (λ c κs. search needs) (λ c κs. search needs) (λ c κs. search needs) (λ c κs. search needs) (λ c κs. search needs) (λ c κs. search needs)
     records-holds
-    add-if1
-    (λ c κs. search needs)
-    sub-if3
+    takes-next-requires
     (λ c κs. search needs) (λ c κs. search needs)
     add-taken
     add-number
