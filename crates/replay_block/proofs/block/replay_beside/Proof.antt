@@ -51,7 +51,6 @@ use Rattle.plans.proofs.Filled as filled
 use Rattle.plans.proofs.Facts.{square-most, held-places}
 use Rattle.plans.proofs.SoundFacts.{own-least}
 use Rattle.trace.specs.Answers.{eventRead, eventIn}
-use Rattle.listing.specs.Lines.{longestLine}
 use Rattle.listing.specs.Said.{Says}
 use Rattle.listing.specs.declared.Summary.{Summary}
 use Rattle.listing.specs.declared.Value.the-variants.{Number}

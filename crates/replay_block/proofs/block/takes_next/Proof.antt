@@ -1,6 +1,5 @@
 -- `replay_block::block::takes_next` meets its contract, test by test.
 -- Assumes nothing.
-use mathlib.Core.Path.{sym}
 use Prim.Native.Nat.{_+_}
 use native.Mathlib.Omega.{arith}
 use borrow.Author.Needs.{needs}
