@@ -24,13 +24,13 @@ pub record Sources (lists : Lists) (v : Vectors lists) : Type 0 where
       → (x : ℕ) × (j : ℕ) × (eventAt (lists p) j ≡ some (received x)) × (j < placeOf k (lists p)) × (v .vector p k f ≤ v .carried x f)
 
 -- Two events at one place are the same.
-sent-or-received : {o : Option HistoryEvent} (m x : ℕ) → o ≡ some (sent m) → o ≡ some (received x) → ⊥
+pub sent-or-received : {o : Option HistoryEvent} (m x : ℕ) → o ≡ some (sent m) → o ≡ some (received x) → ⊥
 sent-or-received m x d e = let z : _≡_ {A = ℕ} 0 1 = cc in omega arith
 
-sent-or-stored : {o : Option HistoryEvent} (m : ℕ) → o ≡ some (sent m) → o ≡ some stored → ⊥
+pub sent-or-stored : {o : Option HistoryEvent} (m : ℕ) → o ≡ some (sent m) → o ≡ some stored → ⊥
 sent-or-stored m d e = let z : _≡_ {A = ℕ} 0 1 = cc in omega arith
 
-received-or-stored : {o : Option HistoryEvent} (m : ℕ) → o ≡ some (received m) → o ≡ some stored → ⊥
+pub received-or-stored : {o : Option HistoryEvent} (m : ℕ) → o ≡ some (received m) → o ≡ some stored → ⊥
 received-or-stored m d e = let z : _≡_ {A = ℕ} 0 1 = cc in omega arith
 
 received-or-none : {o : Option HistoryEvent} (m : ℕ) → o ≡ some (received m) → o ≡ none → ⊥

@@ -10,9 +10,8 @@ use borrow.Author.Tests.{lt-ltb, le-ltb}
 use Rattle.model.specs.declared.Refusal.{Refusal}
 use Rattle.model.specs.Trace.{decoded}
 use Rattle.whole_runs.specs.Outcomes.{judged}
-use Rattle.patterns.specs.declared.Verdict.the-variants.{Refused, Trackable, Breaks}
 use Rattle.patterns.specs.Patterns.{Pattern, empty, recordRefusal, taken, Reading, refused, whole, mostJudged, readFrom, reading}
-use Rattle.patterns.specs.Verdicts.{countOf, RightVerdict, FirstRefusalEnds, LongTracesEnd}
+use Rattle.patterns.specs.Verdicts.{countOf, verdict, FirstRefusalEnds, LongTracesEnd}
 
 not-refused : {P : Type 0} (r : Refusal) (t : Pattern) → whole t ≡ refused r → P
 not-refused r t e = absurd (let z : _≡_ {A = ℕ} 0 1 = cc in omega arith)
@@ -52,7 +51,5 @@ same-count [] rest h = absurd (omega arith)
 same-count (n ∷ l) rest h = refl
 
 pub long-traces-end : LongTracesEnd
-unfolding RightVerdict
-long-traces-end front rest (Refused r) h e = same-reading front rest h ∙ e
-long-traces-end front rest Trackable h (t, e, w) = (t, same-reading front rest h ∙ e, rw (same-count front rest h) w)
-long-traces-end front rest (Breaks a α b β) h (t, e, w) = (t, same-reading front rest h ∙ e, rw (same-count front rest h) w)
+unfolding verdict
+long-traces-end front rest h = rw (same-count front rest h, same-reading front rest h)

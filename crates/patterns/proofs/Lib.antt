@@ -6,7 +6,13 @@ pub mod Adding
 pub mod Trail
 pub mod Facts
 pub mod Followed
+pub mod Sequences
+pub mod Tested
+pub mod Searched
+pub mod Numbers
 pub mod Only
+pub mod Right
+pub mod Cases
 pub mod Ends
 pub mod Surviving
 pub mod Histories
