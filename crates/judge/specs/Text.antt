@@ -1,14 +1,18 @@
--- The line of a verdict: `trackable`, `breaks P:K Q:X` or `refused R`, decimal, with a line feed; and what it is to tell the verdict on a trace.
+-- The line of a verdict, by its number and its pair: `refused R`, `trackable` or `breaks P:K Q:X`, decimal, with a line feed; and what it is to tell the verdict on
+-- a trace.
 -- Assumes nothing.
 use mathlib.Core.Path.{_≡_}
 use mathlib.Core.List.{List, [], _∷_, _++_}
+use mathlib.Core.Option.{Option, none, some}
 use Prim.Native.Nat.{ℕ, _<_}
+use lib.Dec.{eqb}
+use Rattle.laws.specs.Choice.{pick}
 use Rattle.whole_runs.specs.Listing.{lineFeed}
 use Rattle.listing.specs.Lines.{pairText}
-use Rattle.programs.specs.Texts.{refusedText}
+use Rattle.programs.specs.Texts.{figureText, refusedName}
 use Rattle.patterns.specs.declared.Verdict.{Verdict}
 use Rattle.patterns.specs.declared.Verdict.the-variants.{Refused, Trackable, Breaks}
-use Rattle.patterns.specs.Verdicts.{RightVerdict}
+use Rattle.patterns.specs.Verdicts.{Pair, JudgeReport, judgeReport, verdict}
 
 -- "trackable" and "breaks", byte by byte.
 abbrev pub trackableWord : List ℕ
@@ -17,10 +21,17 @@ trackableWord = 116 ∷ 114 ∷ 97 ∷ 99 ∷ 107 ∷ 97 ∷ 98 ∷ 108 ∷ 101 
 abbrev pub breaksWord : List ℕ
 breaksWord = 98 ∷ 114 ∷ 101 ∷ 97 ∷ 107 ∷ 115 ∷ []
 
+-- What is said of a trace that is not refused: the pair that breaks it, if there is one.
+unfoldable pub breaksText : Option Pair → List ℕ
+breaksText none = trackableWord ++ (lineFeed ∷ [])
+breaksText (some w) = breaksWord ++ (pairText (w .near) (w .near-index) ++ (pairText (w .far) (w .far-index) ++ (lineFeed ∷ [])))
+
+-- The number, where it is not 0.
+unfoldable pub reportText : JudgeReport → List ℕ
+reportText r = pick (eqb (r .refused) 0) (breaksText (r .pair)) (figureText refusedName (r .refused))
+
 unfoldable pub verdictText : Verdict → List ℕ
-verdictText (Refused why) = refusedText why
-verdictText Trackable = trackableWord ++ (lineFeed ∷ [])
-verdictText (Breaks p k q x) = breaksWord ++ (pairText p (k .0) ++ (pairText q (x .0) ++ (lineFeed ∷ [])))
+verdictText v = reportText (judgeReport v)
 
 -- The processes of a pair are among 16.
 unfoldable pub Small : Verdict → Type 0
@@ -32,6 +43,6 @@ Small (Breaks p k q x) = (p < 16) × (q < 16)
 abbrev pub longestVerdict : ℕ
 longestVerdict = 96
 
--- The line tells the verdict on this trace: there is one that is right, and no other (patterns: `one-verdict`).
+-- The line tells the verdict on this trace.
 abbrev pub Told : List ℕ → List ℕ → Type 0
-Told trace line = (v : Verdict) × RightVerdict trace v × (line ≡ verdictText v)
+Told trace line = line ≡ verdictText (verdict trace)

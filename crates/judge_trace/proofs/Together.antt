@@ -28,7 +28,8 @@ use Rattle.reader.specs.Reading.{recordAfter, recordLeft}
 use Rattle.patterns.specs.declared.Verdict.{Verdict}
 use Rattle.patterns.specs.declared.Verdict.the-variants.{Refused, Trackable, Breaks}
 use Rattle.patterns.specs.Patterns.{Pattern, empty, recordRefusal, taken, refused, whole, readFrom, reading}
-use Rattle.patterns.specs.Verdicts.{countOf, RightVerdict}
+use Rattle.patterns.specs.Verdicts.{countOf, verdictOn, verdict, RightVerdict}
+use Rattle.patterns.proofs.Right.{is-verdict}
 use Rattle.patterns.proofs.Facts.{begin}
 use Rattle.patterns.proofs.Trail.{Trail, Right}
 use Rattle.decision.specs.Held.{Held, Judges, Says}
@@ -185,13 +186,13 @@ unfolding Judges
 judges-says n rows last vectors process from to v h = h
 
 -- The verdicts on a trace, in the order of the refusals.
-pub no-byte : (trace : List ℕ) → length trace ≡ 0 → RightVerdict trace (Refused NoFirstByte)
-unfolding RightVerdict reading
+pub no-byte : (trace : List ℕ) → length trace ≡ 0 → Refused NoFirstByte ≡ verdict trace
+unfolding verdict verdictOn reading
 no-byte [] h = refl
 no-byte (a ∷ l) h = absurd (omega arith)
 
-pub bad-count : (trace : List ℕ) → 1 ≤ length trace → (countOf trace < 1) ⊎ (16 < countOf trace) → RightVerdict trace (Refused CountOutsideRange)
-unfolding RightVerdict reading countOf startRefusal firstOf
+pub bad-count : (trace : List ℕ) → 1 ≤ length trace → (countOf trace < 1) ⊎ (16 < countOf trace) → Refused CountOutsideRange ≡ verdict trace
+unfolding verdict verdictOn reading countOf startRefusal firstOf
 bad-count [] h c = absurd (omega arith)
 bad-count (a ∷ l) h (inl low) = rw (lt-leb 1 a low)
 bad-count (a ∷ l) h (inr high) = rw (le-leb 1 a (omega arith), lt-leb a 16 high)
@@ -205,8 +206,8 @@ count-good a h g = start-in a ones h g (λ p lp. one-fits (getD ones p 0) (getD-
 one-less : (a : ℕ) (l : List ℕ) → length (a ∷ l) - 1 ≡ length l
 one-less a l = omega arith
 
-pub too-many : (trace : List ℕ) → 1 ≤ length trace → 1 ≤ countOf trace → countOf trace ≤ 16 → 4096 < (length trace - 1) / 4 → RightVerdict trace (Refused TooManyRecords)
-unfolding RightVerdict reading countOf
+pub too-many : (trace : List ℕ) → 1 ≤ length trace → 1 ≤ countOf trace → countOf trace ≤ 16 → 4096 < (length trace - 1) / 4 → Refused TooManyRecords ≡ verdict trace
+unfolding verdict verdictOn reading countOf
 too-many [] h = absurd (omega arith)
 too-many (a ∷ l) h = λ low high many. rw (count-good a low high, lt-ltb 4096 (length l / 4) (rw (one-less a l) at many))
 
@@ -216,9 +217,9 @@ read-on [] h = absurd (omega arith)
 read-on (a ∷ l) h = λ low high few. rw (count-good a low high, le-ltb 4096 (length l / 4) (rw (one-less a l) at few))
 
 module _ (trace : List ℕ) (some-byte : 1 ≤ length trace) (low : 1 ≤ countOf trace) (high : countOf trace ≤ 16) (few : (length trace - 1) / 4 ≤ 4096) where
-  pub right-refused : (why : Refusal) → readFrom (countOf trace) empty (drop 1 trace) ≡ refused why → RightVerdict trace (Refused why)
-  unfolding RightVerdict
-  right-refused why e = read-on trace some-byte low high few ∙ e
+  pub right-refused : (why : Refusal) → readFrom (countOf trace) empty (drop 1 trace) ≡ refused why → Refused why ≡ verdict trace
+  unfolding verdict verdictOn
+  right-refused why e = ap (verdictOn (countOf trace)) (sym (read-on trace some-byte low high few ∙ e))
 
   right-whole : (t : Pattern) (lists : Lists) (v : Verdict) → readFrom (countOf trace) empty (drop 1 trace) ≡ whole t → t .lists ≡ lists → Says (countOf trace) lists v → RightVerdict trace v
   unfolding RightVerdict Says
@@ -231,8 +232,9 @@ says-moved n k lists v c h = rw c at h
 
 pub right-taken : (trace : List ℕ) (n : ℕ) → n ≡ countOf trace → 1 ≤ length trace → 1 ≤ countOf trace → countOf trace ≤ 16 → (length trace - 1) / 4 ≤ 4096
     → (r : Step) (T : Tables) (v : Verdict) → ReadsAll n trace r T → r .answer ≡ answers.Taken
-    → Judges n (r .next .rows) (r .next .last) (T .vectors) (T .process) (T .from) (T .to) v → RightVerdict trace v
+    → Judges n (r .next .rows) (r .next .last) (T .vectors) (T .process) (T .from) (T .to) v → v ≡ verdict trace
 right-taken trace n c some-byte low high few r T v h e j =
     let w = all-taken n trace r T h e in
-    right-whole trace some-byte low high few (w .1) (w .2 .lists) v (ap (λ (k : ℕ). readFrom k empty (drop 1 trace)) (sym c) ∙ w .4) (w .3 .lists)
-    (says-moved n (countOf trace) (w .2 .lists) v c (judges-says n (r .next .rows) (r .next .last) (T .vectors) (T .process) (T .from) (T .to) v j (w .2) (w .3 .right) (w .3 .held)))
+    is-verdict trace v
+    (right-whole trace some-byte low high few (w .1) (w .2 .lists) v (ap (λ (k : ℕ). readFrom k empty (drop 1 trace)) (sym c) ∙ w .4) (w .3 .lists)
+    (says-moved n (countOf trace) (w .2 .lists) v c (judges-says n (r .next .rows) (r .next .last) (T .vectors) (T .process) (T .from) (T .to) v j (w .2) (w .3 .right) (w .3 .held))))

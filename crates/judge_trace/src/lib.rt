@@ -7,7 +7,7 @@ use model::Refusal;
 use patterns::Verdict;
 use reading::Taking;
 ghost use mathlib.Core.Path.{_≡_};
-ghost use Rattle.patterns.specs.Verdicts.{RightVerdict};
+ghost use Rattle.patterns.specs.Verdicts.{verdict};
 ghost use Rattle.judge_trace.specs.Kept.{tables, Sized};
 
 fn wide(byte: u8) -> usize
@@ -27,7 +27,7 @@ fn judge_beside(
     to: &mut [u16],
 ) -> Verdict
     requires { ⌜ Sized (tables (now vectors) (now process) (now carried) (now passing) (now from) (now to)) ⌝ }
-    ensures { λ r. ⌜ RightVerdict (now (trace .entry)) r ⌝ }
+    ensures { λ r. ⌜ r ≡ verdict (now (trace .entry)) ⌝ }
 {
     let size = trace.len();
     if size == 0 {
@@ -59,7 +59,7 @@ fn judge_beside(
 
 // What a trace of another run-time is judged to be: refused with a number, trackable, or the first pair of states that breaks it.
 pub fn judge(trace: &[u8]) -> Verdict
-    ensures { λ r. ⌜ RightVerdict (now (trace .entry)) r ⌝ }
+    ensures { λ r. ⌜ r ≡ verdict (now (trace .entry)) ⌝ }
 {
     let mut vectors = [0u16; 65792];
     let mut process = [0u16; 4112];

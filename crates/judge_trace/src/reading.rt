@@ -236,15 +236,17 @@ fn read_lose(passing: &mut [u16], s: Progress, m: u32) -> Step
     take(left)
 }
 
-// The receiver's live row takes in what the message in this place carries.
+// The receiver's live row takes in what the message in this place carries, entry by entry as every delivery does (Note 3). No line of the judge tells the set of the
+// entries that rose, so it is left.
 fn put_receipt(vectors: &mut [u16], carried: &[u16], row: usize, place: usize)
     requires { ⌜ (16 * row + 16 ≤ length (now vectors)) × (16 * place + 16 ≤ length (now carried)) ⌝ }
     ensures { λ _. ⌜ now (vectors .exit) ≡ receiptVectors (now (vectors .entry)) row (rowOf (now (carried .entry)) place) ⌝ }
 {
     let own = decision::flat::row_at(vectors, row);
     let news = decision::flat::row_at(carried, place);
-    let most = rows::vector::greatest(own, news);
-    decision::flat::put_row(vectors, row, most);
+    let taken = rows::vector::take_in(own, news);
+    let vector = taken.vector;
+    decision::flat::put_row(vectors, row, vector);
 }
 
 fn read_deliver(

@@ -1,8 +1,7 @@
 -- `judge::text::write_verdict` meets its contract, by the verdict.
 -- Assumes nothing.
 use borrow.Author.Needs.{needs}
-use Rattle.judge.specs.Text.{verdictText}
-use Rattle.judge.proofs.Lengths.{small-pair}
+use Rattle.judge.proofs.Lengths.{small-pair, printed-refused, printed-trackable}
 use Rattle.judge.proofs.text.write_verdict.Statement.{statement}
 use Rattle.judge.proofs.text.write_verdict.Tie as tie
 
@@ -10,12 +9,10 @@ write-breaks-requires : tie.Need-write-breaks-requires
 write-breaks-requires c κs = let st = c .before .before .before .before .before in let s = small-pair _ _ _ _ _ (c .before .before .verdict2 .given .1) (st .pre .1) in (st .pre .0, s .0, s .1)
 
 returns : tie.Need-returns
-unfolding verdictText
-returns c = rw (c .before .before .before .before .before .verdict .given .1) (c .before .before .write-refused .ensures .0)
+returns c = rw (c .before .before .before .before .before .verdict .given .1) (printed-refused _ (c .before .before .write-refused .ensures .0))
 
 returns-2 : tie.Need-returns-2
-unfolding verdictText
-returns-2 c = rw (c .before .before .before .before .before .enum-told .given .1) (c .before .before .write-word .ensures)
+returns-2 c = rw (c .before .before .before .before .before .enum-told .given .1) (printed-trackable (c .before .before .write-word .ensures))
 
 returns-3 : tie.Need-returns-3
 returns-3 c = rw (c .before .before .before .before .before .verdict2 .given .1) (c .before .before .write-breaks .ensures)
