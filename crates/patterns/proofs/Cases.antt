@@ -12,10 +12,10 @@ use Rattle.histories.specs.History.{checkpoints}
 use Rattle.whole_runs.specs.Survival.{added}
 use Rattle.patterns.specs.Patterns.{empty, recordRefusal, taken, readFrom, reading}
 use Rattle.patterns.specs.Paths.{eventAt, interval}
-use Rattle.patterns.specs.Judging.{isSend, isReceipt, sentWhere, receivedWhere, sentAfter, sentOnward, sentLater, receivedBefore, isLast, connects, hasZigzag, comesBefore, isBreaking, firstOfAll, firstPair}
+use Rattle.patterns.specs.Judging.{isSend, isReceipt, sentWhere, receivedWhere, sentAfter, sentOnward, sentLater, receivedBefore, isLast, connects, hasZigzag, isBefore, isBreaking, firstOfAll, firstPair}
 use Rattle.patterns.specs.Verdicts.{countOf, verdictOn, verdict, judgeReport}
 use Rattle.patterns.specs.Cases.{samePair, caseRight, judgeCases, casesRight}
 
 pub cases-right : casesRight ≡ true
-unfolding anyBelow countBelow every upd isBlockCount number firstOf startRefusal word fields ifZero eventOf decoded checkpoints added empty recordRefusal taken readFrom reading eventAt interval isSend isReceipt sentWhere receivedWhere sentAfter sentOnward sentLater receivedBefore isLast connects hasZigzag comesBefore isBreaking firstOfAll firstPair countOf verdictOn verdict judgeReport samePair caseRight judgeCases casesRight
+unfolding anyBelow countBelow every upd isBlockCount number firstOf startRefusal word fields ifZero eventOf decoded checkpoints added empty recordRefusal taken readFrom reading eventAt interval isSend isReceipt sentWhere receivedWhere sentAfter sentOnward sentLater receivedBefore isLast connects hasZigzag isBefore isBreaking firstOfAll firstPair countOf verdictOn verdict judgeReport samePair caseRight judgeCases casesRight
 cases-right = refl

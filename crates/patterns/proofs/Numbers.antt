@@ -1,17 +1,17 @@
 -- A trace that is read to its end leaves a pattern whose processes are among n and whose messages have the numbers 1 to the number of sends.
 -- Assumes nothing.
 use mathlib.Core.Path.{_≡_, refl, sym, _∙_, ap}
-use mathlib.Core.Bool.{Bool, true, false, _||_, not, false≢true}
-use mathlib.Core.Logic.{_⊎_, inl, inr}
+use mathlib.Core.Bool.{Bool, true, false, not, false≢true}
+use mathlib.Core.Logic.{inl, inr}
 use mathlib.Core.List.{List, [], _∷_}
 use mathlib.Core.Option.{Option, none, some}
 use Prim.Native.Nat.{ℕ, zero, suc, _+_, _/_, _<_}
 use native.Mathlib.Omega.{arith}
-use lib.Dec.{eqb, ltb, leb}
+use lib.Dec.{ltb, leb}
 use lib.ListN.{length}
 use borrow.Author.Tests.{leb-false}
 use Rattle.laws.specs.Choice.{by-bool, by-eq}
-use Rattle.laws.specs.Truth.{never-both, or-none}
+use Rattle.laws.specs.Truth.{or-none}
 use Rattle.laws.specs.Update.{upd, upd-same, upd-other}
 use Rattle.model.specs.declared.Event.{Event}
 use Rattle.model.specs.declared.Event.the-variants.{Checkpoint, Send, Deliver, Lose, Recover}
@@ -20,7 +20,7 @@ use Rattle.model.specs.Words.{ones}
 use Rattle.model.specs.Refusals.{startRefusal}
 use Rattle.model.specs.laws.Refusals.{no-rule, by-refusal}
 use Rattle.model.specs.Trace.{decoded}
-use Rattle.histories.specs.History.{HistoryEvent, stored, sent, received, Lists}
+use Rattle.histories.specs.History.{HistoryEvent, stored, sent, received}
 use Rattle.patterns.specs.Paths.{eventAt}
 use Rattle.patterns.specs.Patterns.{Pattern, empty, recordRefusal, taken, refused, whole, mostJudged, readFrom, reading}
 use Rattle.patterns.proofs.Adding.{event-cases}

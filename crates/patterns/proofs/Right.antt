@@ -1,13 +1,10 @@
 -- The verdict on a trace is right, and it is the only one that is.
 -- Assumes nothing.
-use mathlib.Core.Path.{_≡_, refl, sym, ap}
+use mathlib.Core.Path.{_≡_, refl, sym}
 use mathlib.Core.List.{List, [], _∷_}
-use mathlib.Core.Option.{none, some}
 use Prim.Native.Nat.{ℕ}
 use native.Mathlib.Omega.{arith}
-use Rattle.model.specs.declared.Refusal.{Refusal}
 use Rattle.patterns.specs.declared.Verdict.{Verdict}
-use Rattle.patterns.specs.declared.Verdict.the-variants.{Breaks}
 use Rattle.patterns.specs.Patterns.{Pattern, Reading, refused, whole, reading}
 use Rattle.patterns.specs.Judging.{firstPair}
 use Rattle.patterns.specs.Verdicts.{countOf, verdictOn, verdict, RightVerdict, VerdictsAreRight}

@@ -1,18 +1,18 @@
 -- The search of specs/Judging finds the first pair that breaks a pattern, and none exactly where the pattern is trackable.
 -- Assumes nothing.
-use mathlib.Core.Path.{_≡_, refl, sym, _∙_, ap}
-use mathlib.Core.Bool.{Bool, true, false, _&&_, not, false≢true}
+use mathlib.Core.Path.{_≡_, refl, sym, _∙_}
+use mathlib.Core.Bool.{Bool, true, false, not, false≢true}
 use mathlib.Core.Logic.{inl, inr}
 use mathlib.Core.Option.{Option, none, some}
 use Prim.Native.Nat.{ℕ, zero, suc, _≤_, _<_}
 use native.Mathlib.Omega.{arith}
 use Rattle.laws.specs.Choice.{pick, by-bool, by-eq}
-use Rattle.laws.specs.Truth.{never-both, and-out, and-both}
+use Rattle.laws.specs.Truth.{never-both, and-out}
 use Rattle.histories.specs.History.{Lists, checkpoints}
 use Rattle.patterns.specs.declared.Verdict.{Verdict}
 use Rattle.patterns.specs.declared.Verdict.the-variants.{Breaks}
 use Rattle.patterns.specs.Paths.{Breaking, Trackable, Earlier, FirstBreaking}
-use Rattle.patterns.specs.Judging.{hasZigzag, comesBefore, isBreaking, orNext, firstOfAll, firstPair}
+use Rattle.patterns.specs.Judging.{hasZigzag, isBefore, isBreaking, firstOfAll, firstPair}
 use Rattle.patterns.proofs.Tested.{Numbered, zigzag-out, zigzag-in, before-out, before-in}
 
 -- The first that is there.
@@ -43,7 +43,7 @@ module _ (n sends : ℕ) (lists : Lists) (w : Numbered n sends lists) where
   is-breaking : (a α b β : ℕ) → Breaking n lists a α b β → isBreaking n sends lists a α b β ≡ true
   unfolding isBreaking
   is-breaking a α b β k =
-      let no : comesBefore n sends lists a α b β ≡ false = by-bool (comesBefore n sends lists a α b β)
+      let no : isBefore n sends lists a α b β ≡ false = by-bool (isBefore n sends lists a α b β)
       (λ e. absurd (k .unordered (before-out n sends lists w a α (k .near-stored) b β (k .far-there) e)))
       (λ e. e) in
       rw (zigzag-in n sends lists w a α b β (k .path), no)
@@ -51,14 +51,14 @@ module _ (n sends : ℕ) (lists : Lists) (w : Numbered n sends lists) where
   breaking-is : (a α b β : ℕ) → a < n → α < checkpoints (lists a) → b < n → β ≤ checkpoints (lists b) → isBreaking n sends lists a α b β ≡ true → Breaking n lists a α b β
   unfolding isBreaking
   breaking-is a α b β ha hα hb hβ e =
-      let d = and-out (hasZigzag n sends lists a α b β) (not (comesBefore n sends lists a α b β)) e in
+      let d = and-out (hasZigzag n sends lists a α b β) (not (isBefore n sends lists a α b β)) e in
       record {
         near = ha;
         near-stored = hα;
         far = hb;
         far-there = hβ;
         path = zigzag-out n sends lists w a α b β (d .0);
-        unordered = λ o. not-so (comesBefore n sends lists a α b β) (d .1) (before-in n sends lists w a α hα b β o);
+        unordered = λ o. not-so (isBefore n sends lists a α b β) (d .1) (before-in n sends lists w a α hα b β o);
       }
     where
       not-so : (c : Bool) → not c ≡ true → c ≡ true → ⊥
@@ -100,7 +100,7 @@ module _ (n sends : ℕ) (lists : Lists) (w : Numbered n sends lists) where
   -- Nothing is found: every zigzag path goes with causal precedence.
   pub no-pair : firstPair n sends lists ≡ none → Trackable n lists
   unfolding Trackable
-  no-pair e a α b β ha hα hb hβ z = by-bool (comesBefore n sends lists a α b β)
+  no-pair e a α b β ha hα hb hβ z = by-bool (isBefore n sends lists a α b β)
       (λ q. before-out n sends lists w a α hα b β hβ q)
       (λ q. absurd (none-at-all a α b β (record {
         near = ha;
@@ -108,7 +108,7 @@ module _ (n sends : ℕ) (lists : Lists) (w : Numbered n sends lists) where
         far = hb;
         far-there = hβ;
         path = z;
-        unordered = λ o. never-both (comesBefore n sends lists a α b β) (before-in n sends lists w a α hα b β o) q;
+        unordered = λ o. never-both (isBefore n sends lists a α b β) (before-in n sends lists w a α hα b β o) q;
       }) e))
 
   found : {x y : Verdict} {b : Bool} → pick b (some x) none ≡ some y → (b ≡ true) × (x ≡ y)
@@ -132,11 +132,17 @@ module _ (n sends : ℕ) (lists : Lists) (w : Numbered n sends lists) where
       let b = r .0 in
       let s = first-out (suc (checkpoints (lists b))) (λ β. at a α b β) v (r .2) in
       let β = s .0 in
-      let t = found (s .2) in
-      (a, α, b, β, t .1, record {
-        breaks = breaking-is a α b β (p .1) (q .1) (r .1) (omega (arith, s .1)) (t .0);
-        first = earliest a α b β (p .3) (q .3) (r .3) (s .3);
-      })
+      let t = found (s .2) in (
+        a,
+        α,
+        b,
+        β,
+        t .1,
+        record {
+          breaks = breaking-is a α b β (p .1) (q .1) (r .1) (omega (arith, s .1)) (t .0);
+          first = earliest a α b β (p .3) (q .3) (r .3) (s .3);
+        },
+      )
     where
       earliest : (a α b β : ℕ) → ((x : ℕ) → x < a → near-at x ≡ none) → ((x : ℕ) → x < α → far a x ≡ none) → ((x : ℕ) → x < b → far-at a α x ≡ none)
           → ((x : ℕ) → x < β → at a α b x ≡ none) → (a' α' b' β' : ℕ) → Breaking n lists a' α' b' β' → Earlier a' α' b' β' a α b β → ⊥

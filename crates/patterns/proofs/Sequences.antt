@@ -2,12 +2,12 @@
 -- length, and there are no more last messages than numbers.
 -- Assumes nothing.
 use mathlib.Core.Path.{_≡_, sym}
-use mathlib.Core.Bool.{Bool, true, false, _&&_, _||_, not, false≢true}
+use mathlib.Core.Bool.{Bool, true, false, _&&_, not, false≢true}
 use mathlib.Core.Logic.{_⊎_, inl, inr}
-use Prim.Native.Nat.{ℕ, zero, suc, _≤_, _<_}
+use Prim.Native.Nat.{ℕ, zero, suc, _<_}
 use native.Mathlib.Omega.{arith}
 use Rattle.laws.specs.Choice.{by-bool}
-use Rattle.laws.specs.Truth.{never-both, and-out, and-both, or-left, or-in-right, or-right}
+use Rattle.laws.specs.Truth.{and-out, and-both, or-left, or-in-right, or-right}
 use Rattle.laws.specs.Search.{anyBelow, any-out, any-in, any-none}
 use Rattle.laws.specs.Tests.{countBelow}
 use Rattle.laws.specs.Counting.{count-le, count-some, count-split}

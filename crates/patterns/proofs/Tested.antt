@@ -1,7 +1,7 @@
 -- The tests of specs/Judging find exactly what specs/Paths defines: zigzag paths and causal precedence.
 -- Assumes nothing.
-use mathlib.Core.Path.{_≡_, refl, sym, _∙_, ap}
-use mathlib.Core.Bool.{Bool, true, false, _&&_, _||_, not, false≢true}
+use mathlib.Core.Path.{_≡_, refl, sym, ap}
+use mathlib.Core.Bool.{Bool, true, _&&_, false≢true}
 use mathlib.Core.Logic.{_⊎_, inl, inr}
 use mathlib.Core.List.{List}
 use mathlib.Core.Option.{Option, none, some}
@@ -12,10 +12,10 @@ use lib.ListN.{length}
 use borrow.Author.Tests.{eq-eqb, eqb-true, lt-ltb, ltb-true, ltb-false, le-leb, leb-true}
 use Rattle.laws.specs.Choice.{by-bool, by-eq}
 use Rattle.laws.specs.Truth.{and-out, and-both, or-left, or-in-right, or-right}
-use Rattle.laws.specs.Search.{anyBelow, any-out, any-in}
+use Rattle.laws.specs.Search.{any-out, any-in}
 use Rattle.histories.specs.History.{HistoryEvent, stored, sent, received, Lists, checkpoints}
 use Rattle.patterns.specs.Paths.{eventAt, interval, placeOf, Path, one, onward, Zigzag, Precedes, next, message, through, Before}
-use Rattle.patterns.specs.Judging.{isSend, isReceipt, sentWhere, receivedWhere, sentAfter, sentOnward, sentLater, receivedBefore, isLast, connects, hasZigzag, comesBefore}
+use Rattle.patterns.specs.Judging.{isSend, isReceipt, sentWhere, receivedWhere, sentAfter, sentOnward, sentLater, receivedBefore, isLast, connects, hasZigzag, isBefore}
 use Rattle.patterns.proofs.Placing.{stands-at, interval-before, interval-behind, place-stored, place-le, place-end, place-rises, place-in, along}
 use Rattle.patterns.proofs.Causal.{sent-or-received, sent-or-stored, received-or-stored}
 use Rattle.patterns.proofs.Sequences.{last-none, last-out, begun, closed}
@@ -172,13 +172,14 @@ module _ (n sends : ℕ) (lists : Lists) (w : Numbered n sends lists) where
         (m, r .0, begun (suc sends) (sentAfter lists a α) (sentOnward n lists) m (w .received-by b (r .0) m (r .1) .1) (after-in m (s .0) (s .1) (omega (arith, lt, s .2))), r .1, r .2)
     by-path (onward {c = c} {h = h} {b = b} {g = g} {j = j} {m = m} p s le r) =
         let u = by-path p in
-        let x = u .0 in
-        (m,
-        r .0,
-        closed (suc sends) (sentAfter lists a α) (sentOnward n lists) x m (w .received-by c (u .1) x (u .3) .1) (w .received-by b (r .0) m (r .1) .1) (u .2)
-        (onward-in x m c (u .1) (s .0) (u .3) (s .1) (omega (arith, le, u .4, s .2))),
-        r .1,
-        r .2)
+        let x = u .0 in (
+          m,
+          r .0,
+          closed (suc sends) (sentAfter lists a α) (sentOnward n lists) x m (w .received-by c (u .1) x (u .3) .1) (w .received-by b (r .0) m (r .1) .1) (u .2)
+              (onward-in x m c (u .1) (s .0) (u .3) (s .1) (omega (arith, le, u .4, s .2))),
+          r .1,
+          r .2,
+        )
 
     pub zigzag-out : (b β : ℕ) → hasZigzag n sends lists a α b β ≡ true → Zigzag lists a α b β
     unfolding hasZigzag
@@ -213,8 +214,8 @@ module _ (n sends : ℕ) (lists : Lists) (w : Numbered n sends lists) where
     ]
 
     module _ (near : α < checkpoints (lists a)) where
-      pub before-out : (b β : ℕ) → β ≤ checkpoints (lists b) → comesBefore n sends lists a α b β ≡ true → Before lists a α b β
-      unfolding comesBefore
+      pub before-out : (b β : ℕ) → β ≤ checkpoints (lists b) → isBefore n sends lists a α b β ≡ true → Before lists a α b β
+      unfolding isBefore
       before-out b β far e = by-bool (eqb a b && ltb α β)
           (λ q.
           let d = and-out (eqb a b) (ltb α β) q in
@@ -260,14 +261,14 @@ module _ (n sends : ℕ) (lists : Lists) (w : Numbered n sends lists) where
       onto q j r k (message {m = m} d e) h = inr (m, k, e, omega arith, carries q j m d h)
       onto q j r k (through {q = t} {j = u} x y) h = onto t u r k y (has t u (onto q j t u x h))
 
-      told : (b β : ℕ) → Knows b (placeOf β (lists b)) → comesBefore n sends lists a α b β ≡ true
-      unfolding Knows comesBefore
+      told : (b β : ℕ) → Knows b (placeOf β (lists b)) → isBefore n sends lists a α b β ≡ true
+      unfolding Knows isBefore
       told b β (inl (e, lt)) =
           let later : placeOf α (lists a) < placeOf β (lists a) = omega (arith, lt, ap (λ (q : ℕ). placeOf β (lists q)) e) in
           let above : α < β = omega (arith, interval-behind (lists a) (placeOf β (lists a)) α near later, interval-before (lists a) (placeOf β (lists a)) β (omega arith)) in
           or-left (eqb a b && ltb α β) _ (and-both (eqb a b) (ltb α β) (eq-eqb a b (sym e)) (lt-ltb α β above))
       told b β (inr (m, i, r, le, c)) = or-in-right (eqb a b && ltb α β) _ (ends-in b β (sentLater n lists) m i c r (interval-before (lists b) i β le))
 
-      pub before-in : (b β : ℕ) → Before lists a α b β → comesBefore n sends lists a α b β ≡ true
+      pub before-in : (b β : ℕ) → Before lists a α b β → isBefore n sends lists a α b β ≡ true
       unfolding Has
       before-in b β p = told b β (onto a (placeOf α (lists a)) b (placeOf β (lists b)) p (inl (refl, omega arith)))

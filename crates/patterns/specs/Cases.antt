@@ -7,7 +7,7 @@ use Prim.Native.Nat.{ℕ}
 use lib.Dec.{eqb}
 use lib.ListN.{replicate}
 use Rattle.laws.specs.Tests.{every}
-use Rattle.patterns.specs.Verdicts.{Pair, JudgeReport, judgeReport, verdict}
+use Rattle.patterns.specs.Verdicts.{Pair, judgeReport, verdict}
 
 -- A trace, the number that it meets, 0 for none, and the pair that breaks it, if one does.
 pub record JudgeCase : Type 0 where

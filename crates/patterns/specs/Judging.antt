@@ -1,7 +1,7 @@
 -- Document 02, Note 7: the search for the first pair that breaks a pattern, by tests that follow the words of source document 001. What each test finds is
 -- what Paths defines, no more and no less (proofs/Tested, proofs/Searched).
 -- Assumes nothing.
-use mathlib.Core.Bool.{Bool, true, false, _&&_, _||_, not}
+use mathlib.Core.Bool.{Bool, false, _&&_, _||_, not}
 use mathlib.Core.List.{List}
 use mathlib.Core.Option.{Option, none, some}
 use Prim.Native.Nat.{ℕ, zero, suc}
@@ -69,12 +69,12 @@ module _ (n sends : ℕ) (lists : Lists) (a α b β : ℕ) where
   hasZigzag = connects (sentOnward n lists)
 
   -- Definition 1, of states: causal precedence, within one process or by a causal path.
-  unfoldable pub comesBefore : Bool
-  comesBefore = (eqb a b && ltb α β) || connects (sentLater n lists)
+  unfoldable pub isBefore : Bool
+  isBefore = (eqb a b && ltb α β) || connects (sentLater n lists)
 
   -- The pair breaks the rule.
   unfoldable pub isBreaking : Bool
-  isBreaking = hasZigzag && not comesBefore
+  isBreaking = hasZigzag && not isBefore
 
 -- The first of two that may be there.
 abbrev pub orNext : {A : Type 0} → Option A → Option A → Option A
@@ -90,6 +90,5 @@ firstOfAll (suc n) f = orNext (firstOfAll n f) (f n)
 -- checkpoints; "live end states count as far ends".
 unfoldable pub firstPair : ℕ → ℕ → Lists → Option Verdict
 firstPair n sends lists =
-    firstOfAll n (λ a. firstOfAll (checkpoints (lists a)) (λ α.
-    firstOfAll n (λ b. firstOfAll (suc (checkpoints (lists b))) (λ β.
+    firstOfAll n (λ a. firstOfAll (checkpoints (lists a)) (λ α. firstOfAll n (λ b. firstOfAll (suc (checkpoints (lists b))) (λ β.
     pick (isBreaking n sends lists a α b β) (some (Breaks a (record { 0 = α }) b (record { 0 = β }))) none))))
