@@ -60,7 +60,7 @@ judgeCases =
       meets = 0;
       breaks = some (record { near = 0; near-index = 0; far = 2; far-index = 1 });
     }
-    -- 12, 1, 13 behind the last record, 14 for kind 4 and for a field that must be zero, 4, 5, 8, and 17 before 14
+    -- 12, 1, 13 after the last record, 14 for kind 4 and for a field that must be zero, 4, 5, 8, and 17 before 14
     ∷ record { trace = []; meets = 12; breaks = none }
     ∷ record { trace = 0 ∷ []; meets = 1; breaks = none }
     ∷ record { trace = 17 ∷ []; meets = 1; breaks = none }
