@@ -28,13 +28,13 @@ module _ (vectors from to : List ℕ) (f : ℕ) where
         (λ ne. w .all x (omega arith) d);
   }
 
-  lesser-no : (a b : Least) → b .found ≡ false → a .found ≡ true → lesserOf a b ≡ a
+  lesser-no : (a b : Least) → b .found ≡ false → lesserOf a b ≡ a
   unfolding lesserOf
-  lesser-no a b e d = rw (d, e)
+  lesser-no a b e = rw e
 
-  lesser-first : (a b : Least) → a .found ≡ false → lesserOf a b ≡ b
+  lesser-first : (a b : Least) → a .found ≡ false → b .found ≡ true → lesserOf a b ≡ b
   unfolding lesserOf
-  lesser-first a b d = rw d
+  lesser-first a b d e = rw (d, e)
 
   lesser-less : (a b : Least) → a .found ≡ true → b .found ≡ true → b .least < a .least → lesserOf a b ≡ b
   unfolding lesserOf
@@ -72,21 +72,16 @@ module _ (vectors from to : List ℕ) (f : ℕ) where
       (λ d. by-bool (ltb (knownAt vectors to f m) (a .least))
       (λ l. let h = ltb-true (knownAt vectors to f m) (a .least) l in rw (lesser-less a new d refl h) (take-new m a new w e refl (λ _. omega arith)))
       (λ l. let h = ltb-false (knownAt vectors to f m) (a .least) l in rw (lesser-more a new d refl h) (keep-old m a w d h)))
-      (λ d. rw (lesser-first a new d) (take-new m a new w e refl (λ q. absurd (false≢true (sym d ∙ q)))))))
+      (λ d. rw (lesser-first a new d refl) (take-new m a new w e refl (λ q. absurd (false≢true (sym d ∙ q)))))))
       (λ e.
       let is : crossingOf vectors from to f m ≡ noLeast = crossing-no e in
-      rw is (by-bool (a .found)
-      (λ d. rw (lesser-no a noLeast refl d) (skip m a w e))
-      (λ d. rw (lesser-first a noLeast d) (skip m noLeast (empty a w d) e))))
+      rw (is, lesser-no a noLeast refl) (skip m a w e))
     where
       crossing-yes : crossesAt vectors from to f m ≡ true → crossingOf vectors from to f m ≡ record { found = true; least = knownAt vectors to f m }
       crossing-yes e = unfold crossingOf in rw e
 
       crossing-no : crossesAt vectors from to f m ≡ false → crossingOf vectors from to f m ≡ noLeast
       crossing-no e = unfold crossingOf in rw e
-
-      empty : (a : Least) → LeastOf m a → a .found ≡ false → LeastOf m noLeast
-      empty a w d = record { one = λ e. absurd (false≢true e); all = λ x h q. absurd (false≢true (sym d ∙ w .all x h q .0)) }
 
   pub least-of : (last : ℕ) → LeastOf last (leastCrossing vectors from to f last)
   unfolding leastCrossing iter

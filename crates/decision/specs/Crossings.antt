@@ -35,7 +35,7 @@ unfoldable pub crossingOf : List ℕ → List ℕ → List ℕ → ℕ → ℕ �
 crossingOf vectors from to f m = pick (crossesAt vectors from to f m) (record { found = true; least = knownAt vectors to f m }) noLeast
 
 unfoldable pub lesserOf : Least → Least → Least
-lesserOf a b = pick (a .found) (pick (b .found) (pick (ltb (b .least) (a .least)) b a) a) b
+lesserOf a b = pick (b .found) (pick (a .found) (pick (ltb (b .least) (a .least)) b a) b) a
 
 unfoldable pub leastCrossing : List ℕ → List ℕ → List ℕ → ℕ → ℕ → Least
 leastCrossing vectors from to f last = iter last (λ m a. lesserOf a (crossingOf vectors from to f m)) noLeast

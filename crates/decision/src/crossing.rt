@@ -45,18 +45,18 @@ fn crossing(vectors: &[u16], from: &[u16], to: &[u16], last: usize, m: usize, f:
     }
 }
 
-// The lesser of two that may be there.
+// The lesser of two that may be there. Most messages cross for no process: the second one is tested first, and nothing is done where it is not there.
 fn lesser(a: Least, b: Least) -> Least
     ensures { λ r. ⌜ r ≡ lesserOf a b ⌝ }
 {
-    if a.found {
-        if b.found {
+    if b.found {
+        if a.found {
             if b.least < a.least { b } else { a }
         } else {
-            a
+            b
         }
     } else {
-        b
+        a
     }
 }
 
