@@ -19,7 +19,7 @@ pub struct Progress {
     // how many rows are used
     pub rows: usize,
     // the row of each process's live state
-    pub current: [usize; 16],
+    pub current: [u16; 16],
     // how many messages are under way
     pub underway: usize,
     // how many messages were sent
@@ -66,7 +66,7 @@ fn with_row(s: Progress, i: usize) -> Progress
 {
     let mut current = s.current;
     let next = s.rows;
-    current[i] = next;
+    current[i] = next as u16;
     Progress {
         current,
         rows: next + 1,
@@ -89,7 +89,7 @@ fn read_checkpoint(
     if n <= i {
         return refuse(Refusal::NoSuchProcess, s);
     }
-    let row = s.current[i];
+    let row = s.current[i] as usize;
     let v = decision::flat::row_at(vectors, row);
     let own = v[i];
     let full = verdicts::is_last_interval(own);
@@ -161,7 +161,7 @@ fn read_send(
     match answer {
         Taking::Refused(why) => refuse(why, s),
         Taking::Taken => {
-            let row = s.current[i];
+            let row = s.current[i] as usize;
             let place = s.last;
             put_carried(vectors, carried, row, place);
             passing[place] = (receiver + 1) as u16;
@@ -270,7 +270,7 @@ fn read_deliver(
     }
     let place = f.place;
     let receiver = f.receiver;
-    let row = s.current[receiver];
+    let row = s.current[receiver] as usize;
     put_receipt(vectors, carried, row, place);
     passing[place] = 0;
     to[place] = (row + 1) as u16;
@@ -285,12 +285,12 @@ fn first_rows(vectors: &mut [u16], process: &mut [u16], n: usize) -> Progress
     ensures { λ r. ⌜ (length (now (vectors .exit)) ≡ length (now (vectors .entry))) × (length (now (process .exit)) ≡ length (now (process .entry))) ⌝ }
     ensures { λ r. ⌜ (r .rows ≡ n) × (r .underway ≡ 0) × (r .last ≡ 0) ⌝ }
 {
-    let mut current = [0usize; 16];
+    let mut current = [0u16; 16];
     for p in 0..n {
         let v = rows::start::first_vector(p);
         decision::flat::put_row(vectors, p, v);
         process[p] = p as u16;
-        current[p] = p;
+        current[p] = p as u16;
     }
     Progress {
         rows: n,

@@ -20,6 +20,9 @@ use Rattle.rows.proofs.vector.advanced.Reads as advanced-reads
 returns : tie.Need-returns
 returns c = let a = c .before .before .before .before .args in let q = checkpoint-refused (a .n) (a .t3) (a .i) (a .vectors .now) (a .process .now) _ (checkpoint-absent (a .n) (a .t3) (a .i) (a .vectors .now) (c .before .if1 .taken)) in (c .refuse .ensures ∙ q .0, (q .1, q .2))
 
+cast-row : tie.Need-cast-row
+cast-row c = let st = c .before .before .before .before in omega (arith, st .pre .current (st .args .i) (c .before .if1 .left), st .pre .room)
+
 row-at-requires : tie.Need-row-at-requires
 row-at-requires c κs = let st = c .before .before .before .before .before in omega (arith, st .pre .current (st .args .i) (c .before .before .if1 .left), st .pre .room)
 
@@ -42,6 +45,7 @@ read-checkpoint-spec =
     returns
     (λ c. search needs)
     (λ c. search needs)
+    cast-row
     row-at-requires
     (λ c. search needs)
     (λ c. search needs)

@@ -23,6 +23,9 @@ mul-row c = let st = c .before .before .before .before .before .before .before .
 element-copy-out-row : tie.Need-element-copy-out-row
 element-copy-out-row c = let st = c .before .before .before .before .before .before .before .before in let is = c .before .before .find .ensures in let e = is-found _ _ is (c .if1 .left) in omega (arith, st .pre .receiver e, ap (λ (x : Found). x .receiver) is)
 
+cast-row : tie.Need-cast-row
+cast-row c = let st = c .before .before .before .before .before .before .before .before .before in let is = c .before .before .before .find .ensures in let e = is-found _ _ is (c .before .if1 .left) in omega (arith, st .pre .current e, ap (λ (x : Found). getD (st .args .t5 .current) (x .receiver) 0) is)
+
 put-receipt-requires : tie.Need-put-receipt-requires
 put-receipt-requires c κs = let st = c .before .before .before .before .before .before .before .before .before .before in let is = c .before .before .before .before .find .ensures in let e = is-found _ _ is (c .before .before .if1 .left) in (omega (arith, st .pre .current e, ap (λ (x : Found). getD (st .args .t5 .current) (x .receiver) 0) is, st .pre .room), omega (arith, st .pre .place e, ap (λ (x : Found). x .place) is, st .pre .carriers))
 
@@ -57,6 +60,7 @@ read-deliver-spec =
     returns
     mul-row
     element-copy-out-row
+    cast-row
     put-receipt-requires
     mul-passing
     slice-write-passing

@@ -18,6 +18,9 @@ mul-row c = let st = c .before .before .before .before .before .before .before .
 element-copy-out-row : tie.Need-element-copy-out-row
 element-copy-out-row c = let st = c .before .before .before .before .before .before .before .before in let a = st .args in let w = send-free (a .n) (a .t6) (a .i) (a .receiver) (sym (taken-is _ _ (c .enum-told .given .1) (c .before .before .send-refusal .ensures))) in omega (arith, w .0, st .pre .few)
 
+cast-row : tie.Need-cast-row
+cast-row c = let st = c .before .before .before .before .before .before .before .before .before in let a = st .args in let w = send-free (a .n) (a .t6) (a .i) (a .receiver) (sym (taken-is _ _ (c .before .enum-told .given .1) (c .before .before .before .send-refusal .ensures))) in omega (arith, st .pre .current (a .i) (w .0))
+
 put-carried-requires : tie.Need-put-carried-requires
 put-carried-requires c κs = let st = c .before .before .before .before .before .before .before .before .before .before in let a = st .args in let w = send-free (a .n) (a .t6) (a .i) (a .receiver) (sym (taken-is _ _ (c .before .before .enum-told .given .1) (c .before .before .before .before .send-refusal .ensures))) in (omega (arith, st .pre .current (a .i) (w .0), st .pre .room), omega (arith, st .pre .last, st .pre .carriers))
 
@@ -46,6 +49,7 @@ read-send-spec =
     (λ c. search needs)
     mul-row
     element-copy-out-row
+    cast-row
     put-carried-requires
     add-passing
     cast-passing
