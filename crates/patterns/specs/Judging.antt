@@ -38,7 +38,7 @@ receivedWhere l m test = anyBelow (length l) (λ i. isReceipt m (eventAt l i) &&
 unfoldable pub sentAfter : Lists → ℕ → ℕ → ℕ → Bool
 sentAfter lists a α m = sentWhere (lists a) m (λ i. ltb α (interval (lists a) i))
 
--- "(ii) if m_i .. is received by p_c, then m_{i+1} is sent by p_c in the same or a later checkpoint interval": m after x.
+-- "(ii) if m_i .. is received by p_c, then m_{i+1} is sent by p_c in the same or a later checkpoint interval": m may come next after x.
 unfoldable pub sentOnward : ℕ → Lists → ℕ → ℕ → Bool
 sentOnward n lists x m = anyBelow n (λ c. receivedWhere (lists c) x (λ j. sentWhere (lists c) m (λ i. leb (interval (lists c) j) (interval (lists c) i))))
 
@@ -51,8 +51,8 @@ sentLater n lists x m = anyBelow n (λ c. receivedWhere (lists c) x (λ j. sentW
 unfoldable pub receivedBefore : Lists → ℕ → ℕ → ℕ → Bool
 receivedBefore lists b β m = receivedWhere (lists b) m (λ j. leb (interval (lists b) j) β)
 
--- "A sequence of messages": m is the last of at most k messages with numbers below a bound, of which the first passes one test and each next one, after the one
--- before it, another.
+-- "A sequence of messages": m is the last one of a sequence of at most k messages, with numbers below a bound. The first message passes the test `first`, and each
+-- later one, with the message before it, the test `onward`.
 unfoldable pub isLast : ℕ → (ℕ → Bool) → (ℕ → ℕ → Bool) → ℕ → ℕ → Bool
 isLast bound first onward zero m = false
 isLast bound first onward (suc k) m = first m || anyBelow bound (λ x. isLast bound first onward k x && onward x m)
@@ -60,7 +60,8 @@ isLast bound first onward (suc k) m = first m || anyBelow bound (λ x. isLast bo
 -- A pattern of n processes whose messages have the numbers 1 to `sends`. A sequence that has a message twice can be cut short, so none needs more messages than
 -- there are numbers (proofs/Sequences: `closed`).
 module _ (n sends : ℕ) (lists : Lists) (a α b β : ℕ) where
-  -- A sequence of messages connects checkpoint α of a to state β of b, where each next message passes a test after the one before it.
+  -- A sequence of messages connects checkpoint α of a to state β of b: condition (i) holds of its first message, (iii) of its last, and the test `onward` of each
+  -- message with the next one.
   unfoldable pub connects : (ℕ → ℕ → Bool) → Bool
   connects onward = anyBelow (suc sends) (λ m. isLast (suc sends) (sentAfter lists a α) onward (suc sends) m && receivedBefore lists b β m)
 
