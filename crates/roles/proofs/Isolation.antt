@@ -1,4 +1,4 @@
--- What an owner's list, checkpoints, deliveries, losses and sends depend on.
+-- What an owner's list, checkpoints, deliveries, losses, sends and lines depend on.
 -- Assumes nothing.
 use mathlib.Core.Path.{_≡_, refl, sym, _∙_, ap}
 use mathlib.Core.Bool.{Bool, true, false, _&&_, _||_, not}
@@ -19,21 +19,26 @@ use Rattle.model.specs.declared.Refusal.the-variants.{UnsoundState, ListTooShor
 use Rattle.model.specs.declared.CheckpointAnswer.the-variants as checkpoint-answer
 use Rattle.model.specs.declared.DeliverAnswer.the-variants as deliver-answer
 use Rattle.model.specs.declared.SendAnswer.the-variants as send-answer
+use Rattle.model.specs.declared.LineAnswer.the-variants as line-answer
 use Rattle.model.specs.Words.{basic, mostUnderWay, mostMessages, mostInterval, entry, liveIndex, Process, blockCount, process, own, live}
 use Rattle.model.specs.Steps.{Deletion, listed, found, advanced, storing, checkpointed, checkpointDeletions, deletions, forces, risen, delivered, deliverRisen, deliverDeletions}
 use Rattle.model.specs.Sound.{sound}
-use Rattle.model.specs.Refusals.{firstOf, shortDeletions, absent, atLastInterval, pastBlocks, forcesPast, forcesOver, checkpointRefusal, deliverRefusal, loseRefusal, sendRefusal}
+use Rattle.model.specs.Refusals.{firstOf, shortDeletions, absent, atLastInterval, pastBlocks, shortLine, outside, noMember, forcesPast, forcesOver, checkpointRefusal, deliverRefusal, loseRefusal, sendRefusal, lineRefusal}
 use Rattle.model.specs.laws.Refusals.{by-refusal}
-use Rattle.whole_runs.specs.Outcomes.{Outcome, pairs, written, judged, checkpointOutcome, deliverAnswer, deliverOutcome, loseOutcome, sendOutcome, sendReport}
-use Rattle.whole_runs.proofs.WholeRuns.{reachable-sound}
+use Rattle.whole_runs.specs.Outcomes.{Outcome, pairs, written, judged, checkpointOutcome, deliverAnswer, deliverOutcome, loseOutcome, sendOutcome, sendReport, lineOutcome}
+use Rattle.whole_runs.specs.WholeRuns.{Reachable}
+use Rattle.whole_runs.proofs.WholeRuns.{reachable-sound, reachable-reached}
+use Rattle.whole_runs.proofs.whole.Refused.{members-found}
+use Rattle.whole_runs.proofs.whole.Runs.{runAfter}
+use Rattle.histories.proofs.Run.{begun}
 use Rattle.roles.specs.declared.Role.the-variants.{JobOwner}
 use Rattle.roles.specs.declared.Operation.{Operation}
 use Rattle.roles.specs.declared.Operation.the-variants.{Checkpoint as Checkpointing, Send, Deliver, Lose}
 use Rattle.roles.specs.declared.ListAnswer.{ListAnswer}
 use Rattle.roles.specs.declared.ListAnswer.the-variants as list-answer
-use Rattle.roles.specs.Console.{may, owns, entitledBy, entitled, entitledMessageBy, entitledMessage, denied, deniedProcess, deniedMessage, listedTo, listRefusal, consoleList, consoleCheckpoint, consoleSend, consoleDeliver, consoleLose}
+use Rattle.roles.specs.Console.{may, owns, entitledBy, entitled, entitledMessageBy, entitledMessage, denied, deniedProcess, deniedMessage, listedTo, listRefusal, consoleList, consoleCheckpoint, consoleSend, consoleDeliver, consoleLose, consoleLine}
 use Rattle.roles.specs.Runs.{ConsoleReached, ConsoleIsReachable}
-use Rattle.roles.specs.Isolation.{owner, SameToOwner, ListIsOwn, CheckpointIsOwn, DeliveryIsOwn, LossIsOwn, SendIsOwn}
+use Rattle.roles.specs.Isolation.{owner, SameToOwner, ListIsOwn, CheckpointIsOwn, DeliveryIsOwn, LossIsOwn, SendIsOwn, lineAnswerBy, LineAnswerIsOwn, SoundLineAnswers}
 use Rattle.roles.proofs.Runs.{console-reachable}
 
 console-sound : (s : Run) → ConsoleReached s → sound s ≡ true
@@ -326,3 +331,40 @@ send-is-own owned s t hs ht same i j =
     (send-refusal s t (console-sound s hs) (console-sound t ht) (same .count) i j
     (λ e. p (send-meets s i j TooManyUnderWay e)) (λ e. q (send-meets t i j TooManyUnderWay e))
     (λ e. x (send-meets s i j MessageNumbersUsed e)) (λ e. y (send-meets t i j MessageNumbersUsed e))))))
+
+-- A line is answered by n and its arguments, where 2 for a process without a member is not met.
+line-by : (s : Run) (F : ℕ) (lent : List ℕ) → sound s ≡ true → (shortLine s lent ≡ false → outside s F ≡ false → noMember s F ≡ false)
+    → lineOutcome s F lent .answer ≡ lineAnswerBy (s .count) F (length lent)
+unfolding lineOutcome lineRefusal firstOf lineAnswerBy
+line-by s F lent whole members = by-bool (shortLine s lent)
+    (λ short. rw (whole, short))
+    (λ long. by-bool (outside s F)
+    (λ out. rw (whole, long, out))
+    (λ inside. rw (whole, long, inside, members long inside)))
+
+line-meets : (s : Run) (F : ℕ) (lent : List ℕ) → sound s ≡ true → shortLine s lent ≡ false → outside s F ≡ false → noMember s F ≡ true
+    → lineOutcome s F lent .answer ≡ line-answer.Refused UnsoundState
+unfolding lineOutcome lineRefusal firstOf
+line-meets s F lent whole long inside missed = rw (whole, long, inside, missed)
+
+members-unless : (s : Run) (F : ℕ) (lent : List ℕ) → sound s ≡ true → (lineOutcome s F lent .answer ≡ line-answer.Refused UnsoundState → ⊥)
+    → shortLine s lent ≡ false → outside s F ≡ false → noMember s F ≡ false
+members-unless s F lent whole unmet long inside = by-bool (noMember s F) (λ e. absurd (unmet (line-meets s F lent whole long inside e))) (λ e. e)
+
+-- A state that calls reached has a member at each process.
+pub reachable-members : (s : Run) → Reachable s → (F : ℕ) → noMember s F ≡ false
+unfolding Reachable
+reachable-members s v F =
+    let reached = reachable-reached (v .0) (v .1) (v .2) (v .3) in
+    ap (λ (t : Run). noMember t F) (v .4 ∙ reached .state) ∙ members-found (runAfter (begun (v .0) (v .1)) (v .3)) (reached .inv) (reached .limits) F
+
+pub line-answer-is-own : LineAnswerIsOwn
+unfolding LineAnswerIsOwn ConsoleIsReachable consoleLine denied may
+line-answer-is-own owned s v F lent = line-by s F lent (console-sound s v) (λ long inside. reachable-members s (console-reachable s v) F)
+
+pub sound-line-answers : SoundLineAnswers
+unfolding SoundLineAnswers consoleLine denied may
+sound-line-answers owned s t hs ht size F lent p q =
+    line-by s F lent hs (members-unless s F lent hs p)
+    ∙ ap (λ (n : ℕ). lineAnswerBy n F (length lent)) size
+    ∙ sym (line-by t F lent ht (members-unless t F lent ht q))

@@ -3,18 +3,24 @@
 use mathlib.Core.Path.{_≡_}
 use mathlib.Core.Bool.{true}
 use mathlib.Core.List.{List}
-use Prim.Native.Nat.{ℕ}
+use Prim.Native.Nat.{ℕ, _^_}
+use lib.Dec.{ltb, leb}
+use lib.ListN.{length}
+use Rattle.laws.specs.Choice.{pick}
 use Rattle.model.specs.declared.Run.{Run}
-use Rattle.model.specs.declared.Refusal.the-variants.{TooManyUnderWay, MessageNumbersUsed, BlocksUsed}
+use Rattle.model.specs.declared.Refusal.the-variants.{UnsoundState, ListTooShort, NoSuchFailedProcess, TooManyUnderWay, MessageNumbersUsed, BlocksUsed}
 use Rattle.model.specs.declared.CheckpointAnswer.the-variants as checkpoint-answer
 use Rattle.model.specs.declared.SendAnswer.the-variants as send-answer
 use Rattle.model.specs.declared.DeliverAnswer.the-variants as deliver-answer
+use Rattle.model.specs.declared.LineAnswer.{LineAnswer}
+use Rattle.model.specs.declared.LineAnswer.the-variants as line-answer
 use Rattle.model.specs.Words.{process}
 use Rattle.model.specs.Steps.{found}
+use Rattle.model.specs.Sound.{sound}
 use Rattle.whole_runs.specs.Outcomes.{sendReport}
 use Rattle.roles.specs.declared.Role.the-variants.{JobOwner}
 use Rattle.roles.specs.declared.Caller.{Caller}
-use Rattle.roles.specs.Console.{owns, consoleCheckpoint, consoleSend, consoleDeliver, consoleLose, consoleList}
+use Rattle.roles.specs.Console.{owns, consoleCheckpoint, consoleSend, consoleDeliver, consoleLose, consoleLine, consoleList}
 use Rattle.roles.specs.Runs.{ConsoleReached}
 
 abbrev pub owner : ℕ → Caller
@@ -67,3 +73,21 @@ SendIsOwn = (owned : ℕ) (s t : Run) → ConsoleReached s → ConsoleReached t 
     → (consoleSend (owner owned) s i j .answer ≡ send-answer.Refused MessageNumbersUsed → ⊥)
     → (consoleSend (owner owned) t i j .answer ≡ send-answer.Refused MessageNumbersUsed → ⊥)
     → sendReport (consoleSend (owner owned) s i j .answer) .refused ≡ sendReport (consoleSend (owner owned) t i j .answer) .refused
+
+-- "see its own members of a line for a failed set": the members are a named leak, the answer is none. It goes by n, the failed set and the length of the lent
+-- list alone: 3 for a list "below n", 7 for a set that "has a bit at n or above".
+unfoldable pub lineAnswerBy : ℕ → ℕ → ℕ → LineAnswer
+lineAnswerBy n F room = pick (ltb room n)
+    (line-answer.Refused ListTooShort)
+    (pick (leb (2 ^ n) F) (line-answer.Refused NoSuchFailedProcess) line-answer.Written)
+
+-- So 2 is not met on a state that console calls reached.
+unfoldable pub LineAnswerIsOwn : Type 0
+LineAnswerIsOwn = (owned : ℕ) (s : Run) → ConsoleReached s → (F : ℕ) (lent : List ℕ) → consoleLine (owner owned) s F lent .answer ≡ lineAnswerBy (s .count) F (length lent)
+
+-- On sound states with the same n that nobody reached it is the same too, but for 2, "where some process has no state the line rule accepts".
+unfoldable pub SoundLineAnswers : Type 0
+SoundLineAnswers = (owned : ℕ) (s t : Run) → sound s ≡ true → sound t ≡ true → s .count ≡ t .count → (F : ℕ) (lent : List ℕ)
+    → (consoleLine (owner owned) s F lent .answer ≡ line-answer.Refused UnsoundState → ⊥)
+    → (consoleLine (owner owned) t F lent .answer ≡ line-answer.Refused UnsoundState → ⊥)
+    → consoleLine (owner owned) s F lent .answer ≡ consoleLine (owner owned) t F lent .answer
