@@ -1,4 +1,5 @@
 -- Laws that belong to no one function.
+pub mod Numbers
 pub mod Precedence
 pub mod Records
 pub mod Risen

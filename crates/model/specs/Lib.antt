@@ -1,3 +1,4 @@
+pub mod Numbers
 pub mod Refusals
 pub mod Risen
 pub mod Sound

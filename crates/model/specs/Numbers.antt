@@ -1,0 +1,16 @@
+-- The numbers that documents 01 and 02 give the refusals: 1 to 25 without 6, each to one refusal.
+-- Assumes nothing.
+use mathlib.Core.Path.{_≡_}
+use Prim.Native.Nat.{ℕ, _≤_}
+use Rattle.model.specs.declared.Refusal.{Refusal}
+use Rattle.model.specs.Refusals.{number}
+
+pub record NumbersAreRight : Type 0 where
+  -- Note 4: "Refusal 6 never occurs any more."
+  pub never-six : (x : Refusal) → number x ≡ 6 → ⊥
+  -- "1: start with a count outside 1 to 16." Note 13: "25, before every other, for an operation the table denies the caller."
+  pub in-table : (x : Refusal) → (1 ≤ number x) × (number x ≤ 25)
+  -- each of the others is the number of a refusal,
+  pub given : (k : ℕ) → 1 ≤ k → k ≤ 25 → (k ≡ 6 → ⊥) → (x : Refusal) × (number x ≡ k)
+  -- and no two refusals share one
+  pub apart : (x y : Refusal) → number x ≡ number y → x ≡ y
