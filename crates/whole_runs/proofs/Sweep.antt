@@ -1,14 +1,15 @@
--- Note 4: a sweep. Nobody rolls back, of any state; the messages under way stay, of a sound one; the lines stay, of a state that calls from a start reach.
+-- Note 4: a sweep. Nobody rolls back, of any state; the messages under way stay, of a sound one; the lines stay, of a state that calls from a start reach. And that no
+-- call is refused with 6.
 -- Assumes nothing.
 use mathlib.Core.Path.{_≡_, refl, sym, _∙_, ap, fun-ext}
 use mathlib.Core.Bool.{Bool, true, false, _&&_, not}
-use mathlib.Core.List.{[]}
-use mathlib.Core.Option.{some}
+use mathlib.Core.List.{List, []}
+use mathlib.Core.Option.{Option, none, some}
 use Prim.Native.Nat.{ℕ, zero, suc, _<_}
 use native.Mathlib.Nat.{div-eq-of-lt, one-le-pow}
 use native.Mathlib.Omega.{arith}
 use lib.Dec.{eqb, ltb}
-use lib.ListN.{getD}
+use lib.ListN.{length, getD}
 use lib.Seq.{set-getD}
 use borrow.Author.Tests.{le-ltb, leb-true}
 use Rattle.laws.specs.Choice.{pick, by-bool}
@@ -22,17 +23,22 @@ use Rattle.model.specs.declared.Pin.the-variants.{Nothing}
 use Rattle.model.specs.declared.Checkpoint.{Checkpoint}
 use Rattle.model.specs.declared.Message.{Message}
 use Rattle.model.specs.declared.Run.{Run}
+use Rattle.model.specs.declared.Refusal.{Refusal}
+use Rattle.model.specs.declared.LineAnswer.{LineAnswer}
+use Rattle.model.specs.declared.LineAnswer.the-variants as line-answer
+use Rattle.model.specs.declared.RecoverAnswer.{RecoverAnswer}
+use Rattle.model.specs.declared.RecoverAnswer.the-variants as recover-answer
 use Rattle.model.specs.Words.{entry, Process, live, noCheckpoint, noMessage, process, withProcess, own, underWay, withMessages, withDisk, failed}
-use Rattle.model.specs.Steps.{withProcesses, allowed, states, latestAllowed, member, lineOf, rolledBack, vectorAfter, ownAfter, pinAfter, recovered, lostBy, stillUnderWay, recoverState, rolledBackCount}
+use Rattle.model.specs.Steps.{withProcesses, allowed, states, latestAllowed, member, lineOf, rolledBack, vectorAfter, ownAfter, pinAfter, recovered, lostBy, stillUnderWay, recoverState, recoverDeletions, rolledBackCount}
 use Rattle.model.specs.Sound.{within, messageSound, sound}
-use Rattle.model.specs.Refusals.{missing, noMember, recoverRefusal}
+use Rattle.model.specs.Refusals.{missing, noMember, lineRefusal, recoverRefusal}
 use Rattle.model.specs.laws.Refusals.{by-refusal}
 use Rattle.model.specs.laws.Sound.{sound-state, sound-message}
-use Rattle.whole_runs.specs.Outcomes.{startOutcome, recoverOutcome}
+use Rattle.whole_runs.specs.Outcomes.{written, startOutcome, lineOutcome, recoverOutcome}
 use Rattle.whole_runs.specs.Calls.{stateAfter, transcript}
 use Rattle.whole_runs.specs.Survival.{Surviving, beginning, survivingFrom}
 use Rattle.whole_runs.specs.WholeRuns.{Reachable}
-use Rattle.whole_runs.specs.Sweep.{SweepIsQuiet, SweepIsAccepted, SweepLeavesLines}
+use Rattle.whole_runs.specs.Sweep.{liveLine, SweepIsQuiet, SweepIsAccepted, SweepLeavesLines, SixNeverOccurs, EmptyLinePromise, Swept, SweepPromise}
 use Rattle.histories.proofs.Run as ideal
 use Rattle.histories.proofs.Run.{Ideal, Failed, begun, safe, rolled}
 use Rattle.histories.proofs.Invariant.{Inv}
@@ -40,12 +46,14 @@ use Rattle.histories.proofs.Maximal.{line-by-history}
 use Rattle.histories.proofs.Recovered.{recovered-inv}
 use Rattle.histories.proofs.RecoveredViews.{recovered-n, recovered-events-stays}
 use Rattle.model.proofs.simulation.Parts.{underWay-put}
-use Rattle.model.proofs.simulation.Accepted.{recover-in}
+use Rattle.model.proofs.Numbers.{numbers-are-right}
+use Rattle.model.proofs.simulation.Accepted.{line-in, recover-in}
 use Rattle.model.proofs.simulation.Lines.{line-is}
 use Rattle.model.proofs.simulation.Recover.{recover-is}
 use Rattle.whole_runs.proofs.whole.Reached.{Reached}
+use Rattle.whole_runs.proofs.whole.Refused.{numberOf, reports-number}
 use Rattle.whole_runs.proofs.whole.Runs.{runAfter}
-use Rattle.whole_runs.proofs.WholeRuns.{reachable-reached}
+use Rattle.whole_runs.proofs.WholeRuns.{reachable-reached, reports-start}
 
 -- No process is in the empty set.
 nobody-failed : (f : ℕ) → failed 0 f ≡ false
@@ -145,6 +153,7 @@ module _ (s : Run) where
 
     pub sweep-is-accepted : SweepIsAccepted s
     sweep-is-accepted = record {
+      line-accepted = λ lent room. line-in s 0 lent (record { whole = whole; room = room; set = one-le-pow (s .count) 2 (omega arith); members = sweep-members });
       accepted = λ deleted lent room line-room. recover-in s 0 deleted lent (record {
         whole = whole;
         room = room;
@@ -187,3 +196,46 @@ sweep-leaves-lines s v deleted lent F = by-refusal (recoverRefusal s 0 deleted l
     rw (v .4) (reached-lines n (stateAfter s₀ calls) (survivingFrom n (beginning n counts) (transcript s₀ calls)) (runAfter (begun n counts) calls)
     (reachable-reached n counts (v .2) calls) F)))
     (λ x e. rw e)
+
+-- No number is 6.
+never-six : (o : Option Refusal) (k : ℕ) → k ≡ numberOf o → k ≡ 6 → ⊥
+unfolding numberOf
+never-six none k e six = omega arith
+never-six (some x) k e six = numbers-are-right .never-six x (sym e ∙ six)
+
+pub six-never-occurs : SixNeverOccurs
+six-never-occurs = record {
+  calls = λ s c. never-six _ _ (reports-number s c);
+  starts = λ n counts. never-six _ _ (reports-start n counts);
+}
+
+-- What a line call for the empty set and a sweep leave of a sound state, and as the calls say it.
+module _ (s : Run) where
+  line-swept : (lent : List ℕ) → lineRefusal s 0 lent ≡ none → (lineOutcome s 0 lent .answer ≡ line-answer.Written) × (lineOutcome s 0 lent .line ≡ written lent (liveLine s))
+  unfolding lineOutcome
+  line-swept lent fine = rw fine (refl, ap (written lent) (sweep-is-quiet s .line))
+
+  pub empty-line-promise : (F : ℕ) (lent : List ℕ) {answer : LineAnswer} {line : List ℕ} → answer ≡ lineOutcome s F lent .answer → line ≡ lineOutcome s F lent .line
+      → EmptyLinePromise s F lent answer line
+  unfolding EmptyLinePromise
+  empty-line-promise F lent e g whole empty room =
+      let w = line-swept lent (sweep-is-accepted s whole .line-accepted lent room) in
+      (e ∙ ap (λ (F : ℕ). lineOutcome s F lent .answer) empty ∙ w .0, g ∙ ap (λ (F : ℕ). lineOutcome s F lent .line) empty ∙ w .1)
+
+  module _ (whole : sound s ≡ true) where
+    recover-swept : (deleted lent : List ℕ) → recoverRefusal s 0 deleted lent ≡ none
+        → Swept s lent (recoverOutcome s 0 deleted lent .answer) (recoverOutcome s 0 deleted lent .line) (recoverOutcome s 0 deleted lent .run)
+    unfolding recoverOutcome
+    recover-swept deleted lent fine = rw fine (record {
+      nobody = ap (λ (k : ℕ). recover-answer.Recovered k (length (recoverDeletions s 0))) (sweep-is-quiet s .nobody);
+      live = ap (written lent) (sweep-is-quiet s .line);
+      vectors = sweep-is-quiet s .vectors;
+      marks = sweep-is-quiet s .marks;
+      messages = sweep-is-accepted s whole .messages;
+    })
+
+  pub sweep-promise : (F : ℕ) (deleted lent : List ℕ) {answer : RecoverAnswer} {line : List ℕ} {t : Run} → answer ≡ recoverOutcome s F deleted lent .answer
+      → line ≡ recoverOutcome s F deleted lent .line → t ≡ recoverOutcome s F deleted lent .run → SweepPromise s F deleted lent answer line t
+  unfolding SweepPromise
+  sweep-promise F deleted lent e g h whole empty room line-room =
+      rw (e, g, h, empty) (recover-swept whole deleted lent (sweep-is-accepted s whole .accepted deleted lent room line-room))

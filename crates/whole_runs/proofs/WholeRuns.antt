@@ -1,29 +1,35 @@
 -- Demand 3, proved: right over whole runs. And what later work cites of states that calls from a start reach.
 -- Assumes nothing.
 use mathlib.Core.Path.{_≡_, refl, sym, _∙_, ap, subst}
-use mathlib.Core.Bool.{true}
+use mathlib.Core.Bool.{Bool, true, _&&_, not}
 use mathlib.Core.List.{List, [], _∷_, _++_}
 use mathlib.Core.Option.{Option, none, some}
 use Prim.Native.Nat.{ℕ, _^_, _<_}
 use native.Mathlib.Omega.{arith}
-use lib.Dec.{eqb}
+use lib.Dec.{eqb, leb}
+use lib.ListN.{getD}
 use borrow.Author.Tests.{eq-eqb, eqb-true}
 use Rattle.laws.specs.Choice.{by-eq}
 use Rattle.laws.specs.Counting.{count-mono}
 use Rattle.laws.specs.Elements.{same-test}
+use Rattle.laws.specs.Ranges.{any-same}
+use Rattle.laws.specs.Sums.{sum-same}
 use Rattle.model.specs.declared.Named.{Named}
 use Rattle.model.specs.declared.Run.{Run}
 use Rattle.model.specs.declared.StartAnswer.the-variants.{Started}
-use Rattle.model.specs.Steps.{startState}
-use Rattle.model.specs.Sound.{sound}
+use Rattle.model.specs.declared.Refusal.{Refusal}
+use Rattle.model.specs.declared.Refusal.the-variants.{CountOutsideRange, BlockCountOutsideRange}
+use Rattle.model.specs.Words.{places, blank, withDisk}
+use Rattle.model.specs.Steps.{checkpointZero, started, opening, withProcesses, startState}
+use Rattle.model.specs.Sound.{isBlockCount, sound}
 use Rattle.histories.specs.History.{checkpoints}
-use Rattle.model.specs.Refusals.{startRefusal}
+use Rattle.model.specs.Refusals.{firstOf, startRefusal}
 use Rattle.model.specs.laws.Refusals.{by-refusal}
-use Rattle.whole_runs.specs.Outcomes.{startOutcome, checkpointOutcome, deliverOutcome, recoverOutcome, startReport}
+use Rattle.whole_runs.specs.Outcomes.{startOutcome, checkpointOutcome, sendOutcome, deliverOutcome, loseOutcome, recoverOutcome, startReport}
 use Rattle.whole_runs.specs.Calls.{Call, checkpoint, send, deliver, lose, recover, line, earliest, Exchange, answered, call, stateAfter, transcript}
 use Rattle.whole_runs.specs.Survival.{Surviving, beginning, after, survivingFrom, surviving}
 use Rattle.whole_runs.specs.Answers.{AnswerIsRight, AnswersAreRight}
-use Rattle.whole_runs.specs.WholeRuns.{LineIsRight, KeptIsRight, StartsAreRight, RightOverWholeRuns, Reachable, LinePromise, StatePromise, EarliestIsRight, EarliestPromise}
+use Rattle.whole_runs.specs.WholeRuns.{LineIsRight, KeptIsRight, StartsAreRight, CountsBelowDecide, RightOverWholeRuns, Reachable, LinePromise, StatePromise, StartPromise, EarliestIsRight, EarliestPromise}
 use Rattle.histories.proofs.Run.{Ideal, begin, openLedger, begun, keeps}
 use Rattle.histories.proofs.Ledger.{ledger-keeps, ledger-inv}
 use Rattle.histories.proofs.Invariant.{Inv}
@@ -31,6 +37,7 @@ use Rattle.histories.proofs.Begin.{begin-inv, begin-n, begin-pin-own, begin-pin
 use Rattle.histories.proofs.Memory.{Memory, begin-memory}
 use Rattle.histories.proofs.Rule.{keeps-in, keeps-out, same-some}
 use Rattle.model.proofs.simulation.View.{stateOf, Limits, processOf}
+use Rattle.model.proofs.simulation.Parts.{all-agree}
 use Rattle.model.proofs.simulation.Reads.{count-is, process-is}
 use Rattle.model.proofs.simulation.Accepted.{start-out}
 use Rattle.model.proofs.simulation.Start.{start-kept-in, start-is}
@@ -214,13 +221,39 @@ right-over-whole-runs n counts ok calls =
     )
 
 -- The number of a start.
-reports-start : (n : ℕ) (counts : List ℕ) → startReport (startOutcome n counts .answer) .refused ≡ numberOf (startRefusal n counts)
+pub reports-start : (n : ℕ) (counts : List ℕ) → startReport (startOutcome n counts .answer) .refused ≡ numberOf (startRefusal n counts)
 unfolding startReport startOutcome numberOf
 reports-start n counts = by-refusal (startRefusal n counts) (λ e. rw e) (λ x e. rw e)
 
 pub starts-are-right : StartsAreRight
 unfolding StartsAreRight
 starts-are-right n counts = reports-start n counts ∙ start-number n counts
+
+-- Counts at n and above have no part in a start.
+module _ (n : ℕ) (a b : List ℕ) (same : (p : ℕ) → p < n → getD a p 0 ≡ getD b p 0) where
+  same-refusal : startRefusal n a ≡ startRefusal n b
+  unfolding startRefusal
+  same-refusal = ap (λ (bad : Bool). firstOf (
+      record { holds = not (leb 1 n && leb n places); gives = CountOutsideRange }
+      ∷ record { holds = bad; gives = BlockCountOutsideRange }
+      ∷ []))
+      (any-same n (λ p. not (isBlockCount (getD a p 0))) (λ p. not (isBlockCount (getD b p 0))) (λ p lt. rw (same p lt)))
+
+  same-parts : withProcesses n (started a) (blank n) ≡ withProcesses n (started b) (blank n)
+  unfolding started
+  same-parts = all-agree n (started a) (started b) (blank n) (λ p lt. rw (same p lt))
+
+  same-opening : opening n a ≡ opening n b
+  unfolding opening
+  same-opening = rw (sum-same n (λ p. getD a p 0) (λ p. getD b p 0) same)
+
+  pub same-start : startState n a ≡ startState n b
+  unfolding startState
+  same-start = rw (same-parts, same-opening)
+
+pub counts-below-decide : CountsBelowDecide
+unfolding CountsBelowDecide startOutcome
+counts-below-decide n a b same = rw (same-refusal n a b same, same-start n a b same)
 
 -- Reachable states: the start, what a call makes of one, and that each is sound.
 pub reachable-start : (n : ℕ) (counts : List ℕ) → startRefusal n counts ≡ none → Reachable (startOutcome n counts .run)
@@ -282,3 +315,15 @@ deliver-promise s m deleted t same = state-promise s (deliver m deleted) t same
 pub recover-promise : (s : Run) (F : ℕ) (deleted lent : List ℕ) (t : Run) → t ≡ recoverOutcome s F deleted lent .run → StatePromise s (recover F deleted lent) t
 unfolding call answered
 recover-promise s F deleted lent t same = state-promise s (recover F deleted lent) t same
+
+pub send-promise : (s : Run) (i j : ℕ) (t : Run) → t ≡ sendOutcome s i j .run → StatePromise s (send i j) t
+unfolding call answered
+send-promise s i j t same = state-promise s (send i j) t same
+
+pub lose-promise : (s : Run) (m : ℕ) (t : Run) → t ≡ loseOutcome s m .run → StatePromise s (lose m) t
+unfolding call answered
+lose-promise s m t same = state-promise s (lose m) t same
+
+pub start-promise : (n : ℕ) (counts : List ℕ) (t : Run) → t ≡ startOutcome n counts .run → StartPromise n counts t
+unfolding RightOverWholeRuns StartPromise stateAfter transcript
+start-promise n counts t same ok = let w = right-over-whole-runs n counts ok [] in rw same (w .2, w .3)

@@ -2,7 +2,7 @@
 -- every failed set. Here is what that comes to; proofs/Sweep has the theorems.
 -- Assumes nothing.
 use mathlib.Core.Path.{_≡_}
-use mathlib.Core.Bool.{false}
+use mathlib.Core.Bool.{true, false}
 use mathlib.Core.List.{List}
 use mathlib.Core.Option.{none}
 use Prim.Native.Nat.{ℕ, _*_, _≤_}
@@ -12,15 +12,25 @@ use Rattle.laws.specs.Choice.{pick}
 use Rattle.laws.specs.Lists.{table}
 use Rattle.model.specs.declared.Pin.the-variants.{Nothing}
 use Rattle.model.specs.declared.Run.{Run}
+use Rattle.model.specs.declared.LineAnswer.{LineAnswer}
+use Rattle.model.specs.declared.LineAnswer.the-variants as line-answer
+use Rattle.model.specs.declared.RecoverAnswer.{RecoverAnswer}
+use Rattle.model.specs.declared.RecoverAnswer.the-variants as recover-answer
 use Rattle.model.specs.Words.{entry, liveIndex, process, own, underWay}
-use Rattle.model.specs.Steps.{lineOf, rolledBackCount, pinAfter, recoverState}
-use Rattle.model.specs.Refusals.{noMember, recoverRefusal}
-use Rattle.whole_runs.specs.Outcomes.{recoverOutcome}
+use Rattle.model.specs.Steps.{lineOf, rolledBackCount, pinAfter, recoverState, recoverDeletions}
+use Rattle.model.specs.Sound.{sound}
+use Rattle.model.specs.Refusals.{noMember, lineRefusal, recoverRefusal}
+use Rattle.whole_runs.specs.Outcomes.{written, startOutcome, recoverOutcome, startReport}
+use Rattle.whole_runs.specs.Calls.{Call, call}
+
+-- "the line has every process live": the index of each live state.
+abbrev pub liveLine : Run → List ℕ
+liveLine s = table (s .count) (λ p. liveIndex (own s p) .0)
 
 -- What a sweep does to any state, sound or not.
 pub record SweepIsQuiet (s : Run) : Type 0 where
   -- "the line has every process live": the line rule accepts every state
-  pub line : lineOf s 0 ≡ table (s .count) (λ p. liveIndex (own s p) .0)
+  pub line : lineOf s 0 ≡ liveLine s
   pub members : noMember s 0 ≡ false
   -- "nobody rolls back": none is counted, every vector and every sent mark stays
   pub nobody : rolledBackCount s 0 ≡ 0
@@ -29,9 +39,10 @@ pub record SweepIsQuiet (s : Run) : Type 0 where
   -- "and recover's pin step deletes": a pin for f whose vector entry is not f's own entry becomes none, every other stays
   pub pins : (p f : ℕ) → pinAfter s 0 p f ≡ pick (eqb (entry (process s p .vector) f .0) (own s f .0)) (getD (process s p .pins) f Nothing) Nothing
 
--- What it does to a sound one besides.
+-- What it does to a sound one besides, whether calls reached it or not.
 pub record SweepIsAccepted (s : Run) : Type 0 where
-  -- "Refusal 6 never occurs any more": with lists that are long enough a sweep meets no number
+  -- with lists that are long enough a line call for the empty set and a sweep meet no number, 2 for a process without a member among them
+  pub line-accepted : (lent : List ℕ) → s .count ≤ length lent → lineRefusal s 0 lent ≡ none
   pub accepted : (deleted lent : List ℕ) → 2 * s .count * s .count ≤ length deleted → s .count ≤ length lent → recoverRefusal s 0 deleted lent ≡ none
   -- "Messages under way stay, by Note 2's rule."
   pub messages : underWay (recoverState s 0) ≡ underWay s
@@ -40,3 +51,27 @@ pub record SweepIsAccepted (s : Run) : Type 0 where
 -- from before the sweep, whoever fails.
 unfoldable pub SweepLeavesLines : Run → Type 0
 SweepLeavesLines s = (deleted lent : List ℕ) (F : ℕ) → lineOf (recoverOutcome s 0 deleted lent .run) F ≡ lineOf s F
+
+-- "Refusal 6 never occurs any more": of no call, with any arguments on any state, and of no start.
+pub record SixNeverOccurs : Type 0 where
+  pub calls : (s : Run) (c : Call) → call s c .reply .report .refused ≡ 6 → ⊥
+  pub starts : (n : ℕ) (counts : List ℕ) → startReport (startOutcome n counts .answer) .refused ≡ 6 → ⊥
+
+-- Note 4 as a line call for F on the state s says it of its answer and of the line list as it then stands: wherever s is sound, reached or not.
+unfoldable pub EmptyLinePromise : Run → ℕ → List ℕ → LineAnswer → List ℕ → Type 0
+EmptyLinePromise s F lent answer line = sound s ≡ true → F ≡ 0 → s .count ≤ length lent → (answer ≡ line-answer.Written) × (line ≡ written lent (liveLine s))
+
+-- What a sweep of the state s leaves: its answer, the line list, and the state t.
+pub record Swept (s : Run) (lent : List ℕ) (answer : RecoverAnswer) (line : List ℕ) (t : Run) : Type 0 where
+  -- "nobody rolls back"
+  pub nobody : answer ≡ recover-answer.Recovered 0 (length (recoverDeletions s 0))
+  -- "the line has every process live"
+  pub live : line ≡ written lent (liveLine s)
+  pub vectors : t .vectors ≡ s .vectors
+  pub marks : t .sent ≡ s .sent
+  -- "Messages under way stay"
+  pub messages : underWay t ≡ underWay s
+
+-- The same as a recover call says it.
+unfoldable pub SweepPromise : Run → ℕ → List ℕ → List ℕ → RecoverAnswer → List ℕ → Run → Type 0
+SweepPromise s F deleted lent answer line t = sound s ≡ true → F ≡ 0 → 2 * s .count * s .count ≤ length deleted → s .count ≤ length lent → Swept s lent answer line t

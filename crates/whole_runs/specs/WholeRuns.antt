@@ -75,6 +75,10 @@ pub record BlocksAreRight (n : ℕ) (s : Run) (h : Surviving) : Type 0 where
 unfoldable pub StartsAreRight : Type 0
 StartsAreRight = (n : ℕ) (counts : List ℕ) → startReport (startOutcome n counts .answer) .refused ≡ lowest (startReasons n counts)
 
+-- Note 5: "those at n and above are neither judged nor stored": starts whose counts below n are the same have the same outcome.
+unfoldable pub CountsBelowDecide : Type 0
+CountsBelowDecide = (n : ℕ) (a b : List ℕ) → ((p : ℕ) → p < n → getD a p 0 ≡ getD b p 0) → startOutcome n a ≡ startOutcome n b
+
 -- Demand 3: for every accepted start (n from 1 to 16, block counts from 1 to 65,535), every list of calls from the state that it returned, and every failed
 -- set, the empty one of a sweep too. "A restart after a sweep is owed the same line as after any other call": a sweep is one of the calls. What every answer
 -- is, by the surviving history before it, is in Answers; which checkpoints are kept, by the lists alone, is in Needed. Together they leave nothing in an
@@ -125,3 +129,7 @@ unfoldable pub StatePromise : Run → Call → Run → Type 0
 StatePromise s c t = (n : ℕ) (counts : List ℕ) → startRefusal n counts ≡ none → (calls : List Call) → s ≡ stateAfter (startOutcome n counts .run) calls →
     let h = surviving n counts (transcript (startOutcome n counts .run) (calls ++ (c ∷ []))) in
     (KeptIsRight n t h) × (BlocksAreRight n t h)
+
+-- The same as an accepted start says it of the state t that it returns, by the history of no call.
+unfoldable pub StartPromise : ℕ → List ℕ → Run → Type 0
+StartPromise n counts t = startRefusal n counts ≡ none → let h = surviving n counts [] in (KeptIsRight n t h) × (BlocksAreRight n t h)
