@@ -26,21 +26,24 @@ ghost use lib.ListN.{take};
 ghost use Rattle.model.specs.declared.Named.{Named};
 ghost use Rattle.whole_runs.specs.Outcomes.{startOutcome, checkpointOutcome, sendOutcome, deliverOutcome, loseOutcome, lineOutcome, recoverOutcome};
 ghost use Rattle.whole_runs.specs.Calls as made;
-ghost use Rattle.whole_runs.specs.WholeRuns.{LinePromise, StatePromise, EarliestPromise};
+ghost use Rattle.whole_runs.specs.WholeRuns.{LinePromise, StatePromise, StartPromise, EarliestPromise};
 ghost use Rattle.whole_runs.specs.Clean.{CleanPromise};
+ghost use Rattle.whole_runs.specs.Sweep.{EmptyLinePromise, SweepPromise};
 ghost use Rattle.whole_runs.specs.Earliest.{earliestOutcome};
 ghost use Rattle.earliest.specs.Copying.{copyOf, IsCopy};
 
 // A run of n processes, with the block count of each: the state in which it starts. The counts at n and above are neither judged nor stored.
+// Accepted, what the returned state keeps and its blocks are right (demand 3).
 pub fn start(n: usize, counts: [u32; 16]) -> StartOutcome
     ensures { λ r. ⌜ r .run ≡ startOutcome n counts .run ⌝ }
     ensures { λ r. ⌜ r .answer ≡ startOutcome n counts .answer ⌝ }
+    ensures { λ r. ⌜ StartPromise n counts (r .run) ⌝ }
 {
     steps::start::start(n, counts)
 }
 
 // Process i takes a checkpoint. What is deleted goes to the front of the lent list.
-// Wherever calls from an accepted start led to s, what the returned state keeps is right (demand 3).
+// Wherever calls from an accepted start led to s, what the returned state keeps and its blocks are right (demand 3).
 pub fn checkpoint(s: Run, i: usize, deleted: &mut [u16]) -> CheckpointOutcome
     ensures { λ r. ⌜ r .run ≡ checkpointOutcome s i (now (deleted .entry)) .run ⌝ }
     ensures { λ r. ⌜ r .answer ≡ checkpointOutcome s i (now (deleted .entry)) .answer ⌝ }
@@ -56,9 +59,11 @@ pub fn checkpoint(s: Run, i: usize, deleted: &mut [u16]) -> CheckpointOutcome
 }
 
 // Process i sends a message to process j.
+// Wherever calls from an accepted start led to s, what the returned state keeps and its blocks are right (demand 3).
 pub fn send(s: Run, i: usize, j: usize) -> SendOutcome
     ensures { λ r. ⌜ r .run ≡ sendOutcome s i j .run ⌝ }
     ensures { λ r. ⌜ r .answer ≡ sendOutcome s i j .answer ⌝ }
+    ensures { λ r. ⌜ StatePromise s (made.send i j) (r .run) ⌝ }
 {
     let sound = soundness::is_sound(s);
     if !sound {
@@ -69,7 +74,7 @@ pub fn send(s: Run, i: usize, j: usize) -> SendOutcome
 }
 
 // Message m reaches its receiver. What is deleted goes to the front of the lent list; `rose` is the set of the receiver's entries that rose.
-// Wherever calls from an accepted start led to s, what the returned state keeps is right (demand 3).
+// Wherever calls from an accepted start led to s, what the returned state keeps and its blocks are right (demand 3).
 pub fn deliver(s: Run, m: u32, deleted: &mut [u16]) -> DeliverOutcome
     ensures { λ r. ⌜ r .run ≡ deliverOutcome s m (now (deleted .entry)) .run ⌝ }
     ensures { λ r. ⌜ r .answer ≡ deliverOutcome s m (now (deleted .entry)) .answer ⌝ }
@@ -90,9 +95,11 @@ pub fn deliver(s: Run, m: u32, deleted: &mut [u16]) -> DeliverOutcome
 }
 
 // Message m is lost.
+// Wherever calls from an accepted start led to s, what the returned state keeps and its blocks are right (demand 3).
 pub fn lose(s: Run, m: u32) -> LoseOutcome
     ensures { λ r. ⌜ r .run ≡ loseOutcome s m .run ⌝ }
     ensures { λ r. ⌜ r .answer ≡ loseOutcome s m .answer ⌝ }
+    ensures { λ r. ⌜ StatePromise s (made.lose m) (r .run) ⌝ }
 {
     let sound = soundness::is_sound(s);
     if !sound {
@@ -103,12 +110,14 @@ pub fn lose(s: Run, m: u32) -> LoseOutcome
 }
 
 // The line for a failed set, bit p of which stands for process p: its indexes go to the front of the lent list. Nothing else changes.
-// Wherever calls from an accepted start led to s, the line is right, and so is what s keeps (demand 3).
+// Wherever calls from an accepted start led to s, the line is right, and so is what s keeps (demand 3). Wherever s is sound, the line for the empty set has every
+// process live (Note 4).
 pub fn line(s: Run, failed: u16, line: &mut [u16]) -> LineOutcome
     ensures { λ r. ⌜ r .run ≡ lineOutcome s failed (now (line .entry)) .run ⌝ }
     ensures { λ r. ⌜ r .answer ≡ lineOutcome s failed (now (line .entry)) .answer ⌝ }
     ensures { λ r. ⌜ now (line .exit) ≡ lineOutcome s failed (now (line .entry)) .line ⌝ }
     ensures { λ r. ⌜ LinePromise s failed ⌝ }
+    ensures { λ r. ⌜ EmptyLinePromise s failed (now (line .entry)) (r .answer) (now (line .exit)) ⌝ }
 {
     let sound = soundness::is_sound(s);
     if !sound {
@@ -120,7 +129,7 @@ pub fn line(s: Run, failed: u16, line: &mut [u16]) -> LineOutcome
 
 // Everyone goes back to the line for a failed set: its indexes go to the front of the one lent list, what is deleted to the front of the other.
 // Wherever calls from an accepted start led to s, the line is right, and so is what s and the returned state keep (demand 3); if the call is accepted,
-// the returned state keeps a checkpoint exactly if some failure would use it (Note 6).
+// the returned state keeps a checkpoint exactly if some failure would use it (Note 6). Wherever s is sound, a recovery for the empty set rolls nobody back (Note 4).
 pub fn recover(s: Run, failed: u16, deleted: &mut [u16], line: &mut [u16]) -> RecoverOutcome
     ensures { λ r. ⌜ r .run ≡ recoverOutcome s failed (now (deleted .entry)) (now (line .entry)) .run ⌝ }
     ensures { λ r. ⌜ r .answer ≡ recoverOutcome s failed (now (deleted .entry)) (now (line .entry)) .answer ⌝ }
@@ -129,6 +138,7 @@ pub fn recover(s: Run, failed: u16, deleted: &mut [u16], line: &mut [u16]) -> Re
     ensures { λ r. ⌜ LinePromise s failed ⌝ }
     ensures { λ r. ⌜ StatePromise s (made.recover failed (now (deleted .entry)) (now (line .entry))) (r .run) ⌝ }
     ensures { λ r. ⌜ CleanPromise s failed (now (deleted .entry)) (now (line .entry)) (r .run) ⌝ }
+    ensures { λ r. ⌜ SweepPromise s failed (now (deleted .entry)) (now (line .entry)) (r .answer) (now (line .exit)) (r .run) ⌝ }
 {
     let sound = soundness::is_sound(s);
     if !sound {

@@ -16,7 +16,7 @@ returns-2 c =
     let e = c .before in
     let d = e .before in
     let a = d .before .before .args in
-    rw (lose-made (a .caller) (a .s) (a .m) (d .is-message-denied .ensures) (e .if1 .left)) (c .lose .ensures)
+    rw (lose-made (a .caller) (a .s) (a .m) (d .is-message-denied .ensures) (e .if1 .left)) (c .lose .ensures .0, c .lose .ensures .1 .0)
 
 pub lose-spec : {M : Type 1} → statement M
 lose-spec = tie.close (tie.spec (λ c κs. search needs) returns (λ c κs. search needs) returns-2)

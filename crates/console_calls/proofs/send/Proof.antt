@@ -16,7 +16,7 @@ returns-2 c =
     let e = c .before in
     let d = e .before in
     let a = d .before .args in
-    rw (send-made (a .caller) (a .s) (a .i) (a .j) (d .is-process-denied .ensures) (e .if1 .left)) (c .send .ensures)
+    rw (send-made (a .caller) (a .s) (a .i) (a .j) (d .is-process-denied .ensures) (e .if1 .left)) (c .send .ensures .0, c .send .ensures .1 .0)
 
 pub send-spec : {M : Type 1} → statement M
 send-spec = tie.close (tie.spec (λ c κs. search needs) returns (λ c κs. search needs) returns-2)

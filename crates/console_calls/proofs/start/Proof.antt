@@ -20,7 +20,7 @@ returns-2 c =
     let e = c .before in
     let d = e .before in
     let a = d .before .args in
-    rw (start-made (a .caller) (a .n) (a .counts) (d .is-denied .ensures) (e .if1 .left)) (c .start2 .ensures)
+    rw (start-made (a .caller) (a .n) (a .counts) (d .is-denied .ensures) (e .if1 .left)) (c .start2 .ensures .0, c .start2 .ensures .1 .0)
 
 pub start-spec : {M : Type 1} → statement M
 start-spec = tie.close (tie.spec (λ c κs. search needs) (λ c κs. search needs) returns (λ c κs. search needs) returns-2)

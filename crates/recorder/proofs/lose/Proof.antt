@@ -12,13 +12,13 @@ returns : tie.Need-returns
 returns c =
     let a = c .before .before .before .before .args in
     let done = c .before .before .lose .ensures in
-    let l = leaves-all _ _ _ _ (lose-refused (a .s) (a .m) (a .buffer .now) (a .place) (done .1) (c .before .lose2 .ensures) (c .if1 .taken)) in
-    (done .0 ∙ l .run, (done .1 ∙ l .answer, (l .buffer, l .place)))
+    let l = leaves-all _ _ _ _ (lose-refused (a .s) (a .m) (a .buffer .now) (a .place) (done .1 .0) (c .before .lose2 .ensures) (c .if1 .taken)) in
+    (done .0 ∙ l .run, (done .1 .0 ∙ l .answer, (l .buffer, l .place)))
 
 returns-2 : tie.Need-returns-2
 returns-2 c =
     let a = c .before .before .before .before .before .before .args in
-    let ok = lose-accepted (a .s) (a .m) (a .buffer .now) (a .place) (c .before .before .before .before .lose .ensures .1) (c .before .before .before .lose2 .ensures) (c .before .before .if1 .left) in
+    let ok = lose-accepted (a .s) (a .m) (a .buffer .now) (a .place) (c .before .before .before .before .lose .ensures .1 .0) (c .before .before .before .lose2 .ensures) (c .before .before .if1 .left) in
     let room = no-room (length (a .buffer .now)) (a .place) (c .before .has-room .ensures) (c .if2 .taken) in
     let l = leaves-all _ _ _ _ (lose-short (a .s) (a .m) (a .buffer .now) (a .place) (ok .0) (ok .2) room) in
     (l .run, (l .answer, (l .buffer, l .place)))
@@ -26,7 +26,7 @@ returns-2 c =
 append-requires : tie.Need-append-requires
 append-requires c κs =
     let a = c .before .before .before .before .before .before .before .args in
-    let ok = lose-accepted (a .s) (a .m) (a .buffer .now) (a .place) (c .before .before .before .before .before .lose .ensures .1) (c .before .before .before .before .lose2 .ensures) (c .before .before .before .if1 .left) in
+    let ok = lose-accepted (a .s) (a .m) (a .buffer .now) (a .place) (c .before .before .before .before .before .lose .ensures .1 .0) (c .before .before .before .before .lose2 .ensures) (c .before .before .before .if1 .left) in
     (has-room (length (a .buffer .now)) (a .place) (c .before .before .has-room .ensures) (c .before .if2 .left) .1, ok .1)
 
 returns-3 : tie.Need-returns-3
@@ -34,10 +34,10 @@ returns-3 c =
     let a = c .before .before .before .before .before .before .before .before .before .before .args in
     let done = c .before .before .before .before .before .before .before .before .lose .ensures in
     let written = c .before .before .append .ensures in
-    let ok = lose-accepted (a .s) (a .m) (a .buffer .now) (a .place) (done .1) (c .before .before .before .before .before .before .before .lose2 .ensures) (c .before .before .before .before .before .before .if1 .left) in
+    let ok = lose-accepted (a .s) (a .m) (a .buffer .now) (a .place) (done .1 .0) (c .before .before .before .before .before .before .before .lose2 .ensures) (c .before .before .before .before .before .before .if1 .left) in
     let room = has-room (length (a .buffer .now)) (a .place) (c .before .before .before .before .before .has-room .ensures) (c .before .before .before .before .if2 .left) in
     let l = leaves-written _ _ _ _ _ (lose-done (a .s) (a .m) (a .buffer .now) (a .place) (ok .0) (ok .2) (room .0)) in
-    (done .0 ∙ l .run, (done .1 ∙ l .answer, (written .0 ∙ l .buffer, written .1 ∙ l .place)))
+    (done .0 ∙ l .run, (done .1 .0 ∙ l .answer, (written .0 ∙ l .buffer, written .1 ∙ l .place)))
 
 pub lose-spec : {M : Type 1} → statement M
 lose-spec =

@@ -25,13 +25,13 @@ returns : tie.Need-returns
 returns c =
     let a = c .before .before .before .before .args in
     let done = c .before .before .send .ensures in
-    let l = leaves-all _ _ _ _ (send-refused (a .s) (a .i) (a .j) (a .buffer .now) (a .place) (done .1) (c .before .send2 .ensures) (c .if1 .taken)) in
-    (done .0 ∙ l .run, (done .1 ∙ l .answer, (l .buffer, l .place)))
+    let l = leaves-all _ _ _ _ (send-refused (a .s) (a .i) (a .j) (a .buffer .now) (a .place) (done .1 .0) (c .before .send2 .ensures) (c .if1 .taken)) in
+    (done .0 ∙ l .run, (done .1 .0 ∙ l .answer, (l .buffer, l .place)))
 
 returns-2 : tie.Need-returns-2
 returns-2 c =
     let a = c .before .before .before .before .before .before .args in
-    let ok = send-accepted (a .s) (a .i) (a .j) (a .buffer .now) (a .place) (c .before .before .before .before .send .ensures .1) (c .before .before .before .send2 .ensures) (c .before .before .if1 .left) in
+    let ok = send-accepted (a .s) (a .i) (a .j) (a .buffer .now) (a .place) (c .before .before .before .before .send .ensures .1 .0) (c .before .before .before .send2 .ensures) (c .before .before .if1 .left) in
     let room = no-room (length (a .buffer .now)) (a .place) (c .before .has-room .ensures) (c .if2 .taken) in
     let l = leaves-all _ _ _ _ (send-short (a .s) (a .i) (a .j) (a .buffer .now) (a .place) (ok .0) (ok .2) room) in
     (l .run, (l .answer, (l .buffer, l .place)))
@@ -39,13 +39,13 @@ returns-2 c =
 cast-t18 : tie.Need-cast-t18
 cast-t18 c =
     let a = c .before .before .before .before .before .before .before .args in
-    let ok = send-accepted (a .s) (a .i) (a .j) (a .buffer .now) (a .place) (c .before .before .before .before .before .send .ensures .1) (c .before .before .before .before .send2 .ensures) (c .before .before .before .if1 .left) in
+    let ok = send-accepted (a .s) (a .i) (a .j) (a .buffer .now) (a .place) (c .before .before .before .before .before .send .ensures .1 .0) (c .before .before .before .before .send2 .ensures) (c .before .before .before .if1 .left) in
     record { fits = omega (arith, small (a .i) (a .j) (ok .1)) }
 
 append-requires : tie.Need-append-requires
 append-requires c κs =
     let a = c .before .before .before .before .before .before .before .args in
-    let ok = send-accepted (a .s) (a .i) (a .j) (a .buffer .now) (a .place) (c .before .before .before .before .before .send .ensures .1) (c .before .before .before .before .send2 .ensures) (c .before .before .before .if1 .left) in
+    let ok = send-accepted (a .s) (a .i) (a .j) (a .buffer .now) (a .place) (c .before .before .before .before .before .send .ensures .1 .0) (c .before .before .before .before .send2 .ensures) (c .before .before .before .if1 .left) in
     (has-room (length (a .buffer .now)) (a .place) (c .before .before .has-room .ensures) (c .before .if2 .left) .1, ok .1)
 
 returns-3 : tie.Need-returns-3
@@ -53,10 +53,10 @@ returns-3 c =
     let a = c .before .before .before .before .before .before .before .before .before .before .args in
     let done = c .before .before .before .before .before .before .before .before .send .ensures in
     let written = c .before .before .append .ensures in
-    let ok = send-accepted (a .s) (a .i) (a .j) (a .buffer .now) (a .place) (done .1) (c .before .before .before .before .before .before .before .send2 .ensures) (c .before .before .before .before .before .before .if1 .left) in
+    let ok = send-accepted (a .s) (a .i) (a .j) (a .buffer .now) (a .place) (done .1 .0) (c .before .before .before .before .before .before .before .send2 .ensures) (c .before .before .before .before .before .before .if1 .left) in
     let room = has-room (length (a .buffer .now)) (a .place) (c .before .before .before .before .before .has-room .ensures) (c .before .before .before .before .if2 .left) in
     let l = leaves-written _ _ _ _ _ (send-done (a .s) (a .i) (a .j) (a .buffer .now) (a .place) (ok .0) (ok .2) (room .0)) in
-    (done .0 ∙ l .run, (done .1 ∙ l .answer, (written .0 ∙ l .buffer, written .1 ∙ l .place)))
+    (done .0 ∙ l .run, (done .1 .0 ∙ l .answer, (written .0 ∙ l .buffer, written .1 ∙ l .place)))
 
 pub send-spec : {M : Type 1} → statement M
 send-spec =

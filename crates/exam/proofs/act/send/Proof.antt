@@ -13,7 +13,7 @@ returns c =
     let called = c .before .before .send .ensures in (
       called .0,
       ap (λ (r : Report). r .refused) (c .of-send .ensures)
-          ∙ ap (λ (a : SendAnswer). sendReport a .refused) (called .1),
+          ∙ ap (λ (a : SendAnswer). sendReport a .refused) (called .1 .0),
     )
 
 pub send-spec : {M : Type 1} → statement M

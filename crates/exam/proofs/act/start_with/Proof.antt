@@ -13,7 +13,7 @@ returns c =
     let called = c .before .before .start .ensures in (
       called .0,
       ap (λ (r : Report). r .refused) (c .of-start .ensures)
-          ∙ ap (λ (a : StartAnswer). startReport a .refused) (called .1),
+          ∙ ap (λ (a : StartAnswer). startReport a .refused) (called .1 .0),
     )
 
 pub start-with-spec : {M : Type 1} → statement M
