@@ -9,8 +9,8 @@ use Prim.Native.Nat.{ℕ, zero, suc, _+_, _-_, _*_, _≤_, _<_, min}
 use native.Mathlib.Nat.{mul-le-mul}
 use native.Mathlib.Omega.{arith}
 use lib.Dec.{eqb, ltb}
-use lib.ListN.{length, take, drop, replicate, length-append, length-replicate, take-append-drop}
-use lib.Seq.{sets, sets-eq, length-sets, take-at, drop-at, drop-drop, length-take-le}
+use lib.ListN.{length, getD, take, drop, replicate, length-append, length-replicate, getD-replicate, take-append-drop}
+use lib.Seq.{sets, sets-eq, length-sets, take-at, take-all, drop-at, drop-drop, length-take-le}
 use borrow.Author.Tests.{lt-ltb, le-ltb, ltb-true, ltb-false}
 use Rattle.laws.specs.Choice.{by-bool, pick-same}
 use Rattle.laws.specs.Front.{written-front}
@@ -29,7 +29,7 @@ use Rattle.model.specs.declared.Refusal.the-variants.{BufferTooShort}
 use Rattle.model.specs.declared.StartAnswer.the-variants as start-answer
 use Rattle.model.specs.Words.{places, basic, forced, ones, process, failed}
 use Rattle.model.specs.Steps.{Deletion, startState, checkpointDeletions, forces, deliverDeletions, lineOf, recoverDeletions}
-use Rattle.model.specs.Sound.{sound}
+use Rattle.model.specs.Sound.{isBlockCount, sound}
 use Rattle.model.specs.Refusals.{number, firstOf, startRefusal, shortDeletions, shortLine, checkpointRefusal, deliverRefusal, lineRefusal, recoverRefusal}
 use Rattle.model.specs.laws.Refusals.{by-refusal}
 use Rattle.model.specs.Trace.{decoded, isRecord, fits}
@@ -37,9 +37,9 @@ use Rattle.whole_runs.specs.Outcomes.{pairs, written, startOutcome, deliverAnsw
 use Rattle.whole_runs.specs.Earliest.{earliestRefusal, earliestOutcome}
 use Rattle.whole_runs.specs.Calls.{Call, checkpoint, send, deliver, lose, recover, line, earliest, Reply, answered, call}
 use Rattle.whole_runs.specs.Survival.{Surviving, beginning}
-use Rattle.whole_runs.specs.Listing.{deletionsText, acceptedText, lineText, callOf, perform, stateAfterRecords, listing}
-use Rattle.recording.specs.Replay.{recordBytes, recordsOf, EventReply, repliesOf, noneRefused, linesOf}
-use Rattle.recording.specs.Recording.{unwritten, appended, recording, recordedStart, recordedCheckpoint, recordedSend, recordedDeliver, recordedLose, recordedRecover, recordedLine, recordedEarliest, Tape, taped, recorded, begun, tapeAfter, eventOfCall, entryOf, entered, entries, WritesAcceptedAlone, handed, traceOf, ReplaysTheSame, RecordingReplays}
+use Rattle.whole_runs.specs.Listing.{deletionsText, acceptedText, lineText, callOf, perform, mostRecords, stateAfterRecords, listing}
+use Rattle.recording.specs.Replay.{recordBytes, recordsOf, EventReply, repliesOf, replayedState, noneRefused, linesOf}
+use Rattle.recording.specs.Recording.{unwritten, appended, recording, recordedStart, recordedCheckpoint, recordedSend, recordedDeliver, recordedLose, recordedRecover, recordedLine, recordedEarliest, Tape, taped, recorded, begun, tapeAfter, eventOfCall, entryOf, entered, entries, WritesAcceptedAlone, handed, traceOf, OneEach, ReplaysTheSame, RecordingReplays}
 use Rattle.histories.proofs.Run.{Ideal, because, keeps, checkpointed, delivered, recovered, line as line-of, begun as run-begun}
 use Rattle.histories.proofs.Invariant.{Inv}
 use Rattle.histories.proofs.Ledger.{ledger-inv}
@@ -50,7 +50,7 @@ use Rattle.model.proofs.simulation.Checkpoint.{checkpoint-deletions}
 use Rattle.model.proofs.simulation.Deliver.{deliver-deletions}
 use Rattle.model.proofs.simulation.Recover.{recover-deletions}
 use Rattle.model.proofs.simulation.Lines.{line-is}
-use Rattle.model.proofs.simulation.Accepted.{start-out, checkpoint-out, checkpoint-in, deliver-out, deliver-in, recover-out, recover-in}
+use Rattle.model.proofs.simulation.Accepted.{start-out, start-in, checkpoint-out, checkpoint-in, deliver-out, deliver-in, recover-out, recover-in}
 use Rattle.model.proofs.simulation.SoundCalls.{checkpoint-run, deliver-run, recover-run}
 use Rattle.model.proofs.Records.{records-are-events}
 use Rattle.whole_runs.proofs.whole.Handed.{listed-length, gather-length, room-one, gone}
@@ -60,7 +60,7 @@ use Rattle.whole_runs.proofs.Sizes.{few-processes}
 use Rattle.whole_runs.proofs.whole.Because.{because-state, because-limits}
 use Rattle.whole_runs.proofs.whole.Reached.{Reached, refusal, refused-number, refused-state, refused-report}
 use Rattle.whole_runs.proofs.whole.Accepted.{accepted-report}
-use Rattle.whole_runs.proofs.WholeRuns.{started-state, start-reached, call-reached}
+use Rattle.whole_runs.proofs.WholeRuns.{started-state, start-reached, call-reached, same-start}
 
 -- The lists of a replay are long enough for every sound state.
 room : (s : Run) → sound s ≡ true → 2 * s .count * s .count ≤ length {A = ℕ} (replicate 512 0)
@@ -465,6 +465,49 @@ replay-accepted : (n : ℕ) (s : Run) (l : List EventReply) → map (handed n) (
     → noneRefused (repliesOf s (traceOf l)) ≡ true
 replay-accepted n s l e h = sym (none-handed n (repliesOf s (traceOf l))) ∙ ap noneRefused e ∙ entries-refused n l ∙ h
 
+-- A start with block counts 1 is the start of a replay.
+one-of : (n p : ℕ) → n ≤ places → p < n → getD ones p 0 ≡ 1
+one-of n p few lt = getD-replicate 16 p 1 0 (omega arith)
+
+one-start : (n : ℕ) (counts : List ℕ) → n ≤ places → OneEach n counts → startState n counts ≡ startState n ones
+unfolding OneEach
+one-start n counts few one = same-start n counts ones (λ p lt. one p lt ∙ sym (one-of n p few lt))
+
+replay-starts : (n : ℕ) (counts : List ℕ) → startRefusal n counts ≡ none → startRefusal n ones ≡ none
+replay-starts n counts ok =
+    let w = start-out n counts ok in
+    start-in n ones (w .0) (w .1) (λ p lt. ap isBlockCount (one-of n p (w .1) lt) ∙ one-fits)
+  where
+    one-fits : isBlockCount 1 ≡ true
+    one-fits = unfold isBlockCount in refl
+
+-- What a replay does with n and the records of what was entered, by a replay from the start that was recorded.
+module _ (n : ℕ) (counts : List ℕ) (l : List EventReply) (ok : startRefusal n counts ≡ none) (size : length (traceOf l) ≡ 4 * length l) (one : OneEach n counts) (most : length l ≤ mostRecords) where
+  reaches : (s : Run) → stateAfterRecords (startState n counts) (traceOf l) ≡ s → replayedState (n ∷ traceOf l) ≡ s
+  unfolding replayedState
+  reaches s e =
+      ap (stateAfterRecords (startState n ones)) (take-all (4 * mostRecords) (traceOf l) (omega arith))
+      ∙ ap (λ (t : Run). stateAfterRecords t (traceOf l)) (sym (one-start n counts (start-out n counts ok .1) one))
+      ∙ e
+
+  handed-alike : map (handed n) (repliesOf (startState n counts) (traceOf l)) ≡ map (λ x. handed n (x .reply)) l
+      → map (handed n) (repliesOf (startState n ones) (traceOf l)) ≡ map (λ x. handed n (x .reply)) l
+  handed-alike e = ap (λ (t : Run). map (handed n) (repliesOf t (traceOf l))) (sym (one-start n counts (start-out n counts ok .1) one)) ∙ e
+
+  prints : map (handed n) (repliesOf (startState n counts) (traceOf l)) ≡ map (λ x. handed n (x .reply)) l → noneRefused (map (λ x. x .reply) l) ≡ true → (all : Bool)
+      → listing all (n ∷ traceOf l) ≡ linesOf 0 (map (λ x. x .reply) l)
+  prints e none-refused all =
+      listing-started all n (traceOf l) (replay-starts n counts ok)
+      ∙ lines-replayed all (length l) 0 (startState n ones) (traceOf l) size (omega arith) (replay-accepted n (startState n ones) l (handed-alike e) none-refused)
+      ∙ sym (lines-handed n 0 (repliesOf (startState n ones) (traceOf l)))
+      ∙ ap (linesOf 0) (handed-alike e)
+      ∙ entries-handed n 0 l
+
+-- What stands in front of the place.
+stands : (n place : ℕ) (l : List EventReply) (buffer now-buffer : List ℕ) → now-buffer ≡ (n ∷ traceOf l) ++ drop place buffer → place ≡ length (n ∷ traceOf l)
+    → take place now-buffer ≡ n ∷ traceOf l
+stands n place l buffer now-buffer e far = ap (take place) e ∙ take-at (n ∷ traceOf l) (drop place buffer) place (sym far)
+
 -- Note 9.
 begun-follows : (n : ℕ) (counts buffer : List ℕ) (t u : Tape) (l : List EventReply) → startRefusal n counts ≡ none → 1 ≤ length buffer
     → t ≡ record { run = startState n counts; buffer = sets buffer 0 (n ∷ []); place = 1 } → Follows n t u l → ReplaysTheSame n counts buffer u l
@@ -477,23 +520,18 @@ begun-follows n counts buffer t u l ok some-room is w₀ =
     w .written
     ∙ ap (λ (x : List ℕ). (x ++ traceOf l) ++ drop (u .place) (sets buffer 0 (n ∷ []))) (up-to buffer (n ∷ []) 0 fitting)
     ∙ ap (λ (x : List ℕ). (n ∷ traceOf l) ++ x) (rw far (further buffer (n ∷ []) 0 fitting (4 * length l))) in
+    let front : take (u .place) (u .buffer) ≡ n ∷ traceOf l = stands n (u .place) l buffer (u .buffer) whole (omega (arith, far, w .size)) in
     record {
       written = whole;
       size = w .size;
       are-bytes = rw (lt-ltb n 256 (omega (arith, start-out n counts ok .1))) (w .are-bytes);
       place = w .place;
       inside = omega (arith, w .inside, length-sets buffer 0 (n ∷ []));
-      state = w .state;
+      same = w .state;
       replies = w .replies;
       accepted = w .accepted;
-      printed = λ one most all.
-          ap (λ (b : List ℕ). listing all (take (u .place) b)) whole
-          ∙ ap (listing all) (take-at (n ∷ traceOf l) (drop (u .place) buffer) (u .place) (omega (arith, far, w .size)))
-          ∙ listing-started all n (traceOf l) (rw one at ok)
-          ∙ lines-replayed all (length l) 0 (startState n ones) (traceOf l) (w .size) (omega arith) (replay-accepted n (startState n ones) l (rw one at (w .replies)) (w .accepted))
-          ∙ sym (lines-handed n 0 (repliesOf (startState n ones) (traceOf l)))
-          ∙ ap (linesOf 0) (rw one at (w .replies))
-          ∙ entries-handed n 0 l;
+      state = λ one most. ap replayedState front ∙ reaches n counts l ok (w .size) one most (u .run) (w .state);
+      printed = λ one most all. ap (listing all) front ∙ prints n counts l ok (w .size) one most (w .replies) (w .accepted) all;
     }
 
 replays-from : (n : ℕ) (counts buffer : List ℕ) → recordedStart n counts buffer .outcome .answer ≡ start-answer.Started → (calls : List Call)

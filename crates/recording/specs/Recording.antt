@@ -5,9 +5,9 @@ use mathlib.Core.Bool.{Bool, true, false}
 use mathlib.Core.List.{List, [], _∷_, _++_, map}
 use mathlib.Core.Logic.{_⊎_}
 use mathlib.Core.Option.{Option, none, some}
-use Prim.Native.Nat.{ℕ, _+_, _-_, _*_, _≤_}
+use Prim.Native.Nat.{ℕ, _+_, _-_, _*_, _≤_, _<_}
 use lib.Dec.{eqb, ltb}
-use lib.ListN.{length, take, drop}
+use lib.ListN.{length, getD, take, drop}
 use lib.Seq.{sets}
 use Rattle.laws.specs.Choice.{pick}
 use Rattle.laws.specs.Tests.{every}
@@ -30,14 +30,14 @@ use Rattle.model.specs.declared.LoseAnswer.the-variants as lose-answer
 use Rattle.model.specs.declared.LineAnswer.{LineAnswer}
 use Rattle.model.specs.declared.RecoverAnswer.{RecoverAnswer}
 use Rattle.model.specs.declared.RecoverAnswer.the-variants as recover-answer
-use Rattle.model.specs.Words.{ones, blank}
+use Rattle.model.specs.Words.{blank}
 use Rattle.model.specs.Steps.{startState}
 use Rattle.model.specs.Refusals.{startRefusal, checkpointRefusal, sendRefusal, deliverRefusal, loseRefusal, recoverRefusal}
 use Rattle.whole_runs.specs.Outcomes.{Outcome, Report, judged, startOutcome, checkpointOutcome, checkpointReport, sendOutcome, sendReport, deliverOutcome, deliverReport, loseOutcome, loseReport, lineOutcome, lineReport, recoverOutcome, recoverReport}
 use Rattle.whole_runs.specs.Earliest.{earliestOutcome}
 use Rattle.whole_runs.specs.Calls.{Call, checkpoint, send, deliver, lose, recover, line, earliest, Reply, answered}
 use Rattle.whole_runs.specs.Listing.{mostRecords, stateAfterRecords, listing}
-use Rattle.recording.specs.Replay.{recordBytes, recordsOf, EventReply, repliesOf, noneRefused, linesOf}
+use Rattle.recording.specs.Replay.{recordBytes, recordsOf, EventReply, repliesOf, replayedState, noneRefused, linesOf}
 
 -- What a call through the writer leaves behind: the call's outcome, the buffer, and the place that the next byte goes to.
 pub record Recorded (A : Type 0) : Type 0 where
@@ -168,6 +168,10 @@ handed n r = record { report = r .report; rose = r .rose; deleted = take (2 * r 
 abbrev pub traceOf : List EventReply → List ℕ
 traceOf l = recordsOf (map (λ x. x .event) l)
 
+-- "with block counts 1": of the n processes. Note 5: counts "at n and above are neither judged nor stored".
+unfoldable pub OneEach : ℕ → List ℕ → Type 0
+OneEach n counts = (p : ℕ) → p < n → getD counts p 0 ≡ 1
+
 -- "a replay of what was recorded .. must reach the same state, message numbers, deletions and all".
 pub record ReplaysTheSame (n : ℕ) (counts buffer : List ℕ) (t : Tape) (l : List EventReply) : Type 0 where
   -- the buffer: n, the records of the accepted calls, and past the place what it was lent with
@@ -176,13 +180,15 @@ pub record ReplaysTheSame (n : ℕ) (counts buffer : List ℕ) (t : Tape) (l : L
   pub are-bytes : every (λ b. ltb b 256) (n ∷ traceOf l) ≡ true
   pub place : t .place ≡ 1 + 4 * length l
   pub inside : t .place ≤ length buffer
-  -- the replay, from a start with the same block counts, ends in the same state
-  pub state : stateAfterRecords (startState n counts) (traceOf l) ≡ t .run
+  -- a replay from a start with the same block counts ends in the same state
+  pub same : stateAfterRecords (startState n counts) (traceOf l) ≡ t .run
   -- and each of its records hands out what the recorded call handed out
   pub replies : map (handed n) (repliesOf (startState n counts) (traceOf l)) ≡ map (λ x. handed n (x .reply)) l
   pub accepted : noneRefused (map (λ x. x .reply) l) ≡ true
-  -- "with block counts 1, up to 1,000,000,000 records": the replay program, with or without `all`, prints the lines of the recorded replies
-  pub printed : counts ≡ ones → length l ≤ mostRecords → (all : Bool) → listing all (take (t .place) (t .buffer)) ≡ linesOf 0 (map (λ x. x .reply) l)
+  -- "with block counts 1, up to 1,000,000,000 records": the replay program reaches the same state with what stands in the buffer
+  pub state : OneEach n counts → length l ≤ mostRecords → replayedState (take (t .place) (t .buffer)) ≡ t .run
+  -- and prints the lines of the recorded replies, with or without `all`
+  pub printed : OneEach n counts → length l ≤ mostRecords → (all : Bool) → listing all (take (t .place) (t .buffer)) ≡ linesOf 0 (map (λ x. x .reply) l)
 
 -- Note 9: for every accepted start through the writer, with any block counts and any buffer, and every list of calls behind it.
 unfoldable pub RecordingReplays : Type 0

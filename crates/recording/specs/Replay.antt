@@ -3,15 +3,18 @@
 -- Assumes nothing.
 use mathlib.Core.Bool.{Bool}
 use mathlib.Core.List.{List, [], _∷_, _++_}
-use Prim.Native.Nat.{ℕ, _+_}
+use Prim.Native.Nat.{ℕ, _+_, _*_}
 use lib.Dec.{eqb}
+use lib.ListN.{take}
 use Rattle.laws.specs.Lists.{orElse}
 use Rattle.laws.specs.Tests.{every}
 use Rattle.model.specs.declared.Run.{Run}
 use Rattle.model.specs.declared.Event.{Event}
+use Rattle.model.specs.Words.{ones, blank}
+use Rattle.model.specs.Steps.{startState}
 use Rattle.model.specs.Trace.{encoded, decoded}
 use Rattle.whole_runs.specs.Calls.{Reply, call}
-use Rattle.whole_runs.specs.Listing.{lineText, callOf, perform}
+use Rattle.whole_runs.specs.Listing.{mostRecords, lineText, callOf, perform, stateAfterRecords}
 
 -- The record of an event that fits the fields; of another there is none, and no byte stands for it.
 unfoldable pub recordBytes : Event → List ℕ
@@ -42,6 +45,12 @@ repliesOf s (a ∷ []) = []
 repliesOf s (a ∷ b ∷ []) = []
 repliesOf s (a ∷ b ∷ c ∷ []) = []
 repliesOf s (a ∷ b ∷ c ∷ d ∷ l) = perform s (decoded (a ∷ b ∷ c ∷ d ∷ [])) .reply ∷ repliesOf (perform s (decoded (a ∷ b ∷ c ∷ d ∷ [])) .run) l
+
+-- The state that the replay program reaches with a trace, none of whose records it stops at: "The first byte is n", Note 5: "a trace run uses 1", and "The program
+-- ends after record 1,000,000,000 and reads nothing past it." Without a first byte there is no state; a state of zeros stands in.
+unfoldable pub replayedState : List ℕ → Run
+replayedState [] = blank 0
+replayedState (n ∷ l) = stateAfterRecords (startState n ones) (take (4 * mostRecords) l)
 
 -- No reply is a refusal.
 unfoldable pub noneRefused : List Reply → Bool
