@@ -1,40 +1,62 @@
 -- What the program does, in the words of the recorder: each record's call goes through it, with the state, buffer and place that the one before left.
 -- Assumes nothing.
 use mathlib.Core.Path.{_≡_}
-use mathlib.Core.List.{List}
+use mathlib.Core.List.{List, [], _∷_, _++_}
 use mathlib.Core.Option.{Option, none, some}
-use Prim.Native.Nat.{ℕ}
+use Prim.Native.Nat.{ℕ, _*_}
+use lib.ListN.{length}
 use Rattle.model.specs.declared.Event.{Event}
 use Rattle.model.specs.declared.Run.{Run}
 use Rattle.model.specs.declared.StartAnswer.the-variants.{Started}
+use Rattle.model.specs.Trace.{decoded}
 use Rattle.model.specs.Words.{ones}
 use Rattle.whole_runs.specs.Calls.{Call}
 use Rattle.whole_runs.specs.Listing.{callOf}
-use Rattle.recording.specs.Replay.{EventReply}
-use Rattle.recording.specs.Recording.{Tape, recordedStart, recorded, begun, tapeAfter, ReplaysTheSame}
+use Rattle.recording.specs.Recording.{Tape, recordedStart, recorded, begun, tapeAfter, entries, ReplaysTheSame}
 
 -- The functions hold the state and the place, and are lent the buffer.
 unfoldable pub tapeOf : Run → List ℕ → ℕ → Tape
 tapeOf run buffer place = record { run = run; buffer = buffer; place = place }
 
--- The tape behind a record: the call of its event goes through the recorder. A record that is malformed is no call.
+-- The call that a record stands for. A record that is malformed is no call.
+unfoldable pub callIn : Option Event → List Call
+callIn none = []
+callIn (some e) = callOf e ∷ []
+
+-- The calls that stand in the records of a part of a trace, in their order. Left-over bytes are no record.
+unfoldable pub callsIn : List ℕ → List Call
+callsIn [] = []
+callsIn (a ∷ []) = []
+callsIn (a ∷ b ∷ []) = []
+callsIn (a ∷ b ∷ c ∷ []) = []
+callsIn (a ∷ b ∷ c ∷ d ∷ l) = callIn (decoded (a ∷ b ∷ c ∷ d ∷ [])) ++ callsIn l
+
+-- The tape behind a record: the call of its event goes through the recorder.
 unfoldable pub tapeBehind : Tape → Option Event → Tape
 tapeBehind t none = t
 tapeBehind t (some e) = recorded t (callOf e) .tape
 
--- Calls through the recorder lead from one tape to another.
-unfoldable pub LeadsTo : Tape → Tape → Type 0
-LeadsTo t u = (calls : List Call) × (u ≡ tapeAfter t calls)
+-- Records were read, and their calls, through the recorder and in their order, led from one tape to another. `read` is their bytes.
+unfoldable pub LedBy : List ℕ → Tape → Tape → Type 0
+LedBy read t u = (k : ℕ) × (length read ≡ 4 * k) × (u ≡ tapeAfter t (callsIn read))
 
--- A buffer and a place as calls behind a tape leave them.
+unfoldable pub LeadsTo : Tape → Tape → Type 0
+LeadsTo t u = (read : List ℕ) × LedBy read t u
+
+-- A buffer and a place as the calls of records that were read leave them behind a tape.
 unfoldable pub Left : Tape → List ℕ → ℕ → Type 0
 Left t buffer place = (s : Run) × LeadsTo t (tapeOf s buffer place)
 
--- A buffer and a place as an accepted start with block counts 1, on some buffer, and calls behind it leave them.
-unfoldable pub WasRecorded : List ℕ → ℕ → Type 0
-WasRecorded buffer place = (n : ℕ) × (lent : List ℕ) × (recordedStart n ones lent .outcome .answer ≡ Started) × Left (begun n ones lent) buffer place
+-- A trace was read, n its first byte and `read` its records. The start with block counts 1 was accepted on the buffer as it was lent, and the calls that stand in
+-- the records left the buffer and the place.
+unfoldable pub Recorded : ℕ → List ℕ → List ℕ → List ℕ → ℕ → Type 0
+Recorded n read lent buffer place = (recordedStart n ones lent .outcome .answer ≡ Started) × (s : Run) × LedBy read (begun n ones lent) (tapeOf s buffer place)
 
--- So what the program writes replays the same.
+-- What `put` may be handed: no contract says what a read brought, so that it was this trace is left to the eye.
+unfoldable pub WasRecorded : List ℕ → ℕ → Type 0
+WasRecorded buffer place = (n : ℕ) × (read lent : List ℕ) × Recorded n read lent buffer place
+
+-- So what the program writes replays the same: what stands in the buffer up to the place are n and the records of those calls of the trace that were accepted.
 unfoldable pub WrittenReplays : Type 0
-WrittenReplays = (buffer : List ℕ) (place : ℕ) → WasRecorded buffer place
-    → (n : ℕ) × (lent : List ℕ) × (s : Run) × (l : List EventReply) × ReplaysTheSame n ones lent (tapeOf s buffer place) l
+WrittenReplays = (n : ℕ) (read lent buffer : List ℕ) (place : ℕ) → Recorded n read lent buffer place
+    → (s : Run) × ReplaysTheSame n ones lent (tapeOf s buffer place) (entries (begun n ones lent) (callsIn read))
