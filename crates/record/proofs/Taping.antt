@@ -29,7 +29,7 @@ use Rattle.recording.proofs.Recording.{recording-replays}
 use Rattle.trace.specs.declared.Decoded.{Decoded}
 use Rattle.trace.specs.declared.Decoded.the-variants.{Malformed, StandsFor}
 use Rattle.trace.specs.Answers.{eventIn, eventRead}
-use Rattle.record.specs.Tapes.{tapeOf, callIn, callsIn, tapeBehind, LedBy, LeadsTo, Left, Recorded, WasRecorded, WrittenReplays}
+use Rattle.record.specs.Tapes.{tapeOf, callIn, callsIn, tapeBehind, LedBy, LeadsTo, Left, TraceRecorded, WasRecorded, WrittenReplays}
 
 module _ (s : Run) (buffer : List ℕ) (place : ℕ) {r : Run} {b : List ℕ} {p : ℕ} where
   pub checkpoint-taped : (i : ℕ) → r ≡ recordedCheckpoint s i (replicate 512 0) buffer place .outcome .run → b ≡ recordedCheckpoint s i (replicate 512 0) buffer place .buffer
@@ -74,7 +74,7 @@ pub behind-event : (t u : Tape) (d : Decoded) (x : Event) (o : Option Event) →
 unfolding eventRead
 behind-event t u d x o e f g = g ∙ ap (tapeBehind t) (sym (ap eventRead e) ∙ f)
 
--- The records of two parts, one behind the other.
+-- The records of two parts, one after the other.
 calls-append : (k : ℕ) (l m : List ℕ) → length l ≡ 4 * k → callsIn (l ++ m) ≡ callsIn l ++ callsIn m
 unfolding callsIn
 calls-append zero [] m h = refl
@@ -144,12 +144,12 @@ left-by t s buffer place h = (s, h)
 pub was-recorded : (n : ℕ) (lent : List ℕ) (s : Run) (b : List ℕ) (p : ℕ) (a : StartAnswer) (buffer : List ℕ) (place : ℕ)
     → (s ≡ recordedStart n ones lent .outcome .run) × ((a ≡ recordedStart n ones lent .outcome .answer) × ((b ≡ recordedStart n ones lent .buffer) × (p ≡ recordedStart n ones lent .place)))
     → a ≡ Started → Left (tapeOf s b p) buffer place → WasRecorded buffer place
-unfolding WasRecorded Recorded Left LeadsTo tapeOf begun
+unfolding WasRecorded TraceRecorded Left LeadsTo tapeOf begun
 was-recorded n lent s b p a buffer place e h left =
     let path : tapeOf s b p ≡ begun n ones lent = λ j. record { run = e .0 j; buffer = e .1 .1 .0 j; place = e .1 .1 .1 j } in
     (n, left .1 .0, lent, (sym (e .1 .0) ∙ h, left .0, subst (λ (t : Tape). LedBy (left .1 .0) t (tapeOf (left .0) buffer place)) path (left .1 .1)))
 
 pub written-replays : WrittenReplays
-unfolding WrittenReplays Recorded LedBy RecordingReplays
+unfolding WrittenReplays TraceRecorded LedBy RecordingReplays
 written-replays n read lent buffer place w =
     (w .1, rw (w .2 .2) (recording-replays n ones lent (w .0) (callsIn read)))

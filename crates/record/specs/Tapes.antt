@@ -31,7 +31,7 @@ callsIn (a ∷ b ∷ []) = []
 callsIn (a ∷ b ∷ c ∷ []) = []
 callsIn (a ∷ b ∷ c ∷ d ∷ l) = callIn (decoded (a ∷ b ∷ c ∷ d ∷ [])) ++ callsIn l
 
--- The tape behind a record: the call of its event goes through the recorder.
+-- The tape after a record: the call of its event goes through the recorder.
 unfoldable pub tapeBehind : Tape → Option Event → Tape
 tapeBehind t none = t
 tapeBehind t (some e) = recorded t (callOf e) .tape
@@ -43,20 +43,20 @@ LedBy read t u = (k : ℕ) × (length read ≡ 4 * k) × (u ≡ tapeAfter t (cal
 unfoldable pub LeadsTo : Tape → Tape → Type 0
 LeadsTo t u = (read : List ℕ) × LedBy read t u
 
--- A buffer and a place as the calls of records that were read leave them behind a tape.
+-- A buffer and a place as the calls of records that were read leave them after a tape.
 unfoldable pub Left : Tape → List ℕ → ℕ → Type 0
 Left t buffer place = (s : Run) × LeadsTo t (tapeOf s buffer place)
 
 -- A trace was read, n its first byte and `read` its records. The start with block counts 1 was accepted on the buffer as it was lent, and the calls that stand in
 -- the records left the buffer and the place.
-unfoldable pub Recorded : ℕ → List ℕ → List ℕ → List ℕ → ℕ → Type 0
-Recorded n read lent buffer place = (recordedStart n ones lent .outcome .answer ≡ Started) × (s : Run) × LedBy read (begun n ones lent) (tapeOf s buffer place)
+unfoldable pub TraceRecorded : ℕ → List ℕ → List ℕ → List ℕ → ℕ → Type 0
+TraceRecorded n read lent buffer place = (recordedStart n ones lent .outcome .answer ≡ Started) × (s : Run) × LedBy read (begun n ones lent) (tapeOf s buffer place)
 
 -- What `put` may be handed: no contract says what a read brought, so that it was this trace is left to the eye.
 unfoldable pub WasRecorded : List ℕ → ℕ → Type 0
-WasRecorded buffer place = (n : ℕ) × (read lent : List ℕ) × Recorded n read lent buffer place
+WasRecorded buffer place = (n : ℕ) × (read lent : List ℕ) × TraceRecorded n read lent buffer place
 
 -- So what the program writes replays the same: what stands in the buffer up to the place are n and the records of those calls of the trace that were accepted.
 unfoldable pub WrittenReplays : Type 0
-WrittenReplays = (n : ℕ) (read lent buffer : List ℕ) (place : ℕ) → Recorded n read lent buffer place
+WrittenReplays = (n : ℕ) (read lent buffer : List ℕ) (place : ℕ) → TraceRecorded n read lent buffer place
     → (s : Run) × ReplaysTheSame n ones lent (tapeOf s buffer place) (entries (begun n ones lent) (callsIn read))
