@@ -74,7 +74,7 @@ SendIsOwn = (owned : ℕ) (s t : Run) → ConsoleReached s → ConsoleReached t 
     → (consoleSend (owner owned) t i j .answer ≡ send-answer.Refused MessageNumbersUsed → ⊥)
     → sendReport (consoleSend (owner owned) s i j .answer) .refused ≡ sendReport (consoleSend (owner owned) t i j .answer) .refused
 
--- "see its own members of a line for a failed set": the members are a named leak, the answer is none. It goes by n, the failed set and the length of the lent
+-- "see its own members of a line for a failed set": the members are a named leak, the answer is no leak. It goes by n, the failed set and the length of the lent
 -- list alone: 3 for a list "below n", 7 for a set that "has a bit at n or above".
 unfoldable pub lineAnswerBy : ℕ → ℕ → ℕ → LineAnswer
 lineAnswerBy n F room = pick (ltb room n)
@@ -85,7 +85,7 @@ lineAnswerBy n F room = pick (ltb room n)
 unfoldable pub LineAnswerIsOwn : Type 0
 LineAnswerIsOwn = (owned : ℕ) (s : Run) → ConsoleReached s → (F : ℕ) (lent : List ℕ) → consoleLine (owner owned) s F lent .answer ≡ lineAnswerBy (s .count) F (length lent)
 
--- On sound states with the same n that nobody reached it is the same too, but for 2, "where some process has no state the line rule accepts".
+-- On any two sound states with one n, reached or not, it is the same too, but for 2, "where some process has no state the line rule accepts".
 unfoldable pub SoundLineAnswers : Type 0
 SoundLineAnswers = (owned : ℕ) (s t : Run) → sound s ≡ true → sound t ≡ true → s .count ≡ t .count → (F : ℕ) (lent : List ℕ)
     → (consoleLine (owner owned) s F lent .answer ≡ line-answer.Refused UnsoundState → ⊥)

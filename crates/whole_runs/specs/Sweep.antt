@@ -41,7 +41,7 @@ pub record SweepIsQuiet (s : Run) : Type 0 where
 
 -- What it does to a sound one besides, whether calls reached it or not.
 pub record SweepIsAccepted (s : Run) : Type 0 where
-  -- with lists that are long enough a line call for the empty set and a sweep meet no number, 2 for a process without a member among them
+  -- with lists that are long enough a line call for the empty set and a sweep meet no number, not even the 2 for a process without a member
   pub line-accepted : (lent : List ℕ) → s .count ≤ length lent → lineRefusal s 0 lent ≡ none
   pub accepted : (deleted lent : List ℕ) → 2 * s .count * s .count ≤ length deleted → s .count ≤ length lent → recoverRefusal s 0 deleted lent ≡ none
   -- "Messages under way stay, by Note 2's rule."
