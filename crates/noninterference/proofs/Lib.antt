@@ -1,0 +1,10 @@
+pub mod Alike
+pub mod Bound
+pub mod Far
+pub mod Learned
+pub mod Lists
+pub mod Numbers
+pub mod Own
+pub mod Real
+pub mod Restarts
+pub mod Steps

@@ -1,0 +1,2 @@
+pub mod Learned
+pub mod Real
