@@ -25,7 +25,7 @@ use Rattle.model.specs.Steps.{lineOf, member}
 use Rattle.model.specs.Refusals.{firstOf, lineRefusal}
 use Rattle.model.specs.laws.Sound.{sound-state}
 use Rattle.whole_runs.specs.Outcomes.{Outcome, judged, lineOutcome}
-use Rattle.calls.proofs.Unsound.{line-unsound}
+use Rattle.whole_runs.proofs.Unsound.{line-unsound}
 use Rattle.roles.specs.declared.Caller.{Caller}
 use Rattle.roles.specs.Console.{entitled, shown}
 use Rattle.roles.proofs.Shown.{shown-same}

@@ -4,5 +4,6 @@ pub mod Clean
 pub mod Sizes
 pub mod Sweep
 pub mod Traced
+pub mod Unsound
 pub mod WholeRuns
 pub mod whole

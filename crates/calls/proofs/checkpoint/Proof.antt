@@ -2,7 +2,7 @@
 -- Assumes nothing.
 use borrow.Author.Needs.{needs}
 use Rattle.whole_runs.proofs.WholeRuns.{checkpoint-promise}
-use Rattle.calls.proofs.Unsound.{is-sound, is-unsound, checkpoint-unsound}
+use Rattle.whole_runs.proofs.Unsound.{is-sound, is-unsound, checkpoint-unsound}
 use Rattle.calls.proofs.checkpoint.Statement.{statement}
 use Rattle.calls.proofs.checkpoint.Tie as tie
 

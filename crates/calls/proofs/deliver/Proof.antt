@@ -2,7 +2,7 @@
 -- Assumes nothing.
 use borrow.Author.Needs.{needs}
 use Rattle.whole_runs.proofs.WholeRuns.{deliver-promise}
-use Rattle.calls.proofs.Unsound.{is-sound, is-unsound, deliver-unsound}
+use Rattle.whole_runs.proofs.Unsound.{is-sound, is-unsound, deliver-unsound}
 use Rattle.calls.proofs.deliver.Statement.{statement}
 use Rattle.calls.proofs.deliver.Tie as tie
 

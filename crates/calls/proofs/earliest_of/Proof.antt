@@ -1,7 +1,7 @@
 -- `calls::earliest_of` meets its contract: an unsound state is refused with 2, on a sound one the crate earliest does it.
 -- Assumes nothing.
 use borrow.Author.Needs.{needs}
-use Rattle.calls.proofs.Unsound.{is-sound, is-unsound, earliest-unsound}
+use Rattle.whole_runs.proofs.Unsound.{is-sound, is-unsound, earliest-unsound}
 use Rattle.calls.proofs.earliest_of.Statement.{statement}
 use Rattle.calls.proofs.earliest_of.Tie as tie
 

@@ -3,7 +3,7 @@
 use borrow.Author.Needs.{needs}
 use Rattle.whole_runs.proofs.WholeRuns.{line-promise}
 use Rattle.whole_runs.proofs.Sweep.{empty-line-promise}
-use Rattle.calls.proofs.Unsound.{is-sound, is-unsound, line-unsound}
+use Rattle.whole_runs.proofs.Unsound.{is-sound, is-unsound, line-unsound}
 use Rattle.calls.proofs.line.Statement.{statement}
 use Rattle.calls.proofs.line.Tie as tie
 

@@ -2,7 +2,7 @@
 -- Assumes nothing.
 use borrow.Author.Needs.{needs}
 use Rattle.whole_runs.proofs.WholeRuns.{lose-promise}
-use Rattle.calls.proofs.Unsound.{is-sound, is-unsound, lose-unsound}
+use Rattle.whole_runs.proofs.Unsound.{is-sound, is-unsound, lose-unsound}
 use Rattle.calls.proofs.lose.Statement.{statement}
 use Rattle.calls.proofs.lose.Tie as tie
 

@@ -5,7 +5,7 @@ use borrow.Author.Needs.{needs}
 use Rattle.whole_runs.proofs.WholeRuns.{line-promise, recover-promise}
 use Rattle.whole_runs.proofs.Clean.{clean-promise}
 use Rattle.whole_runs.proofs.Sweep.{sweep-promise}
-use Rattle.calls.proofs.Unsound.{is-sound, is-unsound, recover-unsound}
+use Rattle.whole_runs.proofs.Unsound.{is-sound, is-unsound, recover-unsound}
 use Rattle.calls.proofs.recover.Statement.{statement}
 use Rattle.calls.proofs.recover.Tie as tie
 

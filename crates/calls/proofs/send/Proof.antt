@@ -2,7 +2,7 @@
 -- Assumes nothing.
 use borrow.Author.Needs.{needs}
 use Rattle.whole_runs.proofs.WholeRuns.{send-promise}
-use Rattle.calls.proofs.Unsound.{is-sound, is-unsound, send-unsound}
+use Rattle.whole_runs.proofs.Unsound.{is-sound, is-unsound, send-unsound}
 use Rattle.calls.proofs.send.Statement.{statement}
 use Rattle.calls.proofs.send.Tie as tie
 

@@ -2,7 +2,7 @@
 -- Assumes nothing.
 use borrow.Author.Needs.{needs}
 use Rattle.model.specs.laws.Sound.{sound-state}
-use Rattle.calls.proofs.Unsound.{is-sound, is-unsound}
+use Rattle.whole_runs.proofs.Unsound.{is-sound, is-unsound}
 use Rattle.apply.proofs.Sizes.{sizes}
 use Rattle.console_calls.proofs.Denials.{counts-denied}
 use Rattle.console_calls.proofs.Listed.{held-most, counts-unsound, counts-short, counts-made}

@@ -4,7 +4,7 @@ use borrow.Author.Needs.{needs}
 use Prim.Native.Nat.{_*_, _≤_}
 use Rattle.model.specs.laws.Sound.{sound-state}
 use Rattle.plans.proofs.Facts.{square-most}
-use Rattle.calls.proofs.Unsound.{is-sound, is-unsound}
+use Rattle.whole_runs.proofs.Unsound.{is-sound, is-unsound}
 use Rattle.console_calls.proofs.Denials.{list-denied}
 use Rattle.console_calls.proofs.Listed.{held-most, list-unsound, list-short, list-made}
 use Rattle.console_calls.proofs.list.Statement.{statement}
