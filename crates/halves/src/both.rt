@@ -98,7 +98,7 @@ fn first_rule(
 }
 
 // All of it, where the result buffer has `room` bytes.
-pub(crate) fn judge_halves(first: &[u8], second: &[u8], set: u16, room: usize) -> Verdict
+pub(crate) fn judge_halves(first: &[u8], second: &[u8], set: u32, room: usize) -> Verdict
     ensures { λ r. ⌜ ((buffer : List ℕ) → length buffer ≡ room → refusalOf r ≡ mergeRefusal (now (first .entry)) (now (second .entry)) set buffer) ⌝ }
 {
     let bad = bad_count(first) | bad_count(second);
@@ -106,7 +106,7 @@ pub(crate) fn judge_halves(first: &[u8], second: &[u8], set: u16, room: usize) -
     let empty = (first.len() == 0) | (second.len() == 0);
     let n = count_of(first);
     let unequal = n != count_of(second);
-    let outside = verdicts::is_outside(set as u32, n);
+    let outside = verdicts::is_outside(set, n);
     let left = left_over(first) | left_over(second);
     let many = too_many(first) | too_many(second);
     first_rule(bad, short, empty, unequal, outside, left, many)

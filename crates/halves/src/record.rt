@@ -20,7 +20,7 @@ pub enum Judged {
 }
 
 // What is left of a set behind its first p processes.
-fn above(set: u16, p: usize) -> u16
+fn above(set: u32, p: usize) -> u32
     ensures { λ r. ⌜ r ≡ set / (2 ^ p) ⌝ }
 {
     let mut rest = set;
@@ -33,7 +33,7 @@ fn above(set: u16, p: usize) -> u16
 }
 
 // Whether process p belongs to the half that is meant, the first or the second.
-fn in_half(set: u16, side: bool, p: usize) -> bool
+fn in_half(set: u32, side: bool, p: usize) -> bool
     ensures { λ r. ⌜ r ≡ inHalf set side p ⌝ }
 {
     let bit = above(set, p) % 2;
@@ -41,7 +41,7 @@ fn in_half(set: u16, side: bool, p: usize) -> bool
 }
 
 // A checkpoint: 14, 4 and 23.
-fn judge_checkpoint(n: usize, set: u16, side: bool, process: usize, argument: u32) -> Judged
+fn judge_checkpoint(n: usize, set: u32, side: bool, process: usize, argument: u32) -> Judged
     requires { ⌜ n ≤ 16 ⌝ }
     ensures { λ r. ⌜ ((l : List HalfEvent) → Judges n set side l (ifZero argument (checkpointAt process)) r) ⌝ }
 {
@@ -59,7 +59,7 @@ fn judge_checkpoint(n: usize, set: u16, side: bool, process: usize, argument: u3
 }
 
 // A send: 4, 5 and 23.
-fn judge_send(n: usize, set: u16, side: bool, process: usize, argument: u32) -> Judged
+fn judge_send(n: usize, set: u32, side: bool, process: usize, argument: u32) -> Judged
     requires { ⌜ n ≤ 16 ⌝ }
     ensures { λ r. ⌜ ((l : List HalfEvent) → Judges n set side l (some (sendTo process argument)) r) ⌝ }
 {
@@ -82,7 +82,7 @@ fn judge_send(n: usize, set: u16, side: bool, process: usize, argument: u32) -> 
 
 // A delivery, kind 2, or a loss, kind 3: 14, and 23 "for a receiver, outside that half".
 fn judge_message(
-    set: u16,
+    set: u32,
     side: bool,
     kind: u32,
     process: usize,
@@ -107,7 +107,7 @@ fn judge_message(
 // A record of the half that is meant, as it is taken.
 pub(crate) fn judge(
     n: usize,
-    set: u16,
+    set: u32,
     side: bool,
     part: &[u8],
     log: &[u32],

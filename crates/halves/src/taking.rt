@@ -87,7 +87,7 @@ fn take_next<'a>(
     first: &'a [u8],
     second: &'a [u8],
     n: usize,
-    set: u16,
+    set: u32,
     a: usize,
     b: usize,
     log: &[u32],
@@ -111,7 +111,7 @@ pub(crate) fn take_all<'a>(
     first: &'a [u8],
     second: &'a [u8],
     n: usize,
-    set: u16,
+    set: u32,
     log: &mut [u32],
 ) -> Verdict
     requires { ⌜ (n ≤ 16) × (1 ≤ length (now first)) × (1 ≤ length (now second)) ⌝ }

@@ -2,4 +2,5 @@
 pub mod Program
 pub mod Putting
 pub mod Reading
+pub mod Sets
 pub mod Standing

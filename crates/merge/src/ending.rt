@@ -13,7 +13,7 @@ pub struct Ended {
 }
 
 // The merged trace.
-pub fn put_trace(first: &[u8], second: &[u8], set: u16, trace: &[u8]) -> Ended
+pub fn put_trace(first: &[u8], second: &[u8], set: u32, trace: &[u8]) -> Ended
     requires { ⌜ (printed (now first) (now second) set .trace ≡ now trace) × (printed (now first) (now second) set .refusal ≡ []) ⌝ }
     ensures { λ r. ⌜ r .put ≡ true ⌝ }
 {
@@ -25,7 +25,7 @@ pub fn put_trace(first: &[u8], second: &[u8], set: u16, trace: &[u8]) -> Ended
 }
 
 // Why there is none.
-pub fn put_refusal(first: &[u8], second: &[u8], set: u16, line: &[u8]) -> Ended
+pub fn put_refusal(first: &[u8], second: &[u8], set: u32, line: &[u8]) -> Ended
     requires { ⌜ (printed (now first) (now second) set .trace ≡ []) × (printed (now first) (now second) set .refusal ≡ now line) ⌝ }
     ensures { λ r. ⌜ r .put ≡ true ⌝ }
 {
@@ -41,7 +41,7 @@ pub fn say_usage() -> Ended
     Ended { put: false }
 }
 
-// A file could not be read, which was said.
+// A file has no name that the system takes, or could not be read, which was said.
 pub fn end_by_error() -> Ended
     ensures { λ r. ⌜ r .put ≡ false ⌝ }
 {

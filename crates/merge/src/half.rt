@@ -1,5 +1,6 @@
 // A half, as its file is read. What is held of it is its first 16,392 bytes at most, those of 4,097 records and three more: a longer half is refused
 // whatever it says, and which number it meets depends on its first byte and on how many bytes are left over behind its records.
+use libc::STDERR_FILENO;
 use programs::input::Brought;
 use programs::input::read_behind;
 ghost use mathlib.Core.Path.{_≡_};
@@ -69,14 +70,33 @@ fn read_all(fd: i32, half: &mut [u8]) -> Source
     }
 }
 
+// Says what is wrong with the name of a file, the first or the second, where there is no name to say.
+pub fn fail_unnamed(is_first: bool) {
+    if is_first {
+        os::fail(b"merge: the first file's name");
+    } else {
+        os::fail(b"merge: the second file's name");
+    }
+}
+
+// Says why a file cannot be read.
+fn fail(path: &[u8], is_first: bool) {
+    if path.len() == 0 {
+        fail_unnamed(is_first);
+        return;
+    }
+    io::write_all(STDERR_FILENO, b"merge: ");
+    os::fail(path);
+}
+
 // The half that a file holds. What cannot be opened or read is said on standard error.
-pub fn read(path: &[u8], half: &mut [u8]) -> Source
+pub fn read(path: &[u8], half: &mut [u8], is_first: bool) -> Source
     requires { ⌜ length (now half) ≡ 16392 ⌝ }
     ensures { λ r. ⌜ Holding (now (half .exit)) (r .total) ⌝ }
 {
     let fd = os::open_read(path);
     if fd < 0 {
-        os::fail(path);
+        fail(path, is_first);
         return Source {
             failed: true,
             total: 0,
@@ -84,7 +104,7 @@ pub fn read(path: &[u8], half: &mut [u8]) -> Source
     }
     let source = read_all(fd, half);
     if source.failed {
-        os::fail(path);
+        fail(path, is_first);
     }
     libc::close(fd);
     source

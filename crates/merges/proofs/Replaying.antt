@@ -137,7 +137,7 @@ how-many (a ∷ b ∷ []) = refl
 how-many (a ∷ b ∷ c ∷ []) = refl
 how-many (a ∷ b ∷ c ∷ d ∷ l) = let h = how-many l in omega arith
 
-good-count : (l : List ℕ) → badCount l ≡ false → countOf l ≤ places
+pub good-count : (l : List ℕ) → badCount l ≡ false → countOf l ≤ places
 unfolding badCount countOf
 good-count [] e = omega arith
 good-count (n ∷ l) e = leb-true n places (and-right (leb 1 n) (leb n places) (not-false _ e))

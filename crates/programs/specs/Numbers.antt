@@ -1,11 +1,21 @@
--- The number that a word is, by its decimal digits.
+-- The number that a word is, by its decimal digits, and how 64 bits stand for it: no number is cut short.
 -- Assumes nothing.
 use mathlib.Core.List.{List}
+use mathlib.Core.Option.{Option, none, some}
 use Prim.Native.Nat.{ℕ, _+_, _-_, _*_}
 use lib.Dec.{eqb, ltb}
 use lib.ListN.{length, getD}
 use Rattle.laws.specs.Choice.{pick}
 use Rattle.laws.specs.Loops.{iter}
+
+-- One digit more, in ASCII: 48 to 57. A byte that is no digit makes a word that is no number.
+unfoldable pub grown : Option ℕ → ℕ → Option ℕ
+grown none byte = none
+grown (some value) byte = pick (ltb byte 48) none (pick (ltb 57 byte) none (some (value * 10 + (byte - 48))))
+
+-- All of a word, however long. One without a digit is no number.
+unfoldable pub decimalIn : List ℕ → Option ℕ
+decimalIn word = pick (eqb (length word) 0) none (iter (length word) (λ i value. grown value (getD word i 0)) (some 0))
 
 -- Every number that 32 bits do not hold, and a word that is no number.
 abbrev pub tooGreat : ℕ
@@ -14,11 +24,14 @@ tooGreat = 4294967296
 abbrev pub noNumber : ℕ
 noNumber = 4294967297
 
--- One digit more, in ASCII: 48 to 57.
-unfoldable pub appended : ℕ → ℕ → ℕ
-appended value byte = pick (ltb byte 48) noNumber (pick (ltb 57 byte) noNumber (pick (ltb 4294967295 value) value
-    (pick (ltb 4294967295 (value * 10 + (byte - 48))) tooGreat (value * 10 + (byte - 48)))))
+-- What stands for a word: its number, where 32 bits hold it.
+unfoldable pub standsFor : Option ℕ → ℕ
+standsFor none = noNumber
+standsFor (some value) = pick (ltb 4294967295 value) tooGreat value
 
--- All of a word. One without a digit is no number.
 unfoldable pub numberIn : List ℕ → ℕ
-numberIn word = pick (eqb (length word) 0) noNumber (iter (length word) (λ i value. appended value (getD word i 0)) 0)
+numberIn word = standsFor (decimalIn word)
+
+-- A number of 32 bits: the greatest for every greater one.
+unfoldable pub atMost : ℕ → ℕ
+atMost x = pick (ltb 4294967295 x) 4294967295 x

@@ -1,12 +1,13 @@
 // The number that a word is, by its decimal digits. 4,294,967,296 stands for every greater number, and 4,294,967,297 for a word that is no number.
 ghost use mathlib.Core.Path.{_≡_};
-ghost use Prim.Native.Nat.{_≤_};
-ghost use Rattle.programs.specs.Numbers.{appended, numberIn};
+ghost use mathlib.Core.Option.{Option};
+ghost use Prim.Native.Nat.{ℕ, _≤_};
+ghost use Rattle.programs.specs.Numbers.{grown, standsFor, numberIn, atMost};
 
-// One digit more.
+// One digit more, whatever the value stands for.
 fn append(value: u64, byte: u8) -> u64
     requires { ⌜ value ≤ 4294967297 ⌝ }
-    ensures { λ r. ⌜ (r ≡ appended value byte) × (r ≤ 4294967297) ⌝ }
+    ensures { λ r. ⌜ ((word : Option ℕ) → value ≡ standsFor word → r ≡ standsFor (grown word byte)) × (r ≤ 4294967297) ⌝ }
 {
     if byte < 48 {
         return 4294967297;
@@ -38,4 +39,11 @@ pub fn number_in(word: &[u8]) -> u64
         i += 1;
     }
     value
+}
+
+// A number of 32 bits: the greatest for every greater one. For who judges these two alike.
+pub fn clamped(x: u64) -> u32
+    ensures { λ r. ⌜ r ≡ atMost x ⌝ }
+{
+    if 4294967295 < x { 4294967295 } else { x as u32 }
 }

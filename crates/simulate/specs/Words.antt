@@ -33,7 +33,3 @@ isWrong n s steps seed = eqb n noNumber || eqb (s .from) noNumber || eqb (s .to)
 -- A table is refused: n, a spacing or the steps are out of range, or the first spacing is above the last.
 unfoldable pub isRefused : ℕ → ℕ → ℕ → ℕ → Bool
 isRefused n from to steps = outOfRange 1 16 n || outOfRange 1 1000 from || outOfRange 1 1000 to || outOfRange 1 30000 steps || ltb to from
-
--- A number of 32 bits: the greatest for every greater one, since both are out of every range.
-unfoldable pub atMost : ℕ → ℕ
-atMost x = pick (ltb 4294967295 x) 4294967295 x

@@ -126,11 +126,11 @@ fn start(out: &mut [u8]) -> bool
     if words::is_wrong(n, spacings, steps, seed) {
         return say_usage();
     }
-    let count = words::clamped(n);
-    let from = words::clamped(spacings.from);
-    let to = words::clamped(spacings.to);
-    let most = words::clamped(steps);
-    let value = words::clamped(seed);
+    let count = programs::numbers::clamped(n);
+    let from = programs::numbers::clamped(spacings.from);
+    let to = programs::numbers::clamped(spacings.to);
+    let most = programs::numbers::clamped(steps);
+    let value = programs::numbers::clamped(seed);
     if spacings.many {
         return print_table(count, from, to, most, value, out);
     }

@@ -3,7 +3,7 @@ use programs::numbers::number_in;
 ghost use mathlib.Core.Path.{_≡_};
 ghost use Prim.Native.Nat.{_≤_};
 ghost use lib.ListN.{length};
-ghost use Rattle.simulate.specs.Words.{hyphenOr, hyphenIn, spacingsIn, isWrong, isRefused, atMost};
+ghost use Rattle.simulate.specs.Words.{hyphenOr, hyphenIn, spacingsIn, isWrong, isRefused};
 
 // The place of the first hyphen once byte i was looked at too; `size` where there is none yet.
 fn hyphen_or(size: usize, i: usize, byte: u8, place: usize) -> usize
@@ -71,13 +71,6 @@ pub fn is_wrong(n: u64, spacings: Spacings, steps: u64, seed: u64) -> bool
         | (spacings.to == 4294967297)
         | (steps == 4294967297)
         | (4294967295 < seed)
-}
-
-// A number of 32 bits: the greatest for every greater one, since both are out of every range.
-pub fn clamped(x: u64) -> u32
-    ensures { λ r. ⌜ r ≡ atMost x ⌝ }
-{
-    if 4294967295 < x { 4294967295 } else { x as u32 }
 }
 
 // Whether a table is refused.

@@ -1,19 +1,20 @@
 -- `programs::numbers::number_in` meets its contract. The loop's invariant: the number that the first i digits are.
 -- Assumes nothing.
-use mathlib.Core.Path.{_≡_}
+use mathlib.Core.Path.{_≡_, refl, _∙_, ap}
 use Prim.Native.Nat.{_-_, _≤_}
 use native.Mathlib.Omega.{arith}
 use lib.ListN.{length, getD}
 use denote.Ref.{now}
 use borrow.Author.Needs.{needs}
-use Rattle.laws.specs.Loops.{iter, iter-none, iter-more}
-use Rattle.programs.specs.Numbers.{appended}
-use Rattle.programs.proofs.Digits.{no-word, number-is}
+use mathlib.Core.Option.{some}
+use Rattle.laws.specs.Loops.{iter, iter-more}
+use Rattle.programs.specs.Numbers.{grown, standsFor}
+use Rattle.programs.proofs.Digits.{no-word, first-value, number-is}
 use Rattle.programs.proofs.numbers.number_in.Statement.{statement}
 use Rattle.programs.proofs.numbers.number_in.Tie as tie
 
 abbrev Inv-loop : tie.InvT-loop
-Inv-loop word value₀ i₀ value i = (i ≤ length word) × (value ≤ 4294967297) × (value ≡ iter i (λ k v. appended v (getD word k 0)) 0)
+Inv-loop word value₀ i₀ value i = (i ≤ length word) × (value ≤ 4294967297) × (value ≡ standsFor (iter i (λ k v. grown v (getD word k 0)) (some 0)))
 
 abbrev μ-loop : tie.MeasureT-loop
 μ-loop word value₀ i₀ value i = length word - i
@@ -22,12 +23,12 @@ returns : tie.Need-returns Inv-loop μ-loop
 returns c = no-word _ (c .if1 .taken)
 
 loop-holds : tie.Need-loop-holds Inv-loop μ-loop
-loop-holds c = (search needs, search needs, iter-none _ 0)
+loop-holds c = (search needs, search needs, first-value _)
 
 loop-again : tie.Need-loop-again Inv-loop μ-loop
 loop-again c =
     let l = c .before .before .before .loop in
-    (search needs, c .append .ensures .1, iter-more _ 0 (l .value) (l .i) (c .append .result) (l .inv .2) (c .append .ensures .0))
+    (search needs, c .append .ensures .1, c .append .ensures .0 _ (l .inv .2) ∙ ap standsFor (iter-more _ (some 0) _ (l .i) _ refl refl))
 
 returns-2 : tie.Need-returns-2 Inv-loop μ-loop
 returns-2 c =

@@ -1,10 +1,10 @@
--- `simulate::words::clamped` meets its contract.
+-- `programs::numbers::clamped` meets its contract.
 -- Assumes nothing.
 use borrow.Author.Needs.{needs}
 use borrow.Author.Tests.{lt-ltb, le-ltb}
-use Rattle.simulate.specs.Words.{atMost}
-use Rattle.simulate.proofs.words.clamped.Statement.{statement}
-use Rattle.simulate.proofs.words.clamped.Tie as tie
+use Rattle.programs.specs.Numbers.{atMost}
+use Rattle.programs.proofs.numbers.clamped.Statement.{statement}
+use Rattle.programs.proofs.numbers.clamped.Tie as tie
 
 returns : tie.Need-returns
 unfolding atMost
