@@ -1,12 +1,13 @@
-// The calls, each on the state behind the one before it: the call is made, and its line is written. Every entry of the lent lists is 65,535 before it.
+// The calls, each on the state behind the one before it: the call is made, and its line is written. Every entry of the lent lists is 0 before it.
 use crate::say;
-use crate::script;
-use crate::script::Call;
+use console_script::Call;
 use listing::Summary;
 use model::CheckpointIndex;
 use model::Named;
 use model::Run;
+use roles::Caller;
 use roles::ListAnswer;
+use roles::Operation;
 ghost use Prim.Native.Nat.{_≤_};
 
 // The state behind a call, and whether its line is written.
@@ -48,7 +49,7 @@ fn say_checkpoint(number: u64, said: Summary, list: &[u16; 512]) -> bool {
 
 fn checkpoint(s: Run, number: u64, c: Call) -> After {
     let length = room(say::at_most(16, s.count), c.short);
-    let mut deleted = [65535u16; 512];
+    let mut deleted = [0u16; 512];
     let outcome = console_calls::checkpoint(c.caller, s, c.process, &mut deleted[..length]);
     let run = outcome.run;
     let answer = outcome.answer;
@@ -88,7 +89,7 @@ fn say_delivery(number: u64, said: Summary, rose: u16, list: &[u16; 512]) -> boo
 
 fn deliver(s: Run, number: u64, c: Call) -> After {
     let length = room(say::at_most(16, s.count), c.short);
-    let mut deleted = [65535u16; 512];
+    let mut deleted = [0u16; 512];
     let outcome = console_calls::deliver(c.caller, s, c.argument, &mut deleted[..length]);
     let run = outcome.run;
     let answer = outcome.answer;
@@ -132,13 +133,12 @@ fn recover(s: Run, number: u64, c: Call) -> After {
     let n = say::at_most(16, s.count);
     let length = room(n, c.short);
     let members = cut(n, c.short);
-    let failed = script::lower(c.argument);
-    let mut deleted = [65535u16; 512];
-    let mut line = [65535u16; 16];
+    let mut deleted = [0u16; 512];
+    let mut line = [0u16; 16];
     let outcome = console_calls::recover(
         c.caller,
         s,
-        failed,
+        c.low,
         &mut deleted[..length],
         &mut line[..members],
     );
@@ -149,7 +149,7 @@ fn recover(s: Run, number: u64, c: Call) -> After {
     After { run, written }
 }
 
-// The line of a call that writes a line list and changes no state.
+// The line of a call that writes all n entries of a line list and changes no state.
 fn say_line(number: u64, refused: u8, line: &[u16; 16], n: usize) -> bool
     requires { ⌜ n ≤ 16 ⌝ }
 {
@@ -159,16 +159,25 @@ fn say_line(number: u64, refused: u8, line: &[u16; 16], n: usize) -> bool
     say::refused(number, refused)
 }
 
+// The line of a line call: the caller's members.
+fn say_members(number: u64, refused: u8, line: &[u16; 16], n: usize, caller: Caller) -> bool
+    requires { ⌜ n ≤ 16 ⌝ }
+{
+    if refused == 0 {
+        return say::accepted(number) && say::members(line, n, caller) && say::end();
+    }
+    say::refused(number, refused)
+}
+
 fn line(s: Run, number: u64, c: Call) -> After {
     let n = say::at_most(16, s.count);
     let members = cut(n, c.short);
-    let failed = script::lower(c.argument);
-    let mut line = [65535u16; 16];
-    let outcome = console_calls::line(c.caller, s, failed, &mut line[..members]);
+    let mut line = [0u16; 16];
+    let outcome = console_calls::line(c.caller, s, c.low, &mut line[..members]);
     let run = outcome.run;
     let answer = outcome.answer;
     let said = summaries::of_line(answer);
-    let written = say_line(number, said.refused, &line, n);
+    let written = say_members(number, said.refused, &line, n, c.caller);
     After { run, written }
 }
 
@@ -176,13 +185,13 @@ fn line(s: Run, number: u64, c: Call) -> After {
 fn earliest(s: Run, number: u64, c: Call) -> After {
     let n = say::at_most(16, s.count);
     let members = cut(n, c.short);
-    let index = CheckpointIndex(script::lower(c.argument));
+    let index = CheckpointIndex(c.low);
     let one = Named {
         process: c.process,
         index,
     };
     let named = [one; 16];
-    let mut line = [65535u16; 16];
+    let mut line = [0u16; 16];
     let outcome = console_calls::earliest_among(c.caller, s, named, 1, &mut line[..members]);
     let run = outcome.run;
     let answer = outcome.answer;
@@ -202,7 +211,7 @@ fn say_list(number: u64, answer: ListAnswer, list: &[u16; 512]) -> bool {
 
 fn list(s: Run, number: u64, c: Call) -> After {
     let length = room(say::at_most(16, s.count), c.short);
-    let mut list = [65535u16; 512];
+    let mut list = [0u16; 512];
     let outcome = console_calls::list(c.caller, s, &mut list[..length]);
     let run = outcome.run;
     let answer = outcome.answer;
@@ -213,7 +222,7 @@ fn list(s: Run, number: u64, c: Call) -> After {
 fn counts(s: Run, number: u64, c: Call) -> After {
     let n = say::at_most(16, s.count);
     let members = cut(n, c.short);
-    let mut line = [65535u16; 16];
+    let mut line = [0u16; 16];
     let outcome = console_calls::counts(c.caller, s, &mut line[..members]);
     let run = outcome.run;
     let answer = outcome.answer;
@@ -235,47 +244,19 @@ fn start(s: Run, number: u64, c: Call) -> After {
     After { run: s, written }
 }
 
-// The calls that change what a run has done or is to do: checkpoint, send, deliver, lose.
-fn make_step(s: Run, number: u64, c: Call) -> After {
-    let operation = c.operation;
-    if operation == 0 {
-        return checkpoint(s, number, c);
-    }
-    if operation == 1 {
-        return send(s, number, c);
-    }
-    if operation == 2 {
-        return deliver(s, number, c);
-    }
-    lose(s, number, c)
-}
-
-// The calls that take a line: recover, line, earliest.
-fn make_line(s: Run, number: u64, c: Call) -> After {
-    let operation = c.operation;
-    if operation == 4 {
-        return recover(s, number, c);
-    }
-    if operation == 5 {
-        return line(s, number, c);
-    }
-    earliest(s, number, c)
-}
-
 // One call of a script, by its operation.
 pub(crate) fn make(s: Run, number: u64, c: Call) -> After {
     let operation = c.operation;
-    if operation < 4 {
-        return make_step(s, number, c);
+    match operation {
+        Operation::Checkpoint => checkpoint(s, number, c),
+        Operation::Send => send(s, number, c),
+        Operation::Deliver => deliver(s, number, c),
+        Operation::Lose => lose(s, number, c),
+        Operation::Recover => recover(s, number, c),
+        Operation::Line => line(s, number, c),
+        Operation::Earliest => earliest(s, number, c),
+        Operation::List => list(s, number, c),
+        Operation::Counts => counts(s, number, c),
+        Operation::Start => start(s, number, c),
     }
-    if operation < 7 {
-        return make_line(s, number, c);
-    }
-    if operation == 7 {
-        return list(s, number, c);
-    }
-    if operation == 8 {
-        return counts(s, number, c);
-    }
-    start(s, number, c)
 }

@@ -1,8 +1,5 @@
 // Makes the console calls of a script on standard input (document 02, Note 13), an operator's start first, and prints what each answered and wrote, one line a call.
-// What the calls do is said and proved in `console_calls`. An error of the system is said on standard error, and ends the program.
-
-// script.rt: the bytes of a script
-mod script;
+// What the calls do is said and proved in `console_calls`, which bytes are calls in `console_script`: what is none is refused with 14, and bytes left over with 13. An error of the system is said on standard error, and ends the program.
 
 // say.rt: text on standard output
 mod say;
@@ -10,6 +7,8 @@ mod say;
 // act.rt: each call and its line
 mod act;
 
+use console_script::Read;
+use model::Refusal;
 use model::Run;
 use model::StartAnswer;
 use programs::input::Filled;
@@ -43,21 +42,44 @@ struct Next {
     going: bool,
 }
 
-// The next call of the script, if there is one: eight bytes.
+// The line of a refusal, written or said not to be.
+fn refuse(number: u64, why: Refusal) -> bool {
+    told(say::refused(number, summaries::number_of(why)))
+}
+
+// What eight bytes ask for, or that they are no call.
+fn make_call(s: Run, number: u64, bytes: [u8; 8]) -> Next {
+    let read = console_script::call_of(bytes);
+    match read {
+        Read::Malformed => {
+            let going = refuse(number, Refusal::MalformedRecord);
+            Next { run: s, going }
+        }
+        Read::Asks(call) => {
+            let after = act::make(s, number, call);
+            let going = told(after.written);
+            let run = after.run;
+            Next { run, going }
+        }
+    }
+}
+
+// The next call of the script, if there is one. Fewer than eight bytes are left over.
 fn take_next(s: Run, number: u64) -> Next {
     let mut bytes = [0u8; 8];
     let filled = fill(&mut bytes);
-    if filled.held < 8 {
-        return Next {
-            run: s,
-            going: false,
-        };
+    let whole = filled.held == 8;
+    if whole {
+        return make_call(s, number, bytes);
     }
-    let call = script::call_of(bytes);
-    let after = act::make(s, number, call);
-    let going = told(after.written);
-    let run = after.run;
-    Next { run, going }
+    let left_over = !filled.failed & (0 < filled.held);
+    if left_over {
+        refuse(number, Refusal::LeftOverBytes);
+    }
+    Next {
+        run: s,
+        going: false,
+    }
 }
 
 // The calls, one after the other, to the end of the script.
@@ -85,7 +107,7 @@ fn start(n: u8) {
     let answer = outcome.answer;
     match answer {
         StartAnswer::Refused(why) => {
-            told(say::refused(0, summaries::number_of(why)));
+            refuse(0, why);
         }
         StartAnswer::Started => make_calls(run),
     }
@@ -98,7 +120,7 @@ fn main() {
         return;
     }
     if filled.held == 0 {
-        told(say::refused(0, 12));
+        refuse(0, Refusal::NoFirstByte);
         return;
     }
     start(first[0]);

@@ -1,7 +1,11 @@
 // Text on standard output: words, numbers, and the parts of a line. Each function says whether all of it is written.
 use libc::STDOUT_FILENO;
 use listing::Value;
+use roles::Caller;
+ghost use mathlib.Core.Path.{_≡_};
 ghost use Prim.Native.Nat.{_≤_};
+ghost use Rattle.listing.specs.Lines.{valueIn};
+ghost use Rattle.console.specs.Said.{memberSaid};
 
 fn text(words: &[u8]) -> bool {
     io::write_all(STDOUT_FILENO, words)
@@ -38,21 +42,44 @@ pub(crate) fn value(x: Value) -> bool {
     }
 }
 
-// An entry of a line list, or a hyphen where nothing was written.
+// An entry of a line list that was written.
 fn entry(x: u16) -> bool {
-    if x == 65535 {
-        return text(b" -");
-    }
     field(x as u64)
 }
 
-// The first n entries of a line list.
+// The first n entries of a line list, all of which were written.
 pub(crate) fn entries(line: &[u16; 16], n: usize) -> bool
     requires { ⌜ n ≤ 16 ⌝ }
 {
     let mut p = 0;
     while p < n {
         if !entry(line[p]) {
+            return false;
+        }
+        p += 1;
+    }
+    true
+}
+
+// What is said of place p of a line list behind a line call: the entry, or a hyphen where the call wrote none.
+fn member(caller: Caller, n: usize, p: usize, x: u16) -> Value
+    ensures { λ r. ⌜ valueIn r ≡ memberSaid caller n p x ⌝ }
+{
+    let seen = console_parts::denied::is_entitled(caller, n, p);
+    if seen {
+        return Value::Number(x as u64);
+    }
+    Value::Hyphen
+}
+
+// The n places of a line list behind a line call.
+pub(crate) fn members(line: &[u16; 16], n: usize, caller: Caller) -> bool
+    requires { ⌜ n ≤ 16 ⌝ }
+{
+    let mut p = 0;
+    while p < n {
+        let said = member(caller, n, p, line[p]);
+        if !value(said) {
             return false;
         }
         p += 1;

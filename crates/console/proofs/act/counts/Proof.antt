@@ -12,7 +12,7 @@ slice-aggregate-counts : tie.Need-slice-aggregate-counts
 slice-aggregate-counts c =
     let l = c .before in
     let fits : l .cut .result ≤ 16 = omega (arith, l .cut .ensures, l .before .at-most .ensures) in
-    sym (length-take-le (l .cut .result) (replicate 16 65535) fits)
+    sym (length-take-le (l .cut .result) (replicate 16 0) fits)
 
 pub counts-spec : {M : Type 1} → statement M
 counts-spec =

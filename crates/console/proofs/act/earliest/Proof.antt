@@ -10,15 +10,14 @@ use Rattle.console.proofs.act.earliest.Tie as tie
 
 slice-aggregate-earliest-among : tie.Need-slice-aggregate-earliest-among
 slice-aggregate-earliest-among c =
-    let l = c .before .before in
+    let l = c .before in
     let fits : l .cut .result ≤ 16 = omega (arith, l .cut .ensures, l .before .at-most .ensures) in
-    sym (length-take-le (l .cut .result) (replicate 16 65535) fits)
+    sym (length-take-le (l .cut .result) (replicate 16 0) fits)
 
 pub earliest-spec : {M : Type 1} → statement M
 earliest-spec =
     tie.close
     (tie.spec
-    (λ c κs. search needs)
     (λ c κs. search needs)
     (λ c κs. search needs)
     (λ c. search needs)

@@ -10,15 +10,14 @@ use Rattle.console.proofs.act.line.Tie as tie
 
 slice-aggregate-line : tie.Need-slice-aggregate-line
 slice-aggregate-line c =
-    let l = c .before .before in
+    let l = c .before in
     let fits : l .cut .result ≤ 16 = omega (arith, l .cut .ensures, l .before .at-most .ensures) in
-    sym (length-take-le (l .cut .result) (replicate 16 65535) fits)
+    sym (length-take-le (l .cut .result) (replicate 16 0) fits)
 
 pub line-spec : {M : Type 1} → statement M
 line-spec =
     tie.close
     (tie.spec
-    (λ c κs. search needs)
     (λ c κs. search needs)
     (λ c κs. search needs)
     (λ c. search needs)

@@ -7,7 +7,7 @@ use Rattle.console.proofs.act.list.Statement.{statement}
 use Rattle.console.proofs.act.list.Tie as tie
 
 slice-aggregate-list : tie.Need-slice-aggregate-list
-slice-aggregate-list c = let l = c .before in sym (length-take-le (l .room .result) (replicate 512 65535) (l .room .ensures))
+slice-aggregate-list c = let l = c .before in sym (length-take-le (l .room .result) (replicate 512 0) (l .room .ensures))
 
 pub list-spec : {M : Type 1} → statement M
 list-spec =

@@ -9,19 +9,18 @@ use Rattle.console.proofs.act.recover.Statement.{statement}
 use Rattle.console.proofs.act.recover.Tie as tie
 
 slice-aggregate-recover : tie.Need-slice-aggregate-recover
-slice-aggregate-recover c = let l = c .before .before .before in sym (length-take-le (l .room .result) (replicate 512 65535) (l .room .ensures))
+slice-aggregate-recover c = let l = c .before .before in sym (length-take-le (l .room .result) (replicate 512 0) (l .room .ensures))
 
 slice-aggregate-recover-2 : tie.Need-slice-aggregate-recover-2
 slice-aggregate-recover-2 c =
-    let l = c .before .before .before in
+    let l = c .before .before in
     let fits : l .cut .result ≤ 16 = omega (arith, l .cut .ensures, l .before .before .at-most .ensures) in
-    sym (length-take-le (l .cut .result) (replicate 16 65535) fits)
+    sym (length-take-le (l .cut .result) (replicate 16 0) fits)
 
 pub recover-spec : {M : Type 1} → statement M
 recover-spec =
     tie.close
     (tie.spec
-    (λ c κs. search needs)
     (λ c κs. search needs)
     (λ c κs. search needs)
     (λ c κs. search needs)
