@@ -2,7 +2,7 @@
 //! on past papers, two cases of messages that a recovery loses, a sweep,
 //! what is on the disks, and earliest lines, by real calls.
 
-use crate::run::{Counts, Named, Run, MAX_PROCESSES, MOST_WRITTEN, ONES};
+use crate::run::{Counts, Entry, Named, Run, MAX_PROCESSES, MOST_WRITTEN, ONES};
 use std::fmt::{Display, Write as _};
 use std::io;
 
@@ -204,7 +204,7 @@ pub fn text() -> String {
 /// In its state process 0 keeps 2, process 1 keeps 0 and 1, process 2 keeps 0,
 /// 1 and 2. Their vectors are (2,0,0); (0,0,0), (1,1,0); (0,0,0), (1,1,1),
 /// (1,2,2).
-pub const NAMED: [&[(usize, u16)]; 25] = [
+pub const NAMED: [&[(usize, u64)]; 25] = [
     // One checkpoint: its own vector. The second line has process 1 live, all
     // but the first a deleted checkpoint of process 0.
     &[(0, 2)],
@@ -560,21 +560,21 @@ fn earliest(text: &mut String) {
     }
 }
 
-fn facts_of_earliest(text: &mut String, run: &Run, place: usize, list: &[(usize, u16)]) {
+fn facts_of_earliest(text: &mut String, run: &Run, place: usize, list: &[(usize, u64)]) {
     let pairs = list
         .iter()
         .map(|(process, index)| format!("{process}:{index}"));
     fact(text, &format!("named {place}:"), pairs);
     let mut line = [0; MAX_PROCESSES];
     let answer = run.earliest(&named(list), &mut line);
-    let mut values = vec![number(answer) as u16];
+    let mut values = vec![Entry::from(number(answer))];
     if answer.is_ok() {
         values.extend(&line[..run.count()]);
     }
     fact(text, &format!("earliest {place}:"), values);
 }
 
-fn named(list: &[(usize, u16)]) -> Vec<Named> {
+fn named(list: &[(usize, u64)]) -> Vec<Named> {
     let pairs = list.iter();
     pairs
         .map(|&(process, index)| Named { process, index })
@@ -624,7 +624,7 @@ fn facts_of_lines(text: &mut String, run: &Run) {
     }
 }
 
-fn facts_of_recover(text: &mut String, run: &mut Run, failed: u32) {
+fn facts_of_recover(text: &mut String, run: &mut Run, failed: u64) {
     let mut deletions = [0; DELETIONS];
     let mut line = [0; MAX_PROCESSES];
     let answer = must(run.recover(failed, &mut deletions, &mut line));
@@ -635,7 +635,7 @@ fn facts_of_recover(text: &mut String, run: &mut Run, failed: u32) {
     fact(text, &format!("recover {failed}:"), values);
 }
 
-fn facts_of_delivery(text: &mut String, run: &mut Run, message: u32) {
+fn facts_of_delivery(text: &mut String, run: &mut Run, message: u64) {
     let answer = run.deliver(message, &mut [0; DELETIONS]);
     let rose = answer.map_or(0, |done| done.rose);
     fact(text, &format!("deliver {message}:"), [number(answer)]);
@@ -687,10 +687,10 @@ fn send(run: &mut Run, sender: usize, receiver: usize) -> u8 {
     number(run.send(sender, receiver))
 }
 
-fn deliver(run: &mut Run, message: u32) -> u8 {
+fn deliver(run: &mut Run, message: u64) -> u8 {
     number(run.deliver(message, &mut [0; DELETIONS]))
 }
 
-fn recover(run: &mut Run, failed: u32) -> u8 {
+fn recover(run: &mut Run, failed: u64) -> u8 {
     number(run.recover(failed, &mut [0; DELETIONS], &mut [0; MAX_PROCESSES]))
 }

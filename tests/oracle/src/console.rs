@@ -3,7 +3,7 @@
 
 pub mod scripts;
 
-use crate::run::{Checkpointed, Counts, Delivered, Named, Recovered, Run, ONES};
+use crate::run::{as_entry, Checkpointed, Counts, Delivered, Entry, Named, Recovered, Run, ONES};
 use std::fmt::Write;
 
 /// "25, before every other, for an operation the table denies the caller."
@@ -12,12 +12,17 @@ pub const DENIED: u8 = 25;
 const LIST_TOO_SHORT: u8 = 3;
 /// "12: no first byte."
 const NO_FIRST_BYTE: u8 = 12;
+/// 13, of a trace: "one to three bytes left over"; here one to seven.
+const BYTES_LEFT_OVER: u8 = 13;
+/// 14, of a record: "unused kind, or a field that must be zero is not; given
+/// before any other number for that record." So of a call, and before 25 too.
+const BAD_CALL: u8 = 14;
 
 /// "gives each caller a role, and a job owner a set of processes".
 #[derive(Clone, Copy, Debug, PartialEq, Eq)]
 pub enum Caller {
     Operator,
-    Owner(u16),
+    Owner(u64),
     Viewer,
 }
 use Caller::*;
@@ -73,7 +78,7 @@ impl Console {
         &mut self,
         caller: Caller,
         i: usize,
-        deletions: &mut [u16],
+        deletions: &mut [Entry],
     ) -> Result<Checkpointed, u8> {
         judge(caller, Operation::Checkpoint)?;
         self.judge_own(caller, i)?;
@@ -81,7 +86,7 @@ impl Console {
     }
 
     /// "(a send's receiver and a failed set aside)"
-    pub fn send(&mut self, caller: Caller, i: usize, j: usize) -> Result<u32, u8> {
+    pub fn send(&mut self, caller: Caller, i: usize, j: usize) -> Result<u64, u8> {
         judge(caller, Operation::Send)?;
         self.judge_own(caller, i)?;
         self.run.send(i, j)
@@ -90,15 +95,15 @@ impl Console {
     pub fn deliver(
         &mut self,
         caller: Caller,
-        number: u32,
-        deletions: &mut [u16],
+        number: u64,
+        deletions: &mut [Entry],
     ) -> Result<Delivered, u8> {
         judge(caller, Operation::Deliver)?;
         self.judge_message(caller, number)?;
         self.run.deliver(number, deletions)
     }
 
-    pub fn lose(&mut self, caller: Caller, number: u32) -> Result<(), u8> {
+    pub fn lose(&mut self, caller: Caller, number: u64) -> Result<(), u8> {
         judge(caller, Operation::Lose)?;
         self.judge_message(caller, number)?;
         self.run.lose(number)
@@ -107,9 +112,9 @@ impl Console {
     pub fn recover(
         &mut self,
         caller: Caller,
-        failed: u32,
-        deletions: &mut [u16],
-        line: &mut [u16],
+        failed: u64,
+        deletions: &mut [Entry],
+        line: &mut [Entry],
     ) -> Result<Recovered, u8> {
         judge(caller, Operation::Recover)?;
         self.run.recover(failed, deletions, line)
@@ -117,7 +122,7 @@ impl Console {
 
     /// "see its own members of a line for a failed set, other places left
     /// unchanged".
-    pub fn line(&self, caller: Caller, failed: u32, line: &mut [u16]) -> Result<(), u8> {
+    pub fn line(&self, caller: Caller, failed: u64, line: &mut [Entry]) -> Result<(), u8> {
         judge(caller, Operation::Line)?;
         let mut whole = line.to_vec();
         self.run.line(failed, &mut whole)?;
@@ -129,7 +134,7 @@ impl Console {
         Ok(())
     }
 
-    pub fn earliest(&self, caller: Caller, named: &[Named], line: &mut [u16]) -> Result<(), u8> {
+    pub fn earliest(&self, caller: Caller, named: &[Named], line: &mut [Entry]) -> Result<(), u8> {
         judge(caller, Operation::Earliest)?;
         self.run.earliest(named, line)
     }
@@ -137,7 +142,7 @@ impl Console {
     /// "A list gives exactly the kept checkpoints of the owner's processes, to
     /// an operator of all, written as deletions are, with 3 as for theirs, and
     /// their count."
-    pub fn list(&self, caller: Caller, list: &mut [u16]) -> Result<usize, u8> {
+    pub fn list(&self, caller: Caller, list: &mut [Entry]) -> Result<usize, u8> {
         judge(caller, Operation::List)?;
         let count = self.run.count();
         if list.len() < 2 * count * count {
@@ -149,7 +154,7 @@ impl Console {
                 continue;
             }
             for (index, _) in self.run.kept(i) {
-                list[2 * listed] = i as u16;
+                list[2 * listed] = as_entry(i);
                 list[2 * listed + 1] = index;
                 listed += 1;
             }
@@ -159,13 +164,13 @@ impl Console {
 
     /// "the number of checkpoints kept at each process, written as n entries to
     /// a lent line list, with 3 for a shorter one."
-    pub fn counts(&self, caller: Caller, line: &mut [u16]) -> Result<(), u8> {
+    pub fn counts(&self, caller: Caller, line: &mut [Entry]) -> Result<(), u8> {
         judge(caller, Operation::Counts)?;
         if line.len() < self.run.count() {
             return Err(LIST_TOO_SHORT);
         }
         for i in 0..self.run.count() {
-            line[i] = self.run.kept(i).count() as u16;
+            line[i] = as_entry(self.run.kept(i).count());
         }
         Ok(())
     }
@@ -188,11 +193,10 @@ impl Console {
     }
 
     /// "and a message not under way to its own processes".
-    fn judge_message(&self, caller: Caller, number: u32) -> Result<(), u8> {
+    fn judge_message(&self, caller: Caller, number: u64) -> Result<(), u8> {
         let mut messages = self.run.under_way().iter();
-        let to_own = messages.any(|message| {
-            message.number == number && self.may_see(caller, message.receiver as usize)
-        });
+        let to_own = messages
+            .any(|message| message.number == number && self.may_see(caller, message.receiver));
         match caller {
             Owner(_) if !to_own => Err(DENIED),
             _ => Ok(()),
@@ -218,8 +222,9 @@ fn judge(caller: Caller, operation: Operation) -> Result<(), u8> {
 
 // ----------------------------------------------------------------- scripts
 
-/// What a place of a lent list holds before a call.
-const UNTOUCHED: u16 = u16::MAX;
+/// What a place of a lent list holds before a call. No call writes it: entries
+/// and indexes end at 65,535.
+const UNTOUCHED: Entry = Entry::MAX;
 
 const CALL: usize = 8;
 
@@ -229,21 +234,34 @@ const CALL: usize = 8;
 ///
 /// The first byte is n, and the operator's start of n, with block counts 1, comes
 /// first; where it is refused, or there is no first byte, the one line is `0 R`. Then come calls of
-/// 8 bytes; fewer left over at the end are passed over. Numbers of more than one
-/// byte have the high byte first.
+/// 8 bytes; 1 to 7 left over at the end are 13, under the number of the call that
+/// they begin. Numbers of more than one byte have the high byte first.
 ///
 /// * byte 0: the caller, 0 operator, 1 owner, 2 to 127 viewer; 128 added means
 ///   lent lists that are one entry too short;
-/// * bytes 1 and 2: the owned set;
-/// * byte 3: the operation, modulo 10, in the order of `Operation`;
-/// * byte 4: the process, the sender, the one named process or, for a start, the
-///   count;
-/// * bytes 5 to 7: the receiver, the message number or, modulo 65,536, the failed
-///   set or the index of the one named checkpoint.
+/// * bytes 1 and 2: the set of an owner; of another caller it is not looked at;
+/// * byte 3: the operation;
+/// * byte 4: the process;
+/// * bytes 5 to 7: the argument.
+///
+/// | operation    | process           | argument                              |
+/// |--------------|-------------------|---------------------------------------|
+/// | 0 checkpoint | of the checkpoint | zero                                  |
+/// | 1 send       | the sender        | the receiver                          |
+/// | 2 deliver    | zero              | the message number                    |
+/// | 3 lose       | zero              | the message number                    |
+/// | 4 recover    | zero              | the failed set, 16 bits: byte 5 zero  |
+/// | 5 line       | zero              | the failed set, 16 bits: byte 5 zero  |
+/// | 6 earliest   | the named one     | its index, 16 bits: byte 5 zero       |
+/// | 7 list       | zero              | zero                                  |
+/// | 8 counts     | zero              | zero                                  |
+/// | 9 start      | the count         | zero                                  |
+///
+/// Any other operation, and any byte that must be zero and is not, is 14, before
+/// every other number of the call.
 ///
 /// The deletion list has 2 * n * n entries and the line list n, or one fewer
-/// each; every entry is 65,535 before each call. A refused start leaves the state
-/// as it was.
+/// each. A refused start leaves the state as it was.
 ///
 /// # Facts
 ///
@@ -264,18 +282,24 @@ pub fn facts(script: &[u8]) -> String {
     let Some((first, calls)) = script.split_first() else {
         return format!("0 {NO_FIRST_BYTE}\n");
     };
-    let mut console = match Console::start(Operator, *first as usize, &ONES) {
+    let mut console = match Console::start(Operator, usize::from(*first), &ONES) {
         Ok(console) => console,
         Err(number) => return format!("0 {number}\n"),
     };
     let mut facts = String::new();
-    for (bytes, number) in calls.chunks_exact(CALL).zip(1..) {
-        let line = match made(&mut console, &Call::of(bytes)) {
+    for (bytes, number) in calls.chunks(CALL).zip(1..) {
+        let Some(bytes) = bytes.first_chunk() else {
+            facts += &format!("{number} {BYTES_LEFT_OVER}\n");
+            break;
+        };
+        let answer = Call::of(bytes)
+            .ok_or(BAD_CALL)
+            .and_then(|call| made(&mut console, &call));
+        facts += &match answer {
             Ok(values) if values.is_empty() => format!("{number} 0\n"),
             Ok(values) => format!("{number} 0 {values}\n"),
             Err(refusal) => format!("{number} {refusal}\n"),
         };
-        facts.push_str(&line);
     }
     facts
 }
@@ -284,51 +308,93 @@ pub fn facts(script: &[u8]) -> String {
 struct Call {
     caller: Caller,
     short_lists: bool,
-    operation: Operation,
-    process: usize,
-    argument: u32,
+    asked: Asked,
+}
+
+/// The operation with what it names.
+enum Asked {
+    Checkpoint(usize),
+    Send(usize, usize),
+    Deliver(u64),
+    Lose(u64),
+    Recover(u64),
+    Line(u64),
+    Earliest(Named),
+    List,
+    Counts,
+    Start(usize),
 }
 
 impl Call {
-    fn of(bytes: &[u8]) -> Call {
-        use Operation::*;
-        let set = u16::from_be_bytes([bytes[1], bytes[2]]);
-        let operations = [
-            Checkpoint, Send, Deliver, Lose, Recover, Line, Earliest, List, Counts, Start,
-        ];
-        Call {
-            caller: match bytes[0] % 128 {
+    fn of(bytes: &[u8; CALL]) -> Option<Call> {
+        let [who, high, low, ..] = *bytes;
+        let (short_lists, role) = match who {
+            0..=127 => (false, who),
+            128.. => (true, who - 128),
+        };
+        Some(Call {
+            caller: match role {
                 0 => Operator,
-                1 => Owner(set),
+                1 => Owner(number_of(&[high, low])),
                 _ => Viewer,
             },
-            short_lists: bytes[0] >= 128,
-            operation: operations[bytes[3] as usize % operations.len()],
-            process: bytes[4] as usize,
-            argument: u32::from_be_bytes([0, bytes[5], bytes[6], bytes[7]]),
-        }
+            short_lists,
+            asked: Asked::of(bytes)?,
+        })
     }
+}
+
+impl Asked {
+    /// None: an operation that there is not, or a byte that must be zero and is
+    /// not.
+    fn of(bytes: &[u8; CALL]) -> Option<Asked> {
+        let [_, _, _, operation, process, argument @ ..] = *bytes;
+        let process = usize::from(process);
+        let whole = number_of(&argument);
+        let asked = match (operation, process, argument) {
+            (0, _, [0, 0, 0]) => Asked::Checkpoint(process),
+            (1, _, _) => Asked::Send(process, usize::try_from(whole).expect("24 bits fit")),
+            (2, 0, _) => Asked::Deliver(whole),
+            (3, 0, _) => Asked::Lose(whole),
+            (4, 0, [0, _, _]) => Asked::Recover(whole),
+            (5, 0, [0, _, _]) => Asked::Line(whole),
+            (6, _, [0, _, _]) => Asked::Earliest(Named {
+                process,
+                index: whole,
+            }),
+            (7, 0, [0, 0, 0]) => Asked::List,
+            (8, 0, [0, 0, 0]) => Asked::Counts,
+            (9, _, [0, 0, 0]) => Asked::Start(process),
+            _ => return None,
+        };
+        Some(asked)
+    }
+}
+
+/// The number that bytes are, the high byte first.
+fn number_of(bytes: &[u8]) -> u64 {
+    bytes
+        .iter()
+        .fold(0, |high, low| 256 * high + u64::from(*low))
 }
 
 /// Makes the call. Gives the values of an accepted one.
 fn made(console: &mut Console, call: &Call) -> Result<String, u8> {
     let count = console.run.count();
-    let fewer = call.short_lists as usize;
+    let fewer = usize::from(call.short_lists);
     let deletions = &mut vec![UNTOUCHED; 2 * count * count - fewer][..];
     let line = &mut vec![UNTOUCHED; count - fewer][..];
-    let (caller, argument) = (call.caller, call.argument);
+    let caller = call.caller;
     let mut values = Values(String::new());
-    match call.operation {
-        Operation::Checkpoint => {
-            let done = console.checkpoint(caller, call.process, deletions)?;
+    match call.asked {
+        Asked::Checkpoint(process) => {
+            let done = console.checkpoint(caller, process, deletions)?;
             values.number(done.index);
             values.pairs(done.deletions, deletions);
         }
-        Operation::Send => {
-            values.number(console.send(caller, call.process, argument as usize)?);
-        }
-        Operation::Deliver => {
-            let done = console.deliver(caller, argument, deletions)?;
+        Asked::Send(sender, receiver) => values.number(console.send(caller, sender, receiver)?),
+        Asked::Deliver(number) => {
+            let done = console.deliver(caller, number, deletions)?;
             match done.forced {
                 Some(index) => values.number(index),
                 None => values.number('-'),
@@ -336,34 +402,30 @@ fn made(console: &mut Console, call: &Call) -> Result<String, u8> {
             values.number(done.rose);
             values.pairs(done.deletions, deletions);
         }
-        Operation::Lose => console.lose(caller, argument)?,
-        Operation::Recover => {
-            let done = console.recover(caller, argument as u16 as u32, deletions, line)?;
+        Asked::Lose(number) => console.lose(caller, number)?,
+        Asked::Recover(failed) => {
+            let done = console.recover(caller, failed, deletions, line)?;
             values.line(line);
             values.number(done.rolled_back);
             values.pairs(done.deletions, deletions);
         }
-        Operation::Line => {
-            console.line(caller, argument as u16 as u32, line)?;
+        Asked::Line(failed) => {
+            console.line(caller, failed, line)?;
             values.line(line);
         }
-        Operation::Earliest => {
-            let named = Named {
-                process: call.process,
-                index: argument as u16,
-            };
+        Asked::Earliest(named) => {
             console.earliest(caller, &[named], line)?;
             values.line(line);
         }
-        Operation::List => {
+        Asked::List => {
             let listed = console.list(caller, deletions)?;
             values.pairs(listed, deletions);
         }
-        Operation::Counts => {
+        Asked::Counts => {
             console.counts(caller, line)?;
             values.line(line);
         }
-        Operation::Start => *console = Console::start(caller, call.process, &ONES)?,
+        Asked::Start(count) => *console = Console::start(caller, count, &ONES)?,
     }
     Ok(values.0)
 }
@@ -377,14 +439,14 @@ impl Values {
         write!(self.0, "{space}{value}").expect("a string takes every text");
     }
 
-    fn pairs(&mut self, count: usize, list: &[u16]) {
+    fn pairs(&mut self, count: usize, list: &[Entry]) {
         self.number(count);
         for pair in list[..2 * count].chunks_exact(2) {
             self.number(format_args!("{}:{}", pair[0], pair[1]));
         }
     }
 
-    fn line(&mut self, line: &[u16]) {
+    fn line(&mut self, line: &[Entry]) {
         for entry in line {
             match *entry {
                 UNTOUCHED => self.number('-'),

@@ -5,6 +5,7 @@
 //! * `cases`: the exam text.
 //! * `generate`: random traces; it uses nothing of the rest.
 //! * `hold`: another program held to the oracle.
+//! * `whole`: numbers of any length.
 //!
 //! Every other module belongs to one note, which its first lines name.
 //!
@@ -21,3 +22,4 @@ pub mod judge;
 pub mod replay;
 pub mod run;
 pub mod simulate;
+pub mod whole;

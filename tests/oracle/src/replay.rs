@@ -1,11 +1,11 @@
 //! The replay: a trace in, a listing out, in constant memory.
 
-use crate::run::{Run, MAX_PROCESSES, ONES};
+use crate::run::{Entry, Run, MAX_PROCESSES, ONES};
 use std::ffi::OsString;
 use std::io::{self, ErrorKind, Read, Write};
 
 /// "The program ends after record 1,000,000,000 and reads nothing past it."
-pub const LAST_RECORD: u32 = 1_000_000_000;
+pub const LAST_RECORD: u64 = 1_000_000_000;
 
 /// "12: no first byte."
 const NO_FIRST_BYTE: u8 = 12;
@@ -49,7 +49,7 @@ pub fn replay<R: Read, W: Write>(
 ///
 /// After a reading error the listing so far is still written.
 pub fn replay_up_to<R: Read, W: Write>(
-    last: u32,
+    last: u64,
     after_refusal: AfterRefusal,
     input: R,
     output: W,
@@ -62,7 +62,7 @@ pub fn replay_up_to<R: Read, W: Write>(
 }
 
 fn list_trace<R: Read, W: Write>(
-    last: u32,
+    last: u64,
     after_refusal: AfterRefusal,
     source: &mut Source<R>,
     listing: &mut Listing<W>,
@@ -72,7 +72,7 @@ fn list_trace<R: Read, W: Write>(
     let started = match source.first_byte()? {
         None => Err(NO_FIRST_BYTE),
         // Note 5: "a trace run uses 1."
-        Some(count) => Run::start(count as usize, &ONES),
+        Some(count) => Run::start(usize::from(count), &ONES),
     };
     let mut run = match started {
         Ok(run) => run,
@@ -102,8 +102,8 @@ fn list_trace<R: Read, W: Write>(
 
 /// The lists lent to every call, long enough for every n.
 struct Lists {
-    deletions: [u16; 2 * MAX_PROCESSES * MAX_PROCESSES],
-    line: [u16; MAX_PROCESSES],
+    deletions: [Entry; 2 * MAX_PROCESSES * MAX_PROCESSES],
+    line: [Entry; MAX_PROCESSES],
 }
 
 impl Lists {
@@ -118,7 +118,7 @@ impl Lists {
 /// What the line of an accepted record shows; the deletions are in the list.
 struct Answer {
     /// None prints a hyphen.
-    value: Option<u32>,
+    value: Option<u64>,
     deletions: usize,
 }
 
@@ -126,7 +126,7 @@ struct Answer {
 /// 4 bits, argument 25 bits."
 fn apply(run: &mut Run, record: u32, lists: &mut Lists) -> Result<Answer, u8> {
     let kind = record >> 29;
-    let process = record >> 25 & 0b1111;
+    let process = (record >> 25 & 0b1111) as usize;
     let argument = record & 0x1FF_FFFF;
     // "14: [...] given before any other number for that record."
     if !well_formed(kind, process, argument) {
@@ -137,24 +137,24 @@ fn apply(run: &mut Run, record: u32, lists: &mut Lists) -> Result<Answer, u8> {
     // rolled back), the count of deletions, and each as process:index."
     let (value, deletions) = match kind {
         0 => {
-            let done = run.checkpoint(process as usize, &mut lists.deletions)?;
-            (Some(done.index as u32), done.deletions)
+            let done = run.checkpoint(process, &mut lists.deletions)?;
+            (Some(done.index.into()), done.deletions)
         }
         1 => {
-            let number = run.send(process as usize, argument as usize)?;
+            let number = run.send(process, argument as usize)?;
             (Some(number), 0)
         }
         2 => {
-            let done = run.deliver(argument, &mut lists.deletions)?;
-            (done.forced.map(u32::from), done.deletions)
+            let done = run.deliver(argument.into(), &mut lists.deletions)?;
+            (done.forced.map(u64::from), done.deletions)
         }
         3 => {
-            run.lose(argument)?;
+            run.lose(argument.into())?;
             (None, 0)
         }
         4 => {
-            let done = run.recover(argument, &mut lists.deletions, &mut lists.line)?;
-            (Some(done.rolled_back as u32), done.deletions)
+            let done = run.recover(argument.into(), &mut lists.deletions, &mut lists.line)?;
+            (Some(done.rolled_back as u64), done.deletions)
         }
         _ => return Err(BAD_RECORD),
     };
@@ -164,7 +164,7 @@ fn apply(run: &mut Run, record: u32, lists: &mut Lists) -> Result<Answer, u8> {
 /// "Kinds: 0 checkpoint (argument zero); 1 send (argument is the receiver); 2
 /// deliver and 3 lose (process zero, argument is the message number); 4
 /// recover (process zero, argument is the failed set); 5 to 7 unused."
-fn well_formed(kind: u32, process: u32, argument: u32) -> bool {
+fn well_formed(kind: u32, process: usize, argument: u32) -> bool {
     match kind {
         0 => argument == 0,
         1 => true,
@@ -193,13 +193,13 @@ struct Source<R> {
 }
 
 impl<R: Read> Source<R> {
-    fn new(last: u32, input: R) -> Self {
+    fn new(last: u64, input: R) -> Self {
         Source {
             input,
             buffer: vec![0; INPUT_BUFFER].into_boxed_slice(),
             start: 0,
             end: 0,
-            allowed: 1 + 4 * last as u64,
+            allowed: 1 + 4 * last,
         }
     }
 
@@ -273,14 +273,14 @@ impl<W: Write> Listing<W> {
         }
     }
 
-    fn refused(&mut self, record_number: u32, refusal_number: u8) -> io::Result<()> {
+    fn refused(&mut self, record_number: u64, refusal_number: u8) -> io::Result<()> {
         self.number(record_number);
         self.sign(b' ');
-        self.number(refusal_number as u32);
+        self.number(refusal_number.into());
         self.end_line()
     }
 
-    fn accepted(&mut self, record_number: u32, answer: &Answer, lists: &Lists) -> io::Result<()> {
+    fn accepted(&mut self, record_number: u64, answer: &Answer, lists: &Lists) -> io::Result<()> {
         self.number(record_number);
         self.buffer.extend_from_slice(b" 0 ");
         match answer.value {
@@ -288,12 +288,12 @@ impl<W: Write> Listing<W> {
             None => self.sign(b'-'),
         }
         self.sign(b' ');
-        self.number(answer.deletions as u32);
+        self.number(answer.deletions as u64);
         for pair in lists.deletions[..2 * answer.deletions].chunks_exact(2) {
             self.sign(b' ');
-            self.number(pair[0] as u32);
+            self.number(pair[0].into());
             self.sign(b':');
-            self.number(pair[1] as u32);
+            self.number(pair[1].into());
         }
         self.end_line()
     }
@@ -303,8 +303,8 @@ impl<W: Write> Listing<W> {
     }
 
     /// The digits are found from the last one to the first.
-    fn number(&mut self, mut value: u32) {
-        let mut digits = [0; 10];
+    fn number(&mut self, mut value: u64) {
+        let mut digits = [0; 20];
         let mut first = digits.len();
         loop {
             first -= 1;

@@ -21,10 +21,15 @@ pub const MAX_PROCESSES: usize = 16;
 pub const MAX_UNDER_WAY: usize = 64;
 
 /// "Message numbers run from 1 to 1,000,000."
-pub const LAST_MESSAGE_NUMBER: u32 = 1_000_000;
+pub const LAST_MESSAGE_NUMBER: u64 = 1_000_000;
+
+/// An entry of a vector, an index, a place of a lent list. There is room above
+/// every value that the paper lets it have, so that none is cut short and none
+/// has to stand for something else.
+pub type Entry = u32;
 
 /// "Vector entries are 0 to 65,535."
-pub const LAST_ENTRY: u16 = 65_535;
+pub const LAST_ENTRY: Entry = 65_535;
 
 /// Note 5: "block counts from 1 to 65,535".
 pub const MOST_BLOCKS_EACH: u32 = 65_535;
@@ -62,14 +67,13 @@ use refusal::*;
 
 /// A dependency vector. Entries at n and above are always zero, so loops may
 /// run over all 16 of them.
-pub type Vector = [u16; MAX_PROCESSES];
+pub type Vector = [Entry; MAX_PROCESSES];
 
-/// For each process a bound on its entry in a vector.
-type Bounds = [u32; MAX_PROCESSES];
+/// For each process what its entry in a vector must stay below, if anything.
+type Bounds = [Option<Entry>; MAX_PROCESSES];
 
-/// What a pin holds when it names no checkpoint. No checkpoint has this index:
-/// a process whose own entry is 65,535 may not store.
-const NO_PIN: u16 = u16::MAX;
+/// The pins of one process: each names a checkpoint by its index, or none.
+type Pins = [Option<Entry>; MAX_PROCESSES];
 
 /// A process keeps at most n checkpoints between calls; while a call runs, the
 /// one just stored may come on top.
@@ -84,10 +88,10 @@ const FORCED: u8 = 2;
 /// "its cause [...] and its process's block count".
 #[derive(Clone, Copy, Debug, PartialEq, Eq)]
 struct Checkpoint {
-    index: u16,
+    index: Entry,
     vector: Vector,
     cause: u8,
-    blocks: u16,
+    blocks: u32,
 }
 
 const NO_CHECKPOINT: Checkpoint = Checkpoint {
@@ -118,9 +122,9 @@ impl Kept {
 /// A message under way.
 #[derive(Clone, Copy, Debug, PartialEq, Eq)]
 pub struct Message {
-    pub number: u32,
-    pub sender: u8,
-    pub receiver: u8,
+    pub number: u64,
+    pub sender: usize,
+    pub receiver: usize,
     pub carried: Vector,
 }
 
@@ -136,15 +140,15 @@ const NO_MESSAGE: Message = Message {
 pub struct Run {
     count: usize,
     vectors: [Vector; MAX_PROCESSES],
-    pins: [[u16; MAX_PROCESSES]; MAX_PROCESSES],
+    pins: [Pins; MAX_PROCESSES],
     sent: [bool; MAX_PROCESSES],
     kept: [Kept; MAX_PROCESSES],
     under_way: usize,
     messages: [Message; MAX_UNDER_WAY],
-    last_number: u32,
+    last_number: u64,
     /// Note 5: each process's block count, "fixed at the start", and "blocks
     /// written and blocks deleted."
-    blocks: [u16; MAX_PROCESSES],
+    blocks: Counts,
     written: u64,
     deleted: u64,
 }
@@ -152,18 +156,18 @@ pub struct Run {
 /// The answer of an accepted checkpoint.
 #[derive(Clone, Copy, Debug, PartialEq, Eq)]
 pub struct Checkpointed {
-    pub index: u16,
+    pub index: Entry,
     pub deletions: usize,
 }
 
 /// The answer of an accepted delivery.
 #[derive(Clone, Copy, Debug, PartialEq, Eq)]
 pub struct Delivered {
-    pub forced: Option<u16>,
+    pub forced: Option<Entry>,
     pub deletions: usize,
     /// Note 1: "the set of entries that rose, as a number of 16 bits": bit f
     /// stands for entry f.
-    pub rose: u16,
+    pub rose: u64,
 }
 
 /// The answer of an accepted recover.
@@ -177,7 +181,7 @@ pub struct Recovered {
 #[derive(Clone, Copy, Debug, PartialEq, Eq)]
 pub struct Named {
     pub process: usize,
-    pub index: u16,
+    pub index: u64,
 }
 
 /// The state of one process that a line names: its live state, or the
@@ -191,17 +195,17 @@ enum Member {
 /// Writes deletions into the lent list: "as pairs process, index, by process,
 /// then index, ascending; what lies past the pairs is unchanged."
 struct Deletions<'a> {
-    list: &'a mut [u16],
+    list: &'a mut [Entry],
     count: usize,
 }
 
 impl<'a> Deletions<'a> {
-    fn new(list: &'a mut [u16]) -> Self {
+    fn new(list: &'a mut [Entry]) -> Self {
         Deletions { list, count: 0 }
     }
 
-    fn add(&mut self, process: usize, index: u16) {
-        self.list[2 * self.count] = process as u16;
+    fn add(&mut self, process: usize, index: Entry) {
+        self.list[2 * self.count] = as_entry(process);
         self.list[2 * self.count + 1] = index;
         self.count += 1;
     }
@@ -224,7 +228,7 @@ impl Run {
         let mut run = Run {
             count,
             vectors: [[0; MAX_PROCESSES]; MAX_PROCESSES],
-            pins: [[NO_PIN; MAX_PROCESSES]; MAX_PROCESSES],
+            pins: [[None; MAX_PROCESSES]; MAX_PROCESSES],
             // "No process has sent."
             sent: [false; MAX_PROCESSES],
             kept: std::array::from_fn(|_| Kept {
@@ -239,23 +243,23 @@ impl Run {
             deleted: 0,
         };
         for i in 0..count {
-            run.blocks[i] = counts[i] as u16;
+            run.blocks[i] = counts[i];
             // "Each process stores checkpoint 0 with a vector of zeros."
             run.kept[i].add(Checkpoint {
                 blocks: run.blocks[i],
                 ..NO_CHECKPOINT
             });
-            run.written += counts[i] as u64;
+            run.written += u64::from(counts[i]);
             // "Then own entries are 1, others 0."
             run.vectors[i][i] = 1;
             // "Each own pin names checkpoint 0, others none."
-            run.pins[i][i] = 0;
+            run.pins[i][i] = Some(0);
         }
         Ok(run)
     }
 
     /// "Checkpoint at i."
-    pub fn checkpoint(&mut self, i: usize, deletions: &mut [u16]) -> Result<Checkpointed, u8> {
+    pub fn checkpoint(&mut self, i: usize, deletions: &mut [Entry]) -> Result<Checkpointed, u8> {
         self.judge_deletion_list(deletions)?;
         self.judge_process(i)?;
         // "11: a checkpoint [...] where the own entry is 65,535."
@@ -274,7 +278,7 @@ impl Run {
     }
 
     /// "Send from i to j." Gives the message's number.
-    pub fn send(&mut self, i: usize, j: usize) -> Result<u32, u8> {
+    pub fn send(&mut self, i: usize, j: usize) -> Result<u64, u8> {
         self.judge_process(i)?;
         self.judge_process(j)?;
         // "5: sender is receiver."
@@ -297,8 +301,8 @@ impl Run {
         // so the messages stay ascending by number.
         self.messages[self.under_way] = Message {
             number: self.last_number,
-            sender: i as u8,
-            receiver: j as u8,
+            sender: i,
+            receiver: j,
             carried: self.vectors[i],
         };
         self.under_way += 1;
@@ -308,10 +312,10 @@ impl Run {
     }
 
     /// "Deliver to i": the message's number names its receiver.
-    pub fn deliver(&mut self, number: u32, deletions: &mut [u16]) -> Result<Delivered, u8> {
+    pub fn deliver(&mut self, number: u64, deletions: &mut [Entry]) -> Result<Delivered, u8> {
         self.judge_deletion_list(deletions)?;
         let place = self.find_under_way(number)?;
-        let i = self.messages[place].receiver as usize;
+        let i = self.messages[place].receiver;
         let carried = self.messages[place].carried;
         let newer = some_entry_greater(&carried, &self.vectors[i]);
         // "If the sent mark is set and some carried entry is greater than i's,
@@ -343,14 +347,14 @@ impl Run {
     }
 
     /// "Lose. The message is no longer under way; nothing else changes."
-    pub fn lose(&mut self, number: u32) -> Result<(), u8> {
+    pub fn lose(&mut self, number: u64) -> Result<(), u8> {
         let place = self.find_under_way(number)?;
         self.remove_message(place);
         Ok(())
     }
 
     /// "Line for a failed set." Bit p of the set stands for process p.
-    pub fn line(&self, failed: u32, line: &mut [u16]) -> Result<(), u8> {
+    pub fn line(&self, failed: u64, line: &mut [Entry]) -> Result<(), u8> {
         self.judge_line_list(line)?;
         self.judge_failed(failed)?;
         let members = self.find_line(failed)?;
@@ -364,9 +368,9 @@ impl Run {
     /// the messages go by the same rules.
     pub fn recover(
         &mut self,
-        failed: u32,
-        deletions: &mut [u16],
-        line: &mut [u16],
+        failed: u64,
+        deletions: &mut [Entry],
+        line: &mut [Entry],
     ) -> Result<Recovered, u8> {
         self.judge_deletion_list(deletions)?;
         self.judge_line_list(line)?;
@@ -404,7 +408,7 @@ impl Run {
 impl Run {
     /// "the earliest consistent line through all of them", the named
     /// checkpoints.
-    pub fn earliest(&self, named: &[Named], line: &mut [u16]) -> Result<(), u8> {
+    pub fn earliest(&self, named: &[Named], line: &mut [Entry]) -> Result<(), u8> {
         self.judge_line_list(line)?;
         // "The list is judged for 4 before 18."
         for one in named {
@@ -444,14 +448,14 @@ impl Run {
     fn find_kept(&self, named: Named) -> Option<Checkpoint> {
         let kept = self.kept[named.process].checkpoints().iter();
         kept.copied()
-            .find(|checkpoint| checkpoint.index == named.index)
+            .find(|checkpoint| u64::from(checkpoint.index) == named.index)
     }
 }
 
 /// What the calls judge. None of these changes anything.
 impl Run {
     /// "3: deletion list below 2 × n × n entries"
-    fn judge_deletion_list(&self, list: &[u16]) -> Result<(), u8> {
+    fn judge_deletion_list(&self, list: &[Entry]) -> Result<(), u8> {
         if list.len() < 2 * self.count * self.count {
             return Err(LIST_TOO_SHORT);
         }
@@ -459,7 +463,7 @@ impl Run {
     }
 
     /// "3: [...] or line list below n."
-    fn judge_line_list(&self, list: &[u16]) -> Result<(), u8> {
+    fn judge_line_list(&self, list: &[Entry]) -> Result<(), u8> {
         if list.len() < self.count {
             return Err(LIST_TOO_SHORT);
         }
@@ -477,8 +481,8 @@ impl Run {
     /// "7: failed set has a bit at n or above." Note 4: "An empty failed set
     /// now means a sweep"; "Refusal 6 never occurs any more." A set whose only
     /// bits are at n and above is not empty.
-    fn judge_failed(&self, failed: u32) -> Result<(), u8> {
-        if failed >> self.count != 0 {
+    fn judge_failed(&self, failed: u64) -> Result<(), u8> {
+        if failed >= 1 << self.count {
             return Err(FAILED_SET_OUTSIDE);
         }
         Ok(())
@@ -487,14 +491,14 @@ impl Run {
     /// Note 5: "16, after 11, for a stored checkpoint that would take written
     /// past 1,000,000,000,000,000."
     fn judge_blocks(&self, i: usize) -> Result<(), u8> {
-        if self.written + self.blocks[i] as u64 > MOST_WRITTEN {
+        if self.written + u64::from(self.blocks[i]) > MOST_WRITTEN {
             return Err(BLOCKS_USED_UP);
         }
         Ok(())
     }
 
     /// "8: message not under way." Gives the message's place.
-    fn find_under_way(&self, number: u32) -> Result<usize, u8> {
+    fn find_under_way(&self, number: u64) -> Result<usize, u8> {
         self.under_way()
             .binary_search_by_key(&number, |message| message.number)
             .map_err(|_| NOT_UNDER_WAY)
@@ -505,15 +509,10 @@ impl Run {
     ///
     /// 2 is for a process without such a state, which no reached state has:
     /// it is judged "after all other numbers".
-    fn find_line(&self, failed: u32) -> Result<[Member; MAX_PROCESSES], u8> {
-        // What entry f must stay below; no entry reaches u32::MAX.
+    fn find_line(&self, failed: u64) -> Result<[Member; MAX_PROCESSES], u8> {
         let bounds: Bounds = std::array::from_fn(|f| {
             let has_failed = failed >> f & 1 == 1;
-            if has_failed {
-                self.own_entry(f) as u32
-            } else {
-                u32::MAX
-            }
+            has_failed.then(|| self.own_entry(f))
         });
         let mut members = [Member::Live; MAX_PROCESSES];
         for i in 0..self.count {
@@ -539,7 +538,7 @@ impl Run {
 /// The parts of the steps.
 impl Run {
     /// The steps of a checkpoint at i, without the deletions. Gives the index.
-    fn store_checkpoint(&mut self, i: usize, cause: u8) -> u16 {
+    fn store_checkpoint(&mut self, i: usize, cause: u8) -> Entry {
         let index = self.own_entry(i);
         // "Store the vector under index own entry."
         self.kept[i].add(Checkpoint {
@@ -550,9 +549,9 @@ impl Run {
         });
         // Note 5: "each checkpoint ever stored, rolled back or not, counts
         // once."
-        self.written += self.blocks[i] as u64;
+        self.written += u64::from(self.blocks[i]);
         // "The own pin names it."
-        self.pins[i][i] = index;
+        self.pins[i][i] = Some(index);
         // "Add 1 to the own entry."
         self.vectors[i][i] += 1;
         // "Clear the sent mark."
@@ -563,7 +562,7 @@ impl Run {
     /// "Then each entry that is smaller than the carried one takes it, and
     /// that entry's pin becomes the own pin." Gives the set of entries that
     /// rose.
-    fn take_entries(&mut self, i: usize, carried: &Vector) -> u16 {
+    fn take_entries(&mut self, i: usize, carried: &Vector) -> u64 {
         let own_pin = self.pins[i][i];
         let mut rose = 0;
         for f in 0..self.count {
@@ -591,7 +590,7 @@ impl Run {
             } else {
                 deletions.add(i, index);
                 // Note 5: "deleted is defined from the pairs handed out."
-                self.deleted += kept.places[place].blocks as u64;
+                self.deleted += u64::from(kept.places[place].blocks);
             }
         }
         kept.len = staying;
@@ -619,7 +618,7 @@ impl Run {
             if self.vectors[i][f] != own[f] {
                 // "At each process, a pin for f whose vector entry is not
                 // own(f) becomes none."
-                self.pins[i][f] = NO_PIN;
+                self.pins[i][f] = None;
             } else if let Member::Stored(place) = member {
                 // "In a rolled-back process a pin whose entry is own(f) names
                 // the latest checkpoint with entry f below own(f) among those
@@ -628,7 +627,7 @@ impl Run {
                 self.pins[i][f] = not_lost
                     .iter()
                     .rfind(|checkpoint| checkpoint.vector[f] < own[f])
-                    .map_or(NO_PIN, |checkpoint| checkpoint.index);
+                    .map(|checkpoint| checkpoint.index);
             }
         }
     }
@@ -636,10 +635,10 @@ impl Run {
     /// Note 2: "a recovery loses a message exactly if its sender's entry in the
     /// carried vector is above the sender's index in the line; the others
     /// remain under way with their numbers." They move up, in their order.
-    fn lose_sent_after(&mut self, line: &[u16]) {
+    fn lose_sent_after(&mut self, line: &[Entry]) {
         let mut staying = 0;
         for place in 0..self.under_way {
-            let sender = self.messages[place].sender as usize;
+            let sender = self.messages[place].sender;
             if self.messages[place].carried[sender] <= line[sender] {
                 if staying != place {
                     self.messages[staying] = self.messages[place];
@@ -653,7 +652,7 @@ impl Run {
     /// "Recover and line write n indexes into a lent line list; the rest of it
     /// is unchanged." "The live state counts as the checkpoint whose index is
     /// the own entry."
-    fn write_line(&self, members: &[Member; MAX_PROCESSES], line: &mut [u16]) {
+    fn write_line(&self, members: &[Member; MAX_PROCESSES], line: &mut [Entry]) {
         for i in 0..self.count {
             line[i] = match members[i] {
                 Member::Live => self.own_entry(i),
@@ -671,12 +670,12 @@ impl Run {
     }
 
     /// "its own entry is its current interval."
-    pub fn own_entry(&self, i: usize) -> u16 {
+    pub fn own_entry(&self, i: usize) -> Entry {
         self.vectors[i][i]
     }
 
     /// The n entries of i's vector.
-    pub fn vector(&self, i: usize) -> &[u16] {
+    pub fn vector(&self, i: usize) -> &[Entry] {
         &self.vectors[i][..self.count]
     }
 
@@ -686,12 +685,12 @@ impl Run {
     }
 
     /// "A pin of i for f names one kept checkpoint of i, or none."
-    pub fn pin(&self, i: usize, f: usize) -> Option<u16> {
-        Some(self.pins[i][f]).filter(|&index| index != NO_PIN)
+    pub fn pin(&self, i: usize, f: usize) -> Option<Entry> {
+        self.pins[i][f]
     }
 
     /// The indexes and vectors of i's kept checkpoints, ascending.
-    pub fn kept(&self, i: usize) -> impl Iterator<Item = (u16, &[u16])> {
+    pub fn kept(&self, i: usize) -> impl Iterator<Item = (Entry, &[Entry])> {
         self.kept[i]
             .checkpoints()
             .iter()
@@ -700,7 +699,7 @@ impl Run {
 
     /// The cause and the block count that each of i's kept checkpoints
     /// records, in the same order.
-    pub fn records(&self, i: usize) -> impl Iterator<Item = (u8, u16)> + '_ {
+    pub fn records(&self, i: usize) -> impl Iterator<Item = (u8, u32)> + '_ {
         self.kept[i]
             .checkpoints()
             .iter()
@@ -723,7 +722,7 @@ impl Run {
     }
 
     /// The last message number used, 0 if none.
-    pub fn last_number(&self) -> u32 {
+    pub fn last_number(&self) -> u64 {
         self.last_number
     }
 }
@@ -736,7 +735,7 @@ impl Run {
     pub fn with_sums(&self, written: u64, deleted: u64) -> Result<Run, u8> {
         let kept: u64 = (0..self.count)
             .flat_map(|i| self.kept[i].checkpoints())
-            .map(|checkpoint| checkpoint.blocks as u64)
+            .map(|checkpoint| u64::from(checkpoint.blocks))
             .sum();
         if deleted.checked_add(kept) != Some(written) || written > MOST_WRITTEN {
             return Err(NOT_SOUND);
@@ -750,7 +749,12 @@ impl Run {
 /// "Checkpoint a of f comes causally before a state exactly if a is less than
 /// that state's entry f". Not before itself: its own entry is its index.
 fn comes_before(checkpoint: Named, state: &Vector) -> bool {
-    checkpoint.index < state[checkpoint.process]
+    checkpoint.index < u64::from(state[checkpoint.process])
+}
+
+/// A process as a place of a lent list holds it.
+pub fn as_entry(process: usize) -> Entry {
+    Entry::try_from(process).expect("a process is below 16")
 }
 
 /// Is some entry of `carried` greater than the one in `vector`? Goes over all
@@ -767,16 +771,16 @@ fn some_entry_greater(carried: &Vector, vector: &Vector) -> bool {
 fn every_entry_below(vector: &Vector, bounds: &Bounds) -> bool {
     let mut reached = false;
     for f in 0..MAX_PROCESSES {
-        reached |= vector[f] as u32 >= bounds[f];
+        reached |= bounds[f].is_some_and(|bound| vector[f] >= bound);
     }
     !reached
 }
 
 /// Does one of the pins name this checkpoint? All at once, as above.
-fn names(pins: &[u16; MAX_PROCESSES], index: u16) -> bool {
+fn names(pins: &Pins, index: Entry) -> bool {
     let mut named = false;
     for pin in pins {
-        named |= *pin == index;
+        named |= *pin == Some(index);
     }
     named
 }

@@ -1,6 +1,7 @@
 //! Note 10: a simulation of a checkpoint spacing, by the calls of `run`.
 
 use crate::run::{Run, MAX_PROCESSES, ONES};
+use crate::whole::Whole;
 use std::ops::RangeInclusive;
 
 const COUNTS: RangeInclusive<u64> = 1..=16;
@@ -17,11 +18,11 @@ pub const OUT_OF_RANGE: u8 = 22;
 /// and remainder, both 0 without deliveries."
 #[derive(Clone, Copy, Debug, Default, PartialEq, Eq)]
 pub struct Figures {
-    pub deliveries: u32,
-    pub forced: u32,
-    pub most_kept: u32,
-    pub quotient: u32,
-    pub remainder: u32,
+    pub deliveries: u64,
+    pub forced: u64,
+    pub most_kept: u64,
+    pub quotient: u64,
+    pub remainder: u64,
 }
 
 /// What a simulation asks for.
@@ -54,25 +55,25 @@ pub fn trace(parameters: Parameters) -> Result<Vec<u8>, u8> {
 /// "The generator takes the last value, multiplies by 1,664,525, adds
 /// 1,013,904,223 and keeps the low 32 bits; a draw is the new value divided by
 /// 65,536, remainder dropped."
-pub struct Generator(pub u32);
+pub struct Generator(pub u64);
 
 impl Generator {
-    pub fn draw(&mut self) -> u32 {
-        let value = self.0 as u64 * 1_664_525 + 1_013_904_223;
-        self.0 = (value % (1 << 32)) as u32;
+    pub fn draw(&mut self) -> u64 {
+        let value = self.0 * 1_664_525 + 1_013_904_223;
+        self.0 = value % (1 << 32);
         self.0 / 65_536
     }
 }
 
 struct Simulation {
     run: Run,
-    spacing: u32,
+    spacing: u64,
     generator: Generator,
     /// How many sends and deliveries each process has done.
-    done: [u32; MAX_PROCESSES],
-    deliveries: u32,
-    forced: u32,
-    most_kept: u32,
+    done: [u64; MAX_PROCESSES],
+    deliveries: u64,
+    forced: u64,
+    most_kept: u64,
     trace: Vec<u8>,
 }
 
@@ -89,17 +90,17 @@ impl Simulation {
         let count = parameters.count as usize;
         let mut simulation = Simulation {
             run: must(Run::start(count, &ONES)),
-            spacing: parameters.spacing as u32,
-            generator: Generator(parameters.start),
+            spacing: parameters.spacing,
+            generator: Generator(parameters.start.into()),
             done: [0; MAX_PROCESSES],
             deliveries: 0,
             forced: 0,
             most_kept: 0,
-            trace: vec![count as u8],
+            trace: vec![u8::try_from(count).expect("1 to 16")],
         };
         for _ in 0..parameters.steps {
             simulation.step();
-            let kept = (0..count).map(|i| simulation.run.kept(i).count() as u32);
+            let kept = (0..count).map(|i| simulation.run.kept(i).count() as u64);
             let most = kept.max().expect("there is a process");
             simulation.most_kept = simulation.most_kept.max(most);
         }
@@ -107,12 +108,12 @@ impl Simulation {
     }
 
     fn step(&mut self) {
-        let n = self.run.count() as u32;
+        let n = self.run.count() as u64;
         // "A step draws a process p as draw modulo n, then draws d."
-        let p = self.generator.draw() % n;
+        let p = (self.generator.draw() % n) as usize;
         let d = self.generator.draw();
         let messages = self.run.under_way();
-        let oldest = messages.iter().find(|message| message.receiver as u32 == p);
+        let oldest = messages.iter().find(|message| message.receiver == p);
         match oldest {
             // "If a message to p is under way and d is even, the oldest is
             // delivered."
@@ -123,38 +124,39 @@ impl Simulation {
             // "Otherwise, if n is at least 2 and fewer than 64 are under way, p
             // sends to p + 1 + ((d div 2) mod (n − 1)), the sum taken modulo n."
             _ if n >= 2 && messages.len() < 64 => {
-                let receiver = (p + 1 + (d / 2) % (n - 1)) % n;
-                self.send(p, receiver);
+                let receiver = (p as u64 + 1 + (d / 2) % (n - 1)) % n;
+                self.send(p, receiver as usize);
             }
             _ => return,
         }
         // "After each k of its own sends and deliveries p takes a checkpoint."
-        self.done[p as usize] += 1;
-        if self.done[p as usize] % self.spacing == 0 {
+        self.done[p] += 1;
+        if self.done[p] % self.spacing == 0 {
             self.checkpoint(p);
         }
     }
 
-    fn deliver(&mut self, number: u32) {
+    fn deliver(&mut self, number: u64) {
         let answer = must(self.run.deliver(number, &mut [0; 512]));
         self.deliveries += 1;
-        self.forced += answer.forced.is_some() as u32;
+        self.forced += u64::from(answer.forced.is_some());
         self.record(2, 0, number);
     }
 
-    fn send(&mut self, sender: u32, receiver: u32) {
-        must(self.run.send(sender as usize, receiver as usize));
-        self.record(1, sender, receiver);
+    fn send(&mut self, sender: usize, receiver: usize) {
+        must(self.run.send(sender, receiver));
+        self.record(1, sender, receiver as u64);
     }
 
-    fn checkpoint(&mut self, process: u32) {
-        must(self.run.checkpoint(process as usize, &mut [0; 512]));
+    fn checkpoint(&mut self, process: usize) {
+        must(self.run.checkpoint(process, &mut [0; 512]));
         self.record(0, process, 0);
     }
 
-    fn record(&mut self, kind: u32, process: u32, argument: u32) {
-        let record = kind << 29 | process << 25 | argument;
-        self.trace.extend(record.to_be_bytes());
+    fn record(&mut self, kind: u64, process: usize, argument: u64) {
+        let record = u32::try_from(kind << 29 | (process as u64) << 25 | argument);
+        self.trace
+            .extend(record.expect("an accepted call fits").to_be_bytes());
     }
 
     fn figures(&self) -> Figures {
@@ -186,28 +188,27 @@ pub fn text(arguments: &[&str]) -> Option<String> {
     let [count, spacing, steps, start] = arguments else {
         return None;
     };
-    let parameters = Parameters {
-        count: number(count)?,
-        spacing: 0,
-        steps: number(steps)?,
-        start: u32::try_from(number(start)?).ok()?,
+    let (from, to) = spacing.split_once('-').unwrap_or((spacing, spacing));
+    let start = u32::try_from(Whole::in_decimal(start)?.as_u64()?).ok()?;
+    let mut asked = Vec::new();
+    for word in [count, from, to, steps] {
+        asked.push(Whole::in_decimal(word)?.as_u64());
+    }
+    // A number above every u64 is out of every range.
+    let [Some(count), Some(from), Some(to), Some(steps)] = asked[..] else {
+        return Some(format!("refused {OUT_OF_RANGE}\n"));
     };
-    let text = match spacing.split_once('-') {
-        None => figures_text(Parameters {
-            spacing: number(spacing)?,
-            ..parameters
-        }),
-        Some((from, to)) => table_text(number(from)?, number(to)?, parameters),
+    let parameters = Parameters {
+        count,
+        spacing: from,
+        steps,
+        start,
+    };
+    let text = match spacing.contains('-') {
+        false => figures_text(parameters),
+        true => table_text(from, to, parameters),
     };
     Some(text.unwrap_or_else(|number| format!("refused {number}\n")))
-}
-
-/// Decimal digits alone. What has more digits than fit is out of every range.
-fn number(digits: &str) -> Option<u64> {
-    if digits.is_empty() || !digits.bytes().all(|byte| byte.is_ascii_digit()) {
-        return None;
-    }
-    Some(digits.parse().unwrap_or(u64::MAX))
 }
 
 fn figures_text(parameters: Parameters) -> Result<String, u8> {

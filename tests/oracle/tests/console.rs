@@ -42,7 +42,7 @@ fn the_table() {
         };
         assert_eq!(rights, expected, "{operation:?}");
         // The owned set plays no part in the table.
-        assert_eq!(may(Owner(0), operation), may(Owner(u16::MAX), operation));
+        assert_eq!(may(Owner(0), operation), may(Owner(u64::MAX), operation));
     }
 }
 
@@ -136,7 +136,7 @@ fn what_is_not_its_own_is_denied() {
     assert_eq!(c.send(owner, 0, 3), Err(4));
     assert_eq!(c.send(owner, 0, 2), Ok(3));
     // A message to another, one that is none, one that is no longer under way.
-    for number in [0, 2, 3, 4, u32::MAX] {
+    for number in [0, 2, 3, 4, 1 << 32 | 1, u64::MAX] {
         assert_eq!(c.deliver(owner, number, &mut [0; 17]), Err(25));
         assert_eq!(c.lose(owner, number), Err(25));
     }
@@ -213,16 +213,16 @@ fn what_a_viewer_sees() {
 /// One random call by anyone.
 fn any_call(c: &mut Console, random: &mut Random) {
     let n = c.run().count();
-    let caller = [Operator, Owner(random.next() as u16), Viewer][random.below(3)];
+    let caller = [Operator, Owner(random.next() % 65_536), Viewer][random.below(3)];
     let (p, q) = (random.below(n), random.below(n));
-    let number = random.below(c.run().last_number() as usize + 2) as u32;
+    let number = random.below(c.run().last_number() as usize + 2) as u64;
     let (mut deletions, mut line) = ([0; DELETIONS], [0; LINE]);
     match random.below(8) {
         0 => _ = c.checkpoint(caller, p, &mut deletions),
         1..=3 => _ = c.send(caller, p, q),
         4..=6 => _ = c.deliver(caller, number, &mut deletions),
         _ => {
-            let failed = random.below(1 << n) as u32;
+            let failed = random.below(1 << n) as u64;
             _ = c.recover(caller, failed, &mut deletions, &mut line);
         }
     }
@@ -337,7 +337,7 @@ fn the_facts_of_a_script() {
         assert_eq!(facts(&[first, 0, 0]), "0 1\n");
     }
     assert_eq!(facts(&[3]), "");
-    let calls: [([u8; 8], &str); 24] = [
+    let calls: [([u8; 8], &str); 42] = [
         // The operator sends 2 to 1 and 0 to 2.
         ([0, 0, 0, 1, 2, 0, 0, 1], "0 1"),
         ([0, 0, 0, 1, 0, 0, 0, 2], "0 2"),
@@ -345,7 +345,7 @@ fn the_facts_of_a_script() {
         ([1, 0xFF, 0xFB, 2, 0, 0, 0, 2], "25"),
         ([129, 0, 3, 2, 0, 0, 0, 1], "3"),
         ([1, 0, 3, 2, 0, 0, 0, 1], "0 - 4 0"),
-        ([1, 0, 3, 0, 1, 9, 9, 9], "0 1 0"),
+        ([1, 0, 3, 0, 1, 0, 0, 0], "0 1 0"),
         ([1, 0, 3, 0, 2, 0, 0, 0], "25"),
         ([129, 0, 3, 0, 2, 0, 0, 0], "25"),
         ([1, 0, 3, 5, 0, 0, 0, 4], "0 1 0 -"),
@@ -364,7 +364,27 @@ fn the_facts_of_a_script() {
         ([0, 0, 0, 4, 0, 0, 0, 4], "0 1 0 0 2 1 1:1"),
         ([0, 0, 0, 0, 1, 0, 0, 0], "0 1 1 1:0"),
         ([0, 0, 0, 9, 17, 0, 0, 0], "1"),
-        ([0, 0, 0, 19, 2, 0, 0, 0], "0"),
+        // No call: an operation that there is not, a field that must be zero.
+        ([0, 0, 0, 10, 0, 0, 0, 0], "14"),
+        ([0, 0, 0, 14, 0, 0, 0, 1], "14"),
+        ([2, 0, 0, 19, 2, 0, 0, 0], "14"),
+        ([0, 0, 0, 255, 0, 0, 0, 0], "14"),
+        ([0, 0, 0, 0, 1, 1, 0, 0], "14"),
+        ([0, 0, 0, 0, 1, 0, 0, 1], "14"),
+        ([0, 0, 0, 2, 1, 0, 0, 1], "14"),
+        ([2, 0, 0, 3, 1, 0, 0, 1], "14"),
+        ([0, 0, 0, 4, 0, 1, 0, 0], "14"),
+        ([0, 0, 0, 4, 1, 0, 0, 0], "14"),
+        ([1, 0, 3, 5, 0, 1, 0, 1], "14"),
+        ([0, 0, 0, 6, 1, 1, 0, 1], "14"),
+        ([0, 0, 0, 7, 0, 0, 1, 0], "14"),
+        ([129, 0, 3, 8, 1, 0, 0, 0], "14"),
+        ([0, 0, 0, 9, 2, 0, 0, 1], "14"),
+        // What fits its field is judged by the call, whole.
+        ([0, 0, 0, 5, 0, 0, 255, 255], "7"),
+        ([0, 0, 0, 6, 1, 0, 255, 255], "19"),
+        ([0, 0, 0, 1, 0, 1, 0, 1], "4"),
+        ([0, 0, 0, 9, 2, 0, 0, 0], "0"),
         ([0, 0, 0, 7, 0, 0, 0, 0], "0 2 0:0 1:0"),
     ];
     let mut bytes = vec![3];
@@ -373,8 +393,29 @@ fn the_facts_of_a_script() {
         bytes.extend(call);
         expected += &format!("{number} {fact}\n");
     }
-    bytes.extend([0; 7]);
     assert_eq!(facts(&bytes), expected);
+    for left_over in 1..8 {
+        bytes.push(0);
+        assert_eq!(facts(&bytes), format!("{expected}43 13\n"), "{left_over}");
+    }
+}
+
+/// An own entry of 65,535 is a member as any other: a hyphen stands for a place
+/// that was not written, and for nothing else.
+#[test]
+fn the_last_entry_is_no_mark() {
+    let script = |caller: u8, set: u8| {
+        let mut bytes = vec![1];
+        for _ in 0..65_534 {
+            bytes.extend([0; 8]);
+        }
+        bytes.extend([caller, 0, set, 5, 0, 0, 0, 0]);
+        bytes
+    };
+    let last = |bytes: Vec<u8>| facts(&bytes).lines().last().unwrap().to_string();
+    assert_eq!(last(script(0, 0)), "65535 0 65535");
+    assert_eq!(last(script(1, 1)), "65535 0 65535");
+    assert_eq!(last(script(1, 0)), "65535 0 -");
 }
 
 #[test]
@@ -386,7 +427,7 @@ fn scripts_have_all_numbers() {
             *met.entry(number).or_insert(0) += 1;
         }
     }
-    for number in [0, 1, 3, 4, 5, 7, 8, 9, 12, 19, 25] {
+    for number in [0, 1, 3, 4, 5, 7, 8, 9, 12, 13, 14, 19, 25] {
         assert!(met.get(&number).is_some_and(|times| *times > 20), "{met:?}");
     }
 }

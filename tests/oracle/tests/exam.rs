@@ -24,7 +24,7 @@ const EXAMPLE_LISTING: &str = "\
 10 8
 ";
 
-fn sets(run: &Run) -> Vec<Vec<u16>> {
+fn sets(run: &Run) -> Vec<Vec<u32>> {
     (0..1 << run.count())
         .map(|failed| line(run, failed))
         .collect()
@@ -47,7 +47,7 @@ fn the_start() {
         let run = Run::start(n, &ONES).unwrap();
         for i in 0..n {
             for f in 0..n {
-                assert_eq!(run.vector(i)[f], (i == f) as u16);
+                assert_eq!(run.vector(i)[f], (i == f) as u32);
                 assert_eq!(run.pin(i, f), (i == f).then_some(0));
             }
             assert_eq!(run.kept(i).collect::<Vec<_>>(), [(0, &vec![0; n][..])]);
@@ -169,7 +169,7 @@ fn case_9() {
     assert_eq!(run.deliver(1, &mut [0; DELETIONS]), Err(8));
 }
 
-fn numbers_under_way(run: &Run) -> Vec<u32> {
+fn numbers_under_way(run: &Run) -> Vec<u64> {
     let messages = run.under_way().iter();
     messages.map(|message| message.number).collect()
 }
@@ -356,7 +356,7 @@ fn case_10_last_intervals() {
 }
 
 /// Process 1 at this own entry, sent mark set, message 2 to it under way.
-fn about_to_force(own_entry: u16) -> Run {
+fn about_to_force(own_entry: u32) -> Run {
     let mut run = Run::start(2, &ONES).unwrap();
     for _ in 1..own_entry {
         run.checkpoint(1, &mut [0; 8]).unwrap();

@@ -13,16 +13,16 @@ use std::collections::HashMap;
 
 #[derive(Clone, Copy, PartialEq)]
 enum Event {
-    Checkpoint { number: u16, kept: bool, cause: u8 },
-    Sent(u32),
-    Received(u32),
+    Checkpoint { number: u32, kept: bool, cause: u8 },
+    Sent(u64),
+    Received(u64),
 }
 
 /// A state of a process that a line can name: its index, and how many events
 /// of the list come before it.
 #[derive(Clone, Copy)]
 struct State {
-    index: u16,
+    index: u32,
     place: usize,
     live: bool,
     kept: bool,
@@ -42,9 +42,9 @@ struct History {
     receivers: Vec<usize>,
     /// The numbers under way, ascending: sent, and neither received nor lost,
     /// nor is the send gone from its list.
-    under_way: Vec<u32>,
+    under_way: Vec<u64>,
     /// The last number used when a process last rolled back.
-    sent_before_rollback: u32,
+    sent_before_rollback: u64,
     /// Note 5: the block counts, "each checkpoint ever stored, rolled back or
     /// not, counts once", and blocks deleted "from the pairs handed out."
     counts: Counts,
@@ -71,7 +71,7 @@ impl History {
         }
     }
 
-    fn last_checkpoint(&self, i: usize) -> u16 {
+    fn last_checkpoint(&self, i: usize) -> u32 {
         let numbers = self.lists[i].iter().rev().filter_map(|event| match event {
             Event::Checkpoint { number, .. } => Some(*number),
             _ => None,
@@ -83,7 +83,7 @@ impl History {
     }
 
     /// "the next checkpoint, numbered one above the last there."
-    fn add_checkpoint(&mut self, i: usize, cause: u8) -> u16 {
+    fn add_checkpoint(&mut self, i: usize, cause: u8) -> u32 {
         let number = self.last_checkpoint(i) + 1;
         self.lists[i].push(Event::Checkpoint {
             number,
@@ -95,9 +95,9 @@ impl History {
     }
 
     /// "number m adds "sent m" to its sender's list."
-    fn add_send(&mut self, sender: usize, receiver: usize) -> u32 {
+    fn add_send(&mut self, sender: usize, receiver: usize) -> u64 {
         self.receivers.push(receiver);
-        let number = self.receivers.len() as u32;
+        let number = self.receivers.len() as u64;
         self.lists[sender].push(Event::Sent(number));
         self.under_way.push(number);
         number
@@ -106,7 +106,7 @@ impl History {
     /// "An accepted delivery of m adds to the list of the receiver its send
     /// named the next checkpoint, if the answer names a forced one, then
     /// "received m"."
-    fn add_delivery(&mut self, number: u32, forced: Option<u16>) {
+    fn add_delivery(&mut self, number: u64, forced: Option<u32>) {
         let receiver = self.receivers[number as usize - 1];
         if let Some(index) = forced {
             assert_eq!(self.add_checkpoint(receiver, 2), index);
@@ -115,7 +115,7 @@ impl History {
         self.no_longer_under_way(number);
     }
 
-    fn no_longer_under_way(&mut self, number: u32) {
+    fn no_longer_under_way(&mut self, number: u64) {
         self.under_way.retain(|other| *other != number);
     }
 
@@ -125,9 +125,9 @@ impl History {
 
     /// "A checkpoint in a list is kept until a pair handed out after it was
     /// stored names it".
-    fn delete(&mut self, pairs: &[u16]) {
+    fn delete(&mut self, pairs: &[u32]) {
         // "by process, then index, ascending"
-        let pairs: Vec<&[u16]> = pairs.chunks_exact(2).collect();
+        let pairs: Vec<&[u32]> = pairs.chunks_exact(2).collect();
         assert!(pairs.windows(2).all(|two| two[0] < two[1]));
         for pair in pairs {
             let (process, index) = (pair[0] as usize, pair[1]);
@@ -149,7 +149,7 @@ impl History {
     /// "where the index written for a process is that of a checkpoint in its
     /// list, all after that checkpoint goes from the list. Other lists stay."
     /// Gives how many processes rolled back.
-    fn recover(&mut self, line: &[u16]) -> usize {
+    fn recover(&mut self, line: &[u32]) -> usize {
         let mut rolled_back = 0;
         for (list, index) in self.lists.iter_mut().zip(line) {
             let place = list.iter().position(
@@ -166,7 +166,7 @@ impl History {
         under_way.retain(|number| self.stands(Event::Sent(*number)));
         self.under_way = under_way;
         if rolled_back > 0 {
-            self.sent_before_rollback = self.receivers.len() as u32;
+            self.sent_before_rollback = self.receivers.len() as u64;
         }
         rolled_back
     }
@@ -196,7 +196,7 @@ impl History {
     }
 
     /// What the live state of process i knows of each process.
-    fn known(&self, i: usize) -> Vec<u16> {
+    fn known(&self, i: usize) -> Vec<u32> {
         self.known_at(i, self.lists[i].len())
     }
 
@@ -204,7 +204,7 @@ impl History {
     /// its vector there. "Checkpoint a of f comes causally before a state
     /// exactly if a is less than that state's entry f", so it is how many of
     /// them do.
-    fn known_at(&self, i: usize, place: usize) -> Vec<u16> {
+    fn known_at(&self, i: usize, place: usize) -> Vec<u32> {
         // How many events of each list come causally before the state, and
         // those of them that are still to be followed back.
         let mut before = vec![0; self.lists.len()];
@@ -221,7 +221,7 @@ impl History {
         let checkpoints = |list: &[Event]| {
             list.iter()
                 .filter(|event| matches!(event, Event::Checkpoint { .. }))
-                .count() as u16
+                .count() as u32
         };
         self.lists
             .iter()
@@ -291,7 +291,7 @@ fn for_every_line(states: &[Vec<State>], mut visit: impl FnMut(&[State])) {
 /// What is under way, by the history and by the state: each of them stands as
 /// sent in its sender's list, and none as received.
 fn check_messages(run: &Run, history: &History) {
-    let numbers: Vec<u32> = run.under_way().iter().map(|x| x.number).collect();
+    let numbers: Vec<u64> = run.under_way().iter().map(|x| x.number).collect();
     assert_eq!(history.under_way, numbers, "by history and by state");
     for message in run.under_way() {
         let (sender, sent_at) = history.find(Event::Sent(message.number));
@@ -307,7 +307,7 @@ fn check_messages(run: &Run, history: &History) {
 /// The best line for each failed set, as indexes: of the consistent lines in
 /// which the failed processes are at stored checkpoints, the one that is
 /// nowhere earlier than any of them. By the lists alone: all lines are tried.
-fn best_lines(states: &[Vec<State>], messages: &[Received]) -> Vec<Vec<u16>> {
+fn best_lines(states: &[Vec<State>], messages: &[Received]) -> Vec<Vec<u32>> {
     let n = states.len();
     let mut latest = vec![vec![0; n]; 1 << n];
     let mut possible = vec![Vec::new(); 1 << n];
@@ -338,12 +338,10 @@ fn best_lines(states: &[Vec<State>], messages: &[Received]) -> Vec<Vec<u16>> {
 fn check_disks(run: &Run, history: &History) {
     let mut kept_blocks = 0;
     for (i, list) in history.lists.iter().enumerate() {
-        let recorded: Vec<(u8, u16)> = list
+        let recorded: Vec<(u8, u32)> = list
             .iter()
             .filter_map(|event| match *event {
-                Event::Checkpoint { kept, cause, .. } => {
-                    kept.then_some((cause, history.counts[i] as u16))
-                }
+                Event::Checkpoint { kept, cause, .. } => kept.then_some((cause, history.counts[i])),
                 _ => None,
             })
             .collect();
@@ -374,7 +372,7 @@ fn check(run: &Run, history: &History, after_recover: bool, met: &mut Met) {
     let messages = history.received();
 
     for i in 0..n {
-        let kept: Vec<u16> = states[i]
+        let kept: Vec<u32> = states[i]
             .iter()
             .filter(|s| s.kept)
             .map(|s| s.index)
@@ -388,7 +386,7 @@ fn check(run: &Run, history: &History, after_recover: bool, met: &mut Met) {
 
     let best = best_lines(&states, &messages);
     for failed in 0..1 << n {
-        let reported = common::line(run, failed as u32);
+        let reported = common::line(run, failed as u64);
         assert_eq!(reported, best[failed], "the reported line is the best line");
         for i in 0..n {
             let member = states[i]
@@ -405,7 +403,7 @@ fn check(run: &Run, history: &History, after_recover: bool, met: &mut Met) {
 /// Note 6: "straight after an accepted recovery or sweep, a checkpoint is kept
 /// exactly if some non-empty failed set would have it in its best line". After
 /// other calls more may be kept; how often is counted.
-fn check_kept(states: &[Vec<State>], best: &[Vec<u16>], after_recover: bool, met: &mut Met) {
+fn check_kept(states: &[Vec<State>], best: &[Vec<u32>], after_recover: bool, met: &mut Met) {
     for (i, of_one) in states.iter().enumerate() {
         for checkpoint in of_one.iter().filter(|state| !state.live) {
             let used = best[1..].iter().any(|line| line[i] == checkpoint.index);
@@ -448,7 +446,7 @@ fn draw_kind(random: &mut Random, weights: &[usize; 5]) -> usize {
 #[derive(Default)]
 struct Met {
     /// All entries that rose.
-    risen: u16,
+    risen: u64,
     /// Deliveries by which none rose, and those that forced a checkpoint.
     no_news: usize,
     forced: usize,
@@ -467,7 +465,7 @@ struct Met {
 
 impl Met {
     fn assert_all(&self, n: usize) {
-        let everyone = u16::MAX >> (16 - n);
+        let everyone = (1 << n) - 1;
         assert_eq!(self.risen, everyone, "every entry rose somewhere");
         assert!(self.no_news > 100, "met {} times", self.no_news);
         assert!(self.forced > 100, "met {} times", self.forced);
@@ -486,20 +484,20 @@ impl Met {
 }
 
 /// One recovery in four is a sweep.
-fn any_failed_set(n: usize, random: &mut Random) -> u32 {
+fn any_failed_set(n: usize, random: &mut Random) -> u64 {
     match random.below(4) {
         0 => 0,
-        _ => 1 + random.below((1 << n) - 1) as u32,
+        _ => 1 + random.below((1 << n) - 1) as u64,
     }
 }
 
 /// Half of the time a number that is under way, else any late one.
-fn any_number(history: &History, random: &mut Random) -> u32 {
+fn any_number(history: &History, random: &mut Random) -> u64 {
     let under_way = &history.under_way;
     if !under_way.is_empty() && random.below(2) == 0 {
         return under_way[random.below(under_way.len())];
     }
-    history.receivers.len().saturating_sub(random.below(5)) as u32
+    history.receivers.len().saturating_sub(random.below(5)) as u64
 }
 
 /// One call, drawn at random (some are refused), and its place in the history.
@@ -579,7 +577,7 @@ fn step(
 /// Note 1, by the events alone: whose later interval the receiver knows after
 /// a delivery and did not before. Its own is no news, also where a forced
 /// checkpoint begins the next one.
-fn set_of_risen(receiver: usize, before: &[u16], after: &[u16]) -> u16 {
+fn set_of_risen(receiver: usize, before: &[u32], after: &[u32]) -> u64 {
     (0..before.len())
         .filter(|&f| f != receiver && before[f] < after[f])
         .map(|f| 1 << f)
@@ -677,7 +675,7 @@ fn check_earliest(run: &Run, history: &History, met: &mut Earliest) {
     // For each list, the least index of each process in any consistent line
     // through all that it names. A list is known by its places: for each process
     // none or a state.
-    let mut least: HashMap<Vec<Option<u16>>, Vec<u16>> = HashMap::new();
+    let mut least: HashMap<Vec<Option<u32>>, Vec<u32>> = HashMap::new();
     for_every_line(&states, |line| {
         if !consistent(line, &messages) {
             return;
@@ -688,7 +686,7 @@ fn check_earliest(run: &Run, history: &History, met: &mut Earliest) {
             }
             let places = |i: usize| (through >> i & 1 == 1).then_some(line[i].index);
             let found = least.entry((0..n).map(places).collect());
-            let line: Vec<u16> = line.iter().map(|state| state.index).collect();
+            let line: Vec<u32> = line.iter().map(|state| state.index).collect();
             let earliest = found.or_insert(line.clone());
             for i in 0..n {
                 earliest[i] = earliest[i].min(line[i]);
@@ -698,7 +696,12 @@ fn check_earliest(run: &Run, history: &History, met: &mut Earliest) {
 
     for list in lists_of_kept(&states) {
         let mut named: Vec<Named> = (0..n)
-            .filter_map(|process| list[process].map(|index| Named { process, index }))
+            .filter_map(|process| {
+                list[process].map(|index| Named {
+                    process,
+                    index: index.into(),
+                })
+            })
             .collect();
         // The order of a list plays no part.
         if met.lists % 2 == 0 {
@@ -724,7 +727,11 @@ fn check_earliest(run: &Run, history: &History, met: &mut Earliest) {
             .collect();
         assert!(consistent(&line, &messages));
         for one in &named {
-            assert_eq!(line[one.process].index, one.index, "passes through it");
+            assert_eq!(
+                u64::from(line[one.process].index),
+                one.index,
+                "passes through it"
+            );
         }
         met.through_live += line.iter().any(|state| state.live) as usize;
         met.through_deleted += line.iter().any(|state| !state.live && !state.kept) as usize;
@@ -733,11 +740,11 @@ fn check_earliest(run: &Run, history: &History, met: &mut Earliest) {
 
 /// Every choice of one kept checkpoint or none for each process, not none for
 /// all.
-fn lists_of_kept(states: &[Vec<State>]) -> Vec<Vec<Option<u16>>> {
+fn lists_of_kept(states: &[Vec<State>]) -> Vec<Vec<Option<u32>>> {
     let mut lists = vec![Vec::new()];
     for of_one in states {
         let kept = of_one.iter().filter(|state| state.kept);
-        let choices: Vec<Option<u16>> = [None]
+        let choices: Vec<Option<u32>> = [None]
             .into_iter()
             .chain(kept.map(|state| Some(state.index)))
             .collect();

@@ -262,8 +262,8 @@ fn our_own_runs_are_trackable() {
                     let message = messages[random.below(messages.len())];
                     if kind == 5 && random.below(4) == 0 {
                         run.lose(message.number).unwrap();
-                        records.push((LOSE, 0, message.number));
-                        without.push((LOSE, 0, message.number));
+                        records.push((LOSE, 0, message.number as u32));
+                        without.push((LOSE, 0, message.number as u32));
                         continue;
                     }
                     let answer = run.deliver(message.number, &mut [0; DELETIONS]).unwrap();
@@ -271,8 +271,8 @@ fn our_own_runs_are_trackable() {
                         records.push((CHECKPOINT, message.receiver as u32, 0));
                         forced_ones += 1;
                     }
-                    records.push((DELIVER, 0, message.number));
-                    without.push((DELIVER, 0, message.number));
+                    records.push((DELIVER, 0, message.number as u32));
+                    without.push((DELIVER, 0, message.number as u32));
                 }
             }
         }

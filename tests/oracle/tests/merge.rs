@@ -4,9 +4,10 @@
 mod common;
 
 use common::{listing, trace, DELETIONS};
-use oracle::halves::draw::{drawn, drawn_whole};
+use oracle::halves::draw::{drawn, drawn_whole, Halves};
 use oracle::halves::merge::merge;
 use oracle::run::{Run, ONES};
+use oracle::whole::Whole;
 use std::process::Command;
 
 const CHECKPOINT: u32 = 0;
@@ -24,11 +25,12 @@ fn message(sender: u32, running: u32) -> u32 {
 
 /// The merged trace, or the number. What lies behind the trace in the buffer,
 /// and all of it after a refusal, is unchanged.
-fn merged(first: &[u8], second: &[u8], set: u32) -> Result<Vec<u8>, u8> {
+fn merged(first: &[u8], second: &[u8], set: impl Into<Whole>) -> Result<Vec<u8>, u8> {
+    let set: Whole = set.into();
     let room = first.len() + second.len();
     let mut result: Vec<u8> = (0..room + 7).map(|place| place as u8 ^ 0x5A).collect();
     let before = result.clone();
-    let answer = merge(first, second, set, &mut result);
+    let answer = merge(first, second, set.clone(), &mut result);
     let length = answer.unwrap_or(0);
     assert_eq!(result[length..], before[length..]);
     // A buffer of just both lengths does as well.
@@ -38,8 +40,13 @@ fn merged(first: &[u8], second: &[u8], set: u32) -> Result<Vec<u8>, u8> {
     answer.map(|length| result[..length].to_vec())
 }
 
-fn number(first: &[u8], second: &[u8], set: u32) -> u8 {
+fn number(first: &[u8], second: &[u8], set: impl Into<Whole>) -> u8 {
     merged(first, second, set).err().unwrap_or(0)
+}
+
+/// The set that a program is handed.
+fn word_of(halves: &Halves) -> Whole {
+    Whole::in_decimal(&halves.word).unwrap()
 }
 
 #[test]
@@ -91,6 +98,49 @@ fn the_first_half_goes_as_far_as_it_can() {
         (DELIVER, 0, 5),
     ];
     assert_eq!(merged(&second, &first, 0b010), Ok(trace(3, &expected)));
+}
+
+/// "7 the set": every decimal number is judged whole, behind 1, 12 and 23.
+#[test]
+fn a_set_of_any_length() {
+    let set = |word: &str| Whole::in_decimal(word).unwrap();
+    let (one, two) = (
+        trace(2, &[(CHECKPOINT, 0, 0)]),
+        trace(2, &[(CHECKPOINT, 1, 0)]),
+    );
+    let many = "9".repeat(5000);
+    let zeros = "0".repeat(5000) + "1";
+    for word in [
+        "4",
+        "65536",
+        "65537",
+        "4294967297",
+        "18446744073709551617",
+        &many,
+    ] {
+        assert_eq!(number(&one, &two, set(word)), 7, "{word}");
+        assert_eq!(number(&[17], &two, set(word)), 1, "{word}");
+        assert_eq!(number(&[], &two, set(word)), 12, "{word}");
+        assert_eq!(number(&[3], &two, set(word)), 23, "{word}");
+        assert_eq!(number(&[2, 0], &two, set(word)), 7, "{word}");
+    }
+    for word in ["1", "01", "000001", &zeros] {
+        assert_eq!(number(&one, &two, set(word)), 0, "{word}");
+    }
+    // All 16 processes; one bit more.
+    assert_eq!(number(&[16], &[16], set("65535")), 0);
+    assert_eq!(number(&[16], &[16], set("65536")), 7);
+    for word in [
+        "", "x", "1x", "-1", "+1", " 1", "1 ", "1.0", "0x1", "\u{664}",
+    ] {
+        assert_eq!(Whole::in_decimal(word), None, "{word:?}");
+    }
+    for number in [0, 1, 2, 9, 10, 255, 65_535, 65_536, u32::MAX] {
+        assert_eq!(set(&number.to_string()), Whole::from(number));
+        assert_eq!(Whole::from(number).as_u64(), Some(number.into()));
+    }
+    assert_eq!(set(&u64::MAX.to_string()).as_u64(), Some(u64::MAX));
+    assert_eq!(set("18446744073709551616").as_u64(), None);
 }
 
 #[test]
@@ -305,10 +355,11 @@ fn a_merged_trace_splits_into_its_halves() {
     let (mut both, mut waited) = (0, 0);
     for seed in 0..3000 {
         let halves = drawn(seed);
-        let Ok(plain) = merged(&halves.first, &halves.second, halves.set) else {
+        let Ok(plain) = merged(&halves.first, &halves.second, word_of(&halves)) else {
             continue;
         };
-        let again = split(&plain, halves.set);
+        let set = word_of(&halves).as_u64().unwrap() as u32;
+        let again = split(&plain, set);
         assert!(
             again == [halves.first.clone(), halves.second.clone()],
             "seed {seed}"
@@ -330,8 +381,8 @@ fn end_of(plain: &[u8]) -> Option<Run> {
         let refused = match kind {
             CHECKPOINT => run.checkpoint(process as usize, &mut [0; DELETIONS]).err(),
             SEND => run.send(process as usize, argument as usize).err(),
-            DELIVER => run.deliver(argument, &mut [0; DELETIONS]).err(),
-            LOSE => run.lose(argument).err(),
+            DELIVER => run.deliver(argument.into(), &mut [0; DELETIONS]).err(),
+            LOSE => run.lose(argument.into()).err(),
             _ => panic!("a plain trace of halves has kinds 0 to 3"),
         };
         if refused.is_some() {
@@ -381,7 +432,7 @@ fn every_refusal_is_met() {
     let mut met = [0; 25];
     for seed in 0..3000 {
         let halves = drawn(seed);
-        met[number(&halves.first, &halves.second, halves.set) as usize] += 1;
+        met[number(&halves.first, &halves.second, word_of(&halves)) as usize] += 1;
     }
     for expected in [0, 1, 4, 5, 7, 12, 13, 14, 17, 23, 24] {
         assert!(met[expected] > 20, "{expected}: {met:?}");
@@ -404,7 +455,7 @@ fn the_programs() {
         assert!(output.status.success());
         let set = String::from_utf8(output.stdout).unwrap();
         let halves = drawn(seed);
-        assert_eq!(set, format!("{}\n", halves.set));
+        assert_eq!(set, format!("{}\n", halves.word));
         assert!(std::fs::read(&first).unwrap() == halves.first);
         assert!(std::fs::read(&second).unwrap() == halves.second);
 
@@ -413,7 +464,7 @@ fn the_programs() {
             .arg(set.trim())
             .output()
             .unwrap();
-        let (trace, said) = match merged(&halves.first, &halves.second, halves.set) {
+        let (trace, said) = match merged(&halves.first, &halves.second, word_of(&halves)) {
             Ok(trace) => (trace, String::new()),
             Err(number) => (Vec::new(), format!("refused {number}\n")),
         };

@@ -117,8 +117,8 @@ fn a_replay_ends_in_the_same_state() {
         for _ in 0..80 {
             let (mut deletions, mut line) = ([0; DELETIONS], [0; LINE]);
             let (p, q) = (random.below(n + 1), random.below(n + 1));
-            let number = random.below(recorder.run().last_number() as usize + 2) as u32;
-            let failed = random.below(1 << n) as u32;
+            let number = random.below(recorder.run().last_number() as usize + 2) as u64;
+            let failed = random.below(1 << n) as u64;
             let answer = match random.below(9) {
                 0 | 1 => recorder
                     .checkpoint(p, &mut deletions)
@@ -173,9 +173,11 @@ fn replayed(bytes: &[u8]) -> Run {
         let refused = match record >> 29 {
             CHECKPOINT => run.checkpoint(process, &mut deletions).err(),
             SEND => run.send(process, argument as usize).err(),
-            DELIVER => run.deliver(argument, &mut deletions).err(),
-            LOSE => run.lose(argument).err(),
-            _ => run.recover(argument, &mut deletions, &mut line).err(),
+            DELIVER => run.deliver(argument.into(), &mut deletions).err(),
+            LOSE => run.lose(argument.into()).err(),
+            _ => run
+                .recover(argument.into(), &mut deletions, &mut line)
+                .err(),
         };
         assert_eq!(refused, None);
     }

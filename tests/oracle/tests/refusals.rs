@@ -32,7 +32,7 @@ fn block_counts() {
                     let run = started.unwrap();
                     common::assert_sound(&run);
                     let first = if process == 0 { blocks } else { 1 };
-                    assert_eq!(run.records(0).next(), Some((0, first as u16)));
+                    assert_eq!(run.records(0).next(), Some((0, first as u32)));
                     if process >= n {
                         assert_eq!(run, run_of(n));
                     }
@@ -185,7 +185,7 @@ fn the_failed_set() {
         1 << 24,
         0x1FF_0000,
         0x1FF_FFFF,
-        u32::MAX,
+        u64::MAX,
     ] {
         assert_eq!(judge(failed), Err(7));
     }
@@ -199,7 +199,7 @@ fn the_failed_set() {
 fn a_message_not_under_way() {
     let mut run = run_of(2);
     run.send(0, 1).unwrap();
-    for number in [0, 2, 65_537, 1 << 24 | 1, 1_000_001, u32::MAX] {
+    for number in [0, 2, 65_537, 1 << 24 | 1, 1_000_001, 1 << 32 | 1, u64::MAX] {
         assert_eq!(run.deliver(number, &mut [0; 8]), Err(8));
         assert_eq!(run.lose(number), Err(8));
     }
@@ -251,14 +251,14 @@ fn intervals_used_up_comes_last() {
 fn any_call(
     run: &mut Run,
     random: &mut Random,
-    deletions: &mut [u16],
-    line: &mut [u16],
+    deletions: &mut [u32],
+    line: &mut [u32],
 ) -> Option<u8> {
     let n = run.count();
     let p = random.below(n + 2);
     let q = random.below(n + 2);
-    let number = random.below(run.last_number() as usize + 3) as u32;
-    let failed = random.below(1 << (n + 1)) as u32;
+    let number = random.below(run.last_number() as usize + 3) as u64;
+    let failed = random.below(1 << (n + 1)) as u64;
     // Now and then a list that is too short.
     let short = random.below(8) == 0;
     let most_deletions = if short {
@@ -293,8 +293,8 @@ fn a_refused_call_changes_nothing_and_an_accepted_one_leaves_the_rest_of_the_lis
         let mut run = run_of(n);
         for _ in 0..60 {
             let before = run.clone();
-            let mut deletions: Vec<u16> = (0..DELETIONS).map(|_| random.next() as u16).collect();
-            let mut line: Vec<u16> = (0..LINE).map(|_| random.next() as u16).collect();
+            let mut deletions: Vec<u32> = (0..DELETIONS).map(|_| random.next() as u32).collect();
+            let mut line: Vec<u32> = (0..LINE).map(|_| random.next() as u32).collect();
             let (old_deletions, old_line) = (deletions.clone(), line.clone());
             match any_call(&mut run, &mut random, &mut deletions, &mut line) {
                 Some(number) => {
@@ -332,13 +332,13 @@ fn named_checkpoints_are_judged_in_order() {
         (common::kept(&run, 0), common::kept(&run, 1)),
         (vec![1], vec![0, 1])
     );
-    let judged = |list: &[(usize, u16)], line: &mut [u16]| {
+    let judged = |list: &[(usize, u64)], line: &mut [u32]| {
         let named = list
             .iter()
             .map(|&(process, index)| Named { process, index });
         run.earliest(&named.collect::<Vec<_>>(), line)
     };
-    let refused: [(&[(usize, u16)], u8); 12] = [
+    let refused: [(&[(usize, u64)], u8); 12] = [
         (&[(2, 0)], 4),
         (&[(0, 0), (0, 0), (2, 0)], 4),
         (&[(usize::MAX, 0)], 4),
@@ -358,7 +358,7 @@ fn named_checkpoints_are_judged_in_order() {
         assert_eq!(judged(list, &mut line[..1]), Err(3), "{list:?}");
         assert_eq!(line, [7, 7, 7]);
     }
-    let accepted: [(&[(usize, u16)], [u16; 2]); 5] = [
+    let accepted: [(&[(usize, u64)], [u32; 2]); 5] = [
         (&[(0, 1)], [1, 0]),
         (&[(1, 0)], [0, 0]),
         (&[(1, 1)], [1, 1]),

@@ -17,7 +17,7 @@ fn parameters(count: u64, spacing: u64, steps: u64, start: u32) -> Parameters {
 }
 
 /// The five figures, in the note's order.
-fn figures(count: u64, spacing: u64, steps: u64, start: u32) -> [u32; 5] {
+fn figures(count: u64, spacing: u64, steps: u64, start: u32) -> [u64; 5] {
     let figures = simulate(parameters(count, spacing, steps, start)).unwrap();
     let Figures {
         deliveries,
@@ -41,7 +41,7 @@ fn the_generator() {
     assert_eq!(drawn(), (3_519_870_697, 53_708));
     assert_eq!(drawn(), (2_868_466_484, 43_769));
     assert_eq!(
-        Generator(u32::MAX).draw(),
+        Generator((1 << 32) - 1).draw(),
         (1_013_904_223 - 1_664_525) >> 16
     );
 }
@@ -173,7 +173,7 @@ fn the_steps_go_by_the_rules() {
     let (mut full, mut idle) = (0, 0);
     for parameters in sets() {
         let n = parameters.count as u32;
-        let mut generator = Generator(parameters.start);
+        let mut generator = Generator(parameters.start.into());
         let events = trace(parameters).unwrap();
         let mut records = records_of(&events).into_iter().peekable();
         // Number and receiver of each message under way, oldest first.
@@ -181,8 +181,8 @@ fn the_steps_go_by_the_rules() {
         let mut sends = 0;
         let mut done = vec![0; n as usize];
         for _ in 0..parameters.steps {
-            let p = generator.draw() % n;
-            let d = generator.draw();
+            let p = (generator.draw() % u64::from(n)) as u32;
+            let d = generator.draw() as u32;
             let oldest = under_way.iter().position(|message| message.1 == p);
             if let (Some(place), true) = (oldest, d % 2 == 0) {
                 let (number, _) = under_way.remove(place);

@@ -16,8 +16,8 @@ use oracle::run::{Message, Run, Vector, LAST_ENTRY, LAST_MESSAGE_NUMBER, MAX_UND
 #[derive(Clone, Copy)]
 struct Limits {
     under_way: usize,
-    numbers: u32,
-    entries: u16,
+    numbers: u64,
+    entries: u32,
 }
 
 const OF_THE_PAPER: Limits = Limits {
@@ -31,8 +31,8 @@ const OF_THE_PAPER: Limits = Limits {
 enum Call {
     Checkpoint(usize),
     Send(usize, usize),
-    Deliver(u32),
-    Lose(u32),
+    Deliver(u64),
+    Lose(u64),
 }
 
 /// What a process sees: its own events, a receipt with the message's sender and
@@ -49,8 +49,8 @@ enum Seen {
 #[derive(Clone, Copy, PartialEq)]
 enum Event {
     Checkpoint,
-    Sent(u32),
-    Received(u32),
+    Sent(u64),
+    Received(u64),
 }
 
 /// A run with what each process saw and its history.
@@ -71,13 +71,13 @@ impl Watched {
         }
     }
 
-    fn message(&self, number: u32) -> Option<Message> {
+    fn message(&self, number: u64) -> Option<Message> {
         let under_way = self.run.under_way();
         under_way.iter().copied().find(|x| x.number == number)
     }
 
     /// Entry f of process p.
-    fn known(&self, p: usize, f: usize) -> u16 {
+    fn known(&self, p: usize, f: usize) -> u32 {
         self.run.vector(p)[f]
     }
 
@@ -104,7 +104,7 @@ impl Watched {
         Ok(())
     }
 
-    fn send(&mut self, p: usize, q: usize) -> Result<u32, u8> {
+    fn send(&mut self, p: usize, q: usize) -> Result<u64, u8> {
         // 4 and 5 come before 9 and 10; no process here is outside the run.
         if p != q && self.run.under_way().len() == self.limits.under_way {
             return Err(TOO_MANY_UNDER_WAY);
@@ -118,7 +118,7 @@ impl Watched {
         Ok(number)
     }
 
-    fn deliver(&mut self, number: u32) -> Result<(), u8> {
+    fn deliver(&mut self, number: u64) -> Result<(), u8> {
         let message = self.message(number);
         let mut after = self.run.clone();
         let answer = after.deliver(number, &mut [0; DELETIONS])?;
@@ -204,11 +204,11 @@ struct Met {
 /// The run without checkpoint g of f and all that comes causally after it: a
 /// call at a process stays if the process knows at most interval g of f after
 /// it. A delivery that goes is a loss there if the message itself is there.
-fn other_run(n: usize, calls: &[Call], limits: Limits, f: usize, g: u16, met: &mut Met) -> Watched {
+fn other_run(n: usize, calls: &[Call], limits: Limits, f: usize, g: u32, met: &mut Met) -> Watched {
     let mut run = Watched::start(n, limits);
     let mut other = Watched::start(n, limits);
     // The number in the other run of each message that it sent.
-    let mut numbers: Vec<Option<u32>> = vec![None];
+    let mut numbers: Vec<Option<u64>> = vec![None];
     for &call in calls {
         let message = match call {
             Call::Deliver(number) | Call::Lose(number) => run.message(number),
@@ -268,7 +268,7 @@ fn check(n: usize, calls: &[Call], limits: Limits, met: &mut Met) {
                 let line = other.best_line(f);
                 assert_eq!(line[i], k as usize, "{i}:{k} is in the best line");
                 assert!(other.run.own_entry(i) > k, "it is a checkpoint");
-                let reported: Vec<u16> = common::line(&other.run, 1 << f);
+                let reported: Vec<u32> = common::line(&other.run, 1 << f);
                 assert!(reported.iter().map(|x| *x as usize).eq(line));
                 met.built += 1;
                 met.in_vain += !used as usize;
@@ -285,7 +285,7 @@ fn any_call(run: &Run, weights: &[usize; 4], random: &mut Random) -> Call {
     let under_way = run.under_way();
     let number = match under_way.len() {
         0 => run.last_number(),
-        _ if random.below(2) == 0 => run.last_number() + 1 - random.below(2) as u32,
+        _ if random.below(2) == 0 => run.last_number() + 1 - random.below(2) as u64,
         len => under_way[random.below(len)].number,
     };
     let mut drawn = random.below(weights.iter().sum());
@@ -349,8 +349,8 @@ fn lower_limits() {
         let n = 2 + seed as usize / 2 % 4;
         let limits = Limits {
             under_way: 1 + random.below(5),
-            numbers: 3 + random.below(38) as u32,
-            entries: 2 + random.below(7) as u16,
+            numbers: 3 + random.below(38) as u64,
+            entries: 2 + random.below(7) as u32,
         };
         let count = 20 + random.below(60);
         let weights = [EVEN, BUSY][seed as usize % 2];

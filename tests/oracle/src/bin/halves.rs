@@ -19,7 +19,7 @@ fn main() -> ExitCode {
         eprintln!("halves: {error}");
         return ExitCode::FAILURE;
     }
-    println!("{}", halves.set);
+    println!("{}", halves.word);
     ExitCode::SUCCESS
 }
 

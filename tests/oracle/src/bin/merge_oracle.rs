@@ -2,6 +2,7 @@
 //! FIRST and SECOND (Note 12) and prints the plain trace. A refusal is the line
 //! `refused R` on standard error.
 
+use oracle::whole::Whole;
 use std::io::{self, Write};
 use std::process::ExitCode;
 
@@ -10,7 +11,7 @@ fn main() -> ExitCode {
     let [first, second, set] = arguments.as_slice() else {
         return usage();
     };
-    let Ok(set) = set.parse() else {
+    let Some(set) = Whole::in_decimal(set) else {
         return usage();
     };
     match merged(first, second, set) {
@@ -22,7 +23,7 @@ fn main() -> ExitCode {
     }
 }
 
-fn merged(first: &str, second: &str, set: u32) -> io::Result<()> {
+fn merged(first: &str, second: &str, set: Whole) -> io::Result<()> {
     let (first, second) = (std::fs::read(first)?, std::fs::read(second)?);
     let mut result = vec![0; first.len() + second.len()];
     match oracle::halves::merge::merge(&first, &second, set, &mut result) {

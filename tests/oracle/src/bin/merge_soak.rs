@@ -16,6 +16,7 @@
 use oracle::halves::draw::{drawn, Halves};
 use oracle::halves::merge::merge;
 use oracle::hold::{asked, on_seeds, refused_in_words, run_on, Comparison};
+use oracle::whole::Whole;
 use std::collections::BTreeMap;
 use std::io;
 use std::path::{Path, PathBuf};
@@ -89,16 +90,16 @@ impl Soak {
         [first, second]: &[PathBuf; 2],
         file: &Path,
     ) -> io::Result<Option<String>> {
-        let got = self.output(first, second, halves.set)?;
+        let got = self.output(first, second, &halves.word)?;
         let expected = self.expected(halves);
         if let Some(difference) = difference(&expected, &got) {
-            return Ok(Some(format!("set {}: {difference}", halves.set)));
+            return Ok(Some(format!("set {}: {difference}", halves.word)));
         }
         let (Ok(_), Some(whole)) = (expected, &halves.whole) else {
             return Ok(None);
         };
         let others = !halves.set & ((1 << whole[0]) - 1);
-        let other_way = self.output(second, first, others)?;
+        let other_way = self.output(second, first, &others.to_string())?;
         let expected = merged(&halves.second, &halves.first, others);
         if let Some(difference) = difference(&expected, &other_way) {
             return Ok(Some(format!("the other way round: {difference}")));
@@ -106,15 +107,16 @@ impl Soak {
         self.replays([whole, &got.stdout, &other_way.stdout], file)
     }
 
-    fn output(&self, first: &Path, second: &Path, set: u32) -> io::Result<Output> {
+    fn output(&self, first: &Path, second: &Path, set: &str) -> io::Result<Output> {
         Command::new(&self.program)
             .args([first, second])
-            .arg(set.to_string())
+            .arg(set)
             .output()
     }
 
     fn expected(&self, halves: &Halves) -> Result<Vec<u8>, u8> {
-        let expected = merged(&halves.first, &halves.second, halves.set);
+        let set = Whole::in_decimal(&halves.word).expect("it is drawn in digits");
+        let expected = merged(&halves.first, &halves.second, set);
         let mut met = self.met.lock().expect("no thread has failed");
         match &expected {
             Ok(trace) => {
@@ -169,7 +171,7 @@ impl Soak {
 }
 
 /// What the oracle makes of two halves.
-fn merged(first: &[u8], second: &[u8], set: u32) -> Result<Vec<u8>, u8> {
+fn merged(first: &[u8], second: &[u8], set: impl Into<Whole>) -> Result<Vec<u8>, u8> {
     let mut result = vec![0; first.len() + second.len()];
     let length = merge(first, second, set, &mut result)?;
     result.truncate(length);

@@ -48,6 +48,13 @@ pub fn script(seed: u64) -> Vec<u8> {
             script.call(SEND);
         }
     }
+    // One in 600 first takes a process to the last entry that there is.
+    if script.random.once_in(600) {
+        let process = script.random.below(script.n);
+        for _ in 0..65_534 {
+            script.write_plain(OPERATOR, 0, CHECKPOINT, process, 0);
+        }
+    }
     for _ in 0..script.random.one_of(&[5, 40, 120, 120]) {
         let operation = match script.random.once_in(64) {
             true => START,
@@ -55,8 +62,11 @@ pub fn script(seed: u64) -> Vec<u8> {
         };
         script.call(operation);
     }
-    let left_over = script.random.one_of(&[0, 0, 0, 1, 7]);
-    script.bytes.extend(vec![0; left_over]);
+    let left_over = script.random.one_of(&[0, 0, 0, 0, 1, 4, 7]);
+    for _ in 0..left_over {
+        let byte = script.random.below(256);
+        script.bytes.push(byte as u8);
+    }
     script.bytes
 }
 
@@ -93,13 +103,16 @@ impl Script {
                 let set = self.random.one_of(&self.owners);
                 let some = self.random.below(1 << self.n);
                 let one = 1 << self.random.below(16);
-                let failed = self.random.one_of(&[some, some, some, some, 0, one]);
+                let any = self.random.below(1 << 16);
+                let failed = self.random.one_of(&[some, some, some, some, 0, one, any]);
                 self.write(role, set, operation, 0, failed);
             }
             EARLIEST => {
                 let role = self.random.one_of(&[OPERATOR, OPERATOR, OWNER, VIEWER]);
                 let (_, set, process) = self.caller_and_process();
-                let index = self.random.below(6);
+                let any = self.random.below(1 << 16);
+                let near = self.random.below(6);
+                let index = self.random.one_of(&[near, near, near, any, 65_535]);
                 self.write(role, set, operation, process, index);
             }
             LIST => {
@@ -185,10 +198,22 @@ impl Script {
         self.write(role, 0xFFFF, START, count, 0);
     }
 
-    /// One call in 24 comes with lists that are too short.
+    /// One call in 24 comes with lists that are too short, one in 32 with a byte
+    /// that is perhaps not what it must be.
     fn write(&mut self, role: u32, set: u32, operation: u32, process: u32, argument: u32) {
         let short_lists = if self.random.once_in(24) { 128 } else { 0 };
-        self.bytes.push((short_lists + role) as u8);
+        self.write_plain(short_lists + role, set, operation, process, argument);
+        if self.random.once_in(32) {
+            let any = 1 + self.random.below(255);
+            let byte = self.random.one_of(&[1, 2, 9, 10, 14, 128, any]);
+            let place = self.random.one_of(&[3, 3, 4, 5, 5, 6, 7]);
+            let start = self.bytes.len() - 8;
+            self.bytes[start + place] = byte as u8;
+        }
+    }
+
+    fn write_plain(&mut self, who: u32, set: u32, operation: u32, process: u32, argument: u32) {
+        self.bytes.push(who as u8);
         self.bytes.extend((set as u16).to_be_bytes());
         self.bytes.extend([operation as u8, process as u8]);
         self.bytes.extend(&argument.to_be_bytes()[1..]);

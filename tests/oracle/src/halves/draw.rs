@@ -18,6 +18,9 @@ pub struct Halves {
     pub first: Vec<u8>,
     pub second: Vec<u8>,
     pub set: u32,
+    /// The set in decimal, as a program is handed it. Of damaged halves it may be
+    /// another one, of many digits.
+    pub word: String,
     pub whole: Option<Vec<u8>>,
 }
 
@@ -36,6 +39,7 @@ pub fn drawn(seed: u64) -> Halves {
         first: halves.bytes(0),
         second: halves.bytes(1),
         set: halves.set,
+        word: halves.word.unwrap_or(halves.set.to_string()),
         whole: None,
     }
 }
@@ -53,8 +57,14 @@ fn whole(random: &mut Random) -> Halves {
         first: halves.bytes(0),
         second: halves.bytes(1),
         set: halves.set,
+        word: zeros(random) + &halves.set.to_string(),
         whole: Some(plain),
     }
+}
+
+/// Mostly none: a number is the same with zeros before it.
+fn zeros(random: &mut Random) -> String {
+    "0".repeat(random.one_of(&[0, 0, 0, 0, 0, 1, 5, 40]))
 }
 
 // ------------------------------------------------------------------ a run
@@ -169,6 +179,7 @@ impl Run {
         Split {
             n: self.n,
             set: self.set,
+            word: None,
             first_bytes: [Some(self.n as u8); 2],
             records,
             left_over: [Vec::new(), Vec::new()],
@@ -188,6 +199,7 @@ impl Message {
 struct Split {
     n: u32,
     set: u32,
+    word: Option<String>,
     first_bytes: [Option<u8>; 2],
     records: [Vec<u32>; 2],
     left_over: [Vec<u8>; 2],
@@ -209,11 +221,11 @@ impl Split {
 
     fn damage(&mut self, random: &mut Random) {
         let half = random.below(2) as usize;
-        match random.below(20) {
+        match random.below(21) {
             0 => self.first_bytes[half] = None,
             1 => self.first_bytes[half] = Some(random.one_of(&[0, 17, 255])),
             2 => self.first_bytes[half] = Some(1 + random.below(16) as u8),
-            3 => self.set |= 1 << (self.n + random.below(17 - self.n)).min(15),
+            3 => self.set |= 1 << (self.n + random.below(32 - self.n)),
             4 => self.set = random.below(1 << 16),
             5 => self.left_over[half] = vec![random.below(256) as u8; 1 + random.below(3) as usize],
             6 => self.lengthen(random, half),
@@ -221,8 +233,25 @@ impl Split {
             8 => self.swap_records(random, half),
             9 => self.drop_record(random, half),
             10 => self.records.swap(0, 1),
+            11 => self.word = Some(self.any_word(random)),
             _ => self.insert_bad_record(random, half),
         }
+    }
+
+    /// The set, or one that has the same bits below 16 and any above, or many
+    /// digits.
+    fn any_word(&self, random: &mut Random) -> String {
+        let set = u64::from(self.set);
+        let high = u64::from(random.below(1 << 20)) << random.one_of(&[16, 20, 32, 44]);
+        let digits = random.one_of(&[5, 6, 9, 10, 11, 19, 20, 30, 80]);
+        let number = match random.below(3) {
+            0 => set.to_string(),
+            1 => (high | set).to_string(),
+            _ => (0..digits)
+                .map(|_| char::from(b'0' + random.below(10) as u8))
+                .collect(),
+        };
+        zeros(random) + &number
     }
 
     /// Checkpoints at the end, up to 4,095 to 4,097 records, or far more.

@@ -2,6 +2,8 @@
 //!
 //! Plainly by the note's sentences: it shares nothing with `run` and `replay`.
 
+use crate::whole::Whole;
+
 /// A half has at most so many records, else 17.
 pub const MAX_RECORDS: usize = 4096;
 
@@ -30,13 +32,18 @@ const LOSE: u32 = 3;
 /// Merges two halves into the result buffer. "a set says which processes belong
 /// to the first half", bit p for process p. Gives how many bytes it wrote; "the
 /// rest of the buffer is unchanged."
-pub fn merge(first: &[u8], second: &[u8], set: u32, result: &mut [u8]) -> Result<usize, u8> {
-    let trace = merged(first, second, set, result.len())?;
+pub fn merge(
+    first: &[u8],
+    second: &[u8],
+    set: impl Into<Whole>,
+    result: &mut [u8],
+) -> Result<usize, u8> {
+    let trace = merged(first, second, &set.into(), result.len())?;
     result[..trace.len()].copy_from_slice(&trace);
     Ok(trace.len())
 }
 
-fn merged(first: &[u8], second: &[u8], set: u32, room: usize) -> Result<Vec<u8>, u8> {
+fn merged(first: &[u8], second: &[u8], set: &Whole, room: usize) -> Result<Vec<u8>, u8> {
     let count = judge_halves(first, second, set, room)?;
     let mut merge = Merge {
         count,
@@ -44,7 +51,7 @@ fn merged(first: &[u8], second: &[u8], set: u32, room: usize) -> Result<Vec<u8>,
         halves: [&first[1..], &second[1..]],
         sent: vec![Vec::new(); count],
         sends: 0,
-        trace: vec![count as u8],
+        trace: vec![first[0]],
     };
     // "The merge takes the next record from the first half if it is ready,
     // otherwise from the second".
@@ -62,7 +69,7 @@ fn merged(first: &[u8], second: &[u8], set: u32, room: usize) -> Result<Vec<u8>,
 }
 
 /// What is judged "all before any record". Gives the count of processes.
-fn judge_halves(first: &[u8], second: &[u8], set: u32, room: usize) -> Result<usize, u8> {
+fn judge_halves(first: &[u8], second: &[u8], set: &Whole, room: usize) -> Result<usize, u8> {
     let halves = [first, second];
     let some_half = |is_so: fn(&[u8]) -> bool| halves.iter().any(|half| is_so(half));
     if some_half(|half| !half.is_empty() && !(1..=MAX_PROCESSES).contains(&(half[0] as usize))) {
@@ -81,7 +88,7 @@ fn judge_halves(first: &[u8], second: &[u8], set: u32, room: usize) -> Result<us
     }
     let count = first[0] as usize;
     // "7 the set (judged only after 1, 12 and 23 have passed both halves)".
-    if set >> count != 0 {
+    if set.has_bit_at_or_above(count) {
         return Err(SET_OUTSIDE);
     }
     // "13, and after it 17, each half".
@@ -103,7 +110,7 @@ struct Message {
 
 struct Merge<'a> {
     count: usize,
-    set: u32,
+    set: &'a Whole,
     /// The records that are left of each half.
     halves: [&'a [u8]; 2],
     /// The messages of each sender, in the order of its sends.
@@ -207,7 +214,7 @@ impl Merge<'_> {
     /// "23, [...] right after 5 for a taken record of a process, or a delivery
     /// or loss for a receiver, outside that half".
     fn judge_half(&self, half: usize, process: usize) -> Result<(), u8> {
-        let belongs_to_first = self.set >> process & 1 == 1;
+        let belongs_to_first = self.set.has_bit(process);
         if belongs_to_first != (half == 0) {
             return Err(HALVES_MISMATCH);
         }

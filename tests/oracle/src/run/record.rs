@@ -1,7 +1,7 @@
 //! Note 9: a recorder. "A writer takes a call, does it, and appends the record
 //! to a lent buffer whose first byte is the count; the start writes that byte."
 
-use super::{Checkpointed, Counts, Delivered, Recovered, Run, MAX_PROCESSES, ONES};
+use super::{Checkpointed, Counts, Delivered, Entry, Recovered, Run, MAX_PROCESSES, ONES};
 
 /// "21, after all numbers of the call itself, for fewer bytes left in the buffer
 /// than it would write."
@@ -25,28 +25,28 @@ impl<'a> Recorder<'a> {
             buffer,
             place: 0,
         };
-        recorder.append(&[count as u8])?;
+        recorder.append(&[u8::try_from(count).expect("1 to 16")])?;
         Ok(recorder)
     }
 
-    pub fn checkpoint(&mut self, i: usize, deletions: &mut [u16]) -> Result<Checkpointed, u8> {
+    pub fn checkpoint(&mut self, i: usize, deletions: &mut [Entry]) -> Result<Checkpointed, u8> {
         let (mut run, mut deleted) = (self.run.clone(), deletions.to_vec());
         let answer = run.checkpoint(i, &mut deleted)?;
-        self.append_record(0, i as u32, 0)?;
+        self.append_record(0, i as u64, 0)?;
         self.run = run;
         deletions.copy_from_slice(&deleted);
         Ok(answer)
     }
 
-    pub fn send(&mut self, i: usize, j: usize) -> Result<u32, u8> {
+    pub fn send(&mut self, i: usize, j: usize) -> Result<u64, u8> {
         let mut run = self.run.clone();
         let answer = run.send(i, j)?;
-        self.append_record(1, i as u32, j as u32)?;
+        self.append_record(1, i as u64, j as u64)?;
         self.run = run;
         Ok(answer)
     }
 
-    pub fn deliver(&mut self, number: u32, deletions: &mut [u16]) -> Result<Delivered, u8> {
+    pub fn deliver(&mut self, number: u64, deletions: &mut [Entry]) -> Result<Delivered, u8> {
         let (mut run, mut deleted) = (self.run.clone(), deletions.to_vec());
         let answer = run.deliver(number, &mut deleted)?;
         self.append_record(2, 0, number)?;
@@ -55,7 +55,7 @@ impl<'a> Recorder<'a> {
         Ok(answer)
     }
 
-    pub fn lose(&mut self, number: u32) -> Result<(), u8> {
+    pub fn lose(&mut self, number: u64) -> Result<(), u8> {
         let mut run = self.run.clone();
         run.lose(number)?;
         self.append_record(3, 0, number)?;
@@ -65,9 +65,9 @@ impl<'a> Recorder<'a> {
 
     pub fn recover(
         &mut self,
-        failed: u32,
-        deletions: &mut [u16],
-        line: &mut [u16],
+        failed: u64,
+        deletions: &mut [Entry],
+        line: &mut [Entry],
     ) -> Result<Recovered, u8> {
         let mut run = self.run.clone();
         let (mut deleted, mut written) = (deletions.to_vec(), line.to_vec());
@@ -80,7 +80,7 @@ impl<'a> Recorder<'a> {
     }
 
     /// "a line request [...] writes none."
-    pub fn line(&self, failed: u32, line: &mut [u16]) -> Result<(), u8> {
+    pub fn line(&self, failed: u64, line: &mut [Entry]) -> Result<(), u8> {
         self.run.line(failed, line)
     }
 
@@ -93,8 +93,10 @@ impl<'a> Recorder<'a> {
         self.place
     }
 
-    fn append_record(&mut self, kind: u32, process: u32, argument: u32) -> Result<(), u8> {
-        self.append(&(kind << 29 | process << 25 | argument).to_be_bytes())
+    /// "records of 32 bits": what an accepted call names fits its field.
+    fn append_record(&mut self, kind: u64, process: u64, argument: u64) -> Result<(), u8> {
+        let record = u32::try_from(kind << 29 | process << 25 | argument);
+        self.append(&record.expect("an accepted call fits").to_be_bytes())
     }
 
     fn append(&mut self, bytes: &[u8]) -> Result<(), u8> {
@@ -122,7 +124,7 @@ fn record_trace(trace: &[u8], buffer: &mut [u8]) -> usize {
     let Some((first, records)) = trace.split_first() else {
         return 0;
     };
-    let Ok(mut recorder) = Recorder::start(*first as usize, &ONES, buffer) else {
+    let Ok(mut recorder) = Recorder::start(usize::from(*first), &ONES, buffer) else {
         return 0;
     };
     let deletions = &mut [0; 2 * MAX_PROCESSES * MAX_PROCESSES];
@@ -134,9 +136,9 @@ fn record_trace(trace: &[u8], buffer: &mut [u8]) -> usize {
         let _ = match (record >> 29, process, argument) {
             (0, _, 0) => recorder.checkpoint(process, deletions).err(),
             (1, _, _) => recorder.send(process, argument as usize).err(),
-            (2, 0, _) => recorder.deliver(argument, deletions).err(),
-            (3, 0, _) => recorder.lose(argument).err(),
-            (4, 0, _) => recorder.recover(argument, deletions, line).err(),
+            (2, 0, _) => recorder.deliver(argument.into(), deletions).err(),
+            (3, 0, _) => recorder.lose(argument.into()).err(),
+            (4, 0, _) => recorder.recover(argument.into(), deletions, line).err(),
             _ => None,
         };
     }

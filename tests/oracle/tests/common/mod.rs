@@ -50,17 +50,17 @@ pub fn up_to_first_refusal(listing: &str) -> String {
         .collect()
 }
 
-pub fn line(run: &Run, failed: u32) -> Vec<u16> {
+pub fn line(run: &Run, failed: u64) -> Vec<u32> {
     let mut line = vec![0; run.count()];
     assert_eq!(run.line(failed, &mut line), Ok(()));
     line
 }
 
-pub fn kept(run: &Run, process: usize) -> Vec<u16> {
+pub fn kept(run: &Run, process: usize) -> Vec<u32> {
     run.kept(process).map(|(index, _)| index).collect()
 }
 
-pub fn pins(run: &Run, process: usize) -> Vec<Option<u16>> {
+pub fn pins(run: &Run, process: usize) -> Vec<Option<u32>> {
     (0..run.count()).map(|f| run.pin(process, f)).collect()
 }
 
@@ -104,7 +104,7 @@ pub fn assert_disks_sound(run: &Run) {
 pub fn assert_sound(run: &Run) {
     let n = run.count();
     assert!((1..=16).contains(&n));
-    let bounded = |vector: &[u16]| (0..n).all(|f| vector[f] <= run.own_entry(f));
+    let bounded = |vector: &[u32]| (0..n).all(|f| vector[f] <= run.own_entry(f));
     for i in 0..n {
         assert!(run.own_entry(i) >= 1);
         assert!(bounded(run.vector(i)));
@@ -117,7 +117,7 @@ pub fn assert_sound(run: &Run) {
         }
         assert_eq!(*kept.last().unwrap(), run.own_entry(i) - 1);
         assert_eq!(run.pin(i, i), kept.last().copied());
-        let mut pinned: Vec<u16> = pins(run, i).into_iter().flatten().collect();
+        let mut pinned: Vec<u32> = pins(run, i).into_iter().flatten().collect();
         pinned.sort();
         pinned.dedup();
         assert_eq!(pinned, kept, "the pins name exactly the kept ones");
