@@ -1,13 +1,32 @@
-// Text on standard output: words, numbers, and the shapes of a line. A write that fails leaves a text that the comparison refuses, so no function
-// here answers whether it wrote.
+// Text on standard output: words, numbers, and the shapes of a line. The first write that fails is said on standard error.
+use libc::EBADF;
 use libc::STDOUT_FILENO;
 
+// The first words of all, and whether they are written. If not, that is said.
+pub(crate) fn begin(words: &[u8]) -> bool {
+    let written = io::write_all(STDOUT_FILENO, words);
+    if !written {
+        os::fail(b"exam: standard output");
+    }
+    written
+}
+
+// Says that a write failed, once: it closes standard output, and behind that every write fails for the reason that it is closed.
+fn told(written: bool) {
+    if !written {
+        if os::errno() != EBADF {
+            os::fail(b"exam: standard output");
+            libc::close(STDOUT_FILENO);
+        }
+    }
+}
+
 pub(crate) fn text(words: &[u8]) {
-    io::write_all(STDOUT_FILENO, words);
+    told(io::write_all(STDOUT_FILENO, words));
 }
 
 pub(crate) fn number(x: u64) {
-    io::print_decimal(STDOUT_FILENO, x);
+    told(io::print_decimal(STDOUT_FILENO, x));
 }
 
 // A value behind a space.

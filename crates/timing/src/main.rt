@@ -28,11 +28,24 @@ fn ten_thousands(count: u8) -> u32 {
     count as u32 * 10000
 }
 
+// The number in a line of its own; that it cannot be written is said.
+fn say(number: u8) {
+    let digits = io::print_decimal(STDOUT_FILENO, number as u64);
+    let ended = io::write_all(STDOUT_FILENO, b"\n");
+    let written = digits & ended;
+    if !written {
+        os::fail(b"timing: standard output");
+    }
+}
+
 fn main() {
     let mut asked = [0u8; 2];
-    libc::read(STDIN_FILENO, &mut asked);
+    let got = libc::read(STDIN_FILENO, &mut asked);
+    if got < 0 {
+        os::fail(b"timing: standard input");
+        return;
+    }
     let times = ten_thousands(asked[1]);
     let number = made(asked[0], full::state(), times);
-    io::print_decimal(STDOUT_FILENO, number as u64);
-    io::write_all(STDOUT_FILENO, b"\n");
+    say(number);
 }
