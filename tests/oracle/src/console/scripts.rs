@@ -54,6 +54,8 @@ pub fn script(seed: u64) -> Vec<u8> {
         for _ in 0..65_534 {
             script.write_plain(OPERATOR, 0, CHECKPOINT, process, 0);
         }
+        script.write_plain(OPERATOR, 0, LINE, 0, 0);
+        script.write_plain(OPERATOR, 0, CHECKPOINT, process, 0);
     }
     for _ in 0..script.random.one_of(&[5, 40, 120, 120]) {
         let operation = match script.random.once_in(64) {
