@@ -47,10 +47,21 @@ fn refuse(number: u64, why: Refusal) -> bool {
     told(say::refused(number, summaries::number_of(why)))
 }
 
-// What eight bytes ask for, or that they are no call.
-fn make_call(s: Run, number: u64, bytes: [u8; 8]) -> Next {
-    let read = console_script::call_of(bytes);
+// What the first `held` of eight bytes ask for, or why they are no call.
+fn make_call(s: Run, number: u64, held: usize, bytes: [u8; 8]) -> Next {
+    let read = console_script::next_of(held, bytes);
     match read {
+        Read::Ended => Next {
+            run: s,
+            going: false,
+        },
+        Read::LeftOver => {
+            refuse(number, Refusal::LeftOverBytes);
+            Next {
+                run: s,
+                going: false,
+            }
+        }
         Read::Malformed => {
             let going = refuse(number, Refusal::MalformedRecord);
             Next { run: s, going }
@@ -64,22 +75,17 @@ fn make_call(s: Run, number: u64, bytes: [u8; 8]) -> Next {
     }
 }
 
-// The next call of the script, if there is one. Fewer than eight bytes are left over.
+// The next bytes of the script.
 fn take_next(s: Run, number: u64) -> Next {
     let mut bytes = [0u8; 8];
     let filled = fill(&mut bytes);
-    let whole = filled.held == 8;
-    if whole {
-        return make_call(s, number, bytes);
+    if filled.failed {
+        return Next {
+            run: s,
+            going: false,
+        };
     }
-    let left_over = !filled.failed & (0 < filled.held);
-    if left_over {
-        refuse(number, Refusal::LeftOverBytes);
-    }
-    Next {
-        run: s,
-        going: false,
-    }
+    make_call(s, number, filled.held, bytes)
 }
 
 // The calls, one after the other, to the end of the script.

@@ -3,7 +3,6 @@
 use mathlib.Core.Path.{_≡_, sym, _∙_, ap}
 use mathlib.Core.Bool.{Bool, true, false, _&&_}
 use mathlib.Core.List.{List}
-use mathlib.Core.Option.{none, some}
 use Prim.Native.Nat.{ℕ, _≤_, _<_}
 use native.Mathlib.Omega.{arith}
 use lib.Dec.{eqb}
@@ -14,24 +13,24 @@ use Rattle.roles.specs.declared.Operation.{Operation}
 use Rattle.roles.specs.declared.Operation.the-variants.{Recover, Line, Earliest}
 use Rattle.console_script.specs.declared.Call.{Call}
 use Rattle.console_script.specs.declared.Read.the-variants.{Malformed, Asks}
-use Rattle.console_script.specs.Script.{byte, operationOf, mustBeZero, isClear, wellFormed, callIn, callOf, callRead, WholeArguments}
+use Rattle.console_script.specs.Script.{byte, operationOf, mustBeZero, isClear, wellFormed, callIn, callOf, asked, WholeArguments}
 
 module _ (call : List ℕ) where
-  pub no-operation : 9 < byte call 3 → callRead Malformed ≡ callOf call
-  unfolding callRead callOf wellFormed
+  pub no-operation : 9 < byte call 3 → Malformed ≡ asked (callOf call)
+  unfolding asked callOf wellFormed
   no-operation h = rw (le-ltb (byte call 3) 10 (omega (arith, h)))
 
   module _ (h : byte call 3 ≤ 9) (o : Operation) (e : o ≡ operationOf (byte call 3)) (b : Bool) (is : b ≡ isClear o call) where
     clear-is : isClear (operationOf (byte call 3)) call ≡ b
     clear-is = ap (λ (p : Operation). isClear p call) (sym e) ∙ sym is
 
-    pub not-clear : b ≡ false → callRead Malformed ≡ callOf call
-    unfolding callRead callOf wellFormed
+    pub not-clear : b ≡ false → Malformed ≡ asked (callOf call)
+    unfolding asked callOf wellFormed
     not-clear q = rw (lt-ltb (byte call 3) 10 (omega (arith, h)), clear-is ∙ q)
 
-    pub asks : b ≡ true → (x : Call) → x ≡ callIn o call → callRead (Asks x) ≡ callOf call
-    unfolding callRead callOf wellFormed
-    asks q x i = rw (lt-ltb (byte call 3) 10 (omega (arith, h)), clear-is ∙ q) (ap some (i ∙ ap (λ (p : Operation). callIn p call) e))
+    pub asks : b ≡ true → (x : Call) → x ≡ callIn o call → Asks x ≡ asked (callOf call)
+    unfolding asked callOf wellFormed
+    asks q x i = rw (lt-ltb (byte call 3) 10 (omega (arith, h)), clear-is ∙ q) (ap Asks (i ∙ ap (λ (p : Operation). callIn p call) e))
 
 -- A failed set and an index, which have 16 bits, are the whole argument of a call that is well-formed.
 low-of : (call : List ℕ) (o : Operation) → byte call 5 ≡ 0 → callIn o call .argument ≡ callIn o call .low

@@ -15,7 +15,7 @@ use Rattle.roles.specs.declared.Operation.{Operation}
 use Rattle.roles.specs.declared.Operation.the-variants.{Start, Checkpoint, Send, Deliver, Lose, Recover, Line, Earliest, List as Listing, Counts}
 use Rattle.console_script.specs.declared.Call.{Call}
 use Rattle.console_script.specs.declared.Read.{Read}
-use Rattle.console_script.specs.declared.Read.the-variants.{Malformed, Asks}
+use Rattle.console_script.specs.declared.Read.the-variants.{Ended, LeftOver, Malformed, Asks}
 
 -- The byte in a place of a call.
 abbrev pub byte : List ℕ → ℕ → ℕ
@@ -74,10 +74,13 @@ callIn o call = record {
 unfoldable pub callOf : List ℕ → Option Call
 callOf call = pick (wellFormed call) (some (callIn (operationOf (byte call 3)) call)) none
 
--- The answer of `call_of`.
-unfoldable pub callRead : Read → Option Call
-callRead Malformed = none
-callRead (Asks c) = some c
+unfoldable pub asked : Option Call → Read
+asked none = Malformed
+asked (some c) = Asks c
+
+-- The next bytes of a script, of which `held` are there: "13: .. bytes left over", as behind the records of a trace.
+unfoldable pub nextOf : ℕ → List ℕ → Read
+nextOf held call = pick (eqb held 0) Ended (pick (ltb held 8) LeftOver (asked (callOf call)))
 
 -- A failed set and an index are two bytes of the argument: in a call that is well-formed they are all of it (proofs/Calls).
 unfoldable pub WholeArguments : Type 0

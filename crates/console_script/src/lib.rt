@@ -5,7 +5,7 @@ use roles::Operation;
 use roles::Role;
 ghost use mathlib.Core.Path.{_≡_};
 ghost use Prim.Native.Nat.{_+_, _*_, _<_};
-ghost use Rattle.console_script.specs.Script.{roleOf, operationOf, isClear, callIn, callOf, callRead};
+ghost use Rattle.console_script.specs.Script.{roleOf, operationOf, isClear, callIn, callOf, asked, nextOf};
 
 // A call as a script asks for it.
 pub struct Call {
@@ -21,8 +21,10 @@ pub struct Call {
     pub low: u16,
 }
 
-// What eight bytes are found to be.
+// What the next bytes of a script are found to be: none, fewer than eight, eight that are no call, a call.
 pub enum Read {
+    Ended,
+    LeftOver,
     Malformed,
     Asks(Call),
 }
@@ -120,8 +122,8 @@ fn call_in(operation: Operation, bytes: [u8; 8]) -> Call
 }
 
 // What eight bytes ask for, if they are a call.
-pub fn call_of(bytes: [u8; 8]) -> Read
-    ensures { λ r. ⌜ callRead r ≡ callOf bytes ⌝ }
+fn call_of(bytes: [u8; 8]) -> Read
+    ensures { λ r. ⌜ r ≡ asked (callOf bytes) ⌝ }
 {
     let code = bytes[3];
     if 9 < code {
@@ -133,4 +135,17 @@ pub fn call_of(bytes: [u8; 8]) -> Read
         return Read::Asks(call);
     }
     Read::Malformed
+}
+
+// What the first `held` of eight bytes are, where no more are left of the script if there are fewer.
+pub fn next_of(held: usize, bytes: [u8; 8]) -> Read
+    ensures { λ r. ⌜ r ≡ nextOf held bytes ⌝ }
+{
+    if held == 0 {
+        return Read::Ended;
+    }
+    if held < 8 {
+        return Read::LeftOver;
+    }
+    call_of(bytes)
 }

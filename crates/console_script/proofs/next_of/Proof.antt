@@ -1,0 +1,25 @@
+-- `console_script::next_of` meets its contract, by how many bytes there are.
+-- Assumes nothing.
+use borrow.Author.Needs.{needs}
+use borrow.Author.Tests.{eq-eqb, ne-eqb, lt-ltb, le-ltb}
+use Rattle.console_script.specs.Script.{nextOf}
+use Rattle.console_script.proofs.next_of.Statement.{statement}
+use Rattle.console_script.proofs.next_of.Tie as tie
+
+returns : tie.Need-returns
+unfolding nextOf
+returns c = rw (eq-eqb (c .before .args .held) 0 (c .if1 .taken))
+
+returns-2 : tie.Need-returns-2
+unfolding nextOf
+returns-2 c = let held = c .before .before .args .held in rw (ne-eqb held 0 (c .before .if1 .left), lt-ltb held 8 (c .if2 .taken))
+
+returns-3 : tie.Need-returns-3
+unfolding nextOf
+returns-3 c =
+    let few = c .before in
+    let held = few .before .before .args .held in
+    rw (ne-eqb held 0 (few .before .if1 .left), le-ltb held 8 (few .if2 .left)) (c .call-of .ensures)
+
+pub next-of-spec : {M : Type 1} → statement M
+next-of-spec = tie.close (tie.spec returns returns-2 (λ c κs. search needs) returns-3)
