@@ -1,4 +1,4 @@
--- What the program says of a place of a line list behind a line call.
+-- What the program says of a place of a line list after a line call.
 -- Assumes nothing.
 use mathlib.Core.Option.{Option, none, some}
 use Prim.Native.Nat.{ℕ}

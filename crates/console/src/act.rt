@@ -1,4 +1,4 @@
-// The calls, each on the state behind the one before it: the call is made, and its line is written. Every entry of the lent lists is 0 before it.
+// The calls, each on the state after the one before it: the call is made, and its line is written. Every entry of the lent lists is 0 before it.
 use crate::say;
 use console_script::Call;
 use listing::Summary;

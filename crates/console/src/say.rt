@@ -61,7 +61,7 @@ pub(crate) fn entries(line: &[u16; 16], n: usize) -> bool
     true
 }
 
-// What is said of place p of a line list behind a line call: the entry, or a hyphen where the call wrote none.
+// What is said of place p of a line list after a line call: the entry, or a hyphen where the call wrote none.
 fn member(caller: Caller, n: usize, p: usize, x: u16) -> Value
     ensures { λ r. ⌜ valueIn r ≡ memberSaid caller n p x ⌝ }
 {
@@ -72,7 +72,7 @@ fn member(caller: Caller, n: usize, p: usize, x: u16) -> Value
     Value::Hyphen
 }
 
-// The n places of a line list behind a line call.
+// The n places of a line list after a line call.
 pub(crate) fn members(line: &[u16; 16], n: usize, caller: Caller) -> bool
     requires { ⌜ n ≤ 16 ⌝ }
 {

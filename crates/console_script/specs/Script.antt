@@ -78,7 +78,7 @@ unfoldable pub asked : Option Call → Read
 asked none = Malformed
 asked (some c) = Asks c
 
--- The next bytes of a script, of which `held` are there: "13: .. bytes left over", as behind the records of a trace.
+-- The next bytes of a script, of which `held` are there: "13: .. bytes left over", as after the records of a trace.
 unfoldable pub nextOf : ℕ → List ℕ → Read
 nextOf held call = pick (eqb held 0) Ended (pick (ltb held 8) LeftOver (asked (callOf call)))
 

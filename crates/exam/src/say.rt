@@ -11,7 +11,7 @@ pub(crate) fn begin(words: &[u8]) -> bool {
     written
 }
 
-// Says that a write failed, once: it closes standard output, and behind that every write fails for the reason that it is closed.
+// Says that a write failed, once: it closes standard output, and every later write fails because it is closed.
 fn told(written: bool) {
     if !written {
         if os::errno() != EBADF {

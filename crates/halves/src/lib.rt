@@ -20,8 +20,9 @@ ghost use Rattle.merges.specs.Halves.{OrdersAgree};
 ghost use Rattle.merges.specs.Merge.{mergeOutcome, MergePromise};
 
 // The merged trace stands at the front of `result`, and the rest of it is as it was; with a refusal all of it is. Bit p of `set` says that process p
-// belongs to the first half; one that 16 bits do not hold has a bit at n or above in every run. Both halves' orders are kept, a replay of the result is the run of the merged calls, and any other order whose records are
-// all accepted ends the same. No limit of a run is judged: the rule can put 65 messages under way, and a replay of the result then says 9.
+// belongs to the first half; a set that 16 bits do not hold has a bit at n or above in every run. Both halves' orders are kept, a replay of the result is
+// the run of the merged calls, and any other order whose records are all accepted ends the same. No limit of a run is judged: the rule can put 65 messages
+// under way, and a replay of the result then says 9.
 pub fn merge<'a>(first: &'a [u8], second: &'a [u8], set: u32, result: &mut [u8]) -> MergeAnswer
     ensures { λ r. ⌜ r ≡ mergeOutcome (now (first .entry)) (now (second .entry)) set (now (result .entry)) .answer ⌝ }
     ensures { λ r. ⌜ now (result .exit) ≡ mergeOutcome (now (first .entry)) (now (second .entry)) set (now (result .entry)) .buffer ⌝ }

@@ -71,7 +71,7 @@ fn merge_named(set: u32) -> Ended {
     merge_files(&one[..a], &other[..b], set)
 }
 
-// The three words that the program is started with behind its name. The third is a decimal number of any length.
+// The three words that the program is started with after its name. The third is a decimal number of any length.
 fn start() -> Ended {
     if os::arg_count() != 4 {
         return ending::say_usage();

@@ -100,7 +100,7 @@ fn the_first_half_goes_as_far_as_it_can() {
     assert_eq!(merged(&second, &first, 0b010), Ok(trace(3, &expected)));
 }
 
-/// "7 the set": every decimal number is judged whole, behind 1, 12 and 23.
+/// "7 the set": every decimal number is judged whole, after 1, 12 and 23.
 #[test]
 fn a_set_of_any_length() {
     let set = |word: &str| Whole::in_decimal(word).unwrap();
