@@ -22,54 +22,54 @@ const OWN: [usize; 2] = [0, 1];
 enum Asked {
     Checkpoint(usize),
     Send(usize, usize),
-    Deliver(u32),
-    Lose(u32),
-    Line(u32),
+    Deliver(u64),
+    Lose(u64),
+    Line(u64),
     List,
 }
 
-fn asks(random: &mut Random, last: u32) -> Asked {
+fn asks(random: &mut Random, last: u64) -> Asked {
     let (p, q) = (random.below(N + 1), random.below(N + 1));
-    let number = random.below(last as usize + 2) as u32;
+    let number = random.below(last as usize + 2) as u64;
     match random.below(9) {
         0 | 1 => Asked::Checkpoint(p),
         2 => Asked::Send(p, q),
         3..=5 => Asked::Deliver(number),
         6 => Asked::Lose(number),
-        7 => Asked::Line(random.below(1 << (N + 1)) as u32),
+        7 => Asked::Line(random.below(1 << (N + 1)) as u64),
         _ => Asked::List,
     }
 }
 
-fn to_own(run: &Run, number: u32) -> Option<&Message> {
+fn to_own(run: &Run, number: u64) -> Option<&Message> {
     let own = |m: &&Message| m.number == number && OWN.contains(&(m.receiver as usize));
     run.under_way().iter().find(own)
 }
 
 /// What the leaks are worth at a call. 10 and 16 are out of reach here.
-fn leak(run: &Run, asked: Asked) -> Vec<u32> {
+fn leak(run: &Run, asked: Asked) -> Vec<u64> {
     match asked {
         Asked::Send(i, _) if OWN.contains(&i) => {
-            vec![(run.under_way().len() == 64) as u32, run.last_number()]
+            vec![(run.under_way().len() == 64) as u64, run.last_number()]
         }
         Asked::Deliver(number) => match to_own(run, number) {
             Some(m) => {
-                let carried = m.carried[..N].iter().map(|&e| e as u32);
-                [m.receiver as u32].into_iter().chain(carried).collect()
+                let carried = m.carried[..N].iter().map(|&e| e as u64);
+                [m.receiver as u64].into_iter().chain(carried).collect()
             }
             None => vec![],
         },
-        Asked::Lose(number) => vec![to_own(run, number).is_some() as u32],
+        Asked::Lose(number) => vec![to_own(run, number).is_some() as u64],
         Asked::Line(failed) if failed < 1 << N => {
             let line = common::line(run, failed);
-            OWN.map(|p| line[p] as u32).to_vec()
+            OWN.map(|p| line[p] as u64).to_vec()
         }
         _ => vec![],
     }
 }
 
 /// All that the owner gets: the answer, and the lent lists as they then stand.
-fn answer(c: &mut Console, asked: Asked) -> (String, [u16; LISTS], [u16; N]) {
+fn answer(c: &mut Console, asked: Asked) -> (String, [u32; LISTS], [u32; N]) {
     let (mut deletions, mut line) = ([9; LISTS], [9; N]);
     let said = match asked {
         Asked::Checkpoint(p) => format!("{:?}", c.checkpoint(OWNER, p, &mut deletions)),
@@ -85,7 +85,7 @@ fn answer(c: &mut Console, asked: Asked) -> (String, [u16; LISTS], [u16; N]) {
 /// Something that exposes nothing: a checkpoint of the neighbour's, a delivery to
 /// it, a loss, or a refused call.
 fn unexposed(c: &mut Console, random: &mut Random) {
-    let number = random.below(c.run().last_number() as usize + 2) as u32;
+    let number = random.below(c.run().last_number() as usize + 2) as u64;
     let (mut deletions, mut line) = ([0; LISTS], [0; N]);
     match random.below(6) {
         0 | 1 => _ = c.checkpoint(NEIGHBOUR, 2 + random.below(2), &mut deletions),
@@ -106,7 +106,7 @@ fn unexposed(c: &mut Console, random: &mut Random) {
 
 /// What a recovery or sweep shows of the owner's processes: where it puts them,
 /// and which of their pins name a checkpoint.
-fn restarted(c: &mut Console, failed: u32) -> Vec<(u16, Vec<bool>)> {
+fn restarted(c: &mut Console, failed: u64) -> Vec<(u32, Vec<bool>)> {
     let (mut deletions, mut line) = ([0; LISTS], [0; N]);
     c.recover(Operator, failed, &mut deletions, &mut line)
         .unwrap();
@@ -143,7 +143,7 @@ fn an_owner_learns_nothing_but_the_leaks() {
                 }
                 // The operator, to the owner's processes and to all.
                 4 if random.below(4) == 0 => {
-                    let failed = random.below(1 << N) as u32;
+                    let failed = random.below(1 << N) as u64;
                     let [a, b] = &mut runs;
                     if restarted(a, failed) != restarted(b, failed) {
                         break;
@@ -180,7 +180,7 @@ fn an_owner_learns_nothing_but_the_leaks() {
 /// not, by what another has stored; and a recovery rolls it back, or not.
 #[test]
 fn a_recovery_shows_what_others_stored() {
-    let listed = |failed: u32, stored: bool| {
+    let listed = |failed: u64, stored: bool| {
         let mut c = Console::start(Operator, N, &ONES).unwrap();
         c.send(NEIGHBOUR, 2, 0).unwrap();
         c.deliver(OWNER, 1, &mut [0; LISTS]).unwrap();
