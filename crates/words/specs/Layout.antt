@@ -94,7 +94,10 @@ unfoldable pub pinOf : ℕ → Pin
 pinOf zero = Nothing
 pinOf (suc k) = At (record { 0 = k })
 
--- A vector and pins, by the place of their first word.
+-- A row of words, a vector and pins, by the place of their first word.
+unfoldable pub rowIn : List ℕ → ℕ → List ℕ
+rowIn w at = table places (λ f. word w (at + f))
+
 unfoldable pub vectorIn : List ℕ → ℕ → List Interval
 vectorIn w at = table places (λ f. intervalOf (word w (at + f)))
 

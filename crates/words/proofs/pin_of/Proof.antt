@@ -1,0 +1,20 @@
+-- `words::pin_of` meets its contract. Assumes nothing.
+use borrow.Author.Needs.{needs}
+use mathlib.Core.Path.{_≡_, sym, _∙_, ap}
+use native.Mathlib.Omega.{arith}
+use Prim.Native.Nat.{ℕ, suc, _-_}
+use Rattle.model.specs.declared.Pin.the-variants.{At}
+use Rattle.words.specs.Layout.{pinOf}
+use Rattle.words.proofs.Reading.{pin-some}
+use Rattle.words.proofs.pin_of.Statement.{statement}
+use Rattle.words.proofs.pin_of.Tie as tie
+
+returns : tie.Need-returns
+unfolding pinOf
+returns c = search needs
+
+returns-2 : tie.Need-returns-2
+returns-2 c = ap At (c .index-of .ensures) ∙ sym (pin-some (c .before .before .args .x) (omega arith))
+
+pub pin-of-spec : {M : Type 1} → statement M
+pin-of-spec = tie.close (tie.spec (λ c κs. search needs) returns returns-2)
