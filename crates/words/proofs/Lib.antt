@@ -10,3 +10,4 @@
 --   checkpoint-moved, checkpoint-same, kept-same, message-same; row-word, vector-word, vector-row; vector-is; vector-back, row-back
 pub mod Reading
 pub mod Same
+pub mod View

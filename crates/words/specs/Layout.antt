@@ -104,6 +104,10 @@ vectorIn w at = table places (λ f. intervalOf (word w (at + f)))
 unfoldable pub pinsIn : List ℕ → ℕ → List Pin
 pinsIn w at = table places (λ f. pinOf (word w (at + f)))
 
+-- The sent mark of process p: set if its word is not 0.
+unfoldable pub markIn : List ℕ → ℕ → Bool
+markIn w p = not (eqb (word w (markAt p)) 0)
+
 -- The kept checkpoint in place k of process p. Its process's block count stands once, for all of them.
 unfoldable pub checkpointIn : List ℕ → ℕ → ℕ → Checkpoint
 checkpointIn w p k = record {
@@ -145,7 +149,7 @@ decoded w = record {
   count = countOf w;
   vectors = record { 0 = ofProcesses w (λ p. vectorIn w (partAt p)) zeroVector };
   pins = record { 0 = ofProcesses w (λ p. pinsIn w (pinsAt p)) noPins };
-  sent = ofProcesses w (λ p. not (eqb (word w (markAt p)) 0)) false;
+  sent = ofProcesses w (markIn w) false;
   kept = record { 0 = ofProcesses w (keptIn w) (replicate places noCheckpoint) };
   held = ofProcesses w (λ p. word w (heldAt p)) 0;
   messages = placed mostUnderWay noMessage (messagesIn w);

@@ -1,0 +1,22 @@
+-- The part of the words that is one process's.
+-- Assumes nothing.
+use mathlib.Core.Bool.{Bool, _&&_}
+use mathlib.Core.List.{List}
+use Prim.Native.Nat.{ℕ}
+use lib.Dec.{ltb}
+use lib.ListN.{take}
+use Rattle.model.specs.Words.{Process}
+use Rattle.words.specs.Layout.{word, endOf, heldAt, partAt, pinsAt, vectorIn, pinsIn, markIn, keptIn, messageIn, isMessage}
+
+-- What the words hold of process p: its vector, its pins, its sent mark, and as many checkpoints as it keeps.
+unfoldable pub processIn : List ℕ → ℕ → Process
+processIn w p = record {
+  vector = vectorIn w (partAt p);
+  pins = pinsIn w (pinsAt p);
+  mark = markIn w p;
+  kept = take (word w (heldAt p)) (keptIn w p);
+}
+
+-- A place of a message is in use before the end of those in use, and where the number is not 0.
+unfoldable pub isUsedIn : List ℕ → ℕ → Bool
+isUsedIn w k = ltb k (endOf w) && isMessage (messageIn w k)
