@@ -8,6 +8,8 @@
 -- Same: words that agree on a section are read the same there.
 --   row-same, vector-same, pins-same : (w v) (a b) → ((f) → f < 16 → word w (a + f) ≡ word v (b + f)) → rowIn w a ≡ rowIn v b, ..
 --   checkpoint-moved, checkpoint-same, kept-same, message-same; row-word, vector-word, vector-row; vector-is; vector-back, row-back
+pub mod Frames
 pub mod Reading
 pub mod Same
 pub mod View
+pub mod ViewChange
