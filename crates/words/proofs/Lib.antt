@@ -13,3 +13,4 @@ pub mod Reading
 pub mod Same
 pub mod View
 pub mod ViewChange
+pub mod ViewClean

@@ -27,7 +27,7 @@ use Rattle.words.proofs.View.{run-fits, fits-size, fits-end, fits-by, k
 
 -- Words that agree on the places of messages and on their end hold the same messages.
 module _ (w v : List ℕ) (end : endOf v ≡ endOf w) (same : (k : ℕ) → 5184 ≤ k → word v k ≡ word w k) where
-  mail-same : (k : ℕ) → messageIn v k ≡ messageIn w k
+  pub mail-same : (k : ℕ) → messageIn v k ≡ messageIn w k
   mail-same k = message-same v w k k
       (same (lowAt k) (omega arith)) (same (highAt k) (omega arith)) (same (senderAt k) (omega arith)) (same (receiverAt k) (omega arith))
       (λ f lt. same (carriedAt k + f) (omega arith))
