@@ -1,16 +1,40 @@
--- Laws that belong to no one function. A crate above uses them as `Rattle.words.proofs.Reading.{untouched}`.
+-- Laws that belong to no one function. A crate above uses them as `Rattle.words.proofs.View.{process-is}`.
 --
 -- Reading: words after puts (specs/Puts).
---   untouched  : (w) (l : List Put) (k) → Clear l k → word (puts w l) k ≡ word w k                  `Clear` of known places is one `omega arith`
---   touched    : (w) (l) (n k q) → Hits w l n k q → word (puts w l) q ≡ nth l n .fill k              word k of put n stands at q
+--   untouched : (w) (l : List Put) (k) → Clear l k → word (puts w l) k ≡ word w k                 `Clear` of known places is one `omega arith`
+--   touched   : (w) (l) (n k q) → Hits w l n k q → word (puts w l) q ≡ nth l n .fill k             word k of put n stands at q
 --   puts-length, put-turn, put-none, set-is-put (a store is a put: `simp set-is-put`), wide2-back, wide4-back
---   pin-some   : (x) → 1 ≤ x → pinOf x ≡ At (indexOf x)                  index-back, pin-back: the word a .0 + 1 of an index a
+--   pin-some  : (x) → 1 ≤ x → pinOf x ≡ At (indexOf x); index-back, pin-back: the word a .0 + 1 of an index a
 -- Same: words that agree on a section are read the same there.
 --   row-same, vector-same, pins-same : (w v) (a b) → ((f) → f < 16 → word w (a + f) ≡ word v (b + f)) → rowIn w a ≡ rowIn v b, ..
 --   checkpoint-moved, checkpoint-same, kept-same, message-same; row-word, vector-word, vector-row; vector-is; vector-back, row-back
+-- Frames: process-stays, process-then, process-head, process-held, .. : changes one after the other, and what each leaves (specs/Frames).
+-- View: what the run holds of words that fit, for p < countOf w ≤ 16.
+--   run-fits  : (w) → fits w ≡ true → runOf w ≡ decoded w; run-unfit; fits-size, fits-end, fits-by, end-most
+--   count-is, underway-is, last-is, written-is, deleted-is, messages-is, messages-most : (w) → fits w ≡ true → ..
+--   process-is : (w) → fits w ≡ true → (p) → p < countOf w → countOf w ≤ 16 → process (runOf w) p ≡ processIn w p; own-is, held-is, row-is
+--   under-way-is : (w) → fits w ≡ true → word w 1 ≡ length (messagesIn w) → underWay (runOf w) ≡ messagesIn w
+--   kept-table, kept-count, kept-placed : (w) (p) → word w (heldAt p) ≤ 16 → ..; kept-at, kept-past, kept-none; placed-at, placed-past
+-- ViewChange: the three changes.
+--   with-process  : (w v) (p) → fits w ≡ true → p < countOf w → countOf w ≤ 16 → OnlyProcess w v p → word v (heldAt p) ≤ 16
+--                     → runOf v ≡ withProcess (runOf w) p (processIn v p); process-fits
+--   with-messages : (w v) → OnlyMessages w v → fits w ≡ true → endFits v ≡ true → word v 1 ≡ length (messagesIn v)
+--                     → runOf v ≡ withMessages (runOf w) (messagesIn v) (wide2 v 2); messages-fit
+--   with-disk     : (w v) → OnlyDisk w v → fits w ≡ true → runOf v ≡ withDisk (runOf w) (record { written = wide4 v 4; deleted = wide4 v 8 }); disk-fits
+-- ViewClean: what keeps unused places zero (specs/Clean).
+--   clean-process : (w v) (p) → p < countOf w → countOf w ≤ 16 → OnlyProcess w v p → CleanKept v p → Clean w → Clean v
+--   clean-messages : (w v) → countOf w ≤ 16 → OnlyMessages w v → CleanMessages v → Clean w → Clean v
+--   clean-disk    : (w v) → OnlyDisk w v → Clean w → Clean v; clean-zeros
+-- ViewSound: what words hold whose run is sound.
+--   sound-words   : (w) → sound (runOf w) ≡ true → SoundWords w; sound-part : .. (p) → p < countOf w → SoundPart w p; sound-place; sound-known
+-- ViewSizes: vectors-size, vector-row-size, .., carried-size: the sizes of the arrays of runOf w, of all words w (the fields of plans' `Sized`).
+-- Ascending: numbers that ascend along a list, and along what is selected of it, by index.
+pub mod Ascending
 pub mod Frames
 pub mod Reading
 pub mod Same
 pub mod View
 pub mod ViewChange
 pub mod ViewClean
+pub mod ViewSizes
+pub mod ViewSound

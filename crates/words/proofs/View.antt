@@ -74,21 +74,28 @@ pub kept-none : (w : List ℕ) (p k : ℕ) → word w (indexAt p k) ≡ 0 → k 
 unfolding keptIn isKeptIn
 kept-none w p k none room = getD-table 16 _ k noCheckpoint room ∙ by-bool (ltb k (word w (heldAt p))) (λ e. rw (e, none)) (λ e. rw e)
 
--- A table of fixed size that holds nothing from a place on is its front, laid into a table.
-placed-front : {A : Type 0} (n : ℕ) (d : A) (l : List A) (h : ℕ) → length l ≡ n → h ≤ n → ((k : ℕ) → h ≤ k → k < n → getD l k d ≡ d) → placed n d (take h l) ≡ l
-unfolding placed
-placed-front n d l h long le past =
-    let front : length (take h l) ≡ h = length-take-le h l (omega arith) in
-    ext-getD d (placed n d (take h l)) l (placed-length n d (take h l) (omega arith) ∙ sym long)
-    (λ k lt. by-lt k h
-    (λ less. List·getD-append (take h l) _ d k (omega arith) ∙ getD-take h l k d less)
-    (λ more.
-    let e : k ≡ length (take h l) + (k - h) = omega arith in
-    let room : k < n = omega (arith, placed-length n d (take h l) (omega arith)) in
-    ap (λ (q : ℕ). getD (take h l ++ replicate (n - length (take h l)) d) q d) e
-    ∙ getD-append-add (take h l) (replicate (n - length (take h l)) d) (k - h) d
-    ∙ getD-replicate (n - length (take h l)) (k - h) d d (omega arith)
-    ∙ sym (past k more room)))
+-- A list laid into a table of fixed size: its entries, and those past it. A table that holds nothing from a place on is its front, laid into a table.
+module _ {A : Type 0} (n : ℕ) (d : A) where
+  pub placed-at : (l : List A) (k : ℕ) → k < length l → getD (placed n d l) k d ≡ getD l k d
+  unfolding placed
+  placed-at l k lt = List·getD-append l _ d k lt
+
+  pub placed-past : (l : List A) (k : ℕ) → length l ≤ k → k < n → getD (placed n d l) k d ≡ d
+  unfolding placed
+  placed-past l k le lt =
+      let e : k ≡ length l + (k - length l) = omega arith in
+      ap (λ (q : ℕ). getD (l ++ replicate (n - length l) d) q d) e
+      ∙ getD-append-add l (replicate (n - length l) d) (k - length l) d
+      ∙ getD-replicate (n - length l) (k - length l) d d (omega arith)
+
+  placed-front : (l : List A) (h : ℕ) → length l ≡ n → h ≤ n → ((k : ℕ) → h ≤ k → k < n → getD l k d ≡ d) → placed n d (take h l) ≡ l
+  placed-front l h long le past =
+      let front : length (take h l) ≡ h = length-take-le h l (omega arith) in
+      let whole : length (placed n d (take h l)) ≡ n = placed-length n d (take h l) (omega arith) in
+      ext-getD d (placed n d (take h l)) l (whole ∙ sym long)
+      (λ k lt. by-lt k h
+      (λ less. placed-at (take h l) k (omega arith) ∙ getD-take h l k d less)
+      (λ more. placed-past (take h l) k (omega arith) (omega arith) ∙ sym (past k more (omega arith))))
 
 module _ (w : List ℕ) (p : ℕ) (most : word w (heldAt p) ≤ 16) where
   pub kept-placed : placed places noCheckpoint (processIn w p .kept) ≡ keptIn w p
@@ -153,11 +160,13 @@ module _ (w : List ℕ) (fit : fits w ≡ true) where
     process-is =
         let room : p < 16 = omega arith in
         rw (run-fits w fit)
-        (rw (part-is w (λ q. vectorIn w (partAt q)) zeroVector [] p lt room,
+        (rw (
+          part-is w (λ q. vectorIn w (partAt q)) zeroVector [] p lt room,
           part-is w (λ q. pinsIn w (pinsAt q)) noPins [] p lt room,
           part-is w (markIn w) false false p lt room,
           part-is w (λ q. word w (heldAt q)) 0 0 p lt room,
-          part-is w (keptIn w) (replicate places noCheckpoint) [] p lt room))
+          part-is w (keptIn w) (replicate places noCheckpoint) [] p lt room,
+        ))
 
     pub own-is : own (runOf w) p ≡ intervalOf (word w (partAt p + p))
     unfolding own processIn

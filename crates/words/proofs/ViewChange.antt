@@ -85,8 +85,13 @@ module _ (w v : List ℕ) (p : ℕ) (fit : fits w ≡ true) (lt : p < countOf w)
   decoded-process : word v (heldAt p) ≤ 16 → decoded v ≡ withProcess (decoded w) p (processIn v p)
   unfolding decoded withProcess processIn
   decoded-process most = rw (
-    kept-placed v p most, kept-count v p most,
-    vectors-changed, pins-changed, marks-changed, kept-changed, held-changed,
+    kept-placed v p most,
+    kept-count v p most,
+    vectors-changed,
+    pins-changed,
+    marks-changed,
+    kept-changed,
+    held-changed,
     messages-same w v (process-head w v p only 12 (omega arith)) (process-mail w v p only room),
     process-head w v p only 0 (omega arith),
     process-head w v p only 1 (omega arith),
@@ -119,13 +124,13 @@ module _ (w v : List ℕ) (only : OnlyMessages w v) where
   unfolding decoded withMessages
   decoded-messages counted = rw (
     messages-parts (λ q. vectorIn v (partAt q)) (λ q. vectorIn w (partAt q)) zeroVector
-      (λ q less. vector-same v w (partAt q) (partAt q) (λ f under. only .rest (partAt q + f) (omega arith) (omega arith))),
+        (λ q less. vector-same v w (partAt q) (partAt q) (λ f under. only .rest (partAt q + f) (omega arith) (omega arith))),
     messages-parts (λ q. pinsIn v (pinsAt q)) (λ q. pinsIn w (pinsAt q)) noPins
-      (λ q less. pins-same v w (pinsAt q) (pinsAt q) (λ f under. only .rest (pinsAt q + f) (omega arith) (omega arith))),
+        (λ q less. pins-same v w (pinsAt q) (pinsAt q) (λ f under. only .rest (pinsAt q + f) (omega arith) (omega arith))),
     messages-parts (markIn v) (markIn w) false mark-stays,
     messages-parts (keptIn v) (keptIn w) (replicate places noCheckpoint)
-      (λ q less. kept-same v w q (only .rest (heldAt q) (omega arith) (omega arith)) (only .rest (blocksAt q) (omega arith) (omega arith))
-      (λ k low under. only .rest k (omega arith) (omega arith))),
+        (λ q less. kept-same v w q (only .rest (heldAt q) (omega arith) (omega arith)) (only .rest (blocksAt q) (omega arith) (omega arith))
+        (λ k low under. only .rest k (omega arith) (omega arith))),
     messages-parts (λ q. word v (heldAt q)) (λ q. word w (heldAt q)) 0 (λ q less. only .rest (heldAt q) (omega arith) (omega arith)),
     counted,
     only .count,
@@ -160,12 +165,12 @@ module _ (w v : List ℕ) (only : OnlyDisk w v) where
   unfolding decoded withDisk
   decoded-disk = rw (
     disk-parts (λ q. vectorIn v (partAt q)) (λ q. vectorIn w (partAt q)) zeroVector
-      (λ q less. vector-same v w (partAt q) (partAt q) (λ f under. only .rest (partAt q + f) (omega arith))),
+        (λ q less. vector-same v w (partAt q) (partAt q) (λ f under. only .rest (partAt q + f) (omega arith))),
     disk-parts (λ q. pinsIn v (pinsAt q)) (λ q. pinsIn w (pinsAt q)) noPins
-      (λ q less. pins-same v w (pinsAt q) (pinsAt q) (λ f under. only .rest (pinsAt q + f) (omega arith))),
+        (λ q less. pins-same v w (pinsAt q) (pinsAt q) (λ f under. only .rest (pinsAt q + f) (omega arith))),
     disk-parts (markIn v) (markIn w) false (λ q less. disk-mark q),
     disk-parts (keptIn v) (keptIn w) (replicate places noCheckpoint)
-      (λ q less. kept-same v w q (only .rest (heldAt q) (omega arith)) (only .rest (blocksAt q) (omega arith)) (λ k low under. only .rest k (omega arith))),
+        (λ q less. kept-same v w q (only .rest (heldAt q) (omega arith)) (only .rest (blocksAt q) (omega arith)) (λ k low under. only .rest k (omega arith))),
     disk-parts (λ q. word v (heldAt q)) (λ q. word w (heldAt q)) 0 (λ q less. only .rest (heldAt q) (omega arith)),
     messages-same w v (only .rest 12 (omega arith)) (λ k low. only .rest k (omega arith)),
     only .front 0 (omega arith),
