@@ -15,6 +15,8 @@
 --   process-is : (w) → fits w ≡ true → (p) → p < countOf w → countOf w ≤ 16 → process (runOf w) p ≡ processIn w p; own-is, held-is, row-is
 --   under-way-is : (w) → fits w ≡ true → word w 1 ≡ length (messagesIn w) → underWay (runOf w) ≡ messagesIn w
 --   kept-table, kept-count, kept-placed : (w) (p) → word w (heldAt p) ≤ 16 → ..; kept-at, kept-past, kept-none; placed-at, placed-past
+-- ViewBlank: (w) → ((k) → 1 ≤ k → k < 48 → word w k ≡ 0) → ((k) → 64 ≤ k → word w k ≡ 0) →
+--   blank-run : length w ≡ 6464 → runOf w ≡ blank (countOf w); blank-fits; blank-clean : (block counts from n on zero) → Clean w
 -- ViewChange: the three changes.
 --   with-process  : (w v) (p) → fits w ≡ true → p < countOf w → countOf w ≤ 16 → OnlyProcess w v p → word v (heldAt p) ≤ 16
 --                     → runOf v ≡ withProcess (runOf w) p (processIn v p); process-fits
@@ -24,7 +26,7 @@
 -- ViewClean: what keeps unused places zero (specs/Clean).
 --   clean-process : (w v) (p) → p < countOf w → countOf w ≤ 16 → OnlyProcess w v p → CleanKept v p → Clean w → Clean v
 --   clean-messages : (w v) → countOf w ≤ 16 → OnlyMessages w v → CleanMessages v → Clean w → Clean v
---   clean-disk    : (w v) → OnlyDisk w v → Clean w → Clean v; clean-zeros
+--   clean-disk    : (w v) → OnlyDisk w v → Clean w → Clean v
 -- ViewSound: what words hold whose run is sound.
 --   sound-words   : (w) → sound (runOf w) ≡ true → SoundWords w; sound-part : .. (p) → p < countOf w → SoundPart w p; sound-place; sound-known
 -- ViewSizes: vectors-size, vector-row-size, .., carried-size: the sizes of the arrays of runOf w, of all words w (the fields of plans' `Sized`).
@@ -34,6 +36,7 @@ pub mod Frames
 pub mod Reading
 pub mod Same
 pub mod View
+pub mod ViewBlank
 pub mod ViewChange
 pub mod ViewClean
 pub mod ViewSizes

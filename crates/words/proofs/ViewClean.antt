@@ -81,25 +81,3 @@ clean-disk w v only h =
       kept = λ q lt. clean-kept-same w v q (only .rest (heldAt q) (omega arith)) (λ k low under. only .rest k (omega arith)) (h .kept q (omega arith));
       messages = clean-messages-same w v (only .rest 12 (omega arith)) (λ k low. only .rest k (omega arith)) (h .messages);
     }
-
--- Zeros are clean.
-pub clean-zeros : (w : List ℕ) → ((k : ℕ) → 1 ≤ k → word w k ≡ 0) → Clean w
-clean-zeros w zeros = record {
-  spare = λ k low lt. zeros k (omega arith);
-  held = λ q le lt. zeros (heldAt q) (omega arith);
-  mark = λ q le lt. zeros (markAt q) (omega arith);
-  blocks = λ q le lt. zeros (blocksAt q) (omega arith);
-  part = λ q k le lt less. zeros (partAt q + k) (omega arith);
-  kept = λ q lt. record {
-    index = λ k le less. zeros (indexAt q k) (omega arith);
-    cause = λ k le less. zeros (causeAt q k) (omega arith);
-    vector = λ k f le less under. zeros (storedAt q k + f) (omega arith);
-  };
-  messages = record {
-    low = λ k lt e. zeros (lowAt k) (omega arith);
-    high = λ k lt e. zeros (highAt k) (omega arith);
-    sender = λ k lt e. zeros (senderAt k) (omega arith);
-    receiver = λ k lt e. zeros (receiverAt k) (omega arith);
-    vector = λ k f lt less e. zeros (carriedAt k + f) (omega arith);
-  };
-}
