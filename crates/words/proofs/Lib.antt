@@ -30,8 +30,10 @@
 -- ViewSound: what words hold whose run is sound.
 --   sound-words   : (w) → sound (runOf w) ≡ true → SoundWords w; sound-part : .. (p) → p < countOf w → SoundPart w p; sound-place; sound-known
 -- ViewSizes: vectors-size, vector-row-size, .., carried-size: the sizes of the arrays of runOf w, of all words w (the fields of plans' `Sized`).
+-- Drawn: words written out, whose run is computed: the layout tried on a start, a send and a checkpoint.
 -- Ascending: numbers that ascend along a list, and along what is selected of it, by index.
 pub mod Ascending
+pub mod Drawn
 pub mod Frames
 pub mod Reading
 pub mod Same

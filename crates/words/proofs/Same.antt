@@ -98,4 +98,4 @@ module _ (w v : List ℕ) (p : ℕ) (held : word w (heldAt p) ≡ word v (heldAt
 pub message-same : (w v : List ℕ) (k j : ℕ) → word w (lowAt k) ≡ word v (lowAt j) → word w (highAt k) ≡ word v (highAt j) → word w (senderAt k) ≡ word v (senderAt j)
     → word w (receiverAt k) ≡ word v (receiverAt j) → ((f : ℕ) → f < 16 → word w (carriedAt k + f) ≡ word v (carriedAt j + f)) → messageIn w k ≡ messageIn v j
 unfolding messageIn
-message-same w v k j a b c d e = rw (a, b, c, d, vector-same w v (carriedAt k) (carriedAt j) e)
+message-same w v k j a b c d e = cc (vector-same w v (carriedAt k) (carriedAt j) e)
