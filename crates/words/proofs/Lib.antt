@@ -5,6 +5,7 @@
 --   touched   : (w) (l) (n k q) → Hits w l n k q → word (puts w l) q ≡ nth l n .fill k             word k of put n stands at q
 --   puts-length, put-turn, put-none, set-is-put (a store is a put: `simp set-is-put`), wide2-back, wide4-back
 --   pin-some  : (x) → 1 ≤ x → pinOf x ≡ At (indexOf x); index-back, pin-back: the word a .0 + 1 of an index a
+--   names-word : (x y) → 1 ≤ y → names (pinOf x) (indexOf y) ≡ eqb x y; named-word
 -- Same: words that agree on a section are read the same there.
 --   row-same, vector-same, pins-same : (w v) (a b) → ((f) → f < 16 → word w (a + f) ≡ word v (b + f)) → rowIn w a ≡ rowIn v b, ..
 --   checkpoint-moved, checkpoint-same, kept-same, message-same; row-word, vector-word, vector-row; vector-is; vector-back, row-back
@@ -29,6 +30,9 @@
 --   clean-disk    : (w v) → OnlyDisk w v → Clean w → Clean v
 -- ViewSound: what words hold whose run is sound.
 --   sound-words   : (w) → sound (runOf w) ≡ true → SoundWords w; sound-part : .. (p) → p < countOf w → SoundPart w p; sound-place; sound-known
+-- ViewRows: (w) → sound (runOf w) ≡ true →
+--   vector-within, vector-zero, pins-zero, stored-within, stored-zero, pin-kept, kept-pinned : (p) → p < countOf w → ..
+--   carried-within, carried-zero : (k) → k < endOf w → isMessage (messageIn w k) ≡ true → (f) → ..
 -- ViewSizes: vectors-size, vector-row-size, .., carried-size: the sizes of the arrays of runOf w, of all words w (the fields of plans' `Sized`).
 -- Drawn: words written out, whose run is computed: the layout tried on a start, a send and a checkpoint.
 -- Ascending: numbers that ascend along a list, and along what is selected of it, by index.
@@ -41,5 +45,6 @@ pub mod View
 pub mod ViewBlank
 pub mod ViewChange
 pub mod ViewClean
+pub mod ViewRows
 pub mod ViewSizes
 pub mod ViewSound

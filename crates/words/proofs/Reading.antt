@@ -1,14 +1,18 @@
 -- Reading after puts: what was put, and what was not touched.
 -- Assumes nothing.
 use mathlib.Core.Path.{_≡_, refl, sym, _∙_, ap}
+use mathlib.Core.Bool.{true}
 use mathlib.Core.List.{List, [], _∷_}
 use Prim.Native.Nat.{ℕ, zero, suc, _+_, _-_, _*_, _/_, _%_, _≤_, _<_}
 use native.Mathlib.Nat.{add-zero, div-add-mod}
 use native.Mathlib.Numerals.{add-one}
 use native.Mathlib.Omega.{arith}
+use lib.Dec.{eqb}
 use lib.ListN.{length, getD, set, drop, length-set}
 use lib.Seq.{getD-set-same, getD-set-other}
+use borrow.Author.Tests.{eq-eqb, ne-eqb, eqb-true}
 use Rattle.laws.specs.Choice.{by-eq}
+use Rattle.model.specs.Words.{names}
 use Rattle.model.specs.declared.Pin.the-variants.{At}
 use Rattle.model.specs.declared.CheckpointIndex.{CheckpointIndex}
 use Rattle.words.specs.Layout.{word, indexOf, pinOf}
@@ -100,3 +104,14 @@ index-back a = ap (λ (m : ℕ). record { 0 = m }) (let e : a .0 + 1 - 1 ≡ a .
 
 pub pin-back : (a : CheckpointIndex) → pinOf (a .0 + 1) ≡ At a
 pin-back a = pin-some (a .0 + 1) (omega arith) ∙ ap At (index-back a)
+
+-- A pin names a checkpoint exactly if the two words are the same.
+pub names-word : (x y : ℕ) → 1 ≤ y → names (pinOf x) (indexOf y) ≡ eqb x y
+unfolding pinOf
+names-word zero y h = sym (ne-eqb 0 y (λ e. omega arith))
+names-word (suc x) y h = by-eq (suc x) y
+    (λ e. eq-eqb x (y - 1) (omega arith) ∙ sym (eq-eqb (suc x) y e))
+    (λ ne. ne-eqb x (y - 1) (λ e. ne (omega arith)) ∙ sym (ne-eqb (suc x) y ne))
+
+pub named-word : (x y : ℕ) → 1 ≤ y → names (pinOf x) (indexOf y) ≡ true → x ≡ y
+named-word x y h e = eqb-true x y (sym (names-word x y h) ∙ e)

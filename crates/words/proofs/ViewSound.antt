@@ -32,6 +32,7 @@ use Rattle.model.specs.laws.Sound.{SoundProcess, SoundState, SoundMessage, soun
 use Rattle.words.specs.Layout.{word, wide2, wide4, countOf, endOf, heldAt, blocksAt, partAt, pinsAt, indexAt, causeAt, storedAt, carriedAt, indexOf, intervalOf, pinOf, vectorIn, pinsIn, checkpointIn, keptIn, messageIn, isMessage, messagesIn, fits, runOf}
 use Rattle.words.specs.Parts.{processIn}
 use Rattle.words.proofs.Ascending.{ascending-least, ascending-less, selected-less, every-selected, selected-passes}
+use Rattle.words.proofs.Reading.{named-word}
 use Rattle.words.proofs.Same.{vector-length, vector-word, pins-length}
 use Rattle.words.proofs.View.{run-fits, run-unfit, fits-size, fits-end, end-most, kept-length, kept-at, kept-none, kept-table, kept-placed, placed-at, placed-past, count-is, underway-is, last-is, written-is, deleted-is, messages-is, messages-most, under-way-is, held-is, process-is, own-is}
 
@@ -196,16 +197,11 @@ module _ (w : List ℕ) (h : sound (runOf w) ≡ true) where
         (λ e. omega (arith, last-is-own, ap (λ (j : ℕ). word w (indexAt p j)) e))
         (λ ne. omega (arith, last-is-own, ascends k (word w (heldAt p) - 1) (omega arith) (omega arith)))
 
-    pin-names : (x y : ℕ) → 1 ≤ y → names (pinOf x) (record { 0 = y - 1 }) ≡ true → x ≡ y
-    unfolding pinOf
-    pin-names zero y one e = never-both false e refl
-    pin-names (suc x) y one e = omega (arith, eqb-true x (y - 1) e)
-
     own-named : word w (pinsAt p + p) ≡ word w (partAt p + p)
     unfolding processIn pinsIn
     own-named =
         let e = rw (sound-process-is, sound-own-is, getD-table 16 (λ f. pinOf (word w (pinsAt p + f))) p Nothing room) at (sound-known .own-pin) in
-        pin-names (word w (pinsAt p + p)) (word w (partAt p + p)) some-own e
+        named-word (word w (pinsAt p + p)) (word w (partAt p + p)) some-own e
 
     pub sound-part : SoundPart w p
     sound-part = record {

@@ -1,0 +1,136 @@
+-- What the rows of words hold whose run is sound: no entry above the own entry that it is of, zeros at n and above, each pin at a kept checkpoint and each kept
+-- checkpoint pinned.
+-- Assumes nothing.
+use mathlib.Core.Path.{_≡_, refl, sym, _∙_, ap}
+use mathlib.Core.Bool.{Bool, true, false, _&&_, not}
+use mathlib.Core.List.{List, [], _∷_}
+use Prim.Native.Nat.{ℕ, zero, suc, _+_, _-_, _*_, _≤_, _<_}
+use native.Mathlib.Omega.{arith}
+use lib.Dec.{eqb, leb}
+use lib.ListN.{length, getD, drop}
+use borrow.Author.Tests.{eqb-true, leb-true}
+use Rattle.laws.specs.Lists.{select, table}
+use Rattle.laws.specs.Rows.{every-at, every-behind, some-where}
+use Rattle.laws.specs.Search.{all-out}
+use Rattle.laws.specs.Tables.{length-table, getD-table}
+use Rattle.laws.specs.Tests.{every, some-of}
+use Rattle.laws.specs.Truth.{never-both}
+use Rattle.model.specs.declared.Interval.{Interval}
+use Rattle.model.specs.declared.CheckpointIndex.{CheckpointIndex}
+use Rattle.model.specs.declared.Pin.{Pin}
+use Rattle.model.specs.declared.Pin.the-variants.{Nothing, At}
+use Rattle.model.specs.declared.Checkpoint.{Checkpoint}
+use Rattle.model.specs.declared.Message.{Message}
+use Rattle.model.specs.declared.Run.{Run}
+use Rattle.model.specs.Words.{entry, names, named, Process, noCheckpoint, noMessage, process, own, underWay}
+use Rattle.model.specs.Sound.{within, pinSound, zeroFrom, nothingFrom, isNothing, sound}
+use Rattle.model.specs.laws.Sound.{sound-state}
+use Rattle.words.specs.Layout.{word, countOf, endOf, heldAt, partAt, pinsAt, indexAt, storedAt, carriedAt, intervalOf, pinOf, vectorIn, pinsIn, checkpointIn, messageIn, isMessage, messagesIn, runOf}
+use Rattle.words.specs.Parts.{processIn}
+use Rattle.words.proofs.Ascending.{every-selected}
+use Rattle.words.proofs.Reading.{named-word}
+use Rattle.words.proofs.Same.{vector-length, vector-word, pins-length}
+use Rattle.words.proofs.View.{count-is}
+use Rattle.words.proofs.ViewSound.{sound-fits, sound-few, sound-known, sound-process-is, sound-own-is, sound-kept-is, sound-part, sound-under-way}
+
+pin-zero : (x : ℕ) → isNothing (pinOf x) ≡ true → x ≡ 0
+unfolding pinOf isNothing
+pin-zero zero e = refl
+pin-zero (suc x) e = never-both false e refl
+
+pin-some : (kept : List Checkpoint) (x : ℕ) → 1 ≤ x → pinSound kept (pinOf x) ≡ true → some-of (λ c. names (pinOf x) (c .index)) kept ≡ true
+unfolding pinSound pinOf
+pin-some kept zero one e = absurd (omega arith)
+pin-some kept (suc x) one e = e
+
+pins-word : (w : List ℕ) (at f : ℕ) → f < 16 → getD (pinsIn w at) f Nothing ≡ pinOf (word w (at + f))
+unfolding pinsIn
+pins-word w at f lt = getD-table 16 (λ q. pinOf (word w (at + q))) f Nothing lt
+
+module _ (w : List ℕ) (h : sound (runOf w) ≡ true) where
+  count : runOf w .count ≡ countOf w
+  count = count-is w (sound-fits w h)
+
+  within-word : (at : ℕ) → within (runOf w) (vectorIn w at) ≡ true → (f : ℕ) → f < countOf w → word w (at + f) ≤ word w (partAt f + f)
+  unfolding within
+  within-word at e f lt =
+      let one = leb-true (entry (vectorIn w at) f .0) (own (runOf w) f .0) (all-out (runOf w .count) (λ q. leb (entry (vectorIn w at) q .0) (own (runOf w) q .0)) e f (omega (arith, count))) in
+      omega (arith, ap (λ (x : Interval). x .0) (vector-word w at f (omega (arith, sound-few w h))), ap (λ (x : Interval). x .0) (sound-own-is w h f lt))
+
+  zero-word : (at : ℕ) → zeroFrom (runOf w .count) (vectorIn w at) ≡ true → (f : ℕ) → countOf w ≤ f → f < 16 → word w (at + f) ≡ 0
+  unfolding zeroFrom
+  zero-word at e f le lt =
+      let one = every-behind (λ (x : Interval). eqb (x .0) 0) (runOf w .count) (vectorIn w at) f (record { 0 = 0 }) e (omega (arith, count)) (omega (arith, vector-length w at)) in
+      eqb-true (word w (at + f)) 0 (rw (vector-word w at f lt) at one)
+
+  module _ (p : ℕ) (lt : p < countOf w) where
+    -- "No vector (current, stored ..) has an entry for f above f's own current entry." Unused places hold zero.
+    pub vector-within : (f : ℕ) → f < countOf w → word w (partAt p + f) ≤ word w (partAt f + f)
+    unfolding processIn
+    vector-within = within-word (partAt p) (rw (sound-process-is w h p lt) at (sound-known w h p lt .current-within))
+
+    pub vector-zero : (f : ℕ) → countOf w ≤ f → f < 16 → word w (partAt p + f) ≡ 0
+    unfolding processIn
+    vector-zero = zero-word (partAt p) (rw (sound-process-is w h p lt) at (sound-known w h p lt .vector-unused))
+
+    pub pins-zero : (f : ℕ) → countOf w ≤ f → f < 16 → word w (pinsAt p + f) ≡ 0
+    unfolding processIn nothingFrom
+    pins-zero f le less =
+        let e = rw (sound-process-is w h p lt) at (sound-known w h p lt .pins-unused) in
+        let one = every-behind isNothing (runOf w .count) (pinsIn w (pinsAt p)) f Nothing e (omega (arith, count)) (omega (arith, pins-length w (pinsAt p))) in
+        pin-zero (word w (pinsAt p + f)) (rw (pins-word w (pinsAt p) f less) at one)
+
+    -- a test that every kept checkpoint passes, in its place
+    kept-fact : (t : Checkpoint → Bool) → every t (process (runOf w) p .kept) ≡ true → (k : ℕ) → k < word w (heldAt p) → t (checkpointIn w p k) ≡ true
+    kept-fact t e k less =
+        let all : every t (table (word w (heldAt p)) (checkpointIn w p)) ≡ true = rw (sound-kept-is w h p lt) at e in
+        let one = every-at t (table (word w (heldAt p)) (checkpointIn w p)) k noCheckpoint (omega (arith, length-table (word w (heldAt p)) (checkpointIn w p))) all in
+        rw (getD-table (word w (heldAt p)) (checkpointIn w p) k noCheckpoint less) at one
+
+    pub stored-within : (k : ℕ) → k < word w (heldAt p) → (f : ℕ) → f < countOf w → word w (storedAt p k + f) ≤ word w (partAt f + f)
+    unfolding checkpointIn
+    stored-within k less = within-word (storedAt p k) (kept-fact (λ c. within (runOf w) (c .vector)) (sound-known w h p lt .stored-within) k less)
+
+    pub stored-zero : (k : ℕ) → k < word w (heldAt p) → (f : ℕ) → countOf w ≤ f → f < 16 → word w (storedAt p k + f) ≡ 0
+    unfolding checkpointIn
+    stored-zero k less = zero-word (storedAt p k) (kept-fact (λ c. zeroFrom (runOf w .count) (c .vector)) (sound-known w h p lt .stored-unused) k less)
+
+    -- "Every pin is none or names a kept one; every kept one is pinned."
+    pub pin-kept : (f : ℕ) → f < 16 → 1 ≤ word w (pinsAt p + f) → (k : ℕ) × (k < word w (heldAt p)) × (word w (indexAt p k) ≡ word w (pinsAt p + f))
+    unfolding processIn checkpointIn
+    pin-kept f less one =
+        let x = word w (pinsAt p + f) in
+        let row = table (word w (heldAt p)) (checkpointIn w p) in
+        let e = rw (sound-process-is w h p lt) at (sound-known w h p lt .pins-kept) in
+        let here = every-at (pinSound (processIn w p .kept)) (pinsIn w (pinsAt p)) f Nothing (omega (arith, pins-length w (pinsAt p))) e in
+        let some = pin-some (processIn w p .kept) x one (rw (pins-word w (pinsAt p) f less) at here) in
+        let found = some-where (λ (c : Checkpoint). names (pinOf x) (c .index)) row noCheckpoint (rw (sound-part w h p lt .kept-is) at some) in
+        let under : found .0 < word w (heldAt p) = omega (arith, found .1, length-table (word w (heldAt p)) (checkpointIn w p)) in
+        let named-here = rw (getD-table (word w (heldAt p)) (checkpointIn w p) (found .0) noCheckpoint under) at (found .2) in
+        (found .0, under, sym (named-word x (word w (indexAt p (found .0))) (sound-part w h p lt .used (found .0) under) named-here))
+
+    pub kept-pinned : (k : ℕ) → k < word w (heldAt p) → (f : ℕ) × (f < 16) × (word w (pinsAt p + f) ≡ word w (indexAt p k))
+    unfolding processIn checkpointIn named
+    kept-pinned k less =
+        let e = kept-fact (named (process (runOf w) p .pins)) (sound-known w h p lt .kept-pinned) k less in
+        let some = rw (sound-process-is w h p lt) at e in
+        let found = some-where (λ (pin : Pin). names pin (checkpointIn w p k .index)) (pinsIn w (pinsAt p)) Nothing some in
+        let under : found .0 < 16 = omega (arith, found .1, pins-length w (pinsAt p)) in
+        (found .0, under, named-word (word w (pinsAt p + found .0)) (word w (indexAt p k)) (sound-part w h p lt .used k less) (rw (pins-word w (pinsAt p) (found .0) under) at (found .2)))
+
+  -- "No vector (.. carried) has an entry for f above f's own current entry."
+  module _ (k : ℕ) (lt : k < endOf w) (used : isMessage (messageIn w k) ≡ true) where
+    carried-fact : (t : Message → Bool) → every t (underWay (runOf w)) ≡ true → t (messageIn w k) ≡ true
+    unfolding messagesIn
+    carried-fact t e =
+        let all = rw (sound-under-way w h) at e in
+        let here = getD-table (endOf w) (messageIn w) k noMessage lt in
+        rw here at (every-selected isMessage t (table (endOf w) (messageIn w)) k noMessage all (omega (arith, length-table (endOf w) (messageIn w))) (rw here used))
+
+    pub carried-within : (f : ℕ) → f < countOf w → word w (carriedAt k + f) ≤ word w (partAt f + f)
+    unfolding messageIn
+    carried-within = within-word (carriedAt k) (carried-fact (λ x. within (runOf w) (x .vector)) (sound-state (runOf w) h .carried-within))
+
+    pub carried-zero : (f : ℕ) → countOf w ≤ f → f < 16 → word w (carriedAt k + f) ≡ 0
+    unfolding messageIn
+    carried-zero = zero-word (carriedAt k) (carried-fact (λ x. zeroFrom (runOf w .count) (x .vector)) (sound-state (runOf w) h .carried-unused))
