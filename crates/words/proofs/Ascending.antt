@@ -1,7 +1,7 @@
 -- Numbers that ascend along a list, and along the elements of a list that pass a test: by index.
 -- Assumes nothing.
 use mathlib.Core.Path.{_≡_, refl, _∙_, ap}
-use mathlib.Core.Bool.{Bool, true, false, _&&_}
+use mathlib.Core.Bool.{Bool, true}
 use mathlib.Core.List.{List, [], _∷_, map}
 use Prim.Native.Nat.{ℕ, zero, suc, _≤_, _<_}
 use native.Mathlib.Omega.{arith}
@@ -11,7 +11,7 @@ use borrow.Author.Tests.{leb-true}
 use Rattle.laws.specs.Choice.{pick, by-bool}
 use Rattle.laws.specs.Lists.{select}
 use Rattle.laws.specs.Tests.{every}
-use Rattle.laws.specs.Truth.{and-left, and-right, never-both}
+use Rattle.laws.specs.Truth.{and-left, and-right}
 use Rattle.model.specs.Sound.{ascending}
 
 module _ {A : Type 0} (number : A → ℕ) (d : A) where

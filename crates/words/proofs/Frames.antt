@@ -2,9 +2,8 @@
 -- Assumes nothing.
 use mathlib.Core.Path.{_≡_, refl, _∙_}
 use mathlib.Core.List.{List}
-use Prim.Native.Nat.{ℕ, _+_, _*_, _≤_, _<_}
+use Prim.Native.Nat.{ℕ, _+_, _≤_, _<_}
 use native.Mathlib.Omega.{arith}
-use lib.ListN.{length}
 use Rattle.laws.specs.Rows.{by-lt}
 use Rattle.words.specs.Layout.{word, heldAt, markAt, blocksAt, partAt}
 use Rattle.words.specs.Frames.{OnlyProcess, OnlyMessages, OnlyDisk}

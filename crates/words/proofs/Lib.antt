@@ -24,6 +24,12 @@
 --   with-messages : (w v) → OnlyMessages w v → fits w ≡ true → endFits v ≡ true → word v 1 ≡ length (messagesIn v)
 --                     → runOf v ≡ withMessages (runOf w) (messagesIn v) (wide2 v 2); messages-fit
 --   with-disk     : (w v) → OnlyDisk w v → fits w ≡ true → runOf v ≡ withDisk (runOf w) (record { written = wide4 v 4; deleted = wide4 v 8 }); disk-fits
+-- ViewParts: a process put together, what each change leaves, and process after process.
+--   process-by    : (w) (p) (P) → vectorIn w (partAt p) ≡ P .vector → pinsIn w (pinsAt p) ≡ P .pins → markIn w p ≡ P .mark
+--                     → take (word w (heldAt p)) (keptIn w p) ≡ P .kept → processIn w p ≡ P; pins-is, mark-set, mark-clear, process-same
+--   process-keeps, process-keeps-messages, messages-keep, disk-keeps, disk-keeps-messages : processIn and messagesIn of what did not change
+--   with-processes-turn : (w v) (k) (f) (s) → fits w ≡ true → k < countOf w → countOf w ≤ 16 → OnlyProcess w v k → word v (heldAt k) ≤ 16
+--                     → processIn v k ≡ f k → runOf w ≡ withProcesses k f s → runOf v ≡ withProcesses (k + 1) f s; with-processes-none
 -- ViewClean: what keeps unused places zero (specs/Clean).
 --   clean-process : (w v) (p) → p < countOf w → countOf w ≤ 16 → OnlyProcess w v p → CleanKept v p → Clean w → Clean v
 --   clean-messages : (w v) → countOf w ≤ 16 → OnlyMessages w v → CleanMessages v → Clean w → Clean v
@@ -45,6 +51,7 @@ pub mod View
 pub mod ViewBlank
 pub mod ViewChange
 pub mod ViewClean
+pub mod ViewParts
 pub mod ViewRows
 pub mod ViewSizes
 pub mod ViewSound

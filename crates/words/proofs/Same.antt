@@ -1,19 +1,13 @@
 -- Words that agree on a section are read the same there, and what was put is read back.
 -- Assumes nothing.
 use mathlib.Core.Path.{_≡_, refl, sym, _∙_, ap}
-use mathlib.Core.Bool.{Bool, _&&_, not}
 use mathlib.Core.List.{List, [], _∷_}
 use Prim.Native.Nat.{ℕ, _+_, _*_, _≤_, _<_}
 use native.Mathlib.Omega.{arith}
-use lib.Dec.{eqb, ltb}
 use lib.ListN.{length, getD}
-use Rattle.laws.specs.Choice.{pick}
-use Rattle.laws.specs.Lists.{table}
 use Rattle.laws.specs.Tables.{length-table, getD-table, table-same, table-is}
 use Rattle.model.specs.declared.Interval.{Interval}
-use Rattle.model.specs.declared.Checkpoint.{Checkpoint}
-use Rattle.model.specs.declared.Message.{Message}
-use Rattle.model.specs.Words.{places, entry, noCheckpoint}
+use Rattle.model.specs.Words.{entry}
 use Rattle.words.specs.Layout.{word, heldAt, blocksAt, indexAt, causeAt, storedAt, lowAt, highAt, senderAt, receiverAt, carriedAt, intervalOf, pinOf, rowIn, vectorIn, pinsIn, checkpointIn, isKeptIn, keptIn, messageIn}
 use Rattle.words.specs.Puts.{puts, rowPut, vectorPut}
 use Rattle.words.proofs.Reading.{touched}

@@ -1,29 +1,26 @@
 -- What the run that words stand for holds: its count, each process's part, own entries, the messages under way; and the sizes of its parts.
 -- Assumes nothing.
-use mathlib.Core.Path.{_≡_, refl, sym, _∙_, ap}
-use mathlib.Core.Bool.{Bool, true, false, _&&_}
+use mathlib.Core.Path.{_≡_, sym, _∙_, ap}
+use mathlib.Core.Bool.{true, false}
 use mathlib.Core.List.{List, [], _++_}
-use Prim.Native.Nat.{ℕ, zero, suc, _+_, _-_, _*_, _≤_, _<_}
+use Prim.Native.Nat.{ℕ, _+_, _-_, _≤_, _<_}
 use native.Mathlib.Omega.{arith}
 use lib.Dec.{eqb, ltb, leb}
-use lib.ListN.{length, getD, take, replicate, length-append, length-replicate, getD-replicate, List·getD-append}
+use lib.ListN.{length, getD, take, replicate, getD-replicate, List·getD-append}
 use lib.Seq.{length-take-le, getD-take, getD-append-add, ext-getD}
 use borrow.Author.Tests.{lt-ltb, le-ltb, eqb-true, eq-eqb, ne-eqb, leb-true}
 use Rattle.laws.specs.Choice.{pick, by-bool}
-use Rattle.laws.specs.Lists.{select, table, placed}
+use Rattle.laws.specs.Lists.{table, placed}
 use Rattle.laws.specs.Prefixes.{placed-length}
 use Rattle.laws.specs.Rows.{by-lt}
 use Rattle.laws.specs.Select.{select-length}
-use Rattle.laws.specs.Tables.{length-table, getD-table, table-same, table-is, take-placed}
+use Rattle.laws.specs.Tables.{length-table, getD-table, table-is, take-placed}
 use Rattle.laws.specs.Truth.{and-out}
-use Rattle.model.specs.declared.Interval.{Interval}
-use Rattle.model.specs.declared.Checkpoint.{Checkpoint}
-use Rattle.model.specs.declared.Message.{Message}
 use Rattle.model.specs.declared.Run.{Run}
-use Rattle.model.specs.Words.{places, mostUnderWay, entry, Process, zeroVector, noPins, noCheckpoint, noMessage, blank, process, own, underWay}
+use Rattle.model.specs.Words.{places, mostUnderWay, zeroVector, noPins, noCheckpoint, noMessage, blank, process, own, underWay}
 use Rattle.words.specs.Layout.{size, word, wide2, wide4, countOf, endOf, heldAt, indexAt, partAt, pinsAt, intervalOf, vectorIn, pinsIn, markIn, checkpointIn, isKeptIn, keptIn, messageIn, isMessage, messagesIn, ofProcesses, decoded, endFits, fits, runOf}
 use Rattle.words.specs.Parts.{processIn}
-use Rattle.words.proofs.Same.{vector-length, vector-word, pins-length}
+use Rattle.words.proofs.Same.{vector-word}
 
 -- Words that fit are decoded, all others are a state of zeros.
 pub run-fits : (w : List ℕ) → fits w ≡ true → runOf w ≡ decoded w

@@ -1,25 +1,21 @@
 -- Words of zeros but for n and for block counts: "a state of zeros with every pin none", with its count. A start goes on from here, process by process.
 -- Assumes nothing.
 use mathlib.Core.Path.{_≡_, refl, sym, _∙_, ap}
-use mathlib.Core.Bool.{Bool, true, false, _&&_, _||_, not}
+use mathlib.Core.Bool.{true, false}
 use mathlib.Core.List.{List, []}
-use Prim.Native.Nat.{ℕ, zero, _+_, _-_, _*_, _≤_, _<_}
+use Prim.Native.Nat.{ℕ, _+_, _-_, _≤_, _<_}
 use native.Mathlib.Omega.{arith}
-use lib.Dec.{eqb, ltb, leb}
-use lib.ListN.{length, getD, replicate, getD-replicate}
+use lib.Dec.{ltb}
+use lib.ListN.{length, replicate, getD-replicate}
 use borrow.Author.Tests.{le-ltb}
 use Rattle.laws.specs.Choice.{pick, pick-same}
-use Rattle.laws.specs.Lists.{select, table, placed}
+use Rattle.laws.specs.Lists.{select, table}
 use Rattle.laws.specs.Prefixes.{placed-none}
 use Rattle.laws.specs.Tables.{table-same, table-replicate}
 use Rattle.model.specs.declared.Interval.{Interval}
-use Rattle.model.specs.declared.Pin.{Pin}
 use Rattle.model.specs.declared.Pin.the-variants.{Nothing}
-use Rattle.model.specs.declared.Checkpoint.{Checkpoint}
-use Rattle.model.specs.declared.Message.{Message}
-use Rattle.model.specs.declared.Run.{Run}
-use Rattle.model.specs.Words.{places, mostUnderWay, entry, zeroVector, noPins, noCheckpoint, noMessage, blank}
-use Rattle.words.specs.Layout.{word, countOf, endOf, heldAt, markAt, blocksAt, partAt, pinsAt, indexAt, causeAt, storedAt, lowAt, highAt, senderAt, receiverAt, carriedAt, pinOf, vectorIn, pinsIn, markIn, checkpointIn, isKeptIn, keptIn, messageIn, isMessage, messagesIn, ofProcesses, decoded, endFits, fits, runOf}
+use Rattle.model.specs.Words.{places, mostUnderWay, zeroVector, noPins, noCheckpoint, noMessage, blank}
+use Rattle.words.specs.Layout.{word, countOf, heldAt, markAt, blocksAt, partAt, pinsAt, indexAt, causeAt, storedAt, lowAt, highAt, senderAt, receiverAt, carriedAt, pinOf, vectorIn, pinsIn, markIn, checkpointIn, isKeptIn, keptIn, messagesIn, ofProcesses, decoded, endFits, fits, runOf}
 use Rattle.words.specs.Clean.{Clean}
 use Rattle.words.proofs.Same.{vector-is}
 use Rattle.words.proofs.View.{run-fits, fits-by}

@@ -1,23 +1,19 @@
 -- Words that agree outside of one process, outside of the messages, or outside of the two numbers of blocks stand for runs that differ there alone.
 -- Assumes nothing.
 use mathlib.Core.Path.{_≡_, refl, sym, _∙_, ap}
-use mathlib.Core.Bool.{Bool, true, false, _&&_, _||_, not}
-use mathlib.Core.List.{List, []}
-use Prim.Native.Nat.{ℕ, _+_, _-_, _*_, _≤_, _<_}
+use mathlib.Core.Bool.{true, false}
+use mathlib.Core.List.{List}
+use Prim.Native.Nat.{ℕ, _+_, _-_, _≤_, _<_}
 use native.Mathlib.Omega.{arith}
-use lib.Dec.{eqb, ltb, leb}
-use lib.ListN.{length, getD, set, replicate}
+use lib.Dec.{ltb}
+use lib.ListN.{length, set, replicate}
 use borrow.Author.Tests.{lt-ltb}
 use Rattle.laws.specs.Choice.{pick, by-eq}
-use Rattle.laws.specs.Lists.{select, table, placed}
+use Rattle.laws.specs.Lists.{select}
 use Rattle.laws.specs.Tables.{table-same, table-set}
 use Rattle.laws.specs.Update.{upd, upd-same, upd-other}
-use Rattle.model.specs.declared.Interval.{Interval}
-use Rattle.model.specs.declared.Pin.{Pin}
-use Rattle.model.specs.declared.Checkpoint.{Checkpoint}
-use Rattle.model.specs.declared.Message.{Message}
 use Rattle.model.specs.declared.Run.{Run}
-use Rattle.model.specs.Words.{places, mostUnderWay, zeroVector, noPins, noCheckpoint, noMessage, process, withProcess, withMessages, withDisk}
+use Rattle.model.specs.Words.{places, zeroVector, noPins, noCheckpoint, withProcess, withMessages, withDisk}
 use Rattle.words.specs.Layout.{word, wide2, wide4, countOf, endOf, heldAt, markAt, blocksAt, partAt, pinsAt, lowAt, highAt, senderAt, receiverAt, carriedAt, vectorIn, pinsIn, markIn, keptIn, messageIn, isMessage, messagesIn, ofProcesses, decoded, endFits, fits, runOf}
 use Rattle.words.specs.Parts.{processIn}
 use Rattle.words.specs.Frames.{OnlyProcess, OnlyMessages, OnlyDisk}

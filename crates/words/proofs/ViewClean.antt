@@ -1,14 +1,11 @@
 -- What keeps unused places zero: for each of the three changes, what has to be shown of the places that it touches.
 -- Assumes nothing.
-use mathlib.Core.Path.{_≡_, refl, sym, _∙_, ap}
-use mathlib.Core.Bool.{Bool, true, false, _&&_}
+use mathlib.Core.Path.{_≡_, sym, _∙_}
 use mathlib.Core.List.{List}
-use Prim.Native.Nat.{ℕ, _+_, _*_, _≤_, _<_}
+use Prim.Native.Nat.{ℕ, _+_, _≤_, _<_}
 use native.Mathlib.Omega.{arith}
-use lib.Dec.{ltb}
-use lib.ListN.{length}
 use Rattle.laws.specs.Choice.{by-eq}
-use Rattle.words.specs.Layout.{word, countOf, endOf, heldAt, markAt, blocksAt, partAt, indexAt, causeAt, storedAt, lowAt, highAt, senderAt, receiverAt, carriedAt, messageIn, isMessage}
+use Rattle.words.specs.Layout.{word, countOf, endOf, heldAt, markAt, blocksAt, partAt, indexAt, causeAt, storedAt, lowAt, highAt, senderAt, receiverAt, carriedAt}
 use Rattle.words.specs.Parts.{isUsedIn}
 use Rattle.words.specs.Frames.{OnlyProcess, OnlyMessages, OnlyDisk}
 use Rattle.words.specs.Clean.{CleanKept, CleanMessages, Clean}

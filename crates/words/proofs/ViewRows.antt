@@ -1,31 +1,29 @@
 -- What the rows of words hold whose run is sound: no entry above the own entry that it is of, zeros at n and above, each pin at a kept checkpoint and each kept
 -- checkpoint pinned.
 -- Assumes nothing.
-use mathlib.Core.Path.{_≡_, refl, sym, _∙_, ap}
-use mathlib.Core.Bool.{Bool, true, false, _&&_, not}
-use mathlib.Core.List.{List, [], _∷_}
-use Prim.Native.Nat.{ℕ, zero, suc, _+_, _-_, _*_, _≤_, _<_}
+use mathlib.Core.Path.{_≡_, refl, sym, ap}
+use mathlib.Core.Bool.{Bool, true, false}
+use mathlib.Core.List.{List}
+use Prim.Native.Nat.{ℕ, zero, suc, _+_, _-_, _≤_, _<_}
 use native.Mathlib.Omega.{arith}
 use lib.Dec.{eqb, leb}
-use lib.ListN.{length, getD, drop}
+use lib.ListN.{getD}
 use borrow.Author.Tests.{eqb-true, leb-true}
-use Rattle.laws.specs.Lists.{select, table}
+use Rattle.laws.specs.Lists.{table}
 use Rattle.laws.specs.Rows.{every-at, every-behind, some-where}
 use Rattle.laws.specs.Search.{all-out}
 use Rattle.laws.specs.Tables.{length-table, getD-table}
 use Rattle.laws.specs.Tests.{every, some-of}
 use Rattle.laws.specs.Truth.{never-both}
 use Rattle.model.specs.declared.Interval.{Interval}
-use Rattle.model.specs.declared.CheckpointIndex.{CheckpointIndex}
 use Rattle.model.specs.declared.Pin.{Pin}
-use Rattle.model.specs.declared.Pin.the-variants.{Nothing, At}
+use Rattle.model.specs.declared.Pin.the-variants.{Nothing}
 use Rattle.model.specs.declared.Checkpoint.{Checkpoint}
 use Rattle.model.specs.declared.Message.{Message}
-use Rattle.model.specs.declared.Run.{Run}
-use Rattle.model.specs.Words.{entry, names, named, Process, noCheckpoint, noMessage, process, own, underWay}
+use Rattle.model.specs.Words.{entry, names, named, noCheckpoint, noMessage, process, own, underWay}
 use Rattle.model.specs.Sound.{within, pinSound, zeroFrom, nothingFrom, isNothing, sound}
 use Rattle.model.specs.laws.Sound.{sound-state}
-use Rattle.words.specs.Layout.{word, countOf, endOf, heldAt, partAt, pinsAt, indexAt, storedAt, carriedAt, intervalOf, pinOf, vectorIn, pinsIn, checkpointIn, messageIn, isMessage, messagesIn, runOf}
+use Rattle.words.specs.Layout.{word, countOf, endOf, heldAt, partAt, pinsAt, indexAt, storedAt, carriedAt, pinOf, vectorIn, pinsIn, checkpointIn, messageIn, isMessage, messagesIn, runOf}
 use Rattle.words.specs.Parts.{processIn}
 use Rattle.words.proofs.Ascending.{every-selected}
 use Rattle.words.proofs.Reading.{named-word}

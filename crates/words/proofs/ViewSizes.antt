@@ -1,22 +1,21 @@
 -- The sizes of the arrays of the run that words stand for: 16 rows of 16 places, 64 messages, each vector of 16. They hold of all words.
 -- Assumes nothing.
-use mathlib.Core.Path.{_≡_, refl, sym, _∙_, ap}
-use mathlib.Core.Bool.{Bool, true, false}
+use mathlib.Core.Path.{_≡_, refl, _∙_, ap}
+use mathlib.Core.Bool.{true}
 use mathlib.Core.List.{List, []}
-use Prim.Native.Nat.{ℕ, _+_, _*_, _≤_, _<_}
+use Prim.Native.Nat.{ℕ, _<_}
 use native.Mathlib.Omega.{arith}
-use lib.ListN.{length, getD, replicate, length-replicate, getD-replicate}
+use lib.ListN.{length, getD, replicate, getD-replicate}
 use Rattle.laws.specs.Choice.{pick, by-bool}
-use Rattle.laws.specs.Lists.{select, table, placed}
+use Rattle.laws.specs.Lists.{table}
 use Rattle.laws.specs.Prefixes.{placed-length}
-use Rattle.laws.specs.Rows.{by-lt, every-at}
+use Rattle.laws.specs.Rows.{by-lt}
 use Rattle.laws.specs.Tables.{length-table, getD-table}
-use Rattle.laws.specs.Tests.{every}
 use Rattle.model.specs.declared.Checkpoint.{Checkpoint}
 use Rattle.model.specs.declared.Message.{Message}
 use Rattle.model.specs.declared.Run.{Run}
 use Rattle.model.specs.Words.{places, mostUnderWay, zeroVector, noPins, noCheckpoint, noMessage, blank}
-use Rattle.words.specs.Layout.{word, countOf, endOf, heldAt, partAt, pinsAt, storedAt, carriedAt, vectorIn, pinsIn, markIn, checkpointIn, isKeptIn, keptIn, messageIn, isMessage, messagesIn, ofProcesses, decoded, fits, runOf}
+use Rattle.words.specs.Layout.{countOf, endOf, partAt, pinsAt, storedAt, carriedAt, vectorIn, pinsIn, checkpointIn, isKeptIn, keptIn, messageIn, isMessage, messagesIn, ofProcesses, decoded, fits, runOf}
 use Rattle.words.proofs.Ascending.{selected-where}
 use Rattle.words.proofs.Same.{vector-length, pins-length}
 use Rattle.words.proofs.View.{run-fits, run-unfit, part-is, part-past, kept-length, placed-at, placed-past, messages-most}

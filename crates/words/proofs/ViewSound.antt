@@ -1,40 +1,36 @@
 -- What words hold whose run is sound: each clause of document 01's "A sound state", place by place.
 -- Assumes nothing.
-use mathlib.Core.Path.{_≡_, refl, sym, _∙_, ap}
-use mathlib.Core.Bool.{Bool, true, false, _&&_, not}
-use mathlib.Core.List.{List, [], _∷_, _++_, map}
-use mathlib.Core.Option.{Option, some}
-use Prim.Native.Nat.{ℕ, zero, suc, _+_, _-_, _*_, _≤_, _<_}
+use mathlib.Core.Path.{_≡_, sym, _∙_, ap}
+use mathlib.Core.Bool.{true, _&&_}
+use mathlib.Core.List.{List, map}
+use mathlib.Core.Option.{some}
+use Prim.Native.Nat.{ℕ, suc, _+_, _-_, _≤_, _<_}
 use native.Mathlib.Omega.{arith}
 use lib.Dec.{eqb, leb}
-use lib.ListN.{length, getD, take, drop, replicate}
+use lib.ListN.{length, getD, take}
 use lib.Seq.{getD-take, length-take-le}
-use borrow.Author.Tests.{eqb-true, eqb-false, leb-true, not-true, eq-eqb, ne-eqb}
-use Rattle.laws.specs.Choice.{pick, by-bool, by-eq}
-use Rattle.laws.specs.Lists.{select, orElse, lastOf, table, placed}
+use borrow.Author.Tests.{eqb-true, eqb-false, leb-true, not-true}
+use Rattle.laws.specs.Choice.{by-bool, by-eq}
+use Rattle.laws.specs.Lists.{select, lastOf, table, placed}
 use Rattle.laws.specs.Prefixes.{placed-length}
-use Rattle.laws.specs.Rows.{by-lt, every-at, every-behind, some-where}
-use Rattle.laws.specs.Search.{all-out}
+use Rattle.laws.specs.Rows.{by-lt, every-at, every-behind}
 use Rattle.laws.specs.Select.{lastOf-snoc}
 use Rattle.laws.specs.Tables.{length-table, getD-table}
-use Rattle.laws.specs.Tests.{every, some-of}
-use Rattle.laws.specs.Truth.{and-out, never-both}
+use Rattle.laws.specs.Tests.{every}
+use Rattle.laws.specs.Truth.{and-out}
 use Rattle.model.specs.declared.Interval.{Interval}
-use Rattle.model.specs.declared.CheckpointIndex.{CheckpointIndex}
-use Rattle.model.specs.declared.Pin.{Pin}
-use Rattle.model.specs.declared.Pin.the-variants.{Nothing, At}
+use Rattle.model.specs.declared.Pin.the-variants.{Nothing}
 use Rattle.model.specs.declared.Checkpoint.{Checkpoint}
 use Rattle.model.specs.declared.Message.{Message}
-use Rattle.model.specs.declared.Run.{Run}
-use Rattle.model.specs.Words.{places, mostUnderWay, mostMessages, mostBlockCount, mostBlocks, entry, lastStored, names, named, Process, noCheckpoint, noMessage, blockCount, blank, process, own, underWay}
-use Rattle.model.specs.Sound.{within, pinSound, ascending, messageSound, zeroFrom, nothingFrom, isNothing, unusedMessage, causeSound, isBlockCount, recordSound, keptBlocks, sound}
-use Rattle.model.specs.laws.Sound.{SoundProcess, SoundState, SoundMessage, sound-message, sound-state}
-use Rattle.words.specs.Layout.{word, wide2, wide4, countOf, endOf, heldAt, blocksAt, partAt, pinsAt, indexAt, causeAt, storedAt, carriedAt, indexOf, intervalOf, pinOf, vectorIn, pinsIn, checkpointIn, keptIn, messageIn, isMessage, messagesIn, fits, runOf}
+use Rattle.model.specs.Words.{places, mostUnderWay, mostMessages, mostBlockCount, mostBlocks, entry, Process, noCheckpoint, noMessage, blockCount, blank, process, own, underWay}
+use Rattle.model.specs.Sound.{ascending, messageSound, unusedMessage, causeSound, isBlockCount, recordSound, sound}
+use Rattle.model.specs.laws.Sound.{SoundProcess, SoundState, sound-message, sound-state}
+use Rattle.words.specs.Layout.{word, wide2, wide4, countOf, endOf, heldAt, blocksAt, partAt, pinsAt, indexAt, storedAt, intervalOf, pinOf, vectorIn, pinsIn, checkpointIn, keptIn, messageIn, isMessage, messagesIn, fits, runOf}
 use Rattle.words.specs.Parts.{processIn}
 use Rattle.words.proofs.Ascending.{ascending-least, ascending-less, selected-less, every-selected, selected-passes}
 use Rattle.words.proofs.Reading.{named-word}
-use Rattle.words.proofs.Same.{vector-length, vector-word, pins-length}
-use Rattle.words.proofs.View.{run-fits, run-unfit, fits-size, fits-end, end-most, kept-length, kept-at, kept-none, kept-table, kept-placed, placed-at, placed-past, count-is, underway-is, last-is, written-is, deleted-is, messages-is, messages-most, under-way-is, held-is, process-is, own-is}
+use Rattle.words.proofs.Same.{vector-word}
+use Rattle.words.proofs.View.{run-unfit, fits-size, fits-end, end-most, kept-length, kept-at, kept-none, kept-table, kept-placed, placed-at, placed-past, count-is, underway-is, last-is, written-is, deleted-is, messages-is, messages-most, under-way-is, held-is, process-is, own-is}
 
 -- What they hold of process p.
 pub record SoundPart (w : List ℕ) (p : ℕ) : Type 0 where

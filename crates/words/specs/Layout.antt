@@ -1,7 +1,7 @@
 -- Which run the words stand for that a caller lends: 6,464 words of 16 bits, each thing at a fixed place. The decoder is total: every list of words is a state.
 -- What stands in a place that is not in use counts for nothing: it is read as zero. A row that is in use is read whole, all its 16 entries.
 -- Assumes nothing.
-use mathlib.Core.Bool.{Bool, true, false, _&&_, _||_, not}
+use mathlib.Core.Bool.{Bool, false, _&&_, _||_, not}
 use mathlib.Core.List.{List}
 use Prim.Native.Nat.{ℕ, zero, suc, _+_, _-_, _*_}
 use lib.Dec.{eqb, ltb, leb}

@@ -2,7 +2,6 @@
 use Prim.Native.Nat.{_≤_, _-_, _+_}
 use mathlib.Core.Path.{_≡_, refl, _∙_}
 use native.Mathlib.Omega.{arith}
-use lib.ListN.{length}
 use borrow.Author.Needs.{needs}
 use Rattle.laws.specs.Loops.{setBelow, below-none, turn-set, below-all}
 use Rattle.words.specs.Layout.{word, rowIn}
