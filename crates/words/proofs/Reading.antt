@@ -71,7 +71,7 @@ hit w (p ∷ l) (suc n) k q e lt fits clear =
 pub touched : (w : List ℕ) (l : List Put) (n k q : ℕ) → Hits w l n k q → word (puts w l) q ≡ nth l n .fill k
 touched w l n k q h = hit w l n k q (h .0) (h .1) (h .2) (h .3)
 
--- One turn of a loop that puts.
+-- One iteration of a loop that puts.
 pub put-turn : (w : List ℕ) (at : ℕ) (f : ℕ → ℕ) (n : ℕ) (v : List ℕ) (x : ℕ) → v ≡ putFrom w at n f → x ≡ f n → set v (at + n) x ≡ putFrom w at (n + 1) f
 unfolding putFrom
 put-turn w at f n v x e g = rw (add-one, e, g)

@@ -34,7 +34,7 @@ module _ (w v : List ℕ) (end : endOf v ≡ endOf w) (same : (k : ℕ) → 5184
     vector = λ k f lt less e. same (carriedAt k + f) (omega arith) ∙ h .vector k f lt less (sym (used-same k) ∙ e);
   }
 
--- A process below n has changed: of what it keeps now, the places behind are to be zero.
+-- A process below n has changed: the places after what it keeps now are to be zero.
 pub clean-process : (w v : List ℕ) (p : ℕ) → p < countOf w → countOf w ≤ 16 → OnlyProcess w v p → CleanKept v p → Clean w → Clean v
 clean-process w v p below few only kept h =
     let room : p < 16 = omega arith in

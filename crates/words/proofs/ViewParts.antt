@@ -1,7 +1,7 @@
 -- A process's part put together from its rows, what each of the three changes leaves as it was, and process after process changed.
 -- Assumes nothing.
-use mathlib.Core.Path.{_≡_, refl, sym, _∙_}
-use mathlib.Core.Bool.{true, false}
+use mathlib.Core.Path.{_≡_, refl, sym, _∙_, ap}
+use mathlib.Core.Bool.{true, false, not}
 use mathlib.Core.List.{List}
 use Prim.Native.Nat.{ℕ, _+_, _≤_, _<_}
 use native.Mathlib.Numerals.{add-one}
@@ -28,11 +28,11 @@ pins-is w at l long same = sym (table-is Nothing l 16 (λ f. pinOf (word w (at +
 
 pub mark-set : (w : List ℕ) (p : ℕ) → 1 ≤ word w (markAt p) → markIn w p ≡ true
 unfolding markIn
-mark-set w p some = rw (ne-eqb (word w (markAt p)) 0 (λ e. omega arith))
+mark-set w p some = ap not (ne-eqb (word w (markAt p)) 0 (λ e. omega arith))
 
 pub mark-clear : (w : List ℕ) (p : ℕ) → word w (markAt p) ≡ 0 → markIn w p ≡ false
 unfolding markIn
-mark-clear w p none = rw (eq-eqb (word w (markAt p)) 0 none)
+mark-clear w p none = ap not (eq-eqb (word w (markAt p)) 0 none)
 
 -- A process by its four parts.
 pub process-by : (w : List ℕ) (p : ℕ) (P : Process) → vectorIn w (partAt p) ≡ P .vector → pinsIn w (pinsAt p) ≡ P .pins → markIn w p ≡ P .mark
@@ -75,7 +75,7 @@ disk-keeps w v only q = process-same w v q
 pub disk-keeps-messages : (w v : List ℕ) → OnlyDisk w v → messagesIn v ≡ messagesIn w
 disk-keeps-messages w v only = messages-same w v (only .rest 12 (omega arith)) (λ k low. only .rest k (omega arith))
 
--- One turn of a loop that gives process after process its new part.
+-- One iteration of a loop that gives process after process its new part.
 pub with-processes-none : (w : List ℕ) (f : ℕ → Process) → runOf w ≡ withProcesses 0 f (runOf w)
 unfolding withProcesses
 with-processes-none w f = refl
