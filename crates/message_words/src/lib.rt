@@ -1,0 +1,1 @@
+// The messages under way, in their places of the words.
