@@ -40,7 +40,7 @@ module _ (w : List ℕ) (long : length w ≡ size) (k : ℕ) (lt : k < 64) where
           touched w (messagePuts k x) 2 0 (senderAt k) (omega arith, omega arith, omega (arith, long), omega arith),
           touched w (messagePuts k x) 3 0 (receiverAt k) (omega arith, omega arith, omega (arith, long), omega arith),
           vector-is (puts w (messagePuts k x)) (carriedAt k) (x .vector) whole
-          (λ f less. touched w (messagePuts k x) 4 f (carriedAt k + f) (refl, less, omega (arith, long), tt)),
+              (λ f less. touched w (messagePuts k x) 4 f (carriedAt k + f) (refl, less, omega (arith, long), tt)),
           wide2-back (x .number),
         )
 

@@ -8,6 +8,8 @@ use Rattle.laws.specs.Choice.{pick}
 use Rattle.model.specs.declared.Interval.{Interval}
 use Rattle.model.specs.declared.Message.{Message}
 use Rattle.words.specs.Layout.{word, endOf, lowAt, highAt, senderAt, receiverAt, carriedAt, messageIn, isMessage}
+use Rattle.message_words.specs.declared.Found.{Found}
+use Rattle.message_words.specs.declared.Found.the-variants.{Nothing, At}
 use Rattle.words.specs.Puts.{Put, puts, one, vectorPut, zeroPut}
 
 -- The place of message m among the first ones, and one more; 0 where it is in none of them.
@@ -18,6 +20,11 @@ placeBelow w m (suc k) = pick (eqb (messageIn w k .number) m) (suc k) (placeBelo
 -- Of all places in use. No message has number 0, which unused places have.
 unfoldable pub placeOf : List ℕ → ℕ → ℕ
 placeOf w m = pick (eqb m 0) 0 (placeBelow w m (endOf w))
+
+-- The place of a message that was looked up.
+unfoldable pub foundAt : ℕ → Found
+foundAt zero = Nothing
+foundAt (suc k) = At k
 
 -- One past the last used place among the first ones.
 unfoldable pub endBelow : List ℕ → ℕ → ℕ

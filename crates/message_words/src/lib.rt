@@ -1,1 +1,189 @@
-// The messages under way, in their places of the words.
+// The messages under way, in 64 places of the words. A place is in use before the end of those in use, and where its number is not 0; no function looks at another
+// place. A message that is received or lost leaves its place unused and no other moves, until a send finds the last place taken: then the messages close up.
+use model::Message;
+use words::places;
+ghost use mathlib.Core.Path.{_≡_};
+ghost use Prim.Native.Nat.{_+_, _-_, _≤_, _<_};
+ghost use lib.ListN.{length};
+ghost use Rattle.words.specs.Layout.{word, endOf, messageIn, isMessage};
+ghost use Rattle.words.specs.Puts.{puts};
+ghost use Rattle.message_words.specs.Places.{placeOf, foundAt, endBelow, messagePuts, cleared, takenOut, movedTo, closing, clearedFrom, closedUp, withRoom, putLast};
+
+// The place of a message that is under way.
+pub enum Found {
+    Nothing,
+    At(usize),
+}
+
+// A word as a number of 32 bits.
+fn wide(x: u16) -> u32
+    ensures { λ r. ⌜ (r ≡ x) × (r < 65536) ⌝ }
+{
+    x as u32
+}
+
+// The number in a place, 0 where the place is not used.
+pub fn number_at(w: &[u16], k: usize) -> u32
+    requires { ⌜ (length (now w) ≡ 6464) × (k < 64) ⌝ }
+    ensures { λ r. ⌜ r ≡ messageIn (now (w .entry)) k .number ⌝ }
+{
+    let low = wide(w[places::LOWS + k]);
+    let high = wide(w[places::HIGHS + k]);
+    low + 65536 * high
+}
+
+pub fn is_used(w: &[u16], k: usize) -> bool
+    requires { ⌜ (length (now w) ≡ 6464) × (k < 64) ⌝ }
+    ensures { λ r. ⌜ r ≡ isMessage (messageIn (now (w .entry)) k) ⌝ }
+{
+    number_at(w, k) != 0
+}
+
+// The place of message m. A place that is not in use has the number 0, which no message has.
+pub fn place_of(w: &[u16], m: u32) -> Found
+    requires { ⌜ (length (now w) ≡ 6464) × (endOf (now w) ≤ 64) ⌝ }
+    ensures { λ r. ⌜ r ≡ foundAt (placeOf (now (w .entry)) m) ⌝ }
+{
+    if m == 0 {
+        return Found::Nothing;
+    }
+    let end = w[places::END] as usize;
+    let mut found = 0;
+    for k in 0..end {
+        let number = number_at(w, k);
+        if number == m {
+            found = k + 1;
+        }
+    }
+    if found == 0 {
+        return Found::Nothing;
+    }
+    Found::At(found - 1)
+}
+
+fn put(w: &mut [u16], k: usize, x: Message)
+    requires { ⌜ (length (now w) ≡ 6464) × (k < 64) × (x .sender < 16) × (x .receiver < 16) ⌝ }
+    ensures { λ u. ⌜ now (w .exit) ≡ puts (now (w .entry)) (messagePuts k x) ⌝ }
+{
+    let number = x.number;
+    let vector = x.vector;
+    w[places::LOWS + k] = (number % 65536) as u16;
+    w[places::HIGHS + k] = (number / 65536) as u16;
+    w[places::SENDERS + k] = x.sender as u16;
+    w[places::RECEIVERS + k] = x.receiver as u16;
+    words::put_vector(w, places::CARRIED + 16 * k, vector);
+}
+
+// The place is not in use any more, and holds zero.
+pub fn clear(w: &mut [u16], k: usize)
+    requires { ⌜ (length (now w) ≡ 6464) × (k < 64) ⌝ }
+    ensures { λ u. ⌜ now (w .exit) ≡ cleared (now (w .entry)) k ⌝ }
+{
+    w[places::LOWS + k] = 0;
+    w[places::HIGHS + k] = 0;
+    w[places::SENDERS + k] = 0;
+    w[places::RECEIVERS + k] = 0;
+    words::clear_row(w, places::CARRIED + 16 * k);
+}
+
+// One past the last place in use before `from`.
+pub fn end_before(w: &[u16], from: usize) -> usize
+    requires { ⌜ (length (now w) ≡ 6464) × (from ≤ 64) ⌝ }
+    ensures { λ r. ⌜ r ≡ endBelow (now (w .entry)) from ⌝ }
+{
+    let mut end = from;
+    while 0 < end {
+        let used = is_used(w, end - 1);
+        if used {
+            return end;
+        }
+        end -= 1;
+    }
+    0
+}
+
+// The message in this place is no longer under way.
+pub fn take_out(w: &mut [u16], k: usize)
+    requires { ⌜ (length (now w) ≡ 6464) × (endOf (now w) ≤ 64) × (k < 64) × (1 ≤ word (now w) 1) ⌝ }
+    ensures { λ u. ⌜ now (w .exit) ≡ takenOut (now (w .entry)) k ⌝ }
+{
+    let many = w[places::UNDER_WAY];
+    let end = w[places::END] as usize;
+    clear(w, k);
+    let past = end_before(w, end);
+    w[places::UNDER_WAY] = many - 1;
+    w[places::END] = past as u16;
+}
+
+// What stands in one place goes to another.
+fn move_to(w: &mut [u16], from: usize, to: usize)
+    requires { ⌜ (length (now w) ≡ 6464) × (from < 64) × (to < 64) ⌝ }
+    ensures { λ u. ⌜ now (w .exit) ≡ movedTo (now (w .entry)) from to ⌝ }
+{
+    let number = number_at(w, from);
+    let sender = w[places::SENDERS + from];
+    let receiver = w[places::RECEIVERS + from];
+    let row = words::vector_at(w, places::CARRIED + 16 * from);
+    w[places::LOWS + to] = (number % 65536) as u16;
+    w[places::HIGHS + to] = (number / 65536) as u16;
+    w[places::SENDERS + to] = sender;
+    w[places::RECEIVERS + to] = receiver;
+    words::put_vector(w, places::CARRIED + 16 * to, row);
+}
+
+// The messages move to the first places, one after the other. The result says how many they are.
+fn gather(w: &mut [u16]) -> usize
+    requires { ⌜ length (now w) ≡ 6464 ⌝ }
+    ensures { λ r. ⌜ (now (w .exit) ≡ closing (now (w .entry)) 64 .words) × (r ≡ closing (now (w .entry)) 64 .many) ⌝ }
+{
+    let mut to = 0;
+    for k in 0..64 {
+        let used = is_used(w, k);
+        if used {
+            move_to(w, k, to);
+            to += 1;
+        }
+    }
+    to
+}
+
+fn clear_from(w: &mut [u16], from: usize)
+    requires { ⌜ (length (now w) ≡ 6464) × (from ≤ 64) ⌝ }
+    ensures { λ u. ⌜ now (w .exit) ≡ clearedFrom (now (w .entry)) from (64 - from) ⌝ }
+{
+    for k in from..64 {
+        clear(w, k);
+    }
+}
+
+// No unused place is left between the messages.
+fn close_up(w: &mut [u16])
+    requires { ⌜ length (now w) ≡ 6464 ⌝ }
+    ensures { λ u. ⌜ now (w .exit) ≡ closedUp (now (w .entry)) ⌝ }
+{
+    let many = gather(w);
+    clear_from(w, many);
+    w[places::END] = many as u16;
+}
+
+// A place is left after those in use.
+pub fn make_room(w: &mut [u16])
+    requires { ⌜ length (now w) ≡ 6464 ⌝ }
+    ensures { λ u. ⌜ now (w .exit) ≡ withRoom (now (w .entry)) ⌝ }
+{
+    if w[places::END] == 64 {
+        close_up(w);
+    }
+}
+
+// A message goes after the others.
+pub fn put_last(w: &mut [u16], x: Message)
+    requires { ⌜ (length (now w) ≡ 6464) × (endOf (now w) < 64) × (word (now w) 1 < 64) × (x .sender < 16) × (x .receiver < 16) ⌝ }
+    ensures { λ u. ⌜ now (w .exit) ≡ putLast (now (w .entry)) x ⌝ }
+{
+    let end = w[places::END];
+    let many = w[places::UNDER_WAY];
+    put(w, end as usize, x);
+    w[places::UNDER_WAY] = many + 1;
+    w[places::END] = end + 1;
+}

@@ -1,0 +1,22 @@
+-- `message_words::make_room` meets its contract. Assumes nothing.
+use mathlib.Core.Path.{_≡_, refl, sym, _∙_, ap}
+use borrow.Author.Needs.{needs}
+use borrow.Author.Tests.{eq-eqb, ne-eqb}
+use Rattle.words.specs.Layout.{endOf}
+use Rattle.message_words.specs.Places.{withRoom}
+use Rattle.message_words.proofs.make_room.Statement.{statement}
+use Rattle.message_words.proofs.make_room.Tie as tie
+
+returns : tie.Need-returns
+unfolding withRoom
+returns c =
+    let k = c .before .before in
+    let i = k .before .before in
+    rw (eq-eqb _ 64 (i .if1 .taken)) (k .close-up .ensures)
+
+returns-2 : tie.Need-returns-2
+unfolding withRoom
+returns-2 c = rw (ne-eqb _ 64 (c .if1 .left)) refl
+
+pub make-room-spec : {M : Type 1} → statement M
+make-room-spec = tie.close (tie.spec (λ c. search needs) (λ c κs. search needs) (λ c. c .before .before .close-up .kept .0) returns returns-2)
