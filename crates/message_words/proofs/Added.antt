@@ -53,20 +53,23 @@ module _ (w : List ℕ) (long : length w ≡ size) (room : endOf w < 64) (x : Me
   in-place : (j : ℕ) → j < 64 → messageIn v j ≡ messageIn u j
   in-place j less = ap (λ l. messageIn l j) in-two ∙ message-stays u ends j (omega arith, omega arith, omega arith, omega arith, λ f lt. omega arith)
 
-  last-one : messageIn v (endOf w) ≡ x
-  last-one = in-place (endOf w) room ∙ message-put w long (endOf w) room x whole
+  pub added-last : messageIn v (endOf w) ≡ x
+  added-last = in-place (endOf w) room ∙ message-put w long (endOf w) room x whole
+
+  pub added-beside : (j : ℕ) → j < 64 → (j ≡ endOf w → ⊥) → messageIn v j ≡ messageIn w j
+  added-beside j less ne = in-place j less ∙ message-beside w long (endOf w) room x whole j less ne
 
   pub added-messages : messagesIn v ≡ messagesIn w ++ (x ∷ [])
   unfolding messagesIn
   added-messages =
       ap (λ n. select isMessage (table n (messageIn v))) (added-end ∙ add-one (endOf w))
-      ∙ select-more isMessage (endOf w) (messageIn v) (ap isMessage last-one ∙ is)
-      ∙ ap (λ y. select isMessage (table (endOf w) (messageIn v)) ++ (y ∷ [])) last-one
+      ∙ select-more isMessage (endOf w) (messageIn v) (ap isMessage added-last ∙ is)
+      ∙ ap (λ y. select isMessage (table (endOf w) (messageIn v)) ++ (y ∷ [])) added-last
       ∙ ap (λ l. select isMessage l ++ (x ∷ []))
-      (table-same (endOf w) (messageIn v) (messageIn w) (λ j less. in-place j (omega arith) ∙ message-beside w long (endOf w) room x whole j (omega arith) (λ q. omega arith)))
+      (table-same (endOf w) (messageIn v) (messageIn w) (λ j less. added-beside j (omega arith) (λ q. omega arith)))
 
   pub added-fits : endFits v ≡ true
   unfolding endFits
   added-fits = rw added-end
       (and-both (leb (endOf w + 1) 64) _ (le-leb (endOf w + 1) 64 (omega arith))
-      (or-in-right (eqb (endOf w + 1) 0) _ (ap (λ j. isMessage (messageIn v j)) (let e : endOf w + 1 - 1 ≡ endOf w = omega arith in e) ∙ ap isMessage last-one ∙ is)))
+      (or-in-right (eqb (endOf w + 1) 0) _ (ap (λ j. isMessage (messageIn v j)) (let e : endOf w + 1 - 1 ≡ endOf w = omega arith in e) ∙ ap isMessage added-last ∙ is)))

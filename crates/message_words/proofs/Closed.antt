@@ -172,6 +172,9 @@ module _ (w : List ℕ) (long : length w ≡ size) (full : endOf w ≡ 64) where
   in-place j less = message-stays u (one 12 (c .many) ∷ []) j (omega (arith, h .many), omega (arith, h .many), omega (arith, h .many), omega (arith, h .many), λ f lt. omega (arith, h .many))
       ∙ g .before j less
 
+  pub closed-used : (j : ℕ) → j < c .many → isMessage (messageIn then j) ≡ true
+  closed-used j less = ap isMessage (in-place j less) ∙ h .used j less
+
   pub closed-messages : messagesIn then ≡ messagesIn w
   unfolding messagesIn
   closed-messages =

@@ -1,7 +1,7 @@
 -- Laws that belong to no one function.
 pub mod Selected
-pub mod Ascending
 pub mod Placed
 pub mod Taken
 pub mod Closed
 pub mod Added
+pub mod Zeros

@@ -19,7 +19,6 @@ use Rattle.words.specs.Puts.{Put, puts, one}
 use Rattle.words.proofs.Reading.{puts-length, untouched, touched}
 use Rattle.message_words.specs.Places.{clearPuts, cleared, takenOut, endBelow}
 use Rattle.message_words.proofs.Selected.{select-tables, select-more, select-less, walked-back, end-under, end-used}
-use Rattle.message_words.proofs.Ascending.{same-number}
 use Rattle.message_words.proofs.Placed.{message-stays, cleared-number, cleared-beside, cleared-length}
 
 -- One entry fewer passes where one that passed is made unused and the others stay.

@@ -1,0 +1,16 @@
+-- An accepted send on the words: there is a place for the message, it is put there, its number is the last one used, and the sender's mark is set.
+-- Assumes nothing.
+use mathlib.Core.List.{List, [], _∷_, _++_}
+use Prim.Native.Nat.{ℕ, _+_}
+use Rattle.model.specs.declared.Message.{Message}
+use Rattle.words.specs.Layout.{word, wide2, markAt, partAt, vectorIn}
+use Rattle.words.specs.Puts.{puts, one, puts2}
+use Rattle.message_words.specs.Places.{withRoom, putLast}
+
+unfoldable pub sentIn : List ℕ → ℕ → ℕ → Message
+sentIn w i j = record { number = wide2 w 2 + 1; sender = i; receiver = j; vector = vectorIn w (partAt i) }
+
+unfoldable pub sentWords : List ℕ → ℕ → ℕ → List ℕ
+sentWords w i j =
+    let v = withRoom w in
+    puts (putLast v (sentIn v i j)) (puts2 2 (wide2 v 2 + 1) ++ one (markAt i) 1 ∷ [])

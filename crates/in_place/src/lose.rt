@@ -1,0 +1,30 @@
+// Lose: the message is no longer under way; nothing else changes.
+use message_words::Found;
+use model::LoseAnswer;
+use model::Refusal;
+ghost use mathlib.Core.Path.{_≡_};
+ghost use mathlib.Core.Bool.{true};
+ghost use Rattle.model.specs.Sound.{sound};
+ghost use Rattle.model.specs.declared.Refusal.{Refusal};
+ghost use Rattle.model.specs.declared.LoseAnswer.the-variants.{Refused};
+ghost use Rattle.whole_runs.specs.Outcomes.{loseOutcome};
+ghost use Rattle.words.specs.Layout.{runOf};
+ghost use Rattle.in_place.specs.Left.{Leaves};
+
+// The words stand for a sound state.
+pub fn lose_on(w: &mut [u16], m: u32) -> LoseAnswer
+    requires { ⌜ sound (runOf (now w)) ≡ true ⌝ }
+    ensures { λ r. ⌜ runOf (now (w .exit)) ≡ loseOutcome (runOf (now (w .entry))) m .run ⌝ }
+    ensures { λ r. ⌜ r ≡ loseOutcome (runOf (now (w .entry))) m .answer ⌝ }
+    ensures { λ r. ⌜ ((why : Refusal) → r ≡ Refused why → now (w .exit) ≡ now (w .entry)) ⌝ }
+    ensures { λ r. ⌜ Leaves (now (w .entry)) (now (w .exit)) ⌝ }
+{
+    let found = message_words::place_of(w, m);
+    match found {
+        Found::Nothing => LoseAnswer::Refused(Refusal::NotUnderWay),
+        Found::At(k) => {
+            message_words::take_out(w, k);
+            LoseAnswer::Lost
+        }
+    }
+}

@@ -1,0 +1,59 @@
+// Send from i to j: the message carries i's vector, and i's sent mark is set.
+use model::Message;
+use model::SendAnswer;
+use verdicts::Verdict;
+use words::places;
+ghost use mathlib.Core.Path.{_≡_};
+ghost use mathlib.Core.Bool.{true};
+ghost use Prim.Native.Nat.{_+_, _<_};
+ghost use Rattle.model.specs.Sound.{sound};
+ghost use Rattle.model.specs.declared.Refusal.{Refusal};
+ghost use Rattle.model.specs.declared.SendAnswer.the-variants.{Refused};
+ghost use Rattle.whole_runs.specs.Outcomes.{sendOutcome};
+ghost use Rattle.words.specs.Layout.{word, countOf, wide2, runOf};
+ghost use Rattle.in_place.specs.Left.{Leaves};
+ghost use Rattle.in_place.specs.Sending.{sentWords};
+
+// The word of a sent mark that is set.
+const SET: u16 = 1;
+
+// The message is put after the others. Its number is the result.
+fn put_sent(w: &mut [u16], i: usize, j: usize) -> u32
+    requires { ⌜ (sound (runOf (now w)) ≡ true) × (i < countOf (now w)) × (j < countOf (now w)) × (word (now w) 1 < 64) × (wide2 (now w) 2 < 1000000) ⌝ }
+    ensures { λ r. ⌜ (now (w .exit) ≡ sentWords (now (w .entry)) i j) × (r ≡ wide2 (now (w .entry)) 2 + 1) ⌝ }
+{
+    message_words::make_room(w);
+    let number = words::wide2(w, places::LAST) + 1;
+    let vector = words::vector_at(w, places::PARTS + places::PART * i);
+    let message = Message {
+        number,
+        sender: i,
+        receiver: j,
+        vector,
+    };
+    message_words::put_last(w, message);
+    words::put2(w, places::LAST, number);
+    w[places::MARKS + i] = SET;
+    number
+}
+
+// The words stand for a sound state.
+pub fn send_on(w: &mut [u16], i: usize, j: usize) -> SendAnswer
+    requires { ⌜ sound (runOf (now w)) ≡ true ⌝ }
+    ensures { λ r. ⌜ runOf (now (w .exit)) ≡ sendOutcome (runOf (now (w .entry))) i j .run ⌝ }
+    ensures { λ r. ⌜ r ≡ sendOutcome (runOf (now (w .entry))) i j .answer ⌝ }
+    ensures { λ r. ⌜ ((why : Refusal) → r ≡ Refused why → now (w .exit) ≡ now (w .entry)) ⌝ }
+    ensures { λ r. ⌜ Leaves (now (w .entry)) (now (w .exit)) ⌝ }
+{
+    let n = w[places::COUNT] as usize;
+    let many = w[places::UNDER_WAY] as usize;
+    let last = words::wide2(w, places::LAST);
+    let verdict = verdicts::send_verdict(i, j, n, many, last);
+    match verdict {
+        Verdict::Refused(why) => SendAnswer::Refused(why),
+        Verdict::Accepted => {
+            let number = put_sent(w, i, j);
+            SendAnswer::Sent(number)
+        }
+    }
+}
