@@ -3,6 +3,7 @@
 use mathlib.Core.Path.{_≡_, refl, sym, _∙_, ap}
 use mathlib.Core.Bool.{Bool, true, false, not}
 use mathlib.Core.List.{List, [], _∷_, _++_}
+use mathlib.Core.Option.{none, some}
 use Prim.Native.Nat.{ℕ, zero, suc, _+_, _-_, _*_, _≤_, _<_}
 use native.Mathlib.Omega.{arith}
 use lib.Dec.{eqb}
@@ -14,6 +15,14 @@ use Rattle.model.specs.declared.Run.{Run}
 use Rattle.model.specs.Words.{Process, process, withProcess, underWay, withMessages}
 use Rattle.model.specs.Steps.{sentMessage, marked, sendState}
 use Rattle.model.specs.Sound.{sound}
+use Rattle.model.specs.declared.Refusal.{Refusal}
+use Rattle.model.specs.declared.SendAnswer.the-variants as send-answer
+use Rattle.model.specs.Refusals.{unsound, sendRefusal}
+use Rattle.model.specs.laws.Refusals.{skipped}
+use Rattle.whole_runs.specs.Outcomes.{sendOutcome}
+use Rattle.verdicts.specs.declared.Verdict.the-variants.{Accepted, Refused}
+use Rattle.verdicts.specs.Verdicts.{refusalOf, sendVerdict}
+use Rattle.plans.proofs.Cases.{accepted-send, verdict-rules}
 use Rattle.words.specs.Layout.{size, word, wide2, countOf, endOf, heldAt, markAt, blocksAt, partAt, pinsAt, vectorIn, pinsIn, markIn, keptIn, messageIn, isMessage, messagesIn, endFits, fits, runOf}
 use Rattle.words.specs.Parts.{processIn}
 use Rattle.words.specs.Frames.{OnlyProcess, OnlyMessages}
@@ -21,7 +30,7 @@ use Rattle.words.specs.Clean.{Clean, CleanMessages}
 use Rattle.words.specs.Puts.{Put, puts, one, puts2}
 use Rattle.words.proofs.Reading.{untouched, touched, puts-length, wide2-back}
 use Rattle.words.proofs.Same.{vector-length, vector-same, pins-same, kept-same}
-use Rattle.words.proofs.View.{process-is, last-is, fits-end}
+use Rattle.words.proofs.View.{process-is, count-is, underway-is, last-is}
 use Rattle.words.proofs.ViewChange.{with-process, with-messages, messages-fit, messages-same, end-same}
 use Rattle.words.proofs.ViewClean.{clean-messages, clean-process, clean-kept-same, clean-messages-same}
 use Rattle.words.proofs.ViewSound.{SoundWords, sound-words}
@@ -104,8 +113,10 @@ module _ (w : List ℕ) (h : sound (runOf w) ≡ true) (i j : ℕ) (li : i < cou
 
   last-then : wide2 b 2 ≡ wide2 w 2 + 1
   last-then =
-      rw (touched a (puts2 2 number) 0 0 2 (omega arith, omega arith, omega (arith, long-a), omega arith),
-      touched a (puts2 2 number) 1 0 3 (omega arith, omega arith, omega (arith, long-a), tt))
+      rw (
+        touched a (puts2 2 number) 0 0 2 (omega arith, omega arith, omega (arith, long-a), omega arith),
+        touched a (puts2 2 number) 1 0 3 (omega arith, omega arith, omega (arith, long-a), tt),
+      )
       (wide2-back number ∙ ap (λ (n : ℕ). n + 1) same-last)
 
   b-rest : (q : ℕ) → q < 5184 → (q ≡ 1 → ⊥) → (q ≡ 2 → ⊥) → (q ≡ 3 → ⊥) → (q ≡ 12 → ⊥) → word b q ≡ word w q
@@ -190,7 +201,7 @@ module _ (w : List ℕ) (h : sound (runOf w) ≡ true) (i j : ℕ) (li : i < cou
     mark-v,
     same-held,
     kept-same v w i (same-held) (same (blocksAt i) (omega (arith, room-i)) (omega arith) (λ z. omega (arith, room-i)))
-    (λ k low high. same k (omega (arith, room-i)) (omega arith) (λ z. omega (arith, room-i))),
+        (λ k low high. same k (omega (arith, room-i)) (omega arith) (λ z. omega (arith, room-i))),
   )
 
   run-v : runOf v ≡ withProcess (runOf b) i (marked (process (runOf w) i))
@@ -221,3 +232,27 @@ module _ (w : List ℕ) (h : sound (runOf w) ≡ true) (i j : ℕ) (li : i < cou
         (clean-kept-same b v i (untouched b (one (markAt i) 1 ∷ []) (heldAt i) (omega (arith, room-i))) (λ k low high. untouched b (one (markAt i) 1 ∷ []) k (omega (arith, room-i))) (cb .kept i (omega (arith, only .count))))
         cb;
   })
+
+-- The verdict of the words, and what follows from it.
+module _ (w : List ℕ) (h : sound (runOf w) ≡ true) (i j : ℕ) where
+  rules : sendRefusal (runOf w) i j ≡ refusalOf (sendVerdict i j (countOf w) (word w 1) (wide2 w 2))
+  unfolding sendRefusal
+  rules =
+      let k = sound-words w h in
+      skipped (unsound (runOf w)) _ (rw h)
+      ∙ rw (count-is w (k .fit), underway-is w (k .fit), last-is w (k .fit)) (sym (verdict-rules i j (countOf w) (word w 1) (wide2 w 2)))
+
+  pub send-refused : (why : Refusal) → sendVerdict i j (countOf w) (word w 1) (wide2 w 2) ≡ Refused why
+      → sendOutcome (runOf w) i j ≡ record { run = runOf w; answer = send-answer.Refused why; rose = 0; deleted = []; line = [] }
+  unfolding sendOutcome refusalOf
+  send-refused why e = let judged : sendRefusal (runOf w) i j ≡ some why = rules ∙ ap refusalOf e in rw judged
+
+  module _ (e : sendVerdict i j (countOf w) (word w 1) (wide2 w 2) ≡ Accepted) where
+    pub send-places : (i < countOf w) × (j < countOf w) × (word w 1 < 64) × (wide2 w 2 < 1000000)
+    send-places = accepted-send i j (countOf w) (word w 1) (wide2 w 2) e
+
+    pub send-accepted : sendOutcome (runOf w) i j ≡ record { run = runOf (sentWords w i j); answer = send-answer.Sent (wide2 w 2 + 1); rose = 0; deleted = []; line = [] }
+    unfolding sendOutcome refusalOf
+    send-accepted =
+        let judged : sendRefusal (runOf w) i j ≡ none = rules ∙ ap refusalOf e in
+        rw (judged, sent-run w h i j (send-places .0) (send-places .2), last-is w (sound-words w h .fit))

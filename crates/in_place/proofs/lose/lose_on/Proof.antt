@@ -14,6 +14,7 @@ use Rattle.in_place.specs.Left.{Leaves}
 use Rattle.words.proofs.ViewSound.{sound-words}
 use Rattle.message_words.specs.declared.Found.the-variants.{Nothing, At}
 use Rattle.message_words.specs.Places.{placeOf, foundAt, takenOut}
+use Rattle.in_place.proofs.Leaving.{same-words}
 use Rattle.in_place.proofs.Losing.{lose-refused, lose-accepted, place-in, one-there, taken-leaves}
 use Rattle.in_place.proofs.lose.lose_on.Statement.{statement}
 use Rattle.in_place.proofs.lose.lose_on.Tie as tie
@@ -33,9 +34,6 @@ there (suc k) j e = ap suc (let z : j ≡ k = cc in sym z)
 accepted : (w : List ℕ) (h : sound (runOf w) ≡ true) (m k : ℕ) → placeOf w m ≡ suc k → (v : List ℕ) → v ≡ takenOut w k
     → (runOf v ≡ loseOutcome (runOf w) m .run) × ((Lost ≡ loseOutcome (runOf w) m .answer) × (((why : Refusal) → Lost ≡ Refused why → v ≡ w) × Leaves w v))
 accepted w h m k e v q = rw (q, lose-accepted w h m k e) (refl, (refl, (λ why z. absurd (let y : _≡_ {A = ℕ} 0 1 = cc in omega arith), taken-leaves w h m k e)))
-
-same-words : (w : List ℕ) → Leaves w w
-same-words w = record { size = refl; clean = λ c. c }
 
 place-of-requires : tie.Need-place-of-requires
 place-of-requires c κs = let h = sound-words (c .before .before .args .w .now) (c .before .before .pre) in (h .size, h .end)
