@@ -1,0 +1,70 @@
+-- Which start is refused, test by test.
+-- Assumes nothing.
+use mathlib.Core.Path.{_≡_, refl, sym, _∙_}
+use mathlib.Core.Bool.{Bool, true, false, not}
+use mathlib.Core.List.{List, []}
+use mathlib.Core.Option.{none, some}
+use Prim.Native.Nat.{ℕ, zero, suc, _≤_, _<_}
+use lib.Dec.{eqb, leb, ltb}
+use lib.ListN.{length, getD}
+use borrow.Author.Tests.{le-leb, lt-leb, lt-ltb, le-ltb, eq-eqb, ne-eqb}
+use Rattle.laws.specs.Choice.{by-bool}
+use Rattle.laws.specs.Search.{anyBelow, allBelow}
+use Rattle.model.specs.declared.Refusal.{Refusal}
+use Rattle.model.specs.declared.Refusal.the-variants.{CountOutsideRange, UnsoundState, ListTooShort, BlockCountOutsideRange}
+use Rattle.model.specs.declared.StartAnswer.the-variants.{Refused, Started}
+use Rattle.model.specs.Words.{blank}
+use Rattle.model.specs.Steps.{startState}
+use Rattle.model.specs.Sound.{isBlockCount}
+use Rattle.model.specs.Refusals.{firstOf}
+use Rattle.words.specs.Layout.{size}
+use Rattle.in_place.specs.Starting.{startRefusalIn, startOutcomeIn}
+
+-- Some count is none exactly if not all are.
+some-not : (n : ℕ) (t : ℕ → Bool) → anyBelow n (λ p. not (t p)) ≡ not (allBelow n t)
+unfolding anyBelow allBelow
+some-not zero t = refl
+some-not (suc n) t = by-bool (t n) (λ e. rw e (some-not n t)) (λ e. rw e)
+
+module _ (many n : ℕ) (counts : List ℕ) where
+  abbrev Gives : Refusal → Type 0
+  Gives why = startRefusalIn many n counts ≡ some why
+
+  pub refused : (why : Refusal) → Gives why → startOutcomeIn many n counts ≡ record { run = blank 0; answer = Refused why; rose = 0; deleted = []; line = [] }
+  unfolding startOutcomeIn
+  refused why e = rw e
+
+  pub few : n < 1 → startOutcomeIn many n counts ≡ record { run = blank 0; answer = Refused CountOutsideRange; rose = 0; deleted = []; line = [] }
+  unfolding startRefusalIn firstOf
+  few lt = refused CountOutsideRange (rw (lt-leb 1 n lt))
+
+  module _ (one : 1 ≤ n) where
+    pub many-processes : 16 < n → startOutcomeIn many n counts ≡ record { run = blank 0; answer = Refused CountOutsideRange; rose = 0; deleted = []; line = [] }
+    unfolding startRefusalIn firstOf
+    many-processes lt = refused CountOutsideRange (rw (le-leb 1 n one, lt-leb n 16 lt))
+
+    module _ (most : n ≤ 16) where
+      pub other-size : (many ≡ size → ⊥) → startOutcomeIn many n counts ≡ record { run = blank 0; answer = Refused UnsoundState; rose = 0; deleted = []; line = [] }
+      unfolding startRefusalIn firstOf
+      other-size ne = refused UnsoundState (rw (le-leb 1 n one, le-leb n 16 most, ne-eqb many size ne))
+
+      module _ (right : many ≡ size) where
+        pub short-counts : length counts < n → startOutcomeIn many n counts ≡ record { run = blank 0; answer = Refused ListTooShort; rose = 0; deleted = []; line = [] }
+        unfolding startRefusalIn firstOf
+        short-counts lt = refused ListTooShort (rw (le-leb 1 n one, le-leb n 16 most, eq-eqb many size right, lt-ltb (length counts) n lt))
+
+        module _ (enough : n ≤ length counts) where
+          pub outside : allBelow n (λ p. isBlockCount (getD counts p 0)) ≡ false
+              → startOutcomeIn many n counts ≡ record { run = blank 0; answer = Refused BlockCountOutsideRange; rose = 0; deleted = []; line = [] }
+          unfolding startRefusalIn firstOf
+          outside e = refused BlockCountOutsideRange
+              (rw (le-leb 1 n one, le-leb n 16 most, eq-eqb many size right, le-ltb (length counts) n enough, some-not n (λ p. isBlockCount (getD counts p 0)), e))
+
+          pub fine-refusal : allBelow n (λ p. isBlockCount (getD counts p 0)) ≡ true → startRefusalIn many n counts ≡ none
+          unfolding startRefusalIn firstOf
+          fine-refusal e = rw (le-leb 1 n one, le-leb n 16 most, eq-eqb many size right, le-ltb (length counts) n enough, some-not n (λ p. isBlockCount (getD counts p 0)), e)
+
+          pub fine : allBelow n (λ p. isBlockCount (getD counts p 0)) ≡ true
+              → startOutcomeIn many n counts ≡ record { run = startState n counts; answer = Started; rose = 0; deleted = []; line = [] }
+          unfolding startOutcomeIn
+          fine e = rw (fine-refusal e)

@@ -1,0 +1,38 @@
+-- `in_place::start::are_block_counts` meets its contract. Assumes nothing.
+use mathlib.Core.Path.{_≡_, ap, _∙_}
+use mathlib.Core.Bool.{Bool, _&&_}
+use Prim.Native.Nat.{_≤_, _-_}
+use native.Mathlib.Omega.{arith}
+use lib.ListN.{getD}
+use borrow.Author.Needs.{needs}
+use Rattle.laws.specs.Loops.{all-zero}
+use Rattle.laws.specs.Rows.{all-turn}
+use Rattle.laws.specs.Search.{allBelow}
+use Rattle.model.specs.Sound.{isBlockCount}
+use Rattle.in_place.proofs.start.are_block_counts.Statement.{statement}
+use Rattle.in_place.proofs.start.are_block_counts.Tie as tie
+
+abbrev Inv-loop : tie.InvT-loop
+Inv-loop counts n all₀ p₀ all p = (p ≤ n) × (all ≡ allBelow p (λ q. isBlockCount (getD counts q 0)))
+
+abbrev μ-loop : tie.MeasureT-loop
+μ-loop counts n all₀ p₀ all p = n - p
+
+loop-holds : tie.Need-loop-holds Inv-loop μ-loop
+loop-holds c = (search needs, all-zero _)
+
+loop-again : tie.Need-loop-again Inv-loop μ-loop
+loop-again c =
+    let l = c .before .before .before .loop in
+    (search needs, ap (λ (b : Bool). l .all && b) (c .is-block-count .ensures) ∙ all-turn _ (l .p) (l .all) (l .inv .1))
+
+returns : tie.Need-returns Inv-loop μ-loop
+returns c =
+    let l = c .before .loop in
+    let e : l .p ≡ c .before .before .before .args .n = omega arith in
+    rw e at (l .inv .1)
+
+pub are-block-counts-spec : {M : Type 1} → statement M
+are-block-counts-spec =
+    tie.close
+    (tie.spec Inv-loop μ-loop loop-holds (λ c. search needs) (λ c. search needs) (λ c κs. search needs) (λ c. search needs) (λ c. search needs) loop-again returns)

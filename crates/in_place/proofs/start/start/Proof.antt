@@ -1,0 +1,103 @@
+-- `in_place::start::start` meets its contract. Assumes nothing.
+use mathlib.Core.Path.{_≡_, refl, sym, ap, _∙_}
+use mathlib.Core.Bool.{true}
+use mathlib.Core.List.{List, []}
+use mathlib.Core.Option.{Option, none, some}
+use Prim.Native.Nat.{ℕ, _≤_}
+use native.Mathlib.Omega.{arith}
+use lib.Dec.{eqb, ltb}
+use lib.ListN.{length, getD}
+use borrow.Author.Needs.{needs}
+use borrow.Author.Tests.{eq-eqb, ne-eqb}
+use Rattle.laws.specs.Choice.{pick}
+use Rattle.laws.specs.Search.{allBelow}
+use Rattle.model.specs.declared.Refusal.{Refusal}
+use Rattle.model.specs.declared.StartAnswer.{StartAnswer}
+use Rattle.model.specs.declared.StartAnswer.the-variants.{Refused, Started}
+use Rattle.model.specs.Sound.{isBlockCount}
+use Rattle.model.specs.laws.Refusals.{by-refusal}
+use Rattle.words.specs.Layout.{size, runOf}
+use Rattle.words.specs.Clean.{Clean}
+use Rattle.in_place.specs.Starting.{zeros, startedWords, startRefusalIn, startOutcomeIn, startWords}
+use Rattle.in_place.proofs.Starting.{zeros-length, start-run, start-clean, accepted-few, accepted-size, accepted-long, accepted-counts}
+use Rattle.in_place.proofs.start.start.Statement.{statement}
+use Rattle.in_place.proofs.start.start.Tie as tie
+
+-- The answer says whether there is a refusal.
+by-answer : (many n : ℕ) (counts : List ℕ) → startOutcomeIn many n counts .answer ≡ Started → startRefusalIn many n counts ≡ none
+unfolding startOutcomeIn
+by-answer many n counts e = by-refusal (startRefusalIn many n counts) (λ f. f) (λ why q. absurd (let z : Refused why ≡ Started = rw q at e in let y : _≡_ {A = ℕ} 0 1 = cc in omega arith))
+
+by-refused : (many n : ℕ) (counts : List ℕ) (why : Refusal) → startOutcomeIn many n counts .answer ≡ Refused why → startRefusalIn many n counts ≡ some why
+unfolding startOutcomeIn
+by-refused many n counts why e = by-refusal (startRefusalIn many n counts)
+    (λ f. absurd (let z : Started ≡ Refused why = rw f at e in let y : _≡_ {A = ℕ} 0 1 = cc in omega arith))
+    (λ other q. q ∙ ap some (let z : Refused other ≡ Refused why = rw q at e in let y : other ≡ why = cc in y))
+
+-- What the words then are, in the three ways.
+untouched-words : (w : List ℕ) (n : ℕ) (counts : List ℕ) → (length w ≡ size → ⊥) → w ≡ startWords w n counts
+unfolding startWords
+untouched-words w n counts ne = by-refusal (startRefusalIn (length w) n counts)
+    (λ f. absurd (ne (accepted-size (length w) n counts f)))
+    (λ why q. rw (q, ne-eqb (length w) size ne) refl)
+
+zero-words : (w v : List ℕ) (n : ℕ) (counts : List ℕ) (why : Refusal) → length w ≡ size → startRefusalIn (length w) n counts ≡ some why → v ≡ zeros → v ≡ startWords w n counts
+unfolding startWords
+zero-words w v n counts why long q e = rw (q, eq-eqb (length w) size long) e
+
+first-words : (w v : List ℕ) (n : ℕ) (counts : List ℕ) → startRefusalIn (length w) n counts ≡ none → v ≡ startedWords n counts → v ≡ startWords w n counts
+unfolding startWords
+first-words w v n counts q e = rw q e
+
+-- The rest of the contract follows from the words.
+all-of : (w v : List ℕ) (n : ℕ) (counts : List ℕ) (r : StartAnswer) → r ≡ startOutcomeIn (length w) n counts .answer → v ≡ startWords w n counts
+    → (r ≡ startOutcomeIn (length w) n counts .answer) × ((runOf v ≡ startOutcomeIn (length w) n counts .run) × ((v ≡ startWords w n counts) × (length w ≡ 6464 → Clean v)))
+all-of w v n counts r a e = (a, (ap runOf e ∙ start-run w n counts, (e, λ long. rw e (start-clean w n counts long))))
+
+returns : tie.Need-returns
+returns c =
+    let a = c .before .before .before .before .args in
+    all-of (a .w .now) (a .w .now) (a .n) (a .counts .now) _ (c .before .answer-of .ensures) (untouched-words (a .w .now) (a .n) (a .counts .now) (c .if1 .taken))
+
+put-started-requires : tie.Need-put-started-requires
+put-started-requires c κs =
+    let t = c .before in
+    let z = t .before .before .before .before in
+    let e = z .before .before in
+    let a = e .before .before .before .before .args in
+    let f = by-answer (length (a .w .now)) (a .n) (a .counts .now) (sym (e .before .answer-of .ensures) ∙ t .enum-told .given .1) in
+    (z .clear-all .ensures, accepted-few _ (a .n) (a .counts .now) f, accepted-long _ (a .n) (a .counts .now) f, accepted-counts _ (a .n) (a .counts .now) f)
+
+returns-2 : tie.Need-returns-2
+returns-2 c =
+    let k = c .before in
+    let z = k .before .before .before .before in
+    let e = z .before .before in
+    let a = e .before .before .before .before .args in
+    let is = sym (k .answer .given .1) ∙ e .before .answer-of .ensures in
+    all-of (a .w .now) _ (a .n) (a .counts .now) _ is (zero-words (a .w .now) _ (a .n) (a .counts .now) _ (e .if1 .left) (by-refused (length (a .w .now)) (a .n) (a .counts .now) _ (sym is)) (z .clear-all .ensures))
+
+returns-3 : tie.Need-returns-3
+returns-3 c =
+    let p = c .before .before in
+    let t = p .before .before in
+    let z = t .before .before .before .before in
+    let e = z .before .before in
+    let a = e .before .before .before .before .args in
+    let is = sym (t .enum-told .given .1) ∙ e .before .answer-of .ensures in
+    all-of (a .w .now) _ (a .n) (a .counts .now) Started is (first-words (a .w .now) _ (a .n) (a .counts .now) (by-answer (length (a .w .now)) (a .n) (a .counts .now) (sym is)) (p .put-started .ensures))
+
+pub start-spec : {M : Type 1} → statement M
+start-spec =
+    tie.close
+    (tie.spec
+    (λ c κs. search needs)
+    returns
+    (λ c κs. search needs)
+    (λ c. search needs)
+    (λ c. search needs)
+    put-started-requires
+    (λ c. c .before .before .before .before .before .clear-all .kept .0)
+    returns-2
+    (λ c. c .before .before .put-started .kept .0 ∙ c .before .before .before .before .before .before .before .before .clear-all .kept .0)
+    returns-3)

@@ -1,0 +1,70 @@
+-- A start on the words: all of them zero, then n and the block counts, then checkpoint 0 of each process, then the blocks that these take.
+-- Assumes nothing.
+use mathlib.Core.Bool.{Bool, not, _&&_}
+use mathlib.Core.List.{List, [], _∷_}
+use mathlib.Core.Option.{Option}
+use Prim.Native.Nat.{ℕ, zero, suc, _+_}
+use lib.Dec.{eqb, leb, ltb}
+use lib.ListN.{length, getD, replicate}
+use Rattle.laws.specs.Choice.{pick}
+use Rattle.laws.specs.Search.{anyBelow}
+use Rattle.laws.specs.Sums.{sumBelow}
+use Rattle.model.specs.declared.Refusal.{Refusal}
+use Rattle.model.specs.declared.Refusal.the-variants.{CountOutsideRange, UnsoundState, ListTooShort, BlockCountOutsideRange}
+use Rattle.model.specs.declared.StartAnswer.{StartAnswer}
+use Rattle.model.specs.declared.StartAnswer.the-variants.{Refused, Started}
+use Rattle.model.specs.Words.{places, blank}
+use Rattle.model.specs.Steps.{startState}
+use Rattle.model.specs.Sound.{isBlockCount}
+use Rattle.model.specs.Refusals.{firstOf}
+use Rattle.whole_runs.specs.Outcomes.{Outcome, judged}
+use Rattle.words.specs.Layout.{size, heldAt, blocksAt, partAt, pinsAt, indexAt}
+use Rattle.words.specs.Puts.{Put, puts, one, puts4}
+
+-- The first words are n and the block counts of the processes below it; all others are zero.
+unfoldable pub zeros : List ℕ
+zeros = replicate size 0
+
+unfoldable pub withCounts : List ℕ → List ℕ → ℕ → List ℕ
+withCounts w counts zero = w
+withCounts w counts (suc k) = puts (withCounts w counts k) (one (blocksAt k) (getD counts k 0) ∷ [])
+
+unfoldable pub counted : ℕ → List ℕ → ℕ → List ℕ
+counted n counts k = withCounts (puts zeros (one 0 n ∷ [])) counts k
+
+-- "Each process stores checkpoint 0 with a vector of zeros. Then own entries are 1, others 0. Each own pin names checkpoint 0, others none."
+abbrev pub firstPuts : ℕ → List Put
+firstPuts p = one (partAt p + p) 1 ∷ one (pinsAt p + p) 1 ∷ one (indexAt p 0) 1 ∷ one (heldAt p) 1 ∷ []
+
+unfoldable pub withFirsts : List ℕ → ℕ → List ℕ
+withFirsts w zero = w
+withFirsts w (suc k) = puts (withFirsts w k) (firstPuts k)
+
+unfoldable pub begun : ℕ → List ℕ → ℕ → List ℕ
+begun n counts k = withFirsts (counted n counts n) k
+
+-- The n processes stored one each.
+unfoldable pub startedWords : ℕ → List ℕ → List ℕ
+startedWords n counts = puts (begun n counts n) (puts4 4 (sumBelow n (λ p. getD counts p 0)))
+
+-- Which start is refused, by how many words and block counts are lent too: "1: start with a count outside 1 to 16"; 2 where the words are no state's by their number;
+-- 3 where fewer than n block counts are lent; Note 5: "15 .. for a block count outside 1 to 65,535".
+unfoldable pub startRefusalIn : ℕ → ℕ → List ℕ → Option Refusal
+startRefusalIn many n counts = firstOf (
+    record { holds = not (leb 1 n && leb n places); gives = CountOutsideRange }
+    ∷ record { holds = not (eqb many size); gives = UnsoundState }
+    ∷ record { holds = ltb (length counts) n; gives = ListTooShort }
+    ∷ record { holds = anyBelow n (λ p. not (isBlockCount (getD counts p 0))); gives = BlockCountOutsideRange }
+    ∷ [])
+
+-- The outcome: "A refused start returns a state of zeros with every pin none".
+unfoldable pub startOutcomeIn : ℕ → ℕ → List ℕ → Outcome StartAnswer
+startOutcomeIn many n counts = judged (startRefusalIn many n counts)
+    (λ why. record { run = blank 0; answer = Refused why; rose = 0; deleted = []; line = [] })
+    (record { run = startState n counts; answer = Started; rose = 0; deleted = []; line = [] })
+
+-- The words of a refused start are zero. Words of another number are left as they were: they stand for no sound state.
+unfoldable pub startWords : List ℕ → ℕ → List ℕ → List ℕ
+startWords w n counts = judged (startRefusalIn (length w) n counts)
+    (λ why. pick (eqb (length w) size) zeros w)
+    (startedWords n counts)

@@ -1,0 +1,141 @@
+// Start: each process stores checkpoint 0 with a vector of zeros, its own entry is then 1, and its own pin names checkpoint 0.
+use model::Refusal;
+use model::StartAnswer;
+use words::places;
+ghost use mathlib.Core.Path.{_≡_};
+ghost use mathlib.Core.Bool.{true};
+ghost use mathlib.Core.List.{[], _∷_};
+ghost use Prim.Native.Nat.{_≤_};
+ghost use lib.ListN.{length, getD};
+ghost use Rattle.laws.specs.Search.{allBelow};
+ghost use Rattle.laws.specs.Sums.{sumBelow};
+ghost use Rattle.model.specs.Sound.{isBlockCount};
+ghost use Rattle.words.specs.Layout.{runOf};
+ghost use Rattle.words.specs.Clean.{Clean};
+ghost use Rattle.in_place.specs.Starting.{zeros, withCounts, withFirsts, startedWords, startOutcomeIn, startWords};
+
+// The own entry, and the word of checkpoint 0, which its index and the own pin have.
+const FIRST: u16 = 1;
+
+fn clear_all(w: &mut [u16])
+    requires { ⌜ length (now w) ≡ 6464 ⌝ }
+    ensures { λ u. ⌜ now (w .exit) ≡ zeros ⌝ }
+{
+    for k in 0..words::WORDS {
+        w[k] = 0;
+    }
+}
+
+// "a block count outside 1 to 65,535"
+fn is_block_count(count: u32) -> bool
+    ensures { λ r. ⌜ r ≡ isBlockCount count ⌝ }
+{
+    (1 <= count) & (count <= 65535)
+}
+
+// Each of the first n is a block count.
+fn are_block_counts(counts: &[u32], n: usize) -> bool
+    requires { ⌜ n ≤ length (now counts) ⌝ }
+    ensures { λ r. ⌜ r ≡ allBelow n (λ p. isBlockCount (getD (now (counts .entry)) p 0)) ⌝ }
+{
+    let mut all = true;
+    for p in 0..n {
+        let count = counts[p];
+        let fits = is_block_count(count);
+        all = all & fits;
+    }
+    all
+}
+
+// The blocks of n checkpoints, one of each process.
+fn sum_of(counts: &[u32], n: usize) -> u64
+    requires { ⌜ (n ≤ 16) × (n ≤ length (now counts)) ⌝ }
+    ensures { λ r. ⌜ r ≡ sumBelow n (λ p. getD (now (counts .entry)) p 0) ⌝ }
+{
+    let mut sum: u64 = 0;
+    for p in 0..n {
+        let count = counts[p];
+        sum = sum + count as u64;
+    }
+    sum
+}
+
+fn put_counts(w: &mut [u16], counts: &[u32], n: usize)
+    requires { ⌜ (length (now w) ≡ 6464) × (n ≤ 16) × (n ≤ length (now counts)) × (allBelow n (λ p. isBlockCount (getD (now counts) p 0)) ≡ true) ⌝ }
+    ensures { λ u. ⌜ now (w .exit) ≡ withCounts (now (w .entry)) (now (counts .entry)) n ⌝ }
+{
+    for p in 0..n {
+        let count = counts[p];
+        w[places::BLOCKS + p] = count as u16;
+    }
+}
+
+// Checkpoint 0 of each process.
+fn put_firsts(w: &mut [u16], n: usize)
+    requires { ⌜ (length (now w) ≡ 6464) × (n ≤ 16) ⌝ }
+    ensures { λ u. ⌜ now (w .exit) ≡ withFirsts (now (w .entry)) n ⌝ }
+{
+    for p in 0..n {
+        w[places::PARTS + places::PART * p + p] = FIRST;
+        w[places::PINS + places::PART * p + p] = FIRST;
+        w[places::INDEXES + places::PART * p] = FIRST;
+        w[places::HELD + p] = 1;
+    }
+}
+
+fn put_started(w: &mut [u16], n: usize, counts: &[u32])
+    requires { ⌜ (now w ≡ zeros) × (n ≤ 16) × (n ≤ length (now counts)) × (allBelow n (λ p. isBlockCount (getD (now counts) p 0)) ≡ true) ⌝ }
+    ensures { λ u. ⌜ now (w .exit) ≡ startedWords n (now (counts .entry)) ⌝ }
+{
+    let written = sum_of(counts, n);
+    w[places::COUNT] = n as u16;
+    put_counts(w, counts, n);
+    put_firsts(w, n);
+    words::put4(w, places::WRITTEN, written);
+}
+
+// Whether a start is refused, and why: 1, then 2, 3 and 15.
+fn answer_of(many: usize, n: usize, counts: &[u32]) -> StartAnswer
+    ensures { λ r. ⌜ r ≡ startOutcomeIn many n (now (counts .entry)) .answer ⌝ }
+{
+    if n < 1 {
+        return StartAnswer::Refused(Refusal::CountOutsideRange);
+    }
+    if words::PROCESSES < n {
+        return StartAnswer::Refused(Refusal::CountOutsideRange);
+    }
+    if many != words::WORDS {
+        return StartAnswer::Refused(Refusal::UnsoundState);
+    }
+    if counts.len() < n {
+        return StartAnswer::Refused(Refusal::ListTooShort);
+    }
+    let ok = are_block_counts(counts, n);
+    if !ok {
+        return StartAnswer::Refused(Refusal::BlockCountOutsideRange);
+    }
+    StartAnswer::Started
+}
+
+// A run of n processes with the block count of each: those at n and above are neither judged nor stored. The words of a refused start are zero; those of another
+// number are left as they were.
+pub fn start(w: &mut [u16], n: usize, counts: &[u32]) -> StartAnswer
+    ensures { λ r. ⌜ r ≡ startOutcomeIn (length (now (w .entry))) n (now (counts .entry)) .answer ⌝ }
+    ensures { λ r. ⌜ runOf (now (w .exit)) ≡ startOutcomeIn (length (now (w .entry))) n (now (counts .entry)) .run ⌝ }
+    ensures { λ r. ⌜ now (w .exit) ≡ startWords (now (w .entry)) n (now (counts .entry)) ⌝ }
+    ensures { λ r. ⌜ (length (now (w .entry)) ≡ 6464 → Clean (now (w .exit))) ⌝ }
+{
+    let many = w.len();
+    let answer = answer_of(many, n, counts);
+    if many != words::WORDS {
+        return answer;
+    }
+    clear_all(w);
+    match answer {
+        StartAnswer::Refused(why) => StartAnswer::Refused(why),
+        StartAnswer::Started => {
+            put_started(w, n, counts);
+            StartAnswer::Started
+        }
+    }
+}
