@@ -1,0 +1,131 @@
+-- Document 01, "A sound state", as it is tested on the words themselves. Only places in use are looked at: a row that is in use whole, all its 16 words.
+-- proofs/Whole has the theorem that the test is `sound` of the run that the words stand for.
+-- Assumes nothing.
+use mathlib.Core.Bool.{Bool, _&&_, _||_, not}
+use mathlib.Core.List.{List, [], _∷_}
+use Prim.Native.Nat.{ℕ, zero, suc, _+_, _-_, _*_}
+use lib.Dec.{eqb, ltb, leb}
+use lib.ListN.{length}
+use Rattle.laws.specs.Choice.{pick}
+use Rattle.laws.specs.Search.{allBelow, anyBelow}
+use Rattle.laws.specs.Sums.{sumBelow}
+use Rattle.laws.specs.Tests.{allOf, countBelow}
+use Rattle.model.specs.Words.{places, mostUnderWay, mostMessages, mostBlocks}
+use Rattle.model.specs.Sound.{causeSound}
+use Rattle.words.specs.Layout.{size, word, wide2, wide4, countOf, endOf, heldAt, blocksAt, partAt, pinsAt, indexAt, causeAt, storedAt, lowAt, highAt, senderAt, receiverAt, carriedAt}
+
+-- The own entry of process p.
+abbrev pub ownIn : List ℕ → ℕ → ℕ
+ownIn w p = word w (partAt p + p)
+
+-- "No vector .. has an entry for f above f's own current entry", and entries at n and above are zero: what entry f may be at most.
+unfoldable pub most : List ℕ → ℕ → ℕ
+most w f = pick (ltb f (countOf w)) (ownIn w f) 0
+
+unfoldable pub rowWithin : List ℕ → ℕ → Bool
+rowWithin w at = allBelow places (λ f. leb (word w (at + f)) (most w f))
+
+-- The pins of process p. "unused pins .. are none": those in columns at n and above.
+abbrev pub pinIn : List ℕ → ℕ → ℕ → ℕ
+pinIn w p f = word w (pinsAt p + f)
+
+unfoldable pub unusedPins : List ℕ → ℕ → Bool
+unusedPins w p = allBelow places (λ f. ltb f (countOf w) || eqb (pinIn w p f) 0)
+
+-- The kept checkpoints of process p: the word of an index is one above the index. The one before the first counts as 0.
+abbrev pub indexIn : List ℕ → ℕ → ℕ → ℕ
+indexIn w p k = word w (indexAt p k)
+
+unfoldable pub indexBefore : List ℕ → ℕ → ℕ → ℕ
+indexBefore w p zero = 0
+indexBefore w p (suc k) = indexIn w p k
+
+-- "indexes ascending, each one's own entry equal to its index"; Note 5: "causes 0 to 2, 0 exactly at index 0"; "every kept one is pinned"; its vector.
+unfoldable pub keptTests : List ℕ → ℕ → ℕ → List Bool
+keptTests w p k =
+    ltb (indexBefore w p k) (indexIn w p k)
+    ∷ eqb (word w (storedAt p k + p)) (indexIn w p k - 1)
+    ∷ causeSound (indexIn w p k - 1) (word w (causeAt p k))
+    ∷ anyBelow places (λ f. eqb (pinIn w p f) (indexIn w p k))
+    ∷ rowWithin w (storedAt p k)
+    ∷ []
+
+unfoldable pub keptFits : List ℕ → ℕ → ℕ → Bool
+keptFits w p k = allOf (keptTests w p k)
+
+-- "Every pin is none or names a kept one", one of the first `held`.
+unfoldable pub pinFits : List ℕ → ℕ → ℕ → ℕ → Bool
+pinFits w p held f = eqb (pinIn w p f) 0 || anyBelow held (λ k. eqb (pinIn w p f) (indexIn w p k))
+
+-- "Each process keeps 1 to n checkpoints"; Note 5: "block counts from 1": a word is at most 65,535.
+unfoldable pub countsFit : List ℕ → ℕ → Bool
+countsFit w p = leb 1 (word w (heldAt p)) && leb (word w (heldAt p)) (countOf w) && leb 1 (word w (blocksAt p))
+
+-- "Own entries at least 1"; the current vector; the kept checkpoints, of which "the last is the own entry minus 1 and the own pin names it"; the pins.
+unfoldable pub partTests : List ℕ → ℕ → List Bool
+partTests w p =
+    leb 1 (ownIn w p)
+    ∷ eqb (pinIn w p p) (ownIn w p)
+    ∷ rowWithin w (partAt p)
+    ∷ unusedPins w p
+    ∷ allBelow (word w (heldAt p)) (keptFits w p)
+    ∷ eqb (indexBefore w p (word w (heldAt p))) (ownIn w p)
+    ∷ allBelow places (pinFits w p (word w (heldAt p)))
+    ∷ []
+
+unfoldable pub partFits : List ℕ → ℕ → Bool
+partFits w p = allOf (partTests w p)
+
+-- Note 5: "written equals blocks of all kept checkpoints plus blocks deleted", "within the bound of 16".
+unfoldable pub blocksIn : List ℕ → ℕ → ℕ
+blocksIn w n = sumBelow n (λ p. word w (heldAt p) * word w (blocksAt p))
+
+unfoldable pub diskFits : List ℕ → Bool
+diskFits w = eqb (wide4 w 4) (blocksIn w (countOf w) + wide4 w 8) && leb (wide4 w 4) mostBlocks
+
+-- The number of the message in place k, 0 where there is none; and the last number before place k.
+abbrev pub numberIn : List ℕ → ℕ → ℕ
+numberIn w k = word w (lowAt k) + 65_536 * word w (highAt k)
+
+unfoldable pub numberBefore : List ℕ → ℕ → ℕ
+numberBefore w zero = 0
+numberBefore w (suc k) = pick (eqb (numberIn w k) 0) (numberBefore w k) (numberIn w k)
+
+-- "Messages ascend by number"; "sender and receiver are in the run and differ"; its vector.
+unfoldable pub messageTests : List ℕ → ℕ → List Bool
+messageTests w k =
+    ltb (numberBefore w k) (numberIn w k)
+    ∷ ltb (word w (senderAt k)) (countOf w)
+    ∷ ltb (word w (receiverAt k)) (countOf w)
+    ∷ not (eqb (word w (senderAt k)) (word w (receiverAt k)))
+    ∷ rowWithin w (carriedAt k)
+    ∷ []
+
+unfoldable pub messageFits : List ℕ → ℕ → Bool
+messageFits w k = eqb (numberIn w k) 0 || allOf (messageTests w k)
+
+-- The end of the places in use; "from 1 to the last used, at most 64"; "The last used number is at most 1,000,000."
+unfoldable pub messagesTests : List ℕ → List Bool
+messagesTests w =
+    leb (endOf w) mostUnderWay
+    ∷ (eqb (endOf w) 0 || not (eqb (numberIn w (endOf w - 1)) 0))
+    ∷ allBelow (endOf w) (messageFits w)
+    ∷ eqb (countBelow (endOf w) (λ k. not (eqb (numberIn w k) 0))) (word w 1)
+    ∷ leb (numberBefore w (endOf w)) (wide2 w 2)
+    ∷ leb (wide2 w 2) mostMessages
+    ∷ []
+
+-- The whole test.
+unfoldable pub soundTests : List ℕ → List Bool
+soundTests w =
+    eqb (length w) size
+    ∷ leb 1 (countOf w)
+    ∷ leb (countOf w) places
+    ∷ allBelow (countOf w) (countsFit w)
+    ∷ allBelow (countOf w) (partFits w)
+    ∷ diskFits w
+    ∷ allOf (messagesTests w)
+    ∷ []
+
+unfoldable pub soundIn : List ℕ → Bool
+soundIn w = allOf (soundTests w)
