@@ -102,7 +102,7 @@ module _ (w : List ℕ) (high : countOf w ≤ 16) where
     own-at = rw vector-at (ap (λ (x : Interval). x .0) (vector-word w (partAt p) p (omega arith)))
 
   -- A vector is within the own entries, and zero from n on: no entry of its row is above what it may be at most.
-  pub row-within : (at : ℕ) → (within (decoded w) (vectorIn w at) && zeroFrom (countOf w) (vectorIn w at)) ≡ rowWithin w at
+  pub row-within : (at : ℕ) → (within (decoded w) (vectorIn w at) && zeroFrom (decoded w .count) (vectorIn w at)) ≡ rowWithin w at
   unfolding within rowWithin most decoded
   row-within at =
       rw (count-at, zero-rest w (countOf w) at)
