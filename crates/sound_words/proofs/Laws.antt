@@ -22,6 +22,12 @@ use Rattle.laws.specs.Tests.{every, countBelow}
 use Rattle.laws.specs.Truth.{never-both, and-left, and-right, and-both, or-left, or-in-right, or-right}
 use Rattle.model.specs.Sound.{ascending}
 
+pub cons-same : {A : Type 0} (a b : A) (l m : List A) → a ≡ b → l ≡ m → a ∷ l ≡ b ∷ m
+cons-same a b l m e f = rw (e, f)
+
+pub both-false : (a b : Bool) → a ≡ false → b ≡ false → a ≡ b
+both-false a b e f = e ∙ sym f
+
 pub every-append-is : {A : Type 0} (t : A → Bool) (a b : List A) → every t (a ++ b) ≡ (every t a && every t b)
 unfolding every
 every-append-is t [] b = refl

@@ -28,15 +28,9 @@ use Rattle.model.specs.Words.{Process, places, entry, lastStored, names, named,
 use Rattle.model.specs.Sound.{within, ascending, keptSound, pinSound, pinsSound, zeroFrom, nothingFrom, unusedCheckpoint, rowUnused, causeSound, isBlockCount, recordSound}
 use Rattle.words.specs.Layout.{word, countOf, heldAt, blocksAt, partAt, pinsAt, indexAt, causeAt, storedAt, indexOf, pinOf, vectorIn, pinsIn, checkpointIn, isKeptIn, decoded}
 use Rattle.sound_words.specs.Test.{ownIn, rowWithin, pinIn, unusedPins, indexIn, indexBefore, keptTests, keptFits, pinFits, countsFit, partTests, partFits}
-use Rattle.sound_words.proofs.Laws.{every-table-is}
+use Rattle.sound_words.proofs.Laws.{cons-same, both-false, every-table-is}
 use Rattle.sound_words.proofs.Parts as parts
 use Rattle.sound_words.proofs.Clauses as clauses
-
-cons-same : {A : Type 0} (a b : A) (l m : List A) → a ≡ b → l ≡ m → a ∷ l ≡ b ∷ m
-cons-same a b l m e f = rw (e, f)
-
-both-false : (a b : Bool) → a ≡ false → b ≡ false → a ≡ b
-both-false a b e f = e ∙ sym f
 
 -- A place that is not in use has no block count.
 none-recorded : (P : Process) → recordSound P noCheckpoint ≡ false
