@@ -42,7 +42,7 @@ all-or-both m c a b =
     ∙ all-both m (λ k. c k || a k) (λ k. c k || b k)
 
 -- A test is asked only where another one holds.
-under : (h a b : Bool) → (h ≡ true → a ≡ b) → (h && a) ≡ (h && b)
+pub under : (h a b : Bool) → (h ≡ true → a ≡ b) → (h && a) ≡ (h && b)
 under true a b e = e refl
 under false a b e = refl
 

@@ -32,7 +32,7 @@ least x = same-test (leb x 0) (eqb x 0)
     (λ e. eq-eqb x 0 (omega (arith, leb-true x 0 e)))
     (λ e. le-leb x 0 (omega (arith, eqb-true x 0 e)))
 
-none-unused : unusedCheckpoint noCheckpoint ≡ true
+pub none-unused : unusedCheckpoint noCheckpoint ≡ true
 unfolding unusedCheckpoint zeroFrom every
 none-unused = refl
 
