@@ -1,0 +1,76 @@
+-- Tests gathered in the bits of a word: it is 0 exactly if each part was.
+-- Assumes nothing.
+use mathlib.Core.Path.{_≡_, refl, sym, _∙_, ap}
+use mathlib.Core.List.{List}
+use mathlib.Core.Bool.{Bool, true, false, _&&_, _||_, not}
+use Prim.Native.Nat.{ℕ, _+_, _-_, _≤_, _<_}
+use native.Mathlib.Numerals.{add-one}
+use native.Mathlib.Omega.{arith}
+use lib.Bits.{bitOr, bitAnd, or-add-and, and-le-l, and-le-r}
+use lib.Dec.{eqb, ltb, leb}
+use lib.ListN.{length, replicate, length-replicate, getD-replicate}
+use borrow.Author.Tests.{eq-eqb, eqb-true, le-leb, leb-true, lt-ltb, le-ltb}
+use Rattle.laws.specs.Below.{all-and}
+use Rattle.laws.specs.Choice.{pick}
+use Rattle.laws.specs.Elements.{same-test}
+use Rattle.laws.specs.Lists.{table}
+use Rattle.laws.specs.Loops.{setBelow, below-length, below-at, below-above}
+use Rattle.laws.specs.Rows.{by-lt}
+use Rattle.laws.specs.Search.{allBelow, anyBelow}
+use Rattle.laws.specs.Tables.{table-is}
+use Rattle.laws.specs.Truth.{and-out, and-both}
+
+pub or-zero : (a b : ℕ) → eqb (bitOr a b) 0 ≡ (eqb a 0 && eqb b 0)
+or-zero a b = same-test _ _
+    (λ e.
+    let z = eqb-true (bitOr a b) 0 e in
+    let s = or-add-and a b in let l = and-le-l a b in let r = and-le-r a b in
+    and-both (eqb a 0) (eqb b 0) (eq-eqb a 0 (omega arith)) (eq-eqb b 0 (omega arith)))
+    (λ e.
+    let p = and-out (eqb a 0) (eqb b 0) e in
+    let x = eqb-true a 0 (p .0) in let y = eqb-true b 0 (p .1) in
+    let s = or-add-and a b in
+    eq-eqb (bitOr a b) 0 (omega arith))
+
+pub less-zero : (x y : ℕ) → eqb (x - y) 0 ≡ leb x y
+less-zero x y = same-test _ _ (λ e. let z = eqb-true (x - y) 0 e in le-leb x y (omega arith)) (λ e. let z = leb-true x y e in eq-eqb (x - y) 0 (omega arith))
+
+-- A turn of a loop that gathers.
+pub or-turn : (t : ℕ → Bool) (f over e : ℕ) → eqb over 0 ≡ allBelow f t → eqb e 0 ≡ t f → eqb (bitOr over e) 0 ≡ allBelow (f + 1) t
+or-turn t f over e inv here = or-zero over e ∙ all-and t f (eqb over 0) (eqb e 0) inv here
+
+-- Ones gathered where a test holds: the word is 0 exactly if none has.
+pub any-none : (t : ℕ → Bool) → true ≡ not (anyBelow 0 t)
+unfolding anyBelow
+any-none t = refl
+
+neither : (a b : Bool) → (not a && not b) ≡ not (b || a)
+neither true true = refl
+neither true false = refl
+neither false true = refl
+neither false false = refl
+
+ones-zero : (b : Bool) → eqb (pick b 65535 0) 0 ≡ not b
+ones-zero true = refl
+ones-zero false = refl
+
+pub any-turn : (t : ℕ → Bool) (f any here : ℕ) → eqb any 0 ≡ not (anyBelow f t) → here ≡ pick (t f) 65535 0 → eqb (bitOr any here) 0 ≡ not (anyBelow (f + 1) t)
+unfolding anyBelow
+any-turn t f any here inv e = or-zero any here ∙ rw (inv, e, ones-zero (t f), add-one f) (neither (anyBelow f t) (t f))
+
+pub any-end : (b : Bool) (any : ℕ) → eqb any 0 ≡ not b → not (eqb any 0) ≡ b
+any-end true any e = rw e
+any-end false any e = rw e
+
+-- The first n of the entries of a table replaced.
+abbrev pub ones : ℕ → ℕ
+ones q = 65535
+
+abbrev zeros : List ℕ
+zeros = replicate 16 0
+
+pub below-first : (n : ℕ) → n ≤ 16 → setBelow n ones (replicate 16 0) ≡ table 16 (λ f. pick (ltb f n) 65535 0)
+below-first n le = table-is 0 (setBelow n ones zeros) 16 (λ f. pick (ltb f n) 65535 0) (below-length ones zeros n ∙ length-replicate {A = ℕ} 16 0)
+    (λ f lt. by-lt f n
+    (λ less. rw (lt-ltb f n less) (below-at ones zeros n f 0 less (rw (length-replicate {A = ℕ} 16 0) lt)))
+    (λ from. rw (le-ltb f n from) (below-above ones zeros n f 0 from ∙ getD-replicate 16 f 0 0 lt)))

@@ -1,0 +1,106 @@
+// Tests of rows of 16 words, as a sound state asks for them. What has to be zero is gathered with `|` in one word, and there is no exit within a row: a
+// processor then tests several words at a time.
+use model::Interval;
+ghost use mathlib.Core.Path.{_≡_};
+ghost use Prim.Native.Nat.{_-_, _≤_};
+ghost use lib.Dec.{eqb, ltb, leb};
+ghost use lib.ListN.{getD};
+ghost use Rattle.laws.specs.Choice.{pick};
+ghost use Rattle.laws.specs.Lists.{table};
+ghost use Rattle.laws.specs.Search.{allBelow, anyBelow};
+ghost use Rattle.model.specs.Words.{entry};
+
+// A word with all its bits set.
+const ONES: u16 = 65535;
+
+// By how much x is above its limit.
+fn excess(x: u16, limit: u16) -> u16
+    ensures { λ r. ⌜ r ≡ x - limit ⌝ }
+{
+    if limit < x { x - limit } else { 0 }
+}
+
+// No entry of a vector is above its limit.
+pub fn is_within(vector: [Interval; 16], limits: [Interval; 16]) -> bool
+    ensures { λ r. ⌜ r ≡ allBelow 16 (λ f. leb (entry vector f .0) (entry limits f .0)) ⌝ }
+{
+    let mut over: u16 = 0;
+    for f in 0..words::PROCESSES {
+        let x = vector[f];
+        let limit = limits[f];
+        let more = excess(x.0, limit.0);
+        over = over | more;
+    }
+    over == 0
+}
+
+// No word of a row is above its limit.
+pub fn is_row_within(row: [u16; 16], limits: [u16; 16]) -> bool
+    ensures { λ r. ⌜ r ≡ allBelow 16 (λ f. leb (getD row f 0) (getD limits f 0)) ⌝ }
+{
+    let mut over: u16 = 0;
+    for f in 0..words::PROCESSES {
+        let more = excess(row[f], limits[f]);
+        over = over | more;
+    }
+    over == 0
+}
+
+// The limits of a row of which only the first n words may be other than 0.
+pub fn limits_below(n: usize) -> [u16; 16]
+    requires { ⌜ n ≤ 16 ⌝ }
+    ensures { λ r. ⌜ r ≡ table 16 (λ f. pick (ltb f n) 65535 0) ⌝ }
+{
+    let mut limits = [0u16; 16];
+    for f in 0..n {
+        limits[f] = ONES;
+    }
+    limits
+}
+
+fn ones_if_same(a: u16, b: u16) -> u16
+    ensures { λ r. ⌜ r ≡ pick (eqb a b) 65535 0 ⌝ }
+{
+    if a == b { ONES } else { 0 }
+}
+
+// Some word of a row is x.
+pub fn is_among(row: [u16; 16], x: u16) -> bool
+    ensures { λ r. ⌜ r ≡ anyBelow 16 (λ f. eqb (getD row f 0) x) ⌝ }
+{
+    let mut any: u16 = 0;
+    for f in 0..words::PROCESSES {
+        let here = ones_if_same(row[f], x);
+        any = any | here;
+    }
+    any != 0
+}
+
+fn unless_same(kept: u16, a: u16, b: u16) -> u16
+    ensures { λ r. ⌜ r ≡ pick (eqb a b) 0 kept ⌝ }
+{
+    if a == b { 0 } else { kept }
+}
+
+// What is left of a row where another row is x: 0 there.
+pub fn without(left: [u16; 16], row: [u16; 16], x: u16) -> [u16; 16]
+    ensures { λ r. ⌜ r ≡ table 16 (λ f. pick (eqb (getD row f 0) x) 0 (getD left f 0)) ⌝ }
+{
+    let mut then = left;
+    for f in 0..words::PROCESSES {
+        let here = unless_same(left[f], row[f], x);
+        then[f] = here;
+    }
+    then
+}
+
+// Every word of a row is 0.
+pub fn is_zero(row: [u16; 16]) -> bool
+    ensures { λ r. ⌜ r ≡ allBelow 16 (λ f. eqb (getD row f 0) 0) ⌝ }
+{
+    let mut any: u16 = 0;
+    for f in 0..words::PROCESSES {
+        any = any | row[f];
+    }
+    any == 0
+}
