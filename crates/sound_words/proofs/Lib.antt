@@ -4,3 +4,4 @@ pub mod Clauses
 pub mod OneProcess
 pub mod Messages
 pub mod Whole
+pub mod Judging

@@ -27,7 +27,7 @@ use Rattle.sound_words.specs.Test.{ownIn, most, rowWithin, pinIn, unused
 use Rattle.sound_words.proofs.Laws.{every-after, all-split, take-table}
 
 -- At most 0 is 0.
-least : (x : ℕ) → leb x 0 ≡ eqb x 0
+pub least : (x : ℕ) → leb x 0 ≡ eqb x 0
 least x = same-test (leb x 0) (eqb x 0)
     (λ e. eq-eqb x 0 (omega (arith, leb-true x 0 e)))
     (λ e. le-leb x 0 (omega (arith, eqb-true x 0 e)))

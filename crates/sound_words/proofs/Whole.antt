@@ -24,7 +24,7 @@ use Rattle.model.specs.declared.Message.{Message}
 use Rattle.model.specs.declared.Run.{Run}
 use Rattle.model.specs.Words.{places, mostUnderWay, mostMessages, mostBlocks, blocksOf, zeroVector, noPins, noCheckpoint, blank, process, own, underWay}
 use Rattle.model.specs.Sound.{sound, countSound, ownSound, within, vectorsSound, ascending, keptSound, pinsSound, messageSound, messagesSound, zeroFrom, unusedCheckpoint, unusedMessage, nothingFrom, isNothing, rowUnused, unusedSound, recordSound, keptBlocks, diskSound}
-use Rattle.words.specs.Layout.{size, word, wide2, wide4, countOf, endOf, heldAt, blocksAt, markAt, partAt, pinsAt, vectorIn, pinsIn, keptIn, checkpointIn, messageIn, isMessage, decoded, endFits, fits, runOf}
+use Rattle.words.specs.Layout.{size, word, wide2, wide4, countOf, endOf, heldAt, blocksAt, partAt, pinsAt, vectorIn, pinsIn, keptIn, checkpointIn, markIn, messageIn, isMessage, decoded, endFits, fits, runOf}
 use Rattle.sound_words.specs.Test.{ownIn, numberIn, numberBefore, indexIn, indexBefore, keptTests, keptFits, countsFit, partTests, partFits, blocksIn, diskFits, messageFits, messagesTests, soundTests, soundIn}
 use Rattle.sound_words.proofs.Laws.{both-false, cons-same}
 use Rattle.sound_words.proofs.Parts as parts
@@ -107,7 +107,7 @@ module _ (w : List ℕ) (small : (k : ℕ) → word w k ≤ 65535) where
     none-after =
         cons-same _ _ _ _ (parts.of-after w high (zeroFrom 0) (λ p. vectorIn w (partAt p)) zeroVector zeros)
         (cons-same _ _ _ _ (parts.of-after w high (nothingFrom 0) (λ p. pinsIn w (pinsAt p)) noPins nothings)
-        (cons-same _ _ _ _ (parts.of-after w high not (λ p. not (eqb (word w (markAt p)) 0)) false refl)
+        (cons-same _ _ _ _ (parts.of-after w high not (markIn w) false refl)
         (cons-same _ _ _ _ (parts.of-after w high (every unusedCheckpoint) (keptIn w) (replicate places noCheckpoint) (every-replicate unusedCheckpoint places noCheckpoint parts.none-unused))
         (cons-same _ _ _ _ (parts.of-after w high (eqb 0) (λ p. word w (heldAt p)) 0 refl) refl))))
 

@@ -3,16 +3,19 @@
 -- Assumes nothing.
 use mathlib.Core.Bool.{Bool, _&&_, _||_, not}
 use mathlib.Core.List.{List, [], _∷_}
-use Prim.Native.Nat.{ℕ, zero, suc, _+_, _-_, _*_}
+use mathlib.Core.Path.{_≡_}
+use Prim.Native.Nat.{ℕ, zero, suc, _+_, _-_, _*_, _≤_}
 use lib.Dec.{eqb, ltb, leb}
 use lib.ListN.{length}
 use Rattle.laws.specs.Choice.{pick}
+use Rattle.laws.specs.Lists.{table}
 use Rattle.laws.specs.Search.{allBelow, anyBelow}
 use Rattle.laws.specs.Sums.{sumBelow}
 use Rattle.laws.specs.Tests.{allOf, countBelow}
+use Rattle.model.specs.declared.Interval.{Interval}
 use Rattle.model.specs.Words.{places, mostUnderWay, mostMessages, mostBlocks}
 use Rattle.model.specs.Sound.{causeSound}
-use Rattle.words.specs.Layout.{size, word, wide2, wide4, countOf, endOf, heldAt, blocksAt, partAt, pinsAt, indexAt, causeAt, storedAt, lowAt, highAt, senderAt, receiverAt, carriedAt}
+use Rattle.words.specs.Layout.{size, word, wide2, wide4, countOf, endOf, heldAt, blocksAt, partAt, pinsAt, indexAt, causeAt, storedAt, lowAt, highAt, senderAt, receiverAt, carriedAt, intervalOf}
 
 -- The own entry of process p.
 abbrev pub ownIn : List ℕ → ℕ → ℕ
@@ -129,3 +132,14 @@ soundTests w =
 
 unfoldable pub soundIn : List ℕ → Bool
 soundIn w = allOf (soundTests w)
+
+-- The own entries of the n processes, zero at n and above: what each entry of a vector may be at most.
+unfoldable pub limitsIn : List ℕ → List Interval
+limitsIn w = table places (λ f. intervalOf (most w f))
+
+-- What is known where one part of the words is tested: their number, that of the processes, and the own entries.
+pub record Judged (w : List ℕ) (n : ℕ) (owns : List Interval) : Type 0 where
+  pub sized : length w ≡ size
+  pub counted : n ≡ countOf w
+  pub few : n ≤ places
+  pub limits : owns ≡ limitsIn w

@@ -1,0 +1,425 @@
+-- What the functions find, part by part, as the tests of specs/Test.
+-- Assumes nothing.
+use mathlib.Core.Path.{_≡_, refl, sym, _∙_, ap}
+use mathlib.Core.Bool.{Bool, true, false, _&&_, _||_, not}
+use mathlib.Core.List.{List, [], _∷_}
+use Prim.Native.Nat.{ℕ, zero, suc, _+_, _-_, _*_, _≤_, _<_}
+use native.Mathlib.Nat.{mul-le-mul}
+use native.Mathlib.Numerals.{add-one}
+use native.Mathlib.Omega.{arith}
+use lib.Dec.{eqb, ltb, leb}
+use lib.ListN.{length, getD, replicate, length-replicate, getD-replicate}
+use borrow.Author.Tests.{lt-ltb, le-ltb, leb-true, le-leb, lt-leb, eqb-true, eq-eqb, ne-eqb, not-true, not-false}
+use Rattle.laws.specs.Choice.{pick, by-bool}
+use Rattle.laws.specs.Conjunctions.{Conjunction, test, _and_, holds, asks, conjunction, part-fails}
+use Rattle.laws.specs.Elements.{same-test}
+use Rattle.laws.specs.Lists.{table}
+use Rattle.laws.specs.Loops.{setBelow, below-length, below-at, below-above}
+use Rattle.laws.specs.Ranges.{all-same, any-same}
+use Rattle.laws.specs.Rows.{all-both, all-stop, by-lt, and-true}
+use Rattle.laws.specs.Search.{allBelow, anyBelow, all-out}
+use Rattle.laws.specs.Sums.{sumBelow}
+use Rattle.laws.specs.Tables.{length-table, getD-table, table-same, table-is}
+use Rattle.laws.specs.Tests.{every, allOf, countBelow}
+use Rattle.laws.specs.Truth.{and-left, and-right, and-both, or-none}
+use Rattle.model.specs.declared.Interval.{Interval}
+use Rattle.model.specs.declared.CheckpointIndex.{CheckpointIndex}
+use Rattle.model.specs.Words.{places, mostUnderWay, mostMessages, entry}
+use Rattle.model.specs.Sound.{sound, causeSound}
+use Rattle.words.specs.Layout.{size, word, wide2, wide4, countOf, endOf, heldAt, blocksAt, partAt, pinsAt, causeAt, storedAt, senderAt, receiverAt, carriedAt, lowAt, highAt, intervalOf, indexOf, rowIn, vectorIn, runOf}
+use Rattle.words.proofs.Same.{vector-word, row-word}
+use Rattle.sound_words.specs.Test.{ownIn, most, rowWithin, pinIn, unusedPins, indexIn, indexBefore, keptTests, keptFits, pinFits, countsFit, partTests, partFits, blocksIn, diskFits, numberIn, numberBefore, messageTests, messageFits, messagesTests, soundTests, soundIn, limitsIn}
+use Rattle.sound_words.proofs.Parts.{least}
+use Rattle.sound_words.proofs.Whole.{verdict}
+
+-- Three tests, the first of which fails; and two that hold before a third.
+pub first-fails : (a b c : Bool) → false ≡ a → false ≡ (a && b && c)
+first-fails a b c e = rw (sym e)
+
+pub second-fails : (a b c : Bool) → b ≡ false → false ≡ (a && b && c)
+second-fails true b c e = rw e
+second-fails false b c e = refl
+
+pub third-left : (a b c : Bool) → a ≡ true → b ≡ true → c ≡ (a && b && c)
+third-left a b c e f = rw (e, f)
+
+pub fourth-left : (a b c d : Bool) → a ≡ true → b ≡ true → c ≡ true → d ≡ (a && b && c && d)
+fourth-left a b c d e f g = rw (e, f, g)
+
+pub fifth-left : (a b c d x : Bool) → a ≡ true → b ≡ true → c ≡ true → d ≡ true → x ≡ (a && b && c && d && x)
+fifth-left a b c d x e f g h = rw (e, f, g, h)
+
+-- The own entries, gathered one by one.
+abbrev pub noInterval : Interval
+noInterval = record { 0 = 0 }
+
+module _ (w : List ℕ) where
+  abbrev pub ownAt : ℕ → Interval
+  ownAt f = intervalOf (ownIn w f)
+
+  pub limits-gathered : countOf w ≤ 16 → setBelow (countOf w) (λ f. intervalOf (ownIn w f)) (replicate 16 (record { 0 = 0 })) ≡ limitsIn w
+  unfolding limitsIn most
+  limits-gathered few = table-is noInterval (setBelow (countOf w) ownAt (replicate 16 noInterval)) 16 (λ f. intervalOf (pick (ltb f (countOf w)) (ownIn w f) 0))
+      (below-length ownAt (replicate 16 noInterval) (countOf w) ∙ length-replicate 16 noInterval)
+      (λ f lt. by-lt f (countOf w)
+      (λ less. rw (lt-ltb f (countOf w) less) (below-at ownAt (replicate 16 noInterval) (countOf w) f noInterval less (rw (length-replicate 16 noInterval) lt)))
+      (λ from. rw (le-ltb f (countOf w) from) (below-above ownAt (replicate 16 noInterval) (countOf w) f noInterval from ∙ getD-replicate 16 f noInterval noInterval lt)))
+
+  -- A vector against the own entries, the pins against what they may be, a word among the pins.
+  pub within-row : (at : ℕ) (v limits : List Interval) → v ≡ vectorIn w at → limits ≡ limitsIn w → allBelow 16 (λ f. leb (entry v f .0) (entry limits f .0)) ≡ rowWithin w at
+  unfolding rowWithin limitsIn
+  within-row at v limits ev el = rw (ev, el)
+      (all-same 16 (λ f. leb (entry (vectorIn w at) f .0) (entry (table places (λ f. intervalOf (most w f))) f .0)) (λ f. leb (word w (at + f)) (most w f))
+      (λ f lt. rw (vector-word w at f lt, getD-table places (λ f. intervalOf (most w f)) f (record { 0 = 0 }) lt)))
+
+  pub pins-within : (p : ℕ) (pins columns : List ℕ) → ((k : ℕ) → word w k ≤ 65535) → pins ≡ rowIn w (pinsAt p) → columns ≡ table 16 (λ f. pick (ltb f (countOf w)) 65535 0)
+      → allBelow 16 (λ f. leb (getD pins f 0) (getD columns f 0)) ≡ unusedPins w p
+  unfolding unusedPins
+  pins-within p pins columns small ep ec = rw (ep, ec)
+      (all-same 16 (λ f. leb (getD (rowIn w (pinsAt p)) f 0) (getD (table 16 (λ f. pick (ltb f (countOf w)) 65535 0)) f 0)) (λ f. ltb f (countOf w) || eqb (pinIn w p f) 0)
+      (λ f lt. rw (row-word w (pinsAt p) f lt, getD-table {A = ℕ} 16 (λ f. pick (ltb f (countOf w)) 65535 0) f 0 lt) (by-bool (ltb f (countOf w))
+      (λ e. rw e (le-leb (pinIn w p f) 65535 (small (pinsAt p + f))))
+      (λ e. rw e (least (pinIn w p f))))))
+
+  pub named-row : (p x : ℕ) (pins : List ℕ) → pins ≡ rowIn w (pinsAt p) → anyBelow 16 (λ f. eqb (getD pins f 0) x) ≡ anyBelow 16 (λ f. eqb (pinIn w p f) x)
+  named-row p x pins ep = rw ep (any-same 16 (λ f. eqb (getD (rowIn w (pinsAt p)) f 0) x) (λ f. eqb (pinIn w p f) x) (λ f lt. rw (row-word w (pinsAt p) f lt)))
+
+  -- The numbers of a kept checkpoint.
+  pub numbered : (p k x before sa ca : ℕ) (i : Interval) (j : CheckpointIndex) (s : Bool) → before < x → sa ≡ storedAt p k → i ≡ intervalOf (word w (sa + p)) → j ≡ indexOf x → ca ≡ causeAt p k
+      → s ≡ causeSound (j .0) (word w ca) → (eqb (i .0) (j .0) && s) ≡ (ltb before x && eqb (word w (storedAt p k + p)) (x - 1) && causeSound (x - 1) (word w (causeAt p k)))
+  numbered p k x before sa ca i j s lt e1 e2 e3 e4 e5 = rw (e5, e4, e3, e2, e1, lt-ltb before x lt)
+
+  -- A kept checkpoint: one of its tests fails, or all but the last hold.
+  module _ (p k x before : ℕ) (is : x ≡ indexIn w p k) (was : before ≡ indexBefore w p k) (r : Bool)
+      (told : r ≡ (ltb before x && eqb (word w (storedAt p k + p)) (x - 1) && causeSound (x - 1) (word w (causeAt p k)))) where
+    in-place : r ≡ (ltb (indexBefore w p k) (indexIn w p k) && eqb (word w (storedAt p k + p)) (indexIn w p k - 1) && causeSound (indexIn w p k - 1) (word w (causeAt p k)))
+    in-place = rw (is, was) at told
+
+    pub kept-unnumbered : not r ≡ true → false ≡ keptFits w p k
+    unfolding keptFits keptTests holds
+    kept-unnumbered e = part-fails (keptTests w p k) (test 0 and test 1 and test 2) (sym in-place ∙ not-true r e)
+
+    pub kept-unnamed : (s : Bool) → s ≡ anyBelow 16 (λ f. eqb (pinIn w p f) x) → not s ≡ true → false ≡ keptFits w p k
+    unfolding keptFits keptTests holds
+    kept-unnamed s e n = part-fails (keptTests w p k) (test 3) (rw is at (sym e ∙ not-true s n))
+
+    pub kept-whole : not r ≡ false → (s : Bool) → s ≡ anyBelow 16 (λ f. eqb (pinIn w p f) x) → not s ≡ false → (t : Bool) → t ≡ rowWithin w (storedAt p k) → t ≡ keptFits w p k
+    unfolding keptFits keptTests holds asks allBelow
+    kept-whole n s e m t d =
+        let named : anyBelow 16 (λ f. eqb (pinIn w p f) (indexIn w p k)) ≡ true = rw is at (sym e ∙ not-false s m) in
+        d ∙ third-left _ _ (rowWithin w (storedAt p k)) (sym in-place ∙ not-false r n) named ∙ conjunction (keptTests w p k) (test 0 and test 1 and test 2 and test 3 and test 4) refl
+
+  -- The pins that none of the first k checkpoints has met: those that are met, or name none, count as 0.
+  abbrev pub unmetIn : ℕ → ℕ → ℕ → ℕ
+  unmetIn p k f = pick (pinFits w p k f) 0 (pinIn w p f)
+
+  pub unmet-none : (p : ℕ) (pins : List ℕ) → pins ≡ rowIn w (pinsAt p) → pins ≡ table 16 (λ f. pick (pinFits w p 0 f) 0 (pinIn w p f))
+  unfolding rowIn pinFits anyBelow
+  unmet-none p pins e = e ∙ table-same 16 (λ f. pinIn w p f) (unmetIn p 0)
+      (λ f lt. by-bool (eqb (pinIn w p f) 0) (λ z. rw z (eqb-true (pinIn w p f) 0 z)) (λ z. rw z))
+
+  unmet-more : (p k x : ℕ) (pins unmet left : List ℕ) → pins ≡ rowIn w (pinsAt p) → unmet ≡ table 16 (λ f. pick (pinFits w p k f) 0 (pinIn w p f)) → x ≡ indexIn w p k
+      → left ≡ table 16 (λ f. pick (eqb (getD pins f 0) x) 0 (getD unmet f 0)) → left ≡ table 16 (λ f. pick (pinFits w p (k + 1) f) 0 (pinIn w p f))
+  unfolding pinFits anyBelow
+  unmet-more p k x pins unmet left ep eu ex el = el ∙ rw (ep, eu, ex, add-one k)
+      (table-same 16 (λ f. pick (eqb (getD (rowIn w (pinsAt p)) f 0) (indexIn w p k)) 0 (getD (table 16 (unmetIn p k)) f 0)) (unmetIn p (suc k))
+      (λ f lt. rw (row-word w (pinsAt p) f lt, getD-table 16 (unmetIn p k) f 0 lt)
+      (one-more (eqb (pinIn w p f) 0) (eqb (pinIn w p f) (indexIn w p k)) (anyBelow k (λ j. eqb (pinIn w p f) (indexIn w p j))) (pinIn w p f))))
+    where
+      one-more : (z b a : Bool) (y : ℕ) → pick b 0 (pick (z || a) 0 y) ≡ pick (z || (b || a)) 0 y
+      one-more true true a y = refl
+      one-more true false a y = refl
+      one-more false true a y = refl
+      one-more false false a y = refl
+
+  unmet-zero : (p k : ℕ) (unmet : List ℕ) → unmet ≡ table 16 (λ f. pick (pinFits w p k f) 0 (pinIn w p f)) → allBelow 16 (λ f. eqb (getD unmet f 0) 0) ≡ allBelow 16 (pinFits w p k)
+  unfolding pinFits
+  unmet-zero p k unmet e = rw e
+      (all-same 16 (λ f. eqb (getD (table 16 (unmetIn p k)) f 0) 0) (pinFits w p k)
+      (λ f lt. rw (getD-table 16 (unmetIn p k) f 0 lt) (by-bool (pinFits w p k f)
+      (λ q. rw q)
+      (λ q. rw q (or-none (eqb (pinIn w p f) 0) (anyBelow k (λ j. eqb (pinIn w p f) (indexIn w p j))) q .0)))))
+
+  -- A walk along the kept checkpoints of process p, after k of them.
+  pub record Walked (p held k before : ℕ) (unmet : List ℕ) : Type 0 where
+    pub inside : k ≤ held
+    pub last : before ≡ indexBefore w p k
+    pub passed : allBelow k (keptFits w p) ≡ true
+    pub left : unmet ≡ table 16 (λ f. pick (pinFits w p k f) 0 (pinIn w p f))
+
+  pub none-walked : (p held : ℕ) (pins : List ℕ) → pins ≡ rowIn w (pinsAt p) → Walked p held 0 0 pins
+  unfolding allBelow indexBefore
+  none-walked p held pins e = record { inside = omega arith; last = refl; passed = refl; left = unmet-none p pins e }
+
+  pub one-walked : (p held k before x : ℕ) (pins unmet left : List ℕ) → Walked p held k before unmet → k < held → pins ≡ rowIn w (pinsAt p) → x ≡ indexIn w p k
+      → (r : Bool) → r ≡ keptFits w p k → not r ≡ false → left ≡ table 16 (λ f. pick (eqb (getD pins f 0) x) 0 (getD unmet f 0)) → Walked p held (k + 1) x left
+  unfolding allBelow indexBefore
+  one-walked p held k before x pins unmet left so-far lt ep ex r er n el = record {
+    inside = omega arith;
+    last = rw (add-one k) ex;
+    passed = rw (add-one k, sym er ∙ not-false r n) (so-far .passed);
+    left = unmet-more p k x pins unmet left ep (so-far .left) ex el;
+  }
+
+  pub walk-stops : (p held k before : ℕ) (unmet : List ℕ) → k < held → (r : Bool) → r ≡ keptFits w p k → not r ≡ true
+      → false ≡ (allBelow held (keptFits w p) && eqb (indexBefore w p held) (ownIn w p) && allBelow 16 (pinFits w p held))
+  walk-stops p held k before unmet lt r er n = first-fails _ _ _ (all-stop held (keptFits w p) k lt (sym er ∙ not-true r n))
+
+  module _ (p held k before own : ℕ) (unmet : List ℕ) (so-far : Walked p held k before unmet) (ends : held ≤ k) (is : own ≡ ownIn w p) where
+    all-walked : k ≡ held
+    all-walked = omega (arith, so-far .inside)
+
+    pub walk-misses : (before ≡ own → ⊥) → false ≡ (allBelow held (keptFits w p) && eqb (indexBefore w p held) (ownIn w p) && allBelow 16 (pinFits w p held))
+    walk-misses ne = second-fails (allBelow held (keptFits w p)) (eqb (indexBefore w p held) (ownIn w p)) _
+        (ne-eqb _ _ (λ e. ne (so-far .last ∙ ap (λ (j : ℕ). indexBefore w p j) all-walked ∙ e ∙ sym is)))
+
+    pub walk-ends : before ≡ own → (r : Bool) → r ≡ allBelow 16 (λ f. eqb (getD unmet f 0) 0) → r ≡ (allBelow held (keptFits w p) && eqb (indexBefore w p held) (ownIn w p) && allBelow 16 (pinFits w p held))
+    walk-ends e r er =
+        (er ∙ unmet-zero p k unmet (so-far .left) ∙ ap (λ (j : ℕ). allBelow 16 (pinFits w p j)) all-walked)
+        ∙ third-left (allBelow held (keptFits w p)) (eqb (indexBefore w p held) (ownIn w p)) _
+        (ap (λ (j : ℕ). allBelow j (keptFits w p)) (sym all-walked) ∙ so-far .passed)
+        (eq-eqb _ _ (ap (λ (j : ℕ). indexBefore w p j) (sym all-walked) ∙ sym (so-far .last) ∙ e ∙ is))
+
+  -- The numbers of a process.
+  pub numbers-are : (p n held ha ba oa pa : ℕ) → ha ≡ heldAt p → held ≡ word w ha → ba ≡ blocksAt p → oa ≡ partAt p → pa ≡ pinsAt p → n ≡ countOf w
+      → (leb 1 held && leb held n && leb 1 (word w ba) && leb 1 (word w (oa + p)) && eqb (word w (pa + p)) (word w (oa + p))) ≡ (countsFit w p && leb 1 (ownIn w p) && eqb (pinIn w p p) (ownIn w p))
+  unfolding countsFit
+  numbers-are p n held ha ba oa pa e1 e2 e3 e4 e5 e6 = rw (e2, e1, e3, e4, e5, e6)
+
+  -- A process: one of the three groups of its tests fails, or the last one decides.
+  module _ (p : ℕ) where
+    abbrev processTests : List Bool
+    processTests = countsFit w p ∷ partTests w p
+
+    whole-part : allOf processTests ≡ (countsFit w p && partFits w p)
+    unfolding partFits every
+    whole-part = refl
+
+    module _ (a : Bool) (told-a : a ≡ (countsFit w p && leb 1 (ownIn w p) && eqb (pinIn w p p) (ownIn w p))) where
+      pub numbers-fail : not a ≡ true → false ≡ (countsFit w p && partFits w p)
+      unfolding partTests holds
+      numbers-fail n = part-fails processTests (test 0 and test 1 and test 2) (sym told-a ∙ not-true a n) ∙ whole-part
+
+      module _ (b : Bool) (told-b : b ≡ (rowWithin w (partAt p) && unusedPins w p)) where
+        pub rows-fail : not b ≡ true → false ≡ (countsFit w p && partFits w p)
+        unfolding partTests holds
+        rows-fail n = part-fails processTests (test 3 and test 4) (sym told-b ∙ not-true b n) ∙ whole-part
+
+        pub process-whole : not a ≡ false → not b ≡ false → (held : ℕ) → held ≡ word w (heldAt p) → (d : Bool)
+            → d ≡ (allBelow held (keptFits w p) && eqb (indexBefore w p held) (ownIn w p) && allBelow 16 (pinFits w p held)) → d ≡ (countsFit w p && partFits w p)
+        unfolding partTests holds asks allBelow
+        process-whole na nb held eh d told-d =
+            rw eh at told-d
+            ∙ rw (sym told-a ∙ not-false a na, sym told-b ∙ not-false b nb) at (conjunction processTests ((test 0 and test 1 and test 2) and (test 3 and test 4) and (test 5 and test 6 and test 7)) refl)
+            ∙ whole-part
+
+  counts-few : (p n : ℕ) → countsFit w p ≡ true → n ≡ countOf w → n ≤ 16 → word w (heldAt p) ≤ 16
+  unfolding countsFit
+  counts-few p n counts en few =
+      let held = leb-true (word w (heldAt p)) (countOf w) (and-right (leb 1 (word w (heldAt p))) (leb (word w (heldAt p)) (countOf w)) (and-left (leb 1 (word w (heldAt p)) && leb (word w (heldAt p)) (countOf w)) (leb 1 (word w (blocksAt p))) counts)) in
+      omega arith
+
+  pub numbers-few : (p n : ℕ) (a : Bool) → a ≡ (countsFit w p && leb 1 (ownIn w p) && eqb (pinIn w p p) (ownIn w p)) → not a ≡ false → n ≡ countOf w → n ≤ 16 → word w (heldAt p) ≤ 16
+  numbers-few p n a told e en few =
+      counts-few p n (and-left (countsFit w p) (leb 1 (ownIn w p)) (and-left (countsFit w p && leb 1 (ownIn w p)) (eqb (pinIn w p p) (ownIn w p)) (sym told ∙ not-false a e))) en few
+
+  pub held-few : (p n : ℕ) (r : Bool) → r ≡ (countsFit w p && partFits w p) → not r ≡ false → n ≡ countOf w → n ≤ 16 → word w (heldAt p) ≤ 16
+  held-few p n r told e en few = counts-few p n (and-left (countsFit w p) (partFits w p) (sym told ∙ not-false r e)) en few
+
+  -- All processes, one after the other, with the blocks that they keep.
+  pub record Passed (n p blocks : ℕ) : Type 0 where
+    pub inside : p ≤ n
+    pub passed : allBelow p (λ q. countsFit w q && partFits w q) ≡ true
+    pub summed : blocks ≡ blocksIn w p
+    pub bounded : blocks ≤ p * 1048560
+
+  pub none-passed : (n : ℕ) → Passed n 0 0
+  unfolding allBelow blocksIn sumBelow
+  none-passed n = record { inside = omega arith; passed = refl; summed = refl; bounded = omega arith }
+
+  pub one-passed : (n p blocks more : ℕ) → Passed n p blocks → p < n → (r : Bool) → r ≡ (countsFit w p && partFits w p) → not r ≡ false
+      → more ≡ word w (heldAt p) * word w (blocksAt p) → more ≤ 1048560 → Passed n (p + 1) (blocks + more)
+  unfolding allBelow blocksIn sumBelow
+  one-passed n p blocks more so-far lt r told e em most = record {
+    inside = omega arith;
+    passed = rw (add-one p, sym told ∙ not-false r e) (so-far .passed);
+    summed = rw (add-one p, so-far .summed, em);
+    bounded = omega (arith, so-far .bounded);
+  }
+
+  pub process-fails : (n p : ℕ) → p < n → (r : Bool) → r ≡ (countsFit w p && partFits w p) → not r ≡ true → false ≡ (allBelow n (countsFit w) && allBelow n (partFits w) && diskFits w)
+  process-fails n p lt r told e =
+      let both : ℕ → Bool = λ q. countsFit w q && partFits w q in
+      rw (sym (all-both n (countsFit w) (partFits w)) ∙ sym (all-stop n both p lt (sym told ∙ not-true r e)))
+
+  pub all-passed : (n p blocks : ℕ) → Passed n p blocks → n ≤ p → n ≡ countOf w → (r : Bool) → r ≡ (eqb (wide4 w 4) (blocks + wide4 w 8) && leb (wide4 w 4) 1000000000000000)
+      → r ≡ (allBelow n (countsFit w) && allBelow n (partFits w) && diskFits w)
+  unfolding diskFits
+  all-passed n p blocks so-far ends en r told =
+      let same : p ≡ n = omega (arith, so-far .inside) in
+      let all : allBelow n (λ q. countsFit w q && partFits w q) ≡ true = ap (λ (j : ℕ). allBelow j (λ q. countsFit w q && partFits w q)) (sym same) ∙ so-far .passed in
+      told ∙ rw (sym (all-both n (countsFit w) (partFits w)) ∙ all, so-far .summed, same, en)
+
+  -- The blocks that a process keeps.
+  pub blocks-are : (p ha ba held blocks : ℕ) → ha ≡ heldAt p → held ≡ word w ha → ba ≡ blocksAt p → blocks ≡ word w ba → held * blocks ≡ word w (heldAt p) * word w (blocksAt p)
+  blocks-are p ha ba held blocks e1 e2 e3 e4 = rw (e2, e1, e4, e3)
+
+  -- The messages.
+  pub ends-are : (k n sa ra sender receiver : ℕ) → sa ≡ senderAt k → sender ≡ word w sa → ra ≡ receiverAt k → receiver ≡ word w ra
+      → (ltb sender n && ltb receiver n && not (eqb sender receiver)) ≡ (ltb (word w (senderAt k)) n && ltb (word w (receiverAt k)) n && not (eqb (word w (senderAt k)) (word w (receiverAt k))))
+  ends-are k n sa ra sender receiver e1 e2 e3 e4 = rw (e2, e1, e4, e3)
+
+  module _ (k n number before : ℕ) (counted : n ≡ countOf w) (is : number ≡ numberIn w k) (was : before ≡ numberBefore w k) where
+    pub order-fails : number ≤ before → false ≡ allOf (messageTests w k)
+    unfolding messageTests holds
+    order-fails le = part-fails (messageTests w k) (test 0) (le-ltb (numberBefore w k) (numberIn w k) (omega arith))
+
+    module _ (a : Bool) (told : a ≡ (ltb (word w (senderAt k)) n && ltb (word w (receiverAt k)) n && not (eqb (word w (senderAt k)) (word w (receiverAt k))))) where
+      pub ends-fail : not a ≡ true → false ≡ allOf (messageTests w k)
+      unfolding messageTests holds
+      ends-fail e = part-fails (messageTests w k) (test 1 and test 2 and test 3) (rw counted at (sym told ∙ not-true a e))
+
+      pub message-whole : before < number → not a ≡ false → (r : Bool) → r ≡ rowWithin w (carriedAt k) → r ≡ allOf (messageTests w k)
+      unfolding messageTests holds asks allBelow
+      message-whole lt e r er =
+          let ends : (ltb (word w (senderAt k)) (countOf w) && ltb (word w (receiverAt k)) (countOf w) && not (eqb (word w (senderAt k)) (word w (receiverAt k)))) ≡ true = rw counted at (sym told ∙ not-false a e) in
+          er ∙ third-left _ _ (rowWithin w (carriedAt k)) (lt-ltb (numberBefore w k) (numberIn w k) (omega arith)) ends ∙ conjunction (messageTests w k) (test 0 and (test 1 and test 2 and test 3) and test 4) refl
+
+  -- A walk along the places of messages, after k of them.
+  abbrev used : ℕ → Bool
+  used k = not (eqb (numberIn w k) 0)
+
+  pub record Read (end k before count : ℕ) : Type 0 where
+    pub inside : k ≤ end
+    pub last : before ≡ numberBefore w k
+    pub passed : allBelow k (messageFits w) ≡ true
+    pub counted : count ≡ countBelow k (λ k. not (eqb (numberIn w k) 0))
+    pub few : count ≤ k
+
+  pub none-read : (end : ℕ) → Read end 0 0 0
+  unfolding allBelow numberBefore countBelow
+  none-read end = record { inside = omega arith; last = refl; passed = refl; counted = refl; few = omega arith }
+
+  module _ (end k before count number : ℕ) (so-far : Read end k before count) (lt : k < end) (is : number ≡ numberIn w k) where
+    pub one-read : (number ≡ 0 → ⊥) → (r : Bool) → r ≡ allOf (messageTests w k) → not r ≡ false → Read end (k + 1) number (count + 1)
+    unfolding allBelow numberBefore countBelow messageFits
+    one-read ne r told e =
+        let some : eqb (numberIn w k) 0 ≡ false = ne-eqb (numberIn w k) 0 (λ z. ne (is ∙ z)) in
+        record {
+          inside = omega arith;
+          last = rw (add-one k, some) is;
+          passed = rw (add-one k, some, sym told ∙ not-false r e) (so-far .passed);
+          counted = rw (add-one k, some, so-far .counted);
+          few = omega (arith, so-far .few);
+        }
+
+    pub none-there : number ≡ 0 → Read end (k + 1) before count
+    unfolding allBelow numberBefore countBelow messageFits
+    none-there z =
+        let none : eqb (numberIn w k) 0 ≡ true = eq-eqb (numberIn w k) 0 (sym is ∙ z) in
+        record {
+          inside = omega arith;
+          last = rw (add-one k, none) (so-far .last);
+          passed = rw (add-one k, none) (so-far .passed);
+          counted = rw (add-one k, none) (so-far .counted ∙ omega arith);
+          few = omega (arith, so-far .few);
+        }
+
+    pub read-fails : (number ≡ 0 → ⊥) → (r : Bool) → r ≡ allOf (messageTests w k) → not r ≡ true
+        → false ≡ (allBelow end (messageFits w) && eqb (countBelow end (λ k. not (eqb (numberIn w k) 0))) (word w 1) && leb (numberBefore w end) (wide2 w 2))
+    unfolding messageFits
+    read-fails ne r told e =
+        let some : eqb (numberIn w k) 0 ≡ false = ne-eqb (numberIn w k) 0 (λ z. ne (is ∙ z)) in
+        first-fails _ _ _ (all-stop end (messageFits w) k lt (rw some (sym told ∙ not-true r e)))
+
+  pub all-read : (end k before count last : ℕ) → Read end k before count → end ≤ k → last ≡ wide2 w 2
+      → (eqb count (word w 1) && leb before last) ≡ (allBelow end (messageFits w) && eqb (countBelow end (λ k. not (eqb (numberIn w k) 0))) (word w 1) && leb (numberBefore w end) (wide2 w 2))
+  all-read end k before count last so-far ends el =
+      let same : k ≡ end = omega (arith, so-far .inside) in
+      let all : allBelow end (messageFits w) ≡ true = ap (λ (j : ℕ). allBelow j (messageFits w)) (sym same) ∙ so-far .passed in
+      rw (so-far .counted, so-far .last, same, el, all)
+
+  -- All tests of the messages, and of the words.
+  abbrev placesRead : ℕ → Bool
+  placesRead end = allBelow end (messageFits w) && eqb (countBelow end (λ k. not (eqb (numberIn w k) 0))) (word w 1) && leb (numberBefore w end) (wide2 w 2)
+
+  module _ (end last : ℕ) (is-end : end ≡ endOf w) (is-last : last ≡ wide2 w 2) where
+    pub end-far : 64 < end → false ≡ allOf (messagesTests w)
+    unfolding messagesTests holds
+    end-far lt = part-fails (messagesTests w) (test 0) (lt-leb (endOf w) 64 (omega arith))
+
+    pub last-far : 1000000 < last → false ≡ allOf (messagesTests w)
+    unfolding messagesTests holds
+    last-far lt = part-fails (messagesTests w) (test 5) (lt-leb (wide2 w 2) 1000000 (rw is-last at lt))
+
+    module _ (a : Bool) (told : a ≡ (eqb end 0 || not (eqb (numberIn w (end - 1)) 0))) where
+      pub end-off : not a ≡ true → false ≡ allOf (messagesTests w)
+      unfolding messagesTests holds
+      end-off e = part-fails (messagesTests w) (test 1) (rw is-end at (sym told ∙ not-true a e))
+
+      pub messages-whole : end ≤ 64 → last ≤ 1000000 → not a ≡ false → (r : Bool) → r ≡ placesRead end → r ≡ allOf (messagesTests w)
+      unfolding messagesTests holds asks allBelow
+      messages-whole le few e r er =
+          let ended : (eqb (endOf w) 0 || not (eqb (numberIn w (endOf w - 1)) 0)) ≡ true = rw is-end at (sym told ∙ not-false a e) in
+          let short : leb (endOf w) 64 ≡ true = le-leb (endOf w) 64 (omega arith) in
+          let low : leb (wide2 w 2) 1000000 ≡ true = le-leb (wide2 w 2) 1000000 (rw is-last at few) in
+          rw is-end at er ∙ fourth-left _ _ _ (placesRead (endOf w)) short ended low ∙ conjunction (messagesTests w) (test 0 and test 1 and test 5 and (test 2 and test 3 and test 4)) refl
+
+  -- The number of a message by its two words.
+  pub number-is : (k la ha low high : ℕ) → la ≡ lowAt k → low ≡ word w la → ha ≡ highAt k → high ≡ word w ha → low + 65536 * high ≡ numberIn w k
+  number-is k la ha low high e1 e2 e3 e4 = rw (e2, e1, e4, e3)
+
+  -- All tests of the words.
+  module _ (small : (k : ℕ) → word w k ≤ 65535) where
+    pub size-off : (length w ≡ 6464 → ⊥) → false ≡ sound (runOf w)
+    unfolding soundIn soundTests holds
+    size-off ne = part-fails (soundTests w) (test 0) (ne-eqb (length w) size ne) ∙ verdict w small
+
+    module _ (n : ℕ) (is : n ≡ countOf w) where
+      pub count-low : n < 1 → false ≡ sound (runOf w)
+      unfolding soundIn soundTests holds
+      count-low lt = part-fails (soundTests w) (test 1) (lt-leb 1 (countOf w) (omega arith)) ∙ verdict w small
+
+      pub count-high : 16 < n → false ≡ sound (runOf w)
+      unfolding soundIn soundTests holds
+      count-high lt = part-fails (soundTests w) (test 2) (lt-leb (countOf w) 16 (omega arith)) ∙ verdict w small
+
+      module _ (a : Bool) (told : a ≡ (allBelow n (countsFit w) && allBelow n (partFits w) && diskFits w)) where
+        pub processes-off : not a ≡ true → false ≡ sound (runOf w)
+        unfolding soundIn soundTests holds
+        processes-off e = part-fails (soundTests w) (test 3 and test 4 and test 5) (rw is at (sym told ∙ not-true a e)) ∙ verdict w small
+
+        pub words-whole : length w ≡ 6464 → 1 ≤ n → n ≤ 16 → not a ≡ false → (r : Bool) → r ≡ allOf (messagesTests w) → r ≡ sound (runOf w)
+        unfolding soundIn soundTests holds asks allBelow
+        words-whole sized low high e r er =
+            let processes : (allBelow (countOf w) (countsFit w) && allBelow (countOf w) (partFits w) && diskFits w) ≡ true = rw is at (sym told ∙ not-false a e) in
+            let long : eqb (length w) size ≡ true = eq-eqb (length w) size sized in
+            let some : leb 1 (countOf w) ≡ true = le-leb 1 (countOf w) (omega arith) in
+            let few : leb (countOf w) places ≡ true = le-leb (countOf w) places (omega arith) in
+            er
+            ∙ fifth-left _ _ _ _ (allOf (messagesTests w)) long some few processes
+            ∙ conjunction (soundTests w) (test 0 and test 1 and test 2 and (test 3 and test 4 and test 5) and test 6) refl
+            ∙ verdict w small
+
+-- Written against what is kept and deleted. The difference is what is kept exactly if the sum is what was written.
+same-sum : (written deleted kept : ℕ) → deleted ≤ written → eqb (written - deleted) kept ≡ eqb written (kept + deleted)
+same-sum written deleted kept h = same-test (eqb (written - deleted) kept) (eqb written (kept + deleted))
+    (λ e. eq-eqb written (kept + deleted) (omega (arith, eqb-true (written - deleted) kept e)))
+    (λ e. eq-eqb (written - deleted) kept (omega (arith, eqb-true written (kept + deleted) e)))
+
+pub past : (written kept deleted : ℕ) → 1000000000000000 < written → false ≡ (eqb written (kept + deleted) && leb written 1000000000000000)
+past written kept deleted h = rw (lt-leb written 1000000000000000 h) (by-bool (eqb written (kept + deleted)) (λ e. rw e) (λ e. rw e))
+
+pub too-few : (written kept deleted : ℕ) → written < deleted → false ≡ (eqb written (kept + deleted) && leb written 1000000000000000)
+too-few written kept deleted h = rw (ne-eqb written (kept + deleted) (omega arith))
+
+pub balanced : (written kept deleted : ℕ) → written ≤ 1000000000000000 → deleted ≤ written → eqb (written - deleted) kept ≡ (eqb written (kept + deleted) && leb written 1000000000000000)
+balanced written kept deleted h less = rw (le-leb written 1000000000000000 h, same-sum written deleted kept less) (by-bool (eqb written (kept + deleted)) (λ e. rw e) (λ e. rw e))
+
+pub balanced-are : (written deleted W D kept : ℕ) → written ≡ W → deleted ≡ D → written ≤ 1000000000000000 → deleted ≤ written
+    → eqb (written - deleted) kept ≡ (eqb W (kept + D) && leb W 1000000000000000)
+balanced-are written deleted W D kept e d h less = rw (← e, ← d) (balanced written kept deleted h less)
+
+-- At most 16 checkpoints of at most 65,535 blocks each.
+pub product-few : (a b : ℕ) → a ≤ 16 → b ≤ 65535 → a * b ≤ 1048560
+product-few a b p q = omega (arith, mul-le-mul p q)

@@ -1,0 +1,57 @@
+-- `sound_words::process::is_sound` meets its contract. Assumes nothing.
+use borrow.Author.Needs.{needs}
+use Prim.Native.Nat.{ℕ, _+_, _-_, _*_, _≤_, _<_}
+use native.Mathlib.Omega.{arith}
+use mathlib.Core.Path.{_≡_, refl, sym, _∙_, ap}
+use Rattle.words.specs.Layout.{word, heldAt}
+use Rattle.sound_words.proofs.Judging.{numbers-fail, rows-fail, process-whole, numbers-few}
+use Rattle.sound_words.proofs.process.is_sound.Statement.{statement}
+use Rattle.sound_words.proofs.process.is_sound.Tie as tie
+
+returns : tie.Need-returns
+returns c =     let m = c .before in
+    let a = m .before .before .args in
+    numbers-fail (a .w .now) (a .p) (m .are-numbers-sound .result) (m .are-numbers-sound .ensures) (c .if1 .taken)
+
+are-rows-sound-requires : tie.Need-are-rows-sound-requires
+are-rows-sound-requires c κs = let s = c .before .before .before in (s .pre .0 .sized, search needs, s .pre .0 .limits, rw (s .pre .0 .counted) at (s .pre .2))
+
+returns-2 : tie.Need-returns-2
+returns-2 c =     let r = c .before in
+    let m = r .before .before in
+    let a = m .before .before .args in
+    rows-fail (a .w .now) (a .p) (m .are-numbers-sound .result) (m .are-numbers-sound .ensures) (r .are-rows-sound .result) (r .are-rows-sound .ensures) (c .if2 .taken)
+
+are-kept-sound-requires : tie.Need-are-kept-sound-requires
+are-kept-sound-requires c κs =     let ha = c .before .before in
+    let r = ha .before .before in
+    let m = r .before .before in
+    let s = m .before .before in
+    let a = s .args in
+    let held : c .number-of .result ≡ word (a .w .now) (heldAt (a .p)) = c .number-of .ensures ∙ ap (λ (j : ℕ). word (a .w .now) j) (ha .held-at .ensures) in
+    (s .pre .0 .sized, search needs, omega (arith, numbers-few (a .w .now) (a .p) (a .n) (m .are-numbers-sound .result) (m .are-numbers-sound .ensures) (r .before .if1 .left) (s .pre .0 .counted) (s .pre .0 .few)), s .pre .0 .limits)
+
+returns-3 : tie.Need-returns-3
+returns-3 c =     let n = c .before in
+    let ha = n .before .before in
+    let e = ha .before in
+    let r = e .before in
+    let m = r .before .before in
+    let a = m .before .before .args in
+    process-whole (a .w .now) (a .p) (m .are-numbers-sound .result) (m .are-numbers-sound .ensures) (r .are-rows-sound .result) (r .are-rows-sound .ensures) (r .before .if1 .left) (e .if2 .left) (n .number-of .result)
+    (n .number-of .ensures ∙ ap (λ (j : ℕ). word (a .w .now) j) (ha .held-at .ensures)) (c .are-kept-sound .result) (c .are-kept-sound .ensures)
+
+pub is-sound-spec : {M : Type 1} → statement M
+is-sound-spec =
+    tie.close
+    (tie.spec
+    (λ c κs. search needs)
+    returns
+    are-rows-sound-requires
+    returns-2
+    (λ c κs. search needs)
+    (λ c. search needs)
+    (λ c. search needs)
+    (λ c κs. search needs)
+    are-kept-sound-requires
+    returns-3)

@@ -1,0 +1,68 @@
+-- `sound_words::under_way::are_places_sound` meets its contract. Assumes nothing.
+use borrow.Author.Needs.{needs}
+use Prim.Native.Nat.{ℕ, _+_, _-_, _*_, _≤_, _<_}
+use native.Mathlib.Omega.{arith}
+use mathlib.Core.Path.{_≡_, refl, sym, _∙_, ap}
+use Rattle.laws.specs.Loops.{either}
+use Rattle.sound_words.proofs.Judging.{Read, none-read, one-read, none-there, read-fails, all-read}
+use Rattle.sound_words.proofs.under_way.are_places_sound.Statement.{statement}
+use Rattle.sound_words.proofs.under_way.are_places_sound.Tie as tie
+
+abbrev Inv-loop : tie.InvT-loop
+Inv-loop w end n owns before₀ count₀ k₀ before count k = Read w end k before count
+
+abbrev μ-loop : tie.MeasureT-loop
+μ-loop w end n owns before₀ count₀ k₀ before count k = end - k
+
+loop-holds : tie.Need-loop-holds Inv-loop μ-loop
+loop-holds c = let a = c .before .args in none-read (a .w .now) (a .end)
+
+is-message-sound-requires : tie.Need-is-message-sound-requires Inv-loop μ-loop
+is-message-sound-requires c κs =     let n = c .before in
+    let l = n .before .before in
+    let s = l .before .before in
+    (s .pre .0, search needs, n .number-in .ensures, l .loop .inv .last)
+
+returns : tie.Need-returns Inv-loop μ-loop
+returns c =     let m = c .before in
+    let t = m .before in
+    let n = t .before in
+    let l = n .before .before in
+    let a = l .before .before .args in
+    read-fails (a .w .now) (a .end) (l .loop .k) (l .loop .before) (l .loop .count) (n .number-in .result) (l .loop .inv) (n .before .loop-test .taken) (n .number-in .ensures) (t .if1 .taken) (m .is-message-sound .result) (m .is-message-sound .ensures) (c .if2 .taken)
+
+add-count : tie.Need-add-count Inv-loop μ-loop
+add-count c = let l = c .before .before .before .before .before in omega (arith, l .loop .inv .few, l .before .before .pre .1, c .before .before .before .before .loop-test .taken)
+
+loop-again : tie.Need-loop-again Inv-loop μ-loop
+loop-again c =     let n = c .before in
+    let l = n .before .before in
+    let a = l .before .before .args in
+    either (c .if1 .came)
+    (λ z. rw (z .3, z .4) (one-read (a .w .now) (a .end) (l .loop .k) (l .loop .before) (l .loop .count) (n .number-in .result) (l .loop .inv) (n .before .loop-test .taken) (n .number-in .ensures) (z .0 .taken) (z .1 .result) (z .1 .ensures) (z .2 .left)))
+    (λ z. rw (z .1, z .2) (none-there (a .w .now) (a .end) (l .loop .k) (l .loop .before) (l .loop .count) (n .number-in .result) (l .loop .inv) (n .before .loop-test .taken) (n .number-in .ensures) (z .0 .left)))
+
+returns-2 : tie.Need-returns-2 Inv-loop μ-loop
+returns-2 c =     let m = c .before in
+    let al = m .before in
+    let l = al .before in
+    let a = l .before .before .args in
+    all-read (a .w .now) (a .end) (l .loop .k) (l .loop .before) (l .loop .count) (m .wide2 .result) (l .loop .inv) (al .loop-test .left) (m .wide2 .ensures)
+
+pub are-places-sound-spec : {M : Type 1} → statement M
+are-places-sound-spec =
+    tie.close
+    (tie.spec
+    Inv-loop
+    μ-loop
+    loop-holds
+    (λ c κs. search needs)
+    is-message-sound-requires
+    returns
+    add-count
+    (λ c. search needs)
+    (λ c. search needs)
+    loop-again
+    (λ c κs. search needs)
+    (λ c. search needs)
+    returns-2)

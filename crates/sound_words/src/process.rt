@@ -1,0 +1,147 @@
+// What a sound state asks of one process.
+use model::CheckpointIndex;
+use model::Interval;
+use words::places;
+ghost use mathlib.Core.Path.{_≡_};
+ghost use mathlib.Core.Bool.{_&&_};
+ghost use Prim.Native.Nat.{_+_, _-_, _≤_, _<_};
+ghost use lib.Dec.{eqb, ltb, leb};
+ghost use lib.ListN.{length};
+ghost use Rattle.laws.specs.Choice.{pick};
+ghost use Rattle.laws.specs.Lists.{table};
+ghost use Rattle.laws.specs.Search.{allBelow};
+ghost use Rattle.model.specs.Sound.{causeSound};
+ghost use Rattle.words.specs.Layout.{word, countOf, partAt, pinsAt, causeAt, storedAt, rowIn};
+ghost use Rattle.sound_words.specs.Test.{ownIn, rowWithin, pinIn, unusedPins, indexIn, indexBefore, keptFits, pinFits, countsFit, partFits, limitsIn, Judged};
+
+// What the cause of a checkpoint may be at most.
+const MOST_CAUSE: u16 = 2;
+
+pub fn number_of(x: u16) -> usize
+    ensures { λ r. ⌜ r ≡ x ⌝ }
+{
+    x as usize
+}
+
+// "causes 0 to 2, 0 exactly at index 0"
+fn is_cause_sound(cause: u16, index: CheckpointIndex) -> bool
+    ensures { λ r. ⌜ r ≡ causeSound (index .0) cause ⌝ }
+{
+    if index.0 == 0 {
+        cause == 0
+    } else {
+        (1 <= cause) & (cause <= MOST_CAUSE)
+    }
+}
+
+// The numbers of the kept checkpoint in place k, the word of whose index is x: it is later than the one before, whose word is `before`, its own entry is its index, and
+// its cause goes with it.
+fn is_kept_numbered(w: &[u16], p: usize, k: usize, x: u16, before: u16) -> bool
+    requires { ⌜ (length (now w) ≡ 6464) × (p < 16) × (k < 16) ⌝ }
+    ensures { λ r. ⌜ r ≡ (ltb before x && eqb (word (now (w .entry)) (storedAt p k + p)) (x - 1) && causeSound (x - 1) (word (now (w .entry)) (causeAt p k))) ⌝ }
+{
+    if x <= before {
+        return false;
+    }
+    let own_at = places::stored_at(p, k) + p;
+    let own = words::interval_of(w[own_at]);
+    let index = words::index_of(x);
+    let cause_at = places::cause_at(p, k);
+    let caused = is_cause_sound(w[cause_at], index);
+    (own.0 == index.0) & caused
+}
+
+// The kept checkpoint in place k, the word of whose index is x: its numbers, a pin that names it, and its vector.
+fn is_kept_sound(w: &[u16], p: usize, k: usize, x: u16, before: u16, pins: [u16; 16], owns: [Interval; 16]) -> bool
+    requires { ⌜ (length (now w) ≡ 6464) × (p < 16) × (k < 16) × (x ≡ indexIn (now w) p k) × (before ≡ indexBefore (now w) p k) × (pins ≡ rowIn (now w) (pinsAt p)) × (owns ≡ limitsIn (now w)) ⌝ }
+    ensures { λ r. ⌜ r ≡ keptFits (now (w .entry)) p k ⌝ }
+{
+    let numbered = is_kept_numbered(w, p, k, x, before);
+    if !numbered {
+        return false;
+    }
+    let named = sound_rows::is_among(pins, x);
+    if !named {
+        return false;
+    }
+    let vector_at = places::stored_at(p, k);
+    let vector = words::vector_at(w, vector_at);
+    sound_rows::is_within(vector, owns)
+}
+
+// The checkpoints that process p keeps, one after the other: each is sound, the last is the one before the own entry, and each pin names one of them or none.
+fn are_kept_sound(w: &[u16], p: usize, held: usize, owns: [Interval; 16]) -> bool
+    requires { ⌜ (length (now w) ≡ 6464) × (p < 16) × (held ≤ 16) × (owns ≡ limitsIn (now w)) ⌝ }
+    ensures { λ r. ⌜ r ≡ (allBelow held (keptFits (now (w .entry)) p)
+        && eqb (indexBefore (now (w .entry)) p held) (ownIn (now (w .entry)) p)
+        && allBelow 16 (pinFits (now (w .entry)) p held)) ⌝ }
+{
+    let pins_at = places::pins_at(p);
+    let pins = words::row_at(w, pins_at);
+    // the pins that no checkpoint so far has met
+    let mut unmet = pins;
+    let mut before: u16 = 0;
+    for k in 0..held {
+        let at = places::index_at(p, k);
+        let x = w[at];
+        let ok = is_kept_sound(w, p, k, x, before, pins, owns);
+        if !ok {
+            return false;
+        }
+        let left = sound_rows::without(unmet, pins, x);
+        unmet = left;
+        before = x;
+    }
+    let own_at = places::part_at(p) + p;
+    if before != w[own_at] {
+        return false;
+    }
+    sound_rows::is_zero(unmet)
+}
+
+// "Each process keeps 1 to n checkpoints"; its block count is at least 1, its own entry too, and its own pin names the last one stored: its word is the own entry.
+fn are_numbers_sound(w: &[u16], p: usize, n: usize) -> bool
+    requires { ⌜ (length (now w) ≡ 6464) × (n ≡ countOf (now w)) × (p < 16) ⌝ }
+    ensures { λ r. ⌜ r ≡ (countsFit (now (w .entry)) p && leb 1 (ownIn (now (w .entry)) p) && eqb (pinIn (now (w .entry)) p p) (ownIn (now (w .entry)) p)) ⌝ }
+{
+    let held_at = places::held_at(p);
+    let held = number_of(w[held_at]);
+    let blocks_at = places::blocks_at(p);
+    let blocks = w[blocks_at];
+    let own_at = places::part_at(p) + p;
+    let own = w[own_at];
+    let pin_at = places::pins_at(p) + p;
+    let pin = w[pin_at];
+    (1 <= held) & (held <= n) & (1 <= blocks) & (1 <= own) & (pin == own)
+}
+
+// The vector is within the own entries, and no pin at n and above names a checkpoint: `columns` has what a pin may be at most.
+fn are_rows_sound(w: &[u16], p: usize, owns: [Interval; 16], columns: [u16; 16]) -> bool
+    requires { ⌜ (length (now w) ≡ 6464) × (p < 16) × (owns ≡ limitsIn (now w)) × (columns ≡ table 16 (λ f. pick (ltb f (countOf (now w))) 65535 0)) ⌝ }
+    ensures { λ r. ⌜ r ≡ (rowWithin (now (w .entry)) (partAt p) && unusedPins (now (w .entry)) p) ⌝ }
+{
+    let vector_at = places::part_at(p);
+    let vector = words::vector_at(w, vector_at);
+    let pins_at = places::pins_at(p);
+    let pins = words::row_at(w, pins_at);
+    let within = sound_rows::is_within(vector, owns);
+    let none = sound_rows::is_row_within(pins, columns);
+    within & none
+}
+
+pub fn is_sound(w: &[u16], p: usize, n: usize, owns: [Interval; 16], columns: [u16; 16]) -> bool
+    requires { ⌜ Judged (now w) n owns × (p < n) × (columns ≡ table 16 (λ f. pick (ltb f n) 65535 0)) ⌝ }
+    ensures { λ r. ⌜ r ≡ (countsFit (now (w .entry)) p && partFits (now (w .entry)) p) ⌝ }
+{
+    let numbers = are_numbers_sound(w, p, n);
+    if !numbers {
+        return false;
+    }
+    let rows = are_rows_sound(w, p, owns, columns);
+    if !rows {
+        return false;
+    }
+    let held_at = places::held_at(p);
+    let held = number_of(w[held_at]);
+    are_kept_sound(w, p, held, owns)
+}
