@@ -336,8 +336,8 @@ module _ (w : List ℕ) where
         let sizes : length (map number (take (word w 1) laid)) ≡ word w 1 = length-map (take (word w 1) laid) number ∙ size in
         let least = ascending-least 1 (map number (take (word w 1) laid)) (length (chosen (endOf w))) (rw under-way at q) (omega arith) in
         let none : getD (map number (take (word w 1) laid)) (length (chosen (endOf w))) 0 ≡ 0 =
-            List·getD-map number (take (word w 1) laid) (length (chosen (endOf w))) noMessage
-            ∙ ap number (getD-take (word w 1) laid (length (chosen (endOf w))) noMessage lt ∙ at-end (omega arith)) in
+        List·getD-map number (take (word w 1) laid) (length (chosen (endOf w))) noMessage
+        ∙ ap number (getD-take (word w 1) laid (length (chosen (endOf w))) noMessage lt ∙ at-end (omega arith)) in
         absurd (omega arith))
         (λ q. q)
 

@@ -52,7 +52,15 @@ fn is_kept_numbered(w: &[u16], p: usize, k: usize, x: u16, before: u16) -> bool
 }
 
 // The kept checkpoint in place k, the word of whose index is x: its numbers, a pin that names it, and its vector.
-fn is_kept_sound(w: &[u16], p: usize, k: usize, x: u16, before: u16, pins: [u16; 16], owns: [Interval; 16]) -> bool
+fn is_kept_sound(
+    w: &[u16],
+    p: usize,
+    k: usize,
+    x: u16,
+    before: u16,
+    pins: [u16; 16],
+    owns: [Interval; 16],
+) -> bool
     requires { ⌜ (length (now w) ≡ 6464) × (p < 16) × (k < 16) × (x ≡ indexIn (now w) p k) × (before ≡ indexBefore (now w) p k) × (pins ≡ rowIn (now w) (pinsAt p)) × (owns ≡ limitsIn (now w)) ⌝ }
     ensures { λ r. ⌜ r ≡ keptFits (now (w .entry)) p k ⌝ }
 {

@@ -47,7 +47,14 @@ fn are_ends_sound(w: &[u16], k: usize, n: usize) -> bool
 }
 
 // The message in place k, whose number is `number`; the last number before it is `before`.
-fn is_message_sound(w: &[u16], k: usize, n: usize, owns: [Interval; 16], number: u32, before: u32) -> bool
+fn is_message_sound(
+    w: &[u16],
+    k: usize,
+    n: usize,
+    owns: [Interval; 16],
+    number: u32,
+    before: u32,
+) -> bool
     requires { ⌜ Judged (now w) n owns × (k < 64) × (number ≡ numberIn (now w) k) × (before ≡ numberBefore (now w) k) ⌝ }
     ensures { λ r. ⌜ r ≡ allOf (messageTests (now (w .entry)) k) ⌝ }
 {

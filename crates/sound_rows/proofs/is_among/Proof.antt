@@ -21,12 +21,12 @@ loop-holds : tie.Need-loop-holds Inv-loop μ-loop
 loop-holds c = (search needs, any-none _)
 
 loop-again : tie.Need-loop-again Inv-loop μ-loop
-loop-again c =     let l = c .before .before .loop in
+loop-again c = let l = c .before .before .loop in
     let a = c .before .before .before .args in
     (search needs, any-turn (λ q. eqb (getD (a .t1) q 0) (a .x)) (l .f) (l .any) (c .ones-if-same .result) (l .inv .1) (c .ones-if-same .ensures))
 
 returns : tie.Need-returns Inv-loop μ-loop
-returns c =     let l = c .before .loop in
+returns c = let l = c .before .loop in
     let e : l .f ≡ 16 = omega arith in
     any-end _ (l .any) (rw e at (l .inv .1))
 

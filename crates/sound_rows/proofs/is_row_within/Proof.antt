@@ -21,7 +21,7 @@ unfolding allBelow
 loop-holds c = (search needs, refl)
 
 loop-again : tie.Need-loop-again Inv-loop μ-loop
-loop-again c =     let l = c .before .before .loop in
+loop-again c = let l = c .before .before .loop in
     let a = c .before .before .before .args in
     (search needs, or-turn (λ q. leb (getD (a .t1) q 0) (getD (a .t2) q 0)) (l .f) (l .over) (c .excess .result) (l .inv .1) (ap (λ (k : ℕ). eqb k 0) (c .excess .ensures) ∙ less-zero (getD (a .t1) (l .f) 0) (getD (a .t2) (l .f) 0)))
 

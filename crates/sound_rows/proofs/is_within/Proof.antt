@@ -22,7 +22,7 @@ unfolding allBelow
 loop-holds c = (search needs, refl)
 
 loop-again : tie.Need-loop-again Inv-loop μ-loop
-loop-again c =     let l = c .before .before .before .before .loop in
+loop-again c = let l = c .before .before .before .before .loop in
     let a = c .before .before .before .before .before .args in
     (search needs, or-turn (λ q. leb (entry (a .t1) q .0) (entry (a .t2) q .0)) (l .f) (l .over) (c .excess .result) (l .inv .1) (ap (λ (k : ℕ). eqb k 0) (c .excess .ensures) ∙ less-zero (entry (a .t1) (l .f) .0) (entry (a .t2) (l .f) .0)))
 

@@ -21,7 +21,7 @@ unfolding allBelow
 loop-holds c = (search needs, refl)
 
 loop-again : tie.Need-loop-again Inv-loop μ-loop
-loop-again c =     let l = c .before .loop in
+loop-again c = let l = c .before .loop in
     let a = c .before .before .args in
     (search needs, or-turn (λ q. eqb (getD (a .t1) q 0) 0) (l .f) (l .any) (getD (a .t1) (l .f) 0) (l .inv .1) refl)
 

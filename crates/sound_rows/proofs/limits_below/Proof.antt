@@ -23,7 +23,7 @@ loop-again : tie.Need-loop-again Inv-loop μ-loop
 loop-again c = let l = c .before .loop in (search needs, turn-set ones _ (l .limits) (l .f) (l .inv .1) _ refl)
 
 returns : tie.Need-returns Inv-loop μ-loop
-returns c =     let l = c .before .loop in
+returns c = let l = c .before .loop in
     let e : l .f ≡ c .before .before .args .n = omega arith in
     rw e at (l .inv .1) ∙ below-first (c .before .before .args .n) (search needs)
 

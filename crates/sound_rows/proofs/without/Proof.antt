@@ -20,12 +20,12 @@ loop-holds : tie.Need-loop-holds Inv-loop μ-loop
 loop-holds c = (search needs, below-none _ _)
 
 loop-again : tie.Need-loop-again Inv-loop μ-loop
-loop-again c =     let l = c .before .before .loop in
+loop-again c = let l = c .before .before .loop in
     let a = c .before .before .before .args in
     (search needs, turn-set (λ q. pick (eqb (getD (a .t2) q 0) (a .x)) 0 (getD (a .t1) q 0)) _ (l .then) (l .f) (l .inv .1) _ (c .unless-same .ensures))
 
 returns : tie.Need-returns Inv-loop μ-loop
-returns c =     let l = c .before .loop in
+returns c = let l = c .before .loop in
     let e : l .f ≡ 16 = omega arith in
     rw e at (l .inv .1) ∙ below-all _ _ 16 (search needs)
 

@@ -23,26 +23,26 @@ is-sound-requires : tie.Need-is-sound-requires Inv-loop μ-loop
 is-sound-requires c κs = let b = c .before .before in (b .before .before .pre, c .loop-test .taken, b .limits-below .ensures)
 
 returns : tie.Need-returns Inv-loop μ-loop
-returns c =     let m = c .before in
+returns c = let m = c .before in
     let l = m .before .before in
     let a = l .before .before .before .args in
     process-fails (a .w .now) (a .n) (l .loop .p) (m .before .loop-test .taken) (m .is-sound .result) (m .is-sound .ensures) (c .if1 .taken)
 
 blocks-kept-requires : tie.Need-blocks-kept-requires Inv-loop μ-loop
-blocks-kept-requires c κs =     let m = c .before in
+blocks-kept-requires c κs = let m = c .before in
     let l = m .before .before in
     let s = l .before .before .before in
     let a = s .args in
     (s .pre .sized, omega (arith, m .before .loop-test .taken, s .pre .few), held-few (a .w .now) (l .loop .p) (a .n) (m .is-sound .result) (m .is-sound .ensures) (c .if1 .left) (s .pre .counted) (s .pre .few))
 
 add-blocks : tie.Need-add-blocks Inv-loop μ-loop
-add-blocks c =     let m = c .before .before in
+add-blocks c = let m = c .before .before in
     let l = m .before .before in
     let s = l .before .before .before in
     omega (arith, l .loop .inv .bounded, c .blocks-kept .ensures .1, m .before .loop-test .taken, s .pre .few)
 
 loop-again : tie.Need-loop-again Inv-loop μ-loop
-loop-again c =     let e = c .before in
+loop-again c = let e = c .before in
     let m = e .before in
     let l = m .before .before in
     let a = l .before .before .before .args in
@@ -52,7 +52,7 @@ is-balanced-requires : tie.Need-is-balanced-requires Inv-loop μ-loop
 is-balanced-requires c κs = c .before .before .before .before .pre .sized
 
 returns-2 : tie.Need-returns-2 Inv-loop μ-loop
-returns-2 c =     let al = c .before in
+returns-2 c = let al = c .before in
     let l = al .before in
     let s = l .before .before .before in
     let a = s .args in

@@ -18,7 +18,7 @@ mul-result : tie.Need-mul-result
 mul-result c = search (needs, few c)
 
 returns : tie.Need-returns
-returns c =     let ba = c .before .before in
+returns c = let ba = c .before .before in
     let w1 = ba .before in
     let ha = w1 .before .before in
     let s = ha .before .before in

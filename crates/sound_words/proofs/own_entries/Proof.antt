@@ -20,13 +20,13 @@ loop-holds : tie.Need-loop-holds Inv-loop μ-loop
 loop-holds c = (search needs, below-none _ _)
 
 loop-again : tie.Need-loop-again Inv-loop μ-loop
-loop-again c =     let pa = c .before .before in
+loop-again c = let pa = c .before .before in
     let l = pa .before .before .loop in
     let a = pa .before .before .before .before .args in
     (search needs, turn-set (λ q. intervalOf (ownIn (a .w .now) q)) _ (l .owns) (l .f) (l .inv .1) _ (rw (pa .part-at .ensures) at (c .interval-of .ensures)))
 
 returns : tie.Need-returns Inv-loop μ-loop
-returns c =     let l = c .before .loop in
+returns c = let l = c .before .loop in
     let s = c .before .before .before in
     let e : l .f ≡ countOf (s .args .w .now) = omega (arith, s .pre .1) in
     rw e at (l .inv .1) ∙ limits-gathered (s .args .w .now) (omega (arith, s .pre .1, s .pre .2))

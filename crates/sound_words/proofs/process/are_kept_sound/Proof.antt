@@ -18,7 +18,7 @@ loop-holds : tie.Need-loop-holds Inv-loop μ-loop
 loop-holds c = let q = c .before in let a = q .before .before .args in none-walked (a .w .now) (a .p) (a .held) _ (rw (q .pins-at .ensures) at (c .row-at .ensures))
 
 is-kept-sound-requires : tie.Need-is-kept-sound-requires Inv-loop μ-loop
-is-kept-sound-requires c κs =     let i = c .before in
+is-kept-sound-requires c κs = let i = c .before in
     let l = i .before .before in
     let r = l .before in
     let q = r .before in
@@ -27,13 +27,13 @@ is-kept-sound-requires c κs =     let i = c .before in
     (s .pre .0, s .pre .1, search needs, ap (λ (j : ℕ). word (a .w .now) j) (i .index-at .ensures), l .loop .inv .last, rw (q .pins-at .ensures) at (r .row-at .ensures), s .pre .3)
 
 returns : tie.Need-returns Inv-loop μ-loop
-returns c =     let m = c .before in
+returns c = let m = c .before in
     let l = m .before .before .before .before in
     let a = l .before .before .before .before .args in
     walk-stops (a .w .now) (a .p) (a .held) (l .loop .k) (l .loop .before) (l .loop .unmet) (m .before .before .before .loop-test .taken) (m .is-kept-sound .result) (m .is-kept-sound .ensures) (c .if1 .taken)
 
 loop-again : tie.Need-loop-again Inv-loop μ-loop
-loop-again c =     let e = c .before in
+loop-again c = let e = c .before in
     let m = e .before in
     let i = m .before .before in
     let l = i .before .before in
@@ -43,14 +43,14 @@ loop-again c =     let e = c .before in
     one-walked (a .w .now) (a .p) (a .held) (l .loop .k) (l .loop .before) _ _ (l .loop .unmet) _ (l .loop .inv) (i .before .loop-test .taken) (rw (q .pins-at .ensures) at (r .row-at .ensures)) (ap (λ (j : ℕ). word (a .w .now) j) (i .index-at .ensures)) (m .is-kept-sound .result) (m .is-kept-sound .ensures) (e .if1 .left) (c .without .ensures)
 
 returns-2 : tie.Need-returns-2 Inv-loop μ-loop
-returns-2 c =     let pa = c .before .before in
+returns-2 c = let pa = c .before .before in
     let al = pa .before in
     let l = al .before in
     let a = l .before .before .before .before .args in
     walk-misses (a .w .now) (a .p) (a .held) (l .loop .k) (l .loop .before) _ (l .loop .unmet) (l .loop .inv) (al .loop-test .left) (ap (λ (j : ℕ). word (a .w .now) (j + a .p)) (pa .part-at .ensures)) (c .if2 .taken)
 
 returns-3 : tie.Need-returns-3 Inv-loop μ-loop
-returns-3 c =     let e = c .before in
+returns-3 c = let e = c .before in
     let pa = e .before .before in
     let al = pa .before in
     let l = al .before in

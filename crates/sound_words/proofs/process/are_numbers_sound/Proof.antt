@@ -5,7 +5,7 @@ use Rattle.sound_words.proofs.process.are_numbers_sound.Statement.{stat
 use Rattle.sound_words.proofs.process.are_numbers_sound.Tie as tie
 
 returns : tie.Need-returns
-returns c =     let pa = c .before in
+returns c = let pa = c .before in
     let oa = pa .before .before in
     let ba = oa .before .before in
     let n = ba .before in

@@ -9,7 +9,7 @@ returns : tie.Need-returns
 returns c = let a = c .before .before .args in rw (le-ltb (a .before) (a .x) (c .if1 .taken))
 
 returns-2 : tie.Need-returns-2
-returns-2 c =     let i = c .before .before in
+returns-2 c = let i = c .before .before in
     let x = i .before .before .before in
     let v = x .before in
     let s = v .before .before in

@@ -7,13 +7,13 @@ use Rattle.sound_words.proofs.process.is_kept_sound.Statement.{statemen
 use Rattle.sound_words.proofs.process.is_kept_sound.Tie as tie
 
 returns : tie.Need-returns
-returns c =     let n = c .before in
+returns c = let n = c .before in
     let s = n .before .before in
     let a = s .args in
     kept-unnumbered (a .w .now) (a .p) (a .k) (a .x) (a .before) (s .pre .3) (s .pre .4) (n .is-kept-numbered .result) (n .is-kept-numbered .ensures) (c .if1 .taken)
 
 returns-2 : tie.Need-returns-2
-returns-2 c =     let m = c .before in
+returns-2 c = let m = c .before in
     let n = m .before .before in
     let s = n .before .before in
     let a = s .args in
@@ -21,7 +21,7 @@ returns-2 c =     let m = c .before in
     (m .is-among .result) (m .is-among .ensures ∙ named-row (a .w .now) (a .p) (a .x) (a .pins) (s .pre .5)) (c .if2 .taken)
 
 returns-3 : tie.Need-returns-3
-returns-3 c =     let v = c .before in
+returns-3 c = let v = c .before in
     let e = v .before .before in
     let m = e .before in
     let n = m .before .before in

@@ -9,7 +9,7 @@ use Rattle.sound_words.proofs.process.is_sound.Statement.{statement}
 use Rattle.sound_words.proofs.process.is_sound.Tie as tie
 
 returns : tie.Need-returns
-returns c =     let m = c .before in
+returns c = let m = c .before in
     let a = m .before .before .args in
     numbers-fail (a .w .now) (a .p) (m .are-numbers-sound .result) (m .are-numbers-sound .ensures) (c .if1 .taken)
 
@@ -17,13 +17,13 @@ are-rows-sound-requires : tie.Need-are-rows-sound-requires
 are-rows-sound-requires c κs = let s = c .before .before .before in (s .pre .0 .sized, search needs, s .pre .0 .limits, rw (s .pre .0 .counted) at (s .pre .2))
 
 returns-2 : tie.Need-returns-2
-returns-2 c =     let r = c .before in
+returns-2 c = let r = c .before in
     let m = r .before .before in
     let a = m .before .before .args in
     rows-fail (a .w .now) (a .p) (m .are-numbers-sound .result) (m .are-numbers-sound .ensures) (r .are-rows-sound .result) (r .are-rows-sound .ensures) (c .if2 .taken)
 
 are-kept-sound-requires : tie.Need-are-kept-sound-requires
-are-kept-sound-requires c κs =     let ha = c .before .before in
+are-kept-sound-requires c κs = let ha = c .before .before in
     let r = ha .before .before in
     let m = r .before .before in
     let s = m .before .before in
@@ -32,7 +32,7 @@ are-kept-sound-requires c κs =     let ha = c .before .before in
     (s .pre .0 .sized, search needs, omega (arith, numbers-few (a .w .now) (a .p) (a .n) (m .are-numbers-sound .result) (m .are-numbers-sound .ensures) (r .before .if1 .left) (s .pre .0 .counted) (s .pre .0 .few)), s .pre .0 .limits)
 
 returns-3 : tie.Need-returns-3
-returns-3 c =     let n = c .before in
+returns-3 c = let n = c .before in
     let ha = n .before .before in
     let e = ha .before in
     let r = e .before in

@@ -5,7 +5,7 @@ use Rattle.sound_words.proofs.under_way.are_ends_sound.Statement.{state
 use Rattle.sound_words.proofs.under_way.are_ends_sound.Tie as tie
 
 returns : tie.Need-returns
-returns c =     let ra = c .before .before in
+returns c = let ra = c .before .before in
     let n = ra .before in
     let sa = n .before .before in
     let a = sa .before .before .args in

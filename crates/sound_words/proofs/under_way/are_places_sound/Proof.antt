@@ -18,13 +18,13 @@ loop-holds : tie.Need-loop-holds Inv-loop μ-loop
 loop-holds c = let a = c .before .args in none-read (a .w .now) (a .end)
 
 is-message-sound-requires : tie.Need-is-message-sound-requires Inv-loop μ-loop
-is-message-sound-requires c κs =     let n = c .before in
+is-message-sound-requires c κs = let n = c .before in
     let l = n .before .before in
     let s = l .before .before in
     (s .pre .0, search needs, n .number-in .ensures, l .loop .inv .last)
 
 returns : tie.Need-returns Inv-loop μ-loop
-returns c =     let m = c .before in
+returns c = let m = c .before in
     let t = m .before in
     let n = t .before in
     let l = n .before .before in
@@ -35,7 +35,7 @@ add-count : tie.Need-add-count Inv-loop μ-loop
 add-count c = let l = c .before .before .before .before .before in omega (arith, l .loop .inv .few, l .before .before .pre .1, c .before .before .before .before .loop-test .taken)
 
 loop-again : tie.Need-loop-again Inv-loop μ-loop
-loop-again c =     let n = c .before in
+loop-again c = let n = c .before in
     let l = n .before .before in
     let a = l .before .before .args in
     either (c .if1 .came)
@@ -43,7 +43,7 @@ loop-again c =     let n = c .before in
     (λ z. rw (z .1, z .2) (none-there (a .w .now) (a .end) (l .loop .k) (l .loop .before) (l .loop .count) (n .number-in .result) (l .loop .inv) (n .before .loop-test .taken) (n .number-in .ensures) (z .0 .left)))
 
 returns-2 : tie.Need-returns-2 Inv-loop μ-loop
-returns-2 c =     let m = c .before in
+returns-2 c = let m = c .before in
     let al = m .before in
     let l = al .before in
     let a = l .before .before .args in

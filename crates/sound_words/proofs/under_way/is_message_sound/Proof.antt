@@ -10,13 +10,13 @@ returns : tie.Need-returns
 returns c = let s = c .before .before in let a = s .args in order-fails (a .w .now) (a .k) (a .n) (a .number) (a .before) (s .pre .0 .counted) (s .pre .2) (s .pre .3) (c .if1 .taken)
 
 returns-2 : tie.Need-returns-2
-returns-2 c =     let m = c .before in
+returns-2 c = let m = c .before in
     let s = m .before .before .before in
     let a = s .args in
     ends-fail (a .w .now) (a .k) (a .n) (a .number) (a .before) (s .pre .0 .counted) (s .pre .2) (s .pre .3) (m .are-ends-sound .result) (m .are-ends-sound .ensures) (c .if2 .taken)
 
 returns-3 : tie.Need-returns-3
-returns-3 c =     let v = c .before in
+returns-3 c = let v = c .before in
     let e = v .before .before in
     let m = e .before in
     let s = m .before .before .before in

@@ -5,7 +5,7 @@ use Rattle.sound_words.proofs.under_way.number_in.Statement.{statement}
 use Rattle.sound_words.proofs.under_way.number_in.Tie as tie
 
 returns : tie.Need-returns
-returns c =     let ha = c .before .before in
+returns c = let ha = c .before .before in
     let w1 = ha .before in
     let la = w1 .before .before in
     let a = la .before .before .args in
