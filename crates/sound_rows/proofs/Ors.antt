@@ -1,23 +1,17 @@
 -- Tests gathered in the bits of a word: it is 0 exactly if each part was.
 -- Assumes nothing.
 use mathlib.Core.Path.{_≡_, refl, sym, _∙_, ap}
-use mathlib.Core.List.{List}
 use mathlib.Core.Bool.{Bool, true, false, _&&_, _||_, not}
 use Prim.Native.Nat.{ℕ, _+_, _-_, _≤_, _<_}
 use native.Mathlib.Numerals.{add-one}
 use native.Mathlib.Omega.{arith}
 use lib.Bits.{bitOr, bitAnd, or-add-and, and-le-l, and-le-r}
-use lib.Dec.{eqb, ltb, leb}
-use lib.ListN.{length, replicate, length-replicate, getD-replicate}
-use borrow.Author.Tests.{eq-eqb, eqb-true, le-leb, leb-true, lt-ltb, le-ltb}
+use lib.Dec.{eqb, leb}
+use borrow.Author.Tests.{eq-eqb, eqb-true, le-leb, leb-true}
 use Rattle.laws.specs.Below.{all-and}
 use Rattle.laws.specs.Choice.{pick}
 use Rattle.laws.specs.Elements.{same-test}
-use Rattle.laws.specs.Lists.{table}
-use Rattle.laws.specs.Loops.{setBelow, below-length, below-at, below-above}
-use Rattle.laws.specs.Rows.{by-lt}
 use Rattle.laws.specs.Search.{allBelow, anyBelow}
-use Rattle.laws.specs.Tables.{table-is}
 use Rattle.laws.specs.Truth.{and-out, and-both}
 
 pub or-zero : (a b : ℕ) → eqb (bitOr a b) 0 ≡ (eqb a 0 && eqb b 0)
@@ -61,16 +55,3 @@ any-turn t f any here inv e = or-zero any here ∙ rw (inv, e, ones-zero (t f), 
 pub any-end : (b : Bool) (any : ℕ) → eqb any 0 ≡ not b → not (eqb any 0) ≡ b
 any-end true any e = rw e
 any-end false any e = rw e
-
--- The first n of the entries of a table replaced.
-abbrev pub ones : ℕ → ℕ
-ones q = 65535
-
-abbrev zeros : List ℕ
-zeros = replicate 16 0
-
-pub below-first : (n : ℕ) → n ≤ 16 → setBelow n ones (replicate 16 0) ≡ table 16 (λ f. pick (ltb f n) 65535 0)
-below-first n le = table-is 0 (setBelow n ones zeros) 16 (λ f. pick (ltb f n) 65535 0) (below-length ones zeros n ∙ length-replicate {A = ℕ} 16 0)
-    (λ f lt. by-lt f n
-    (λ less. rw (lt-ltb f n less) (below-at ones zeros n f 0 less (rw (length-replicate {A = ℕ} 16 0) lt)))
-    (λ from. rw (le-ltb f n from) (below-above ones zeros n f 0 from ∙ getD-replicate 16 f 0 0 lt)))

@@ -2,8 +2,8 @@
 // processor then tests several words at a time.
 use model::Interval;
 ghost use mathlib.Core.Path.{_≡_};
-ghost use Prim.Native.Nat.{_-_, _≤_};
-ghost use lib.Dec.{eqb, ltb, leb};
+ghost use Prim.Native.Nat.{_-_};
+ghost use lib.Dec.{eqb, leb};
 ghost use lib.ListN.{getD};
 ghost use Rattle.laws.specs.Choice.{pick};
 ghost use Rattle.laws.specs.Lists.{table};
@@ -46,14 +46,21 @@ pub fn is_row_within(row: [u16; 16], limits: [u16; 16]) -> bool
     over == 0
 }
 
-// The limits of a row of which only the first n words may be other than 0.
-pub fn limits_below(n: usize) -> [u16; 16]
-    requires { ⌜ n ≤ 16 ⌝ }
-    ensures { λ r. ⌜ r ≡ table 16 (λ f. pick (ltb f n) 65535 0) ⌝ }
+fn ones_unless_zero(x: u16) -> u16
+    ensures { λ r. ⌜ r ≡ pick (eqb x 0) 0 65535 ⌝ }
+{
+    if x == 0 { 0 } else { ONES }
+}
+
+// The limits of a row that has to be 0 wherever a vector is.
+pub fn limits_where(vector: [Interval; 16]) -> [u16; 16]
+    ensures { λ r. ⌜ r ≡ table 16 (λ f. pick (eqb (entry vector f .0) 0) 0 65535) ⌝ }
 {
     let mut limits = [0u16; 16];
-    for f in 0..n {
-        limits[f] = ONES;
+    for f in 0..words::PROCESSES {
+        let x = vector[f];
+        let limit = ones_unless_zero(x.0);
+        limits[f] = limit;
     }
     limits
 }

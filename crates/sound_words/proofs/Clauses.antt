@@ -26,7 +26,7 @@ use Rattle.model.specs.Words.{places, entry, lastStored, names, named, noCheckp
 use Rattle.model.specs.Sound.{ascending, pinSound, isNothing, nothingFrom, causeSound}
 use Rattle.words.specs.Layout.{word, countOf, blocksAt, pinsAt, indexAt, causeAt, storedAt, indexOf, pinOf, vectorIn, pinsIn, checkpointIn}
 use Rattle.words.proofs.Same.{vector-word}
-use Rattle.sound_words.specs.Test.{pinIn, unusedPins, indexIn, indexBefore, pinFits}
+use Rattle.sound_words.specs.Test.{ownIn, most, pinIn, unusedPins, indexIn, indexBefore, pinFits}
 use Rattle.sound_words.proofs.Laws.{every-table-is, every-after, every-append-is, nextOf, next-snoc, ascending-snoc}
 
 -- A word that is one above a number is another such word.
@@ -63,11 +63,14 @@ blocks-append (x ∷ l) c = omega (arith, blocks-append l c)
 
 module _ (w : List ℕ) (p : ℕ) where
   -- "unused pins .. are none"
-  pub pins-rest : nothingFrom (countOf w) (pinsIn w (pinsAt p)) ≡ unusedPins w p
-  unfolding nothingFrom pinsIn unusedPins
-  pins-rest =
+  pub pins-rest : ((f : ℕ) → f < countOf w → 1 ≤ ownIn w f) → nothingFrom (countOf w) (pinsIn w (pinsAt p)) ≡ unusedPins w p
+  unfolding nothingFrom pinsIn unusedPins most
+  pins-rest owned =
       every-after isNothing (countOf w) places (λ f. pinOf (pinIn w p f))
-      ∙ all-same places (λ f. ltb f (countOf w) || isNothing (pinOf (pinIn w p f))) (λ f. ltb f (countOf w) || eqb (pinIn w p f) 0) (λ f lt. rw (nothing-word (pinIn w p f)))
+      ∙ all-same places (λ f. ltb f (countOf w) || isNothing (pinOf (pinIn w p f))) (λ f. not (eqb (pick (ltb f (countOf w)) (ownIn w f) 0) 0) || eqb (pinIn w p f) 0)
+      (λ f lt. rw (nothing-word (pinIn w p f)) (by-bool (ltb f (countOf w))
+      (λ e. rw (e, ne-eqb (ownIn w f) 0 (let some = owned f (ltb-true f (countOf w) e) in omega arith)))
+      (λ e. rw e)))
 
   -- "each one's own entry equal to its index"
   pub kept-own : (h : ℕ) → p < 16 → every (λ c. eqb (entry (c .vector) p .0) (c .index .0)) (table h (checkpointIn w p)) ≡ allBelow h (λ k. eqb (word w (storedAt p k + p)) (indexIn w p k - 1))

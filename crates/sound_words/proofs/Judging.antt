@@ -72,14 +72,17 @@ module _ (w : List ℕ) where
       (all-same 16 (λ f. leb (entry (vectorIn w at) f .0) (entry (table places (λ f. intervalOf (most w f))) f .0)) (λ f. leb (word w (at + f)) (most w f))
       (λ f lt. rw (vector-word w at f lt, getD-table places (λ f. intervalOf (most w f)) f (record { 0 = 0 }) lt)))
 
-  pub pins-within : (p : ℕ) (pins columns : List ℕ) → ((k : ℕ) → word w k ≤ 65535) → pins ≡ rowIn w (pinsAt p) → columns ≡ table 16 (λ f. pick (ltb f (countOf w)) 65535 0)
-      → allBelow 16 (λ f. leb (getD pins f 0) (getD columns f 0)) ≡ unusedPins w p
-  unfolding unusedPins
-  pins-within p pins columns small ep ec = rw (ep, ec)
-      (all-same 16 (λ f. leb (getD (rowIn w (pinsAt p)) f 0) (getD (table 16 (λ f. pick (ltb f (countOf w)) 65535 0)) f 0)) (λ f. ltb f (countOf w) || eqb (pinIn w p f) 0)
-      (λ f lt. rw (row-word w (pinsAt p) f lt, getD-table {A = ℕ} 16 (λ f. pick (ltb f (countOf w)) 65535 0) f 0 lt) (by-bool (ltb f (countOf w))
-      (λ e. rw e (le-leb (pinIn w p f) 65535 (small (pinsAt p + f))))
-      (λ e. rw e (least (pinIn w p f))))))
+  pub pins-within : (p : ℕ) (pins columns : List ℕ) (owns : List Interval) → ((k : ℕ) → word w k ≤ 65535) → pins ≡ rowIn w (pinsAt p) → owns ≡ limitsIn w
+      → columns ≡ table 16 (λ f. pick (eqb (entry owns f .0) 0) 0 65535) → allBelow 16 (λ f. leb (getD pins f 0) (getD columns f 0)) ≡ unusedPins w p
+  unfolding unusedPins limitsIn
+  pins-within p pins columns owns small ep eo ec = rw (ep, ec, eo)
+      (all-same 16 (λ f. leb (getD (rowIn w (pinsAt p)) f 0) (getD (table 16 limitAt) f 0)) (λ f. not (eqb (most w f) 0) || eqb (pinIn w p f) 0)
+      (λ f lt. rw (row-word w (pinsAt p) f lt, getD-table 16 limitAt f 0 lt, getD-table places (λ f. intervalOf (most w f)) f (record { 0 = 0 }) lt) (by-bool (eqb (most w f) 0)
+      (λ e. rw e (least (pinIn w p f)))
+      (λ e. rw e (le-leb (pinIn w p f) 65535 (small (pinsAt p + f)))))))
+    where
+      limitAt : ℕ → ℕ
+      limitAt f = pick (eqb (entry (table places (λ f. intervalOf (most w f))) f .0) 0) 0 65535
 
   pub named-row : (p x : ℕ) (pins : List ℕ) → pins ≡ rowIn w (pinsAt p) → anyBelow 16 (λ f. eqb (getD pins f 0) x) ≡ anyBelow 16 (λ f. eqb (pinIn w p f) x)
   named-row p x pins ep = rw ep (any-same 16 (λ f. eqb (getD (rowIn w (pinsAt p)) f 0) x) (λ f. eqb (pinIn w p f) x) (λ f lt. rw (row-word w (pinsAt p) f lt)))

@@ -37,7 +37,7 @@ none-recorded : (P : Process) → recordSound P noCheckpoint ≡ false
 unfolding recordSound isBlockCount causeSound
 none-recorded P = refl
 
-module _ (w : List ℕ) (high : countOf w ≤ 16) (p : ℕ) (lt : p < countOf w) (small : word w (blocksAt p) ≤ 65535) where
+module _ (w : List ℕ) (high : countOf w ≤ 16) (p : ℕ) (lt : p < countOf w) (small : word w (blocksAt p) ≤ 65535) (owned : (f : ℕ) → f < countOf w → 1 ≤ ownIn w f) where
   abbrev s : Run
   s = decoded w
 
@@ -267,7 +267,7 @@ module _ (w : List ℕ) (high : countOf w ≤ 16) (p : ℕ) (lt : p < countOf w)
         (cons-same _ _ _ _ own-pinned
         (cons-same _ _ _ _ (ap (λ (l : List Checkpoint). every (pinSound l) (P .pins)) kept-are ∙ ap (λ (l : List Pin). every (pinSound (table held (checkpointIn w p))) l) pins-are ∙ clauses.pins-fit w p held some)
         (cons-same _ _ _ _ (ap (λ (l : List Checkpoint). every (named (P .pins)) l) kept-are ∙ ap (λ (l : List Pin). every (named l) (table held (checkpointIn w p))) pins-are ∙ clauses.kept-pinned w p held some)
-        (cons-same _ _ _ _ (ap (λ (l : List Pin). nothingFrom (s .count) l) pins-are ∙ ap (λ (x : ℕ). nothingFrom x (pinsIn w (pinsAt p))) (parts.count-at w high) ∙ clauses.pins-rest w p)
+        (cons-same _ _ _ _ (ap (λ (l : List Pin). nothingFrom (s .count) l) pins-are ∙ ap (λ (x : ℕ). nothingFrom x (pinsIn w (pinsAt p))) (parts.count-at w high) ∙ clauses.pins-rest w p owned)
         (cons-same _ _ _ _ (ap (λ (x : ℕ). every unusedCheckpoint (drop x (getD (s .kept .0) p []))) held-is ∙ ap (λ (l : List Checkpoint). every unusedCheckpoint (drop held l)) (parts.row-at w high p lt) ∙ parts.rest-unused w high p lt)
         (cons-same _ _ _ _ records-kept refl)))))))))))))
 

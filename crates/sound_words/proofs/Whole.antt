@@ -12,11 +12,11 @@ use Rattle.laws.specs.Choice.{pick, by-bool}
 use Rattle.laws.specs.Conjunctions.{Conjunction, none, test, _and_, each, holds, asks, same-tests, part-fails}
 use Rattle.laws.specs.Elements.{every-replicate}
 use Rattle.laws.specs.Ranges.{all-same}
-use Rattle.laws.specs.Rows.{all-both, and-true, every-at}
-use Rattle.laws.specs.Search.{allBelow, all-in, all-out}
+use Rattle.laws.specs.Rows.{all-both, all-stop, and-true, every-at}
+use Rattle.laws.specs.Search.{allBelow, all-in, all-out, all-fails}
 use Rattle.laws.specs.Sums.{sumBelow, sum-same}
 use Rattle.laws.specs.Tests.{every, allOf, countBelow}
-use Rattle.laws.specs.Truth.{and-left, and-right, and-both}
+use Rattle.laws.specs.Truth.{and-left, and-right, and-both, and-no-right}
 use Rattle.model.specs.declared.Interval.{Interval}
 use Rattle.model.specs.declared.Pin.{Pin}
 use Rattle.model.specs.declared.Checkpoint.{Checkpoint}
@@ -82,15 +82,37 @@ module _ (w : List ℕ) (small : (k : ℕ) → word w k ≤ 65535) where
     recordsAsked p = every (recordSound (process s p)) (process s p .kept)
 
     -- All processes.
-    processes-same : (allBelow (s .count) ownsAsked && allBelow (s .count) vectorsAsked && allBelow (s .count) keptAsked && allBelow (s .count) (rowUnused s) && allBelow (s .count) recordsAsked)
+    owned-same : ((f : ℕ) → f < n → 1 ≤ ownIn w f) → (allBelow (s .count) ownsAsked && allBelow (s .count) vectorsAsked && allBelow (s .count) keptAsked && allBelow (s .count) (rowUnused s) && allBelow (s .count) recordsAsked)
         ≡ (allBelow n (countsFit w) && allBelow n (partFits w))
     unfolding decoded
-    processes-same =
+    owned-same owned =
         sym (all-both n (λ p. ownsAsked p && vectorsAsked p && keptAsked p && rowUnused s p) recordsAsked
         ∙ ap (λ b. b && allBelow n recordsAsked) (all-both n (λ p. ownsAsked p && vectorsAsked p && keptAsked p) (rowUnused s)
         ∙ ap (λ b. b && allBelow n (rowUnused s)) (all-both n (λ p. ownsAsked p && vectorsAsked p) keptAsked ∙ ap (λ b. b && allBelow n keptAsked) (all-both n ownsAsked vectorsAsked))))
-        ∙ all-same n asked (λ p. countsFit w p && partFits w p) (λ p lt. one.process-same w high p lt (small (blocksAt p)))
+        ∙ all-same n asked (λ p. countsFit w p && partFits w p) (λ p lt. one.process-same w high p lt (small (blocksAt p)) owned)
         ∙ all-both n (countsFit w) (partFits w)
+
+    -- Where an own entry is 0, neither holds.
+    own-off : (p : ℕ) → p < n → leb 1 (ownIn w p) ≡ false → partFits w p ≡ false
+    unfolding partFits partTests holds
+    own-off p lt e = sym (part-fails (partTests w p) (test 0) e)
+
+    first-off : (a b c d e : Bool) → a ≡ false → (a && b && c && d && e) ≡ false
+    first-off a b c d e off = rw off
+
+    unowned-same : (p : ℕ) → p < n → leb 1 (ownIn w p) ≡ false
+        → (allBelow (s .count) ownsAsked && allBelow (s .count) vectorsAsked && allBelow (s .count) keptAsked && allBelow (s .count) (rowUnused s) && allBelow (s .count) recordsAsked)
+        ≡ (allBelow n (countsFit w) && allBelow n (partFits w))
+    unfolding decoded
+    unowned-same p lt e = both-false _ (allBelow n (countsFit w) && allBelow n (partFits w))
+        (first-off (allBelow n ownsAsked) _ _ _ _ (sym (all-stop n ownsAsked p lt (ap (λ (x : ℕ). leb 1 x) (parts.own-at w high p lt) ∙ e))))
+        (and-no-right (allBelow n (countsFit w)) (allBelow n (partFits w)) (sym (all-stop n (partFits w) p lt (own-off p lt e))))
+
+    processes-same : (allBelow (s .count) ownsAsked && allBelow (s .count) vectorsAsked && allBelow (s .count) keptAsked && allBelow (s .count) (rowUnused s) && allBelow (s .count) recordsAsked)
+        ≡ (allBelow n (countsFit w) && allBelow n (partFits w))
+    processes-same = by-bool (allBelow n (λ p. leb 1 (ownIn w p)))
+        (λ e. owned-same (λ f lt. leb-true 1 (ownIn w f) (all-out n (λ p. leb 1 (ownIn w p)) e f lt)))
+        (λ e. let at = all-fails n (λ p. leb 1 (ownIn w p)) e in unowned-same (at .0) (at .1) (at .2))
 
     -- What stands at n and above is not in use.
     abbrev After : List Bool

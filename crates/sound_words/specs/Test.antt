@@ -28,12 +28,12 @@ most w f = pick (ltb f (countOf w)) (ownIn w f) 0
 unfoldable pub rowWithin : List ℕ → ℕ → Bool
 rowWithin w at = allBelow places (λ f. leb (word w (at + f)) (most w f))
 
--- The pins of process p. "unused pins .. are none": those in columns at n and above.
+-- The pins of process p. "unused pins .. are none": those in columns at n and above, where an entry may only be 0. Own entries are at least 1 below n.
 abbrev pub pinIn : List ℕ → ℕ → ℕ → ℕ
 pinIn w p f = word w (pinsAt p + f)
 
 unfoldable pub unusedPins : List ℕ → ℕ → Bool
-unusedPins w p = allBelow places (λ f. ltb f (countOf w) || eqb (pinIn w p f) 0)
+unusedPins w p = allBelow places (λ f. not (eqb (most w f) 0) || eqb (pinIn w p f) 0)
 
 -- The kept checkpoints of process p: the word of an index is one above the index. The one before the first counts as 0.
 abbrev pub indexIn : List ℕ → ℕ → ℕ → ℕ

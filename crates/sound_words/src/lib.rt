@@ -74,7 +74,7 @@ fn are_processes_sound(w: &[u16], n: usize, owns: [Interval; 16]) -> bool
     requires { ⌜ Judged (now w) n owns ⌝ }
     ensures { λ r. ⌜ r ≡ (allBelow n (countsFit (now (w .entry))) && allBelow n (partFits (now (w .entry))) && diskFits (now (w .entry))) ⌝ }
 {
-    let columns = sound_rows::limits_below(n);
+    let columns = sound_rows::limits_where(owns);
     let mut blocks: u64 = 0;
     for p in 0..n {
         let ok = process::is_sound(w, p, n, owns, columns);

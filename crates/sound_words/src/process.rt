@@ -10,6 +10,7 @@ ghost use lib.ListN.{length};
 ghost use Rattle.laws.specs.Choice.{pick};
 ghost use Rattle.laws.specs.Lists.{table};
 ghost use Rattle.laws.specs.Search.{allBelow};
+ghost use Rattle.model.specs.Words.{entry};
 ghost use Rattle.model.specs.Sound.{causeSound};
 ghost use Rattle.words.specs.Layout.{word, countOf, partAt, pinsAt, causeAt, storedAt, rowIn};
 ghost use Rattle.sound_words.specs.Test.{ownIn, rowWithin, pinIn, unusedPins, indexIn, indexBefore, keptFits, pinFits, countsFit, partFits, limitsIn, Judged};
@@ -125,7 +126,7 @@ fn are_numbers_sound(w: &[u16], p: usize, n: usize) -> bool
 
 // The vector is within the own entries, and no pin at n and above names a checkpoint: `columns` has what a pin may be at most.
 fn are_rows_sound(w: &[u16], p: usize, owns: [Interval; 16], columns: [u16; 16]) -> bool
-    requires { ⌜ (length (now w) ≡ 6464) × (p < 16) × (owns ≡ limitsIn (now w)) × (columns ≡ table 16 (λ f. pick (ltb f (countOf (now w))) 65535 0)) ⌝ }
+    requires { ⌜ (length (now w) ≡ 6464) × (p < 16) × (owns ≡ limitsIn (now w)) × (columns ≡ table 16 (λ f. pick (eqb (entry owns f .0) 0) 0 65535)) ⌝ }
     ensures { λ r. ⌜ r ≡ (rowWithin (now (w .entry)) (partAt p) && unusedPins (now (w .entry)) p) ⌝ }
 {
     let vector_at = places::part_at(p);
@@ -138,7 +139,7 @@ fn are_rows_sound(w: &[u16], p: usize, owns: [Interval; 16], columns: [u16; 16])
 }
 
 pub fn is_sound(w: &[u16], p: usize, n: usize, owns: [Interval; 16], columns: [u16; 16]) -> bool
-    requires { ⌜ Judged (now w) n owns × (p < n) × (columns ≡ table 16 (λ f. pick (ltb f n) 65535 0)) ⌝ }
+    requires { ⌜ Judged (now w) n owns × (p < n) × (columns ≡ table 16 (λ f. pick (eqb (entry owns f .0) 0) 0 65535)) ⌝ }
     ensures { λ r. ⌜ r ≡ (countsFit (now (w .entry)) p && partFits (now (w .entry)) p) ⌝ }
 {
     let numbers = are_numbers_sound(w, p, n);

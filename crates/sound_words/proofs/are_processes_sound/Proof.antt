@@ -13,14 +13,11 @@ Inv-loop w n owns columns blocks₀ p₀ blocks p = Passed w n p blocks
 abbrev μ-loop : tie.MeasureT-loop
 μ-loop w n owns columns blocks₀ p₀ blocks p = n - p
 
-limits-below-requires : tie.Need-limits-below-requires Inv-loop μ-loop
-limits-below-requires c κs = c .before .pre .few
-
 loop-holds : tie.Need-loop-holds Inv-loop μ-loop
 loop-holds c = let a = c .before .before .args in none-passed (a .w .now) (a .n)
 
 is-sound-requires : tie.Need-is-sound-requires Inv-loop μ-loop
-is-sound-requires c κs = let b = c .before .before in (b .before .before .pre, c .loop-test .taken, b .limits-below .ensures)
+is-sound-requires c κs = let b = c .before .before in (b .before .before .pre, c .loop-test .taken, b .limits-where .ensures)
 
 returns : tie.Need-returns Inv-loop μ-loop
 returns c = let m = c .before in
@@ -64,7 +61,7 @@ are-processes-sound-spec =
     (tie.spec
     Inv-loop
     μ-loop
-    limits-below-requires
+    (λ c κs. search needs)
     loop-holds
     is-sound-requires
     returns

@@ -18,7 +18,7 @@ returns c = let i = c .before in
     let s = g .before in
     let a = s .args in
     rw (
-      c .is-row-within .ensures ∙ pins-within (a .w .now) (a .p) (r .row-at .result) (a .columns) (λ k. omega (arith, g .shared-slice-known .given k)) (rw (q .pins-at .ensures) at (r .row-at .ensures)) (s .pre .3),
+      c .is-row-within .ensures ∙ pins-within (a .w .now) (a .p) (r .row-at .result) (a .columns) (a .owns) (λ k. omega (arith, g .shared-slice-known .given k)) (rw (q .pins-at .ensures) at (r .row-at .ensures)) (s .pre .2) (s .pre .3),
       i .is-within .ensures ∙ within-row (a .w .now) (partAt (a .p)) (v .vector-at .result) (a .owns) (rw (t .part-at .ensures) at (v .vector-at .ensures)) (s .pre .2),
     )
 

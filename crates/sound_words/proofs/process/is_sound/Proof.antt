@@ -14,7 +14,7 @@ returns c = let m = c .before in
     numbers-fail (a .w .now) (a .p) (m .are-numbers-sound .result) (m .are-numbers-sound .ensures) (c .if1 .taken)
 
 are-rows-sound-requires : tie.Need-are-rows-sound-requires
-are-rows-sound-requires c κs = let s = c .before .before .before in (s .pre .0 .sized, search needs, s .pre .0 .limits, rw (s .pre .0 .counted) at (s .pre .2))
+are-rows-sound-requires c κs = let s = c .before .before .before in (s .pre .0 .sized, search needs, s .pre .0 .limits, s .pre .2)
 
 returns-2 : tie.Need-returns-2
 returns-2 c = let r = c .before in
