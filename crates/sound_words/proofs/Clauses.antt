@@ -1,33 +1,29 @@
 -- The clauses of document 01 about one process, over the checkpoints and pins that the words hold, as tests of the words.
 -- Assumes nothing.
 use mathlib.Core.Path.{_≡_, refl, sym, _∙_, ap}
-use mathlib.Core.Bool.{Bool, true, false, _&&_, _||_, not}
+use mathlib.Core.Bool.{Bool, _&&_, _||_, not}
 use mathlib.Core.List.{List, [], _∷_, _++_, map}
 use Prim.Native.Nat.{ℕ, zero, suc, _+_, _-_, _*_, _≤_, _<_}
 use native.Mathlib.Omega.{arith}
 use lib.Dec.{eqb, ltb, leb}
-use lib.ListN.{length, getD}
 use borrow.Author.Tests.{ltb-true, lt-ltb, leb-true, le-leb, eqb-true, eq-eqb, ne-eqb}
 use Rattle.laws.specs.Choice.{pick, by-bool}
 use Rattle.laws.specs.Elements.{same-test}
 use Rattle.laws.specs.Lists.{orElse, lastOf, table}
 use Rattle.laws.specs.Ranges.{all-same, any-same}
-use Rattle.laws.specs.Rows.{every-both, all-both, and-swap, and-true}
+use Rattle.laws.specs.Rows.{all-both, and-swap, and-true}
 use Rattle.laws.specs.Search.{allBelow, anyBelow, all-in, all-out}
 use Rattle.laws.specs.Select.{map-append, lastOf-snoc, some-table}
-use Rattle.laws.specs.Tables.{getD-table}
-use Rattle.laws.specs.Tests.{every, some-of}
+use Rattle.laws.specs.Tests.{every}
 use Rattle.model.specs.declared.Interval.{Interval}
-use Rattle.model.specs.declared.CheckpointIndex.{CheckpointIndex}
-use Rattle.model.specs.declared.Pin.{Pin}
-use Rattle.model.specs.declared.Pin.the-variants.{Nothing, At}
+use Rattle.model.specs.declared.Pin.the-variants.{At}
 use Rattle.model.specs.declared.Checkpoint.{Checkpoint}
-use Rattle.model.specs.Words.{places, entry, lastStored, names, named, noCheckpoint, blocksOf}
+use Rattle.model.specs.Words.{places, entry, names, named, noCheckpoint, blocksOf}
 use Rattle.model.specs.Sound.{ascending, pinSound, isNothing, nothingFrom, causeSound}
-use Rattle.words.specs.Layout.{word, countOf, blocksAt, pinsAt, indexAt, causeAt, storedAt, indexOf, pinOf, vectorIn, pinsIn, checkpointIn}
+use Rattle.words.specs.Layout.{word, countOf, blocksAt, pinsAt, causeAt, storedAt, indexOf, pinOf, vectorIn, pinsIn, checkpointIn}
 use Rattle.words.proofs.Same.{vector-word}
 use Rattle.sound_words.specs.Test.{ownIn, most, pinIn, unusedPins, indexIn, indexBefore, pinFits}
-use Rattle.sound_words.proofs.Laws.{every-table-is, every-after, every-append-is, nextOf, next-snoc, ascending-snoc}
+use Rattle.sound_words.proofs.Laws.{every-table-is, every-after, nextOf, next-snoc, ascending-snoc}
 
 -- A word that is one above a number is another such word.
 one-less : (y x : ℕ) → 1 ≤ x → eqb y (x - 1) ≡ eqb (suc y) x

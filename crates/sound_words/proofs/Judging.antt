@@ -2,8 +2,8 @@
 -- Assumes nothing.
 use mathlib.Core.Path.{_≡_, refl, sym, _∙_, ap}
 use mathlib.Core.Bool.{Bool, true, false, _&&_, _||_, not}
-use mathlib.Core.List.{List, [], _∷_}
-use Prim.Native.Nat.{ℕ, zero, suc, _+_, _-_, _*_, _≤_, _<_}
+use mathlib.Core.List.{List, _∷_}
+use Prim.Native.Nat.{ℕ, suc, _+_, _-_, _*_, _≤_, _<_}
 use native.Mathlib.Nat.{mul-le-mul}
 use native.Mathlib.Numerals.{add-one}
 use native.Mathlib.Omega.{arith}
@@ -11,20 +11,20 @@ use lib.Dec.{eqb, ltb, leb}
 use lib.ListN.{length, getD, replicate, length-replicate, getD-replicate}
 use borrow.Author.Tests.{lt-ltb, le-ltb, leb-true, le-leb, lt-leb, eqb-true, eq-eqb, ne-eqb, not-true, not-false}
 use Rattle.laws.specs.Choice.{pick, by-bool}
-use Rattle.laws.specs.Conjunctions.{Conjunction, test, _and_, holds, asks, conjunction, part-fails}
+use Rattle.laws.specs.Conjunctions.{test, _and_, holds, asks, conjunction, part-fails}
 use Rattle.laws.specs.Elements.{same-test}
 use Rattle.laws.specs.Lists.{table}
 use Rattle.laws.specs.Loops.{setBelow, below-length, below-at, below-above}
 use Rattle.laws.specs.Ranges.{all-same, any-same}
-use Rattle.laws.specs.Rows.{all-both, all-stop, by-lt, and-true}
-use Rattle.laws.specs.Search.{allBelow, anyBelow, all-out}
+use Rattle.laws.specs.Rows.{all-both, all-stop, by-lt}
+use Rattle.laws.specs.Search.{allBelow, anyBelow}
 use Rattle.laws.specs.Sums.{sumBelow}
-use Rattle.laws.specs.Tables.{length-table, getD-table, table-same, table-is}
+use Rattle.laws.specs.Tables.{getD-table, table-same, table-is}
 use Rattle.laws.specs.Tests.{every, allOf, countBelow}
-use Rattle.laws.specs.Truth.{and-left, and-right, and-both, or-none}
+use Rattle.laws.specs.Truth.{and-left, and-right, or-none}
 use Rattle.model.specs.declared.Interval.{Interval}
 use Rattle.model.specs.declared.CheckpointIndex.{CheckpointIndex}
-use Rattle.model.specs.Words.{places, mostUnderWay, mostMessages, entry}
+use Rattle.model.specs.Words.{places, entry}
 use Rattle.model.specs.Sound.{sound, causeSound}
 use Rattle.words.specs.Layout.{size, word, wide2, wide4, countOf, endOf, heldAt, blocksAt, partAt, pinsAt, causeAt, storedAt, senderAt, receiverAt, carriedAt, lowAt, highAt, intervalOf, indexOf, rowIn, vectorIn, runOf}
 use Rattle.words.proofs.Same.{vector-word, row-word}

@@ -1,25 +1,24 @@
 -- Tests of a list that is laid out by index, as tests of the indexes: of all its entries, of those from a place on, of the chosen ones; and numbers that ascend,
 -- one more at a time.
 -- Assumes nothing.
-use mathlib.Core.Path.{_≡_, refl, sym, _∙_, ap}
-use mathlib.Core.Bool.{Bool, true, false, _&&_, _||_, not}
-use mathlib.Core.List.{List, [], _∷_, _++_, map, append-nil}
+use mathlib.Core.Path.{_≡_, refl, sym, _∙_}
+use mathlib.Core.Bool.{Bool, false, _&&_, _||_, not}
+use mathlib.Core.List.{List, [], _∷_, _++_}
 use Prim.Native.Nat.{ℕ, zero, suc, _+_, _≤_, _<_}
-use native.Mathlib.Numerals.{add-one}
 use native.Mathlib.Omega.{arith}
-use lib.Dec.{eqb, ltb, leb}
-use lib.ListN.{length, getD, take, drop, length-append}
+use lib.Dec.{ltb, leb}
+use lib.ListN.{length, take, drop, length-append}
 use lib.Seq.{getD-take, length-take-le, ext-getD}
-use borrow.Author.Tests.{ltb-true, ltb-false, lt-ltb, le-ltb, leb-true, le-leb, eqb-true, eq-eqb}
+use borrow.Author.Tests.{ltb-true, lt-ltb, le-ltb}
 use Rattle.laws.specs.Choice.{pick, by-bool}
 use Rattle.laws.specs.Elements.{same-test, every-from}
 use Rattle.laws.specs.Lists.{select, table}
 use Rattle.laws.specs.Rows.{and-group, and-swap, and-true, every-behind, by-lt}
 use Rattle.laws.specs.Search.{allBelow, all-in, all-out}
-use Rattle.laws.specs.Select.{select-append, map-append}
+use Rattle.laws.specs.Select.{select-append}
 use Rattle.laws.specs.Tables.{length-table, getD-table}
 use Rattle.laws.specs.Tests.{every, countBelow}
-use Rattle.laws.specs.Truth.{never-both, and-left, and-right, and-both, or-left, or-in-right, or-right}
+use Rattle.laws.specs.Truth.{and-left, and-right, and-both, or-left, or-in-right, or-right}
 use Rattle.model.specs.Sound.{ascending}
 
 pub cons-same : {A : Type 0} (a b : A) (l m : List A) → a ≡ b → l ≡ m → a ∷ l ≡ b ∷ m

@@ -3,30 +3,30 @@
 use mathlib.Core.Path.{_≡_, refl, sym, _∙_, ap}
 use mathlib.Core.Bool.{Bool, true, false, _&&_, _||_, not}
 use mathlib.Core.List.{List, [], _∷_, _++_, map, append-nil}
-use Prim.Native.Nat.{ℕ, zero, suc, _+_, _-_, _*_, _≤_, _<_}
+use Prim.Native.Nat.{ℕ, zero, suc, _+_, _-_, _≤_, _<_}
 use native.Mathlib.Omega.{arith}
 use lib.Dec.{eqb, ltb, leb}
-use lib.ListN.{length, getD, take, drop, replicate, length-map, length-append, length-replicate, getD-replicate, List·getD-append, List·getD-map}
+use lib.ListN.{length, getD, take, drop, replicate, length-map, getD-replicate, List·getD-append, List·getD-map}
 use lib.Seq.{getD-take, length-take-le, drop-append-seam, getD-append-add}
-use borrow.Author.Tests.{ltb-true, lt-ltb, leb-true, le-leb, eqb-true, eq-eqb, ne-eqb, not-true, not-false}
+use borrow.Author.Tests.{ltb-true, lt-ltb, leb-true, le-leb, eqb-true, eq-eqb, ne-eqb, not-true}
 use Rattle.laws.specs.Choice.{pick, by-bool, by-eq}
-use Rattle.laws.specs.Conjunctions.{Conjunction, none, test, _and_, each, holds, asks, same-tests, part-fails}
+use Rattle.laws.specs.Conjunctions.{none, test, _and_, each, holds, asks, same-tests, part-fails}
 use Rattle.laws.specs.Counting.{count-le, count-same}
 use Rattle.laws.specs.Elements.{same-test, every-replicate}
 use Rattle.laws.specs.Lists.{select, table, placed}
 use Rattle.laws.specs.Prefixes.{placed-length}
 use Rattle.laws.specs.Ranges.{all-same}
 use Rattle.laws.specs.Rows.{every-both, all-both, and-true, and-swap, every-at, every-behind, by-lt}
-use Rattle.laws.specs.Search.{allBelow, all-in, all-out}
+use Rattle.laws.specs.Search.{allBelow, all-in}
 use Rattle.laws.specs.Select.{map-append}
 use Rattle.laws.specs.Tables.{take-placed}
 use Rattle.laws.specs.Tests.{every, allOf, countBelow}
-use Rattle.laws.specs.Truth.{and-left, and-right, and-both, and-no-right, or-left, or-in-right, or-right, never-both}
+use Rattle.laws.specs.Truth.{and-left, and-right, and-no-right, or-in-right, or-right, never-both}
 use Rattle.model.specs.declared.Message.{Message}
 use Rattle.model.specs.declared.Run.{Run}
 use Rattle.model.specs.Words.{places, mostUnderWay, mostMessages, noMessage, underWay}
-use Rattle.model.specs.Sound.{within, ascending, messageSound, messagesSound, zeroFrom, unusedMessage}
-use Rattle.words.specs.Layout.{word, wide2, countOf, endOf, lowAt, highAt, senderAt, receiverAt, carriedAt, messageIn, isMessage, messagesIn, decoded}
+use Rattle.model.specs.Sound.{within, ascending, messageSound, zeroFrom, unusedMessage}
+use Rattle.words.specs.Layout.{word, wide2, countOf, endOf, senderAt, receiverAt, carriedAt, messageIn, isMessage, messagesIn, decoded}
 use Rattle.sound_words.specs.Test.{rowWithin, numberIn, numberBefore, messageTests, messageFits}
 use Rattle.sound_words.proofs.Laws.{cons-same, both-false, every-chosen, length-chosen, select-more, nextOf, next-snoc, ascending-snoc}
 use Rattle.sound_words.proofs.Parts as parts

@@ -1,32 +1,30 @@
 -- All that document 01 asks of one process is what is tested of its words.
 -- Assumes nothing.
 use mathlib.Core.Path.{_≡_, refl, sym, _∙_, ap}
-use mathlib.Core.Bool.{Bool, true, false, _&&_, _||_, not}
+use mathlib.Core.Bool.{Bool, true, false, _&&_, not}
 use mathlib.Core.List.{List, [], _∷_, map}
-use Prim.Native.Nat.{ℕ, zero, suc, _+_, _-_, _≤_, _<_}
+use Prim.Native.Nat.{ℕ, _+_, _-_, _≤_, _<_}
 use native.Mathlib.Omega.{arith}
 use lib.Dec.{eqb, ltb, leb}
-use lib.ListN.{length, getD, drop}
-use borrow.Author.Tests.{lt-ltb, le-ltb, leb-true, le-leb, eqb-true, eq-eqb, eqb-false, not-true, not-false}
-use Rattle.laws.specs.Choice.{pick, by-bool, by-eq}
-use Rattle.laws.specs.Conjunctions.{Conjunction, none, test, _and_, each, holds, asks, same-tests, conjunction, part-fails}
-use Rattle.laws.specs.Elements.{same-test}
+use lib.ListN.{getD, drop}
+use borrow.Author.Tests.{le-ltb, leb-true, eqb-true, eqb-false, not-true, not-false}
+use Rattle.laws.specs.Choice.{pick, by-bool}
+use Rattle.laws.specs.Conjunctions.{Conjunction, none, test, _and_, each, holds, asks, same-tests, part-fails}
 use Rattle.laws.specs.Lists.{orElse, lastOf, table}
 use Rattle.laws.specs.Ranges.{all-same}
 use Rattle.laws.specs.Rows.{every-both, all-both, all-stop, and-true}
-use Rattle.laws.specs.Search.{allBelow, anyBelow, all-in, all-out, all-fails}
+use Rattle.laws.specs.Search.{allBelow, anyBelow, all-out, all-fails}
 use Rattle.laws.specs.Tables.{getD-table}
-use Rattle.laws.specs.Tests.{every, some-of, allOf}
+use Rattle.laws.specs.Tests.{every, allOf}
 use Rattle.laws.specs.Truth.{and-left, and-right, and-no-right}
 use Rattle.model.specs.declared.Interval.{Interval}
-use Rattle.model.specs.declared.CheckpointIndex.{CheckpointIndex}
 use Rattle.model.specs.declared.Pin.{Pin}
-use Rattle.model.specs.declared.Pin.the-variants.{Nothing, At}
+use Rattle.model.specs.declared.Pin.the-variants.{Nothing}
 use Rattle.model.specs.declared.Checkpoint.{Checkpoint}
 use Rattle.model.specs.declared.Run.{Run}
 use Rattle.model.specs.Words.{Process, places, entry, lastStored, names, named, noCheckpoint, blockCount, process, own}
 use Rattle.model.specs.Sound.{within, ascending, keptSound, pinSound, pinsSound, zeroFrom, nothingFrom, unusedCheckpoint, rowUnused, causeSound, isBlockCount, recordSound}
-use Rattle.words.specs.Layout.{word, countOf, heldAt, blocksAt, partAt, pinsAt, indexAt, causeAt, storedAt, indexOf, pinOf, vectorIn, pinsIn, checkpointIn, isKeptIn, decoded}
+use Rattle.words.specs.Layout.{word, countOf, heldAt, blocksAt, partAt, pinsAt, causeAt, storedAt, pinOf, vectorIn, pinsIn, checkpointIn, isKeptIn, decoded}
 use Rattle.sound_words.specs.Test.{ownIn, rowWithin, pinIn, unusedPins, indexIn, indexBefore, keptTests, keptFits, pinFits, countsFit, partTests, partFits}
 use Rattle.sound_words.proofs.Laws.{cons-same, both-false, every-table-is}
 use Rattle.sound_words.proofs.Parts as parts

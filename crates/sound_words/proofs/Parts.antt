@@ -1,29 +1,27 @@
 -- The run that the words stand for, part by part: what its definitions read is at a place of the words.
 -- Assumes nothing.
 use mathlib.Core.Path.{_≡_, refl, sym, _∙_, ap}
-use mathlib.Core.Bool.{Bool, true, false, _&&_, _||_, not}
-use mathlib.Core.List.{List, [], _∷_, map}
-use Prim.Native.Nat.{ℕ, zero, suc, _+_, _-_, _≤_, _<_}
+use mathlib.Core.Bool.{Bool, true, _&&_, _||_, not}
+use mathlib.Core.List.{List, []}
+use Prim.Native.Nat.{ℕ, zero, _+_, _-_, _≤_, _<_}
 use native.Mathlib.Omega.{arith}
 use lib.Dec.{eqb, ltb, leb}
-use lib.ListN.{length, getD, take, drop, replicate}
+use lib.ListN.{getD, take, drop, replicate}
 use borrow.Author.Tests.{lt-ltb, le-ltb, leb-true, le-leb, eqb-true, eq-eqb}
 use Rattle.laws.specs.Choice.{pick, by-bool}
-use Rattle.laws.specs.Elements.{same-test, every-from, every-replicate}
+use Rattle.laws.specs.Elements.{same-test, every-from}
 use Rattle.laws.specs.Lists.{table}
 use Rattle.laws.specs.Ranges.{all-same}
 use Rattle.laws.specs.Search.{allBelow, all-out}
 use Rattle.laws.specs.Tables.{length-table, getD-table, table-same}
 use Rattle.laws.specs.Tests.{every}
 use Rattle.model.specs.declared.Interval.{Interval}
-use Rattle.model.specs.declared.Pin.{Pin}
 use Rattle.model.specs.declared.Checkpoint.{Checkpoint}
-use Rattle.model.specs.declared.Run.{Run}
 use Rattle.model.specs.Words.{places, entry, zeroVector, noPins, noCheckpoint, process, own}
-use Rattle.model.specs.Sound.{within, zeroFrom, nothingFrom, isNothing, unusedCheckpoint}
+use Rattle.model.specs.Sound.{within, zeroFrom, unusedCheckpoint}
 use Rattle.words.specs.Layout.{word, countOf, heldAt, partAt, pinsAt, vectorIn, pinsIn, checkpointIn, isKeptIn, keptIn, ofProcesses, decoded}
 use Rattle.words.proofs.Same.{vector-word}
-use Rattle.sound_words.specs.Test.{ownIn, most, rowWithin, pinIn, unusedPins, indexIn}
+use Rattle.sound_words.specs.Test.{ownIn, most, rowWithin, indexIn}
 use Rattle.sound_words.proofs.Laws.{every-after, all-split, take-table}
 
 -- At most 0 is 0.

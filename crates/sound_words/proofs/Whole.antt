@@ -3,28 +3,25 @@
 use mathlib.Core.Path.{_≡_, refl, sym, _∙_, ap}
 use mathlib.Core.Bool.{Bool, true, false, _&&_, _||_, not}
 use mathlib.Core.List.{List, [], _∷_, map}
-use Prim.Native.Nat.{ℕ, zero, suc, _+_, _-_, _*_, _≤_, _<_}
+use Prim.Native.Nat.{ℕ, _+_, _-_, _*_, _≤_, _<_}
 use native.Mathlib.Omega.{arith}
 use lib.Dec.{eqb, ltb, leb}
-use lib.ListN.{length, getD, drop, replicate}
+use lib.ListN.{length, drop, replicate}
 use borrow.Author.Tests.{ltb-true, leb-true, le-leb, ne-eqb}
-use Rattle.laws.specs.Choice.{pick, by-bool}
-use Rattle.laws.specs.Conjunctions.{Conjunction, none, test, _and_, each, holds, asks, same-tests, part-fails}
+use Rattle.laws.specs.Choice.{by-bool}
+use Rattle.laws.specs.Conjunctions.{none, test, _and_, each, holds, asks, same-tests, part-fails}
 use Rattle.laws.specs.Elements.{every-replicate}
 use Rattle.laws.specs.Ranges.{all-same}
 use Rattle.laws.specs.Rows.{all-both, all-stop, and-true, every-at}
 use Rattle.laws.specs.Search.{allBelow, all-in, all-out, all-fails}
-use Rattle.laws.specs.Sums.{sumBelow, sum-same}
+use Rattle.laws.specs.Sums.{sum-same}
 use Rattle.laws.specs.Tests.{every, allOf, countBelow}
 use Rattle.laws.specs.Truth.{and-left, and-right, and-both, and-no-right}
-use Rattle.model.specs.declared.Interval.{Interval}
-use Rattle.model.specs.declared.Pin.{Pin}
 use Rattle.model.specs.declared.Checkpoint.{Checkpoint}
-use Rattle.model.specs.declared.Message.{Message}
 use Rattle.model.specs.declared.Run.{Run}
 use Rattle.model.specs.Words.{places, mostUnderWay, mostMessages, mostBlocks, blocksOf, zeroVector, noPins, noCheckpoint, blank, process, own, underWay}
 use Rattle.model.specs.Sound.{sound, countSound, ownSound, within, vectorsSound, ascending, keptSound, pinsSound, messageSound, messagesSound, zeroFrom, unusedCheckpoint, unusedMessage, nothingFrom, isNothing, rowUnused, unusedSound, recordSound, keptBlocks, diskSound}
-use Rattle.words.specs.Layout.{size, word, wide2, wide4, countOf, endOf, heldAt, blocksAt, partAt, pinsAt, vectorIn, pinsIn, keptIn, checkpointIn, markIn, messageIn, isMessage, decoded, endFits, fits, runOf}
+use Rattle.words.specs.Layout.{size, word, wide2, wide4, countOf, endOf, heldAt, blocksAt, partAt, pinsAt, vectorIn, pinsIn, keptIn, markIn, messageIn, isMessage, decoded, endFits, fits, runOf}
 use Rattle.sound_words.specs.Test.{ownIn, numberIn, numberBefore, indexIn, indexBefore, keptTests, keptFits, countsFit, partTests, partFits, blocksIn, diskFits, messageFits, messagesTests, soundTests, soundIn}
 use Rattle.sound_words.proofs.Laws.{both-false, cons-same}
 use Rattle.sound_words.proofs.Parts as parts

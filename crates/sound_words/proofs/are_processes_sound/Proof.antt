@@ -1,8 +1,7 @@
 -- `sound_words::are_processes_sound` meets its contract. Assumes nothing.
 use borrow.Author.Needs.{needs}
-use Prim.Native.Nat.{ℕ, _+_, _-_, _*_, _≤_, _<_}
+use Prim.Native.Nat.{_-_}
 use native.Mathlib.Omega.{arith}
-use mathlib.Core.Path.{_≡_, refl, sym, _∙_, ap}
 use Rattle.sound_words.proofs.Judging.{Passed, none-passed, one-passed, process-fails, all-passed, held-few}
 use Rattle.sound_words.proofs.are_processes_sound.Statement.{statement}
 use Rattle.sound_words.proofs.are_processes_sound.Tie as tie

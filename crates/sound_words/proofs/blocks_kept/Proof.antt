@@ -1,8 +1,7 @@
 -- `sound_words::blocks_kept` meets its contract. Assumes nothing.
 use borrow.Author.Needs.{needs}
-use Prim.Native.Nat.{ℕ, _+_, _-_, _*_, _≤_, _<_}
+use Prim.Native.Nat.{_-_, _*_, _≤_}
 use native.Mathlib.Omega.{arith}
-use mathlib.Core.Path.{_≡_, refl, sym, _∙_, ap}
 use Rattle.sound_words.proofs.Judging.{blocks-are, product-few}
 use Rattle.sound_words.proofs.blocks_kept.Statement.{statement}
 use Rattle.sound_words.proofs.blocks_kept.Tie as tie

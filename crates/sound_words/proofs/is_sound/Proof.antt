@@ -1,6 +1,6 @@
 -- `sound_words::is_sound` meets its contract: where a test fails the words are not sound, and where all hold they are. Assumes nothing.
 use borrow.Author.Needs.{needs}
-use Prim.Native.Nat.{ℕ, _+_, _-_, _*_, _≤_, _<_}
+use Prim.Native.Nat.{ℕ, _-_, _≤_}
 use native.Mathlib.Omega.{arith}
 use Rattle.words.specs.Layout.{word}
 use Rattle.sound_words.proofs.Judging.{size-off, count-low, count-high, processes-off, words-whole}

@@ -1,8 +1,8 @@
 -- `sound_words::own_entries` meets its contract. Assumes nothing.
 use borrow.Author.Needs.{needs}
-use Prim.Native.Nat.{ℕ, _+_, _-_, _*_, _≤_, _<_}
+use Prim.Native.Nat.{_-_, _≤_}
 use native.Mathlib.Omega.{arith}
-use mathlib.Core.Path.{_≡_, refl, sym, _∙_, ap}
+use mathlib.Core.Path.{_≡_, _∙_}
 use Rattle.words.specs.Layout.{countOf, intervalOf}
 use Rattle.laws.specs.Loops.{setBelow, below-none, turn-set}
 use Rattle.sound_words.specs.Test.{ownIn}

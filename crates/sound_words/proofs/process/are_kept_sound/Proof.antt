@@ -1,9 +1,8 @@
 -- `sound_words::process::are_kept_sound` meets its contract. Assumes nothing.
 use borrow.Author.Needs.{needs}
-use Prim.Native.Nat.{ℕ, _+_, _-_, _*_, _≤_, _<_}
-use native.Mathlib.Omega.{arith}
-use mathlib.Core.Path.{_≡_, refl, sym, _∙_, ap}
-use Rattle.words.specs.Layout.{word, pinsAt}
+use Prim.Native.Nat.{ℕ, _+_, _-_}
+use mathlib.Core.Path.{ap}
+use Rattle.words.specs.Layout.{word}
 use Rattle.sound_words.proofs.Judging.{Walked, none-walked, one-walked, walk-stops, walk-misses, walk-ends}
 use Rattle.sound_words.proofs.process.are_kept_sound.Statement.{statement}
 use Rattle.sound_words.proofs.process.are_kept_sound.Tie as tie

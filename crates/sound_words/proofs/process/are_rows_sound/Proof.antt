@@ -1,9 +1,9 @@
 -- `sound_words::process::are_rows_sound` meets its contract. Assumes nothing.
 use borrow.Author.Needs.{needs}
-use Prim.Native.Nat.{ℕ, _+_, _-_, _*_, _≤_, _<_}
+use Prim.Native.Nat.{_-_}
 use native.Mathlib.Omega.{arith}
 use mathlib.Core.Path.{_∙_}
-use Rattle.words.specs.Layout.{partAt, pinsAt}
+use Rattle.words.specs.Layout.{partAt}
 use Rattle.sound_words.proofs.Judging.{within-row, pins-within}
 use Rattle.sound_words.proofs.process.are_rows_sound.Statement.{statement}
 use Rattle.sound_words.proofs.process.are_rows_sound.Tie as tie

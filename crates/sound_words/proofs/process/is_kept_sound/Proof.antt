@@ -1,7 +1,7 @@
 -- `sound_words::process::is_kept_sound` meets its contract. Assumes nothing.
 use borrow.Author.Needs.{needs}
 use mathlib.Core.Path.{_∙_}
-use Rattle.words.specs.Layout.{pinsAt, storedAt}
+use Rattle.words.specs.Layout.{storedAt}
 use Rattle.sound_words.proofs.Judging.{within-row, named-row, kept-unnumbered, kept-unnamed, kept-whole}
 use Rattle.sound_words.proofs.process.is_kept_sound.Statement.{statement}
 use Rattle.sound_words.proofs.process.is_kept_sound.Tie as tie

@@ -1,8 +1,8 @@
 -- `sound_words::process::is_sound` meets its contract. Assumes nothing.
 use borrow.Author.Needs.{needs}
-use Prim.Native.Nat.{ℕ, _+_, _-_, _*_, _≤_, _<_}
+use Prim.Native.Nat.{ℕ, _-_}
 use native.Mathlib.Omega.{arith}
-use mathlib.Core.Path.{_≡_, refl, sym, _∙_, ap}
+use mathlib.Core.Path.{_≡_, _∙_, ap}
 use Rattle.words.specs.Layout.{word, heldAt}
 use Rattle.sound_words.proofs.Judging.{numbers-fail, rows-fail, process-whole, numbers-few}
 use Rattle.sound_words.proofs.process.is_sound.Statement.{statement}

@@ -1,6 +1,6 @@
 -- `sound_words::under_way::are_messages_sound` meets its contract. Assumes nothing.
 use borrow.Author.Needs.{needs}
-use mathlib.Core.Path.{_≡_, refl, sym, _∙_, ap}
+use mathlib.Core.Path.{refl}
 use Rattle.words.specs.Layout.{wide2}
 use Rattle.sound_words.proofs.Judging.{end-far, last-far, end-off, messages-whole}
 use Rattle.sound_words.proofs.under_way.are_messages_sound.Statement.{statement}

@@ -1,8 +1,7 @@
 -- `sound_words::under_way::are_places_sound` meets its contract. Assumes nothing.
 use borrow.Author.Needs.{needs}
-use Prim.Native.Nat.{ℕ, _+_, _-_, _*_, _≤_, _<_}
+use Prim.Native.Nat.{_-_}
 use native.Mathlib.Omega.{arith}
-use mathlib.Core.Path.{_≡_, refl, sym, _∙_, ap}
 use Rattle.laws.specs.Loops.{either}
 use Rattle.sound_words.proofs.Judging.{Read, none-read, one-read, none-there, read-fails, all-read}
 use Rattle.sound_words.proofs.under_way.are_places_sound.Statement.{statement}
