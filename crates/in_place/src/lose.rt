@@ -8,6 +8,8 @@ ghost use Rattle.model.specs.Sound.{sound};
 ghost use Rattle.model.specs.declared.Refusal.{Refusal};
 ghost use Rattle.model.specs.declared.LoseAnswer.the-variants.{Refused};
 ghost use Rattle.whole_runs.specs.Outcomes.{loseOutcome};
+ghost use Rattle.whole_runs.specs.Calls as made;
+ghost use Rattle.whole_runs.specs.WholeRuns.{StatePromise};
 ghost use Rattle.words.specs.Layout.{runOf};
 ghost use Rattle.in_place.specs.Left.{Leaves};
 
@@ -27,4 +29,20 @@ pub fn lose_on(w: &mut [u16], m: u32) -> LoseAnswer
             LoseAnswer::Lost
         }
     }
+}
+
+// Message m is lost.
+// Wherever calls from an accepted start led to the state of the words, what the words then keep and its blocks are right (demand 3).
+pub fn lose(w: &mut [u16], m: u32) -> LoseAnswer
+    ensures { λ r. ⌜ runOf (now (w .exit)) ≡ loseOutcome (runOf (now (w .entry))) m .run ⌝ }
+    ensures { λ r. ⌜ r ≡ loseOutcome (runOf (now (w .entry))) m .answer ⌝ }
+    ensures { λ r. ⌜ ((why : Refusal) → r ≡ Refused why → now (w .exit) ≡ now (w .entry)) ⌝ }
+    ensures { λ r. ⌜ Leaves (now (w .entry)) (now (w .exit)) ⌝ }
+    ensures { λ r. ⌜ StatePromise (runOf (now (w .entry))) (made.lose m) (runOf (now (w .exit))) ⌝ }
+{
+    let sound = sound_words::is_sound(w);
+    if !sound {
+        return LoseAnswer::Refused(Refusal::UnsoundState);
+    }
+    lose_on(w, m)
 }

@@ -1,5 +1,6 @@
 // Send from i to j: the message carries i's vector, and i's sent mark is set.
 use model::Message;
+use model::Refusal;
 use model::SendAnswer;
 use verdicts::Verdict;
 use words::places;
@@ -10,6 +11,8 @@ ghost use Rattle.model.specs.Sound.{sound};
 ghost use Rattle.model.specs.declared.Refusal.{Refusal};
 ghost use Rattle.model.specs.declared.SendAnswer.the-variants.{Refused};
 ghost use Rattle.whole_runs.specs.Outcomes.{sendOutcome};
+ghost use Rattle.whole_runs.specs.Calls as made;
+ghost use Rattle.whole_runs.specs.WholeRuns.{StatePromise};
 ghost use Rattle.words.specs.Layout.{word, countOf, wide2, runOf};
 ghost use Rattle.in_place.specs.Left.{Leaves};
 ghost use Rattle.in_place.specs.Sending.{sentWords};
@@ -56,4 +59,20 @@ pub fn send_on(w: &mut [u16], i: usize, j: usize) -> SendAnswer
             SendAnswer::Sent(number)
         }
     }
+}
+
+// Process i sends a message to process j.
+// Wherever calls from an accepted start led to the state of the words, what the words then keep and its blocks are right (demand 3).
+pub fn send(w: &mut [u16], i: usize, j: usize) -> SendAnswer
+    ensures { λ r. ⌜ runOf (now (w .exit)) ≡ sendOutcome (runOf (now (w .entry))) i j .run ⌝ }
+    ensures { λ r. ⌜ r ≡ sendOutcome (runOf (now (w .entry))) i j .answer ⌝ }
+    ensures { λ r. ⌜ ((why : Refusal) → r ≡ Refused why → now (w .exit) ≡ now (w .entry)) ⌝ }
+    ensures { λ r. ⌜ Leaves (now (w .entry)) (now (w .exit)) ⌝ }
+    ensures { λ r. ⌜ StatePromise (runOf (now (w .entry))) (made.send i j) (runOf (now (w .exit))) ⌝ }
+{
+    let sound = sound_words::is_sound(w);
+    if !sound {
+        return SendAnswer::Refused(Refusal::UnsoundState);
+    }
+    send_on(w, i, j)
 }
