@@ -1,10 +1,11 @@
 -- Which start is refused, test by test.
 -- Assumes nothing.
-use mathlib.Core.Path.{_≡_, refl, sym, _∙_}
+use mathlib.Core.Path.{_≡_, refl, sym, _∙_, ap}
 use mathlib.Core.Bool.{Bool, true, false, not}
 use mathlib.Core.List.{List, []}
 use mathlib.Core.Option.{none, some}
 use Prim.Native.Nat.{ℕ, zero, suc, _≤_, _<_}
+use native.Mathlib.Omega.{arith}
 use lib.Dec.{eqb, leb, ltb}
 use lib.ListN.{length, getD}
 use borrow.Author.Tests.{le-leb, lt-leb, lt-ltb, le-ltb, eq-eqb, ne-eqb}
@@ -16,15 +17,27 @@ use Rattle.model.specs.declared.StartAnswer.the-variants.{Refused, Started}
 use Rattle.model.specs.Words.{blank}
 use Rattle.model.specs.Steps.{startState}
 use Rattle.model.specs.Sound.{isBlockCount}
-use Rattle.model.specs.Refusals.{firstOf}
+use Rattle.model.specs.Refusals.{firstOf, startRefusal}
+use Rattle.model.specs.declared.Run.{Run}
+use Rattle.model.specs.declared.StartAnswer.{StartAnswer}
+use Rattle.model.specs.laws.Refusals.{by-refusal}
+use Rattle.whole_runs.specs.Outcomes.{Outcome, startOutcome}
+use Rattle.whole_runs.specs.WholeRuns.{StartPromise}
+use Rattle.whole_runs.proofs.WholeRuns.{start-promise}
 use Rattle.words.specs.Layout.{size}
-use Rattle.in_place.specs.Starting.{startRefusalIn, startOutcomeIn}
+use Rattle.in_place.specs.Starting.{startRefusalIn, startOutcomeIn, StartsTheSame}
+use Rattle.in_place.proofs.Starting.{accepted-size, accepted-long}
 
 -- Some count is none exactly if not all are.
 some-not : (n : ℕ) (t : ℕ → Bool) → anyBelow n (λ p. not (t p)) ≡ not (allBelow n t)
 unfolding anyBelow allBelow
 some-not zero t = refl
 some-not (suc n) t = by-bool (t n) (λ e. rw e (some-not n t)) (λ e. rw e)
+
+-- The answer says whether there is a refusal.
+pub by-answer : (many n : ℕ) (counts : List ℕ) → startOutcomeIn many n counts .answer ≡ Started → startRefusalIn many n counts ≡ none
+unfolding startOutcomeIn
+by-answer many n counts e = by-refusal (startRefusalIn many n counts) (λ f. f) (λ why q. absurd (let z : Refused why ≡ Started = rw q at e in let y : _≡_ {A = ℕ} 0 1 = cc in omega arith))
 
 module _ (many n : ℕ) (counts : List ℕ) where
   abbrev Gives : Refusal → Type 0
@@ -68,3 +81,15 @@ module _ (many n : ℕ) (counts : List ℕ) where
               → startOutcomeIn many n counts ≡ record { run = startState n counts; answer = Started; rose = 0; deleted = []; line = [] }
           unfolding startOutcomeIn
           fine e = rw (fine-refusal e)
+
+-- With enough lent, 2 and 3 are not met, and the rest is document 01's.
+pub starts-the-same : StartsTheSame
+unfolding StartsTheSame startOutcomeIn startRefusalIn startOutcome startRefusal firstOf
+starts-the-same n counts enough = rw (le-ltb (length counts) n enough)
+
+pub started-promise : (many n : ℕ) (counts : List ℕ) (t : Run) → t ≡ startOutcomeIn many n counts .run → startOutcomeIn many n counts .answer ≡ Started → StartPromise n counts t
+unfolding StartsTheSame
+started-promise many n counts t e a =
+    let fine = by-answer many n counts a in
+    let same : startOutcomeIn many n counts ≡ startOutcome n counts = rw (accepted-size many n counts fine) (starts-the-same n counts (accepted-long many n counts fine)) in
+    start-promise n counts t (e ∙ ap (λ (o : Outcome StartAnswer). o .run) same)

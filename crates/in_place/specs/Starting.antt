@@ -3,7 +3,8 @@
 use mathlib.Core.Bool.{Bool, not, _&&_}
 use mathlib.Core.List.{List, [], _∷_}
 use mathlib.Core.Option.{Option}
-use Prim.Native.Nat.{ℕ, zero, suc, _+_}
+use mathlib.Core.Path.{_≡_}
+use Prim.Native.Nat.{ℕ, zero, suc, _+_, _≤_}
 use lib.Dec.{eqb, leb, ltb}
 use lib.ListN.{length, getD, replicate}
 use Rattle.laws.specs.Choice.{pick}
@@ -17,7 +18,7 @@ use Rattle.model.specs.Words.{places, blank}
 use Rattle.model.specs.Steps.{startState}
 use Rattle.model.specs.Sound.{isBlockCount}
 use Rattle.model.specs.Refusals.{firstOf}
-use Rattle.whole_runs.specs.Outcomes.{Outcome, judged}
+use Rattle.whole_runs.specs.Outcomes.{Outcome, judged, startOutcome}
 use Rattle.words.specs.Layout.{size, heldAt, blocksAt, partAt, pinsAt, indexAt}
 use Rattle.words.specs.Puts.{Put, puts, one, puts4}
 
@@ -62,6 +63,10 @@ unfoldable pub startOutcomeIn : ℕ → ℕ → List ℕ → Outcome StartAnswer
 startOutcomeIn many n counts = judged (startRefusalIn many n counts)
     (λ why. record { run = blank 0; answer = Refused why; rose = 0; deleted = []; line = [] })
     (record { run = startState n counts; answer = Started; rose = 0; deleted = []; line = [] })
+
+-- Where enough is lent, it is the outcome of document 01's start.
+unfoldable pub StartsTheSame : Type 0
+StartsTheSame = (n : ℕ) (counts : List ℕ) → n ≤ length counts → startOutcomeIn size n counts ≡ startOutcome n counts
 
 -- The words of a refused start are zero. Words of another number are left as they were: they stand for no sound state.
 unfoldable pub startWords : List ℕ → ℕ → List ℕ → List ℕ

@@ -10,6 +10,8 @@ ghost use lib.ListN.{length, getD};
 ghost use Rattle.laws.specs.Search.{allBelow};
 ghost use Rattle.laws.specs.Sums.{sumBelow};
 ghost use Rattle.model.specs.Sound.{isBlockCount};
+ghost use Rattle.model.specs.declared.StartAnswer.the-variants.{Started};
+ghost use Rattle.whole_runs.specs.WholeRuns.{StartPromise};
 ghost use Rattle.words.specs.Layout.{runOf};
 ghost use Rattle.words.specs.Clean.{Clean};
 ghost use Rattle.in_place.specs.Starting.{zeros, withCounts, withFirsts, startedWords, startOutcomeIn, startWords};
@@ -118,12 +120,13 @@ fn answer_of(many: usize, n: usize, counts: &[u32]) -> StartAnswer
 }
 
 // A run of n processes with the block count of each: those at n and above are neither judged nor stored. The words of a refused start are zero; those of another
-// number are left as they were.
+// number are left as they were. Where enough is lent, it is document 01's start (`starts-the-same`). Accepted, what is kept and its blocks are right (demand 3).
 pub fn start(w: &mut [u16], n: usize, counts: &[u32]) -> StartAnswer
     ensures { λ r. ⌜ r ≡ startOutcomeIn (length (now (w .entry))) n (now (counts .entry)) .answer ⌝ }
     ensures { λ r. ⌜ runOf (now (w .exit)) ≡ startOutcomeIn (length (now (w .entry))) n (now (counts .entry)) .run ⌝ }
     ensures { λ r. ⌜ now (w .exit) ≡ startWords (now (w .entry)) n (now (counts .entry)) ⌝ }
     ensures { λ r. ⌜ (length (now (w .entry)) ≡ 6464 → Clean (now (w .exit))) ⌝ }
+    ensures { λ r. ⌜ (r ≡ Started → StartPromise n (now (counts .entry)) (runOf (now (w .exit)))) ⌝ }
 {
     let many = w.len();
     let answer = answer_of(many, n, counts);

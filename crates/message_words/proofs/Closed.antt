@@ -91,14 +91,18 @@ module _ (w : List ℕ) (size-w : length w ≡ size) where
       used = λ j less. by-eq j to (λ q. rw q (ap isMessage put-there ∙ e)) (λ ne. ap isMessage (beside j (omega arith) ne) ∙ h .used j (omega arith));
     }
 
-    stayed : isMessage x ≡ false → Closed w (suc n) c
+    stayed : isMessage x ≡ false → Closed w (suc n) (record { words = movedTo (c .words) n to; many = to })
+    unfolding movedTo
     stayed e = record {
-      long = h .long;
+      long = puts-length (c .words) (messagePuts to x) ∙ h .long;
       many = omega (arith, h .many);
-      rest = h .rest;
-      ahead = λ j le less. h .ahead j (omega arith) less;
-      front = h .front ∙ sym (select-less isMessage n (messageIn w) (ap isMessage (sym (h .ahead n (omega arith) lt)) ∙ e));
-      used = h .used;
+      rest = λ q less. untouched (c .words) (messagePuts to x) q (omega arith) ∙ h .rest q less;
+      ahead = λ j le less. beside j less (λ q. omega (arith, h .many)) ∙ h .ahead j (omega arith) less;
+      front =
+          table-same to (messageIn v) (messageIn (c .words)) (λ j less. beside j (omega arith) (λ q. omega arith))
+          ∙ h .front
+          ∙ sym (select-less isMessage n (messageIn w) (ap isMessage (sym (h .ahead n (omega arith) lt)) ∙ e));
+      used = λ j less. ap isMessage (beside j (omega arith) (λ q. omega arith)) ∙ h .used j less;
     }
 
     step-closed : Closed w (suc n) (closeStep n c)

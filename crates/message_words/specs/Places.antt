@@ -62,8 +62,9 @@ pub record Closing : Type 0 where
   pub words : List ℕ
   pub many : ℕ
 
+-- What stands in the next place is moved in any case. Where it was no message, the next one takes its place.
 unfoldable pub closeStep : ℕ → Closing → Closing
-closeStep k c = pick (isMessage (messageIn (c .words) k)) (record { words = movedTo (c .words) k (c .many); many = suc (c .many) }) c
+closeStep k c = record { words = movedTo (c .words) k (c .many); many = pick (isMessage (messageIn (c .words) k)) (suc (c .many)) (c .many) }
 
 unfoldable pub closing : List ℕ → ℕ → Closing
 closing w zero = record { words = w; many = 0 }

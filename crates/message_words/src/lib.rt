@@ -4,7 +4,10 @@ use model::Message;
 use words::places;
 ghost use mathlib.Core.Path.{_≡_};
 ghost use Prim.Native.Nat.{_+_, _-_, _≤_, _<_};
+ghost use mathlib.Core.Bool.{_&&_};
+ghost use lib.Dec.{eqb, ltb};
 ghost use lib.ListN.{length};
+ghost use Rattle.laws.specs.Choice.{pick};
 ghost use Rattle.words.specs.Layout.{word, endOf, messageIn, isMessage};
 ghost use Rattle.words.specs.Puts.{puts};
 ghost use Rattle.message_words.specs.Places.{placeOf, foundAt, endBelow, messagePuts, cleared, takenOut, movedTo, closing, clearedFrom, closedUp, withRoom, putLast};
@@ -39,6 +42,25 @@ pub fn is_used(w: &[u16], k: usize) -> bool
     number_at(w, k) != 0
 }
 
+// One above the place k where it has the number, which comes as its two words; 0 where it has another. Words are compared, and not numbers, since a register holds
+// more of them.
+fn hit(low: u16, high: u16, sought_low: u16, sought_high: u16, k: u16) -> u16
+    requires { ⌜ k < 64 ⌝ }
+    ensures { λ r. ⌜ r ≡ pick (eqb low «sought_low» && eqb high «sought_high») (k + 1) 0 ⌝ }
+{
+    if (low == sought_low) & (high == sought_high) {
+        k + 1
+    } else {
+        0
+    }
+}
+
+fn greater(a: u16, b: u16) -> u16
+    ensures { λ r. ⌜ r ≡ pick (ltb a b) b a ⌝ }
+{
+    if a < b { b } else { a }
+}
+
 // The place of message m. A place that is not in use has the number 0, which no message has.
 pub fn place_of(w: &[u16], m: u32) -> Found
     requires { ⌜ (length (now w) ≡ 6464) × (endOf (now w) ≤ 64) ⌝ }
@@ -47,18 +69,24 @@ pub fn place_of(w: &[u16], m: u32) -> Found
     if m == 0 {
         return Found::Nothing;
     }
+    let low = (m % 65536) as u16;
+    let high = (m / 65536) as u16;
     let end = w[places::END] as usize;
-    let mut found = 0;
+    let mut past: u16 = 0;
     for k in 0..end {
-        let number = number_at(w, k);
-        if number == m {
-            found = k + 1;
-        }
+        let here = hit(
+            w[places::LOWS + k],
+            w[places::HIGHS + k],
+            low,
+            high,
+            k as u16,
+        );
+        past = greater(past, here);
     }
-    if found == 0 {
+    if past == 0 {
         return Found::Nothing;
     }
-    Found::At(found - 1)
+    Found::At(past as usize - 1)
 }
 
 fn put(w: &mut [u16], k: usize, x: Message)
@@ -131,18 +159,25 @@ fn move_to(w: &mut [u16], from: usize, to: usize)
     words::put_vector(w, places::CARRIED + 16 * to, row);
 }
 
-// The messages move to the first places, one after the other. The result says how many they are.
+// How many messages stand in a place.
+fn one_if_used(w: &[u16], k: usize) -> usize
+    requires { ⌜ (length (now w) ≡ 6464) × (k < 64) ⌝ }
+    ensures { λ r. ⌜ r ≡ pick (isMessage (messageIn (now (w .entry)) k)) 1 0 ⌝ }
+{
+    let used = is_used(w, k);
+    if used { 1 } else { 0 }
+}
+
+// The messages move to the first places, one after the other, with no branch: which places are used cannot be foreseen. The result says how many they are.
 fn gather(w: &mut [u16]) -> usize
     requires { ⌜ length (now w) ≡ 6464 ⌝ }
     ensures { λ r. ⌜ (now (w .exit) ≡ closing (now (w .entry)) 64 .words) × (r ≡ closing (now (w .entry)) 64 .many) ⌝ }
 {
     let mut to = 0;
     for k in 0..64 {
-        let used = is_used(w, k);
-        if used {
-            move_to(w, k, to);
-            to += 1;
-        }
+        let one = one_if_used(w, k);
+        move_to(w, k, to);
+        to += one;
     }
     to
 }

@@ -7,7 +7,7 @@ use native.Mathlib.Numerals.{add-one}
 use native.Mathlib.Omega.{arith}
 use lib.ListN.{length}
 use borrow.Author.Needs.{needs}
-use Rattle.laws.specs.Loops.{either}
+use Rattle.laws.specs.Choice.{pick, by-bool}
 use Rattle.words.specs.Layout.{messageIn, isMessage}
 use Rattle.message_words.specs.Places.{Closing, movedTo, closeStep, closing}
 use Rattle.message_words.proofs.gather.Statement.{statement}
@@ -19,15 +19,12 @@ Inv-loop w₀ to₀ k₀ w to k = (k ≤ 64) × (to ≤ k) × (length w ≡ leng
 abbrev μ-loop : tie.MeasureT-loop
 μ-loop w₀ to₀ k₀ w to k = 64 - k
 
--- An iteration that finds a message, and one that finds none.
-module _ (w v : List ℕ) (k to : ℕ) (words : v ≡ closing w k .words) (many : to ≡ closing w k .many) where
-  moved : (u : List ℕ) → isMessage (messageIn v k) ≡ true → u ≡ movedTo v k to → (u ≡ closing w (k + 1) .words) × (to + 1 ≡ closing w (k + 1) .many)
-  unfolding closing closeStep
-  moved u is e = rw (add-one k, add-one to, ← words, is, ← many) (e, refl)
-
-  stayed : isMessage (messageIn v k) ≡ false → (v ≡ closing w (k + 1) .words) × (to ≡ closing w (k + 1) .many)
-  unfolding closing closeStep
-  stayed is = rw (add-one k, ← words, is) (refl, many)
+one-more : (w v u : List ℕ) (k to one : ℕ) → v ≡ closing w k .words → to ≡ closing w k .many → one ≡ pick (isMessage (messageIn v k)) 1 0 → u ≡ movedTo v k to
+    → (u ≡ closing w (k + 1) .words) × ((to + one ≡ closing w (k + 1) .many) × (one ≤ 1))
+unfolding closing closeStep
+one-more w v u k to one words many o e = by-bool (isMessage (messageIn v k))
+    (λ q. let z : one ≡ 1 = rw q at o in rw (add-one k, ← words, ← many, q, z, add-one to) (e, (refl, omega arith)))
+    (λ q. let z : one ≡ 0 = rw q at o in rw (add-one k, ← words, ← many, q, z) (e, ((let y : to + 0 ≡ to = omega arith in y), omega arith)))
 
 none : (w : List ℕ) → (w ≡ closing w 0 .words) × (0 ≡ closing w 0 .many)
 unfolding closing
@@ -36,18 +33,21 @@ none w = (refl, refl)
 loop-holds : tie.Need-loop-holds Inv-loop μ-loop
 loop-holds c = let n = none (c .before .args .w .now) in (search needs, search needs, refl, n .0, n .1)
 
-loop-again : tie.Need-loop-again Inv-loop μ-loop
-loop-again c =
-    let u = c .before in
+-- What an iteration leaves.
+then : (c : tie.After-move-to Inv-loop μ-loop) → let l = c .before .before .before .before .before .loop in let a = c .before .before .before .before .before .before .before .args in
+    (c .move-to .last .0 ≡ closing (a .w .now) (l .k + 1) .words) × ((l .to + c .before .before .one-if-used .result ≡ closing (a .w .now) (l .k + 1) .many) × (c .before .before .one-if-used .result ≤ 1))
+then c =
+    let u = c .before .before in
     let l = u .before .before .before .loop in
     let a = u .before .before .before .before .before .args in
-    either (c .if1 .came)
-    (λ t.
-    let m = moved (a .w .now) (l .w) (l .k) (l .to) (l .inv .3) (l .inv .4) _ (sym (u .is-used .ensures) ∙ t .0 .taken) (t .2 .ensures) in
-    (search needs, omega (arith, t .6, l .inv .1), ap length (t .5) ∙ t .2 .kept .0 ∙ l .inv .2, t .5 ∙ m .0, t .6 ∙ m .1))
-    (λ t.
-    let m = stayed (a .w .now) (l .w) (l .k) (l .to) (l .inv .3) (l .inv .4) (sym (u .is-used .ensures) ∙ t .0 .left) in
-    (search needs, omega (arith, t .2, l .inv .1), ap length (t .1) ∙ l .inv .2, t .1 ∙ m .0, t .2 ∙ m .1))
+    one-more (a .w .now) (l .w) _ (l .k) (l .to) _ (l .inv .3) (l .inv .4) (u .one-if-used .ensures) (c .move-to .ensures)
+
+loop-again : tie.Need-loop-again Inv-loop μ-loop
+loop-again c =
+    let m = c .before .before in
+    let l = m .before .before .before .before .before .loop in
+    let t = then m in
+    (search needs, omega (arith, t .1 .1, l .inv .1), m .move-to .kept .0 ∙ l .inv .2, t .0, t .1 .0)
 
 same-length : tie.Need-same-length Inv-loop μ-loop
 same-length c = c .before .loop .inv .2
@@ -65,7 +65,9 @@ gather-spec =
     Inv-loop
     μ-loop
     loop-holds
-    (λ c κs. search needs) (λ c κs. search needs) (λ c. search needs) (λ c. search needs) (λ c. search needs)
+    (λ c κs. search needs) (λ c κs. search needs)
+    (λ c. let m = c .before .before in let t = then m in omega (arith, t .1 .1, m .before .before .before .before .before .loop .inv .1, m .before .before .before .before .before .loop .inv .0))
+    (λ c. search needs) (λ c. search needs)
     loop-again
     same-length
     returns)

@@ -1,33 +1,45 @@
 -- `message_words::place_of` meets its contract. Assumes nothing.
-use Prim.Native.Nat.{ℕ, zero, suc, _≤_, _<_, _-_, _+_}
+use Prim.Native.Nat.{ℕ, zero, suc, _≤_, _<_, _-_, _+_, _*_, _/_, _%_}
 use mathlib.Core.Path.{_≡_, refl, sym, _∙_, ap}
+use mathlib.Core.Bool.{Bool, true, false, _&&_}
 use mathlib.Core.List.{List}
 use native.Mathlib.Numerals.{add-one}
 use native.Mathlib.Omega.{arith}
-use lib.Dec.{eqb}
+use lib.Dec.{eqb, ltb}
 use borrow.Author.Needs.{needs}
-use borrow.Author.Tests.{eq-eqb, ne-eqb}
-use Rattle.laws.specs.Choice.{pick}
-use Rattle.laws.specs.Loops.{either}
-use Rattle.words.specs.Layout.{endOf, messageIn}
+use borrow.Author.Tests.{eq-eqb, ne-eqb, eqb-true, lt-ltb, le-ltb}
+use Rattle.laws.specs.Choice.{pick, by-bool}
+use Rattle.laws.specs.Elements.{same-test}
+use Rattle.laws.specs.Truth.{and-out, and-both}
+use Rattle.words.specs.Layout.{word, endOf, lowAt, highAt, messageIn}
 use Rattle.message_words.specs.declared.Found.the-variants.{At}
 use Rattle.message_words.specs.Places.{placeBelow, placeOf, foundAt}
 use Rattle.message_words.proofs.place_of.Statement.{statement}
 use Rattle.message_words.proofs.place_of.Tie as tie
 
 abbrev Inv-loop : tie.InvT-loop
-Inv-loop w m end found₀ k₀ found k = (k ≤ end) × (found ≤ k) × (found ≡ placeBelow w m k)
+Inv-loop w m low high end past₀ k₀ past k = (k ≤ end) × (past ≤ k) × (past ≡ placeBelow w m k)
 
 abbrev μ-loop : tie.MeasureT-loop
-μ-loop w m end found₀ k₀ found k = end - k
+μ-loop w m low high end past₀ k₀ past k = end - k
 
-here : (w : List ℕ) (m k : ℕ) → messageIn w k .number ≡ m → k + 1 ≡ placeBelow w m (k + 1)
-unfolding placeBelow
-here w m k e = rw (add-one k, eq-eqb (messageIn w k .number) m e) refl
+-- Two words are those of a number exactly if they make it.
+same-words : (low high m : ℕ) → low < 65536 → (eqb low (m % 65536) && eqb high (m / 65536)) ≡ eqb (low + 65536 * high) m
+same-words low high m lt = same-test _ _
+    (λ h. let c = and-out (eqb low (m % 65536)) (eqb high (m / 65536)) h in eq-eqb (low + 65536 * high) m (let a = eqb-true low (m % 65536) (c .0) in let b = eqb-true high (m / 65536) (c .1) in omega arith))
+    (λ h. let e = eqb-true (low + 65536 * high) m h in
+    and-both (eqb low (m % 65536)) (eqb high (m / 65536)) (eq-eqb low (m % 65536) (omega arith)) (eq-eqb high (m / 65536) (omega arith)))
 
-not-here : (w : List ℕ) (m k : ℕ) → (messageIn w k .number ≡ m → ⊥) → placeBelow w m k ≡ placeBelow w m (k + 1)
-unfolding placeBelow
-not-here w m k ne = rw (add-one k, ne-eqb (messageIn w k .number) m ne) refl
+-- The greater of what was found and what stands here is what is found one place on.
+one-more : (w : List ℕ) (m k past here : ℕ) → past ≤ k → past ≡ placeBelow w m k → word w (lowAt k) < 65536
+    → here ≡ pick (eqb (word w (lowAt k)) (m % 65536) && eqb (word w (highAt k)) (m / 65536)) (k + 1) 0
+    → (pick (ltb past here) here past ≡ placeBelow w m (k + 1)) × (pick (ltb past here) here past ≤ k + 1)
+unfolding placeBelow messageIn
+one-more w m k past here le e lt h = by-bool (eqb (word w (lowAt k) + 65536 * word w (highAt k)) m)
+    (λ q. let z : here ≡ k + 1 = rw (same-words (word w (lowAt k)) (word w (highAt k)) m lt, q) at h in
+    rw (z, lt-ltb past (k + 1) (omega arith), add-one k, q) (refl, omega arith))
+    (λ q. let z : here ≡ 0 = rw (same-words (word w (lowAt k)) (word w (highAt k)) m lt, q) at h in
+    rw (z, le-ltb past 0 (omega arith), add-one k, q) (e, omega arith))
 
 nowhere : (w : List ℕ) (m : ℕ) → 0 ≡ placeBelow w m 0
 unfolding placeBelow
@@ -55,12 +67,12 @@ returns c = let a = c .before .before .args in rw (no-number (a .w .now) (a .m) 
 
 loop-again : tie.Need-loop-again Inv-loop μ-loop
 loop-again c =
-    let u = c .before in
-    let l = u .before .before .loop in
-    let a = u .before .before .before .before .before .before .args in
-    either (c .if2 .came)
-    (λ t. (search needs, omega (arith, t .1), t .1 ∙ here (a .w .now) (a .m) (l .k) (sym (u .number-at .ensures) ∙ t .0 .taken)))
-    (λ t. (search needs, omega (arith, t .1), t .1 ∙ l .inv .2 ∙ not-here (a .w .now) (a .m) (l .k) (λ z. t .0 .left (u .number-at .ensures ∙ z))))
+    let h = c .before in
+    let r = h .before .before in
+    let l = r .before .before .loop in
+    let a = r .before .before .before .before .before .before .args in
+    let g = one-more (a .w .now) (a .m) (l .k) (l .past) _ (l .inv .1) (l .inv .2) (omega (arith, r .shared-slice-known3 .given (lowAt (l .k)))) (h .hit .ensures) in
+    (search needs, rw (c .greater .ensures) (g .1), c .greater .ensures ∙ g .0)
 
 returns-2 : tie.Need-returns-2 Inv-loop μ-loop
 unfolding foundAt
@@ -69,7 +81,7 @@ returns-2 c =
     let e = c .before .before .before .before in
     let a = e .before .before .args in
     let whole : l .k ≡ endOf (a .w .now) = omega arith in
-    rw (some-number (a .w .now) (a .m) (l .found) (e .if1 .left) (rw whole at (l .inv .2)), c .if3 .taken) refl
+    rw (some-number (a .w .now) (a .m) (l .past) (e .if1 .left) (rw whole at (l .inv .2)), c .if2 .taken) refl
 
 returns-3 : tie.Need-returns-3 Inv-loop μ-loop
 unfolding foundAt
@@ -78,7 +90,7 @@ returns-3 c =
     let e = c .before .before .before .before in
     let a = e .before .before .args in
     let whole : l .k ≡ endOf (a .w .now) = omega arith in
-    rw (some-number (a .w .now) (a .m) (l .found) (e .if1 .left) (rw whole at (l .inv .2))) (at-place (l .found) (c .if3 .left))
+    rw (some-number (a .w .now) (a .m) (l .past) (e .if1 .left) (rw whole at (l .inv .2))) (at-place (l .past) (c .if2 .left))
 
 pub place-of-spec : {M : Type 1} → statement M
 place-of-spec =
@@ -87,10 +99,10 @@ place-of-spec =
     Inv-loop
     μ-loop
     returns
-    (λ c. search needs) (λ c. search needs)
+    (λ c. search needs) (λ c. search needs) (λ c. search needs) (λ c. search needs)
     loop-holds
-    (λ c κs. search needs) (λ c. search needs) (λ c. search needs) (λ c. search needs)
+    (λ c. search needs) (λ c. search needs) (λ c. search needs) (λ c. search needs) (λ c. search needs) (λ c. search needs) (λ c. search needs) (λ c κs. search needs) (λ c κs. search needs) (λ c. search needs) (λ c. search needs)
     loop-again
     returns-2
-    (λ c. search needs)
+    (λ c. search needs) (λ c. search needs)
     returns-3)

@@ -16,17 +16,14 @@ use Rattle.model.specs.declared.StartAnswer.{StartAnswer}
 use Rattle.model.specs.declared.StartAnswer.the-variants.{Refused, Started}
 use Rattle.model.specs.Sound.{isBlockCount}
 use Rattle.model.specs.laws.Refusals.{by-refusal}
+use Rattle.whole_runs.specs.WholeRuns.{StartPromise}
 use Rattle.words.specs.Layout.{size, runOf}
 use Rattle.words.specs.Clean.{Clean}
 use Rattle.in_place.specs.Starting.{zeros, startedWords, startRefusalIn, startOutcomeIn, startWords}
+use Rattle.in_place.proofs.Judging.{by-answer, started-promise}
 use Rattle.in_place.proofs.Starting.{zeros-length, start-run, start-clean, accepted-few, accepted-size, accepted-long, accepted-counts}
 use Rattle.in_place.proofs.start.start.Statement.{statement}
 use Rattle.in_place.proofs.start.start.Tie as tie
-
--- The answer says whether there is a refusal.
-by-answer : (many n : ℕ) (counts : List ℕ) → startOutcomeIn many n counts .answer ≡ Started → startRefusalIn many n counts ≡ none
-unfolding startOutcomeIn
-by-answer many n counts e = by-refusal (startRefusalIn many n counts) (λ f. f) (λ why q. absurd (let z : Refused why ≡ Started = rw q at e in let y : _≡_ {A = ℕ} 0 1 = cc in omega arith))
 
 by-refused : (many n : ℕ) (counts : List ℕ) (why : Refusal) → startOutcomeIn many n counts .answer ≡ Refused why → startRefusalIn many n counts ≡ some why
 unfolding startOutcomeIn
@@ -51,8 +48,11 @@ first-words w v n counts q e = rw q e
 
 -- The rest of the contract follows from the words.
 all-of : (w v : List ℕ) (n : ℕ) (counts : List ℕ) (r : StartAnswer) → r ≡ startOutcomeIn (length w) n counts .answer → v ≡ startWords w n counts
-    → (r ≡ startOutcomeIn (length w) n counts .answer) × ((runOf v ≡ startOutcomeIn (length w) n counts .run) × ((v ≡ startWords w n counts) × (length w ≡ 6464 → Clean v)))
-all-of w v n counts r a e = (a, (ap runOf e ∙ start-run w n counts, (e, λ long. rw e (start-clean w n counts long))))
+    → (r ≡ startOutcomeIn (length w) n counts .answer)
+    × ((runOf v ≡ startOutcomeIn (length w) n counts .run) × ((v ≡ startWords w n counts) × ((length w ≡ 6464 → Clean v) × (r ≡ Started → StartPromise n counts (runOf v)))))
+all-of w v n counts r a e =
+    let run = ap runOf e ∙ start-run w n counts in
+    (a, (run, (e, ((λ long. rw e (start-clean w n counts long)), λ q. started-promise (length w) n counts (runOf v) run (sym a ∙ q)))))
 
 returns : tie.Need-returns
 returns c =
