@@ -3,7 +3,9 @@
 use model::Interval;
 ghost use mathlib.Core.Path.{_≡_};
 ghost use Prim.Native.Nat.{_-_};
-ghost use lib.Dec.{eqb, leb};
+ghost use mathlib.Core.Bool.{_&&_};
+ghost use lib.Bits.{bitOr};
+ghost use lib.Dec.{eqb};
 ghost use lib.ListN.{getD};
 ghost use Rattle.laws.specs.Choice.{pick};
 ghost use Rattle.laws.specs.Lists.{table};
@@ -20,30 +22,30 @@ fn excess(x: u16, limit: u16) -> u16
     if limit < x { x - limit } else { 0 }
 }
 
-// No entry of a vector is above its limit.
-pub fn is_within(vector: [Interval; 16], limits: [Interval; 16]) -> bool
-    ensures { λ r. ⌜ r ≡ allBelow 16 (λ f. leb (entry vector f .0) (entry limits f .0)) ⌝ }
+// What is over the limits, with one vector more: a word stays 0 where the entry is within its limit.
+pub fn over_by(over: [u16; 16], vector: [Interval; 16], limits: [Interval; 16]) -> [u16; 16]
+    ensures { λ r. ⌜ r ≡ table 16 (λ f. bitOr (getD over f 0) (entry vector f .0 - entry limits f .0)) ⌝ }
 {
-    let mut over: u16 = 0;
+    let mut then = over;
     for f in 0..words::PROCESSES {
         let x = vector[f];
         let limit = limits[f];
         let more = excess(x.0, limit.0);
-        over = over | more;
+        then[f] = over[f] | more;
     }
-    over == 0
+    then
 }
 
-// No word of a row is above its limit.
-pub fn is_row_within(row: [u16; 16], limits: [u16; 16]) -> bool
-    ensures { λ r. ⌜ r ≡ allBelow 16 (λ f. leb (getD row f 0) (getD limits f 0)) ⌝ }
+// By how much each word of a row is above its limit.
+pub fn row_over(row: [u16; 16], limits: [u16; 16]) -> [u16; 16]
+    ensures { λ r. ⌜ r ≡ table 16 (λ f. getD row f 0 - getD limits f 0) ⌝ }
 {
-    let mut over: u16 = 0;
+    let mut over = row;
     for f in 0..words::PROCESSES {
         let more = excess(row[f], limits[f]);
-        over = over | more;
+        over[f] = more;
     }
-    over == 0
+    over
 }
 
 fn ones_unless_zero(x: u16) -> u16
@@ -108,6 +110,17 @@ pub fn is_zero(row: [u16; 16]) -> bool
     let mut any: u16 = 0;
     for f in 0..words::PROCESSES {
         any = any | row[f];
+    }
+    any == 0
+}
+
+// Every word of two rows is 0.
+pub fn are_zero(a: [u16; 16], b: [u16; 16]) -> bool
+    ensures { λ r. ⌜ r ≡ allBelow 16 (λ f. eqb (getD a f 0) 0 && eqb (getD b f 0) 0) ⌝ }
+{
+    let mut any: u16 = 0;
+    for f in 0..words::PROCESSES {
+        any = any | (a[f] | b[f]);
     }
     any == 0
 }

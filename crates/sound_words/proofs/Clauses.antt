@@ -21,6 +21,7 @@ use Rattle.model.specs.declared.Checkpoint.{Checkpoint}
 use Rattle.model.specs.Words.{places, entry, names, named, noCheckpoint, blocksOf}
 use Rattle.model.specs.Sound.{ascending, pinSound, isNothing, nothingFrom, causeSound}
 use Rattle.words.specs.Layout.{word, countOf, blocksAt, pinsAt, causeAt, storedAt, indexOf, pinOf, vectorIn, pinsIn, checkpointIn}
+use Rattle.words.proofs.Reading.{names-word}
 use Rattle.words.proofs.Same.{vector-word}
 use Rattle.sound_words.specs.Test.{ownIn, most, pinIn, unusedPins, indexIn, indexBefore, pinFits}
 use Rattle.sound_words.proofs.Laws.{every-table-is, every-after, nextOf, next-snoc, ascending-snoc}
@@ -40,12 +41,6 @@ below-less : (y x : ℕ) → 1 ≤ x → leb y (x - 1) ≡ ltb y x
 below-less y x some = same-test (leb y (x - 1)) (ltb y x)
     (λ e. lt-ltb y x (omega (arith, leb-true y (x - 1) e)))
     (λ e. le-leb y (x - 1) (omega (arith, ltb-true y x e)))
-
--- A pin names an index exactly if their words are the same.
-pub names-word : (y x : ℕ) → 1 ≤ x → names (pinOf y) (indexOf x) ≡ eqb y x
-unfolding pinOf
-names-word zero x some = sym (ne-eqb 0 x (omega arith))
-names-word (suc y) x some = one-less y x some
 
 nothing-word : (x : ℕ) → isNothing (pinOf x) ≡ eqb x 0
 unfolding pinOf isNothing

@@ -7,6 +7,7 @@ use Prim.Native.Nat.{ℕ, suc, _+_, _-_, _*_, _≤_, _<_}
 use native.Mathlib.Nat.{mul-le-mul}
 use native.Mathlib.Numerals.{add-one}
 use native.Mathlib.Omega.{arith}
+use lib.Bits.{bitOr}
 use lib.Dec.{eqb, ltb, leb}
 use lib.ListN.{length, getD, replicate, length-replicate, getD-replicate}
 use borrow.Author.Tests.{lt-ltb, le-ltb, leb-true, le-leb, lt-leb, eqb-true, eq-eqb, ne-eqb, not-true, not-false}
@@ -16,8 +17,8 @@ use Rattle.laws.specs.Elements.{same-test}
 use Rattle.laws.specs.Lists.{table}
 use Rattle.laws.specs.Loops.{setBelow, below-length, below-at, below-above}
 use Rattle.laws.specs.Ranges.{all-same, any-same}
-use Rattle.laws.specs.Rows.{all-both, all-stop, by-lt}
-use Rattle.laws.specs.Search.{allBelow, anyBelow}
+use Rattle.laws.specs.Rows.{and-group, and-swap, and-true, all-both, all-stop, by-lt}
+use Rattle.laws.specs.Search.{allBelow, anyBelow, all-in, all-out}
 use Rattle.laws.specs.Sums.{sumBelow}
 use Rattle.laws.specs.Tables.{getD-table, table-same, table-is}
 use Rattle.laws.specs.Tests.{every, allOf, countBelow}
@@ -28,7 +29,8 @@ use Rattle.model.specs.Words.{places, entry}
 use Rattle.model.specs.Sound.{sound, causeSound}
 use Rattle.words.specs.Layout.{size, word, wide2, wide4, countOf, endOf, heldAt, blocksAt, partAt, pinsAt, causeAt, storedAt, senderAt, receiverAt, carriedAt, lowAt, highAt, intervalOf, indexOf, rowIn, vectorIn, runOf}
 use Rattle.words.proofs.Same.{vector-word, row-word}
-use Rattle.sound_words.specs.Test.{ownIn, most, rowWithin, pinIn, unusedPins, indexIn, indexBefore, keptTests, keptFits, pinFits, countsFit, partTests, partFits, blocksIn, diskFits, numberIn, numberBefore, messageTests, messageFits, messagesTests, soundTests, soundIn, limitsIn}
+use Rattle.sound_rows.proofs.Ors.{or-zero, less-zero}
+use Rattle.sound_words.specs.Test.{ownIn, most, rowWithin, pinIn, unusedPins, indexIn, indexBefore, keptTests, keptFits, pinFits, countsFit, partTests, partFits, blocksIn, diskFits, numberIn, numberBefore, messageTests, messageFits, carriedFits, messagesTests, soundTests, soundIn, limitsIn}
 use Rattle.sound_words.proofs.Parts.{least}
 use Rattle.sound_words.proofs.Whole.{verdict}
 
@@ -40,6 +42,9 @@ pub second-fails : (a b c : Bool) → b ≡ false → false ≡ (a && b && c)
 second-fails true b c e = rw e
 second-fails false b c e = refl
 
+pub second-left : (a b : Bool) → a ≡ true → b ≡ (a && b)
+second-left a b e = rw e
+
 pub third-left : (a b c : Bool) → a ≡ true → b ≡ true → c ≡ (a && b && c)
 third-left a b c e f = rw (e, f)
 
@@ -48,6 +53,16 @@ fourth-left a b c d e f g = rw (e, f, g)
 
 pub fifth-left : (a b c d x : Bool) → a ≡ true → b ≡ true → c ≡ true → d ≡ true → x ≡ (a && b && c && d && x)
 fifth-left a b c d x e f g h = rw (e, f, g, h)
+
+-- Tests over two bounds, the one within the other either way; a test beside one that does not depend on the bound.
+all-swap : (n m : ℕ) (t : ℕ → ℕ → Bool) → allBelow n (λ f. allBelow m (λ j. t j f)) ≡ allBelow m (λ j. allBelow n (λ f. t j f))
+all-swap n m t = same-test (allBelow n (λ f. allBelow m (λ j. t j f))) (allBelow m (λ j. allBelow n (λ f. t j f)))
+    (λ e. all-in m (λ j. allBelow n (λ f. t j f)) (λ j below. all-in n (λ f. t j f) (λ f lt. all-out m (λ j. t j f) (all-out n (λ f. allBelow m (λ j. t j f)) e f lt) j below)))
+    (λ e. all-in n (λ f. allBelow m (λ j. t j f)) (λ f lt. all-in m (λ j. t j f) (λ j below. all-out n (λ f. t j f) (all-out m (λ j. allBelow n (λ f. t j f)) e j below) f lt)))
+
+or-all : (n : ℕ) (c : Bool) (t : ℕ → Bool) → allBelow n (λ f. c || t f) ≡ (c || allBelow n t)
+or-all n true t = all-in n (λ f. true) (λ f lt. refl)
+or-all n false t = refl
 
 -- The own entries, gathered one by one.
 abbrev pub noInterval : Interval
@@ -65,12 +80,13 @@ module _ (w : List ℕ) where
       (λ less. rw (lt-ltb f (countOf w) less) (below-at ownAt (replicate 16 noInterval) (countOf w) f noInterval less (rw (length-replicate 16 noInterval) lt)))
       (λ from. rw (le-ltb f (countOf w) from) (below-above ownAt (replicate 16 noInterval) (countOf w) f noInterval from ∙ getD-replicate 16 f noInterval noInterval lt)))
 
-  -- A vector against the own entries, the pins against what they may be, a word among the pins.
-  pub within-row : (at : ℕ) (v limits : List Interval) → v ≡ vectorIn w at → limits ≡ limitsIn w → allBelow 16 (λ f. leb (entry v f .0) (entry limits f .0)) ≡ rowWithin w at
-  unfolding rowWithin limitsIn
-  within-row at v limits ev el = rw (ev, el)
-      (all-same 16 (λ f. leb (entry (vectorIn w at) f .0) (entry (table places (λ f. intervalOf (most w f))) f .0)) (λ f. leb (word w (at + f)) (most w f))
-      (λ f lt. rw (vector-word w at f lt, getD-table places (λ f. intervalOf (most w f)) f (record { 0 = 0 }) lt)))
+  -- A row with a vector more: a word is 0 where it was, and where the entry is within the own one. The pins against what they may be, a word among the pins.
+  pub over-at : (at f : ℕ) (over more : List ℕ) (v limits : List Interval) → v ≡ vectorIn w at → limits ≡ limitsIn w → more ≡ table 16 (λ f. bitOr (getD over f 0) (entry v f .0 - entry limits f .0)) → f < 16
+      → eqb (getD more f 0) 0 ≡ (eqb (getD over f 0) 0 && leb (word w (at + f)) (most w f))
+  unfolding limitsIn
+  over-at at f over more v limits ev el em lt =
+      rw (em, getD-table 16 (λ f. bitOr (getD over f 0) (entry v f .0 - entry limits f .0)) f 0 lt, ev, el, vector-word w at f lt, getD-table places (λ f. intervalOf (most w f)) f (record { 0 = 0 }) lt)
+      (or-zero (getD over f 0) (word w (at + f) - most w f) ∙ ap (λ b. eqb (getD over f 0) 0 && b) (less-zero (word w (at + f)) (most w f)))
 
   pub pins-within : (p : ℕ) (pins columns : List ℕ) (owns : List Interval) → ((k : ℕ) → word w k ≤ 65535) → pins ≡ rowIn w (pinsAt p) → owns ≡ limitsIn w
       → columns ≡ table 16 (λ f. pick (eqb (entry owns f .0) 0) 0 65535) → allBelow 16 (λ f. leb (getD pins f 0) (getD columns f 0)) ≡ unusedPins w p
@@ -83,6 +99,21 @@ module _ (w : List ℕ) where
     where
       limitAt : ℕ → ℕ
       limitAt f = pick (eqb (entry (table places (λ f. intervalOf (most w f))) f .0) 0) 0 65535
+
+  -- What is off in the vector and the pins of a process.
+  pub rows-are : (p : ℕ) (pins columns outside first : List ℕ) (owns v : List Interval) → ((k : ℕ) → word w k ≤ 65535) → pins ≡ rowIn w (pinsAt p) → owns ≡ limitsIn w
+      → columns ≡ table 16 (λ f. pick (eqb (entry owns f .0) 0) 0 65535) → v ≡ vectorIn w (partAt p) → outside ≡ table 16 (λ f. getD pins f 0 - getD columns f 0)
+      → first ≡ table 16 (λ f. bitOr (getD outside f 0) (entry v f .0 - entry owns f .0)) → allBelow 16 (λ f. eqb (getD first f 0) 0) ≡ (rowWithin w (partAt p) && unusedPins w p)
+  unfolding rowWithin
+  rows-are p pins columns outside first owns v small ep eo ec ev ex ef =
+      let pin : ℕ → Bool = λ f. leb (getD pins f 0) (getD columns f 0) in
+      let row : ℕ → Bool = λ f. leb (word w (partAt p + f)) (most w f) in
+      all-same 16 (λ f. eqb (getD first f 0) 0) (λ f. pin f && row f)
+      (λ f lt. over-at (partAt p) f outside first v owns ev eo ef lt
+      ∙ ap (λ b. b && row f) (ap (λ (l : List ℕ). eqb (getD l f 0) 0) ex ∙ ap (λ (x : ℕ). eqb x 0) (getD-table 16 (λ f. getD pins f 0 - getD columns f 0) f 0 lt) ∙ less-zero (getD pins f 0) (getD columns f 0)))
+      ∙ all-both 16 pin row
+      ∙ and-swap (allBelow 16 pin) (allBelow 16 row)
+      ∙ ap (λ b. allBelow 16 row && b) (pins-within p pins columns owns small ep eo ec)
 
   pub named-row : (p x : ℕ) (pins : List ℕ) → pins ≡ rowIn w (pinsAt p) → anyBelow 16 (λ f. eqb (getD pins f 0) x) ≡ anyBelow 16 (λ f. eqb (pinIn w p f) x)
   named-row p x pins ep = rw ep (any-same 16 (λ f. eqb (getD (rowIn w (pinsAt p)) f 0) x) (λ f. eqb (pinIn w p f) x) (λ f lt. rw (row-word w (pinsAt p) f lt)))
@@ -102,15 +133,11 @@ module _ (w : List ℕ) where
     unfolding keptFits keptTests holds
     kept-unnumbered e = part-fails (keptTests w p k) (test 0 and test 1 and test 2) (sym in-place ∙ not-true r e)
 
-    pub kept-unnamed : (s : Bool) → s ≡ anyBelow 16 (λ f. eqb (pinIn w p f) x) → not s ≡ true → false ≡ keptFits w p k
-    unfolding keptFits keptTests holds
-    kept-unnamed s e n = part-fails (keptTests w p k) (test 3) (rw is at (sym e ∙ not-true s n))
-
-    pub kept-whole : not r ≡ false → (s : Bool) → s ≡ anyBelow 16 (λ f. eqb (pinIn w p f) x) → not s ≡ false → (t : Bool) → t ≡ rowWithin w (storedAt p k) → t ≡ keptFits w p k
+    pub kept-whole : not r ≡ false → (s : Bool) → s ≡ anyBelow 16 (λ f. eqb (pinIn w p f) x) → s ≡ keptFits w p k
     unfolding keptFits keptTests holds asks allBelow
-    kept-whole n s e m t d =
-        let named : anyBelow 16 (λ f. eqb (pinIn w p f) (indexIn w p k)) ≡ true = rw is at (sym e ∙ not-false s m) in
-        d ∙ third-left _ _ (rowWithin w (storedAt p k)) (sym in-place ∙ not-false r n) named ∙ conjunction (keptTests w p k) (test 0 and test 1 and test 2 and test 3 and test 4) refl
+    kept-whole n s e =
+        let named : s ≡ anyBelow 16 (λ f. eqb (pinIn w p f) (indexIn w p k)) = rw is at e in
+        named ∙ second-left _ (anyBelow 16 (λ f. eqb (pinIn w p f) (indexIn w p k))) (sym in-place ∙ not-false r n) ∙ conjunction (keptTests w p k) (test 0 and test 1 and test 2 and test 3) refl
 
   -- The pins that none of the first k checkpoints has met: those that are met, or name none, count as 0.
   abbrev pub unmetIn : ℕ → ℕ → ℕ → ℕ
@@ -144,41 +171,60 @@ module _ (w : List ℕ) where
       (λ q. rw q (or-none (eqb (pinIn w p f) 0) (anyBelow k (λ j. eqb (pinIn w p f) (indexIn w p j))) q .0)))))
 
   -- A walk along the kept checkpoints of process p, after k of them.
-  pub record Walked (p held k before : ℕ) (unmet : List ℕ) : Type 0 where
+  pub record Walked (p held : ℕ) (first : List ℕ) (k before : ℕ) (off unmet : List ℕ) : Type 0 where
     pub inside : k ≤ held
     pub last : before ≡ indexBefore w p k
     pub passed : allBelow k (keptFits w p) ≡ true
     pub left : unmet ≡ table 16 (λ f. pick (pinFits w p k f) 0 (pinIn w p f))
+    pub rows : (f : ℕ) → f < 16 → eqb (getD off f 0) 0 ≡ (eqb (getD first f 0) 0 && allBelow k (λ j. leb (word w (storedAt p j + f)) (most w f)))
 
-  pub none-walked : (p held : ℕ) (pins : List ℕ) → pins ≡ rowIn w (pinsAt p) → Walked p held 0 0 pins
+  pub none-walked : (p held : ℕ) (first pins : List ℕ) → pins ≡ rowIn w (pinsAt p) → Walked p held first 0 0 first pins
   unfolding allBelow indexBefore
-  none-walked p held pins e = record { inside = omega arith; last = refl; passed = refl; left = unmet-none p pins e }
+  none-walked p held first pins e = record { inside = omega arith; last = refl; passed = refl; left = unmet-none p pins e; rows = λ f lt. sym (and-true (eqb (getD first f 0) 0)) }
 
-  pub one-walked : (p held k before x : ℕ) (pins unmet left : List ℕ) → Walked p held k before unmet → k < held → pins ≡ rowIn w (pinsAt p) → x ≡ indexIn w p k
-      → (r : Bool) → r ≡ keptFits w p k → not r ≡ false → left ≡ table 16 (λ f. pick (eqb (getD pins f 0) x) 0 (getD unmet f 0)) → Walked p held (k + 1) x left
+  pub one-walked : (p held : ℕ) (first : List ℕ) (k before x : ℕ) (pins off over unmet left : List ℕ) (v owns : List Interval) → Walked p held first k before off unmet → k < held → pins ≡ rowIn w (pinsAt p)
+      → x ≡ indexIn w p k → (r : Bool) → r ≡ keptFits w p k → not r ≡ false → left ≡ table 16 (λ f. pick (eqb (getD pins f 0) x) 0 (getD unmet f 0))
+      → v ≡ vectorIn w (storedAt p k) → owns ≡ limitsIn w → over ≡ table 16 (λ f. bitOr (getD off f 0) (entry v f .0 - entry owns f .0)) → Walked p held first (k + 1) x over left
   unfolding allBelow indexBefore
-  one-walked p held k before x pins unmet left so-far lt ep ex r er n el = record {
+  one-walked p held first k before x pins off over unmet left v owns so-far lt ep ex r er n el ev eo em = record {
     inside = omega arith;
     last = rw (add-one k) ex;
     passed = rw (add-one k, sym er ∙ not-false r n) (so-far .passed);
     left = unmet-more p k x pins unmet left ep (so-far .left) ex el;
+    rows = λ f under. rw (add-one k) (over-at (storedAt p k) f off over v owns ev eo em under ∙ ap (λ b. b && leb (word w (storedAt p k + f)) (most w f)) (so-far .rows f under)
+        ∙ and-group (eqb (getD first f 0) 0) (allBelow k (λ j. leb (word w (storedAt p j + f)) (most w f))) (leb (word w (storedAt p k + f)) (most w f))
+        ∙ ap (λ b. eqb (getD first f 0) 0 && b) (and-swap (allBelow k (λ j. leb (word w (storedAt p j + f)) (most w f))) (leb (word w (storedAt p k + f)) (most w f))));
   }
 
-  pub walk-stops : (p held k before : ℕ) (unmet : List ℕ) → k < held → (r : Bool) → r ≡ keptFits w p k → not r ≡ true
-      → false ≡ (allBelow held (keptFits w p) && eqb (indexBefore w p held) (ownIn w p) && allBelow 16 (pinFits w p held))
-  walk-stops p held k before unmet lt r er n = first-fails _ _ _ (all-stop held (keptFits w p) k lt (sym er ∙ not-true r n))
+  abbrev keptRows : ℕ → ℕ → List ℕ → Bool
+  keptRows p held first = (allBelow 16 (λ f. eqb (getD first f 0) 0) && allBelow held (λ k. rowWithin w (storedAt p k))) && allBelow 16 (pinFits w p held)
 
-  module _ (p held k before own : ℕ) (unmet : List ℕ) (so-far : Walked p held k before unmet) (ends : held ≤ k) (is : own ≡ ownIn w p) where
+  pub walk-stops : (p held : ℕ) (first : List ℕ) (k : ℕ) → k < held → (r : Bool) → r ≡ keptFits w p k → not r ≡ true
+      → false ≡ (allBelow held (keptFits w p) && eqb (indexBefore w p held) (ownIn w p) && keptRows p held first)
+  walk-stops p held first k lt r er n = first-fails _ _ _ (all-stop held (keptFits w p) k lt (sym er ∙ not-true r n))
+
+  module _ (p held : ℕ) (first : List ℕ) (k before own : ℕ) (off unmet : List ℕ) (so-far : Walked p held first k before off unmet) (ends : held ≤ k) (is : own ≡ ownIn w p) where
     all-walked : k ≡ held
     all-walked = omega (arith, so-far .inside)
 
-    pub walk-misses : (before ≡ own → ⊥) → false ≡ (allBelow held (keptFits w p) && eqb (indexBefore w p held) (ownIn w p) && allBelow 16 (pinFits w p held))
+    pub walk-misses : (before ≡ own → ⊥) → false ≡ (allBelow held (keptFits w p) && eqb (indexBefore w p held) (ownIn w p) && keptRows p held first)
     walk-misses ne = second-fails (allBelow held (keptFits w p)) (eqb (indexBefore w p held) (ownIn w p)) _
         (ne-eqb _ _ (λ e. ne (so-far .last ∙ ap (λ (j : ℕ). indexBefore w p j) all-walked ∙ e ∙ sym is)))
 
-    pub walk-ends : before ≡ own → (r : Bool) → r ≡ allBelow 16 (λ f. eqb (getD unmet f 0) 0) → r ≡ (allBelow held (keptFits w p) && eqb (indexBefore w p held) (ownIn w p) && allBelow 16 (pinFits w p held))
+    rows-zero : allBelow 16 (λ f. eqb (getD off f 0) 0) ≡ (allBelow 16 (λ f. eqb (getD first f 0) 0) && allBelow held (λ j. rowWithin w (storedAt p j)))
+    unfolding rowWithin
+    rows-zero =
+        let row : ℕ → ℕ → Bool = λ j f. leb (word w (storedAt p j + f)) (most w f) in
+        all-same 16 (λ f. eqb (getD off f 0) 0) (λ f. eqb (getD first f 0) 0 && allBelow k (λ j. row j f)) (so-far .rows)
+        ∙ all-both 16 (λ f. eqb (getD first f 0) 0) (λ f. allBelow k (λ j. row j f))
+        ∙ ap (λ b. allBelow 16 (λ f. eqb (getD first f 0) 0) && b) (all-swap 16 k row ∙ ap (λ (i : ℕ). allBelow i (λ j. allBelow 16 (row j))) all-walked)
+
+    pub walk-ends : before ≡ own → (r : Bool) → r ≡ allBelow 16 (λ f. eqb (getD off f 0) 0 && eqb (getD unmet f 0) 0)
+        → r ≡ (allBelow held (keptFits w p) && eqb (indexBefore w p held) (ownIn w p) && keptRows p held first)
     walk-ends e r er =
-        (er ∙ unmet-zero p k unmet (so-far .left) ∙ ap (λ (j : ℕ). allBelow 16 (pinFits w p j)) all-walked)
+        (er ∙ all-both 16 (λ f. eqb (getD off f 0) 0) (λ f. eqb (getD unmet f 0) 0)
+        ∙ ap (λ b. b && allBelow 16 (λ f. eqb (getD unmet f 0) 0)) rows-zero
+        ∙ ap (λ b. (allBelow 16 (λ f. eqb (getD first f 0) 0) && allBelow held (λ j. rowWithin w (storedAt p j))) && b) (unmet-zero p k unmet (so-far .left) ∙ ap (λ (j : ℕ). allBelow 16 (pinFits w p j)) all-walked))
         ∙ third-left (allBelow held (keptFits w p)) (eqb (indexBefore w p held) (ownIn w p)) _
         (ap (λ (j : ℕ). allBelow j (keptFits w p)) (sym all-walked) ∙ so-far .passed)
         (eq-eqb _ _ (ap (λ (j : ℕ). indexBefore w p j) (sym all-walked) ∙ sym (so-far .last) ∙ e ∙ is))
@@ -189,7 +235,7 @@ module _ (w : List ℕ) where
   unfolding countsFit
   numbers-are p n held ha ba oa pa e1 e2 e3 e4 e5 e6 = rw (e2, e1, e3, e4, e5, e6)
 
-  -- A process: one of the three groups of its tests fails, or the last one decides.
+  -- A process: its numbers fail, or the rest decides.
   module _ (p : ℕ) where
     abbrev processTests : List Bool
     processTests = countsFit w p ∷ partTests w p
@@ -203,18 +249,14 @@ module _ (w : List ℕ) where
       unfolding partTests holds
       numbers-fail n = part-fails processTests (test 0 and test 1 and test 2) (sym told-a ∙ not-true a n) ∙ whole-part
 
-      module _ (b : Bool) (told-b : b ≡ (rowWithin w (partAt p) && unusedPins w p)) where
-        pub rows-fail : not b ≡ true → false ≡ (countsFit w p && partFits w p)
-        unfolding partTests holds
-        rows-fail n = part-fails processTests (test 3 and test 4) (sym told-b ∙ not-true b n) ∙ whole-part
-
-        pub process-whole : not a ≡ false → not b ≡ false → (held : ℕ) → held ≡ word w (heldAt p) → (d : Bool)
-            → d ≡ (allBelow held (keptFits w p) && eqb (indexBefore w p held) (ownIn w p) && allBelow 16 (pinFits w p held)) → d ≡ (countsFit w p && partFits w p)
-        unfolding partTests holds asks allBelow
-        process-whole na nb held eh d told-d =
-            rw eh at told-d
-            ∙ rw (sym told-a ∙ not-false a na, sym told-b ∙ not-false b nb) at (conjunction processTests ((test 0 and test 1 and test 2) and (test 3 and test 4) and (test 5 and test 6 and test 7)) refl)
-            ∙ whole-part
+      pub process-whole : not a ≡ false → (first : List ℕ) → allBelow 16 (λ f. eqb (getD first f 0) 0) ≡ (rowWithin w (partAt p) && unusedPins w p) → (held : ℕ) → held ≡ word w (heldAt p) → (d : Bool)
+          → d ≡ (allBelow held (keptFits w p) && eqb (indexBefore w p held) (ownIn w p) && keptRows p held first) → d ≡ (countsFit w p && partFits w p)
+      unfolding partTests holds asks allBelow
+      process-whole na first ef held eh d told-d =
+          rw (ef, eh) at told-d
+          ∙ second-left _ _ (sym told-a ∙ not-false a na)
+          ∙ conjunction processTests ((test 0 and test 1 and test 2) and (test 5 and test 7 and (((test 3 and test 4) and test 6) and test 8))) refl
+          ∙ whole-part
 
   counts-few : (p n : ℕ) → countsFit w p ≡ true → n ≡ countOf w → n ≤ 16 → word w (heldAt p) ≤ 16
   unfolding countsFit
@@ -277,36 +319,31 @@ module _ (w : List ℕ) where
     unfolding messageTests holds
     order-fails le = part-fails (messageTests w k) (test 0) (le-ltb (numberBefore w k) (numberIn w k) (omega arith))
 
-    module _ (a : Bool) (told : a ≡ (ltb (word w (senderAt k)) n && ltb (word w (receiverAt k)) n && not (eqb (word w (senderAt k)) (word w (receiverAt k))))) where
-      pub ends-fail : not a ≡ true → false ≡ allOf (messageTests w k)
-      unfolding messageTests holds
-      ends-fail e = part-fails (messageTests w k) (test 1 and test 2 and test 3) (rw counted at (sym told ∙ not-true a e))
-
-      pub message-whole : before < number → not a ≡ false → (r : Bool) → r ≡ rowWithin w (carriedAt k) → r ≡ allOf (messageTests w k)
-      unfolding messageTests holds asks allBelow
-      message-whole lt e r er =
-          let ends : (ltb (word w (senderAt k)) (countOf w) && ltb (word w (receiverAt k)) (countOf w) && not (eqb (word w (senderAt k)) (word w (receiverAt k)))) ≡ true = rw counted at (sym told ∙ not-false a e) in
-          er ∙ third-left _ _ (rowWithin w (carriedAt k)) (lt-ltb (numberBefore w k) (numberIn w k) (omega arith)) ends ∙ conjunction (messageTests w k) (test 0 and (test 1 and test 2 and test 3) and test 4) refl
+    pub message-whole : before < number → (a : Bool) → a ≡ (ltb (word w (senderAt k)) n && ltb (word w (receiverAt k)) n && not (eqb (word w (senderAt k)) (word w (receiverAt k)))) → a ≡ allOf (messageTests w k)
+    unfolding messageTests holds asks allBelow
+    message-whole lt a told =
+        rw counted at told
+        ∙ second-left _ _ (lt-ltb (numberBefore w k) (numberIn w k) (omega arith))
+        ∙ conjunction (messageTests w k) (test 0 and (test 1 and test 2 and test 3)) refl
 
   -- A walk along the places of messages, after k of them.
-  abbrev used : ℕ → Bool
-  used k = not (eqb (numberIn w k) 0)
-
-  pub record Read (end k before count : ℕ) : Type 0 where
+  pub record Read (end k before count : ℕ) (over : List ℕ) : Type 0 where
     pub inside : k ≤ end
     pub last : before ≡ numberBefore w k
     pub passed : allBelow k (messageFits w) ≡ true
     pub counted : count ≡ countBelow k (λ k. not (eqb (numberIn w k) 0))
     pub few : count ≤ k
+    pub rows : (f : ℕ) → f < 16 → eqb (getD over f 0) 0 ≡ allBelow k (λ j. eqb (numberIn w j) 0 || leb (word w (carriedAt j + f)) (most w f))
 
-  pub none-read : (end : ℕ) → Read end 0 0 0
+  pub none-read : (end : ℕ) → Read end 0 0 0 (replicate 16 0)
   unfolding allBelow numberBefore countBelow
-  none-read end = record { inside = omega arith; last = refl; passed = refl; counted = refl; few = omega arith }
+  none-read end = record { inside = omega arith; last = refl; passed = refl; counted = refl; few = omega arith; rows = λ f lt. ap (λ (x : ℕ). eqb x 0) (getD-replicate 16 f 0 0 lt) }
 
-  module _ (end k before count number : ℕ) (so-far : Read end k before count) (lt : k < end) (is : number ≡ numberIn w k) where
-    pub one-read : (number ≡ 0 → ⊥) → (r : Bool) → r ≡ allOf (messageTests w k) → not r ≡ false → Read end (k + 1) number (count + 1)
+  module _ (end k before count number : ℕ) (over : List ℕ) (so-far : Read end k before count over) (lt : k < end) (is : number ≡ numberIn w k) where
+    pub one-read : (number ≡ 0 → ⊥) → (r : Bool) → r ≡ allOf (messageTests w k) → not r ≡ false → (more : List ℕ) (v owns : List Interval) → v ≡ vectorIn w (carriedAt k) → owns ≡ limitsIn w
+        → more ≡ table 16 (λ f. bitOr (getD over f 0) (entry v f .0 - entry owns f .0)) → Read end (k + 1) number (count + 1) more
     unfolding allBelow numberBefore countBelow messageFits
-    one-read ne r told e =
+    one-read ne r told e more v owns ev eo em =
         let some : eqb (numberIn w k) 0 ≡ false = ne-eqb (numberIn w k) 0 (λ z. ne (is ∙ z)) in
         record {
           inside = omega arith;
@@ -314,9 +351,11 @@ module _ (w : List ℕ) where
           passed = rw (add-one k, some, sym told ∙ not-false r e) (so-far .passed);
           counted = rw (add-one k, some, so-far .counted);
           few = omega (arith, so-far .few);
+          rows = λ f under. rw (add-one k, some) (over-at (carriedAt k) f over more v owns ev eo em under ∙ ap (λ b. b && leb (word w (carriedAt k + f)) (most w f)) (so-far .rows f under)
+              ∙ and-swap (allBelow k (λ j. eqb (numberIn w j) 0 || leb (word w (carriedAt j + f)) (most w f))) (leb (word w (carriedAt k + f)) (most w f)));
         }
 
-    pub none-there : number ≡ 0 → Read end (k + 1) before count
+    pub none-there : number ≡ 0 → Read end (k + 1) before count over
     unfolding allBelow numberBefore countBelow messageFits
     none-there z =
         let none : eqb (numberIn w k) 0 ≡ true = eq-eqb (numberIn w k) 0 (sym is ∙ z) in
@@ -326,25 +365,39 @@ module _ (w : List ℕ) where
           passed = rw (add-one k, none) (so-far .passed);
           counted = rw (add-one k, none) (so-far .counted ∙ omega arith);
           few = omega (arith, so-far .few);
+          rows = λ f under. rw (add-one k, none) (so-far .rows f under);
         }
 
     pub read-fails : (number ≡ 0 → ⊥) → (r : Bool) → r ≡ allOf (messageTests w k) → not r ≡ true
-        → false ≡ (allBelow end (messageFits w) && eqb (countBelow end (λ k. not (eqb (numberIn w k) 0))) (word w 1) && leb (numberBefore w end) (wide2 w 2))
+        → false ≡ (allBelow end (messageFits w) && allBelow end (carriedFits w) && (eqb (countBelow end (λ k. not (eqb (numberIn w k) 0))) (word w 1) && leb (numberBefore w end) (wide2 w 2)))
     unfolding messageFits
     read-fails ne r told e =
         let some : eqb (numberIn w k) 0 ≡ false = ne-eqb (numberIn w k) 0 (λ z. ne (is ∙ z)) in
         first-fails _ _ _ (all-stop end (messageFits w) k lt (rw some (sym told ∙ not-true r e)))
 
-  pub all-read : (end k before count last : ℕ) → Read end k before count → end ≤ k → last ≡ wide2 w 2
-      → (eqb count (word w 1) && leb before last) ≡ (allBelow end (messageFits w) && eqb (countBelow end (λ k. not (eqb (numberIn w k) 0))) (word w 1) && leb (numberBefore w end) (wide2 w 2))
-  all-read end k before count last so-far ends el =
-      let same : k ≡ end = omega (arith, so-far .inside) in
-      let all : allBelow end (messageFits w) ≡ true = ap (λ (j : ℕ). allBelow j (messageFits w)) (sym same) ∙ so-far .passed in
-      rw (so-far .counted, so-far .last, same, el, all)
+  module _ (end k before count last : ℕ) (over : List ℕ) (so-far : Read end k before count over) (ends : end ≤ k) (el : last ≡ wide2 w 2) where
+    carried-read : (r : Bool) → r ≡ allBelow 16 (λ f. eqb (getD over f 0) 0) → r ≡ allBelow end (carriedFits w)
+    unfolding carriedFits rowWithin
+    carried-read r er =
+        let same : k ≡ end = omega (arith, so-far .inside) in
+        let row : ℕ → ℕ → Bool = λ j f. leb (word w (carriedAt j + f)) (most w f) in
+        let none : ℕ → Bool = λ j. eqb (numberIn w j) 0 in
+        er
+        ∙ all-same 16 (λ f. eqb (getD over f 0) 0) (λ f. allBelow k (λ j. none j || row j f)) (so-far .rows)
+        ∙ all-swap 16 k (λ j f. none j || row j f)
+        ∙ all-same k (λ j. allBelow 16 (λ f. none j || row j f)) (λ j. none j || allBelow 16 (row j)) (λ j lt. or-all 16 (none j) (row j))
+        ∙ ap (λ (i : ℕ). allBelow i (λ j. none j || allBelow 16 (row j))) same
+
+    pub all-read : (r : Bool) → r ≡ allBelow 16 (λ f. eqb (getD over f 0) 0)
+        → (r && (eqb count (word w 1) && leb before last)) ≡ (allBelow end (messageFits w) && allBelow end (carriedFits w) && (eqb (countBelow end (λ k. not (eqb (numberIn w k) 0))) (word w 1) && leb (numberBefore w end) (wide2 w 2)))
+    all-read r er =
+        let same : k ≡ end = omega (arith, so-far .inside) in
+        let all : allBelow end (messageFits w) ≡ true = ap (λ (j : ℕ). allBelow j (messageFits w)) (sym same) ∙ so-far .passed in
+        rw (carried-read r er, so-far .counted, so-far .last, same, el, all)
 
   -- All tests of the messages, and of the words.
   abbrev placesRead : ℕ → Bool
-  placesRead end = allBelow end (messageFits w) && eqb (countBelow end (λ k. not (eqb (numberIn w k) 0))) (word w 1) && leb (numberBefore w end) (wide2 w 2)
+  placesRead end = allBelow end (messageFits w) && allBelow end (carriedFits w) && (eqb (countBelow end (λ k. not (eqb (numberIn w k) 0))) (word w 1) && leb (numberBefore w end) (wide2 w 2))
 
   module _ (end last : ℕ) (is-end : end ≡ endOf w) (is-last : last ≡ wide2 w 2) where
     pub end-far : 64 < end → false ≡ allOf (messagesTests w)
@@ -353,7 +406,7 @@ module _ (w : List ℕ) where
 
     pub last-far : 1000000 < last → false ≡ allOf (messagesTests w)
     unfolding messagesTests holds
-    last-far lt = part-fails (messagesTests w) (test 5) (lt-leb (wide2 w 2) 1000000 (rw is-last at lt))
+    last-far lt = part-fails (messagesTests w) (test 6) (lt-leb (wide2 w 2) 1000000 (rw is-last at lt))
 
     module _ (a : Bool) (told : a ≡ (eqb end 0 || not (eqb (numberIn w (end - 1)) 0))) where
       pub end-off : not a ≡ true → false ≡ allOf (messagesTests w)
@@ -366,7 +419,7 @@ module _ (w : List ℕ) where
           let ended : (eqb (endOf w) 0 || not (eqb (numberIn w (endOf w - 1)) 0)) ≡ true = rw is-end at (sym told ∙ not-false a e) in
           let short : leb (endOf w) 64 ≡ true = le-leb (endOf w) 64 (omega arith) in
           let low : leb (wide2 w 2) 1000000 ≡ true = le-leb (wide2 w 2) 1000000 (rw is-last at few) in
-          rw is-end at er ∙ fourth-left _ _ _ (placesRead (endOf w)) short ended low ∙ conjunction (messagesTests w) (test 0 and test 1 and test 5 and (test 2 and test 3 and test 4)) refl
+          rw is-end at er ∙ fourth-left _ _ _ (placesRead (endOf w)) short ended low ∙ conjunction (messagesTests w) (test 0 and test 1 and test 6 and (test 2 and test 3 and (test 4 and test 5))) refl
 
   -- The number of a message by its two words.
   pub number-is : (k la ha low high : ℕ) → la ≡ lowAt k → low ≡ word w la → ha ≡ highAt k → high ≡ word w ha → low + 65536 * high ≡ numberIn w k

@@ -27,7 +27,7 @@ use Rattle.model.specs.declared.Run.{Run}
 use Rattle.model.specs.Words.{places, mostUnderWay, mostMessages, noMessage, underWay}
 use Rattle.model.specs.Sound.{within, ascending, messageSound, zeroFrom, unusedMessage}
 use Rattle.words.specs.Layout.{word, wide2, countOf, endOf, senderAt, receiverAt, carriedAt, messageIn, isMessage, messagesIn, decoded}
-use Rattle.sound_words.specs.Test.{rowWithin, numberIn, numberBefore, messageTests, messageFits}
+use Rattle.sound_words.specs.Test.{rowWithin, numberIn, numberBefore, messageTests, messageFits, carriedFits}
 use Rattle.sound_words.proofs.Laws.{cons-same, both-false, every-chosen, length-chosen, select-more, nextOf, next-snoc, ascending-snoc}
 use Rattle.sound_words.proofs.Parts as parts
 
@@ -172,17 +172,16 @@ module _ (w : List ℕ) where
       ∙ ap (λ b. b && Each Apart m) (all-or-both m (λ k. eqb (numberIn w k) 0) (λ k. Low top k && From k) To
       ∙ ap (λ b. b && Each To m) (all-or-both m (λ k. eqb (numberIn w k) 0) (Low top) From))
 
-  fits-apart : (m : ℕ) → allBelow m (messageFits w) ≡ (Ascend m && (Each From m && (Each To m && (Each Apart m && Each Within m))))
+  fits-apart : (m : ℕ) → allBelow m (messageFits w) ≡ (Ascend m && (Each From m && (Each To m && Each Apart m)))
   unfolding messageFits messageTests every
   fits-apart m =
       let c : ℕ → Bool = λ k. eqb (numberIn w k) 0 in
       let a : ℕ → Bool = λ k. ltb (numberBefore w k) (numberIn w k) in
-      let e : ℕ → Bool = λ k. Within k && true in
-      all-or-both m c a (λ k. From k && (To k && (Apart k && e k)))
-      ∙ ap (λ b. Ascend m && b) (all-or-both m c From (λ k. To k && (Apart k && e k))
-      ∙ ap (λ b. Each From m && b) (all-or-both m c To (λ k. Apart k && e k)
-      ∙ ap (λ b. Each To m && b) (all-or-both m c Apart e
-      ∙ ap (λ b. Each Apart m && b) (all-same m (λ k. c k || e k) (λ k. c k || Within k) (λ k lt. rw (and-true (Within k)))))))
+      let e : ℕ → Bool = λ k. Apart k && true in
+      all-or-both m c a (λ k. From k && (To k && e k))
+      ∙ ap (λ b. Ascend m && b) (all-or-both m c From (λ k. To k && e k)
+      ∙ ap (λ b. Each From m && b) (all-or-both m c To e
+      ∙ ap (λ b. Each To m && b) (all-same m (λ k. c k || e k) (λ k. c k || Apart k) (λ k lt. rw (and-true (Apart k))))))
 
   -- Two groupings of the tests, between which "to the last used" is asked of the last number alone.
   grouped : (a l f t d r x : Bool) → (true && (a && ((l && f && t && d) && (x && (r && (true && true)))))) ≡ ((a && l) && (f && t && d && r && x))
@@ -193,11 +192,11 @@ module _ (w : List ℕ) where
       refl
       refl
 
-  regrouped : (a l f t d r x : Bool) → ((a && l) && (f && t && d && r && x)) ≡ ((a && (f && (t && (d && r)))) && (true && (l && x)))
+  regrouped : (a l f t d r x : Bool) → ((a && l) && (f && t && d && r && x)) ≡ ((a && (f && (t && d))) && (r && (true && (l && x))))
   unfolding holds asks allBelow
   regrouped a l f t d r x = same-tests (a ∷ l ∷ f ∷ t ∷ d ∷ r ∷ x ∷ [])
       ((test 0 and test 1) and (test 2 and test 3 and test 4 and test 5 and test 6))
-      ((test 0 and (test 2 and (test 3 and (test 4 and test 5)))) and (none and (test 1 and test 6)))
+      ((test 0 and (test 2 and (test 3 and test 4))) and (test 5 and (none and (test 1 and test 6))))
       refl
       refl
 
@@ -237,7 +236,11 @@ module _ (w : List ℕ) where
         ∷ []
 
     abbrev pub wordTests : Bool
-    wordTests = allBelow (endOf w) (messageFits w) && (eqb counted (word w 1) && (leb (numberBefore w (endOf w)) (wide2 w 2) && leb (wide2 w 2) mostMessages))
+    wordTests = allBelow (endOf w) (messageFits w) && (allBelow (endOf w) (carriedFits w) && (eqb counted (word w 1) && (leb (numberBefore w (endOf w)) (wide2 w 2) && leb (wide2 w 2) mostMessages)))
+
+    carried-apart : allBelow (endOf w) (carriedFits w) ≡ Each Within (endOf w)
+    unfolding carriedFits
+    carried-apart = refl
 
     under-way : underWay s ≡ take (word w 1) laid
     unfolding underWay decoded messagesIn
@@ -308,7 +311,7 @@ module _ (w : List ℕ) where
           ∙ ap (λ b. b && (Each From (endOf w) && Each To (endOf w) && Each Apart (endOf w) && Each Within (endOf w) && leb (wide2 w 2) mostMessages))
           (under (Ascend (endOf w)) (Each (Low (wide2 w 2)) (endOf w)) (leb (numberBefore w (endOf w)) (wide2 w 2)) (numbers-most (endOf w) (wide2 w 2)))
           ∙ regrouped (Ascend (endOf w)) (leb (numberBefore w (endOf w)) (wide2 w 2)) (Each From (endOf w)) (Each To (endOf w)) (Each Apart (endOf w)) (Each Within (endOf w)) (leb (wide2 w 2) mostMessages)
-          ∙ rw (fits-apart (endOf w), eq-eqb counted (word w 1) e)
+          ∙ rw (fits-apart (endOf w), carried-apart, eq-eqb counted (word w 1) e)
 
     at-front : (k : ℕ) → k < length (chosen (endOf w)) → getD laid k noMessage ≡ getD (chosen (endOf w)) k noMessage
     unfolding placed
@@ -353,4 +356,4 @@ module _ (w : List ℕ) where
     messages-same = by-eq counted (word w 1)
         counted-same
         (λ ne. both-false (allOf askedTests) wordTests (uncounted ne)
-        (and-no-right (allBelow (endOf w) (messageFits w)) (eqb counted (word w 1) && (leb (numberBefore w (endOf w)) (wide2 w 2) && leb (wide2 w 2) mostMessages)) (rw (ne-eqb counted (word w 1) ne))))
+        (and-no-right (allBelow (endOf w) (messageFits w)) _ (and-no-right (allBelow (endOf w) (carriedFits w)) (eqb counted (word w 1) && (leb (numberBefore w (endOf w)) (wide2 w 2) && leb (wide2 w 2) mostMessages)) (rw (ne-eqb counted (word w 1) ne)))))

@@ -25,6 +25,7 @@ use Rattle.model.specs.declared.Run.{Run}
 use Rattle.model.specs.Words.{Process, places, entry, lastStored, names, named, noCheckpoint, blockCount, process, own}
 use Rattle.model.specs.Sound.{within, ascending, keptSound, pinSound, pinsSound, zeroFrom, nothingFrom, unusedCheckpoint, rowUnused, causeSound, isBlockCount, recordSound}
 use Rattle.words.specs.Layout.{word, countOf, heldAt, blocksAt, partAt, pinsAt, causeAt, storedAt, pinOf, vectorIn, pinsIn, checkpointIn, isKeptIn, decoded}
+use Rattle.words.proofs.Reading.{names-word}
 use Rattle.sound_words.specs.Test.{ownIn, rowWithin, pinIn, unusedPins, indexIn, indexBefore, keptTests, keptFits, pinFits, countsFit, partTests, partFits}
 use Rattle.sound_words.proofs.Laws.{cons-same, both-false, every-table-is}
 use Rattle.sound_words.proofs.Parts as parts
@@ -120,24 +121,24 @@ module _ (w : List ℕ) (high : countOf w ≤ 16) (p : ℕ) (lt : p < countOf w)
       ≡ (allBelow held (λ k. ltb (indexBefore w p k) (indexIn w p k))
       && (allBelow held (λ k. eqb (word w (storedAt p k + p)) (indexIn w p k - 1))
       && (allBelow held (λ k. causeSound (indexIn w p k - 1) (word w (causeAt p k)))
-      && (allBelow held (λ k. anyBelow places (λ f. eqb (pinIn w p f) (indexIn w p k)))
-      && allBelow held (λ k. rowWithin w (storedAt p k) && true)))))
+      && allBelow held (λ k. anyBelow places (λ f. eqb (pinIn w p f) (indexIn w p k)) && true))))
   unfolding keptFits keptTests every
   kept-apart =
       let a : ℕ → Bool = λ k. ltb (indexBefore w p k) (indexIn w p k) in
       let b : ℕ → Bool = λ k. eqb (word w (storedAt p k + p)) (indexIn w p k - 1) in
       let c : ℕ → Bool = λ k. causeSound (indexIn w p k - 1) (word w (causeAt p k)) in
-      let d : ℕ → Bool = λ k. anyBelow places (λ f. eqb (pinIn w p f) (indexIn w p k)) in
-      let e : ℕ → Bool = λ k. rowWithin w (storedAt p k) && true in
-      all-both held a (λ k. b k && (c k && (d k && e k)))
-      ∙ rw (all-both held b (λ k. c k && (d k && e k)), all-both held c (λ k. d k && e k), all-both held d e)
+      let d : ℕ → Bool = λ k. anyBelow places (λ f. eqb (pinIn w p f) (indexIn w p k)) && true in
+      all-both held a (λ k. b k && (c k && d k))
+      ∙ rw (all-both held b (λ k. c k && d k), all-both held c d)
 
-  rows-apart : allBelow held (λ k. rowWithin w (storedAt p k) && true) ≡ allBelow held (λ k. rowWithin w (storedAt p k))
-  rows-apart = all-same held (λ k. rowWithin w (storedAt p k) && true) (λ k. rowWithin w (storedAt p k)) (λ k less. and-true (rowWithin w (storedAt p k)))
+  named-apart : allBelow held (λ k. anyBelow places (λ f. eqb (pinIn w p f) (indexIn w p k)) && true) ≡ allBelow held (λ k. anyBelow places (λ f. eqb (pinIn w p f) (indexIn w p k)))
+  named-apart =
+      let named : ℕ → Bool = λ k. anyBelow places (λ f. eqb (pinIn w p f) (indexIn w p k)) in
+      all-same held (λ k. named k && true) named (λ k less. and-true (named k))
 
   words-all : allOf wordTests ≡ (countsFit w p && partFits w p)
   unfolding countsFit partFits partTests every holds each asks allBelow
-  words-all = rw (kept-apart, rows-apart) (same-tests
+  words-all = rw (kept-apart, named-apart) (same-tests
       (leb 1 (ownIn w p)
       ∷ rowWithin w (partAt p)
       ∷ allBelow held (λ k. rowWithin w (storedAt p k))
@@ -155,7 +156,7 @@ module _ (w : List ℕ) (high : countOf w ≤ 16) (p : ℕ) (lt : p < countOf w)
       ∷ [])
       (each (test 0 ∷ test 1 ∷ test 2 ∷ test 3 ∷ test 4 ∷ test 5 ∷ test 6 ∷ test 7 ∷ test 8 ∷ test 9 ∷ test 10 ∷ test 11 ∷ none ∷ (test 12 and test 13) ∷ []))
       ((test 3 and test 4 and test 13)
-      and each (test 0 ∷ test 8 ∷ test 1 ∷ test 11 ∷ (test 5 and (test 6 and (test 12 and (test 10 and test 2)))) ∷ test 7 ∷ test 9 ∷ []))
+      and each (test 0 ∷ test 8 ∷ test 1 ∷ test 11 ∷ (test 5 and (test 6 and (test 12 and test 10))) ∷ test 2 ∷ test 7 ∷ test 9 ∷ []))
       refl
       refl)
 
@@ -225,7 +226,7 @@ module _ (w : List ℕ) (high : countOf w ≤ 16) (p : ℕ) (lt : p < countOf w)
         ap (λ (l : List Pin). names (getD l p Nothing) (lastStored (own s p))) pins-are
         ∙ ap (λ (x : Pin). names x (lastStored (own s p))) pin-at
         ∙ ap (λ (x : ℕ). names (pinOf (pinIn w p p)) (record { 0 = x - 1 })) own-is
-        ∙ clauses.names-word (pinIn w p p) (ownIn w p) some-own
+        ∙ names-word (pinIn w p p) (ownIn w p) some-own
 
     blocks-at : (k : ℕ) → checkpointIn w p k .blocks ≡ word w (blocksAt p)
     unfolding checkpointIn

@@ -22,7 +22,7 @@ use Rattle.model.specs.declared.Run.{Run}
 use Rattle.model.specs.Words.{places, mostUnderWay, mostMessages, mostBlocks, blocksOf, zeroVector, noPins, noCheckpoint, blank, process, own, underWay}
 use Rattle.model.specs.Sound.{sound, countSound, ownSound, within, vectorsSound, ascending, keptSound, pinsSound, messageSound, messagesSound, zeroFrom, unusedCheckpoint, unusedMessage, nothingFrom, isNothing, rowUnused, unusedSound, recordSound, keptBlocks, diskSound}
 use Rattle.words.specs.Layout.{size, word, wide2, wide4, countOf, endOf, heldAt, blocksAt, partAt, pinsAt, vectorIn, pinsIn, keptIn, markIn, messageIn, isMessage, decoded, endFits, fits, runOf}
-use Rattle.sound_words.specs.Test.{ownIn, numberIn, numberBefore, indexIn, indexBefore, keptTests, keptFits, countsFit, partTests, partFits, blocksIn, diskFits, messageFits, messagesTests, soundTests, soundIn}
+use Rattle.sound_words.specs.Test.{ownIn, numberIn, numberBefore, indexIn, indexBefore, keptTests, keptFits, countsFit, partTests, partFits, blocksIn, diskFits, messageFits, carriedFits, messagesTests, soundTests, soundIn}
 use Rattle.sound_words.proofs.Laws.{both-false, cons-same}
 use Rattle.sound_words.proofs.Parts as parts
 use Rattle.sound_words.proofs.Clauses as clauses
@@ -224,7 +224,7 @@ module _ (w : List ℕ) (small : (k : ℕ) → word w k ≤ 65535) where
 
   -- The test of the words, grouped alike.
   abbrev messageWords : Bool
-  messageWords = allBelow (endOf w) (messageFits w) && (eqb (countBelow (endOf w) (λ k. not (eqb (numberIn w k) 0))) (word w 1) && (leb (numberBefore w (endOf w)) (wide2 w 2) && leb (wide2 w 2) mostMessages))
+  messageWords = allBelow (endOf w) (messageFits w) && (allBelow (endOf w) (carriedFits w) && (eqb (countBelow (endOf w) (λ k. not (eqb (numberIn w k) 0))) (word w 1) && (leb (numberBefore w (endOf w)) (wide2 w 2) && leb (wide2 w 2) mostMessages)))
 
   in-groups : soundIn w ≡ (fits w && ((leb 1 n && leb n places) && ((allBelow n (countsFit w) && allBelow n (partFits w)) && diskFits w && messageWords)))
   unfolding soundIn soundTests messagesTests fits endFits isMessage messageIn every holds each asks allBelow
@@ -238,12 +238,13 @@ module _ (w : List ℕ) (small : (k : ℕ) → word w k ≤ 65535) where
       ∷ leb (endOf w) mostUnderWay
       ∷ (eqb (endOf w) 0 || not (eqb (numberIn w (endOf w - 1)) 0))
       ∷ allBelow (endOf w) (messageFits w)
+      ∷ allBelow (endOf w) (carriedFits w)
       ∷ eqb (countBelow (endOf w) (λ k. not (eqb (numberIn w k) 0))) (word w 1)
       ∷ leb (numberBefore w (endOf w)) (wide2 w 2)
       ∷ leb (wide2 w 2) mostMessages
       ∷ [])
-      (each (test 0 ∷ test 1 ∷ test 2 ∷ test 3 ∷ test 4 ∷ test 5 ∷ each (test 6 ∷ test 7 ∷ test 8 ∷ test 9 ∷ test 10 ∷ test 11 ∷ []) ∷ []))
-      ((test 0 and (test 6 and test 7)) and ((test 1 and test 2) and ((test 3 and test 4) and test 5 and (test 8 and (test 9 and (test 10 and test 11))))))
+      (each (test 0 ∷ test 1 ∷ test 2 ∷ test 3 ∷ test 4 ∷ test 5 ∷ each (test 6 ∷ test 7 ∷ test 8 ∷ test 9 ∷ test 10 ∷ test 11 ∷ test 12 ∷ []) ∷ []))
+      ((test 0 and (test 6 and test 7)) and ((test 1 and test 2) and ((test 3 and test 4) and test 5 and (test 8 and (test 9 and (test 10 and (test 11 and test 12)))))))
       refl
       refl
 

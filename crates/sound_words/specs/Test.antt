@@ -43,14 +43,13 @@ unfoldable pub indexBefore : List ℕ → ℕ → ℕ → ℕ
 indexBefore w p zero = 0
 indexBefore w p (suc k) = indexIn w p k
 
--- "indexes ascending, each one's own entry equal to its index"; Note 5: "causes 0 to 2, 0 exactly at index 0"; "every kept one is pinned"; its vector.
+-- "indexes ascending, each one's own entry equal to its index"; Note 5: "causes 0 to 2, 0 exactly at index 0"; "every kept one is pinned".
 unfoldable pub keptTests : List ℕ → ℕ → ℕ → List Bool
 keptTests w p k =
     ltb (indexBefore w p k) (indexIn w p k)
     ∷ eqb (word w (storedAt p k + p)) (indexIn w p k - 1)
     ∷ causeSound (indexIn w p k - 1) (word w (causeAt p k))
     ∷ anyBelow places (λ f. eqb (pinIn w p f) (indexIn w p k))
-    ∷ rowWithin w (storedAt p k)
     ∷ []
 
 unfoldable pub keptFits : List ℕ → ℕ → ℕ → Bool
@@ -64,7 +63,7 @@ pinFits w p held f = eqb (pinIn w p f) 0 || anyBelow held (λ k. eqb (pinIn w p 
 unfoldable pub countsFit : List ℕ → ℕ → Bool
 countsFit w p = leb 1 (word w (heldAt p)) && leb (word w (heldAt p)) (countOf w) && leb 1 (word w (blocksAt p))
 
--- "Own entries at least 1"; the current vector; the kept checkpoints, of which "the last is the own entry minus 1 and the own pin names it"; the pins.
+-- "Own entries at least 1"; the current vector; the kept checkpoints and their vectors, of which "the last is the own entry minus 1 and the own pin names it"; the pins.
 unfoldable pub partTests : List ℕ → ℕ → List Bool
 partTests w p =
     leb 1 (ownIn w p)
@@ -72,6 +71,7 @@ partTests w p =
     ∷ rowWithin w (partAt p)
     ∷ unusedPins w p
     ∷ allBelow (word w (heldAt p)) (keptFits w p)
+    ∷ allBelow (word w (heldAt p)) (λ k. rowWithin w (storedAt p k))
     ∷ eqb (indexBefore w p (word w (heldAt p))) (ownIn w p)
     ∷ allBelow places (pinFits w p (word w (heldAt p)))
     ∷ []
@@ -94,18 +94,21 @@ unfoldable pub numberBefore : List ℕ → ℕ → ℕ
 numberBefore w zero = 0
 numberBefore w (suc k) = pick (eqb (numberIn w k) 0) (numberBefore w k) (numberIn w k)
 
--- "Messages ascend by number"; "sender and receiver are in the run and differ"; its vector.
+-- "Messages ascend by number"; "sender and receiver are in the run and differ".
 unfoldable pub messageTests : List ℕ → ℕ → List Bool
 messageTests w k =
     ltb (numberBefore w k) (numberIn w k)
     ∷ ltb (word w (senderAt k)) (countOf w)
     ∷ ltb (word w (receiverAt k)) (countOf w)
     ∷ not (eqb (word w (senderAt k)) (word w (receiverAt k)))
-    ∷ rowWithin w (carriedAt k)
     ∷ []
 
 unfoldable pub messageFits : List ℕ → ℕ → Bool
 messageFits w k = eqb (numberIn w k) 0 || allOf (messageTests w k)
+
+-- The vector that a message carries.
+unfoldable pub carriedFits : List ℕ → ℕ → Bool
+carriedFits w k = eqb (numberIn w k) 0 || rowWithin w (carriedAt k)
 
 -- The end of the places in use; "from 1 to the last used, at most 64"; "The last used number is at most 1,000,000."
 unfoldable pub messagesTests : List ℕ → List Bool
@@ -113,6 +116,7 @@ messagesTests w =
     leb (endOf w) mostUnderWay
     ∷ (eqb (endOf w) 0 || not (eqb (numberIn w (endOf w - 1)) 0))
     ∷ allBelow (endOf w) (messageFits w)
+    ∷ allBelow (endOf w) (carriedFits w)
     ∷ eqb (countBelow (endOf w) (λ k. not (eqb (numberIn w k) 0))) (word w 1)
     ∷ leb (numberBefore w (endOf w)) (wide2 w 2)
     ∷ leb (wide2 w 2) mostMessages

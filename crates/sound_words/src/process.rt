@@ -6,7 +6,7 @@ ghost use mathlib.Core.Path.{_≡_};
 ghost use mathlib.Core.Bool.{_&&_};
 ghost use Prim.Native.Nat.{_+_, _-_, _≤_, _<_};
 ghost use lib.Dec.{eqb, ltb, leb};
-ghost use lib.ListN.{length};
+ghost use lib.ListN.{length, getD};
 ghost use Rattle.laws.specs.Choice.{pick};
 ghost use Rattle.laws.specs.Lists.{table};
 ghost use Rattle.laws.specs.Search.{allBelow};
@@ -52,60 +52,52 @@ fn is_kept_numbered(w: &[u16], p: usize, k: usize, x: u16, before: u16) -> bool
     (own.0 == index.0) & caused
 }
 
-// The kept checkpoint in place k, the word of whose index is x: its numbers, a pin that names it, and its vector.
-fn is_kept_sound(
-    w: &[u16],
-    p: usize,
-    k: usize,
-    x: u16,
-    before: u16,
-    pins: [u16; 16],
-    owns: [Interval; 16],
-) -> bool
-    requires { ⌜ (length (now w) ≡ 6464) × (p < 16) × (k < 16) × (x ≡ indexIn (now w) p k) × (before ≡ indexBefore (now w) p k) × (pins ≡ rowIn (now w) (pinsAt p)) × (owns ≡ limitsIn (now w)) ⌝ }
+// The kept checkpoint in place k, the word of whose index is x: its numbers, and a pin that names it.
+fn is_kept_sound(w: &[u16], p: usize, k: usize, x: u16, before: u16, pins: [u16; 16]) -> bool
+    requires { ⌜ (length (now w) ≡ 6464) × (p < 16) × (k < 16) × (x ≡ indexIn (now w) p k) × (before ≡ indexBefore (now w) p k) × (pins ≡ rowIn (now w) (pinsAt p)) ⌝ }
     ensures { λ r. ⌜ r ≡ keptFits (now (w .entry)) p k ⌝ }
 {
     let numbered = is_kept_numbered(w, p, k, x, before);
     if !numbered {
         return false;
     }
-    let named = sound_rows::is_among(pins, x);
-    if !named {
-        return false;
-    }
-    let vector_at = places::stored_at(p, k);
-    let vector = words::vector_at(w, vector_at);
-    sound_rows::is_within(vector, owns)
+    sound_rows::is_among(pins, x)
 }
 
-// The checkpoints that process p keeps, one after the other: each is sound, the last is the one before the own entry, and each pin names one of them or none.
-fn are_kept_sound(w: &[u16], p: usize, held: usize, owns: [Interval; 16]) -> bool
+// The checkpoints that process p keeps, one after the other: each is sound, the last is the one before the own entry, each pin names one of them or none, and no entry
+// of theirs is above the own one there. What is off is gathered in rows, from `first` on, and tested once.
+fn are_kept_sound(w: &[u16], p: usize, held: usize, owns: [Interval; 16], first: [u16; 16]) -> bool
     requires { ⌜ (length (now w) ≡ 6464) × (p < 16) × (held ≤ 16) × (owns ≡ limitsIn (now w)) ⌝ }
     ensures { λ r. ⌜ r ≡ (allBelow held (keptFits (now (w .entry)) p)
         && eqb (indexBefore (now (w .entry)) p held) (ownIn (now (w .entry)) p)
-        && allBelow 16 (pinFits (now (w .entry)) p held)) ⌝ }
+        && ((allBelow 16 (λ f. eqb (getD first f 0) 0) && allBelow held (λ k. rowWithin (now (w .entry)) (storedAt p k))) && allBelow 16 (pinFits (now (w .entry)) p held))) ⌝ }
 {
     let pins_at = places::pins_at(p);
     let pins = words::row_at(w, pins_at);
     // the pins that no checkpoint so far has met
     let mut unmet = pins;
+    let mut off = first;
     let mut before: u16 = 0;
     for k in 0..held {
         let at = places::index_at(p, k);
         let x = w[at];
-        let ok = is_kept_sound(w, p, k, x, before, pins, owns);
+        let ok = is_kept_sound(w, p, k, x, before, pins);
         if !ok {
             return false;
         }
         let left = sound_rows::without(unmet, pins, x);
         unmet = left;
+        let vector_at = places::stored_at(p, k);
+        let vector = words::vector_at(w, vector_at);
+        let over = sound_rows::over_by(off, vector, owns);
+        off = over;
         before = x;
     }
     let own_at = places::part_at(p) + p;
     if before != w[own_at] {
         return false;
     }
-    sound_rows::is_zero(unmet)
+    sound_rows::are_zero(off, unmet)
 }
 
 // "Each process keeps 1 to n checkpoints"; its block count is at least 1, its own entry too, and its own pin names the last one stored: its word is the own entry.
@@ -124,18 +116,17 @@ fn are_numbers_sound(w: &[u16], p: usize, n: usize) -> bool
     (1 <= held) & (held <= n) & (1 <= blocks) & (1 <= own) & (pin == own)
 }
 
-// The vector is within the own entries, and no pin at n and above names a checkpoint: `columns` has what a pin may be at most.
-fn are_rows_sound(w: &[u16], p: usize, owns: [Interval; 16], columns: [u16; 16]) -> bool
+// What is off in the vector and the pins of process p: 0 where the entry is not above the own one and the pin not above what it may be at most, in `columns`.
+fn rows_off(w: &[u16], p: usize, owns: [Interval; 16], columns: [u16; 16]) -> [u16; 16]
     requires { ⌜ (length (now w) ≡ 6464) × (p < 16) × (owns ≡ limitsIn (now w)) × (columns ≡ table 16 (λ f. pick (eqb (entry owns f .0) 0) 0 65535)) ⌝ }
-    ensures { λ r. ⌜ r ≡ (rowWithin (now (w .entry)) (partAt p) && unusedPins (now (w .entry)) p) ⌝ }
+    ensures { λ r. ⌜ allBelow 16 (λ f. eqb (getD r f 0) 0) ≡ (rowWithin (now (w .entry)) (partAt p) && unusedPins (now (w .entry)) p) ⌝ }
 {
     let vector_at = places::part_at(p);
     let vector = words::vector_at(w, vector_at);
     let pins_at = places::pins_at(p);
     let pins = words::row_at(w, pins_at);
-    let within = sound_rows::is_within(vector, owns);
-    let none = sound_rows::is_row_within(pins, columns);
-    within & none
+    let outside = sound_rows::row_over(pins, columns);
+    sound_rows::over_by(outside, vector, owns)
 }
 
 pub fn is_sound(w: &[u16], p: usize, n: usize, owns: [Interval; 16], columns: [u16; 16]) -> bool
@@ -146,11 +137,8 @@ pub fn is_sound(w: &[u16], p: usize, n: usize, owns: [Interval; 16], columns: [u
     if !numbers {
         return false;
     }
-    let rows = are_rows_sound(w, p, owns, columns);
-    if !rows {
-        return false;
-    }
+    let first = rows_off(w, p, owns, columns);
     let held_at = places::held_at(p);
     let held = number_of(w[held_at]);
-    are_kept_sound(w, p, held, owns)
+    are_kept_sound(w, p, held, owns, first)
 }

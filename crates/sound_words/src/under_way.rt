@@ -9,8 +9,8 @@ ghost use lib.Dec.{eqb, ltb, leb};
 ghost use lib.ListN.{length};
 ghost use Rattle.laws.specs.Search.{allBelow};
 ghost use Rattle.laws.specs.Tests.{allOf, countBelow};
-ghost use Rattle.words.specs.Layout.{word, wide2, senderAt, receiverAt};
-ghost use Rattle.sound_words.specs.Test.{numberIn, numberBefore, messageTests, messageFits, messagesTests, Judged};
+ghost use Rattle.words.specs.Layout.{word, wide2, countOf, senderAt, receiverAt};
+ghost use Rattle.sound_words.specs.Test.{numberIn, numberBefore, messageTests, messageFits, carriedFits, messagesTests, Judged};
 
 // The greatest number of a message.
 const MOST_MESSAGES: u32 = 1000000;
@@ -46,52 +46,47 @@ fn are_ends_sound(w: &[u16], k: usize, n: usize) -> bool
     (sender < n) & (receiver < n) & (sender != receiver)
 }
 
-// The message in place k, whose number is `number`; the last number before it is `before`.
-fn is_message_sound(
-    w: &[u16],
-    k: usize,
-    n: usize,
-    owns: [Interval; 16],
-    number: u32,
-    before: u32,
-) -> bool
-    requires { ⌜ Judged (now w) n owns × (k < 64) × (number ≡ numberIn (now w) k) × (before ≡ numberBefore (now w) k) ⌝ }
+// The message in place k, whose number is `number`, but for its vector; the last number before it is `before`.
+fn is_message_sound(w: &[u16], k: usize, n: usize, number: u32, before: u32) -> bool
+    requires { ⌜ (length (now w) ≡ 6464) × (n ≡ countOf (now w)) × (k < 64) × (number ≡ numberIn (now w) k) × (before ≡ numberBefore (now w) k) ⌝ }
     ensures { λ r. ⌜ r ≡ allOf (messageTests (now (w .entry)) k) ⌝ }
 {
     if number <= before {
         return false;
     }
-    let ends = are_ends_sound(w, k, n);
-    if !ends {
-        return false;
-    }
-    let vector_at = places::carried_at(k);
-    let vector = words::vector_at(w, vector_at);
-    sound_rows::is_within(vector, owns)
+    are_ends_sound(w, k, n)
 }
 
-// The messages before the end: each is sound, the last number is not above the last used, and they are as many as are said to be under way.
+// The messages before the end: each is sound, no entry that they carry is above the own one there, the last number is not above the last used, and they are as many as
+// are said to be under way.
 fn are_places_sound(w: &[u16], end: usize, n: usize, owns: [Interval; 16]) -> bool
     requires { ⌜ Judged (now w) n owns × (end ≤ 64) ⌝ }
     ensures { λ r. ⌜ r ≡ (allBelow end (messageFits (now (w .entry)))
-        && eqb (countBelow end (λ k. not (eqb (numberIn (now (w .entry)) k) 0))) (word (now (w .entry)) 1)
-        && leb (numberBefore (now (w .entry)) end) (wide2 (now (w .entry)) 2)) ⌝ }
+        && allBelow end (carriedFits (now (w .entry)))
+        && (eqb (countBelow end (λ k. not (eqb (numberIn (now (w .entry)) k) 0))) (word (now (w .entry)) 1)
+        && leb (numberBefore (now (w .entry)) end) (wide2 (now (w .entry)) 2))) ⌝ }
 {
+    let mut over = [0u16; 16];
     let mut before: u32 = 0;
     let mut count: u16 = 0;
     for k in 0..end {
         let number = number_in(w, k);
         if number != 0 {
-            let ok = is_message_sound(w, k, n, owns, number, before);
+            let ok = is_message_sound(w, k, n, number, before);
             if !ok {
                 return false;
             }
             before = number;
             count += 1;
+            let vector_at = places::carried_at(k);
+            let vector = words::vector_at(w, vector_at);
+            let more = sound_rows::over_by(over, vector, owns);
+            over = more;
         }
     }
+    let within = sound_rows::is_zero(over);
     let last = words::wide2(w, places::LAST);
-    (count == w[places::UNDER_WAY]) & (before <= last)
+    within & ((count == w[places::UNDER_WAY]) & (before <= last))
 }
 
 // The end is one past the last place in use.

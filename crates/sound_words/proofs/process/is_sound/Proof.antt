@@ -4,7 +4,7 @@ use Prim.Native.Nat.{ℕ, _-_}
 use native.Mathlib.Omega.{arith}
 use mathlib.Core.Path.{_≡_, _∙_, ap}
 use Rattle.words.specs.Layout.{word, heldAt}
-use Rattle.sound_words.proofs.Judging.{numbers-fail, rows-fail, process-whole, numbers-few}
+use Rattle.sound_words.proofs.Judging.{numbers-fail, process-whole, numbers-few}
 use Rattle.sound_words.proofs.process.is_sound.Statement.{statement}
 use Rattle.sound_words.proofs.process.is_sound.Tie as tie
 
@@ -13,32 +13,25 @@ returns c = let m = c .before in
     let a = m .before .before .args in
     numbers-fail (a .w .now) (a .p) (m .are-numbers-sound .result) (m .are-numbers-sound .ensures) (c .if1 .taken)
 
-are-rows-sound-requires : tie.Need-are-rows-sound-requires
-are-rows-sound-requires c κs = let s = c .before .before .before in (s .pre .0 .sized, search needs, s .pre .0 .limits, s .pre .2)
-
-returns-2 : tie.Need-returns-2
-returns-2 c = let r = c .before in
-    let m = r .before .before in
-    let a = m .before .before .args in
-    rows-fail (a .w .now) (a .p) (m .are-numbers-sound .result) (m .are-numbers-sound .ensures) (r .are-rows-sound .result) (r .are-rows-sound .ensures) (c .if2 .taken)
+rows-off-requires : tie.Need-rows-off-requires
+rows-off-requires c κs = let s = c .before .before .before in (s .pre .0 .sized, search needs, s .pre .0 .limits, s .pre .2)
 
 are-kept-sound-requires : tie.Need-are-kept-sound-requires
 are-kept-sound-requires c κs = let ha = c .before .before in
-    let r = ha .before .before in
+    let r = ha .before in
     let m = r .before .before in
     let s = m .before .before in
     let a = s .args in
     let held : c .number-of .result ≡ word (a .w .now) (heldAt (a .p)) = c .number-of .ensures ∙ ap (λ (j : ℕ). word (a .w .now) j) (ha .held-at .ensures) in
     (s .pre .0 .sized, search needs, omega (arith, numbers-few (a .w .now) (a .p) (a .n) (m .are-numbers-sound .result) (m .are-numbers-sound .ensures) (r .before .if1 .left) (s .pre .0 .counted) (s .pre .0 .few)), s .pre .0 .limits)
 
-returns-3 : tie.Need-returns-3
-returns-3 c = let n = c .before in
+returns-2 : tie.Need-returns-2
+returns-2 c = let n = c .before in
     let ha = n .before .before in
-    let e = ha .before in
-    let r = e .before in
+    let r = ha .before in
     let m = r .before .before in
     let a = m .before .before .args in
-    process-whole (a .w .now) (a .p) (m .are-numbers-sound .result) (m .are-numbers-sound .ensures) (r .are-rows-sound .result) (r .are-rows-sound .ensures) (r .before .if1 .left) (e .if2 .left) (n .number-of .result)
+    process-whole (a .w .now) (a .p) (m .are-numbers-sound .result) (m .are-numbers-sound .ensures) (r .before .if1 .left) (r .rows-off .result) (r .rows-off .ensures) (n .number-of .result)
     (n .number-of .ensures ∙ ap (λ (j : ℕ). word (a .w .now) j) (ha .held-at .ensures)) (c .are-kept-sound .result) (c .are-kept-sound .ensures)
 
 pub is-sound-spec : {M : Type 1} → statement M
@@ -47,11 +40,10 @@ is-sound-spec =
     (tie.spec
     (λ c κs. search needs)
     returns
-    are-rows-sound-requires
-    returns-2
+    rows-off-requires
     (λ c κs. search needs)
     (λ c. search needs)
     (λ c. search needs)
     (λ c κs. search needs)
     are-kept-sound-requires
-    returns-3)
+    returns-2)
