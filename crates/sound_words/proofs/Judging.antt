@@ -230,10 +230,25 @@ module _ (w : List ℕ) where
         (eq-eqb _ _ (ap (λ (j : ℕ). indexBefore w p j) (sym all-walked) ∙ sym (so-far .last) ∙ e ∙ is))
 
   -- The numbers of a process.
-  pub numbers-are : (p n held ha ba oa pa : ℕ) → ha ≡ heldAt p → held ≡ word w ha → ba ≡ blocksAt p → oa ≡ partAt p → pa ≡ pinsAt p → n ≡ countOf w
-      → (leb 1 held && leb held n && leb 1 (word w ba) && leb 1 (word w (oa + p)) && eqb (word w (pa + p)) (word w (oa + p))) ≡ (countsFit w p && leb 1 (ownIn w p) && eqb (pinIn w p p) (ownIn w p))
+  pub last-is : (p oa last : ℕ) → oa ≡ partAt p → last ≡ word w (oa + p) - 1 + 1 → 1 ≤ ownIn w p → last ≡ ownIn w p
+  last-is p oa last e1 e2 some =
+      let is : last ≡ ownIn w p - 1 + 1 = rw e1 at e2 in
+      is ∙ omega arith
+
+  last-same : (x own : ℕ) → (leb 1 own && eqb x (own - 1 + 1)) ≡ (leb 1 own && eqb x own)
+  last-same x own = by-bool (leb 1 own)
+      (λ e. let some = leb-true 1 own e in let same : own - 1 + 1 ≡ own = omega arith in rw same)
+      (λ e. rw e)
+
+  pub numbers-are : (p n held ha ba oa last pa : ℕ) → ha ≡ heldAt p → held ≡ word w ha → ba ≡ blocksAt p → oa ≡ partAt p → last ≡ word w (oa + p) - 1 + 1
+      → pa ≡ pinsAt p → n ≡ countOf w
+      → (leb 1 held && leb held n && leb 1 (word w ba) && leb 1 (word w (oa + p)) && eqb (word w (pa + p)) last) ≡ (countsFit w p && leb 1 (ownIn w p) && eqb (pinIn w p p) (ownIn w p))
   unfolding countsFit
-  numbers-are p n held ha ba oa pa e1 e2 e3 e4 e5 e6 = rw (e2, e1, e3, e4, e5, e6)
+  numbers-are p n held ha ba oa last pa e1 e2 e3 e4 e5 e6 e7 =
+      rw (e5, e4, e2, e1, e3, e6, e7)
+      (and-group (countsFit w p) (leb 1 (ownIn w p)) (eqb (pinIn w p p) (ownIn w p - 1 + 1))
+      ∙ ap (λ b. countsFit w p && b) (last-same (pinIn w p p) (ownIn w p))
+      ∙ sym (and-group (countsFit w p) (leb 1 (ownIn w p)) (eqb (pinIn w p p) (ownIn w p))))
 
   -- A process: its numbers fail, or the rest decides.
   module _ (p : ℕ) where
@@ -267,6 +282,9 @@ module _ (w : List ℕ) where
   pub numbers-few : (p n : ℕ) (a : Bool) → a ≡ (countsFit w p && leb 1 (ownIn w p) && eqb (pinIn w p p) (ownIn w p)) → not a ≡ false → n ≡ countOf w → n ≤ 16 → word w (heldAt p) ≤ 16
   numbers-few p n a told e en few =
       counts-few p n (and-left (countsFit w p) (leb 1 (ownIn w p)) (and-left (countsFit w p && leb 1 (ownIn w p)) (eqb (pinIn w p p) (ownIn w p)) (sym told ∙ not-false a e))) en few
+
+  pub numbers-own : (p : ℕ) (a : Bool) → a ≡ (countsFit w p && leb 1 (ownIn w p) && eqb (pinIn w p p) (ownIn w p)) → not a ≡ false → 1 ≤ ownIn w p
+  numbers-own p a told e = leb-true 1 (ownIn w p) (and-right (countsFit w p) (leb 1 (ownIn w p)) (and-left (countsFit w p && leb 1 (ownIn w p)) (eqb (pinIn w p p) (ownIn w p)) (sym told ∙ not-false a e)))
 
   pub held-few : (p n : ℕ) (r : Bool) → r ≡ (countsFit w p && partFits w p) → not r ≡ false → n ≡ countOf w → n ≤ 16 → word w (heldAt p) ≤ 16
   held-few p n r told e en few = counts-few p n (and-left (countsFit w p) (partFits w p) (sym told ∙ not-false r e)) en few

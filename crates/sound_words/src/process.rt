@@ -24,6 +24,15 @@ pub fn number_of(x: u16) -> usize
     x as usize
 }
 
+// The word of the index of the last stored checkpoint of a process, by the word of its own entry.
+fn last_word(own: u16) -> u16
+    ensures { λ r. ⌜ r ≡ own - 1 + 1 ⌝ }
+{
+    let current = words::interval_of(own);
+    let last = rows::vector::last_stored(current);
+    words::pin_word(last)
+}
+
 // "causes 0 to 2, 0 exactly at index 0"
 fn is_cause_sound(cause: u16, index: CheckpointIndex) -> bool
     ensures { λ r. ⌜ r ≡ causeSound (index .0) cause ⌝ }
@@ -64,10 +73,10 @@ fn is_kept_sound(w: &[u16], p: usize, k: usize, x: u16, before: u16, pins: [u16;
     sound_rows::is_among(pins, x)
 }
 
-// The checkpoints that process p keeps, one after the other: each is sound, the last is the one before the own entry, each pin names one of them or none, and no entry
+// The checkpoints that process p keeps, one after the other: each is sound, the last is the last one stored, each pin names one of them or none, and no entry
 // of theirs is above the own one there. What is off is gathered in rows, from `first` on, and tested once.
 fn are_kept_sound(w: &[u16], p: usize, held: usize, owns: [Interval; 16], first: [u16; 16]) -> bool
-    requires { ⌜ (length (now w) ≡ 6464) × (p < 16) × (held ≤ 16) × (owns ≡ limitsIn (now w)) ⌝ }
+    requires { ⌜ (length (now w) ≡ 6464) × (p < 16) × (held ≤ 16) × (owns ≡ limitsIn (now w)) × (1 ≤ ownIn (now w) p) ⌝ }
     ensures { λ r. ⌜ r ≡ (allBelow held (keptFits (now (w .entry)) p)
         && eqb (indexBefore (now (w .entry)) p held) (ownIn (now (w .entry)) p)
         && ((allBelow 16 (λ f. eqb (getD first f 0) 0) && allBelow held (λ k. rowWithin (now (w .entry)) (storedAt p k))) && allBelow 16 (pinFits (now (w .entry)) p held))) ⌝ }
@@ -94,13 +103,14 @@ fn are_kept_sound(w: &[u16], p: usize, held: usize, owns: [Interval; 16], first:
         before = x;
     }
     let own_at = places::part_at(p) + p;
-    if before != w[own_at] {
+    let last = last_word(w[own_at]);
+    if before != last {
         return false;
     }
     sound_rows::are_zero(off, unmet)
 }
 
-// "Each process keeps 1 to n checkpoints"; its block count is at least 1, its own entry too, and its own pin names the last one stored: its word is the own entry.
+// "Each process keeps 1 to n checkpoints"; its block count is at least 1, its own entry too, and its own pin names the last one stored.
 fn are_numbers_sound(w: &[u16], p: usize, n: usize) -> bool
     requires { ⌜ (length (now w) ≡ 6464) × (n ≡ countOf (now w)) × (p < 16) ⌝ }
     ensures { λ r. ⌜ r ≡ (countsFit (now (w .entry)) p && leb 1 (ownIn (now (w .entry)) p) && eqb (pinIn (now (w .entry)) p p) (ownIn (now (w .entry)) p)) ⌝ }
@@ -111,9 +121,10 @@ fn are_numbers_sound(w: &[u16], p: usize, n: usize) -> bool
     let blocks = w[blocks_at];
     let own_at = places::part_at(p) + p;
     let own = w[own_at];
+    let last = last_word(own);
     let pin_at = places::pins_at(p) + p;
     let pin = w[pin_at];
-    (1 <= held) & (held <= n) & (1 <= blocks) & (1 <= own) & (pin == own)
+    (1 <= held) & (held <= n) & (1 <= blocks) & (1 <= own) & (pin == last)
 }
 
 // What is off in the vector and the pins of process p: 0 where the entry is not above the own one and the pin not above what it may be at most, in `columns`.

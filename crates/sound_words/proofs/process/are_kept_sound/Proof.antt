@@ -1,9 +1,9 @@
 -- `sound_words::process::are_kept_sound` meets its contract. Assumes nothing.
 use borrow.Author.Needs.{needs}
-use Prim.Native.Nat.{ℕ, _+_, _-_}
+use Prim.Native.Nat.{ℕ, _-_}
 use mathlib.Core.Path.{ap}
 use Rattle.words.specs.Layout.{word}
-use Rattle.sound_words.proofs.Judging.{Walked, none-walked, one-walked, walk-stops, walk-misses, walk-ends}
+use Rattle.sound_words.proofs.Judging.{Walked, none-walked, one-walked, walk-stops, walk-misses, walk-ends, last-is}
 use Rattle.sound_words.proofs.process.are_kept_sound.Statement.{statement}
 use Rattle.sound_words.proofs.process.are_kept_sound.Tie as tie
 
@@ -48,19 +48,25 @@ loop-again c = let v = c .before in
     (rw (t .stored-at .ensures) at (v .vector-at .ensures)) (s .pre .3) (c .over-by .ensures)
 
 returns-2 : tie.Need-returns-2 Inv-loop μ-loop
-returns-2 c = let pa = c .before .before in
+returns-2 c = let t = c .before in
+    let pa = t .before .before in
     let al = pa .before in
     let l = al .before in
-    let a = l .before .before .before .before .args in
-    walk-misses (a .w .now) (a .p) (a .held) (a .first) (l .loop .k) (l .loop .before) _ (l .loop .off) (l .loop .unmet) (l .loop .inv) (al .loop-test .left) (ap (λ (j : ℕ). word (a .w .now) (j + a .p)) (pa .part-at .ensures)) (c .if2 .taken)
+    let s = l .before .before .before .before in
+    let a = s .args in
+    walk-misses (a .w .now) (a .p) (a .held) (a .first) (l .loop .k) (l .loop .before) (t .last-word .result) (l .loop .off) (l .loop .unmet) (l .loop .inv) (al .loop-test .left)
+    (last-is (a .w .now) (a .p) (pa .part-at .result) (t .last-word .result) (pa .part-at .ensures) (t .last-word .ensures) (s .pre .4)) (c .if2 .taken)
 
 returns-3 : tie.Need-returns-3 Inv-loop μ-loop
 returns-3 c = let e = c .before in
-    let pa = e .before .before in
+    let t = e .before in
+    let pa = t .before .before in
     let al = pa .before in
     let l = al .before in
-    let a = l .before .before .before .before .args in
-    walk-ends (a .w .now) (a .p) (a .held) (a .first) (l .loop .k) (l .loop .before) _ (l .loop .off) (l .loop .unmet) (l .loop .inv) (al .loop-test .left) (ap (λ (j : ℕ). word (a .w .now) (j + a .p)) (pa .part-at .ensures)) (e .if2 .left) (c .are-zero .result) (c .are-zero .ensures)
+    let s = l .before .before .before .before in
+    let a = s .args in
+    walk-ends (a .w .now) (a .p) (a .held) (a .first) (l .loop .k) (l .loop .before) (t .last-word .result) (l .loop .off) (l .loop .unmet) (l .loop .inv) (al .loop-test .left)
+    (last-is (a .w .now) (a .p) (pa .part-at .result) (t .last-word .result) (pa .part-at .ensures) (t .last-word .ensures) (s .pre .4)) (e .if2 .left) (c .are-zero .result) (c .are-zero .ensures)
 
 pub are-kept-sound-spec : {M : Type 1} → statement M
 are-kept-sound-spec =
@@ -87,6 +93,7 @@ are-kept-sound-spec =
     (λ c. search needs)
     (λ c. search needs)
     (λ c. search needs)
+    (λ c κs. search needs)
     returns-2
     (λ c κs. search needs)
     returns-3)

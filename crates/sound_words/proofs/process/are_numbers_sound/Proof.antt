@@ -6,14 +6,15 @@ use Rattle.sound_words.proofs.process.are_numbers_sound.Tie as tie
 
 returns : tie.Need-returns
 returns c = let pa = c .before in
-    let oa = pa .before .before in
+    let l = pa .before in
+    let oa = l .before .before in
     let ba = oa .before .before in
     let n = ba .before in
     let ha = n .before .before in
     let s = ha .before .before in
     let a = s .args in
-    numbers-are (a .w .now) (a .p) (a .n) (n .number-of .result) (ha .held-at .result) (ba .blocks-at .result) (oa .part-at .result) (pa .pins-at .result)
-    (ha .held-at .ensures) (n .number-of .ensures) (ba .blocks-at .ensures) (oa .part-at .ensures) (pa .pins-at .ensures) (s .pre .1)
+    numbers-are (a .w .now) (a .p) (a .n) (n .number-of .result) (ha .held-at .result) (ba .blocks-at .result) (oa .part-at .result) (l .last-word .result) (pa .pins-at .result)
+    (ha .held-at .ensures) (n .number-of .ensures) (ba .blocks-at .ensures) (oa .part-at .ensures) (l .last-word .ensures) (pa .pins-at .ensures) (s .pre .1)
 
 pub are-numbers-sound-spec : {M : Type 1} → statement M
 are-numbers-sound-spec =
@@ -30,6 +31,7 @@ are-numbers-sound-spec =
     (λ c. search needs)
     (λ c. search needs)
     (λ c. search needs)
+    (λ c κs. search needs)
     (λ c κs. search needs)
     (λ c. search needs)
     (λ c. search needs)

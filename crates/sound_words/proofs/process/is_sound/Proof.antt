@@ -4,7 +4,7 @@ use Prim.Native.Nat.{ℕ, _-_}
 use native.Mathlib.Omega.{arith}
 use mathlib.Core.Path.{_≡_, _∙_, ap}
 use Rattle.words.specs.Layout.{word, heldAt}
-use Rattle.sound_words.proofs.Judging.{numbers-fail, process-whole, numbers-few}
+use Rattle.sound_words.proofs.Judging.{numbers-fail, process-whole, numbers-few, numbers-own}
 use Rattle.sound_words.proofs.process.is_sound.Statement.{statement}
 use Rattle.sound_words.proofs.process.is_sound.Tie as tie
 
@@ -22,8 +22,13 @@ are-kept-sound-requires c κs = let ha = c .before .before in
     let m = r .before .before in
     let s = m .before .before in
     let a = s .args in
-    let held : c .number-of .result ≡ word (a .w .now) (heldAt (a .p)) = c .number-of .ensures ∙ ap (λ (j : ℕ). word (a .w .now) j) (ha .held-at .ensures) in
-    (s .pre .0 .sized, search needs, omega (arith, numbers-few (a .w .now) (a .p) (a .n) (m .are-numbers-sound .result) (m .are-numbers-sound .ensures) (r .before .if1 .left) (s .pre .0 .counted) (s .pre .0 .few)), s .pre .0 .limits)
+    let held : c .number-of .result ≡ word (a .w .now) (heldAt (a .p)) = c .number-of .ensures ∙ ap (λ (j : ℕ). word (a .w .now) j) (ha .held-at .ensures) in (
+      s .pre .0 .sized,
+      search needs,
+      omega (arith, numbers-few (a .w .now) (a .p) (a .n) (m .are-numbers-sound .result) (m .are-numbers-sound .ensures) (r .before .if1 .left) (s .pre .0 .counted) (s .pre .0 .few)),
+      s .pre .0 .limits,
+      numbers-own (a .w .now) (a .p) (m .are-numbers-sound .result) (m .are-numbers-sound .ensures) (r .before .if1 .left),
+    )
 
 returns-2 : tie.Need-returns-2
 returns-2 c = let n = c .before in
