@@ -1,0 +1,25 @@
+-- `process_words::disk::bill` meets its contract. Assumes nothing.
+use mathlib.Core.Path.{_∙_}
+use Rattle.words.proofs.Frames.{disk-then}
+use borrow.Author.Needs.{needs}
+use Rattle.process_words.proofs.disk.bill.Statement.{statement}
+use Rattle.process_words.proofs.disk.bill.Tie as tie
+
+bill-stored-requires : tie.Need-bill-stored-requires
+bill-stored-requires c κs = search needs
+
+bill-deleted-requires : tie.Need-bill-deleted-requires
+bill-deleted-requires c κs = search needs
+
+same-length : tie.Need-same-length
+same-length c = search needs
+
+returns : tie.Need-returns
+returns c =
+    let s = c .before .before .before .before .before .before .before .before .before in
+    let a = c .before .before .before .before .before .before .bill-stored .ensures in
+    let b = c .before .before .bill-deleted .ensures in
+    (disk-then (s .args .w .now) _ _ (a .0) (b .0), (b .1 .0 ∙ a .1 .0, rw (← a .1 .1) (b .1 .1)))
+
+pub bill-spec : {M : Type 1} → statement M
+bill-spec = tie.close (tie.spec bill-stored-requires bill-deleted-requires same-length returns)

@@ -1,0 +1,93 @@
+-- `process_words::kept::first_unnamed` meets its contract. Assumes nothing.
+use mathlib.Core.Path.{_≡_, sym, _∙_}
+use native.Mathlib.Omega.{arith}
+use mathlib.Core.Bool.{true}
+use mathlib.Core.List.{List}
+use Prim.Native.Nat.{ℕ, _≤_, _<_, _-_, _+_}
+use borrow.Author.Tests.{not-false}
+use Rattle.laws.specs.Choice.{by-eq}
+use Rattle.model.specs.declared.Pin.{Pin}
+use Rattle.model.specs.Words.{named}
+use Rattle.words.specs.Layout.{word, indexAt, checkpointIn}
+use Rattle.process_words.specs.Kept.{Used, AllNamed}
+use Rattle.process_words.specs.Pins.{pinRow}
+use Rattle.process_words.proofs.Collecting.{named-is}
+use borrow.Author.Needs.{needs}
+use Rattle.process_words.proofs.kept.first_unnamed.Statement.{statement}
+use Rattle.process_words.proofs.kept.first_unnamed.Tie as tie
+
+used-at : (w : List ℕ) (p n : ℕ) → Used w p n → (k : ℕ) → k < n → 1 ≤ word w (indexAt p k)
+unfolding Used
+used-at w p n used k lt = used k lt
+
+one-more : (w : List ℕ) (p : ℕ) (pins : List Pin) (n : ℕ) → AllNamed w p pins n → named pins (checkpointIn w p n) ≡ true → AllNamed w p pins (n + 1)
+unfolding AllNamed
+one-more w p pins n all e k lt = by-eq k n (λ q. rw q e) (λ ne. all k (omega arith))
+
+abbrev Inv-loop : tie.InvT-loop
+Inv-loop w p from held pins k₀ k = (from ≤ k) × (k ≤ held) × AllNamed w p (pinRow pins) k
+
+abbrev μ-loop : tie.MeasureT-loop
+μ-loop w p from held pins k₀ k = held - k
+
+loop-holds : tie.Need-loop-holds Inv-loop μ-loop
+loop-holds c = (search needs, search needs, c .before .pre .5)
+
+mul-is-named : tie.Need-mul-is-named Inv-loop μ-loop
+mul-is-named c = search needs
+
+add-is-named : tie.Need-add-is-named Inv-loop μ-loop
+add-is-named c = search needs
+
+add-is-named-2 : tie.Need-add-is-named-2 Inv-loop μ-loop
+add-is-named-2 c = search needs
+
+mul-is-named-2 : tie.Need-mul-is-named-2 Inv-loop μ-loop
+mul-is-named-2 c = search needs
+
+shared-slice-read-is-named : tie.Need-shared-slice-read-is-named Inv-loop μ-loop
+shared-slice-read-is-named c = search needs
+
+is-named-requires : tie.Need-is-named-requires Inv-loop μ-loop
+is-named-requires c κs = used-at (c .before .before .before .before .args .w .now) (c .before .before .before .before .args .p) _ (c .before .before .before .before .pre .4) (c .before .before .loop .k) (omega arith)
+
+returns : tie.Need-returns Inv-loop μ-loop
+returns c = let l = c .before .before .before .before .loop in (l .inv .0, l .inv .1, l .inv .2)
+
+add-k : tie.Need-add-k Inv-loop μ-loop
+add-k c = search needs
+
+loop-less : tie.Need-loop-less Inv-loop μ-loop
+loop-less c = search needs
+
+loop-again : tie.Need-loop-again Inv-loop μ-loop
+loop-again c =
+    let l = c .before .before .before .before .loop in
+    let s = c .before .before .before .before .before .before in
+    (
+      omega (arith, l .inv .0),
+      search needs,
+      one-more (s .args .w .now) (s .args .p) (pinRow (s .args .pins)) (l .k) (l .inv .2) (named-is (s .args .w .now) (s .args .p) (l .k) (pinRow (s .args .pins)) ∙ sym (c .before .is-named .ensures) ∙ not-false (c .before .is-named .result) (c .if1 .left)),
+    )
+
+returns-2 : tie.Need-returns-2 Inv-loop μ-loop
+returns-2 c = let l = c .before .loop in (l .inv .0, l .inv .1, l .inv .2)
+
+pub first-unnamed-spec : {M : Type 1} → statement M
+first-unnamed-spec =
+    tie.close
+    (tie.spec
+    Inv-loop
+    μ-loop
+    loop-holds
+    mul-is-named
+    add-is-named
+    add-is-named-2
+    mul-is-named-2
+    shared-slice-read-is-named
+    is-named-requires
+    returns
+    add-k
+    loop-less
+    loop-again
+    returns-2)

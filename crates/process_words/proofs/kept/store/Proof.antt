@@ -1,0 +1,89 @@
+-- `process_words::kept::store` meets its contract. Assumes nothing.
+use mathlib.Core.Path.{_∙_, ap}
+use native.Mathlib.Omega.{arith}
+use Prim.Native.Nat.{ℕ}
+use mathlib.Core.List.{[], _∷_}
+use lib.ListN.{set, length-set}
+use Rattle.words.specs.Layout.{indexAt, causeAt, storedAt}
+use Rattle.words.specs.Puts.{puts, vectorPut}
+use Rattle.words.proofs.Reading.{set-is-put}
+use borrow.Author.Needs.{needs}
+use Rattle.process_words.proofs.kept.store.Statement.{statement}
+use Rattle.process_words.proofs.kept.store.Tie as tie
+
+pin-word-requires : tie.Need-pin-word-requires
+pin-word-requires c κs = search needs
+
+mul-w : tie.Need-mul-w
+mul-w c = search needs
+
+add-w : tie.Need-add-w
+add-w c = search needs
+
+add-w-2 : tie.Need-add-w-2
+add-w-2 c = search needs
+
+mul-w-2 : tie.Need-mul-w-2
+mul-w-2 c = search needs
+
+slice-write-w : tie.Need-slice-write-w
+slice-write-w c = search needs
+
+mul-w-3 : tie.Need-mul-w-3
+mul-w-3 c = search needs
+
+add-w-3 : tie.Need-add-w-3
+add-w-3 c = search needs
+
+add-w-4 : tie.Need-add-w-4
+add-w-4 c = search needs
+
+mul-w-4 : tie.Need-mul-w-4
+mul-w-4 c = search needs
+
+slice-write-w-2 : tie.Need-slice-write-w-2
+slice-write-w-2 c = simp length-set (omega arith)
+
+mul-put-vector : tie.Need-mul-put-vector
+mul-put-vector c = search needs
+
+add-put-vector : tie.Need-add-put-vector
+add-put-vector c = search needs
+
+mul-put-vector-2 : tie.Need-mul-put-vector-2
+mul-put-vector-2 c = search needs
+
+add-put-vector-2 : tie.Need-add-put-vector-2
+add-put-vector-2 c = search needs
+
+put-vector-requires : tie.Need-put-vector-requires
+put-vector-requires c κs = simp length-set (omega arith)
+
+same-length : tie.Need-same-length
+same-length c = c .before .before .put-vector .kept .0 ∙ simp length-set
+
+returns : tie.Need-returns
+returns c = c .before .before .put-vector .ensures ∙ ap (λ (x : ℕ). puts (set (set (c .before .before .before .before .before .before .args .w .now) (indexAt (c .before .before .before .before .before .before .args .p) (c .before .before .before .before .before .before .args .k)) x) (causeAt (c .before .before .before .before .before .before .args .p) (c .before .before .before .before .before .before .args .k)) (c .before .before .before .before .before .before .args .cause)) (vectorPut (storedAt (c .before .before .before .before .before .before .args .p) (c .before .before .before .before .before .before .args .k)) (c .before .before .before .before .before .before .args .vector) ∷ [])) (c .before .before .before .before .pin-word .ensures .0) ∙ simp set-is-put
+
+pub store-spec : {M : Type 1} → statement M
+store-spec =
+    tie.close
+    (tie.spec
+    pin-word-requires
+    mul-w
+    add-w
+    add-w-2
+    mul-w-2
+    slice-write-w
+    mul-w-3
+    add-w-3
+    add-w-4
+    mul-w-4
+    slice-write-w-2
+    mul-put-vector
+    add-put-vector
+    mul-put-vector-2
+    add-put-vector-2
+    put-vector-requires
+    same-length
+    returns)

@@ -1,0 +1,26 @@
+-- `process_words::taking_in::bit_if_risen` meets its contract. Assumes nothing.
+use mathlib.Core.Path.{_∙_}
+use native.Mathlib.Omega.{arith}
+use native.Mathlib.Nat.{one-mul}
+use lib.Pow.{shl-exact}
+use borrow.Author.Tests.{lt-ltb, le-ltb}
+use borrow.Author.Needs.{needs}
+use Rattle.process_words.proofs.taking_in.bit_if_risen.Statement.{statement}
+use Rattle.process_words.proofs.taking_in.bit_if_risen.Tie as tie
+
+cast-result : tie.Need-cast-result
+cast-result c = search needs
+
+shl-result : tie.Need-shl-result
+shl-result c = search needs
+
+returns : tie.Need-returns
+returns c =
+    let u = c .before .before .before in
+    rw (lt-ltb _ _ (c .if1 .taken)) (shl-exact {a = 1} 1 (u .args .f) 16 (omega arith) (omega (arith, u .pre)) ∙ one-mul _)
+
+returns-2 : tie.Need-returns-2
+returns-2 c = rw (le-ltb _ _ (c .if1 .left))
+
+pub bit-if-risen-spec : {M : Type 1} → statement M
+bit-if-risen-spec = tie.close (tie.spec cast-result shl-result returns returns-2)

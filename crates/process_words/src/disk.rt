@@ -1,0 +1,42 @@
+// The blocks written and deleted, in four words each.
+use words::places;
+ghost use mathlib.Core.Path.{_≡_};
+ghost use Prim.Native.Nat.{_+_, _*_, _≤_};
+ghost use lib.ListN.{length};
+ghost use Rattle.laws.specs.Choice.{pick};
+ghost use Rattle.words.specs.Frames.{OnlyDisk};
+ghost use Rattle.words.specs.Layout.{wide4};
+
+// A checkpoint of `blocks` blocks is stored if `stores`.
+fn bill_stored(w: &mut [u16], stores: bool, blocks: u16)
+    requires { ⌜ (length (now w) ≡ 6464) × (wide4 (now w) 4 ≤ 1000000000000000) ⌝ }
+    ensures { λ u. ⌜ OnlyDisk (now (w .entry)) (now (w .exit)) ⌝ }
+    ensures { λ u. ⌜ (wide4 (now (w .exit)) 4 ≡ wide4 (now (w .entry)) 4 + pick stores blocks 0) × (wide4 (now (w .exit)) 8 ≡ wide4 (now (w .entry)) 8) ⌝ }
+{
+    if stores {
+        let written = words::wide4(w, places::WRITTEN);
+        words::put4(w, places::WRITTEN, written + blocks as u64);
+    }
+}
+
+// `gone` checkpoints of `blocks` blocks each are deleted.
+fn bill_deleted(w: &mut [u16], gone: usize, blocks: u16)
+    requires { ⌜ (length (now w) ≡ 6464) × (wide4 (now w) 8 ≤ 1000000000000000) × (gone ≤ 256) ⌝ }
+    ensures { λ u. ⌜ OnlyDisk (now (w .entry)) (now (w .exit)) ⌝ }
+    ensures { λ u. ⌜ (wide4 (now (w .exit)) 4 ≡ wide4 (now (w .entry)) 4) × (wide4 (now (w .exit)) 8 ≡ wide4 (now (w .entry)) 8 + gone * blocks) ⌝ }
+{
+    if 0 < gone {
+        let less = words::wide4(w, places::DELETED);
+        words::put4(w, places::DELETED, less + gone as u64 * blocks as u64);
+    }
+}
+
+// One more is stored if `stores`, and `gone` are deleted.
+pub fn bill(w: &mut [u16], stores: bool, gone: usize, blocks: u16)
+    requires { ⌜ (length (now w) ≡ 6464) × (wide4 (now w) 4 ≤ 1000000000000000) × (wide4 (now w) 8 ≤ 1000000000000000) × (gone ≤ 256) ⌝ }
+    ensures { λ u. ⌜ OnlyDisk (now (w .entry)) (now (w .exit)) ⌝ }
+    ensures { λ u. ⌜ (wide4 (now (w .exit)) 4 ≡ wide4 (now (w .entry)) 4 + pick stores blocks 0) × (wide4 (now (w .exit)) 8 ≡ wide4 (now (w .entry)) 8 + gone * blocks) ⌝ }
+{
+    bill_stored(w, stores, blocks);
+    bill_deleted(w, gone, blocks);
+}

@@ -1,0 +1,16 @@
+// One process's part of the words: its vector, its pins and the checkpoints that it keeps, as a checkpoint and a receipt leave them.
+
+// pins.rt: the pins of one process
+pub mod pins;
+
+// taking_in.rt: a vector takes a carried one in
+pub mod taking_in;
+
+// kept.rt: the checkpoints that one process keeps
+pub mod kept;
+
+// disk.rt: the blocks written and deleted
+pub mod disk;
+
+// step.rt: a checkpoint and a receipt
+pub mod step;
