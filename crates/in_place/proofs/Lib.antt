@@ -1,6 +1,9 @@
 -- Laws that belong to no one function.
+pub mod Checkpointing
+pub mod Delivering
 pub mod Judging
 pub mod Leaving
 pub mod Losing
+pub mod Moving
 pub mod Sending
 pub mod Starting

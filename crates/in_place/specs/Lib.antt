@@ -1,3 +1,4 @@
 pub mod Left
 pub mod Sending
 pub mod Starting
+pub mod Storing

@@ -4,6 +4,9 @@
 // start.rt: the first state of a run
 pub mod start;
 
+// checkpoint.rt: a checkpoint is stored, and what no pin names any more is deleted
+pub mod checkpoint;
+
 // send.rt: a message is sent
 pub mod send;
 

@@ -1,0 +1,155 @@
+-- A message that reaches its receiver: the receipt changes the receiver's part and the blocks, then the message is taken out of its place.
+-- Assumes nothing.
+use mathlib.Core.Path.{_≡_, sym, _∙_, ap}
+use mathlib.Core.Bool.{true, false, not}
+use mathlib.Core.List.{List}
+use mathlib.Core.Option.{none, some}
+use Prim.Native.Nat.{ℕ, suc, _*_, _≤_, _<_}
+use native.Mathlib.Omega.{arith}
+use lib.Dec.{eqb, ltb}
+use lib.ListN.{length}
+use Rattle.laws.specs.Choice.{pick, by-bool, by-eq}
+use Rattle.laws.specs.Lists.{select}
+use Rattle.laws.specs.Rows.{by-lt}
+use Rattle.model.specs.declared.Disk.{Disk}
+use Rattle.model.specs.declared.Message.{Message}
+use Rattle.model.specs.declared.Run.{Run}
+use Rattle.model.specs.Words.{Process, process, withProcess, withMessages, withDisk}
+use Rattle.model.specs.Steps.{found, others, forces}
+use Rattle.model.specs.Sound.{sound}
+use Rattle.model.specs.Refusals.{firstOf, forcesPast, forcesOver, atLastInterval, pastBlocks, deliverRefusal}
+use Rattle.verdicts.specs.Verdicts.{refusalOf}
+use Rattle.words.specs.Frames.{OnlyMessages}
+use Rattle.words.specs.Layout.{word, wide2, countOf, endOf, fits, messageIn, isMessage, messagesIn, runOf}
+use Rattle.words.proofs.Frames.{process-head, process-mail}
+use Rattle.words.proofs.View.{count-is, last-is, fits-size}
+use Rattle.words.proofs.ViewChange.{with-messages, process-fits, disk-fits, mail-same, messages-same}
+use Rattle.words.proofs.ViewClean.{clean-messages}
+use Rattle.words.proofs.ViewSound.{SoundWords, sound-words}
+use Rattle.message_words.specs.Places.{placeOf, takenOut}
+use Rattle.message_words.proofs.Selected.{messageAt, is-one}
+use Rattle.message_words.proofs.Taken.{taken-length, taken-count, taken-rest, taken-fits, taken-others, taken-many}
+use Rattle.message_words.proofs.Zeros.{clean-taken}
+use Rattle.process_words.specs.Moves.{Moves}
+use Rattle.in_place.specs.Left.{Leaves}
+use Rattle.in_place.specs.Storing.{storingVerdict}
+use Rattle.in_place.proofs.Checkpointing.{either-way}
+use Rattle.in_place.proofs.Losing.{found-is, some-number, place-in, its-number}
+use Rattle.in_place.proofs.Moving.{moved-run, moved-leaves}
+
+module _ (w : List ℕ) (h : sound (runOf w) ≡ true) (m k : ℕ) (e : placeOf w m ≡ suc k) where
+  abbrev s : Run
+  s = runOf w
+
+  known : SoundWords w
+  known = sound-words w h
+
+  -- The message in the place is the one that was looked up, and its receiver is in the run.
+  pub found-there : found s m ≡ some (messageIn w k)
+  unfolding messageAt
+  found-there = found-is w h m ∙ ap (messageAt w) e
+
+  used : isMessage (messageIn w k) ≡ true
+  used = is-one (messageIn w k) m (some-number w h m k e) (its-number w h m k e)
+
+  alone : (j : ℕ) → j < endOf w → messageIn w j .number ≡ m → j ≡ k
+  alone j lt q =
+      let is = is-one (messageIn w j) m (some-number w h m k e) q in
+      by-lt j k
+      (λ less. absurd (let z = known .ascend j k less (place-in w h m k e) is used in omega (arith, its-number w h m k e)))
+      (λ more. by-eq j k (λ r. r) (λ ne. absurd (let z = known .ascend k j (omega arith) lt used is in omega (arith, its-number w h m k e))))
+
+  pub receiver-in : messageIn w k .receiver < countOf w
+  receiver-in = known .message k (place-in w h m k e) used .to
+
+  -- Which delivery is refused, once the lent list is long enough.
+  pub delivery-judged : (l : List ℕ) → ltb (length l) (2 * countOf w * countOf w) ≡ false
+      → deliverRefusal s m l ≡ pick (forces (process s (messageIn w k .receiver)) (messageIn w k .vector)) (refusalOf (storingVerdict s (messageIn w k .receiver))) none
+  unfolding deliverRefusal firstOf forcesPast forcesOver storingVerdict refusalOf
+  delivery-judged l enough = rw (h, short-none, found-there) (by-bool (forces (process s (messageIn w k .receiver)) (messageIn w k .vector))
+      (λ f. rw f (either-way (atLastInterval s (messageIn w k .receiver)) (pastBlocks s (messageIn w k .receiver))))
+      (λ f. rw f))
+    where
+      short-none : ltb (length l) (2 * s .count * s .count) ≡ false
+      short-none = ap (λ (n : ℕ). ltb (length l) (2 * n * n)) (count-is w (known .fit)) ∙ enough
+
+  -- After the receipt the message is taken out.
+  module _ (P : Process) (d : Disk) (v : List ℕ) (move : Moves w (messageIn w k .receiver) P d v) where
+    abbrev i : ℕ
+    i = messageIn w k .receiver
+
+    room : i < 16
+    room = omega (arith, receiver-in, known .few)
+
+    mail : (q : ℕ) → 5184 ≤ q → word v q ≡ word w q
+    mail q low = move .disk .rest q (omega arith) ∙ process-mail w (move .between) i (move .process) room q low
+
+    head : (q : ℕ) → q < 4 → word v q ≡ word w q
+    head q less = move .disk .front q less ∙ process-head w (move .between) i (move .process) q (omega arith)
+
+    end : endOf v ≡ endOf w
+    end = move .disk .rest 12 (omega arith) ∙ process-head w (move .between) i (move .process) 12 (omega arith)
+
+    fit : fits v ≡ true
+    fit = disk-fits (move .between) v (move .disk) (process-fits w (move .between) i (known .fit) receiver-in (known .few) (move .process))
+
+    pub move-size : length v ≡ 6464
+    move-size = fits-size v fit
+
+    pub move-end : endOf v ≤ 64
+    move-end = omega (arith, end, known .end)
+
+    pub move-place : k < endOf v
+    move-place = omega (arith, end, place-in w h m k e)
+
+    same-number : messageIn v k .number ≡ m
+    same-number = ap (λ (x : Message). x .number) (mail-same w v end mail k) ∙ its-number w h m k e
+
+    only-one : (j : ℕ) → j < endOf v → messageIn v j .number ≡ m → j ≡ k
+    only-one j less q = alone j (omega (arith, end)) (ap (λ (x : Message). x .number) (sym (mail-same w v end mail j)) ∙ q)
+
+    abbrev y : List ℕ
+    y = takenOut v k
+
+    many : length (messagesIn v) ≡ suc (length (messagesIn y))
+    many = taken-many v move-size move-end k move-place m (some-number w h m k e) same-number only-one
+
+    pub move-one : 1 ≤ word v 1
+    move-one = omega (arith, head 1 (omega arith), known .counted, ap length (messages-same w v end mail), many)
+
+    only : OnlyMessages v y
+    only = record {
+      size = taken-length v move-size move-end k move-place;
+      count = taken-rest v move-size move-end k move-place 0 (omega arith) (λ q. omega arith) (λ q. omega arith);
+      disk = λ q low high. taken-rest v move-size move-end k move-place q (omega arith) (λ z. omega arith) (λ z. omega arith);
+      rest = λ q low high. taken-rest v move-size move-end k move-place q high (λ z. omega arith) (λ z. omega arith);
+    }
+
+    counted : word y 1 ≡ length (messagesIn y)
+    counted = omega (arith, taken-count v move-size move-end k move-place, head 1 (omega arith), known .counted, ap length (messages-same w v end mail), many)
+
+    left : messagesIn y ≡ others s m
+    unfolding others
+    left = taken-others v move-size move-end k move-place m (some-number w h m k e) same-number only-one
+        ∙ ap (select (λ x. not (eqb (x .number) m))) (messages-same w v end mail ∙ sym (known .under-way))
+
+    last-stays : wide2 y 2 ≡ s .last
+    last-stays = rw (
+      taken-rest v move-size move-end k move-place 2 (omega arith) (λ q. omega arith) (λ q. omega arith),
+      taken-rest v move-size move-end k move-place 3 (omega arith) (λ q. omega arith) (λ q. omega arith),
+      head 2 (omega arith),
+      head 3 (omega arith),
+    ) (sym (last-is w (known .fit)))
+
+    pub delivered-run : runOf y ≡ withDisk (withMessages (withProcess s i P) (others s m) (s .last)) d
+    unfolding withMessages withDisk
+    delivered-run = with-messages v y only fit (taken-fits v move-size move-end k move-place) counted
+        ∙ (λ j. withMessages (moved-run w v i P d (known .fit) receiver-in (known .few) move j) (left j) (last-stays j))
+
+    pub delivered-leaves : Leaves w y
+    delivered-leaves =
+        let a = moved-leaves w v i P d (known .fit) receiver-in (known .few) move in
+        record {
+          size = only .size ∙ a .size;
+          clean = λ c. let b = a .clean c in clean-messages v y (omega (arith, head 0 (omega arith), known .few)) only (clean-taken v move-size move-end k move-place (b .messages)) b;
+        }

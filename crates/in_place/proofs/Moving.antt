@@ -1,0 +1,24 @@
+-- Words in which one process and the blocks have changed: the run that they stand for, and that unused places stay zero.
+-- Assumes nothing.
+use mathlib.Core.Path.{_≡_, _∙_, ap}
+use mathlib.Core.Bool.{true}
+use mathlib.Core.List.{List}
+use Prim.Native.Nat.{ℕ, _≤_, _<_}
+use Rattle.model.specs.declared.Disk.{Disk}
+use Rattle.model.specs.Words.{Process, withProcess, withDisk}
+use Rattle.words.specs.Layout.{countOf, fits, runOf}
+use Rattle.words.proofs.ViewChange.{with-process, with-disk, process-fits}
+use Rattle.words.proofs.ViewClean.{clean-process, clean-disk}
+use Rattle.process_words.specs.Moves.{Moves}
+use Rattle.in_place.specs.Left.{Leaves}
+
+module _ (w v : List ℕ) (i : ℕ) (P : Process) (d : Disk) (fit : fits w ≡ true) (lt : i < countOf w) (few : countOf w ≤ 16) (m : Moves w i P d v) where
+  pub moved-run : runOf v ≡ withDisk (withProcess (runOf w) i P) d
+  moved-run = with-disk (m .between) v (m .disk) (process-fits w (m .between) i fit lt few (m .process))
+      ∙ (λ j. withDisk ((with-process w (m .between) i fit lt few (m .process) (m .held) ∙ ap (withProcess (runOf w) i) (m .part)) j) (m .blocks j))
+
+  pub moved-leaves : Leaves w v
+  moved-leaves = record {
+    size = m .disk .size ∙ m .process .size;
+    clean = λ c. clean-disk (m .between) v (m .disk) (clean-process w (m .between) i lt few (m .process) (m .clean (c .kept i lt)) c);
+  }

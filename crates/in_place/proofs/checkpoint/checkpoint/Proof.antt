@@ -1,0 +1,49 @@
+-- `in_place::checkpoint::checkpoint` meets its contract. Assumes nothing.
+use mathlib.Core.Path.{refl}
+use Rattle.words.specs.Layout.{runOf}
+use Rattle.whole_runs.proofs.Unsound.{is-sound, is-unsound, checkpoint-unsound}
+use Rattle.whole_runs.proofs.WholeRuns.{checkpoint-promise}
+use Rattle.in_place.proofs.Leaving.{same-words}
+use borrow.Author.Needs.{needs}
+use Rattle.in_place.proofs.checkpoint.checkpoint.Statement.{statement}
+use Rattle.in_place.proofs.checkpoint.checkpoint.Tie as tie
+
+is-sound-requires : tie.Need-is-sound-requires
+is-sound-requires c κs = search needs
+
+same-length : tie.Need-same-length
+same-length c = search needs
+
+returns : tie.Need-returns
+returns c =
+    let k = c .before in
+    let a = c .before .before .before .before .before .args in
+    let g = checkpoint-unsound (runOf (a .w .now)) (is-unsound (runOf (a .w .now)) (k .is-sound .ensures) (c .if1 .taken)) (a .i) (a .deleted .now) in
+    (g .0, (g .1 .0, (g .1 .1, (λ why q. refl, (same-words (a .w .now), checkpoint-promise (runOf (a .w .now)) (a .i) (a .deleted .now) (runOf (a .w .now)) (g .0))))))
+
+checkpoint-on-requires : tie.Need-checkpoint-on-requires
+checkpoint-on-requires c κs = is-sound (runOf (c .before .before .before .before .before .before .before .args .w .now)) (c .before .before .before .is-sound .ensures) (c .before .before .if1 .left)
+
+same-length-2 : tie.Need-same-length-2
+same-length-2 c = search needs
+
+same-length-3 : tie.Need-same-length-3
+same-length-3 c = search needs
+
+returns-2 : tie.Need-returns-2
+returns-2 c =
+    let t = c .before .before .before .before .checkpoint-on .ensures in
+    let a = c .before .before .before .before .before .before .before .before .before .before .before .before .args in
+    (t .0, (t .1 .0, (t .1 .1 .0, (t .1 .1 .1 .0, (t .1 .1 .1 .1, checkpoint-promise (runOf (a .w .now)) (a .i) (a .deleted .now) _ (t .0))))))
+
+pub checkpoint-spec : {M : Type 1} → statement M
+checkpoint-spec =
+    tie.close
+    (tie.spec
+    is-sound-requires
+    same-length
+    returns
+    checkpoint-on-requires
+    same-length-2
+    same-length-3
+    returns-2)

@@ -1,0 +1,63 @@
+-- `in_place::checkpoint::storing_verdict` meets its contract. Assumes nothing.
+use mathlib.Core.Path.{_≡_, sym, _∙_, ap}
+use native.Mathlib.Omega.{arith}
+use mathlib.Core.Bool.{true, false}
+use Prim.Native.Nat.{ℕ, _<_}
+use lib.Dec.{leb}
+use lib.ListN.{length}
+use Rattle.model.specs.declared.Interval.{Interval}
+use Rattle.verdicts.specs.Verdicts.{pastMost}
+use Rattle.words.specs.Layout.{word, blocksAt}
+use Rattle.words.proofs.ViewSound.{sound-words}
+use Rattle.in_place.proofs.Checkpointing.{verdict-last, verdict-past}
+use borrow.Author.Needs.{needs}
+use Rattle.in_place.proofs.checkpoint.storing_verdict.Statement.{statement}
+use Rattle.in_place.proofs.checkpoint.storing_verdict.Tie as tie
+
+known : (c : tie.Start) → (length (c .args .w .now) ≡ 6464) × (c .args .i < 16)
+known c = let h = sound-words (c .args .w .now) (c .pre .0) in (h .size, omega (arith, h .few, c .pre .1))
+
+own-of-requires : tie.Need-own-of-requires
+own-of-requires c κs = known (c .before)
+
+is-last-interval-requires : tie.Need-is-last-interval-requires
+is-last-interval-requires c κs = search needs
+
+returns : tie.Need-returns
+returns c = let s = c .before .before .before .before in verdict-last (s .args .w .now) (s .pre .0) (s .args .i) (s .pre .1) (sym (c .before .is-last-interval .ensures ∙ ap (λ (x : Interval). leb 65535 (x .0)) (c .before .before .own-of .ensures)) ∙ c .if1 .taken)
+
+wide4-requires : tie.Need-wide4-requires
+wide4-requires c κs = omega (arith, known (c .before .before .before .before) .0)
+
+add-is-past-bound : tie.Need-add-is-past-bound
+add-is-past-bound c = let k = known (c .before .before .before .before .before) in search needs
+
+mul-is-past-bound : tie.Need-mul-is-past-bound
+mul-is-past-bound c = let k = known (c .before .before .before .before .before) in search needs
+
+shared-slice-read-is-past-bound : tie.Need-shared-slice-read-is-past-bound
+shared-slice-read-is-past-bound c = let k = known (c .before .before .before .before .before .before) in omega (arith, k .0, k .1)
+
+is-past-bound-requires : tie.Need-is-past-bound-requires
+is-past-bound-requires c κs = search needs
+
+returns-2 : tie.Need-returns-2
+returns-2 c = let s = c .before .before .before .before .before .before .before .before in verdict-past (s .args .w .now) (s .pre .0) (s .args .i) (s .pre .1) (sym (c .before .before .before .before .before .is-last-interval .ensures ∙ ap (λ (x : Interval). leb 65535 (x .0)) (c .before .before .before .before .before .before .own-of .ensures)) ∙ c .before .before .before .before .if1 .left) true (sym (c .before .is-past-bound .ensures ∙ ap (λ (x : ℕ). pastMost x (word (s .args .w .now) (blocksAt (s .args .i)))) (c .before .before .before .wide4 .ensures)) ∙ c .if2 .taken)
+
+returns-3 : tie.Need-returns-3
+returns-3 c = let s = c .before .before .before .before .before .before .before .before in verdict-past (s .args .w .now) (s .pre .0) (s .args .i) (s .pre .1) (sym (c .before .before .before .before .before .is-last-interval .ensures ∙ ap (λ (x : Interval). leb 65535 (x .0)) (c .before .before .before .before .before .before .own-of .ensures)) ∙ c .before .before .before .before .if1 .left) false (sym (c .before .is-past-bound .ensures ∙ ap (λ (x : ℕ). pastMost x (word (s .args .w .now) (blocksAt (s .args .i)))) (c .before .before .before .wide4 .ensures)) ∙ c .if2 .left)
+
+pub storing-verdict-spec : {M : Type 1} → statement M
+storing-verdict-spec =
+    tie.close
+    (tie.spec
+    own-of-requires
+    is-last-interval-requires
+    returns
+    wide4-requires
+    add-is-past-bound
+    mul-is-past-bound
+    shared-slice-read-is-past-bound
+    is-past-bound-requires
+    returns-2
+    returns-3)
