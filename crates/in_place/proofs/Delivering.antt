@@ -1,7 +1,7 @@
 -- A message that reaches its receiver: the receipt changes the receiver's part and the blocks, then the message is taken out of its place.
 -- Assumes nothing.
 use mathlib.Core.Path.{_≡_, sym, _∙_, ap}
-use mathlib.Core.Bool.{true, false, not}
+use mathlib.Core.Bool.{Bool, true, false, not}
 use mathlib.Core.List.{List}
 use mathlib.Core.Option.{none, some}
 use Prim.Native.Nat.{ℕ, suc, _*_, _≤_, _<_}
@@ -14,26 +14,29 @@ use Rattle.laws.specs.Rows.{by-lt}
 use Rattle.model.specs.declared.Disk.{Disk}
 use Rattle.model.specs.declared.Message.{Message}
 use Rattle.model.specs.declared.Run.{Run}
-use Rattle.model.specs.Words.{Process, process, withProcess, withMessages, withDisk}
-use Rattle.model.specs.Steps.{found, others, forces}
+use Rattle.model.specs.Words.{forced, Process, blockCount, blocksOf, process, withProcess, withMessages, withDisk}
+use Rattle.model.specs.Steps.{found, others, forces, settled, gone, deletions, billed, checkpointed, takenIn, delivered, deliverState, deliverDeletions}
 use Rattle.model.specs.Sound.{sound}
 use Rattle.model.specs.Refusals.{firstOf, forcesPast, forcesOver, atLastInterval, pastBlocks, deliverRefusal}
 use Rattle.verdicts.specs.Verdicts.{refusalOf}
 use Rattle.words.specs.Frames.{OnlyMessages}
-use Rattle.words.specs.Layout.{word, wide2, countOf, endOf, fits, messageIn, isMessage, messagesIn, runOf}
+use Rattle.words.specs.Layout.{word, blocksAt, wide2, countOf, endOf, fits, messageIn, isMessage, messagesIn, runOf}
 use Rattle.words.proofs.Frames.{process-head, process-mail}
 use Rattle.words.proofs.View.{count-is, last-is, fits-size}
 use Rattle.words.proofs.ViewChange.{with-messages, process-fits, disk-fits, mail-same, messages-same}
 use Rattle.words.proofs.ViewClean.{clean-messages}
-use Rattle.words.proofs.ViewSound.{SoundWords, sound-words}
+use Rattle.words.proofs.ViewSound.{SoundWords, sound-words, sound-process-is}
 use Rattle.message_words.specs.Places.{placeOf, takenOut}
 use Rattle.message_words.proofs.Selected.{messageAt, is-one}
 use Rattle.message_words.proofs.Taken.{taken-length, taken-count, taken-rest, taken-fits, taken-others, taken-many}
 use Rattle.message_words.proofs.Zeros.{clean-taken}
-use Rattle.process_words.specs.Moves.{Moves}
+use Rattle.process_words.specs.Moves.{diskIn, Moves}
+use Rattle.process_words.specs.Steps.{received}
+use Rattle.process_words.proofs.Stepping.{block-count}
+use Rattle.words.specs.Parts.{processIn}
 use Rattle.in_place.specs.Left.{Leaves}
 use Rattle.in_place.specs.Storing.{storingVerdict}
-use Rattle.in_place.proofs.Checkpointing.{either-way}
+use Rattle.in_place.proofs.Checkpointing.{disk-is, either-way}
 use Rattle.in_place.proofs.Losing.{found-is, some-number, place-in, its-number}
 use Rattle.in_place.proofs.Moving.{moved-run, moved-leaves}
 
@@ -72,6 +75,33 @@ module _ (w : List ℕ) (h : sound (runOf w) ≡ true) (m k : ℕ) (e : placeOf 
     where
       short-none : ltb (length l) (2 * s .count * s .count) ≡ false
       short-none = ap (λ (n : ℕ). ltb (length l) (2 * n * n)) (count-is w (known .fit)) ∙ enough
+
+  -- The state after an accepted delivery, by whether a checkpoint is forced.
+  module _ (stores : Bool) (f : forces (process s (messageIn w k .receiver)) (messageIn w k .vector) ≡ stores) where
+    abbrev to : ℕ
+    to = messageIn w k .receiver
+
+    abbrev Q : Process
+    Q = received to stores (messageIn w k .vector) (processIn w to)
+
+    same : process s to ≡ processIn w to
+    same = sound-process-is w h to receiver-in
+
+    pub delivered-is : delivered to (messageIn w k .vector) (process s to) ≡ Q
+    unfolding delivered received
+    delivered-is = (λ j. takenIn to (messageIn w k .vector) (pick (f j) (checkpointed forced to (process s to)) (process s to)))
+        ∙ ap (λ (P : Process). takenIn to (messageIn w k .vector) (pick stores (checkpointed forced to P) P)) same
+
+    pub delivered-state : deliverState s (messageIn w k)
+        ≡ withDisk (withMessages (withProcess s to (settled Q)) (others s m) (s .last)) (billed (diskIn w) (pick stores (word w (blocksAt to)) 0) (blocksOf (gone Q)))
+    unfolding deliverState
+    delivered-state = (λ j. withDisk (withMessages (withProcess s to (settled (delivered-is j))) (others s (its-number w h m k e j)) (s .last))
+        (billed (disk-is w h j) (pick (f j) (blockCount (same j)) 0) (blocksOf (gone (delivered-is j)))))
+        ∙ ap (λ (n : ℕ). withDisk (withMessages (withProcess s to (settled Q)) (others s m) (s .last)) (billed (diskIn w) (pick stores n 0) (blocksOf (gone Q)))) (block-count w h to receiver-in)
+
+    pub delivered-deletions : deliverDeletions s (messageIn w k) ≡ deletions to Q
+    unfolding deliverDeletions
+    delivered-deletions = ap (deletions to) delivered-is
 
   -- After the receipt the message is taken out.
   module _ (P : Process) (d : Disk) (v : List ℕ) (move : Moves w (messageIn w k .receiver) P d v) where
