@@ -99,7 +99,6 @@ module _ (w : List ℕ) (h : sound (runOf w) ≡ true) (i : ℕ) (l : List ℕ) 
       judged : checkpointRefusal s i l ≡ refusalOf (storingVerdict s i)
       unfolding checkpointRefusal firstOf storingVerdict refusalOf
       judged = rw (h, short-none, present) (either-way (atLastInterval s i) (pastBlocks s i))
-
         where
           short-none : shortDeletions s l ≡ false
           short-none = ap (λ (n : ℕ). ltb (length l) (2 * n * n)) count ∙ enough

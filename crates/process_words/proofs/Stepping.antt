@@ -234,12 +234,15 @@ module _ (w : List ℕ) (h : sound (runOf w) ≡ true) (i : ℕ) (lt : i < count
       let here = rw (getD-table (word w (heldAt i)) (checkpointIn w i) k noCheckpoint (omega arith)) at one in
       let found = some-where (λ pin. names pin (checkpointIn w i k .index)) (P .pins) Nothing here in
       let f = found .0 in
-      let small : f < 16 = omega (arith, found .1, pins-length w (pinsAt i)) in
-      (f, small, λ e.
-      let by = rw (getD-table 16 (λ g. pinOf (word w (pinsAt i + g))) f Nothing small) at (found .2) in
-      let is = eqb-true (word w (pinsAt i + f)) (word w (indexAt i k)) (sym (names-word (word w (pinsAt i + f)) (word w (indexAt i k)) (facts .used k (omega arith))) ∙ by) in
-      omega (arith, is, ap (λ (g : ℕ). word w (pinsAt i + g)) e, facts .own-pin, facts .last-index, facts .ascend k (word w (heldAt i) - 1) less (omega (arith, facts .held-some))),
-      found .2)
+      let small : f < 16 = omega (arith, found .1, pins-length w (pinsAt i)) in (
+        f,
+        small,
+        λ e.
+            let by = rw (getD-table 16 (λ g. pinOf (word w (pinsAt i + g))) f Nothing small) at (found .2) in
+            let is = eqb-true (word w (pinsAt i + f)) (word w (indexAt i k)) (sym (names-word (word w (pinsAt i + f)) (word w (indexAt i k)) (facts .used k (omega arith))) ∙ by) in
+            omega (arith, is, ap (λ (g : ℕ). word w (pinsAt i + g)) e, facts .own-pin, facts .last-index, facts .ascend k (word w (heldAt i) - 1) less (omega (arith, facts .held-some))),
+        found .2,
+      )
 
   others-name : (a : Pin) (k : ℕ) → k < word w (heldAt i) - 1 → named (set (P .pins) i a) (checkpointIn w i k) ≡ true
   unfolding named processIn

@@ -17,13 +17,24 @@ ghost use Rattle.process_words.specs.Kept.{storedPuts, movedUp, clearedP
 ghost use Rattle.process_words.specs.Pins.{pinRow};
 
 // A checkpoint of process p is stored in place k.
-pub fn store(w: &mut [u16], p: usize, k: usize, index: CheckpointIndex, cause: u16, vector: [Interval; 16])
+pub fn store(
+    w: &mut [u16],
+    p: usize,
+    k: usize,
+    index: CheckpointIndex,
+    cause: u16,
+    vector: [Interval; 16],
+)
     requires { ⌜ (length (now w) ≡ 6464) × (p < 16) × (k < 16) × (index .0 < 65535) ⌝ }
     ensures { λ u. ⌜ now (w .exit) ≡ puts (now (w .entry)) (storedPuts p k index cause vector) ⌝ }
 {
     w[places::INDEXES + places::PART * p + k] = words::pin_word(index);
     w[places::CAUSES + places::PART * p + k] = cause;
-    words::put_vector(w, places::STORED + places::PART * p + places::ROW * k, vector);
+    words::put_vector(
+        w,
+        places::STORED + places::PART * p + places::ROW * k,
+        vector,
+    );
 }
 
 // What stands in place `from` goes to place `to`.

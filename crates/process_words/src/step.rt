@@ -145,7 +145,13 @@ fn own_pin(stores: bool, old: u16, index: CheckpointIndex) -> u16
 }
 
 // The vector of process i takes the carried one in; if `stores`, 1 is added to its own entry first. The result is the set of the entries that rose.
-fn take_vector(w: &mut [u16], i: usize, stores: bool, vector: [Interval; 16], carried: [Interval; 16]) -> u16
+fn take_vector(
+    w: &mut [u16],
+    i: usize,
+    stores: bool,
+    vector: [Interval; 16],
+    carried: [Interval; 16],
+) -> u16
     requires { ⌜ (length (now w) ≡ 6464) × (i < 16) × (vector ≡ vectorIn (now w) (partAt i)) × (stores ≡ true → entry vector i .0 < 65535) ⌝ }
     ensures { λ r. ⌜ now (w .exit) ≡ puts (now (w .entry)) (vectorPut (partAt i) (takenVector (vectorFirst stores i vector) carried) ∷ []) ⌝ }
     ensures { λ r. ⌜ r ≡ risen (vectorFirst stores i vector) carried ⌝ }
@@ -157,7 +163,13 @@ fn take_vector(w: &mut [u16], i: usize, stores: bool, vector: [Interval; 16], ca
 }
 
 // Process i takes a carried vector in. If `stores`, it takes a forced checkpoint first.
-pub fn receive(w: &mut [u16], i: usize, stores: bool, carried: [Interval; 16], deleted: &mut [u16]) -> Received
+pub fn receive(
+    w: &mut [u16],
+    i: usize,
+    stores: bool,
+    carried: [Interval; 16],
+    deleted: &mut [u16],
+) -> Received
     requires { ⌜ (sound (runOf (now w)) ≡ true) × (i < countOf (now w)) × (stores ≡ true → word (now w) (partAt i + i) < 65535) × (2 * countOf (now w) * countOf (now w) ≤ length (now deleted)) ⌝ }
     ensures { λ r. ⌜ Moves (now (w .entry)) i (settled (received i stores carried (processIn (now (w .entry)) i))) (billed (diskIn (now (w .entry))) (pick stores (word (now (w .entry)) (blocksAt i)) 0) (blocksOf (gone (received i stores carried (processIn (now (w .entry)) i))))) (now (w .exit)) ⌝ }
     ensures { λ r. ⌜ r .rose ≡ risen (vectorFirst stores i (vectorIn (now (w .entry)) (partAt i))) carried ⌝ }
@@ -170,8 +182,5 @@ pub fn receive(w: &mut [u16], i: usize, stores: bool, carried: [Interval; 16], d
     let rose = take_vector(w, i, stores, vector, carried);
     let pins = super::pins::taken_pins(rose, old, i, own_pin(stores, old[i], index));
     let gone = settle(w, i, pins, 0, stores, index, FORCED, vector, deleted);
-    Received {
-        rose,
-        gone,
-    }
+    Received { rose, gone }
 }

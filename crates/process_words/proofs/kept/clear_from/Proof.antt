@@ -34,8 +34,7 @@ loop-again : tie.Need-loop-again Inv-loop μ-loop
 loop-again c =
     let k = c .before .before in
     let l = k .before .before .before .loop in
-    let s = k .before .before .before .before .before in
-    (
+    let s = k .before .before .before .before .before in (
       omega (arith, l .inv .0),
       search needs,
       k .clear .kept .0 ∙ l .inv .2,

@@ -30,8 +30,7 @@ same-length-2 c = c .before .before .before .before .before .before .before .bef
 returns : tie.Need-returns
 returns c =
     let s = c .before .before .before .before .before .before .before .before .before .before .before .before .before .before .before in
-    let t = c .before .before .before .before .before .before .before .before .split in
-    (
+    let t = c .before .before .before .before .before .before .before .before .split in (
       collected (s .args .w .now) (s .pre .0 .0) (s .args .p) (s .pre .0 .1) (pinRow (s .args .pins)) (s .args .held) (t .last .0) _ (t .result) (s .pre .0 .3) (t .ensures .0) (c .before .before .clear-from .ensures),
       (t .ensures .1 .0, t .ensures .1 .1),
     )

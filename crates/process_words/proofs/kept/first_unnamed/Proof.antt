@@ -63,8 +63,7 @@ loop-less c = search needs
 loop-again : tie.Need-loop-again Inv-loop μ-loop
 loop-again c =
     let l = c .before .before .before .before .loop in
-    let s = c .before .before .before .before .before .before in
-    (
+    let s = c .before .before .before .before .before .before in (
       omega (arith, l .inv .0),
       search needs,
       one-more (s .args .w .now) (s .args .p) (pinRow (s .args .pins)) (l .k) (l .inv .2) (named-is (s .args .w .now) (s .args .p) (l .k) (pinRow (s .args .pins)) ∙ sym (c .before .is-named .ensures) ∙ not-false (c .before .is-named .result) (c .if1 .left)),

@@ -48,8 +48,7 @@ there c lt =
 loop-holds : tie.Need-loop-holds Inv-loop μ-loop
 loop-holds c =
     let s = c .before .before in
-    let none = unnamed-none (s .args .w .now) (s .args .p) (pinRow (s .args .pins)) (s .args .from) (s .pre .0 .5) in
-    (
+    let none = unnamed-none (s .args .w .now) (s .args .p) (pinRow (s .args .pins)) (s .args .from) (s .pre .0 .5) in (
       search needs,
       s .pre .0 .2,
       refl,
@@ -121,8 +120,7 @@ loop-again c =
     either (c .if1 .came)
     (λ t.
     let e : named pins (checkpointIn w p (l .k)) ≡ true = test ∙ t .0 .taken in
-    let none = unnamed-same w p pins (l .k) e in
-    (
+    let none = unnamed-same w p pins (l .k) e in (
       omega (arith, l .inv .0),
       search needs,
       ap length (t .5) ∙ t .2 .kept .0 ∙ l .inv .2,
@@ -133,15 +131,14 @@ loop-again c =
     ))
     (λ t.
     let e : named pins (checkpointIn w p (l .k)) ≡ false = test ∙ t .0 .left in
-    let more = one-more w p pins (l .k) e in
-    (
+    let more = one-more w p pins (l .k) e in (
       omega (arith, l .inv .0),
       search needs,
       ap length (t .6) ∙ l .inv .2,
       ap length (t .7) ∙ t .3 .kept .0 ∙ l .inv .3,
       rw (t .6, t .8) (split-stays w (s .pre .0 .0) p (s .pre .0 .1) pins (l .k) (l .w) (l .to) (l .inv .4) room e),
       t .7 ∙ t .3 .ensures ∙ ap (λ (x : CheckpointIndex). set (set (l .deleted) _ p) _ (x .0)) (t .2 .ensures ∙ ap (λ (x : ℕ). indexOf x) same ∙ sym (index-is w p (l .k)))
-      ∙ pair-more w p pins (l .k) e (s .args .deleted .now) (l .deleted) (2 * s .args .before) _ (l .inv .5) (omega (arith, l .inv .6)),
+          ∙ pair-more w p pins (l .k) e (s .args .deleted .now) (l .deleted) (2 * s .args .before) _ (l .inv .5) (omega (arith, l .inv .6)),
       omega (arith, t .8, l .inv .6, more),
     ))
 

@@ -46,8 +46,7 @@ done w h i lt x fresh u e r index is row vector read y g l l′ many m lent =
     let long : length x ≡ 16 = ap length fresh ∙ advanced-length i (vectorIn w (partAt i)) ∙ vector-length w (partAt i) in
     let part = (λ j. record { vector = fresh j; pins = pinRow r; mark = false; kept = keptThen true (pinRow r) (placesOf w i) (storedIn w i index basic (read j)) }) ∙ checkpoint-part w h i lt r index is row in
     let lost = checkpoint-gone w h i lt r index is row in
-    let Q = checkpointed basic i (processIn w i) in
-    (
+    let Q = checkpointed basic i (processIn w i) in (
       moved w h i lt x long u e r true index basic vector Q part lost y g many m,
       (lent ∙ lists w h i lt x long u e r true index basic vector Q part lost l, deletes w h i lt x long u e r true index basic vector Q part lost y g many),
     )

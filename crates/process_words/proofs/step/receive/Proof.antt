@@ -47,10 +47,9 @@ done : (w : List ℕ) (h : sound (runOf w) ≡ true) (i : ℕ) (lt : i < countOf
 done w h i lt stores carried x fresh u e r index is own own-word row vector read y g l l′ many m lent =
     let long : length x ≡ 16 = ap length fresh ∙ taken-length (vectorFirst stores i (vectorIn w (partAt i))) carried in
     let part = (λ j. record { vector = fresh j; pins = pinRow r; mark = pick stores false (markIn w i); kept = keptThen stores (pinRow r) (placesOf w i) (storedIn w i index forced (read j)) })
-        ∙ receive-part w h i lt stores carried r index is own own-word row in
+    ∙ receive-part w h i lt stores carried r index is own own-word row in
     let lost = receive-gone w h i lt stores carried r index is own own-word row in
-    let Q = received i stores carried (processIn w i) in
-    (
+    let Q = received i stores carried (processIn w i) in (
       moved w h i lt x long u e r stores index forced vector Q part lost y g many m,
       (lent ∙ lists w h i lt x long u e r stores index forced vector Q part lost l, deletes w h i lt x long u e r stores index forced vector Q part lost y g many),
     )

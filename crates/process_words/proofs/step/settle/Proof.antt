@@ -78,8 +78,7 @@ collect-requires c κs =
     let s = c .before .before .before .before .before .before .before .before .before .before in
     let a = s .args in
     let e = c .before .before .before .before .put-row .ensures in
-    let q = s .pre .1 in
-    (
+    let q = s .pre .1 in (
       (
         c .before .before .before .before .put-row .kept .0 ∙ s .pre .0 .0,
         s .pre .0 .1,
@@ -94,8 +93,7 @@ collect-requires c κs =
 store-if-requires : tie.Need-store-if-requires
 store-if-requires c κs =
     let s = c .before .before .before .before .before .before .before .before .before .before .before .before .before .before .before .before in
-    let t = c .before .before .before .before .before .collect in
-    (
+    let t = c .before .before .before .before .before .collect in (
       t .kept .0 ∙ c .before .before .before .before .before .before .before .before .before .before .put-row .kept .0 ∙ s .pre .0 .0,
       s .pre .0 .1,
       λ stores. (few (s .args .w .now) (s .pre .0 .0) (s .args .i) (s .pre .0 .1) (s .args .pins) (c .before .before .before .before .before .before .before .before .before .before .put-row .last .0) (c .before .before .before .before .before .before .before .before .before .before .put-row .ensures) (s .pre .1 .0 .1) (t .last .0) (t .result) (t .ensures .0) (s .pre .1 .1 .0 stores), s .pre .0 .2 stores),
@@ -119,8 +117,7 @@ sub-bill c = search needs
 bill-requires : tie.Need-bill-requires
 bill-requires c κs =
     let s = c .before .before .before .before .before .before .before .before .before .before .before .before .before .before .before .before .before .before .before .before .before in
-    let d = end-disk (s .args .w .now) (s .pre .0 .0) (s .args .i) (s .pre .0 .1) (s .args .pins) (c .before .before .before .before .before .before .before .before .before .before .before .before .before .before .before .put-row .last .0) (c .before .before .before .before .before .before .before .before .before .before .before .before .before .before .before .put-row .ensures) (word (s .args .w .now) (heldAt (s .args .i))) refl (s .pre .1 .0 .1) (c .before .before .before .before .before .before .before .before .before .before .collect .last .0) (c .before .before .before .before .before .before .before .before .before .before .collect .result) (c .before .before .before .before .before .before .before .before .before .before .collect .ensures .0) (s .args .index) (s .args .cause) (s .args .vector) (long ((c .before .before .before .before .before .before .before .before .before .before .before .before .before .before .before .before .before .before .before .before .before))) (s .args .stores) (λ stores. few (s .args .w .now) (s .pre .0 .0) (s .args .i) (s .pre .0 .1) (s .args .pins) (c .before .before .before .before .before .before .before .before .before .before .before .before .before .before .before .put-row .last .0) (c .before .before .before .before .before .before .before .before .before .before .before .before .before .before .before .put-row .ensures) (s .pre .1 .0 .1) (c .before .before .before .before .before .before .before .before .before .before .collect .last .0) (c .before .before .before .before .before .before .before .before .before .before .collect .result) (c .before .before .before .before .before .before .before .before .before .before .collect .ensures .0) (s .pre .1 .1 .0 stores)) _ _ (c .before .before .before .before .store-if .ensures) (c .before .held-then .ensures) in
-    (
+    let d = end-disk (s .args .w .now) (s .pre .0 .0) (s .args .i) (s .pre .0 .1) (s .args .pins) (c .before .before .before .before .before .before .before .before .before .before .before .before .before .before .before .put-row .last .0) (c .before .before .before .before .before .before .before .before .before .before .before .before .before .before .before .put-row .ensures) (word (s .args .w .now) (heldAt (s .args .i))) refl (s .pre .1 .0 .1) (c .before .before .before .before .before .before .before .before .before .before .collect .last .0) (c .before .before .before .before .before .before .before .before .before .before .collect .result) (c .before .before .before .before .before .before .before .before .before .before .collect .ensures .0) (s .args .index) (s .args .cause) (s .args .vector) (long ((c .before .before .before .before .before .before .before .before .before .before .before .before .before .before .before .before .before .before .before .before .before))) (s .args .stores) (λ stores. few (s .args .w .now) (s .pre .0 .0) (s .args .i) (s .pre .0 .1) (s .args .pins) (c .before .before .before .before .before .before .before .before .before .before .before .before .before .before .before .put-row .last .0) (c .before .before .before .before .before .before .before .before .before .before .before .before .before .before .before .put-row .ensures) (s .pre .1 .0 .1) (c .before .before .before .before .before .before .before .before .before .before .collect .last .0) (c .before .before .before .before .before .before .before .before .before .before .collect .result) (c .before .before .before .before .before .before .before .before .before .before .collect .ensures .0) (s .pre .1 .1 .0 stores)) _ _ (c .before .before .before .before .store-if .ensures) (c .before .held-then .ensures) in (
       end-size (s .args .w .now) (s .pre .0 .0) (s .args .i) (s .pre .0 .1) (s .args .pins) (c .before .before .before .before .before .before .before .before .before .before .before .before .before .before .before .put-row .last .0) (c .before .before .before .before .before .before .before .before .before .before .before .before .before .before .before .put-row .ensures) (word (s .args .w .now) (heldAt (s .args .i))) refl (s .pre .1 .0 .1) (c .before .before .before .before .before .before .before .before .before .before .collect .last .0) (c .before .before .before .before .before .before .before .before .before .before .collect .result) (c .before .before .before .before .before .before .before .before .before .before .collect .ensures .0) (s .args .index) (s .args .cause) (s .args .vector) (long ((c .before .before .before .before .before .before .before .before .before .before .before .before .before .before .before .before .before .before .before .before .before))) (s .args .stores) (λ stores. few (s .args .w .now) (s .pre .0 .0) (s .args .i) (s .pre .0 .1) (s .args .pins) (c .before .before .before .before .before .before .before .before .before .before .before .before .before .before .before .put-row .last .0) (c .before .before .before .before .before .before .before .before .before .before .before .before .before .before .before .put-row .ensures) (s .pre .1 .0 .1) (c .before .before .before .before .before .before .before .before .before .before .collect .last .0) (c .before .before .before .before .before .before .before .before .before .before .collect .result) (c .before .before .before .before .before .before .before .before .before .before .collect .ensures .0) (s .pre .1 .1 .0 stores)) _ _ (c .before .before .before .before .store-if .ensures) (c .before .held-then .ensures),
       rw (d .0) (s .pre .0 .3),
       rw (d .1) (s .pre .0 .4),
@@ -141,8 +138,7 @@ returns c =
     let s = c .before .before .before .before .before .before .before .before .before .before .before .before .before .before .before .before .before .before .before .before .before .before .before .before in
     let bill = c .before .before .bill .ensures in
     let t = c .before .before .before .before .before .before .before .before .before .before .before .before .before .collect in
-    let none = gone-is (s .args .w .now) (s .pre .0 .0) (s .args .i) (s .pre .0 .1) (s .args .pins) (c .before .before .before .before .before .before .before .before .before .before .before .before .before .before .before .before .before .before .put-row .last .0) (c .before .before .before .before .before .before .before .before .before .before .before .before .before .before .before .before .before .before .put-row .ensures) (s .pre .1 .0 .1) in
-    (
+    let none = gone-is (s .args .w .now) (s .pre .0 .0) (s .args .i) (s .pre .0 .1) (s .args .pins) (c .before .before .before .before .before .before .before .before .before .before .before .before .before .before .before .before .before .before .put-row .last .0) (c .before .before .before .before .before .before .before .before .before .before .before .before .before .before .before .before .before .before .put-row .ensures) (s .pre .1 .0 .1) in (
       end-moves (s .args .w .now) (s .pre .0 .0) (s .args .i) (s .pre .0 .1) (s .args .pins) (c .before .before .before .before .before .before .before .before .before .before .before .before .before .before .before .before .before .before .put-row .last .0) (c .before .before .before .before .before .before .before .before .before .before .before .before .before .before .before .before .before .before .put-row .ensures) (word (s .args .w .now) (heldAt (s .args .i))) refl (s .pre .1 .0 .1) (c .before .before .before .before .before .before .before .before .before .before .before .before .before .collect .last .0) (c .before .before .before .before .before .before .before .before .before .before .before .before .before .collect .result) (c .before .before .before .before .before .before .before .before .before .before .before .before .before .collect .ensures .0) (s .args .index) (s .args .cause) (s .args .vector) (long ((c .before .before .before .before .before .before .before .before .before .before .before .before .before .before .before .before .before .before .before .before .before .before .before .before))) (s .args .stores) (λ stores. few (s .args .w .now) (s .pre .0 .0) (s .args .i) (s .pre .0 .1) (s .args .pins) (c .before .before .before .before .before .before .before .before .before .before .before .before .before .before .before .before .before .before .put-row .last .0) (c .before .before .before .before .before .before .before .before .before .before .before .before .before .before .before .before .before .before .put-row .ensures) (s .pre .1 .0 .1) (c .before .before .before .before .before .before .before .before .before .before .before .before .before .collect .last .0) (c .before .before .before .before .before .before .before .before .before .before .before .before .before .collect .result) (c .before .before .before .before .before .before .before .before .before .before .before .before .before .collect .ensures .0) (s .pre .1 .1 .0 stores)) _ _ (c .before .before .before .before .before .before .before .store-if .ensures) (c .before .before .before .before .held-then .ensures) _ _ _ (bill .0) (bill .1 .0) (bill .1 .1),
       (
         t .ensures .1 .0 ∙ ap (λ (q : List Checkpoint). sets (s .args .deleted .now) 0 (pairs (listed (s .args .i) q))) none,

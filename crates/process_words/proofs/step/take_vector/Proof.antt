@@ -26,11 +26,10 @@ module _ (w : List ℕ) where
   first size i room stores vec carried here u v rose taken a b d =
       let long : length (advanced i vec) ≡ 16 = length-set vec i _ ∙ ap length here ∙ vector-length w (partAt i) in
       let read : vectorIn u (partAt i) ≡ advanced i vec = ap (λ (x : List ℕ). vectorIn x (partAt i)) a ∙ vector-back w (partAt i) (advanced i vec) long (omega arith) in
-      rw taken
-      (
+      rw taken (
         b ∙ ap (λ (x : List Interval). puts u (vectorPut (partAt i) (takenVector x carried) ∷ [])) read
-        ∙ ap (λ (x : List ℕ). puts x (vectorPut (partAt i) (takenVector (advanced i vec) carried) ∷ [])) a
-        ∙ put-again w (partAt i) (advanced i vec) (takenVector (advanced i vec) carried) (omega arith),
+            ∙ ap (λ (x : List ℕ). puts x (vectorPut (partAt i) (takenVector (advanced i vec) carried) ∷ [])) a
+            ∙ put-again w (partAt i) (advanced i vec) (takenVector (advanced i vec) carried) (omega arith),
         d ∙ ap (λ (x : List Interval). risen x carried) read,
       )
 

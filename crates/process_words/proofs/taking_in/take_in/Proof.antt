@@ -36,8 +36,7 @@ loop-again c =
     let t = c .before .before .take-entry in
     let l = c .before .before .before .before .before .loop in
     let a = c .before .before .before .before .before .before .before .args in
-    let lt : l .f < 16 = search needs in
-    (
+    let lt : l .f < 16 = search needs in (
       search needs,
       t .kept .0 ∙ l .inv .1,
       t .ensures .0 ∙ step-words (a .w .now) (a .at) (a .carried) (l .f) lt (l .w) (l .inv .2),
