@@ -1,0 +1,49 @@
+-- `answers::code_of` meets its contract.
+-- Assumes nothing.
+use mathlib.Core.Path.{_≡_, refl, sym, _∙_, ap}
+use Prim.Native.Nat.{ℕ, _+_, _*_, _<_}
+use native.Mathlib.Omega.{arith}
+use borrow.Author.Needs.{needs}
+use Rattle.listing.specs.Lines.{valueIn}
+use Rattle.listing.specs.Said.{reportIn}
+use Rattle.listing.specs.declared.Summary.{Summary}
+use Rattle.answers.specs.Codes.{valueCode, coded, Fits}
+use Rattle.answers.proofs.code_of.Statement.{statement}
+use Rattle.answers.proofs.code_of.Tie as tie
+
+small : (said : Summary) → Fits (reportIn said) → (said .refused < 256) × (said .deletions < 32768)
+unfolding reportIn
+small said f = (f .refused, f .deletions)
+
+value-code-requires : tie.Need-value-code-requires
+unfolding reportIn
+value-code-requires c κs = c .pre .value
+
+mul-result : tie.Need-mul-result
+mul-result c = let b = c .before .before in omega (arith, small (b .args .said) (b .pre))
+
+add-result : tie.Need-add-result
+add-result c = let b = c .before .before in omega (arith, small (b .args .said) (b .pre))
+
+add-result-2 : tie.Need-add-result-2
+add-result-2 c = let b = c .before .before in omega (arith, small (b .args .said) (b .pre), c .before .value-code .ensures)
+
+add-result-3 : tie.Need-add-result-3
+add-result-3 c = let b = c .before .before in omega (arith, small (b .args .said) (b .pre), c .before .value-code .ensures)
+
+returns : tie.Need-returns
+unfolding coded reportIn
+returns c = omega (arith, c .before .value-code .ensures)
+
+pub code-of-spec : {M : Type 1} → statement M
+code-of-spec =
+    tie.close
+    (tie.spec
+    value-code-requires
+    (λ c. search needs)
+    mul-result
+    add-result
+    add-result-2
+    (λ c. search needs)
+    add-result-3
+    returns)
