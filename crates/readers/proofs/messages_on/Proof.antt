@@ -1,0 +1,50 @@
+-- `readers::messages_on` meets its contract. Assumes nothing.
+use mathlib.Core.Path.{_≡_, refl, sym, _∙_, ap}
+use mathlib.Core.Option.{none, some}
+use mathlib.Core.List.{List}
+use Prim.Native.Nat.{ℕ, _≤_, _<_}
+use native.Mathlib.Omega.{arith}
+use borrow.Author.Needs.{needs}
+use Rattle.whole_runs.specs.Outcomes.{accepting}
+use Rattle.answers.specs.Codes.{coded, valueCode}
+use Rattle.words.proofs.ViewSound.{sound-words}
+use Rattle.readers.specs.Readings.{Reading}
+use Rattle.readers.proofs.Readings.{nothing-said, refusedBy, read, messages-few, messages-short, messages-read}
+use Rattle.readers.proofs.messages_on.Statement.{statement}
+use Rattle.readers.proofs.messages_on.Tie as tie
+
+-- The answer and the list of an outcome.
+told : {r : Reading} {code : ℕ} {list : List ℕ} {q : Reading} → r ≡ q → code ≡ coded (q .report) 0 → list ≡ q .list → (code ≡ coded (r .report) 0) × (list ≡ r .list)
+told e a b = rw e (a, b)
+
+returns : tie.Need-returns
+returns c = let s = c .before .before .before .before in told (messages-short (s .args .w .now) (s .pre) (s .args .messages .now) (c .before .if1 .taken)) (c .refused .ensures) refl
+
+write-messages-requires : tie.Need-write-messages-requires
+write-messages-requires c κs =
+    let s = c .before .before .before .before .before in
+    let h = sound-words (s .args .w .now) (s .pre) in
+    (h .size, omega (arith, h .end, c .before .end-in .ensures), c .before .before .if1 .left)
+
+counted-requires : tie.Need-counted-requires
+counted-requires c κs =
+    let s = c .before .before .before .before .before .before .before .before in
+    omega (arith, rw (c .before .before .before .before .end-in .ensures) at (c .before .before .write-messages .ensures .1), messages-few (s .args .w .now) (s .pre))
+
+returns-2 : tie.Need-returns-2
+returns-2 c =
+    let s = c .before .before .before .before .before .before .before .before .before in
+    let m = rw (c .before .before .before .before .before .end-in .ensures) at (c .before .before .before .write-messages .ensures) in
+    told (messages-read (s .args .w .now) (s .pre) (s .args .messages .now) (c .before .before .before .before .before .before .if1 .left)) (rw (m .1) at (c .counted .ensures)) (m .0)
+
+pub messages-on-spec : {M : Type 1} → statement M
+messages-on-spec =
+    tie.close
+    (tie.spec
+    (λ c. search needs) (λ c κs. search needs)
+    returns
+    (λ c κs. search needs)
+    write-messages-requires
+    counted-requires
+    (λ c. search needs)
+    returns-2)

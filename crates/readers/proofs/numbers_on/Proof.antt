@@ -1,0 +1,30 @@
+-- `readers::numbers_on` meets its contract. Assumes nothing.
+use mathlib.Core.Path.{_≡_, refl, sym, _∙_, ap}
+use mathlib.Core.Option.{none, some}
+use mathlib.Core.List.{List}
+use Prim.Native.Nat.{ℕ, _≤_, _<_}
+use native.Mathlib.Omega.{arith}
+use borrow.Author.Needs.{needs}
+use Rattle.whole_runs.specs.Outcomes.{accepting}
+use Rattle.answers.specs.Codes.{coded, valueCode}
+use Rattle.words.proofs.ViewSound.{sound-words}
+use Rattle.readers.specs.Readings.{Reading}
+use Rattle.readers.proofs.Readings.{nothing-said, refusedBy, read, numbers-short, numbers-read}
+use Rattle.readers.proofs.numbers_on.Statement.{statement}
+use Rattle.readers.proofs.numbers_on.Tie as tie
+
+-- The answer and the list of an outcome.
+told : {r : Reading} {code : ℕ} {list : List ℕ} {q : Reading} → r ≡ q → code ≡ coded (q .report) 0 → list ≡ q .list → (code ≡ coded (r .report) 0) × (list ≡ r .list)
+told e a b = rw e (a, b)
+
+returns : tie.Need-returns
+returns c = let s = c .before .before .before .before in told (numbers-short (s .args .w .now) (s .pre) (s .args .numbers .now) (c .before .if1 .taken)) (c .refused .ensures) refl
+
+write-numbers-requires : tie.Need-write-numbers-requires
+write-numbers-requires c κs = let s = c .before .before .before .before in (sound-words (s .args .w .now) (s .pre) .size, c .before .if1 .left)
+
+returns-2 : tie.Need-returns-2
+returns-2 c = let s = c .before .before .before .before .before .before .before in told (numbers-read (s .args .w .now) (s .pre) (s .args .numbers .now) (c .before .before .before .before .if1 .left)) nothing-said (c .before .before .write-numbers .ensures)
+
+pub numbers-on-spec : {M : Type 1} → statement M
+numbers-on-spec = tie.close (tie.spec (λ c κs. search needs) returns write-numbers-requires (λ c. search needs) returns-2)

@@ -1,0 +1,27 @@
+-- What the readers write, by the words that they read.
+-- Assumes nothing.
+use mathlib.Core.List.{List, [], _∷_}
+use Prim.Native.Nat.{ℕ, _+_}
+use Rattle.laws.specs.Lists.{select, table}
+use Rattle.model.specs.declared.Checkpoint.{Checkpoint}
+use Rattle.model.specs.declared.Message.{Message}
+use Rattle.words.specs.Layout.{word, wide2, wide4, countOf, messageIn, isMessage}
+
+-- The numbers of the run.
+abbrev pub numbersIn : List ℕ → List ℕ
+numbersIn w = countOf w ∷ wide2 w 2 ∷ word w 1 ∷ wide4 w 4 ∷ wide4 w 8 ∷ []
+
+-- The n words from a place on.
+abbrev pub wordsFrom : List ℕ → ℕ → ℕ → List ℕ
+wordsFrom w at n = table n (λ f. word w (at + f))
+
+-- The three numbers of a checkpoint and of a message.
+abbrev pub threeStored : Checkpoint → List ℕ
+threeStored c = c .index .0 ∷ c .cause ∷ c .blocks ∷ []
+
+abbrev pub threeOf : Message → List ℕ
+threeOf x = x .number ∷ x .sender ∷ x .receiver ∷ []
+
+-- The messages in the first places.
+abbrev pub messagesBelow : List ℕ → ℕ → List Message
+messagesBelow w end = select isMessage (table end (messageIn w))
