@@ -1,0 +1,14 @@
+-- The report of a start on words fits the fields of its number.
+-- Assumes nothing.
+use mathlib.Core.List.{List}
+use Prim.Native.Nat.{ℕ}
+use native.Mathlib.Omega.{arith}
+use Rattle.model.specs.laws.Refusals.{by-refusal}
+use Rattle.whole_runs.specs.Outcomes.{startReport}
+use Rattle.answers.specs.Codes.{Fits}
+use Rattle.answers.proofs.Fit.{fits-refused, fits-none}
+use Rattle.in_place.specs.Starting.{startRefusalIn, startOutcomeIn}
+
+pub start-fits : (many n : ℕ) (counts : List ℕ) → Fits (startReport (startOutcomeIn many n counts .answer))
+unfolding startReport startOutcomeIn
+start-fits many n counts = by-refusal (startRefusalIn many n counts) (λ e. rw e (fits-none 0 (omega arith))) (λ x e. rw e (fits-refused x))

@@ -1,0 +1,62 @@
+// The calls in place: each works on the 6,464 words that the caller lends, which hold a state (`words`, specs/Layout). Words that stand for no sound state are refused
+// with number 2. A refused call leaves every word and every entry of its lists as it was; a refused start makes the words zero.
+ghost use mathlib.Core.Path.{_≡_};
+ghost use lib.ListN.{length};
+ghost use Rattle.model.specs.declared.Refusal.{Refusal};
+ghost use Rattle.model.specs.declared.SendAnswer.the-variants as sending;
+ghost use Rattle.model.specs.declared.LoseAnswer.the-variants as losing;
+ghost use Rattle.model.specs.Sound.{sound};
+ghost use Rattle.whole_runs.specs.Calls as made;
+ghost use Rattle.whole_runs.specs.Outcomes.{sendOutcome, loseOutcome};
+ghost use Rattle.whole_runs.specs.WholeRuns.{StatePromise};
+ghost use Rattle.answers.specs.Codes.{startCode, sendCode, loseCode};
+ghost use Rattle.words.specs.Clean.{Clean};
+ghost use Rattle.words.specs.Layout.{runOf};
+ghost use Rattle.in_place.specs.Left.{Leaves};
+ghost use Rattle.in_place.specs.Starting.{startOutcomeIn, startWords};
+
+// Whether the words stand for a sound state.
+#[no_mangle]
+pub extern "C" fn lemidrosy_is_sound(words: &[u16]) -> bool
+    ensures { λ r. ⌜ r ≡ sound (runOf (now (words .entry))) ⌝ }
+{
+    sound_words::is_sound(words)
+}
+
+// A run of n processes with the block count of each begins in the words.
+#[no_mangle]
+pub extern "C" fn lemidrosy_start(words: &mut [u16], n: usize, counts: &[u32]) -> u64
+    ensures { λ r. ⌜ r ≡ startCode (startOutcomeIn (length (now (words .entry))) n (now (counts .entry)) .answer) ⌝ }
+    ensures { λ r. ⌜ runOf (now (words .exit)) ≡ startOutcomeIn (length (now (words .entry))) n (now (counts .entry)) .run ⌝ }
+    ensures { λ r. ⌜ now (words .exit) ≡ startWords (now (words .entry)) n (now (counts .entry)) ⌝ }
+    ensures { λ r. ⌜ (length (now (words .entry)) ≡ 6464 → Clean (now (words .exit))) ⌝ }
+{
+    let answer = in_place::start::start(words, n, counts);
+    answers::of_start(answer)
+}
+
+// A process sends a message to another. The value is the message's number.
+#[no_mangle]
+pub extern "C" fn lemidrosy_send(words: &mut [u16], sender: usize, receiver: usize) -> u64
+    ensures { λ r. ⌜ r ≡ sendCode (sendOutcome (runOf (now (words .entry))) sender receiver .answer) ⌝ }
+    ensures { λ r. ⌜ runOf (now (words .exit)) ≡ sendOutcome (runOf (now (words .entry))) sender receiver .run ⌝ }
+    ensures { λ r. ⌜ ((why : Refusal) → sendOutcome (runOf (now (words .entry))) sender receiver .answer ≡ sending.Refused why → now (words .exit) ≡ now (words .entry)) ⌝ }
+    ensures { λ r. ⌜ Leaves (now (words .entry)) (now (words .exit)) ⌝ }
+    ensures { λ r. ⌜ StatePromise (runOf (now (words .entry))) (made.send sender receiver) (runOf (now (words .exit))) ⌝ }
+{
+    let answer = in_place::send::send(words, sender, receiver);
+    answers::of_send(answer)
+}
+
+// A message is lost.
+#[no_mangle]
+pub extern "C" fn lemidrosy_lose(words: &mut [u16], message: u32) -> u64
+    ensures { λ r. ⌜ r ≡ loseCode (loseOutcome (runOf (now (words .entry))) message .answer) ⌝ }
+    ensures { λ r. ⌜ runOf (now (words .exit)) ≡ loseOutcome (runOf (now (words .entry))) message .run ⌝ }
+    ensures { λ r. ⌜ ((why : Refusal) → loseOutcome (runOf (now (words .entry))) message .answer ≡ losing.Refused why → now (words .exit) ≡ now (words .entry)) ⌝ }
+    ensures { λ r. ⌜ Leaves (now (words .entry)) (now (words .exit)) ⌝ }
+    ensures { λ r. ⌜ StatePromise (runOf (now (words .entry))) (made.lose message) (runOf (now (words .exit))) ⌝ }
+{
+    let answer = in_place::lose::lose(words, message);
+    answers::of_lose(answer)
+}

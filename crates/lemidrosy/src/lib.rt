@@ -1,0 +1,9 @@
+// The library for C: everything that it exports stands here, and nothing but calls of what is proved below. A lent slice is a pointer and a length; it may be empty,
+// and then its pointer counts for nothing. No function asks anything of its arguments: what does not fit is refused, and its number says why. An answer is one number
+// with fields (`answers`, specs/Codes). Lent slices must not overlap.
+
+// calls.rt: the calls in place
+pub mod calls;
+
+// readings.rt: what is read of the words
+pub mod readings;
