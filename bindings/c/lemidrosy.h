@@ -1,0 +1,90 @@
+/* Checkpoints, garbage collection and recovery lines of message-passing runs.
+
+   A state is 6,464 words of 16 bits in the caller's memory: store them, copy them, hand in any words at all. Every call judges them first, and words that stand for
+   no sound state are refused with number 2. The library allocates nothing, keeps nothing and has no state of its own.
+
+   A lent list goes as a pointer and how many entries it has; with none, the pointer may be null. Lent lists must not overlap each other or the words. What is written
+   goes to the front of a list, and its rest is left as it was. A refused call leaves every word and every entry as it was; only a refused start makes the words zero.
+
+   What is proved of each function is its contract in crates/lemidrosy/src. */
+#ifndef LEMIDROSY_H
+#define LEMIDROSY_H
+
+#include <stdbool.h>
+#include <stddef.h>
+#include <stdint.h>
+
+#ifdef __cplusplus
+extern "C" {
+#endif
+
+enum {
+    LEMIDROSY_WORDS = 6464,    /* the words of a state */
+    LEMIDROSY_PROCESSES = 16,  /* processes of a run, at most */
+    LEMIDROSY_MESSAGES = 64,   /* messages under way, at most */
+    LEMIDROSY_DELETIONS = 512, /* entries of a deletion list, which is enough for every n: 2 n n are asked for */
+    LEMIDROSY_NUMBERS = 5,     /* what lemidrosy_numbers writes */
+    LEMIDROSY_THREES = 192     /* what lemidrosy_messages asks for: three numbers for each of 64 messages */
+};
+
+/* An answer is one number with fields, the same for every call:
+   bits 0 to 7    the number of the refusal, 0 if the call was accepted
+   bits 8 to 22   how many checkpoints were deleted
+   bit 23         1 if there is a value
+   bits 24 to 47  the value
+   bits 48 to 63  the set of vector entries that rose, of a delivery: bit f stands for entry f */
+static inline unsigned lemidrosy_refused(uint64_t answer) { return (unsigned)(answer & 255); }
+static inline unsigned lemidrosy_deletions(uint64_t answer) { return (unsigned)(answer >> 8 & 32767); }
+static inline bool lemidrosy_has_value(uint64_t answer) { return answer >> 23 & 1; }
+static inline uint32_t lemidrosy_value(uint64_t answer) { return (uint32_t)(answer >> 24 & 16777215); }
+static inline unsigned lemidrosy_rose(uint64_t answer) { return (unsigned)(answer >> 48); }
+
+/* The numbers of the refusals that these functions give. */
+enum {
+    LEMIDROSY_COUNT_OUTSIDE_RANGE = 1,        /* a start with n outside 1 to 16 */
+    LEMIDROSY_UNSOUND_STATE = 2,              /* the words stand for no sound state */
+    LEMIDROSY_LIST_TOO_SHORT = 3,             /* a lent list has too few entries */
+    LEMIDROSY_NO_SUCH_PROCESS = 4,            /* a process not below n */
+    LEMIDROSY_SENDER_IS_RECEIVER = 5,
+    LEMIDROSY_NOT_UNDER_WAY = 8,              /* no such message is under way */
+    LEMIDROSY_TOO_MANY_UNDER_WAY = 9,         /* a send with 64 under way */
+    LEMIDROSY_MESSAGE_NUMBERS_USED = 10,      /* a send with number 1,000,000 used */
+    LEMIDROSY_BLOCK_COUNT_OUTSIDE_RANGE = 15  /* a block count outside 1 to 65,535 */
+};
+
+/* Whether the words stand for a sound state. */
+bool lemidrosy_is_sound(const uint16_t *words, size_t words_length);
+
+/* A run of n processes begins, each with a block count for its checkpoints; counts from n on are not looked at. Refused with 1, 2 (not 6,464 words: then nothing is
+   written), 3 (fewer than n counts) or 15. */
+uint64_t lemidrosy_start(uint16_t *words, size_t words_length, size_t n, const uint32_t *counts, size_t counts_length);
+
+/* A process sends a message to another; the value is the message's number. Refused with 2, 4, 5, 9 or 10. */
+uint64_t lemidrosy_send(uint16_t *words, size_t words_length, size_t sender, size_t receiver);
+
+/* A message is lost. Refused with 2 or 8. */
+uint64_t lemidrosy_lose(uint16_t *words, size_t words_length, uint32_t message);
+
+/* The readers. Each is refused with 2, and with 3 if the list is too short for what it may have to hold; those of a process with 4. */
+
+/* n, the last message number used, how many messages are under way, the blocks written, the blocks deleted. */
+uint64_t lemidrosy_numbers(const uint16_t *words, size_t words_length, uint64_t *numbers, size_t numbers_length);
+
+/* The n entries of a process's vector. */
+uint64_t lemidrosy_vector(const uint16_t *words, size_t words_length, size_t process, uint16_t *vector, size_t vector_length);
+
+/* The n pins of a process: one more than the index of the checkpoint that the pin names, 0 if it names none. */
+uint64_t lemidrosy_pins(const uint16_t *words, size_t words_length, size_t process, uint16_t *pins, size_t pins_length);
+
+/* The checkpoints that a process keeps, ascending, three numbers each: index, cause (0 initial, 1 basic, 2 forced), blocks. The value is how many they are; the list has
+   room for 3 n numbers. */
+uint64_t lemidrosy_kept(const uint16_t *words, size_t words_length, size_t process, uint32_t *kept, size_t kept_length);
+
+/* The messages under way, ascending, three numbers each: number, sender, receiver. The value is how many they are; the list has room for 192 numbers. */
+uint64_t lemidrosy_messages(const uint16_t *words, size_t words_length, uint32_t *messages, size_t messages_length);
+
+#ifdef __cplusplus
+}
+#endif
+
+#endif
