@@ -7,3 +7,6 @@ pub mod calls;
 
 // readings.rt: what is read of the words
 pub mod readings;
+
+// programs.rt: the judge of a trace
+pub mod programs;
