@@ -1,3 +1,4 @@
 -- Laws that belong to no one function.
+pub mod Carried
 pub mod Readings
 pub mod Three

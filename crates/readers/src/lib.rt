@@ -3,6 +3,7 @@
 use answers::code_of;
 use listing::Summary;
 use listing::Value;
+use message_words::Found;
 use model::Refusal;
 use words::places;
 ghost use mathlib.Core.Path.{_≡_};
@@ -247,4 +248,25 @@ pub fn messages_on(w: &[u16], messages: &mut [u32]) -> u64
     let end = end_in(w);
     let many = write_messages(w, end, messages);
     counted(many)
+}
+
+// The vector that a message carries.
+pub fn carried_on(w: &[u16], message: u32, vector: &mut [u16]) -> u64
+    requires { ⌜ sound (runOf (now w)) ≡ true ⌝ }
+    ensures { λ r. ⌜ r ≡ coded (carriedReading (runOf (now (w .entry))) message (now (vector .entry)) .report) 0 ⌝ }
+    ensures { λ r. ⌜ now (vector .exit) ≡ carriedReading (runOf (now (w .entry))) message (now (vector .entry)) .list ⌝ }
+{
+    let n = count_in(w);
+    if vector.len() < n {
+        return refused(Refusal::ListTooShort);
+    }
+    let found = message_words::place_of(w, message);
+    match found {
+        Found::Nothing => refused(Refusal::NotUnderWay),
+        Found::At(k) => {
+            let at = places::carried_at(k);
+            copy_words(w, at, n, vector);
+            0
+        }
+    }
 }
