@@ -13,7 +13,7 @@ use Rattle.model.specs.Refusals.{number, Rule, unsound}
 use Rattle.model.specs.laws.Refusals.{refusal-in}
 use Rattle.whole_runs.specs.Outcomes.{refusing}
 use Rattle.answers.specs.Codes.{coded, valueCode}
-use Rattle.readers.specs.Readings.{Reading, reading, numbersReading, vectorReading, pinsReading, keptReading, messagesReading}
+use Rattle.readers.specs.Readings.{Reading, reading, numbersReading, vectorReading, pinsReading, keptReading, messagesReading, carriedReading}
 
 -- A reading that answers 2 and leaves the lent list.
 abbrev pub Refuses : Reading → List ℕ → Type 0
@@ -43,3 +43,7 @@ module _ (s : Run) (off : sound s ≡ false) where
   pub messages-unsound : (lent : List ℕ) → Refuses (messagesReading s lent) lent
   unfolding messagesReading
   messages-unsound lent = refuses _ _ _ lent
+
+  pub carried-unsound : (m : ℕ) (lent : List ℕ) → Refuses (carriedReading s m lent) lent
+  unfolding carriedReading
+  carried-unsound m lent = refuses _ _ _ lent

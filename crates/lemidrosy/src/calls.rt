@@ -3,13 +3,15 @@
 ghost use mathlib.Core.Path.{_≡_};
 ghost use lib.ListN.{length};
 ghost use Rattle.model.specs.declared.Refusal.{Refusal};
+ghost use Rattle.model.specs.declared.StartAnswer.the-variants.{Started};
+ghost use Rattle.model.specs.declared.CheckpointAnswer.the-variants as storing;
 ghost use Rattle.model.specs.declared.SendAnswer.the-variants as sending;
 ghost use Rattle.model.specs.declared.LoseAnswer.the-variants as losing;
 ghost use Rattle.model.specs.Sound.{sound};
 ghost use Rattle.whole_runs.specs.Calls as made;
-ghost use Rattle.whole_runs.specs.Outcomes.{sendOutcome, loseOutcome};
-ghost use Rattle.whole_runs.specs.WholeRuns.{StatePromise};
-ghost use Rattle.answers.specs.Codes.{startCode, sendCode, loseCode};
+ghost use Rattle.whole_runs.specs.Outcomes.{checkpointOutcome, sendOutcome, loseOutcome};
+ghost use Rattle.whole_runs.specs.WholeRuns.{StartPromise, StatePromise};
+ghost use Rattle.answers.specs.Codes.{startCode, checkpointCode, sendCode, loseCode};
 ghost use Rattle.words.specs.Clean.{Clean};
 ghost use Rattle.words.specs.Layout.{runOf};
 ghost use Rattle.in_place.specs.Left.{Leaves};
@@ -30,9 +32,28 @@ pub extern "C" fn lemidrosy_start(words: &mut [u16], n: usize, counts: &[u32]) -
     ensures { λ r. ⌜ runOf (now (words .exit)) ≡ startOutcomeIn (length (now (words .entry))) n (now (counts .entry)) .run ⌝ }
     ensures { λ r. ⌜ now (words .exit) ≡ startWords (now (words .entry)) n (now (counts .entry)) ⌝ }
     ensures { λ r. ⌜ (length (now (words .entry)) ≡ 6464 → Clean (now (words .exit))) ⌝ }
+    ensures { λ r. ⌜ (startOutcomeIn (length (now (words .entry))) n (now (counts .entry)) .answer ≡ Started → StartPromise n (now (counts .entry)) (runOf (now (words .exit)))) ⌝ }
 {
     let answer = in_place::start::start(words, n, counts);
     answers::of_start(answer)
+}
+
+// A process takes a checkpoint. The value is its index; what is deleted goes to the front of the lent list, as pairs of a process and an index.
+#[no_mangle]
+pub extern "C" fn lemidrosy_checkpoint(
+    words: &mut [u16],
+    process: usize,
+    deleted: &mut [u16],
+) -> u64
+    ensures { λ r. ⌜ r ≡ checkpointCode (checkpointOutcome (runOf (now (words .entry))) process (now (deleted .entry)) .answer) ⌝ }
+    ensures { λ r. ⌜ runOf (now (words .exit)) ≡ checkpointOutcome (runOf (now (words .entry))) process (now (deleted .entry)) .run ⌝ }
+    ensures { λ r. ⌜ now (deleted .exit) ≡ checkpointOutcome (runOf (now (words .entry))) process (now (deleted .entry)) .deleted ⌝ }
+    ensures { λ r. ⌜ ((why : Refusal) → checkpointOutcome (runOf (now (words .entry))) process (now (deleted .entry)) .answer ≡ storing.Refused why → now (words .exit) ≡ now (words .entry)) ⌝ }
+    ensures { λ r. ⌜ Leaves (now (words .entry)) (now (words .exit)) ⌝ }
+    ensures { λ r. ⌜ StatePromise (runOf (now (words .entry))) (made.checkpoint process (now (deleted .entry))) (runOf (now (words .exit))) ⌝ }
+{
+    let answer = in_place::checkpoint::checkpoint(words, process, deleted);
+    answers::of_checkpoint(answer)
 }
 
 // A process sends a message to another. The value is the message's number.

@@ -1,9 +1,9 @@
 // What is read of the words, each by one reader: what it reads goes to the front of the list that it is lent, and the rest of the list is unchanged. Refused are words
-// that stand for no sound state (2), a list that is too short (3) and a process not below n (4): then the list keeps every entry.
+// that stand for no sound state (2), a list that is too short (3) a process not below n (4) and a message not under way (8): then the list keeps every entry.
 ghost use mathlib.Core.Path.{_≡_};
 ghost use Rattle.answers.specs.Codes.{coded};
 ghost use Rattle.words.specs.Layout.{runOf};
-ghost use Rattle.readers.specs.Readings.{numbersReading, vectorReading, pinsReading, keptReading, messagesReading};
+ghost use Rattle.readers.specs.Readings.{numbersReading, vectorReading, pinsReading, keptReading, messagesReading, carriedReading};
 
 // The number of the answer to words that stand for no sound state.
 const UNSOUND: u64 = 2;
@@ -73,4 +73,17 @@ pub extern "C" fn lemidrosy_messages(words: &[u16], messages: &mut [u32]) -> u64
         return UNSOUND;
     }
     readers::messages_on(words, messages)
+}
+
+// The n entries of the vector that a message carries.
+#[no_mangle]
+pub extern "C" fn lemidrosy_carried(words: &[u16], message: u32, vector: &mut [u16]) -> u64
+    ensures { λ r. ⌜ r ≡ coded (carriedReading (runOf (now (words .entry))) message (now (vector .entry)) .report) 0 ⌝ }
+    ensures { λ r. ⌜ now (vector .exit) ≡ carriedReading (runOf (now (words .entry))) message (now (vector .entry)) .list ⌝ }
+{
+    let sound = sound_words::is_sound(words);
+    if !sound {
+        return UNSOUND;
+    }
+    readers::carried_on(words, message, vector)
 }

@@ -13,7 +13,7 @@ of-start-requires c κs = let a = c .before .before .before .before .before .bef
 returns : tie.Need-returns
 returns c =
     let g = c .before .before .before .start .ensures in
-    (c .of-start .ensures ∙ ap startCode (g .0), (g .1 .0, (g .1 .1 .0, g .1 .1 .1)))
+    (c .of-start .ensures ∙ ap startCode (g .0), (g .1 .0, (g .1 .1 .0, (g .1 .1 .1 .0, λ e. g .1 .1 .1 .1 (g .0 ∙ e)))))
 
 pub lemidrosy-start-spec : {M : Type 1} → statement M
 lemidrosy-start-spec = tie.close (tie.spec (λ c κs. search needs) of-start-requires (λ c. c .before .before .before .start .kept .0) returns)
