@@ -49,7 +49,13 @@ enum {
     LEMIDROSY_NOT_UNDER_WAY = 8,              /* no such message is under way */
     LEMIDROSY_TOO_MANY_UNDER_WAY = 9,         /* a send with 64 under way */
     LEMIDROSY_MESSAGE_NUMBERS_USED = 10,      /* a send with number 1,000,000 used */
-    LEMIDROSY_BLOCK_COUNT_OUTSIDE_RANGE = 15  /* a block count outside 1 to 65,535 */
+    LEMIDROSY_INTERVALS_USED = 11,            /* a checkpoint where the own entry is 65,535 */
+    LEMIDROSY_NO_FIRST_BYTE = 12,             /* of a trace, and so are 13, 14 and 17 */
+    LEMIDROSY_LEFT_OVER_BYTES = 13,
+    LEMIDROSY_MALFORMED_RECORD = 14,
+    LEMIDROSY_BLOCK_COUNT_OUTSIDE_RANGE = 15, /* a block count outside 1 to 65,535 */
+    LEMIDROSY_BLOCKS_USED = 16,               /* a checkpoint that would take the blocks written past 1,000,000,000,000,000 */
+    LEMIDROSY_TOO_MANY_RECORDS = 17
 };
 
 /* Whether the words stand for a sound state. */
@@ -58,6 +64,10 @@ bool lemidrosy_is_sound(const uint16_t *words, size_t words_length);
 /* A run of n processes begins, each with a block count for its checkpoints; counts from n on are not looked at. Refused with 1, 2 (not 6,464 words: then nothing is
    written), 3 (fewer than n counts) or 15. */
 uint64_t lemidrosy_start(uint16_t *words, size_t words_length, size_t n, const uint32_t *counts, size_t counts_length);
+
+/* A process takes a checkpoint; the value is its index. What is deleted goes to the list, which has room for 2 n n entries, as pairs of a process and an index. Refused
+   with 2, 3, 4, 11 or 16. */
+uint64_t lemidrosy_checkpoint(uint16_t *words, size_t words_length, size_t process, uint16_t *deleted, size_t deleted_length);
 
 /* A process sends a message to another; the value is the message's number. Refused with 2, 4, 5, 9 or 10. */
 uint64_t lemidrosy_send(uint16_t *words, size_t words_length, size_t sender, size_t receiver);
@@ -82,6 +92,14 @@ uint64_t lemidrosy_kept(const uint16_t *words, size_t words_length, size_t proce
 
 /* The messages under way, ascending, three numbers each: number, sender, receiver. The value is how many they are; the list has room for 192 numbers. */
 uint64_t lemidrosy_messages(const uint16_t *words, size_t words_length, uint32_t *messages, size_t messages_length);
+
+/* The n entries of the vector that a message carries. Refused with 8 too. */
+uint64_t lemidrosy_carried(const uint16_t *words, size_t words_length, uint32_t message, uint16_t *vector, size_t vector_length);
+
+/* The verdict on a trace of another run-time, with fields of its own: bits 0 to 7 the number of the refusal; bit 8 whether a pair of states breaks trackability; of that
+   pair bits 16 to 23 the process and bits 24 to 39 the index of the near end, bits 40 to 47 the process and bits 48 to 63 the index of the far end. 0: the trace is
+   trackable. It takes 0.4 MB of stack. */
+uint64_t lemidrosy_judge(const uint8_t *trace, size_t trace_length);
 
 #ifdef __cplusplus
 }
