@@ -1,0 +1,71 @@
+-- `line_words::line::find_members` meets its contract. The loop's invariant: the places of the members of the processes passed so far, and whether each has one.
+-- Assumes nothing.
+use Prim.Native.Nat.{ℕ, _≤_, _-_}
+use mathlib.Core.Path.{_≡_, ap}
+use mathlib.Core.Bool.{not}
+use native.Mathlib.Omega.{arith}
+use lib.Dec.{eqb}
+use borrow.Author.Needs.{needs}
+use Rattle.laws.specs.Below.{all-and}
+use Rattle.laws.specs.Loops.{setBelow, below-none, turn-set, all-zero}
+use Rattle.laws.specs.Search.{allBelow}
+use Rattle.line_words.specs.Line.{pastLatest, membersIn}
+use Rattle.line_words.proofs.LineRule.{past-most}
+use Rattle.line_words.proofs.line.find_members.Statement.{statement}
+use Rattle.line_words.proofs.line.find_members.Tie as tie
+
+abbrev Inv-loop : tie.InvT-loop
+Inv-loop w n limits pasts₀ all₀ p₀ pasts all p =
+    (p ≤ n) × (pasts ≡ setBelow p (pastLatest w limits) pasts₀) × (all ≡ allBelow p (λ q. not (eqb (pastLatest w limits q) 0)))
+
+abbrev μ-loop : tie.MeasureT-loop
+μ-loop w n limits pasts₀ all₀ p₀ pasts all p = n - p
+
+loop-holds : tie.Need-loop-holds Inv-loop μ-loop
+loop-holds c = (search needs, below-none _ _, all-zero _)
+
+latest-allowed-requires : tie.Need-latest-allowed-requires Inv-loop μ-loop
+latest-allowed-requires c κs =
+    let st = c .before .before .before in
+    (st .pre .0, omega (arith, st .pre .1), st .pre .2 (c .before .loop .p) (c .loop-test .taken))
+
+cast-pasts : tie.Need-cast-pasts Inv-loop μ-loop
+cast-pasts c =
+    let i = c .before in
+    let st = i .before .before .before in
+    let p = i .before .loop .p in
+    omega (arith, c .latest-allowed .ensures, past-most (st .args .w .now) (st .args .limits) p, st .pre .2 p (i .loop-test .taken))
+
+loop-again : tie.Need-loop-again Inv-loop μ-loop
+loop-again c =
+    let l = c .before .before .loop in
+    let a = c .before .before .before .before .args in (
+      search needs,
+      turn-set (pastLatest (a .w .now) (a .limits)) _ (l .pasts) (l .p) (l .inv .1) _ (c .latest-allowed .ensures),
+      all-and (λ q. not (eqb (pastLatest (a .w .now) (a .limits) q) 0)) (l .p) (l .all) _ (l .inv .2) (ap (λ (k : ℕ). not (eqb k 0)) (c .latest-allowed .ensures)),
+    )
+
+returns : tie.Need-returns Inv-loop μ-loop
+unfolding membersIn
+returns c =
+    let l = c .before .loop in
+    let e : l .p ≡ c .before .before .before .args .n = omega arith in
+    let pasts = rw e at (l .inv .1) in
+    let all = rw e at (l .inv .2) in
+    rw (pasts, all)
+
+pub find-members-spec : {M : Type 1} → statement M
+find-members-spec =
+    tie.close
+    (tie.spec
+    Inv-loop
+    μ-loop
+    loop-holds
+    latest-allowed-requires
+    cast-pasts
+    (λ c. search needs)
+    (λ c. search needs)
+    (λ c. search needs)
+    (λ c. search needs)
+    loop-again
+    returns)

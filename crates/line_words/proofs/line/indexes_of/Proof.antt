@@ -1,0 +1,58 @@
+-- `line_words::line::indexes_of` meets its contract. The loop's invariant: the indexes of the processes passed so far stand.
+-- Assumes nothing.
+use Prim.Native.Nat.{ℕ, _≤_, _-_}
+use mathlib.Core.Path.{_≡_}
+use native.Mathlib.Omega.{arith}
+use lib.ListN.{getD}
+use borrow.Author.Needs.{needs}
+use Rattle.laws.specs.Loops.{setBelow, below-none, turn-set}
+use Rattle.line_words.specs.Line.{indexIn, indexesIn}
+use Rattle.line_words.proofs.line.indexes_of.Statement.{statement}
+use Rattle.line_words.proofs.line.indexes_of.Tie as tie
+
+abbrev Inv-loop : tie.InvT-loop
+Inv-loop w n pasts indexes₀ p₀ indexes p = (p ≤ n) × (indexes ≡ setBelow p (λ q. indexIn w q (getD pasts q 0)) indexes₀)
+
+abbrev μ-loop : tie.MeasureT-loop
+μ-loop w n pasts indexes₀ p₀ indexes p = n - p
+
+loop-holds : tie.Need-loop-holds Inv-loop μ-loop
+loop-holds c = (search needs, below-none _ _)
+
+index-in-requires : tie.Need-index-in-requires Inv-loop μ-loop
+index-in-requires c κs =
+    let st = c .before .before .before in
+    let p = c .before .loop .p in
+    let lt = c .loop-test .taken in
+    (st .pre .0, omega (arith, st .pre .1), st .pre .5 p lt, st .pre .3 p lt, st .pre .2 p lt, st .pre .4 p lt)
+
+loop-again : tie.Need-loop-again Inv-loop μ-loop
+loop-again c =
+    let l = c .before .before .loop in
+    let a = c .before .before .before .before .args in
+    (search needs, turn-set (λ q. indexIn (a .w .now) q (getD (a .t3) q 0)) _ (l .indexes) (l .p) (l .inv .1) _ (c .index-in .ensures))
+
+returns : tie.Need-returns Inv-loop μ-loop
+unfolding indexesIn
+returns c =
+    let l = c .before .loop in
+    let e : l .p ≡ c .before .before .before .args .n = omega arith in
+    rw e at (l .inv .1)
+
+pub indexes-of-spec : {M : Type 1} → statement M
+indexes-of-spec =
+    tie.close
+    (tie.spec
+    Inv-loop
+    μ-loop
+    loop-holds
+    (λ c. search needs)
+    (λ c. search needs)
+    (λ c. search needs)
+    index-in-requires
+    (λ c. search needs)
+    (λ c. search needs)
+    (λ c. search needs)
+    (λ c. search needs)
+    loop-again
+    returns)

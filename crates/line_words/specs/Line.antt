@@ -1,0 +1,74 @@
+-- The line rule on the words: which states of a process are within the limits that a failed set puts on the entries, and where the latest of them stands.
+-- proofs/LineRule has that they say what Steps says of the run.
+-- Assumes nothing.
+use mathlib.Core.Bool.{Bool, not}
+use mathlib.Core.List.{List}
+use mathlib.Core.Option.{Option, none, some}
+use Prim.Native.Nat.{ℕ, zero, suc, _+_, _-_, _≤_, _<_}
+use lib.Dec.{eqb, ltb, leb}
+use lib.ListN.{getD, replicate}
+use Rattle.laws.specs.Choice.{pick}
+use Rattle.laws.specs.Loops.{setBelow}
+use Rattle.laws.specs.Search.{allBelow}
+use Rattle.model.specs.declared.Interval.{Interval}
+use Rattle.model.specs.declared.CheckpointIndex.{CheckpointIndex}
+use Rattle.model.specs.declared.Checkpoint.{Checkpoint}
+use Rattle.model.specs.Words.{places, entry, liveIndex, live, zeroVector, failed}
+use Rattle.words.specs.Layout.{word, heldAt, partAt, indexAt, storedAt, intervalOf, indexOf, vectorIn, checkpointIn}
+use Rattle.words.specs.Parts.{processIn}
+use Rattle.line_words.specs.declared.line.Members.{Members}
+
+-- "whose entry f is less than f's current own entry, for every failed f": the greatest entry for f that a state may have. No entry for f is above f's own one.
+unfoldable pub limitOf : List ℕ → ℕ → ℕ → Interval
+limitOf w F f = record { 0 = pick (failed F f) (word w (partAt f + f) - 1) (word w (partAt f + f)) }
+
+unfoldable pub limitsIn : List ℕ → ℕ → ℕ → List Interval
+limitsIn w n F = setBelow n (limitOf w F) zeroVector
+
+unfoldable pub isWithin : List Interval → List Interval → Bool
+isWithin limits v = allBelow places (λ f. leb (entry v f .0) (entry limits f .0))
+
+-- One above the place of the latest of the first kept checkpoints that is within the limits, 0 if there is none; and of all states, the live one last.
+unfoldable pub pastKept : List ℕ → List Interval → ℕ → ℕ → ℕ
+pastKept w limits p zero = 0
+pastKept w limits p (suc k) = pick (isWithin limits (vectorIn w (storedAt p k))) (suc k) (pastKept w limits p k)
+
+unfoldable pub pastLatest : List ℕ → List Interval → ℕ → ℕ
+pastLatest w limits p = pick (isWithin limits (vectorIn w (partAt p))) (word w (heldAt p) + 1) (pastKept w limits p (word w (heldAt p)))
+
+-- The states of process p: the checkpoints that it keeps, and after them the live one; and what a search found.
+unfoldable pub stateIn : List ℕ → ℕ → ℕ → Checkpoint
+stateIn w p k = pick (ltb k (word w (heldAt p))) (checkpointIn w p k) (live p (processIn w p))
+
+unfoldable pub stateBefore : List ℕ → ℕ → ℕ → Option Checkpoint
+stateBefore w p zero = none
+stateBefore w p (suc k) = some (stateIn w p k)
+
+-- What the functions rely on: own entries at least 1, at most 16 kept checkpoints, each with an index.
+abbrev pub OwnSome : ℕ → List ℕ → Type 0
+OwnSome n w = (p : ℕ) → p < n → 1 ≤ word w (partAt p + p)
+
+abbrev pub HeldMost : ℕ → List ℕ → Type 0
+HeldMost n w = (p : ℕ) → p < n → word w (heldAt p) ≤ 16
+
+abbrev pub KeptUsed : ℕ → List ℕ → Type 0
+KeptUsed p w = (k : ℕ) → k < word w (heldAt p) → 1 ≤ word w (indexAt p k)
+
+abbrev pub AllUsed : ℕ → List ℕ → Type 0
+AllUsed n w = (p : ℕ) → p < n → KeptUsed p w
+
+-- The members of n processes, and their indexes.
+unfoldable pub membersIn : List ℕ → ℕ → List Interval → Members
+membersIn w n limits = record {
+  all = allBelow n (λ p. not (eqb (pastLatest w limits p) 0));
+  pasts = setBelow n (pastLatest w limits) (replicate places 0);
+}
+
+abbrev pub AllFound : ℕ → List ℕ → Type 0
+AllFound n pasts = (p : ℕ) → p < n → 1 ≤ getD pasts p 0
+
+unfoldable pub indexIn : List ℕ → ℕ → ℕ → CheckpointIndex
+indexIn w p past = pick (leb past (word w (heldAt p))) (indexOf (word w (indexAt p (past - 1)))) (liveIndex (intervalOf (word w (partAt p + p))))
+
+unfoldable pub indexesIn : List ℕ → ℕ → List ℕ → List CheckpointIndex
+indexesIn w n pasts = setBelow n (λ p. indexIn w p (getD pasts p 0)) (replicate places (record { 0 = 0 }))

@@ -1,0 +1,4 @@
+// The line and the recovery of one process, on its part of the words.
+
+// line.rt: the line's member of each process
+pub mod line;

@@ -1,0 +1,115 @@
+// The line's member of a process. Its states are the checkpoints that it keeps, in their places, and after them the live state.
+use model::CheckpointIndex;
+use model::Interval;
+use words::places;
+ghost use mathlib.Core.Path.{_≡_};
+ghost use Prim.Native.Nat.{_+_, _-_, _≤_, _<_};
+ghost use lib.ListN.{length};
+ghost use Rattle.laws.specs.Choice.{pick};
+ghost use Rattle.words.specs.Layout.{word, heldAt, partAt};
+ghost use Rattle.line_words.specs.Line.{limitsIn, pastKept, pastLatest, membersIn, indexIn, indexesIn, OwnSome, HeldMost, KeptUsed, AllUsed, AllFound};
+
+// The greatest entry for a process that a state may have: "less than f's current own entry" where it has failed. Where it has not, no entry is above the own entry.
+fn limit_of(failed: bool, own: Interval) -> Interval
+    requires { ⌜ 1 ≤ own .0 ⌝ }
+    ensures { λ r. ⌜ r ≡ record { 0 = pick failed (own .0 - 1) (own .0) } ⌝ }
+{
+    if failed { Interval(own.0 - 1) } else { own }
+}
+
+// The limit of each entry; bit f of the failed set stands for process f, which is one of n.
+pub fn limits_of(w: &[u16], n: usize, failed: u32) -> [Interval; 16]
+    requires { ⌜ (length (now w) ≡ 6464) × (n ≤ 16) × OwnSome n (now w) ⌝ }
+    ensures { λ r. ⌜ r ≡ limitsIn (now (w .entry)) n failed ⌝ }
+{
+    let mut limits = [Interval(0); 16];
+    let mut left = failed;
+    for f in 0..n {
+        let own = words::interval_of(w[places::PARTS + places::PART * f + f]);
+        let limit = limit_of(left % 2 == 1, own);
+        limits[f] = limit;
+        left = left / 2;
+    }
+    limits
+}
+
+// One above the place of the latest of the first `held` kept checkpoints that is within the limits, 0 if there is none.
+fn latest_kept(w: &[u16], p: usize, held: usize, limits: [Interval; 16]) -> usize
+    requires { ⌜ (length (now w) ≡ 6464) × (p < 16) × (held ≤ 16) ⌝ }
+    ensures { λ r. ⌜ r ≡ pastKept (now (w .entry)) limits p held ⌝ }
+{
+    let mut past = held;
+    while 0 < past {
+        let vector = words::vector_at(
+            w,
+            places::STORED + places::PART * p + places::ROW * (past - 1),
+        );
+        let within = sound_rows::is_within(vector, limits);
+        if within {
+            return past;
+        }
+        past -= 1;
+    }
+    0
+}
+
+// One above the place of the latest state that is within the limits, 0 if there is none. The live state is tried first.
+fn latest_allowed(w: &[u16], p: usize, limits: [Interval; 16]) -> usize
+    requires { ⌜ (length (now w) ≡ 6464) × (p < 16) × (word (now w) (heldAt p) ≤ 16) ⌝ }
+    ensures { λ r. ⌜ r ≡ pastLatest (now (w .entry)) limits p ⌝ }
+{
+    let held = w[places::HELD + p] as usize;
+    let live = words::vector_at(w, places::PARTS + places::PART * p);
+    let within = sound_rows::is_within(live, limits);
+    if within {
+        return held + 1;
+    }
+    latest_kept(w, p, held, limits)
+}
+
+// One above the place of each process's member, 0 at n and above. `all` says whether the line rule accepts a state of each process.
+pub struct Members {
+    pub all: bool,
+    pub pasts: [u16; 16],
+}
+
+pub fn find_members(w: &[u16], n: usize, limits: [Interval; 16]) -> Members
+    requires { ⌜ (length (now w) ≡ 6464) × (n ≤ 16) × HeldMost n (now w) ⌝ }
+    ensures { λ r. ⌜ r ≡ membersIn (now (w .entry)) n limits ⌝ }
+{
+    let mut pasts = [0u16; 16];
+    let mut all = true;
+    for p in 0..n {
+        let past = latest_allowed(w, p, limits);
+        pasts[p] = past as u16;
+        all = all & (past != 0);
+    }
+    Members { all, pasts }
+}
+
+// The index of the state of process p in the place before this one.
+fn index_in(w: &[u16], p: usize, past: usize) -> CheckpointIndex
+    requires { ⌜ (length (now w) ≡ 6464) × (p < 16) × (1 ≤ past) × (word (now w) (heldAt p) ≤ 16) × (1 ≤ word (now w) (partAt p + p)) × KeptUsed p (now w) ⌝ }
+    ensures { λ r. ⌜ r ≡ indexIn (now (w .entry)) p past ⌝ }
+{
+    let held = w[places::HELD + p] as usize;
+    if past <= held {
+        words::index_of(w[places::INDEXES + places::PART * p + (past - 1)])
+    } else {
+        rows::vector::live_index(words::interval_of(w[places::PARTS + places::PART * p + p]))
+    }
+}
+
+// The indexes of the members of n processes, 0 at n and above.
+pub fn indexes_of(w: &[u16], n: usize, pasts: [u16; 16]) -> [CheckpointIndex; 16]
+    requires { ⌜ (length (now w) ≡ 6464) × (n ≤ 16) × OwnSome n (now w) × HeldMost n (now w) × AllUsed n (now w) × AllFound n pasts ⌝ }
+    ensures { λ r. ⌜ r ≡ indexesIn (now (w .entry)) n pasts ⌝ }
+{
+    let mut indexes = [CheckpointIndex(0); 16];
+    for p in 0..n {
+        let past = pasts[p] as usize;
+        let index = index_in(w, p, past);
+        indexes[p] = index;
+    }
+    indexes
+}
