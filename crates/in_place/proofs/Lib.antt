@@ -3,6 +3,7 @@ pub mod Checkpointing
 pub mod Delivering
 pub mod Judging
 pub mod Leaving
+pub mod Lining
 pub mod Losing
 pub mod Moving
 pub mod Sending

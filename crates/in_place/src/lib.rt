@@ -12,3 +12,6 @@ pub mod send;
 
 // lose.rt: a message is lost
 pub mod lose;
+
+// line.rt: the line for a failed set
+pub mod line;

@@ -1,0 +1,123 @@
+-- The line call: what its outcome is, by the list's length, the failed set, and whether each process has a member.
+-- Assumes nothing.
+use mathlib.Core.Path.{_≡_, refl, sym, _∙_, ap}
+use mathlib.Core.Bool.{true, false, false≢true}
+use mathlib.Core.List.{List, []}
+use mathlib.Core.Option.{Option, none, some}
+use Prim.Native.Nat.{ℕ, _^_, _≤_}
+use native.Mathlib.Omega.{arith}
+use lib.Dec.{ltb, leb}
+use lib.ListN.{length, getD}
+use lib.Seq.{sets}
+use Rattle.laws.specs.Below.{not-out}
+use Rattle.laws.specs.Choice.{pick, by-bool}
+use Rattle.laws.specs.Lists.{table}
+use Rattle.line_words.specs.declared.line.Members.{Members}
+use Rattle.line_words.specs.Line.{limitsIn, membersIn, indexesIn, OwnSome, HeldMost, AllUsed, AllFound}
+use Rattle.line_words.proofs.LineRule.{all-found, past-at, found-one, line-is}
+use Rattle.model.specs.declared.Interval.{Interval}
+use Rattle.model.specs.declared.CheckpointIndex.{CheckpointIndex}
+use Rattle.model.specs.declared.Refusal.{Refusal}
+use Rattle.model.specs.declared.Refusal.the-variants.{UnsoundState, ListTooShort, NoSuchFailedProcess}
+use Rattle.model.specs.declared.Run.{Run}
+use Rattle.model.specs.declared.LineAnswer.{LineAnswer}
+use Rattle.model.specs.declared.LineAnswer.the-variants.{Refused, Written}
+use Rattle.model.specs.Sound.{sound}
+use Rattle.model.specs.Steps.{lineOf}
+use Rattle.model.specs.Refusals.{outside, noMember, lineRefusal}
+use Rattle.model.specs.laws.Refusals.{refusal-in}
+use Rattle.verdicts.specs.declared.Verdict.the-variants as verdict
+use Rattle.verdicts.specs.Verdicts.{recoveryVerdict}
+use Rattle.whole_runs.specs.Outcomes.{Outcome, lineOutcome}
+use Rattle.words.specs.Layout.{countOf, runOf}
+use Rattle.words.proofs.View.{count-is}
+use Rattle.words.proofs.ViewSound.{sound-fits, sound-few, sound-part}
+
+module _ (w : List ℕ) (h : sound (runOf w) ≡ true) (F : ℕ) (line : List ℕ) where
+  abbrev s : Run
+  s = runOf w
+
+  count : s .count ≡ countOf w
+  count = count-is w (sound-fits w h)
+
+  -- The outcome of a refusal, and of a line.
+  unfoldable pub refused : Refusal → Outcome LineAnswer
+  refused why = record { run = s; answer = Refused why; rose = 0; deleted = []; line = line }
+
+  by-refusal : (why : Refusal) → lineRefusal s F line ≡ some why → lineOutcome s F line ≡ refused why
+  unfolding lineOutcome refused
+  by-refusal why e = rw e
+
+  pub line-short : ltb (length line) (countOf w) ≡ true → lineOutcome s F line ≡ refused ListTooShort
+  unfolding lineRefusal
+  line-short e = by-refusal ListTooShort (refusal-in _ (some ListTooShort) (1, (rw h, tt), ap (ltb (length line)) count ∙ e, refl))
+
+  module _ (long : ltb (length line) (countOf w) ≡ false) where
+    long-enough : ltb (length line) (s .count) ≡ false
+    long-enough = ap (ltb (length line)) count ∙ long
+
+    set-refused : leb (2 ^ countOf w) F ≡ true → lineOutcome s F line ≡ refused NoSuchFailedProcess
+    unfolding lineRefusal
+    set-refused o = by-refusal NoSuchFailedProcess (refusal-in _ (some NoSuchFailedProcess) (2, (rw h, (long-enough, tt)), rw count o, refl))
+
+    pub line-refused : (why : Refusal) → recoveryVerdict (countOf w) F ≡ verdict.Refused why → lineOutcome s F line ≡ refused why
+    unfolding recoveryVerdict
+    line-refused why e = by-bool (leb (2 ^ countOf w) F)
+        (λ o.
+        let q : verdict.Refused NoSuchFailedProcess ≡ verdict.Refused why = rw o at e in
+        let same : NoSuchFailedProcess ≡ why = cc in
+        rw (← same) (set-refused o))
+        (λ o. let q : verdict.Accepted ≡ verdict.Refused why = rw o at e in absurd (false≢true cc))
+
+    module _ (passed : recoveryVerdict (countOf w) F ≡ verdict.Accepted) where
+      inside : outside s F ≡ false
+      unfolding recoveryVerdict
+      inside = by-bool (leb (2 ^ countOf w) F)
+          (λ o. let q : verdict.Refused NoSuchFailedProcess ≡ verdict.Accepted = rw o at passed in absurd (false≢true cc))
+          (λ o. rw count o)
+
+      missing-outcome : noMember s F ≡ true → lineOutcome s F line ≡ refused UnsoundState
+      unfolding lineRefusal
+      missing-outcome e = by-refusal UnsoundState (refusal-in _ (some UnsoundState) (3, (rw h, (long-enough, (inside, tt))), e, refl))
+
+      written-outcome : noMember s F ≡ false → lineOutcome s F line ≡ record { run = s; answer = Written; rose = 0; deleted = []; line = sets line 0 (lineOf s F) }
+      unfolding lineOutcome lineRefusal
+      written-outcome e = let judged : lineRefusal s F line ≡ none = refusal-in _ none (rw h, (long-enough, (inside, (e, tt)))) in rw judged
+
+      pub line-passed : lineOutcome s F line ≡ record {
+        run = s;
+        answer = pick (noMember s F) (Refused UnsoundState) Written;
+        rose = 0;
+        deleted = [];
+        line = pick (noMember s F) line (sets line 0 (lineOf s F));
+      }
+      unfolding refused
+      line-passed = by-bool (noMember s F) (λ e. missing-outcome e ∙ rw e) (λ e. written-outcome e ∙ rw e)
+
+-- What line_words relies on, of words that stand for a sound state with n processes; and what it finds.
+module _ (w : List ℕ) (h : sound (runOf w) ≡ true) (n : ℕ) (same : n ≡ countOf w) where
+  pub some-own : OwnSome n w
+  some-own p lt = sound-part w h p (omega arith) .own-some
+
+  pub most-held : HeldMost n w
+  most-held p lt = omega (arith, sound-part w h p (omega arith) .held-most, sound-few w h)
+
+  pub all-used : AllUsed n w
+  all-used p lt = sound-part w h p (omega arith) .used
+
+  module _ (F : ℕ) (limits : List Interval) (m : Members) (of-set : limits ≡ limitsIn w n F) (found : m ≡ membersIn w n limits) where
+    members-are : m ≡ membersIn w (countOf w) (limitsIn w (countOf w) F)
+    members-are = found ∙ rw (of-set, same)
+
+    pub members-missing : m .all ≡ false → noMember (runOf w) F ≡ true
+    members-missing e = not-out (noMember (runOf w) F) false (sym (all-found w h F) ∙ sym (ap (λ (x : Members). x .all) members-are) ∙ e)
+
+    pub members-there : m .all ≡ true → noMember (runOf w) F ≡ false
+    members-there e = not-out (noMember (runOf w) F) true (sym (all-found w h F) ∙ sym (ap (λ (x : Members). x .all) members-are) ∙ e)
+
+    pub members-found : m .all ≡ true → AllFound n (m .pasts)
+    members-found e p lt = rw (members-are, past-at w h F p (omega arith)) (found-one w h F (members-there e) p (omega arith))
+
+    pub line-found : m .all ≡ true → (indexes : List CheckpointIndex) → indexes ≡ indexesIn w n (m .pasts)
+        → table n (λ p. getD indexes p (record { 0 = 0 }) .0) ≡ lineOf (runOf w) F
+    line-found e indexes q = rw (q, members-are, same) (line-is w h F (members-there e))

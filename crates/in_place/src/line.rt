@@ -1,0 +1,68 @@
+// The line for a failed set: the index of every process's member goes into the lent list. Nothing else changes.
+use model::CheckpointIndex;
+use model::LineAnswer;
+use model::Refusal;
+use verdicts::Verdict;
+use words::places;
+ghost use mathlib.Core.Path.{_≡_};
+ghost use mathlib.Core.Bool.{true};
+ghost use Prim.Native.Nat.{_≤_};
+ghost use lib.ListN.{length, getD};
+ghost use lib.Seq.{sets};
+ghost use Rattle.laws.specs.Choice.{pick};
+ghost use Rattle.laws.specs.Lists.{table};
+ghost use Rattle.model.specs.Refusals.{noMember};
+ghost use Rattle.model.specs.Sound.{sound};
+ghost use Rattle.model.specs.Steps.{lineOf};
+ghost use Rattle.model.specs.declared.LineAnswer.the-variants.{Refused, Written};
+ghost use Rattle.model.specs.declared.Refusal.the-variants.{UnsoundState};
+ghost use Rattle.whole_runs.specs.Outcomes.{lineOutcome};
+ghost use Rattle.words.specs.Layout.{countOf, runOf};
+
+// The indexes of n members go to the front of the lent list.
+pub(crate) fn write_line(line: &mut [u16], indexes: [CheckpointIndex; 16], n: usize)
+    requires { ⌜ (n ≤ 16) × (n ≤ length (now line)) ⌝ }
+    ensures { λ u. ⌜ now (line .exit) ≡ sets (now (line .entry)) 0 (table n (λ p. getD indexes p (record { 0 = 0 }) .0)) ⌝ }
+{
+    for p in 0..n {
+        let index = indexes[p];
+        line[p] = index.0;
+    }
+}
+
+// A failed set that is within the run: the line is written if the rule accepts a state of each process.
+fn line_within(w: &[u16], n: usize, failed: u32, line: &mut [u16]) -> LineAnswer
+    requires { ⌜ (sound (runOf (now w)) ≡ true) × (n ≡ countOf (now w)) × (n ≤ length (now line)) ⌝ }
+    ensures { λ r. ⌜ r ≡ pick (noMember (runOf (now (w .entry))) failed) (Refused UnsoundState) Written ⌝ }
+    ensures { λ r. ⌜ now (line .exit) ≡ pick (noMember (runOf (now (w .entry))) failed) (now (line .entry)) (sets (now (line .entry)) 0 (lineOf (runOf (now (w .entry))) failed)) ⌝ }
+{
+    let limits = line_words::line::limits_of(w, n, failed);
+    let members = line_words::line::find_members(w, n, limits);
+    let all = members.all;
+    if !all {
+        return LineAnswer::Refused(Refusal::UnsoundState);
+    }
+    let pasts = members.pasts;
+    let indexes = line_words::line::indexes_of(w, n, pasts);
+    write_line(line, indexes, n);
+    LineAnswer::Written
+}
+
+// The words stand for a sound state. Bit p of the failed set stands for process p.
+pub fn line_on(w: &[u16], failed: u32, line: &mut [u16]) -> LineAnswer
+    requires { ⌜ sound (runOf (now w)) ≡ true ⌝ }
+    ensures { λ r. ⌜ runOf (now (w .entry)) ≡ lineOutcome (runOf (now (w .entry))) failed (now (line .entry)) .run ⌝ }
+    ensures { λ r. ⌜ r ≡ lineOutcome (runOf (now (w .entry))) failed (now (line .entry)) .answer ⌝ }
+    ensures { λ r. ⌜ now (line .exit) ≡ lineOutcome (runOf (now (w .entry))) failed (now (line .entry)) .line ⌝ }
+{
+    let n = w[places::COUNT] as usize;
+    let short = lent_lists::is_line_short(line.len(), n);
+    if short {
+        return LineAnswer::Refused(Refusal::ListTooShort);
+    }
+    let verdict = verdicts::recovery_verdict(failed, n);
+    match verdict {
+        Verdict::Refused(why) => LineAnswer::Refused(why),
+        Verdict::Accepted => line_within(w, n, failed, line),
+    }
+}
