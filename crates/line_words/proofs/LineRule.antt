@@ -59,11 +59,11 @@ module _ (w : List ℕ) (limits : List Interval) (p : ℕ) where
   past-most = by-bool (isWithin limits (vectorIn w (partAt p))) (λ e. rw e (omega arith)) (λ e. rw e (omega (arith, kept-most (word w (heldAt p)))))
 
 -- The last of a table that passes.
-last-more : {A : Type 0} (t : A → Bool) (n : ℕ) (g : ℕ → A) → t (g n) ≡ true → lastOf (select t (table (suc n) g)) ≡ some (g n)
+pub last-more : {A : Type 0} (t : A → Bool) (n : ℕ) (g : ℕ → A) → t (g n) ≡ true → lastOf (select t (table (suc n) g)) ≡ some (g n)
 unfolding table select
 last-more t n g e = ap lastOf (select-append t (table n g) (g n ∷ []) ∙ rw e) ∙ lastOf-snoc (select t (table n g)) (g n)
 
-last-less : {A : Type 0} (t : A → Bool) (n : ℕ) (g : ℕ → A) → t (g n) ≡ false → lastOf (select t (table (suc n) g)) ≡ lastOf (select t (table n g))
+pub last-less : {A : Type 0} (t : A → Bool) (n : ℕ) (g : ℕ → A) → t (g n) ≡ false → lastOf (select t (table (suc n) g)) ≡ lastOf (select t (table n g))
 unfolding table select
 last-less t n g e = ap lastOf (select-append t (table n g) (g n ∷ []) ∙ rw e (append-nil _))
 

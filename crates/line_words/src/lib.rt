@@ -2,3 +2,6 @@
 
 // line.rt: the line's member of each process
 pub mod line;
+
+// through.rt: the earliest line through named checkpoints
+pub mod through;

@@ -1,0 +1,21 @@
+-- `line_words::through::pair_count` meets its contract. Assumes nothing.
+use Prim.Native.Nat.{_%_}
+use borrow.Author.Tests.{eq-eqb, ne-eqb}
+use Rattle.line_words.specs.Through.{pairCount}
+use Rattle.line_words.proofs.through.pair_count.Statement.{statement}
+use Rattle.line_words.proofs.through.pair_count.Tie as tie
+
+returns : tie.Need-returns
+unfolding pairCount
+returns c = rw (eq-eqb (c .before .args .length % 2) 1 (c .if1 .taken))
+
+returns-2 : tie.Need-returns-2
+unfolding pairCount
+returns-2 c = rw (ne-eqb (c .before .args .length % 2) 1 (c .if1 .left))
+
+pub pair-count-spec : {M : Type 1} → statement M
+pair-count-spec =
+    tie.close
+    (tie.spec
+    returns
+    returns-2)
