@@ -6,5 +6,6 @@ pub mod Leaving
 pub mod Lining
 pub mod Losing
 pub mod Moving
+pub mod Reached
 pub mod Sending
 pub mod Starting

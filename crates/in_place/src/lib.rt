@@ -15,3 +15,6 @@ pub mod lose;
 
 // line.rt: the line for a failed set
 pub mod line;
+
+// through.rt: the earliest consistent line through named checkpoints
+pub mod through;

@@ -1,0 +1,58 @@
+// The earliest consistent line through named checkpoints (document 02, Note 8), which are pairs of numbers in a lent slice: process, index, process, index, and so on. Each
+// number is judged whole. Numbers of which one is left over are no pairs, and name nothing. The line goes into the lent list; nothing else changes.
+use model::LineAnswer;
+use model::Refusal;
+use words::places;
+ghost use mathlib.Core.Path.{_≡_};
+ghost use mathlib.Core.Bool.{true, false};
+ghost use Prim.Native.Nat.{_≤_};
+ghost use lib.ListN.{length};
+ghost use Rattle.model.specs.Sound.{sound};
+ghost use Rattle.whole_runs.specs.Earliest.{someAbsent, unfit, earliestOutcome};
+ghost use Rattle.words.specs.Layout.{countOf, runOf};
+ghost use Rattle.line_words.specs.Through.{pairCount, namedIn};
+
+// A list of m pairs that is fit: numbers 19 and 20, then the line.
+fn line_through(w: &[u16], named: &[u32], m: usize, n: usize, line: &mut [u16]) -> LineAnswer
+    requires { ⌜ (sound (runOf (now w)) ≡ true) × (n ≡ countOf (now w)) × (n ≤ length (now line)) × (m ≡ pairCount (length (now named))) ⌝ }
+    requires { ⌜ (someAbsent (countOf (now w)) (namedIn (now named)) ≡ false) × (unfit (countOf (now w)) (namedIn (now named)) ≡ false) ⌝ }
+    ensures { λ r. ⌜ r ≡ earliestOutcome (runOf (now (w .entry))) (namedIn (now (named .entry))) (now (line .entry)) .answer ⌝ }
+    ensures { λ r. ⌜ now (line .exit) ≡ earliestOutcome (runOf (now (w .entry))) (namedIn (now (named .entry))) (now (line .entry)) .line ⌝ }
+{
+    let found = line_words::through::find_starts(w, named, m);
+    let all = found.all;
+    if !all {
+        return LineAnswer::Refused(Refusal::NotKept);
+    }
+    let starts = found.starts;
+    let ordered = line_words::through::is_ordered(w, named, starts, m);
+    if ordered {
+        return LineAnswer::Refused(Refusal::CausallyOrdered);
+    }
+    line_words::through::write_greatest(w, starts, m, n, line);
+    LineAnswer::Written
+}
+
+// The words stand for a sound state. Numbers 3, 4, 18, 19 and 20 in this order, then the line.
+pub fn earliest_on(w: &[u16], named: &[u32], line: &mut [u16]) -> LineAnswer
+    requires { ⌜ sound (runOf (now w)) ≡ true ⌝ }
+    ensures { λ r. ⌜ runOf (now (w .entry)) ≡ earliestOutcome (runOf (now (w .entry))) (namedIn (now (named .entry))) (now (line .entry)) .run ⌝ }
+    ensures { λ r. ⌜ r ≡ earliestOutcome (runOf (now (w .entry))) (namedIn (now (named .entry))) (now (line .entry)) .answer ⌝ }
+    ensures { λ r. ⌜ now (line .exit) ≡ earliestOutcome (runOf (now (w .entry))) (namedIn (now (named .entry))) (now (line .entry)) .line ⌝ }
+{
+    let n = w[places::COUNT] as usize;
+    let m = line_words::through::pair_count(named.len());
+    let short = lent_lists::is_line_short(line.len(), n);
+    if short {
+        return LineAnswer::Refused(Refusal::ListTooShort);
+    }
+    let absent = line_words::through::names_absent(named, m, n);
+    if absent {
+        return LineAnswer::Refused(Refusal::NoSuchProcess);
+    }
+    let unfit = line_words::through::is_unfit(named, m, n);
+    if unfit {
+        return LineAnswer::Refused(Refusal::UnfitNamedList);
+    }
+    line_through(w, named, m, n, line)
+}
