@@ -17,6 +17,8 @@ ghost use Rattle.model.specs.Steps.{lineOf};
 ghost use Rattle.model.specs.declared.LineAnswer.the-variants.{Refused, Written};
 ghost use Rattle.model.specs.declared.Refusal.the-variants.{UnsoundState};
 ghost use Rattle.whole_runs.specs.Outcomes.{lineOutcome};
+ghost use Rattle.whole_runs.specs.Sweep.{EmptyLinePromise};
+ghost use Rattle.whole_runs.specs.WholeRuns.{LinePromise};
 ghost use Rattle.words.specs.Layout.{countOf, runOf};
 
 // The indexes of n members go to the front of the lent list.
@@ -65,4 +67,21 @@ pub fn line_on(w: &[u16], failed: u32, line: &mut [u16]) -> LineAnswer
         Verdict::Refused(why) => LineAnswer::Refused(why),
         Verdict::Accepted => line_within(w, n, failed, line),
     }
+}
+
+// The line for a failed set, bit p of which stands for process p: its indexes go to the front of the lent list.
+// Wherever calls from an accepted start led to the state of the words, the line is right, and so is what the words keep (demand 3). Wherever they stand for a sound state,
+// the line for the empty set has every process live (Note 4).
+pub fn line(w: &[u16], failed: u32, line: &mut [u16]) -> LineAnswer
+    ensures { λ r. ⌜ runOf (now (w .entry)) ≡ lineOutcome (runOf (now (w .entry))) failed (now (line .entry)) .run ⌝ }
+    ensures { λ r. ⌜ r ≡ lineOutcome (runOf (now (w .entry))) failed (now (line .entry)) .answer ⌝ }
+    ensures { λ r. ⌜ now (line .exit) ≡ lineOutcome (runOf (now (w .entry))) failed (now (line .entry)) .line ⌝ }
+    ensures { λ r. ⌜ LinePromise (runOf (now (w .entry))) failed ⌝ }
+    ensures { λ r. ⌜ EmptyLinePromise (runOf (now (w .entry))) failed (now (line .entry)) r (now (line .exit)) ⌝ }
+{
+    let sound = sound_words::is_sound(w);
+    if !sound {
+        return LineAnswer::Refused(Refusal::UnsoundState);
+    }
+    line_on(w, failed, line)
 }

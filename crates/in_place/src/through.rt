@@ -9,6 +9,7 @@ ghost use Prim.Native.Nat.{_≤_};
 ghost use lib.ListN.{length};
 ghost use Rattle.model.specs.Sound.{sound};
 ghost use Rattle.whole_runs.specs.Earliest.{someAbsent, unfit, earliestOutcome};
+ghost use Rattle.whole_runs.specs.WholeRuns.{EarliestPromise};
 ghost use Rattle.words.specs.Layout.{countOf, runOf};
 ghost use Rattle.line_words.specs.Through.{pairCount, namedIn};
 
@@ -55,4 +56,20 @@ pub fn earliest_on(w: &[u16], named: &[u32], line: &mut [u16]) -> LineAnswer
         return LineAnswer::Refused(Refusal::UnfitNamedList);
     }
     line_through(w, named, m, n, line)
+}
+
+// The earliest consistent line through every named checkpoint: its indexes go to the front of the lent line list.
+// Wherever calls from an accepted start led to the state of the words, the line is right, and 20 is given only where no consistent line passes through all of them
+// (document 02, Note 8). The line may name deleted checkpoints and live states: it is to be shown, not restarted from.
+pub fn earliest(w: &[u16], named: &[u32], line: &mut [u16]) -> LineAnswer
+    ensures { λ r. ⌜ runOf (now (w .entry)) ≡ earliestOutcome (runOf (now (w .entry))) (namedIn (now (named .entry))) (now (line .entry)) .run ⌝ }
+    ensures { λ r. ⌜ r ≡ earliestOutcome (runOf (now (w .entry))) (namedIn (now (named .entry))) (now (line .entry)) .answer ⌝ }
+    ensures { λ r. ⌜ now (line .exit) ≡ earliestOutcome (runOf (now (w .entry))) (namedIn (now (named .entry))) (now (line .entry)) .line ⌝ }
+    ensures { λ r. ⌜ EarliestPromise (runOf (now (w .entry))) (namedIn (now (named .entry))) (now (line .entry)) ⌝ }
+{
+    let sound = sound_words::is_sound(w);
+    if !sound {
+        return LineAnswer::Refused(Refusal::UnsoundState);
+    }
+    earliest_on(w, named, line)
 }

@@ -38,8 +38,7 @@ indexes-of-requires c κs =
     let st = l .before .before .before in
     let w = st .args .w .now in
     let n = st .args .n in
-    let k = sound-words w (st .pre .0) in
-    (
+    let k = sound-words w (st .pre .0) in (
       k .size,
       omega (arith, k .few, st .pre .1),
       some-own w (st .pre .0) n (st .pre .1),

@@ -18,8 +18,7 @@ find-starts-requires c κs =
     let p = st .pre .0 in
     let w = a .w .now in
     let l = a .named .now in
-    let line = a .line .now in
-    (
+    let line = a .line .now in (
       sound-words w (p .0) .size,
       pairs-in w (p .0) l line (a .m) (a .n) (p .3) (p .1) (p .2) (st .pre .1 .0) (st .pre .1 .1),
       few-pairs w (p .0) l line (a .m) (a .n) (p .3) (p .1) (p .2) (st .pre .1 .0) (st .pre .1 .1),
@@ -44,8 +43,7 @@ is-ordered-requires c κs =
     let p = st .pre .0 in
     let w = a .w .now in
     let l = a .named .now in
-    let line = a .line .now in
-    (
+    let line = a .line .now in (
       sound-words w (p .0) .size,
       pairs-in w (p .0) l line (a .m) (a .n) (p .3) (p .1) (p .2) (st .pre .1 .0) (st .pre .1 .1),
       few-pairs w (p .0) l line (a .m) (a .n) (p .3) (p .1) (p .2) (st .pre .1 .0) (st .pre .1 .1),
@@ -74,8 +72,7 @@ write-greatest-requires c κs =
     let p = st .pre .0 in
     let w = a .w .now in
     let l = a .named .now in
-    let line = a .line .now in
-    (
+    let line = a .line .now in (
       sound-words w (p .0) .size,
       few-pairs w (p .0) l line (a .m) (a .n) (p .3) (p .1) (p .2) (st .pre .1 .0) (st .pre .1 .1),
       within w (p .0) l line (a .m) (a .n) (p .3) (p .1) (p .2) (st .pre .1 .0) (st .pre .1 .1) _ (f .find-starts .ensures) (not-false _ (o .before .before .if1 .left)),
