@@ -13,6 +13,7 @@
 //! product: "Recovery lines and collected checkpoints of a message-passing
 //! run" and, where a note is named, "New change requests".
 
+pub mod calls;
 pub mod cases;
 pub mod console;
 pub mod generate;
@@ -23,3 +24,4 @@ pub mod replay;
 pub mod run;
 pub mod simulate;
 pub mod whole;
+pub mod words;

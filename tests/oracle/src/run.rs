@@ -8,10 +8,11 @@
 //! first that holds is the lowest: "Where several hold, the lowest number is
 //! given."
 //!
-//! Soundness of the state (number 2) is not judged: a `Run` can only be had
-//! from a start and the calls on it. (The door for tests, at the end, judges the
-//! sums that it is handed.)
+//! Soundness of the state (number 2) is not judged here: a `Run` is had from a
+//! start and the calls on it, or, by `forged`, from a state that was judged.
+//! (The door for tests, at the end, judges the sums that it is handed.)
 
+pub mod forged;
 pub mod record;
 
 /// "A run has n processes, 1 to 16, numbered from 0."
@@ -73,7 +74,7 @@ pub type Vector = [Entry; MAX_PROCESSES];
 type Bounds = [Option<Entry>; MAX_PROCESSES];
 
 /// The pins of one process: each names a checkpoint by its index, or none.
-type Pins = [Option<Entry>; MAX_PROCESSES];
+pub type Pins = [Option<Entry>; MAX_PROCESSES];
 
 /// A process keeps at most n checkpoints between calls; while a call runs, the
 /// one just stored may come on top.

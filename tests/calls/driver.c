@@ -1,0 +1,126 @@
+// Calls the library from C, on buffers between pages that nobody may touch. What is called and what must come of it, the oracle says (held.rs): it asks for
+// the buffers, and has every second call made here.
+//
+//     driver COUNT SEED
+//
+// Built with the address and undefined-behaviour sanitizers. The status is 0 if COUNT calls were made and each did what the oracle says.
+#define _GNU_SOURCE
+#include <signal.h>
+#include <stdbool.h>
+#include <stdint.h>
+#include <stdio.h>
+#include <stdlib.h>
+#include <string.h>
+#include <sys/mman.h>
+#include <unistd.h>
+
+#include "lemidrosy.h"
+
+// As in held.rs: Lent.
+struct call {
+    uint32_t which;
+    uint64_t first, second;
+    uint16_t *words;
+    size_t words_len;
+    uint16_t *deletions;
+    size_t deletions_len;
+    uint16_t *line;
+    size_t line_len;
+    uint32_t *numbers;
+    size_t numbers_len;
+};
+
+bool hold_calls(uint64_t seed, uint64_t count);
+
+enum { BUFFERS = 4, PAGES = 8, FILLING = 0xa5 };
+
+// A buffer is some pages with a page on either side that may not be touched. What is lent lies at its end or at its beginning; the rest holds FILLING.
+static struct buffer {
+    unsigned char *pages;
+    size_t size, at, lent;
+} buffers[BUFFERS];
+
+static unsigned char filling[PAGES * 65536];
+
+static void make_buffers(void) {
+    size_t page = (size_t)sysconf(_SC_PAGESIZE);
+    memset(filling, FILLING, sizeof filling);
+    for (int k = 0; k < BUFFERS; k++) {
+        unsigned char *all = mmap(NULL, (PAGES + 2) * page, PROT_NONE, MAP_PRIVATE | MAP_ANONYMOUS, -1, 0);
+        if (all == MAP_FAILED || PAGES * page > sizeof filling || mprotect(all + page, PAGES * page, PROT_READ | PROT_WRITE) != 0) {
+            fprintf(stderr, "driver: no memory\n");
+            exit(1);
+        }
+        buffers[k].pages = all + page;
+        buffers[k].size = PAGES * page;
+        memset(buffers[k].pages, FILLING, buffers[k].size);
+    }
+}
+
+// The bytes that are lent of a buffer.
+unsigned char *lend(int buffer, size_t bytes, bool at_end) {
+    struct buffer *b = &buffers[buffer];
+    if (bytes > b->size) {
+        fprintf(stderr, "driver: a buffer is too small\n");
+        exit(1);
+    }
+    b->at = at_end ? b->size - bytes : 0;
+    b->lent = bytes;
+    return b->pages + b->at;
+}
+
+// Whether nothing but what was lent was written.
+bool take_back(int buffer) {
+    struct buffer *b = &buffers[buffer];
+    size_t after = b->at + b->lent;
+    bool same = memcmp(b->pages, filling, b->at) == 0 && memcmp(b->pages + after, filling, b->size - after) == 0;
+    memset(b->pages + b->at, FILLING, b->lent);
+    b->at = b->lent = 0;
+    return same;
+}
+
+uint64_t call_from_c(const struct call *c) {
+    switch (c->which) {
+    case 0: return lemidrosy_start(c->words, c->words_len, c->first, c->numbers, c->numbers_len);
+    case 1: return lemidrosy_checkpoint(c->words, c->words_len, c->first, c->deletions, c->deletions_len);
+    case 2: return lemidrosy_send(c->words, c->words_len, c->first, c->second);
+    case 3: return lemidrosy_deliver(c->words, c->words_len, (uint32_t)c->first, c->deletions, c->deletions_len);
+    case 4: return lemidrosy_lose(c->words, c->words_len, (uint32_t)c->first);
+    case 5: return lemidrosy_line(c->words, c->words_len, (uint32_t)c->first, c->line, c->line_len);
+    case 6: return lemidrosy_recover(c->words, c->words_len, (uint32_t)c->first, c->deletions, c->deletions_len, c->line, c->line_len);
+    case 7: return lemidrosy_earliest(c->words, c->words_len, c->numbers, c->numbers_len, c->line, c->line_len);
+    case 8: return lemidrosy_is_sound(c->words, c->words_len);
+    default: fprintf(stderr, "driver: no such call\n"); exit(1);
+    }
+}
+
+// Memory that was not lent was touched: the call is named, which the seed gives again.
+static volatile uint64_t call_now;
+
+void about_to(uint64_t call) {
+    call_now = call;
+}
+
+static void touched(int signal) {
+    char text[80];
+    (void)signal;
+    int size = snprintf(text, sizeof text, "call %llu: it touches memory that was not lent\n", (unsigned long long)call_now);
+    if (write(STDOUT_FILENO, text, (size_t)size) < 0)
+        _exit(2);
+    _exit(1);
+}
+
+const char *__asan_default_options(void) {
+    return "handle_segv=0:handle_sigbus=0:detect_leaks=0";
+}
+
+int main(int count, char **words) {
+    if (count != 3) {
+        fprintf(stderr, "usage: driver COUNT SEED\n");
+        return 2;
+    }
+    make_buffers();
+    signal(SIGSEGV, touched);
+    signal(SIGBUS, touched);
+    return hold_calls(strtoull(words[2], NULL, 10), strtoull(words[1], NULL, 10)) ? 0 : 1;
+}

@@ -1,0 +1,222 @@
+//! The library, linked as an archive, held to the oracle. This part is linked
+//! into `driver.c`, which has the buffers that are lent and calls the library from
+//! C; every second call is made here, from Rust.
+
+use oracle::calls::hold::{hold, place, Library, Tally, NAMES};
+use oracle::calls::{Call, Lists};
+use std::ffi::c_int;
+
+/// A call, as `driver.c` takes it: `struct call`.
+#[repr(C)]
+struct Lent {
+    which: u32,
+    first: u64,
+    second: u64,
+    words: *mut u16,
+    words_len: usize,
+    deletions: *mut u16,
+    deletions_len: usize,
+    line: *mut u16,
+    line_len: usize,
+    numbers: *mut u32,
+    numbers_len: usize,
+}
+
+// The buffers of `driver.c`, and the library called from there.
+extern "C" {
+    fn lend(buffer: c_int, bytes: usize, at_end: bool) -> *mut u8;
+    fn take_back(buffer: c_int) -> bool;
+    fn call_from_c(call: *const Lent) -> u64;
+    fn about_to(call: u64);
+}
+
+// The library, called from Rust. A slice is a pointer and a length.
+extern "C" {
+    fn lemidrosy_start(w: *mut u16, l: usize, n: usize, c: *const u32, cl: usize) -> u64;
+    fn lemidrosy_checkpoint(w: *mut u16, l: usize, i: usize, d: *mut u16, dl: usize) -> u64;
+    fn lemidrosy_send(w: *mut u16, l: usize, i: usize, j: usize) -> u64;
+    fn lemidrosy_deliver(w: *mut u16, l: usize, m: u32, d: *mut u16, dl: usize) -> u64;
+    fn lemidrosy_lose(w: *mut u16, l: usize, m: u32) -> u64;
+    fn lemidrosy_line(w: *const u16, l: usize, f: u32, n: *mut u16, nl: usize) -> u64;
+    fn lemidrosy_recover(
+        w: *mut u16,
+        l: usize,
+        f: u32,
+        d: *mut u16,
+        dl: usize,
+        n: *mut u16,
+        nl: usize,
+    ) -> u64;
+    fn lemidrosy_earliest(
+        w: *const u16,
+        l: usize,
+        c: *const u32,
+        cl: usize,
+        n: *mut u16,
+        nl: usize,
+    ) -> u64;
+    fn lemidrosy_is_sound(w: *const u16, l: usize) -> u64;
+}
+
+/// The numbers of `driver.c`'s buffers.
+const WORDS: c_int = 0;
+const DELETIONS: c_int = 1;
+const LINE: c_int = 2;
+const NUMBERS: c_int = 3;
+
+struct Archive {
+    calls: u64,
+}
+
+/// A copy of a list in a lent buffer. An empty one may have a null pointer.
+fn lent<T: Copy>(buffer: c_int, list: &[T], how: u64) -> *mut T {
+    if list.is_empty() && how & 1 == 0 {
+        return std::ptr::null_mut();
+    }
+    let bytes = std::mem::size_of_val(list);
+    // Safety: the buffer has room for so many bytes, and nobody else writes it.
+    unsafe {
+        let to = lend(buffer, bytes, how & 2 == 0).cast::<T>();
+        std::ptr::copy_nonoverlapping(list.as_ptr(), to, list.len());
+        to
+    }
+}
+
+fn returned<T: Copy>(from: *const T, list: &mut [T]) {
+    if !list.is_empty() {
+        // Safety: `lent` has put as many there.
+        unsafe { std::ptr::copy_nonoverlapping(from, list.as_mut_ptr(), list.len()) }
+    }
+}
+
+impl Library for Archive {
+    fn fitted(&self, call: Call) -> Call {
+        let cut = |number: u64| number & u64::from(u32::MAX);
+        match call {
+            Call::Deliver { number } => Call::Deliver {
+                number: cut(number),
+            },
+            Call::Lose { number } => Call::Lose {
+                number: cut(number),
+            },
+            Call::Line { failed } => Call::Line {
+                failed: cut(failed),
+            },
+            Call::Recover { failed } => Call::Recover {
+                failed: cut(failed),
+            },
+            _ => call,
+        }
+    }
+
+    fn call(&mut self, call: Call, words: &mut [u16], lists: &mut Lists) -> Result<u64, String> {
+        self.calls += 1;
+        let how = self.calls / 2;
+        let (first, second) = numbers(call);
+        let made = Lent {
+            which: place(call) as u32,
+            first,
+            second,
+            words: lent(WORDS, words, how),
+            words_len: words.len(),
+            deletions: lent(DELETIONS, &lists.deletions, how >> 1),
+            deletions_len: lists.deletions.len(),
+            line: lent(LINE, &lists.line, how >> 1),
+            line_len: lists.line.len(),
+            numbers: lent(NUMBERS, &lists.numbers, how >> 1),
+            numbers_len: lists.numbers.len(),
+        };
+        // Safety: every buffer is lent for the call.
+        let answer = unsafe {
+            about_to(self.calls);
+            if self.calls % 2 == 0 {
+                call_from_c(&made)
+            } else {
+                call_from_rust(&made)
+            }
+        };
+        returned(made.words, words);
+        returned(made.deletions, &mut lists.deletions);
+        returned(made.line, &mut lists.line);
+        returned(made.numbers, &mut lists.numbers);
+        for buffer in [WORDS, DELETIONS, LINE, NUMBERS] {
+            // Safety: nobody uses what was lent any more.
+            if !unsafe { take_back(buffer) } {
+                return Err(format!("it wrote beside buffer {buffer}"));
+            }
+        }
+        Ok(answer)
+    }
+}
+
+fn numbers(call: Call) -> (u64, u64) {
+    match call {
+        Call::Start { count } => (count, 0),
+        Call::Checkpoint { process } => (process, 0),
+        Call::Send { from, to } => (from, to),
+        Call::Deliver { number } | Call::Lose { number } => (number, 0),
+        Call::Line { failed } | Call::Recover { failed } => (failed, 0),
+        Call::Earliest | Call::IsSound => (0, 0),
+    }
+}
+
+unsafe fn call_from_rust(c: &Lent) -> u64 {
+    let (w, l) = (c.words, c.words_len);
+    let (first, second) = (c.first as usize, c.second as usize);
+    match c.which {
+        0 => lemidrosy_start(w, l, first, c.numbers, c.numbers_len),
+        1 => lemidrosy_checkpoint(w, l, first, c.deletions, c.deletions_len),
+        2 => lemidrosy_send(w, l, first, second),
+        3 => lemidrosy_deliver(w, l, c.first as u32, c.deletions, c.deletions_len),
+        4 => lemidrosy_lose(w, l, c.first as u32),
+        5 => lemidrosy_line(w, l, c.first as u32, c.line, c.line_len),
+        6 => lemidrosy_recover(
+            w,
+            l,
+            c.first as u32,
+            c.deletions,
+            c.deletions_len,
+            c.line,
+            c.line_len,
+        ),
+        7 => lemidrosy_earliest(w, l, c.numbers, c.numbers_len, c.line, c.line_len),
+        _ => lemidrosy_is_sound(w, l),
+    }
+}
+
+/// Makes so many calls by seed. Says what was met, or the first difference; true
+/// if there is none.
+#[no_mangle]
+pub extern "C" fn hold_calls(seed: u64, count: u64) -> bool {
+    match hold(&mut Archive { calls: 0 }, seed, count) {
+        Ok(tally) => {
+            say(&tally);
+            true
+        }
+        Err(what) => {
+            println!("seed {seed}: {what}");
+            false
+        }
+    }
+}
+
+fn say(tally: &Tally) {
+    for (name, met) in NAMES.iter().zip(&tally.met) {
+        let numbers = met.iter().enumerate().filter(|(_, many)| **many > 0);
+        let texts: Vec<String> = numbers
+            .map(|(number, many)| format!("{number}: {many}"))
+            .collect();
+        println!("{name}: {}", texts.join(", "));
+    }
+    println!("accepted on forged states: {}", tally.forged);
+    println!(
+        "accepted with unused places that are not zero: {}",
+        tally.littered
+    );
+    println!(
+        "2 on a sound state, which has no line: {}",
+        tally.without_line
+    );
+    println!("left a state that is not sound: {}", tally.left_unsound);
+    println!("calls: {}", tally.calls);
+}

@@ -1,0 +1,235 @@
+//! The calls on words that a caller lends: what each must answer and leave, on
+//! any words, with any lists and numbers.
+//!
+//! * `draw`: random calls, and words that calls did not leave.
+//! * `hold`: a library held to this.
+
+pub mod draw;
+pub mod hold;
+
+use crate::run::forged::State;
+use crate::run::refusal::{COUNT_OUTSIDE, LIST_TOO_SHORT, NOT_SOUND};
+use crate::run::{Counts, Entry, Named, Run, MAX_PROCESSES};
+use crate::words::SIZE;
+
+/// A call and the numbers that it is handed.
+#[derive(Clone, Copy, Debug, PartialEq, Eq)]
+pub enum Call {
+    /// The block counts are in the lent numbers.
+    Start {
+        count: u64,
+    },
+    Checkpoint {
+        process: u64,
+    },
+    Send {
+        from: u64,
+        to: u64,
+    },
+    Deliver {
+        number: u64,
+    },
+    Lose {
+        number: u64,
+    },
+    Line {
+        failed: u64,
+    },
+    Recover {
+        failed: u64,
+    },
+    /// The named checkpoints are pairs in the lent numbers.
+    Earliest,
+    IsSound,
+}
+
+/// The lists that are lent to a call beside the words.
+#[derive(Clone, Debug, PartialEq, Eq)]
+pub struct Lists {
+    pub deletions: Vec<u16>,
+    pub line: Vec<u16>,
+    pub numbers: Vec<u32>,
+}
+
+/// What a call leaves of the words.
+#[derive(Clone, Debug, PartialEq, Eq)]
+pub enum Left {
+    /// "the state as it came": every word.
+    Same,
+    /// "A refused start returns a state of zeros": every word.
+    Zeros,
+    /// Words that stand for this state.
+    State(State),
+}
+
+/// What a call answers and leaves; the lists are those that were lent, as they
+/// then stand.
+pub struct Outcome {
+    pub answer: u64,
+    pub left: Left,
+    pub lists: Lists,
+}
+
+/// What an accepted call says beside 0.
+#[derive(Default)]
+struct Said {
+    value: Option<u64>,
+    deletions: usize,
+    rose: u64,
+}
+
+impl Said {
+    /// The answer of a call as one number: bits 0 to 7 the refusal, 0 if
+    /// accepted, 8 to 22 how many deletions, 23 whether there is a value, 24 to
+    /// 47 the value, 48 to 63 the set of entries that rose.
+    fn code(&self) -> u64 {
+        let value = self.value.map_or(0, |value| value << 24 | 1 << 23);
+        (self.deletions as u64) << 8 | value | self.rose << 48
+    }
+}
+
+/// What a call must do on these words: `run` is that of their state if it is
+/// sound.
+pub fn outcome(size: usize, run: Option<&Run>, call: Call, lists: &Lists) -> Outcome {
+    let mut lists = lists.clone();
+    if let Call::Start { count } = call {
+        return started(size, count, lists);
+    }
+    // "2: a state that is not sound" is judged first: no other number below it
+    // is one of these calls.
+    let Some(run) = run else {
+        return refused(NOT_SOUND, Left::Same, lists);
+    };
+    let mut after = run.clone();
+    match answered(&mut after, call, &mut lists) {
+        Err(number) => refused(number, Left::Same, lists),
+        Ok(said) => {
+            let left = match call {
+                Call::Line { .. } | Call::Earliest | Call::IsSound => Left::Same,
+                _ => Left::State(after.state()),
+            };
+            Outcome {
+                answer: said.code(),
+                left,
+                lists,
+            }
+        }
+    }
+}
+
+fn refused(number: u8, left: Left, lists: Lists) -> Outcome {
+    Outcome {
+        answer: u64::from(number),
+        left,
+        lists,
+    }
+}
+
+/// A start: 1, then 2 for words of another length, which stay as they are, 3 for
+/// fewer than n block counts, 15.
+fn started(size: usize, count: u64, lists: Lists) -> Outcome {
+    let left = if size == SIZE {
+        Left::Zeros
+    } else {
+        Left::Same
+    };
+    if !(1..=MAX_PROCESSES as u64).contains(&count) {
+        return refused(COUNT_OUTSIDE, left, lists);
+    }
+    if size != SIZE {
+        return refused(NOT_SOUND, left, lists);
+    }
+    let count = as_number(count);
+    if lists.numbers.len() < count {
+        return refused(LIST_TOO_SHORT, left, lists);
+    }
+    // "those at n and above are neither judged nor stored."
+    let counts: Counts = std::array::from_fn(|p| if p < count { lists.numbers[p] } else { 0 });
+    match Run::start(count, &counts) {
+        Err(number) => refused(number, left, lists),
+        Ok(run) => Outcome {
+            answer: Said::default().code(),
+            left: Left::State(run.state()),
+            lists,
+        },
+    }
+}
+
+/// A call on a sound state.
+fn answered(run: &mut Run, call: Call, lists: &mut Lists) -> Result<Said, u8> {
+    let mut deletions = wide(&lists.deletions);
+    let mut line = wide(&lists.line);
+    let said = match call {
+        Call::Start { .. } | Call::IsSound => Said::default(),
+        Call::Checkpoint { process } => {
+            let done = run.checkpoint(as_number(process), &mut deletions)?;
+            Said {
+                value: Some(u64::from(done.index)),
+                deletions: done.deletions,
+                rose: 0,
+            }
+        }
+        Call::Send { from, to } => Said {
+            value: Some(run.send(as_number(from), as_number(to))?),
+            ..Said::default()
+        },
+        Call::Deliver { number } => {
+            let done = run.deliver(number, &mut deletions)?;
+            Said {
+                value: done.forced.map(u64::from),
+                deletions: done.deletions,
+                rose: done.rose,
+            }
+        }
+        Call::Lose { number } => {
+            run.lose(number)?;
+            Said::default()
+        }
+        Call::Line { failed } => {
+            run.line(failed, &mut line)?;
+            Said::default()
+        }
+        Call::Recover { failed } => {
+            let done = run.recover(failed, &mut deletions, &mut line)?;
+            Said {
+                value: Some(done.rolled_back as u64),
+                deletions: done.deletions,
+                rose: 0,
+            }
+        }
+        Call::Earliest => {
+            run.earliest(&named(&lists.numbers), &mut line)?;
+            Said::default()
+        }
+    };
+    lists.deletions = narrow(&deletions);
+    lists.line = narrow(&line);
+    Ok(said)
+}
+
+/// Note 8's list as pairs of numbers. Numbers of which one is left over are no
+/// pairs, and name nothing.
+fn named(numbers: &[u32]) -> Vec<Named> {
+    if numbers.len() % 2 == 1 {
+        return Vec::new();
+    }
+    let name = |pair: &[u32]| Named {
+        process: as_number(u64::from(pair[0])),
+        index: u64::from(pair[1]),
+    };
+    numbers.chunks(2).map(name).collect()
+}
+
+/// A process, or a count, as the rules take it.
+fn as_number(number: u64) -> usize {
+    usize::try_from(number).expect("a number of 64 bits")
+}
+
+fn wide(list: &[u16]) -> Vec<Entry> {
+    list.iter().copied().map(Entry::from).collect()
+}
+
+fn narrow(list: &[Entry]) -> Vec<u16> {
+    let narrowed = list.iter().copied().map(u16::try_from);
+    narrowed.collect::<Result<_, _>>().expect("16 bits")
+}
