@@ -28,11 +28,16 @@ struct call {
     size_t line_len;
     uint32_t *numbers;
     size_t numbers_len;
+    uint64_t *sums;
+    size_t sums_len;
 };
 
 bool hold_calls(uint64_t seed, uint64_t count);
 
-enum { BUFFERS = 4, PAGES = 8, FILLING = 0xa5 };
+enum { BUFFERS = 5, FILLING = 0xa5 };
+
+// How many pages each has: the first is for words, also for twice as many as a state has.
+static const size_t pages[BUFFERS] = {8, 1, 1, 1, 1};
 
 // A buffer is some pages with a page on either side that may not be touched. What is lent lies at its end or at its beginning; the rest holds FILLING.
 static struct buffer {
@@ -40,19 +45,20 @@ static struct buffer {
     size_t size, at, lent;
 } buffers[BUFFERS];
 
-static unsigned char filling[PAGES * 65536];
+static unsigned char filling[8 * 65536];
 
 static void make_buffers(void) {
     size_t page = (size_t)sysconf(_SC_PAGESIZE);
     memset(filling, FILLING, sizeof filling);
     for (int k = 0; k < BUFFERS; k++) {
-        unsigned char *all = mmap(NULL, (PAGES + 2) * page, PROT_NONE, MAP_PRIVATE | MAP_ANONYMOUS, -1, 0);
-        if (all == MAP_FAILED || PAGES * page > sizeof filling || mprotect(all + page, PAGES * page, PROT_READ | PROT_WRITE) != 0) {
+        size_t size = pages[k] * page;
+        unsigned char *all = mmap(NULL, size + 2 * page, PROT_NONE, MAP_PRIVATE | MAP_ANONYMOUS, -1, 0);
+        if (all == MAP_FAILED || size > sizeof filling || mprotect(all + page, size, PROT_READ | PROT_WRITE) != 0) {
             fprintf(stderr, "driver: no memory\n");
             exit(1);
         }
         buffers[k].pages = all + page;
-        buffers[k].size = PAGES * page;
+        buffers[k].size = size;
         memset(buffers[k].pages, FILLING, buffers[k].size);
     }
 }
@@ -90,6 +96,11 @@ uint64_t call_from_c(const struct call *c) {
     case 6: return lemidrosy_recover(c->words, c->words_len, (uint32_t)c->first, c->deletions, c->deletions_len, c->line, c->line_len);
     case 7: return lemidrosy_earliest(c->words, c->words_len, c->numbers, c->numbers_len, c->line, c->line_len);
     case 8: return lemidrosy_is_sound(c->words, c->words_len);
+    case 9: return lemidrosy_numbers(c->words, c->words_len, c->sums, c->sums_len);
+    case 10: return lemidrosy_vector(c->words, c->words_len, c->first, c->line, c->line_len);
+    case 11: return lemidrosy_pins(c->words, c->words_len, c->first, c->line, c->line_len);
+    case 12: return lemidrosy_kept(c->words, c->words_len, c->first, c->numbers, c->numbers_len);
+    case 13: return lemidrosy_messages(c->words, c->words_len, c->numbers, c->numbers_len);
     default: fprintf(stderr, "driver: no such call\n"); exit(1);
     }
 }
@@ -110,8 +121,9 @@ static void touched(int signal) {
     _exit(1);
 }
 
+// The oracle makes many small vectors: no stack is kept of each.
 const char *__asan_default_options(void) {
-    return "handle_segv=0:handle_sigbus=0:detect_leaks=0";
+    return "handle_segv=0:handle_sigbus=0:detect_leaks=0:malloc_context_size=0:quarantine_size_mb=1";
 }
 
 int main(int count, char **words) {

@@ -2,7 +2,7 @@
 //! into `driver.c`, which has the buffers that are lent and calls the library from
 //! C; every second call is made here, from Rust.
 
-use oracle::calls::hold::{hold, place, Library, Tally, NAMES};
+use oracle::calls::hold::{hold, place, Library, Tally, CALLS};
 use oracle::calls::{Call, Lists};
 use std::ffi::c_int;
 
@@ -20,6 +20,8 @@ struct Lent {
     line_len: usize,
     numbers: *mut u32,
     numbers_len: usize,
+    sums: *mut u64,
+    sums_len: usize,
 }
 
 // The buffers of `driver.c`, and the library called from there.
@@ -55,7 +57,12 @@ extern "C" {
         n: *mut u16,
         nl: usize,
     ) -> u64;
-    fn lemidrosy_is_sound(w: *const u16, l: usize) -> u64;
+    fn lemidrosy_is_sound(w: *const u16, l: usize) -> bool;
+    fn lemidrosy_numbers(w: *const u16, l: usize, s: *mut u64, sl: usize) -> u64;
+    fn lemidrosy_vector(w: *const u16, l: usize, i: usize, v: *mut u16, vl: usize) -> u64;
+    fn lemidrosy_pins(w: *const u16, l: usize, i: usize, v: *mut u16, vl: usize) -> u64;
+    fn lemidrosy_kept(w: *const u16, l: usize, i: usize, k: *mut u32, kl: usize) -> u64;
+    fn lemidrosy_messages(w: *const u16, l: usize, m: *mut u32, ml: usize) -> u64;
 }
 
 /// The numbers of `driver.c`'s buffers.
@@ -63,6 +70,7 @@ const WORDS: c_int = 0;
 const DELETIONS: c_int = 1;
 const LINE: c_int = 2;
 const NUMBERS: c_int = 3;
+const SUMS: c_int = 4;
 
 struct Archive {
     calls: u64,
@@ -125,6 +133,8 @@ impl Library for Archive {
             line_len: lists.line.len(),
             numbers: lent(NUMBERS, &lists.numbers, how >> 1),
             numbers_len: lists.numbers.len(),
+            sums: lent(SUMS, &lists.sums, how >> 1),
+            sums_len: lists.sums.len(),
         };
         // Safety: every buffer is lent for the call.
         let answer = unsafe {
@@ -139,7 +149,8 @@ impl Library for Archive {
         returned(made.deletions, &mut lists.deletions);
         returned(made.line, &mut lists.line);
         returned(made.numbers, &mut lists.numbers);
-        for buffer in [WORDS, DELETIONS, LINE, NUMBERS] {
+        returned(made.sums, &mut lists.sums);
+        for buffer in [WORDS, DELETIONS, LINE, NUMBERS, SUMS] {
             // Safety: nobody uses what was lent any more.
             if !unsafe { take_back(buffer) } {
                 return Err(format!("it wrote beside buffer {buffer}"));
@@ -152,11 +163,14 @@ impl Library for Archive {
 fn numbers(call: Call) -> (u64, u64) {
     match call {
         Call::Start { count } => (count, 0),
-        Call::Checkpoint { process } => (process, 0),
+        Call::Checkpoint { process }
+        | Call::Vector { process }
+        | Call::Pins { process }
+        | Call::Kept { process } => (process, 0),
         Call::Send { from, to } => (from, to),
         Call::Deliver { number } | Call::Lose { number } => (number, 0),
         Call::Line { failed } | Call::Recover { failed } => (failed, 0),
-        Call::Earliest | Call::IsSound => (0, 0),
+        Call::Earliest | Call::IsSound | Call::Numbers | Call::Messages => (0, 0),
     }
 }
 
@@ -180,28 +194,39 @@ unsafe fn call_from_rust(c: &Lent) -> u64 {
             c.line_len,
         ),
         7 => lemidrosy_earliest(w, l, c.numbers, c.numbers_len, c.line, c.line_len),
-        _ => lemidrosy_is_sound(w, l),
+        8 => u64::from(lemidrosy_is_sound(w, l)),
+        9 => lemidrosy_numbers(w, l, c.sums, c.sums_len),
+        10 => lemidrosy_vector(w, l, first, c.line, c.line_len),
+        11 => lemidrosy_pins(w, l, first, c.line, c.line_len),
+        12 => lemidrosy_kept(w, l, first, c.numbers, c.numbers_len),
+        _ => lemidrosy_messages(w, l, c.numbers, c.numbers_len),
     }
 }
+
+/// In a run of at least so many calls, everything that can be met is met at
+/// least so many times.
+const MANY: u64 = 1_000_000;
+const LEAST: u64 = 10;
 
 /// Makes so many calls by seed. Says what was met, or the first difference; true
 /// if there is none.
 #[no_mangle]
 pub extern "C" fn hold_calls(seed: u64, count: u64) -> bool {
-    match hold(&mut Archive { calls: 0 }, seed, count) {
-        Ok(tally) => {
-            say(&tally);
-            true
+    let said = hold(&mut Archive { calls: 0 }, seed, count).and_then(|tally| {
+        say(&tally);
+        match tally.missing(LEAST) {
+            Some(what) if count >= MANY => Err(format!("hardly met: {what}")),
+            _ => Ok(()),
         }
-        Err(what) => {
-            println!("seed {seed}: {what}");
-            false
-        }
+    });
+    if let Err(what) = &said {
+        println!("seed {seed}: {what}");
     }
+    said.is_ok()
 }
 
 fn say(tally: &Tally) {
-    for (name, met) in NAMES.iter().zip(&tally.met) {
+    for ((name, _), met) in CALLS.iter().zip(&tally.met) {
         let numbers = met.iter().enumerate().filter(|(_, many)| **many > 0);
         let texts: Vec<String> = numbers
             .map(|(number, many)| format!("{number}: {many}"))

@@ -8,8 +8,8 @@ pub mod draw;
 pub mod hold;
 
 use crate::run::forged::State;
-use crate::run::refusal::{COUNT_OUTSIDE, LIST_TOO_SHORT, NOT_SOUND};
-use crate::run::{Counts, Entry, Named, Run, MAX_PROCESSES};
+use crate::run::refusal::{COUNT_OUTSIDE, LIST_TOO_SHORT, NOT_SOUND, NO_SUCH_PROCESS};
+use crate::run::{Counts, Entry, Message, Named, Run, MAX_PROCESSES, MAX_UNDER_WAY};
 use crate::words::SIZE;
 
 /// A call and the numbers that it is handed.
@@ -41,6 +41,35 @@ pub enum Call {
     /// The named checkpoints are pairs in the lent numbers.
     Earliest,
     IsSound,
+    /// What is read of a state: the numbers of the run, ..
+    Numbers,
+    /// .. the vector, the pins and the kept checkpoints of a process, ..
+    Vector {
+        process: u64,
+    },
+    Pins {
+        process: u64,
+    },
+    Kept {
+        process: u64,
+    },
+    /// .. and the messages under way.
+    Messages,
+}
+
+impl Call {
+    /// It leaves every word as it is, accepted or refused.
+    fn only_reads(self) -> bool {
+        !matches!(
+            self,
+            Call::Start { .. }
+                | Call::Checkpoint { .. }
+                | Call::Send { .. }
+                | Call::Deliver { .. }
+                | Call::Lose { .. }
+                | Call::Recover { .. }
+        )
+    }
 }
 
 /// The lists that are lent to a call beside the words.
@@ -49,6 +78,7 @@ pub struct Lists {
     pub deletions: Vec<u16>,
     pub line: Vec<u16>,
     pub numbers: Vec<u32>,
+    pub sums: Vec<u64>,
 }
 
 /// What a call leaves of the words.
@@ -98,15 +128,31 @@ pub fn outcome(size: usize, run: Option<&Run>, call: Call, lists: &Lists) -> Out
     // "2: a state that is not sound" is judged first: no other number below it
     // is one of these calls.
     let Some(run) = run else {
-        return refused(NOT_SOUND, Left::Same, lists);
+        let answer = match call {
+            Call::IsSound => 0,
+            _ => u64::from(NOT_SOUND),
+        };
+        return Outcome {
+            answer,
+            left: Left::Same,
+            lists,
+        };
     };
+    if call == Call::IsSound {
+        return Outcome {
+            answer: 1,
+            left: Left::Same,
+            lists,
+        };
+    }
     let mut after = run.clone();
     match answered(&mut after, call, &mut lists) {
         Err(number) => refused(number, Left::Same, lists),
         Ok(said) => {
-            let left = match call {
-                Call::Line { .. } | Call::Earliest | Call::IsSound => Left::Same,
-                _ => Left::State(after.state()),
+            let left = if call.only_reads() {
+                Left::Same
+            } else {
+                Left::State(after.state())
             };
             Outcome {
                 answer: said.code(),
@@ -161,6 +207,47 @@ fn answered(run: &mut Run, call: Call, lists: &mut Lists) -> Result<Said, u8> {
     let mut line = wide(&lists.line);
     let said = match call {
         Call::Start { .. } | Call::IsSound => Said::default(),
+        Call::Numbers => {
+            let numbers = [
+                run.count() as u64,
+                run.last_number(),
+                run.under_way().len() as u64,
+                run.written(),
+                run.deleted(),
+            ];
+            write(&numbers, numbers.len(), &mut lists.sums)?;
+            return Ok(Said::default());
+        }
+        Call::Vector { process } => {
+            let vector = of_process(run, process, |p| narrow(run.vector(p)));
+            return read(&vector, run.count(), &mut lists.line);
+        }
+        Call::Pins { process } => {
+            // each as one more than the index, 0 for none
+            let pin = |p: usize, f: usize| run.pin(p, f).map_or(0, |index| index + 1);
+            let pins = |p: usize| (0..run.count()).map(|f| pin(p, f)).collect::<Vec<_>>();
+            let pins = of_process(run, process, |p| narrow(&pins(p)));
+            return read(&pins, run.count(), &mut lists.line);
+        }
+        Call::Kept { process } => {
+            let three = |((index, _), (cause, blocks)): ((Entry, &[Entry]), (u8, u32))| {
+                [index, u32::from(cause), blocks]
+            };
+            let kept = of_process(run, process, |p| {
+                run.kept(p).zip(run.records(p)).flat_map(three).collect()
+            });
+            read(&kept, 3 * run.count(), &mut lists.numbers)?;
+            return Ok(counted(kept.map_or(0, |kept| kept.len()) / 3));
+        }
+        Call::Messages => {
+            let three = |message: &Message| {
+                let number = u32::try_from(message.number).expect("at most 1,000,000");
+                [number, message.sender as u32, message.receiver as u32]
+            };
+            let messages: Vec<u32> = run.under_way().iter().flat_map(three).collect();
+            write(&messages, 3 * MAX_UNDER_WAY, &mut lists.numbers)?;
+            return Ok(counted(messages.len() / 3));
+        }
         Call::Checkpoint { process } => {
             let done = run.checkpoint(as_number(process), &mut deletions)?;
             Said {
@@ -205,6 +292,42 @@ fn answered(run: &mut Run, call: Call, lists: &mut Lists) -> Result<Said, u8> {
     lists.deletions = narrow(&deletions);
     lists.line = narrow(&line);
     Ok(said)
+}
+
+/// What is read of a process: 4 if it is not below n.
+fn of_process<T>(run: &Run, process: u64, of: impl Fn(usize) -> Vec<T>) -> Result<Vec<T>, u8> {
+    let process = as_number(process);
+    if process >= run.count() {
+        return Err(NO_SUCH_PROCESS);
+    }
+    Ok(of(process))
+}
+
+/// What was read goes to the front of a list: 3 if the list has less room than is
+/// asked for, which is judged before 4.
+fn read<T: Copy>(what: &Result<Vec<T>, u8>, asked: usize, list: &mut [T]) -> Result<Said, u8> {
+    if list.len() < asked {
+        return Err(LIST_TOO_SHORT);
+    }
+    let what = what.as_ref().map_err(|number| *number)?;
+    write(what, asked, list)?;
+    Ok(Said::default())
+}
+
+fn write<T: Copy>(what: &[T], asked: usize, list: &mut [T]) -> Result<(), u8> {
+    if list.len() < asked {
+        return Err(LIST_TOO_SHORT);
+    }
+    list[..what.len()].copy_from_slice(what);
+    Ok(())
+}
+
+/// So many were read.
+fn counted(many: usize) -> Said {
+    Said {
+        value: Some(many as u64),
+        ..Said::default()
+    }
 }
 
 /// Note 8's list as pairs of numbers. Numbers of which one is left over are no

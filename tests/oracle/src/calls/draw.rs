@@ -113,9 +113,21 @@ pub fn call(draws: &mut Draws, habits: &Habits, now: Option<&State>) -> Call {
         6..=7 => Call::Line {
             failed: failed(draws, count),
         },
-        8..=10 => Call::Earliest,
-        _ => Call::IsSound,
+        8..=9 => Call::Earliest,
+        10 => Call::IsSound,
+        _ => reading(draws, count),
     }
+}
+
+fn reading(draws: &mut Draws, count: u64) -> Call {
+    let process = process(draws, count);
+    draws.one_of(&[
+        Call::Numbers,
+        Call::Vector { process },
+        Call::Pins { process },
+        Call::Kept { process },
+        Call::Messages,
+    ])
 }
 
 /// A start, mostly of a count in range.
@@ -221,8 +233,12 @@ pub fn lists(draws: &mut Draws, call: Call, now: Option<&State>) -> Lists {
     let numbers = match call {
         Call::Start { count } => block_counts(draws, count),
         Call::Earliest => names(draws, now),
+        Call::Kept { .. } => any(draws, 3 * count),
+        Call::Messages => any(draws, 3 * MAX_UNDER_WAY),
         _ => Vec::new(),
     };
+    let size = length(draws, 5);
+    let sums = (0..size).map(|_| draws.next()).collect();
     let size = length(draws, 2 * count * count);
     let deletions = (0..size).map(|_| draws.word()).collect();
     let size = length(draws, count);
@@ -231,7 +247,14 @@ pub fn lists(draws: &mut Draws, call: Call, now: Option<&State>) -> Lists {
         deletions,
         line,
         numbers,
+        sums,
     }
+}
+
+/// Any numbers, mostly as many as are asked for.
+fn any(draws: &mut Draws, asked: usize) -> Vec<u32> {
+    let size = length(draws, asked);
+    (0..size).map(|_| draws.next() as u32).collect()
 }
 
 fn length(draws: &mut Draws, asked: usize) -> usize {

@@ -18,17 +18,23 @@ pub trait Library {
     fn fitted(&self, call: Call) -> Call;
 }
 
-/// How many calls there are of each name.
-pub const NAMES: [&str; 9] = [
-    "start",
-    "checkpoint",
-    "send",
-    "deliver",
-    "lose",
-    "line",
-    "recover",
-    "earliest",
-    "is_sound",
+/// The calls by name, and which numbers each can give, 0 if accepted.
+pub const CALLS: [(&str, &[usize]); 14] = [
+    ("start", &[0, 1, 2, 3, 15]),
+    ("checkpoint", &[0, 2, 3, 4, 11, 16]),
+    ("send", &[0, 2, 4, 5, 9, 10]),
+    ("deliver", &[0, 2, 3, 8, 11, 16]),
+    ("lose", &[0, 2, 8]),
+    ("line", &[0, 2, 3, 7]),
+    ("recover", &[0, 2, 3, 7]),
+    ("earliest", &[0, 2, 3, 4, 18, 19, 20]),
+    // true and false
+    ("is_sound", &[0, 1]),
+    ("numbers", &[0, 2, 3]),
+    ("vector", &[0, 2, 3, 4]),
+    ("pins", &[0, 2, 3, 4]),
+    ("kept", &[0, 2, 3, 4]),
+    ("messages", &[0, 2, 3]),
 ];
 
 pub fn place(call: Call) -> usize {
@@ -42,6 +48,11 @@ pub fn place(call: Call) -> usize {
         Call::Recover { .. } => 6,
         Call::Earliest => 7,
         Call::IsSound => 8,
+        Call::Numbers => 9,
+        Call::Vector { .. } => 10,
+        Call::Pins { .. } => 11,
+        Call::Kept { .. } => 12,
+        Call::Messages => 13,
     }
 }
 
@@ -50,7 +61,7 @@ pub fn place(call: Call) -> usize {
 pub struct Tally {
     pub calls: u64,
     /// By call and number, 0 if accepted.
-    pub met: [[u64; 26]; NAMES.len()],
+    pub met: [[u64; 26]; CALLS.len()],
     /// Calls on sound states that calls from a start may never leave, accepted.
     pub forged: u64,
     /// 2 though the state is sound: no state that the line rule accepts.
@@ -59,6 +70,25 @@ pub struct Tally {
     pub left_unsound: u64,
     /// Accepted calls on words with anything in unused places.
     pub littered: u64,
+}
+
+impl Tally {
+    /// What was met fewer than so many times, of all that can be met.
+    pub fn missing(&self, least: u64) -> Option<String> {
+        for (met, (name, numbers)) in self.met.iter().zip(CALLS) {
+            if let Some(number) = numbers.iter().find(|number| met[**number] < least) {
+                return Some(format!("{name} with {number}"));
+            }
+        }
+        let others = [
+            ("a forged state", self.forged),
+            ("2 on a sound state", self.without_line),
+            ("a state that is left and not sound", self.left_unsound),
+            ("unused places that are not zero", self.littered),
+        ];
+        let few = others.iter().find(|(_, many)| *many < least);
+        few.map(|(what, _)| what.to_string())
+    }
 }
 
 /// The words, and what is known of them.
