@@ -76,7 +76,8 @@ struct Archive {
     calls: u64,
 }
 
-/// A copy of a list in a lent buffer. An empty one may have a null pointer.
+/// A copy of a list in a lent buffer, three times in four at its end. An empty one
+/// may have a null pointer.
 fn lent<T: Copy>(buffer: c_int, list: &[T], how: u64) -> *mut T {
     if list.is_empty() && how & 1 == 0 {
         return std::ptr::null_mut();
@@ -84,7 +85,7 @@ fn lent<T: Copy>(buffer: c_int, list: &[T], how: u64) -> *mut T {
     let bytes = std::mem::size_of_val(list);
     // Safety: the buffer has room for so many bytes, and nobody else writes it.
     unsafe {
-        let to = lend(buffer, bytes, how & 2 == 0).cast::<T>();
+        let to = lend(buffer, bytes, how & 6 != 6).cast::<T>();
         std::ptr::copy_nonoverlapping(list.as_ptr(), to, list.len());
         to
     }

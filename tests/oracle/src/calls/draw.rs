@@ -270,7 +270,7 @@ fn length(draws: &mut Draws, asked: usize) -> usize {
 fn block_counts(draws: &mut Draws, count: u64) -> Vec<u32> {
     let asked = count.min(16) as usize;
     let size = match draws.below(8) {
-        0 => draws.one_of(&[0, asked.saturating_sub(1), asked, 17, 20]),
+        0 => draws.one_of(&[0, 0, asked.saturating_sub(1), 17, 20]),
         1..=2 => asked,
         _ => 16,
     };

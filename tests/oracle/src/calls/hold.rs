@@ -124,7 +124,7 @@ impl Held {
 }
 
 /// How many calls a run has.
-const LENGTH: u64 = 300;
+const LENGTH: u64 = 200;
 
 /// Holds a library to the oracle on so many calls by seed.
 pub fn hold(library: &mut impl Library, seed: u64, count: u64) -> Result<Tally, String> {

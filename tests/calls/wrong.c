@@ -1,0 +1,101 @@
+// Libraries that are wrong in one place, for the test of the suite (tests/suites/run): a call of the right library, whose name then begins with right_, and one thing
+// more. WAY says which, and it happens to every twentieth call. Each is one that a single comparison of the suite sees.
+#include <stdbool.h>
+#include <stddef.h>
+#include <stdint.h>
+
+// Whether this call is wrong.
+static bool now(void) {
+    static unsigned calls;
+    return ++calls % 20 == 0;
+}
+
+#if WAY == 1 // the answer has one deletion more
+uint64_t right_checkpoint(uint16_t *, size_t, size_t, uint16_t *, size_t);
+uint64_t lemidrosy_checkpoint(uint16_t *words, size_t size, size_t process, uint16_t *deleted, size_t room) {
+    return right_checkpoint(words, size, process, deleted, room) + (now() ? 256 : 0);
+}
+#elif WAY == 2 // a set of entries that rose has one more
+uint64_t right_deliver(uint16_t *, size_t, uint32_t, uint16_t *, size_t);
+uint64_t lemidrosy_deliver(uint16_t *words, size_t size, uint32_t message, uint16_t *deleted, size_t room) {
+    return right_deliver(words, size, message, deleted, room) | (now() ? (uint64_t)1 << 63 : 0);
+}
+#elif WAY == 3 // a call changes a word, refused or not
+uint64_t right_lose(uint16_t *, size_t, uint32_t);
+uint64_t lemidrosy_lose(uint16_t *words, size_t size, uint32_t message) {
+    uint64_t answer = right_lose(words, size, message);
+    if (now() && size > 33)
+        words[33] ^= 1;
+    return answer;
+}
+#elif WAY == 4 // something is left in an unused place
+uint64_t right_send(uint16_t *, size_t, size_t, size_t);
+uint64_t lemidrosy_send(uint16_t *words, size_t size, size_t sender, size_t receiver) {
+    uint64_t answer = right_send(words, size, sender, receiver);
+    if (now() && (answer & 255) == 0)
+        words[14] = 1;
+    return answer;
+}
+#elif WAY == 5 // the entry after what is written of a list changes
+uint64_t right_line(const uint16_t *, size_t, uint32_t, uint16_t *, size_t);
+uint64_t lemidrosy_line(const uint16_t *words, size_t size, uint32_t failed, uint16_t *line, size_t room) {
+    uint64_t answer = right_line(words, size, failed, line, room);
+    if (room > 0 && (answer & 255) != 0)
+        line[room - 1] ^= 1;
+    return answer;
+}
+#elif WAY == 6 // the byte after a list is written
+uint64_t right_recover(uint16_t *, size_t, uint32_t, uint16_t *, size_t, uint16_t *, size_t);
+uint64_t lemidrosy_recover(uint16_t *words, size_t size, uint32_t failed, uint16_t *deleted, size_t many, uint16_t *line, size_t room) {
+    uint64_t answer = right_recover(words, size, failed, deleted, many, line, room);
+    if (now() && room > 0)
+        line[room] = 0;
+    return answer;
+}
+#elif WAY == 7 // the word after the last one is read
+bool right_is_sound(const uint16_t *, size_t);
+bool lemidrosy_is_sound(const uint16_t *words, size_t size) {
+    if (now() && size > 0)
+        (void)*(const volatile uint16_t *)&words[size];
+    return right_is_sound(words, size);
+}
+#elif WAY == 8 // every state is sound
+bool lemidrosy_is_sound(const uint16_t *words, size_t size) {
+    (void)words;
+    (void)size;
+    return true;
+}
+#elif WAY == 9 // the first of no block counts is read
+uint64_t right_start(uint16_t *, size_t, size_t, const uint32_t *, size_t);
+uint64_t lemidrosy_start(uint16_t *words, size_t size, size_t n, const uint32_t *counts, size_t room) {
+    (void)*(const volatile uint32_t *)counts;
+    return right_start(words, size, n, counts, room);
+}
+#elif WAY == 10 // a refused start leaves the words as they were
+uint64_t right_start(uint16_t *, size_t, size_t, const uint32_t *, size_t);
+uint64_t lemidrosy_start(uint16_t *words, size_t size, size_t n, const uint32_t *counts, size_t room) {
+    if (n == 0 || n > 16)
+        return 1;
+    return right_start(words, size, n, counts, room);
+}
+#elif WAY == 11 // a process is judged by its lowest 32 bits
+uint64_t right_checkpoint(uint16_t *, size_t, size_t, uint16_t *, size_t);
+uint64_t lemidrosy_checkpoint(uint16_t *words, size_t size, size_t process, uint16_t *deleted, size_t room) {
+    return right_checkpoint(words, size, (uint32_t)process, deleted, room);
+}
+#elif WAY == 12 // a failed set is judged by its lowest 16 bits
+uint64_t right_line(const uint16_t *, size_t, uint32_t, uint16_t *, size_t);
+uint64_t lemidrosy_line(const uint16_t *words, size_t size, uint32_t failed, uint16_t *line, size_t room) {
+    return right_line(words, size, (uint16_t)failed, line, room);
+}
+#elif WAY == 13 // the cause of the last checkpoint that is read is another
+uint64_t right_kept(const uint16_t *, size_t, size_t, uint32_t *, size_t);
+uint64_t lemidrosy_kept(const uint16_t *words, size_t size, size_t process, uint32_t *kept, size_t room) {
+    uint64_t answer = right_kept(words, size, process, kept, room);
+    if ((answer & 255) == 0)
+        kept[3 * (answer >> 24 & 0xffffff) - 2] ^= 3;
+    return answer;
+}
+#else
+#error "no such way to be wrong"
+#endif
