@@ -123,7 +123,7 @@ static void touched(int signal) {
 
 // The oracle makes many small vectors: no stack is kept of each.
 const char *__asan_default_options(void) {
-    return "handle_segv=0:handle_sigbus=0:detect_leaks=0:malloc_context_size=0:quarantine_size_mb=1";
+    return "handle_segv=0:handle_sigbus=0:detect_leaks=0:malloc_context_size=0:quarantine_size_mb=1:max_malloc_fill_size=0:intercept_memcmp=0";
 }
 
 int main(int count, char **words) {

@@ -30,6 +30,7 @@ extern "C" {
     fn take_back(buffer: c_int) -> bool;
     fn call_from_c(call: *const Lent) -> u64;
     fn about_to(call: u64);
+    static absent_calls: u32;
 }
 
 // The library, called from Rust. A slice is a pointer and a length.
@@ -99,6 +100,11 @@ fn returned<T: Copy>(from: *const T, list: &mut [T]) {
 }
 
 impl Library for Archive {
+    fn has(&self, call: usize) -> bool {
+        // Safety: nobody writes it.
+        unsafe { absent_calls >> call & 1 == 0 }
+    }
+
     fn fitted(&self, call: Call) -> Call {
         let cut = |number: u64| number & u64::from(u32::MAX);
         match call {
@@ -213,9 +219,10 @@ const LEAST: u64 = 10;
 /// if there is none.
 #[no_mangle]
 pub extern "C" fn hold_calls(seed: u64, count: u64) -> bool {
-    let said = hold(&mut Archive { calls: 0 }, seed, count).and_then(|tally| {
+    let mut archive = Archive { calls: 0 };
+    let said = hold(&mut archive, seed, count).and_then(|tally| {
         say(&tally);
-        match tally.missing(LEAST) {
+        match tally.missing(LEAST, &archive) {
             Some(what) if count >= MANY => Err(format!("hardly met: {what}")),
             _ => Ok(()),
         }

@@ -13,6 +13,9 @@ use crate::words::{self, SIZE};
 pub trait Library {
     fn call(&mut self, call: Call, words: &mut [u16], lists: &mut Lists) -> Result<u64, String>;
 
+    /// Whether it has this call: by its place in `CALLS`.
+    fn has(&self, call: usize) -> bool;
+
     /// The numbers of a call as this library takes them: those that its
     /// parameters have no room for are cut.
     fn fitted(&self, call: Call) -> Call;
@@ -74,20 +77,30 @@ pub struct Tally {
 
 impl Tally {
     /// What was met fewer than so many times, of all that can be met.
-    pub fn missing(&self, least: u64) -> Option<String> {
-        for (met, (name, numbers)) in self.met.iter().zip(CALLS) {
+    pub fn missing(&self, least: u64, library: &impl Library) -> Option<String> {
+        for (call, (met, (name, numbers))) in self.met.iter().zip(CALLS).enumerate() {
+            if !library.has(call) {
+                continue;
+            }
             if let Some(number) = numbers.iter().find(|number| met[**number] < least) {
                 return Some(format!("{name} with {number}"));
             }
         }
+        // Only a recovery leaves a state that is not sound.
+        let recovers = library.has(place(Call::Recover { failed: 0 }));
         let others = [
-            ("a forged state", self.forged),
-            ("2 on a sound state", self.without_line),
-            ("a state that is left and not sound", self.left_unsound),
-            ("unused places that are not zero", self.littered),
+            (true, "a forged state", self.forged),
+            (true, "unused places that are not zero", self.littered),
+            (recovers, "2 on a sound state", self.without_line),
+            (
+                recovers,
+                "a state left that is not sound",
+                self.left_unsound,
+            ),
         ];
-        let few = others.iter().find(|(_, many)| *many < least);
-        few.map(|(what, _)| what.to_string())
+        let mut others = others.iter().filter(|(asked, _, _)| *asked);
+        let few = others.find(|(_, _, many)| *many < least);
+        few.map(|(_, what, _)| what.to_string())
     }
 }
 
@@ -216,7 +229,10 @@ fn one(
     held: &mut Held,
     tally: &mut Tally,
 ) -> Result<(), String> {
-    let call = draw::call(draws, habits, held.state.as_ref());
+    let mut call = draw::call(draws, habits, held.state.as_ref());
+    while !library.has(place(call)) {
+        call = draw::call(draws, habits, held.state.as_ref());
+    }
     make(library, draws, call, held, tally)
 }
 
