@@ -87,20 +87,48 @@ bool take_back(int buffer) {
 
 uint64_t call_from_c(const struct call *c) {
     switch (c->which) {
+#ifndef ABSENT_start
     case 0: return lemidrosy_start(c->words, c->words_len, c->first, c->numbers, c->numbers_len);
+#endif
+#ifndef ABSENT_checkpoint
     case 1: return lemidrosy_checkpoint(c->words, c->words_len, c->first, c->deletions, c->deletions_len);
+#endif
+#ifndef ABSENT_send
     case 2: return lemidrosy_send(c->words, c->words_len, c->first, c->second);
+#endif
+#ifndef ABSENT_deliver
     case 3: return lemidrosy_deliver(c->words, c->words_len, (uint32_t)c->first, c->deletions, c->deletions_len);
+#endif
+#ifndef ABSENT_lose
     case 4: return lemidrosy_lose(c->words, c->words_len, (uint32_t)c->first);
+#endif
+#ifndef ABSENT_line
     case 5: return lemidrosy_line(c->words, c->words_len, (uint32_t)c->first, c->line, c->line_len);
+#endif
+#ifndef ABSENT_recover
     case 6: return lemidrosy_recover(c->words, c->words_len, (uint32_t)c->first, c->deletions, c->deletions_len, c->line, c->line_len);
+#endif
+#ifndef ABSENT_earliest
     case 7: return lemidrosy_earliest(c->words, c->words_len, c->numbers, c->numbers_len, c->line, c->line_len);
+#endif
+#ifndef ABSENT_is_sound
     case 8: return lemidrosy_is_sound(c->words, c->words_len);
+#endif
+#ifndef ABSENT_numbers
     case 9: return lemidrosy_numbers(c->words, c->words_len, c->sums, c->sums_len);
+#endif
+#ifndef ABSENT_vector
     case 10: return lemidrosy_vector(c->words, c->words_len, c->first, c->line, c->line_len);
+#endif
+#ifndef ABSENT_pins
     case 11: return lemidrosy_pins(c->words, c->words_len, c->first, c->line, c->line_len);
+#endif
+#ifndef ABSENT_kept
     case 12: return lemidrosy_kept(c->words, c->words_len, c->first, c->numbers, c->numbers_len);
+#endif
+#ifndef ABSENT_messages
     case 13: return lemidrosy_messages(c->words, c->words_len, c->numbers, c->numbers_len);
+#endif
     default: fprintf(stderr, "driver: no such call\n"); exit(1);
     }
 }

@@ -345,7 +345,7 @@ fn change_soundly(draws: &mut Draws, limits: bool, words: &mut [u16]) {
     let messages: Vec<usize> = (0..usize::from(words[END]))
         .filter(|k| words[LOWS + k] != 0 || words[HIGHS + k] != 0)
         .collect();
-    match draws.below(14) {
+    match draws.below(18) {
         0 if p != f => words[part(p) + f] = lower,
         1 if p != f => words[stored(p, k) + f] = lower,
         2 if !messages.is_empty() => words[carried(draws.one_of(&messages)) + f] = lower,
@@ -378,8 +378,42 @@ fn change_soundly(draws: &mut Draws, limits: bool, words: &mut [u16]) {
             put(&mut words[WRITTEN..DELETED], written);
             words[BLOCKS + p] = blocks;
         }
-        _ => spread(draws, words),
+        13 => spread(draws, words),
+        _ if p != f => keep_more(draws, words, p, f),
+        _ => {}
     }
+}
+
+/// Process p keeps one more checkpoint, earlier than its last; its pin for f
+/// names it.
+fn keep_more(draws: &mut Draws, words: &mut [u16], p: usize, f: usize) {
+    let count = usize::from(words[COUNT]);
+    let held = usize::from(words[HELD + p]);
+    let last = words[part(p) + INDEXES + held - 1];
+    if held >= count || last < 2 {
+        return;
+    }
+    let near = 1 + draws.below(u64::from(last - 1).min(4)) as u16;
+    let any = 1 + draws.below(u64::from(last - 1)) as u16;
+    let index = draws.one_of(&[near, last - near, any]);
+    let mut k = held;
+    while k > 0 && words[part(p) + INDEXES + k - 1] > index {
+        words[part(p) + INDEXES + k] = words[part(p) + INDEXES + k - 1];
+        words[part(p) + CAUSES + k] = words[part(p) + CAUSES + k - 1];
+        words.copy_within(stored(p, k - 1)..stored(p, k), stored(p, k));
+        k -= 1;
+    }
+    words[part(p) + INDEXES + k] = index;
+    words[part(p) + CAUSES + k] = if index == 1 { 0 } else { draws.one_of(&[1, 2]) };
+    for g in 0..count {
+        let own = words[part(g) + g];
+        words[stored(p, k) + g] = draws.below(u64::from(own) + 1) as u16;
+    }
+    words[stored(p, k) + p] = index - 1;
+    words[part(p) + PINS + f] = index;
+    words[HELD + p] += 1;
+    let written = wide(&words[WRITTEN..DELETED]) + u64::from(words[BLOCKS + p]);
+    put(&mut words[WRITTEN..DELETED], written);
 }
 
 /// By how much a number rises that has so much left to its limit: a little, or,
