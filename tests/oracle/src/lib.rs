@@ -6,6 +6,8 @@
 //! * `generate`: random traces; it uses nothing of the rest.
 //! * `hold`: another program held to the oracle.
 //! * `whole`: numbers of any length.
+//! * `words`: the state as words that a caller lends.
+//! * `calls`: the calls on such words, and a library held to the oracle.
 //!
 //! Every other module belongs to one note, which its first lines name.
 //!

@@ -18,7 +18,7 @@ impl Draws {
     }
 
     /// The generator of Steele, Lea and Flood ("SplitMix").
-    pub fn next(&mut self) -> u64 {
+    pub fn number(&mut self) -> u64 {
         self.0 = self.0.wrapping_add(0x9e37_79b9_7f4a_7c15);
         let mut value = self.0;
         value = (value ^ value >> 30).wrapping_mul(0xbf58_476d_1ce4_e5b9);
@@ -27,7 +27,7 @@ impl Draws {
     }
 
     pub fn below(&mut self, limit: u64) -> u64 {
-        self.next() % limit.max(1)
+        self.number() % limit.max(1)
     }
 
     pub fn place(&mut self, limit: usize) -> usize {
@@ -44,7 +44,7 @@ impl Draws {
     }
 
     pub fn word(&mut self) -> u16 {
-        self.next() as u16
+        self.number() as u16
     }
 }
 
@@ -238,7 +238,7 @@ pub fn lists(draws: &mut Draws, call: Call, now: Option<&State>) -> Lists {
         _ => Vec::new(),
     };
     let size = length(draws, 5);
-    let sums = (0..size).map(|_| draws.next()).collect();
+    let sums = (0..size).map(|_| draws.number()).collect();
     let size = length(draws, 2 * count * count);
     let deletions = (0..size).map(|_| draws.word()).collect();
     let size = length(draws, count);
@@ -254,7 +254,7 @@ pub fn lists(draws: &mut Draws, call: Call, now: Option<&State>) -> Lists {
 /// Any numbers, mostly as many as are asked for.
 fn any(draws: &mut Draws, asked: usize) -> Vec<u32> {
     let size = length(draws, asked);
-    (0..size).map(|_| draws.next() as u32).collect()
+    (0..size).map(|_| draws.number() as u32).collect()
 }
 
 fn length(draws: &mut Draws, asked: usize) -> usize {
