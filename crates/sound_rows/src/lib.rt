@@ -5,7 +5,7 @@ ghost use mathlib.Core.Path.{_≡_};
 ghost use Prim.Native.Nat.{_-_};
 ghost use mathlib.Core.Bool.{_&&_};
 ghost use lib.Bits.{bitOr};
-ghost use lib.Dec.{eqb};
+ghost use lib.Dec.{eqb, leb};
 ghost use lib.ListN.{getD};
 ghost use Rattle.laws.specs.Choice.{pick};
 ghost use Rattle.laws.specs.Lists.{table};
@@ -20,6 +20,20 @@ fn excess(x: u16, limit: u16) -> u16
     ensures { λ r. ⌜ r ≡ x - limit ⌝ }
 {
     if limit < x { x - limit } else { 0 }
+}
+
+// No entry of a vector is above its limit.
+pub fn is_within(vector: [Interval; 16], limits: [Interval; 16]) -> bool
+    ensures { λ r. ⌜ r ≡ allBelow 16 (λ f. leb (entry vector f .0) (entry limits f .0)) ⌝ }
+{
+    let mut over: u16 = 0;
+    for f in 0..words::PROCESSES {
+        let x = vector[f];
+        let limit = limits[f];
+        let more = excess(x.0, limit.0);
+        over = over | more;
+    }
+    over == 0
 }
 
 // What is over the limits, with one vector more: a word stays 0 where the entry is within its limit.
