@@ -5,3 +5,6 @@ pub mod line;
 
 // through.rt: the earliest line through named checkpoints
 pub mod through;
+
+// restored.rt: the pins of a process after a recovery
+pub mod restored;

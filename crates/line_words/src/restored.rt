@@ -1,0 +1,74 @@
+// The pins of one process after a recovery, once all processes have gone back.
+use model::Interval;
+use words::places;
+ghost use mathlib.Core.Path.{_≡_};
+ghost use Prim.Native.Nat.{_≤_, _<_};
+ghost use lib.Dec.{eqb};
+ghost use lib.ListN.{length};
+ghost use Rattle.laws.specs.Choice.{pick};
+ghost use Rattle.model.specs.Words.{below};
+ghost use Rattle.line_words.specs.Restored.{knownRow, foundRow, foundIn};
+
+fn known_pin(known: Interval, own: Interval, pin: u16) -> u16
+    ensures { λ r. ⌜ r ≡ pick (eqb (known .0) (own .0)) pin 0 ⌝ }
+{
+    if known.0 == own.0 { pin } else { 0 }
+}
+
+// "a pin for f whose vector entry is not own(f) becomes none". Every iteration stores its pin: such a loop takes several pins at a time.
+pub fn known_pins(vector: [Interval; 16], owns: [Interval; 16], pins: [u16; 16]) -> [u16; 16]
+    ensures { λ r. ⌜ r ≡ knownRow vector owns pins ⌝ }
+{
+    let mut then = [0u16; 16];
+    for f in 0..words::PROCESSES {
+        let known = vector[f];
+        let own = owns[f];
+        let pin = known_pin(known, own, pins[f]);
+        then[f] = pin;
+    }
+    then
+}
+
+fn later_of(known: Interval, own: Interval, old: u16, word: u16) -> u16
+    ensures { λ r. ⌜ r ≡ pick (below known own) word old ⌝ }
+{
+    if known.0 < own.0 { word } else { old }
+}
+
+// What is found with one checkpoint more, later than all before it: its word for each f whose own entry is above its entry f.
+fn found_with(
+    found: [u16; 16],
+    vector: [Interval; 16],
+    owns: [Interval; 16],
+    word: u16,
+) -> [u16; 16]
+    ensures { λ r. ⌜ r ≡ foundRow found vector owns word ⌝ }
+{
+    let mut then = [0u16; 16];
+    for f in 0..words::PROCESSES {
+        let known = vector[f];
+        let own = owns[f];
+        let later = later_of(known, own, found[f], word);
+        then[f] = later;
+    }
+    then
+}
+
+// For each f the word of the latest of the first `many` checkpoints "with entry f below own(f)", 0 if there is none.
+pub fn find_latest(w: &[u16], p: usize, many: usize, owns: [Interval; 16]) -> [u16; 16]
+    requires { ⌜ (length (now w) ≡ 6464) × (p < 16) × (many ≤ 16) ⌝ }
+    ensures { λ r. ⌜ r ≡ foundIn (now (w .entry)) owns p many ⌝ }
+{
+    let mut found = [0u16; 16];
+    for k in 0..many {
+        let vector = words::vector_at(w, places::STORED + places::PART * p + places::ROW * k);
+        let further = found_with(
+            found,
+            vector,
+            owns,
+            w[places::INDEXES + places::PART * p + k],
+        );
+        found = further;
+    }
+    found
+}
