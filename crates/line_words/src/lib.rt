@@ -6,5 +6,5 @@ pub mod line;
 // through.rt: the earliest line through named checkpoints
 pub mod through;
 
-// restored.rt: the pins of a process after a recovery
+// restored.rt: a process goes back to a checkpoint, and its pins after a recovery
 pub mod restored;

@@ -1,12 +1,16 @@
-// The pins of one process after a recovery, once all processes have gone back.
+// A process goes back to a stored checkpoint; its pins once all processes have gone back.
 use model::Interval;
 use words::places;
 ghost use mathlib.Core.Path.{_≡_};
-ghost use Prim.Native.Nat.{_≤_, _<_};
+ghost use mathlib.Core.List.{[], _∷_};
+ghost use Prim.Native.Nat.{_+_, _≤_, _<_};
 ghost use lib.Dec.{eqb};
 ghost use lib.ListN.{length};
 ghost use Rattle.laws.specs.Choice.{pick};
 ghost use Rattle.model.specs.Words.{below};
+ghost use Rattle.model.specs.Steps.{advanced};
+ghost use Rattle.words.specs.Layout.{word, markAt, partAt, storedAt, vectorIn};
+ghost use Rattle.words.specs.Puts.{puts, one, vectorPut};
 ghost use Rattle.line_words.specs.Restored.{knownRow, foundRow, foundIn};
 
 fn known_pin(known: Interval, own: Interval, pin: u16) -> u16
@@ -71,4 +75,15 @@ pub fn find_latest(w: &[u16], p: usize, many: usize, owns: [Interval; 16]) -> [u
         found = further;
     }
     found
+}
+
+// "A process whose member is stored takes that vector with 1 added to its own entry, loses its sent mark": it goes back to the checkpoint in this place.
+pub fn go_back(w: &mut [u16], p: usize, place: usize)
+    requires { ⌜ (length (now w) ≡ 6464) × (p < 16) × (place < 16) × (word (now w) (storedAt p place + p) < 65535) ⌝ }
+    ensures { λ u. ⌜ now (w .exit) ≡ puts (now (w .entry)) (vectorPut (partAt p) (advanced p (vectorIn (now (w .entry)) (storedAt p place))) ∷ one (markAt p) 0 ∷ []) ⌝ }
+{
+    let vector = words::vector_at(w, places::STORED + places::PART * p + places::ROW * place);
+    let back = rows::vector::advanced(vector, p);
+    words::put_vector(w, places::PARTS + places::PART * p, back);
+    w[places::MARKS + p] = 0;
 }
