@@ -9,11 +9,14 @@ ghost use Rattle.model.specs.declared.SendAnswer.the-variants as sending;
 ghost use Rattle.model.specs.declared.LoseAnswer.the-variants as losing;
 ghost use Rattle.model.specs.Sound.{sound};
 ghost use Rattle.whole_runs.specs.Calls as made;
-ghost use Rattle.whole_runs.specs.Outcomes.{checkpointOutcome, sendOutcome, loseOutcome};
-ghost use Rattle.whole_runs.specs.WholeRuns.{StartPromise, StatePromise};
-ghost use Rattle.answers.specs.Codes.{startCode, checkpointCode, sendCode, loseCode};
+ghost use Rattle.whole_runs.specs.Outcomes.{checkpointOutcome, sendOutcome, loseOutcome, lineOutcome};
+ghost use Rattle.whole_runs.specs.WholeRuns.{LinePromise, StartPromise, StatePromise, EarliestPromise};
+ghost use Rattle.whole_runs.specs.Earliest.{earliestOutcome};
+ghost use Rattle.whole_runs.specs.Sweep.{EmptyLinePromise};
+ghost use Rattle.answers.specs.Codes.{startCode, checkpointCode, sendCode, loseCode, lineCode};
 ghost use Rattle.words.specs.Clean.{Clean};
 ghost use Rattle.words.specs.Layout.{runOf};
+ghost use Rattle.line_words.specs.Through.{namedIn};
 ghost use Rattle.in_place.specs.Left.{Leaves};
 ghost use Rattle.in_place.specs.Starting.{startOutcomeIn, startWords};
 
@@ -80,4 +83,27 @@ pub extern "C" fn lemidrosy_lose(words: &mut [u16], message: u32) -> u64
 {
     let answer = in_place::lose::lose(words, message);
     answers::of_lose(answer)
+}
+
+// The line for a failed set, bit p of which stands for process p: its n indexes go to the front of the lent list. An empty set is a sweep's.
+#[no_mangle]
+pub extern "C" fn lemidrosy_line(words: &[u16], failed: u32, line: &mut [u16]) -> u64
+    ensures { λ r. ⌜ r ≡ lineCode (lineOutcome (runOf (now (words .entry))) failed (now (line .entry)) .answer) ⌝ }
+    ensures { λ r. ⌜ now (line .exit) ≡ lineOutcome (runOf (now (words .entry))) failed (now (line .entry)) .line ⌝ }
+    ensures { λ r. ⌜ LinePromise (runOf (now (words .entry))) failed ⌝ }
+    ensures { λ r. ⌜ EmptyLinePromise (runOf (now (words .entry))) failed (now (line .entry)) (lineOutcome (runOf (now (words .entry))) failed (now (line .entry)) .answer) (now (line .exit)) ⌝ }
+{
+    let answer = in_place::line::line(words, failed, line);
+    answers::of_line(answer)
+}
+
+// The earliest consistent line through the named checkpoints, pairs of a process and an index: its n indexes go to the front of the lent list.
+#[no_mangle]
+pub extern "C" fn lemidrosy_earliest(words: &[u16], named: &[u32], line: &mut [u16]) -> u64
+    ensures { λ r. ⌜ r ≡ lineCode (earliestOutcome (runOf (now (words .entry))) (namedIn (now (named .entry))) (now (line .entry)) .answer) ⌝ }
+    ensures { λ r. ⌜ now (line .exit) ≡ earliestOutcome (runOf (now (words .entry))) (namedIn (now (named .entry))) (now (line .entry)) .line ⌝ }
+    ensures { λ r. ⌜ EarliestPromise (runOf (now (words .entry))) (namedIn (now (named .entry))) (now (line .entry)) ⌝ }
+{
+    let answer = in_place::through::earliest(words, named, line);
+    answers::of_line(answer)
 }
