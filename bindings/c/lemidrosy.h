@@ -46,6 +46,7 @@ enum {
     LEMIDROSY_LIST_TOO_SHORT = 3,             /* a lent list has too few entries */
     LEMIDROSY_NO_SUCH_PROCESS = 4,            /* a process not below n */
     LEMIDROSY_SENDER_IS_RECEIVER = 5,
+    LEMIDROSY_NO_SUCH_FAILED_PROCESS = 7,     /* a failed set with a bit at n or above */
     LEMIDROSY_NOT_UNDER_WAY = 8,              /* no such message is under way */
     LEMIDROSY_TOO_MANY_UNDER_WAY = 9,         /* a send with 64 under way */
     LEMIDROSY_MESSAGE_NUMBERS_USED = 10,      /* a send with number 1,000,000 used */
@@ -55,7 +56,10 @@ enum {
     LEMIDROSY_MALFORMED_RECORD = 14,
     LEMIDROSY_BLOCK_COUNT_OUTSIDE_RANGE = 15, /* a block count outside 1 to 65,535 */
     LEMIDROSY_BLOCKS_USED = 16,               /* a checkpoint that would take the blocks written past 1,000,000,000,000,000 */
-    LEMIDROSY_TOO_MANY_RECORDS = 17
+    LEMIDROSY_TOO_MANY_RECORDS = 17,
+    LEMIDROSY_UNFIT_NAMED_LIST = 18,          /* no named checkpoint, too many, or two of one process */
+    LEMIDROSY_NOT_KEPT = 19,                  /* a named checkpoint that is not kept */
+    LEMIDROSY_CAUSALLY_ORDERED = 20           /* no consistent line passes through all named checkpoints */
 };
 
 /* Whether the words stand for a sound state. */
@@ -74,6 +78,14 @@ uint64_t lemidrosy_send(uint16_t *words, size_t words_length, size_t sender, siz
 
 /* A message is lost. Refused with 2 or 8. */
 uint64_t lemidrosy_lose(uint16_t *words, size_t words_length, uint32_t message);
+
+/* The line for a failed set, bit p of which stands for process p: the n indexes of the line go to the list, which has room for n. The index of a process that stays live
+   is its own entry. The set is judged with all its 32 bits. Refused with 2, 3 or 7. */
+uint64_t lemidrosy_line(const uint16_t *words, size_t words_length, uint32_t failed, uint16_t *line, size_t line_length);
+
+/* The earliest consistent line through the named checkpoints, pairs of a process and an index: it may name deleted checkpoints, so it is to be shown, not restarted from.
+   Refused with 2, 3, 4, 18, 19 or 20. */
+uint64_t lemidrosy_earliest(const uint16_t *words, size_t words_length, const uint32_t *named, size_t named_length, uint16_t *line, size_t line_length);
 
 /* The readers. Each is refused with 2, and with 3 if the list is too short for what it may have to hold; those of a process with 4. */
 
