@@ -47,8 +47,12 @@ either-way true b = refl
 either-way false true = refl
 either-way false false = refl
 
--- The two tests by the words.
+-- The two tests by the words, and the index of what is stored.
 module _ (w : List ℕ) (h : sound (runOf w) ≡ true) (i : ℕ) (lt : i < countOf w) where
+  pub index-is : live i (process (runOf w) i) .index ≡ liveIndex (intervalOf (word w (partAt i + i)))
+  unfolding live processIn
+  index-is = ap (λ (P : Process). liveIndex (entry (P .vector) i)) (sound-process-is w h i lt) ∙ ap liveIndex (own-entry w h i lt)
+
   last-is : atLastInterval (runOf w) i ≡ leb 65535 (word w (partAt i + i))
   last-is = ap (λ (x : Interval). leb 65535 (x .0)) (sound-own-is w h i lt)
 
@@ -125,10 +129,6 @@ module _ (w : List ℕ) (h : sound (runOf w) ≡ true) (i : ℕ) (l : List ℕ) 
       unfolding checkpointDeletions
       deletions-are = ap (λ (P : Process). deletions i (checkpointed basic i P)) (sound-process-is w h i lt)
 
-      index-is : live i (process s i) .index ≡ liveIndex (intervalOf (word w (partAt i + i)))
-      unfolding live processIn
-      index-is = ap (λ (P : Process). liveIndex (entry (P .vector) i)) (sound-process-is w h i lt) ∙ ap liveIndex (own-entry w h i lt)
-
       pub stored : verdict.Accepted ≡ storingVerdict s i → (v k : List ℕ) (g : ℕ) (index : CheckpointIndex)
           → Moves w i (settled Q) (billed (diskIn w) (word w (blocksAt i)) (blocksOf (gone Q))) v → k ≡ sets l 0 (pairs (deletions i Q)) → g ≡ length (deletions i Q)
           → index ≡ liveIndex (intervalOf (word w (partAt i + i))) → Left (Stored index g) v k
@@ -136,7 +136,7 @@ module _ (w : List ℕ) (h : sound (runOf w) ≡ true) (i : ℕ) (l : List ℕ) 
       stored e v k g index m list many is = rw (judged ∙ ap refusalOf (sym e)) (
         moved-run w v i (settled Q) (billed (diskIn w) (word w (blocksAt i)) (blocksOf (gone Q))) (sound-words w h .fit) lt (sound-words w h .few) m ∙ sym state,
         (
-          (λ j. Stored ((is ∙ sym index-is) j) ((many ∙ ap length (sym deletions-are)) j)),
+          (λ j. Stored ((is ∙ sym (index-is w h i lt)) j) ((many ∙ ap length (sym deletions-are)) j)),
           (
             list ∙ ap (λ d. sets l 0 (pairs d)) (sym deletions-are),
             (λ why q. absurd (let z : _≡_ {A = ℕ} 0 1 = cc in omega arith), moved-leaves w v i (settled Q) (billed (diskIn w) (word w (blocksAt i)) (blocksOf (gone Q))) (sound-words w h .fit) lt (sound-words w h .few) m),

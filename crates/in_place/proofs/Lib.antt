@@ -7,5 +7,6 @@ pub mod Lining
 pub mod Losing
 pub mod Moving
 pub mod Reached
+pub mod Receiving
 pub mod Sending
 pub mod Starting

@@ -31,11 +31,23 @@ use Rattle.words.proofs.View.{last-is}
 use Rattle.words.proofs.ViewChange.{with-messages}
 use Rattle.words.proofs.ViewClean.{clean-messages}
 use Rattle.words.proofs.ViewSound.{SoundWords, sound-words}
-use Rattle.message_words.specs.Places.{placeBelow, placeOf, takenOut}
+use Rattle.message_words.specs.declared.Found.the-variants.{Nothing, At}
+use Rattle.message_words.specs.Places.{placeBelow, placeOf, foundAt, takenOut}
 use Rattle.message_words.proofs.Selected.{messageAt, found-below, place-under, place-number, is-one}
 use Rattle.message_words.proofs.Zeros.{clean-taken}
 use Rattle.in_place.specs.Left.{Leaves}
 use Rattle.message_words.proofs.Taken.{taken-length, taken-count, taken-rest, taken-fits, taken-others, taken-many}
+
+-- Where nothing was found, and where something was.
+pub nothing : (k : ℕ) → Nothing ≡ foundAt k → k ≡ 0
+unfolding foundAt
+nothing zero e = refl
+nothing (suc k) e = absurd (let z : _≡_ {A = ℕ} 0 1 = cc in omega arith)
+
+pub there : (k j : ℕ) → At j ≡ foundAt k → k ≡ suc j
+unfolding foundAt
+there zero j e = absurd (let z : _≡_ {A = ℕ} 0 1 = cc in omega arith)
+there (suc k) j e = ap suc (let z : j ≡ k = cc in sym z)
 
 -- No message has number 0.
 unnamed : (x : Message) → (isMessage x && eqb (x .number) 0) ≡ false

@@ -10,6 +10,9 @@ pub mod checkpoint;
 // send.rt: a message is sent
 pub mod send;
 
+// deliver.rt: a message reaches its receiver
+pub mod deliver;
+
 // lose.rt: a message is lost
 pub mod lose;
 

@@ -1,8 +1,8 @@
 -- `in_place::lose::lose_on` meets its contract. Assumes nothing.
-use mathlib.Core.Path.{_≡_, refl, sym, _∙_, ap}
+use mathlib.Core.Path.{_≡_, refl, sym, _∙_}
 use mathlib.Core.Bool.{true}
 use mathlib.Core.List.{List}
-use Prim.Native.Nat.{ℕ, zero, suc, _≤_, _<_}
+use Prim.Native.Nat.{ℕ, suc}
 use native.Mathlib.Omega.{arith}
 use borrow.Author.Needs.{needs}
 use Rattle.model.specs.declared.Refusal.{Refusal}
@@ -12,23 +12,11 @@ use Rattle.whole_runs.specs.Outcomes.{loseOutcome}
 use Rattle.words.specs.Layout.{runOf}
 use Rattle.in_place.specs.Left.{Leaves}
 use Rattle.words.proofs.ViewSound.{sound-words}
-use Rattle.message_words.specs.declared.Found.the-variants.{Nothing, At}
-use Rattle.message_words.specs.Places.{placeOf, foundAt, takenOut}
+use Rattle.message_words.specs.Places.{placeOf, takenOut}
 use Rattle.in_place.proofs.Leaving.{same-words}
-use Rattle.in_place.proofs.Losing.{lose-refused, lose-accepted, place-in, one-there, taken-leaves}
+use Rattle.in_place.proofs.Losing.{nothing, there, lose-refused, lose-accepted, place-in, one-there, taken-leaves}
 use Rattle.in_place.proofs.lose.lose_on.Statement.{statement}
 use Rattle.in_place.proofs.lose.lose_on.Tie as tie
-
--- Where nothing was found, and where something was.
-nothing : (k : ℕ) → Nothing ≡ foundAt k → k ≡ 0
-unfolding foundAt
-nothing zero e = refl
-nothing (suc k) e = absurd (let z : _≡_ {A = ℕ} 0 1 = cc in omega arith)
-
-there : (k j : ℕ) → At j ≡ foundAt k → k ≡ suc j
-unfolding foundAt
-there zero j e = absurd (let z : _≡_ {A = ℕ} 0 1 = cc in omega arith)
-there (suc k) j e = ap suc (let z : j ≡ k = cc in sym z)
 
 -- What the words then are, put together.
 accepted : (w : List ℕ) (h : sound (runOf w) ≡ true) (m k : ℕ) → placeOf w m ≡ suc k → (v : List ℕ) → v ≡ takenOut w k

@@ -1,0 +1,197 @@
+-- `in_place::deliver::deliver_from` meets its contract, by whether the message brings something new. Assumes nothing.
+use mathlib.Core.Path.{_≡_, refl, sym, _∙_, ap}
+use native.Mathlib.Omega.{arith}
+use borrow.Author.Needs.{needs}
+use borrow.Author.Tests.{not-true, not-false}
+use Rattle.model.specs.Words.{process}
+use Rattle.model.specs.Steps.{newer, forces}
+use Rattle.words.specs.Layout.{word, partAt, receiverAt, vectorIn, messageIn, runOf}
+use Rattle.words.proofs.ViewSound.{sound-words}
+use Rattle.in_place.proofs.Losing.{one-there}
+use Rattle.in_place.proofs.Receiving.{place-there, still-out, forces-marked, not-taken}
+use Rattle.in_place.proofs.deliver.deliver_from.Statement.{statement}
+use Rattle.in_place.proofs.deliver.deliver_from.Tie as tie
+
+-- Whether it brings something new, of the words.
+newer-is : (c : tie.After-is-newer) → let w = c .before .before .before .before .before .before .before .before .args .w .now in
+    newer (vectorIn w (partAt (word w (receiverAt (c .before .before .before .before .before .before .before .before .args .k))))) (messageIn w (c .before .before .before .before .before .before .before .before .args .k) .vector) ≡ c .is-newer .result
+unfolding messageIn
+newer-is c = sym (c .is-newer .ensures ∙ (λ j. newer (c .before .before .before .vector-at .ensures j) (c .before .vector-at2 .ensures j)))
+
+-- A checkpoint is forced exactly if the receiver has sent.
+forces-is : (c : tie.After-has-sent) → let w = c .before .before .before .before .before .before .before .before .before .before .before .args .w .now in
+    forces (process (runOf w) (word w (receiverAt (c .before .before .before .before .before .before .before .before .before .before .before .args .k)))) (messageIn w (c .before .before .before .before .before .before .before .before .before .before .before .args .k) .vector) ≡ c .has-sent .result
+unfolding messageIn
+forces-is c =
+    let s = c .before .before .before .before .before .before .before .before .before .before .before in
+    let a = s .args in
+    forces-marked (a .w .now) (s .pre .0) (a .deleted .now) (a .k) (s .pre .1) (s .pre .2) (newer-is (c .before .before .before) ∙ not-false _ (c .before .before .if1 .left))
+    ∙ sym (c .has-sent .ensures)
+
+slice-read-i : tie.Need-slice-read-i
+slice-read-i c =
+    let s = c .before .before .before in
+    let a = s .args in
+    omega (arith, sound-words (a .w .now) (s .pre .0) .size, place-there (a .w .now) (s .pre .0) (a .deleted .now) (a .k) (s .pre .1) (s .pre .2) .0)
+
+add-i : tie.Need-add-i
+add-i c =
+    let s = c .before .before in
+    let a = s .args in
+    let few = sound-words (a .w .now) (s .pre .0) .few in
+    let p = place-there (a .w .now) (s .pre .0) (a .deleted .now) (a .k) (s .pre .1) (s .pre .2) in
+    let near = p .0 in
+    let inside = p .1 in
+    search needs
+
+add-vector-at : tie.Need-add-vector-at
+add-vector-at c =
+    let s = c .before .before .before .before in
+    let a = s .args in
+    let few = sound-words (a .w .now) (s .pre .0) .few in
+    let p = place-there (a .w .now) (s .pre .0) (a .deleted .now) (a .k) (s .pre .1) (s .pre .2) in
+    let near = p .0 in
+    let inside = p .1 in
+    search needs
+
+add-vector-at-2 : tie.Need-add-vector-at-2
+add-vector-at-2 c =
+    let s = c .before .before .before .before .before .before in
+    let a = s .args in
+    let few = sound-words (a .w .now) (s .pre .0) .few in
+    let p = place-there (a .w .now) (s .pre .0) (a .deleted .now) (a .k) (s .pre .1) (s .pre .2) in
+    let near = p .0 in
+    let inside = p .1 in
+    search needs
+
+mul-i : tie.Need-mul-i
+mul-i c =
+    let s = c .before .before in
+    let a = s .args in
+    let few = sound-words (a .w .now) (s .pre .0) .few in
+    let p = place-there (a .w .now) (s .pre .0) (a .deleted .now) (a .k) (s .pre .1) (s .pre .2) in
+    let near = p .0 in
+    let inside = p .1 in
+    search needs
+
+mul-vector-at : tie.Need-mul-vector-at
+mul-vector-at c =
+    let s = c .before .before .before .before in
+    let a = s .args in
+    let few = sound-words (a .w .now) (s .pre .0) .few in
+    let p = place-there (a .w .now) (s .pre .0) (a .deleted .now) (a .k) (s .pre .1) (s .pre .2) in
+    let near = p .0 in
+    let inside = p .1 in
+    search needs
+
+mul-vector-at-2 : tie.Need-mul-vector-at-2
+mul-vector-at-2 c =
+    let s = c .before .before .before .before .before .before in
+    let a = s .args in
+    let few = sound-words (a .w .now) (s .pre .0) .few in
+    let p = place-there (a .w .now) (s .pre .0) (a .deleted .now) (a .k) (s .pre .1) (s .pre .2) in
+    let near = p .0 in
+    let inside = p .1 in
+    search needs
+
+cast-i : tie.Need-cast-i
+cast-i c =
+    let s = c .before .before .before in
+    let a = s .args in
+    record { fits = omega (arith, sound-words (a .w .now) (s .pre .0) .few, place-there (a .w .now) (s .pre .0) (a .deleted .now) (a .k) (s .pre .1) (s .pre .2) .1) }
+
+vector-at-requires : tie.Need-vector-at-requires
+vector-at-requires c κs =
+    let s = c .before .before .before .before in
+    let a = s .args in
+    let h = sound-words (a .w .now) (s .pre .0) in
+    let p = place-there (a .w .now) (s .pre .0) (a .deleted .now) (a .k) (s .pre .1) (s .pre .2) in
+    omega (arith, h .size, h .few, p .0, p .1)
+
+vector-at-requires-2 : tie.Need-vector-at-requires-2
+vector-at-requires-2 c κs =
+    let s = c .before .before .before .before .before .before in
+    let a = s .args in
+    let h = sound-words (a .w .now) (s .pre .0) in
+    let p = place-there (a .w .now) (s .pre .0) (a .deleted .now) (a .k) (s .pre .1) (s .pre .2) in
+    omega (arith, h .size, h .few, p .0, p .1)
+
+take-out-requires : tie.Need-take-out-requires
+take-out-requires c κs =
+    let s = c .before .before .before .before .before .before .before .before .before .before in
+    let a = s .args in
+    let h = sound-words (a .w .now) (s .pre .0) in
+    (h .size, h .end, place-there (a .w .now) (s .pre .0) (a .deleted .now) (a .k) (s .pre .1) (s .pre .2) .0, one-there (a .w .now) (s .pre .0) (messageIn (a .w .now) (a .k) .number) (a .k) (s .pre .1))
+
+returns : tie.Need-returns
+unfolding messageIn
+returns c =
+    let s = c .before .before .before .before .before .before .before .before .before .before .before .before .before in
+    let a = s .args in
+    still-out (a .w .now) (s .pre .0) (a .deleted .now) (a .k) (s .pre .1) (s .pre .2) (newer-is (c .before .before .before .before .before) ∙ not-true _ (c .before .before .before .before .if1 .taken)) _ (c .before .before .take-out .ensures)
+
+has-sent-requires : tie.Need-has-sent-requires
+has-sent-requires c κs =
+    let s = c .before .before .before .before .before .before .before .before .before .before in
+    let a = s .args in
+    let h = sound-words (a .w .now) (s .pre .0) in
+    (h .size, omega (arith, h .few, place-there (a .w .now) (s .pre .0) (a .deleted .now) (a .k) (s .pre .1) (s .pre .2) .1))
+
+forced-verdict-requires : tie.Need-forced-verdict-requires
+forced-verdict-requires c κs =
+    let s = c .before .before .before .before .before .before .before .before .before .before .before .before in
+    let a = s .args in
+    (s .pre .0, place-there (a .w .now) (s .pre .0) (a .deleted .now) (a .k) (s .pre .1) (s .pre .2) .1)
+
+returns-2 : tie.Need-returns-2
+unfolding messageIn
+returns-2 c =
+    let s = c .before .before .before .before .before .before .before .before .before .before .before .before .before .before .before .before .before in
+    let a = s .args in
+    rw (c .refuse .ensures)
+    (not-taken (a .w .now) (s .pre .0) (a .deleted .now) (a .k) (s .pre .1) (s .pre .2) (c .before .before .before .before .before .before .has-sent .result) (forces-is (c .before .before .before .before .before .before)) _ (sym (c .before .before .verdict .given .1) ∙ c .before .before .before .before .forced-verdict .ensures))
+
+take-from-requires : tie.Need-take-from-requires
+unfolding messageIn
+take-from-requires c κs =
+    let s = c .before .before .before .before .before .before .before .before .before .before .before .before .before .before .before .before .before in
+    let a = s .args in
+    let carried = c .before .before .before .before .before .before .before .before .before .before .vector-at2 .ensures in (
+      s .pre,
+      (
+        refl,
+        carried,
+        ap (forces (process (runOf (a .w .now)) (word (a .w .now) (receiverAt (a .k))))) carried ∙ forces-is (c .before .before .before .before .before .before),
+        sym (c .before .before .enum-told .given .1) ∙ c .before .before .before .before .forced-verdict .ensures,
+      ),
+    )
+
+returns-3 : tie.Need-returns-3
+returns-3 c = c .before .before .before .before .take-from .ensures
+
+pub deliver-from-spec : {M : Type 1} → statement M
+deliver-from-spec =
+    tie.close
+    (tie.spec
+    add-i
+    mul-i
+    slice-read-i
+    cast-i
+    mul-vector-at
+    add-vector-at
+    vector-at-requires
+    mul-vector-at-2
+    add-vector-at-2
+    vector-at-requires-2
+    (λ c κs. search needs)
+    take-out-requires
+    (λ c. search needs)
+    returns
+    has-sent-requires
+    forced-verdict-requires
+    (λ c. search needs) (λ c κs. search needs) (λ c. search needs)
+    take-from-requires
+    (λ c. search needs)
+    returns-2
+    (λ c. search needs) (λ c. search needs)
+    returns-3)
