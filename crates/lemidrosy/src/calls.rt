@@ -6,14 +6,15 @@ ghost use Rattle.model.specs.declared.Refusal.{Refusal};
 ghost use Rattle.model.specs.declared.StartAnswer.the-variants.{Started};
 ghost use Rattle.model.specs.declared.CheckpointAnswer.the-variants as storing;
 ghost use Rattle.model.specs.declared.SendAnswer.the-variants as sending;
+ghost use Rattle.model.specs.declared.DeliverAnswer.the-variants as delivering;
 ghost use Rattle.model.specs.declared.LoseAnswer.the-variants as losing;
 ghost use Rattle.model.specs.Sound.{sound};
 ghost use Rattle.whole_runs.specs.Calls as made;
-ghost use Rattle.whole_runs.specs.Outcomes.{checkpointOutcome, sendOutcome, loseOutcome, lineOutcome};
+ghost use Rattle.whole_runs.specs.Outcomes.{checkpointOutcome, sendOutcome, deliverOutcome, loseOutcome, lineOutcome};
 ghost use Rattle.whole_runs.specs.WholeRuns.{LinePromise, StartPromise, StatePromise, EarliestPromise};
 ghost use Rattle.whole_runs.specs.Earliest.{earliestOutcome};
 ghost use Rattle.whole_runs.specs.Sweep.{EmptyLinePromise};
-ghost use Rattle.answers.specs.Codes.{startCode, checkpointCode, sendCode, loseCode, lineCode};
+ghost use Rattle.answers.specs.Codes.{startCode, checkpointCode, sendCode, deliverCode, loseCode, lineCode};
 ghost use Rattle.words.specs.Clean.{Clean};
 ghost use Rattle.words.specs.Layout.{runOf};
 ghost use Rattle.line_words.specs.Through.{namedIn};
@@ -70,6 +71,22 @@ pub extern "C" fn lemidrosy_send(words: &mut [u16], sender: usize, receiver: usi
 {
     let answer = in_place::send::send(words, sender, receiver);
     answers::of_send(answer)
+}
+
+// A message reaches its receiver. The value is the index of the checkpoint that it forces, if it forces one; what is deleted goes to the front of the lent list, as
+// pairs of a process and an index. The set has the entries of the receiver's vector that rose.
+#[no_mangle]
+pub extern "C" fn lemidrosy_deliver(words: &mut [u16], message: u32, deleted: &mut [u16]) -> u64
+    ensures { λ r. ⌜ r ≡ deliverCode (deliverOutcome (runOf (now (words .entry))) message (now (deleted .entry)) .answer) (deliverOutcome (runOf (now (words .entry))) message (now (deleted .entry)) .rose) ⌝ }
+    ensures { λ r. ⌜ runOf (now (words .exit)) ≡ deliverOutcome (runOf (now (words .entry))) message (now (deleted .entry)) .run ⌝ }
+    ensures { λ r. ⌜ now (deleted .exit) ≡ deliverOutcome (runOf (now (words .entry))) message (now (deleted .entry)) .deleted ⌝ }
+    ensures { λ r. ⌜ ((why : Refusal) → deliverOutcome (runOf (now (words .entry))) message (now (deleted .entry)) .answer ≡ delivering.Refused why → now (words .exit) ≡ now (words .entry)) ⌝ }
+    ensures { λ r. ⌜ Leaves (now (words .entry)) (now (words .exit)) ⌝ }
+    ensures { λ r. ⌜ StatePromise (runOf (now (words .entry))) (made.deliver message (now (deleted .entry))) (runOf (now (words .exit))) ⌝ }
+{
+    let delivered = in_place::deliver::deliver(words, message, deleted);
+    let answer = delivered.answer;
+    answers::of_deliver(answer, delivered.rose)
 }
 
 // A message is lost.
