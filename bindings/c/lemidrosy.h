@@ -50,12 +50,12 @@ enum {
     LEMIDROSY_NOT_UNDER_WAY = 8,              /* no such message is under way */
     LEMIDROSY_TOO_MANY_UNDER_WAY = 9,         /* a send with 64 under way */
     LEMIDROSY_MESSAGE_NUMBERS_USED = 10,      /* a send with number 1,000,000 used */
-    LEMIDROSY_INTERVALS_USED = 11,            /* a checkpoint where the own entry is 65,535 */
+    LEMIDROSY_INTERVALS_USED = 11,            /* a checkpoint, taken or forced, where the own entry is 65,535 */
     LEMIDROSY_NO_FIRST_BYTE = 12,             /* of a trace, and so are 13, 14 and 17 */
     LEMIDROSY_LEFT_OVER_BYTES = 13,
     LEMIDROSY_MALFORMED_RECORD = 14,
     LEMIDROSY_BLOCK_COUNT_OUTSIDE_RANGE = 15, /* a block count outside 1 to 65,535 */
-    LEMIDROSY_BLOCKS_USED = 16,               /* a checkpoint that would take the blocks written past 1,000,000,000,000,000 */
+    LEMIDROSY_BLOCKS_USED = 16,               /* a checkpoint, taken or forced, that would take the blocks written past 1,000,000,000,000,000 */
     LEMIDROSY_TOO_MANY_RECORDS = 17,
     LEMIDROSY_UNFIT_NAMED_LIST = 18,          /* no named checkpoint, too many, or two of one process */
     LEMIDROSY_NOT_KEPT = 19,                  /* a named checkpoint that is not kept */
@@ -75,6 +75,10 @@ uint64_t lemidrosy_checkpoint(uint16_t *words, size_t words_length, size_t proce
 
 /* A process sends a message to another; the value is the message's number. Refused with 2, 4, 5, 9 or 10. */
 uint64_t lemidrosy_send(uint16_t *words, size_t words_length, size_t sender, size_t receiver);
+
+/* A message reaches its receiver, which takes in the vector that it carries; the value is the index of the checkpoint that it forces, if it forces one, and the set has
+   the entries that rose. What is deleted goes to the list, which has room for 2 n n entries, as pairs of a process and an index. Refused with 2, 3, 8, 11 or 16. */
+uint64_t lemidrosy_deliver(uint16_t *words, size_t words_length, uint32_t message, uint16_t *deleted, size_t deleted_length);
 
 /* A message is lost. Refused with 2 or 8. */
 uint64_t lemidrosy_lose(uint16_t *words, size_t words_length, uint32_t message);
