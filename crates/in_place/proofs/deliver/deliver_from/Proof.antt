@@ -1,6 +1,8 @@
 -- `in_place::deliver::deliver_from` meets its contract, by whether the message brings something new. Assumes nothing.
 use mathlib.Core.Path.{_≡_, refl, sym, _∙_, ap}
+use Prim.Native.Nat.{_<_}
 use native.Mathlib.Omega.{arith}
+use lib.ListN.{length}
 use borrow.Author.Needs.{needs}
 use borrow.Author.Tests.{not-true, not-false}
 use Rattle.model.specs.Words.{process}
@@ -28,100 +30,49 @@ forces-is c =
     forces-marked (a .w .now) (s .pre .0) (a .deleted .now) (a .k) (s .pre .1) (s .pre .2) (newer-is (c .before .before .before) ∙ not-false _ (c .before .before .if1 .left))
     ∙ sym (c .has-sent .ensures)
 
-slice-read-i : tie.Need-slice-read-i
-slice-read-i c =
-    let s = c .before .before .before in
-    let a = s .args in
-    omega (arith, sound-words (a .w .now) (s .pre .0) .size, place-there (a .w .now) (s .pre .0) (a .deleted .now) (a .k) (s .pre .1) (s .pre .2) .0)
+-- The place and the receiver are within the words.
+known : (c : tie.Start) → let w = c .args .w .now in (length w ≡ 6464) × (c .args .k < 64) × (word w (receiverAt (c .args .k)) < 16)
+known c =
+    let h = sound-words (c .args .w .now) (c .pre .0) in
+    let p = place-there (c .args .w .now) (c .pre .0) (c .args .deleted .now) (c .args .k) (c .pre .1) (c .pre .2) in
+    (h .size, p .0, omega (arith, h .few, p .1))
 
 add-i : tie.Need-add-i
-add-i c =
-    let s = c .before .before in
-    let a = s .args in
-    let few = sound-words (a .w .now) (s .pre .0) .few in
-    let p = place-there (a .w .now) (s .pre .0) (a .deleted .now) (a .k) (s .pre .1) (s .pre .2) in
-    let near = p .0 in
-    let inside = p .1 in
-    search needs
+add-i c = let k = known (c .before .before) in search needs
 
 add-vector-at : tie.Need-add-vector-at
-add-vector-at c =
-    let s = c .before .before .before .before in
-    let a = s .args in
-    let few = sound-words (a .w .now) (s .pre .0) .few in
-    let p = place-there (a .w .now) (s .pre .0) (a .deleted .now) (a .k) (s .pre .1) (s .pre .2) in
-    let near = p .0 in
-    let inside = p .1 in
-    search needs
+add-vector-at c = let k = known (c .before .before .before .before) in search needs
 
 add-vector-at-2 : tie.Need-add-vector-at-2
-add-vector-at-2 c =
-    let s = c .before .before .before .before .before .before in
-    let a = s .args in
-    let few = sound-words (a .w .now) (s .pre .0) .few in
-    let p = place-there (a .w .now) (s .pre .0) (a .deleted .now) (a .k) (s .pre .1) (s .pre .2) in
-    let near = p .0 in
-    let inside = p .1 in
-    search needs
+add-vector-at-2 c = let k = known (c .before .before .before .before .before .before) in search needs
 
 mul-i : tie.Need-mul-i
-mul-i c =
-    let s = c .before .before in
-    let a = s .args in
-    let few = sound-words (a .w .now) (s .pre .0) .few in
-    let p = place-there (a .w .now) (s .pre .0) (a .deleted .now) (a .k) (s .pre .1) (s .pre .2) in
-    let near = p .0 in
-    let inside = p .1 in
-    search needs
+mul-i c = let k = known (c .before .before) in search needs
 
 mul-vector-at : tie.Need-mul-vector-at
-mul-vector-at c =
-    let s = c .before .before .before .before in
-    let a = s .args in
-    let few = sound-words (a .w .now) (s .pre .0) .few in
-    let p = place-there (a .w .now) (s .pre .0) (a .deleted .now) (a .k) (s .pre .1) (s .pre .2) in
-    let near = p .0 in
-    let inside = p .1 in
-    search needs
+mul-vector-at c = let k = known (c .before .before .before .before) in search needs
 
 mul-vector-at-2 : tie.Need-mul-vector-at-2
-mul-vector-at-2 c =
-    let s = c .before .before .before .before .before .before in
-    let a = s .args in
-    let few = sound-words (a .w .now) (s .pre .0) .few in
-    let p = place-there (a .w .now) (s .pre .0) (a .deleted .now) (a .k) (s .pre .1) (s .pre .2) in
-    let near = p .0 in
-    let inside = p .1 in
-    search needs
+mul-vector-at-2 c = let k = known (c .before .before .before .before .before .before) in search needs
+
+slice-read-i : tie.Need-slice-read-i
+slice-read-i c = let k = known (c .before .before .before) in omega (arith, k .0, k .1)
 
 cast-i : tie.Need-cast-i
-cast-i c =
-    let s = c .before .before .before in
-    let a = s .args in
-    record { fits = omega (arith, sound-words (a .w .now) (s .pre .0) .few, place-there (a .w .now) (s .pre .0) (a .deleted .now) (a .k) (s .pre .1) (s .pre .2) .1) }
+cast-i c = record { fits = omega (arith, known (c .before .before .before) .2) }
 
 vector-at-requires : tie.Need-vector-at-requires
-vector-at-requires c κs =
-    let s = c .before .before .before .before in
-    let a = s .args in
-    let h = sound-words (a .w .now) (s .pre .0) in
-    let p = place-there (a .w .now) (s .pre .0) (a .deleted .now) (a .k) (s .pre .1) (s .pre .2) in
-    omega (arith, h .size, h .few, p .0, p .1)
+vector-at-requires c κs = let k = known (c .before .before .before .before) in omega (arith, k .0, k .1, k .2)
 
 vector-at-requires-2 : tie.Need-vector-at-requires-2
-vector-at-requires-2 c κs =
-    let s = c .before .before .before .before .before .before in
-    let a = s .args in
-    let h = sound-words (a .w .now) (s .pre .0) in
-    let p = place-there (a .w .now) (s .pre .0) (a .deleted .now) (a .k) (s .pre .1) (s .pre .2) in
-    omega (arith, h .size, h .few, p .0, p .1)
+vector-at-requires-2 c κs = let k = known (c .before .before .before .before .before .before) in omega (arith, k .0, k .1, k .2)
 
 take-out-requires : tie.Need-take-out-requires
 take-out-requires c κs =
     let s = c .before .before .before .before .before .before .before .before .before .before in
     let a = s .args in
-    let h = sound-words (a .w .now) (s .pre .0) in
-    (h .size, h .end, place-there (a .w .now) (s .pre .0) (a .deleted .now) (a .k) (s .pre .1) (s .pre .2) .0, one-there (a .w .now) (s .pre .0) (messageIn (a .w .now) (a .k) .number) (a .k) (s .pre .1))
+    let k = known s in
+    (k .0, sound-words (a .w .now) (s .pre .0) .end, k .1, one-there (a .w .now) (s .pre .0) (messageIn (a .w .now) (a .k) .number) (a .k) (s .pre .1))
 
 returns : tie.Need-returns
 unfolding messageIn
@@ -131,11 +82,7 @@ returns c =
     still-out (a .w .now) (s .pre .0) (a .deleted .now) (a .k) (s .pre .1) (s .pre .2) (newer-is (c .before .before .before .before .before) ∙ not-true _ (c .before .before .before .before .if1 .taken)) _ (c .before .before .take-out .ensures)
 
 has-sent-requires : tie.Need-has-sent-requires
-has-sent-requires c κs =
-    let s = c .before .before .before .before .before .before .before .before .before .before in
-    let a = s .args in
-    let h = sound-words (a .w .now) (s .pre .0) in
-    (h .size, omega (arith, h .few, place-there (a .w .now) (s .pre .0) (a .deleted .now) (a .k) (s .pre .1) (s .pre .2) .1))
+has-sent-requires c κs = let k = known (c .before .before .before .before .before .before .before .before .before .before) in (k .0, k .2)
 
 forced-verdict-requires : tie.Need-forced-verdict-requires
 forced-verdict-requires c κs =
