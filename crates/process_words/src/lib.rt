@@ -1,4 +1,4 @@
-// One process's part of the words: its vector, its pins and the checkpoints that it keeps, as a checkpoint and a receipt leave them.
+// One process's part of the words: its vector, its pins and the checkpoints that it keeps. A checkpoint and a receipt are whole in `step_words`.
 
 // pins.rt: the pins of one process
 pub mod pins;
@@ -11,6 +11,3 @@ pub mod kept;
 
 // disk.rt: the blocks written and deleted
 pub mod disk;
-
-// step.rt: a checkpoint and a receipt
-pub mod step;

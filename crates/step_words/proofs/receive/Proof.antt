@@ -1,4 +1,4 @@
--- `process_words::step::receive` meets its contract. Assumes nothing.
+-- `step_words::receive` meets its contract. Assumes nothing.
 use mathlib.Core.Path.{_≡_, _∙_, ap}
 use native.Mathlib.Omega.{arith}
 use mathlib.Core.Bool.{Bool, true, false}
@@ -18,13 +18,13 @@ use Rattle.retention.specs.Receipt.{vectorFirst, keptThen}
 use Rattle.words.specs.Layout.{markIn, word, countOf, blocksAt, partAt, pinsAt, rowIn, vectorIn, runOf}
 use Rattle.words.specs.Parts.{processIn}
 use Rattle.words.specs.Puts.{puts, vectorPut}
 use Rattle.process_words.specs.Moves.{diskIn, Moves}
 use Rattle.process_words.specs.Pins.{pinRow, movedRow, risenOrOwn}
 use Rattle.process_words.specs.Steps.{storedIn, placesOf, unnamedIn, settledPart, received}
-use Rattle.process_words.proofs.Stepping.{in-range, words, facts, ready, receive-part, receive-gone, receive-room, named-none, own-number, moved, deletes, lists}
+use Rattle.step_words.proofs.Stepping.{in-range, words, facts, ready, receive-part, receive-gone, receive-room, named-none, own-number, moved, deletes, lists}
 use borrow.Author.Needs.{needs}
-use Rattle.process_words.proofs.step.receive.Statement.{statement}
-use Rattle.process_words.proofs.step.receive.Tie as tie
+use Rattle.step_words.proofs.receive.Statement.{statement}
+use Rattle.step_words.proofs.receive.Tie as tie
 
 -- The process is one of 16, and the words have their size.
 known : (c : tie.Start) → (c .args .i < 16) × (length (c .args .w .now) ≡ 6464)

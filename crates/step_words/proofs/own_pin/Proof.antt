@@ -1,7 +1,7 @@
--- `process_words::step::own_pin` meets its contract. Assumes nothing.
+-- `step_words::own_pin` meets its contract. Assumes nothing.
 use borrow.Author.Needs.{needs}
-use Rattle.process_words.proofs.step.own_pin.Statement.{statement}
-use Rattle.process_words.proofs.step.own_pin.Tie as tie
+use Rattle.step_words.proofs.own_pin.Statement.{statement}
+use Rattle.step_words.proofs.own_pin.Tie as tie
 
 pin-word-requires : tie.Need-pin-word-requires
 pin-word-requires c κs = c .before .pre (c .if1 .taken)

@@ -1,4 +1,4 @@
--- `process_words::step::take_vector` meets its contract. Assumes nothing.
+-- `step_words::take_vector` meets its contract. Assumes nothing.
 use mathlib.Core.Path.{_≡_, _∙_, ap}
 use native.Mathlib.Omega.{arith}
 use mathlib.Core.Bool.{Bool, true, false}
@@ -12,10 +12,10 @@ use Rattle.retention.specs.Receipt.{vectorFirst}
 use Rattle.words.specs.Layout.{partAt, vectorIn}
 use Rattle.words.specs.Puts.{puts, vectorPut}
 use Rattle.words.proofs.Same.{vector-back, vector-length}
-use Rattle.process_words.proofs.Stepping.{put-again}
+use Rattle.step_words.proofs.Stepping.{put-again}
 use borrow.Author.Needs.{needs}
-use Rattle.process_words.proofs.step.take_vector.Statement.{statement}
-use Rattle.process_words.proofs.step.take_vector.Tie as tie
+use Rattle.step_words.proofs.take_vector.Statement.{statement}
+use Rattle.step_words.proofs.take_vector.Tie as tie
 
 -- Where a checkpoint is stored, and where none is.
 module _ (w : List ℕ) where

@@ -1,4 +1,4 @@
--- `process_words::step::checkpoint` meets its contract. Assumes nothing.
+-- `step_words::checkpoint` meets its contract. Assumes nothing.
 use mathlib.Core.Path.{_≡_, _∙_, ap}
 use native.Mathlib.Omega.{arith}
 use mathlib.Core.Bool.{true, false}
@@ -17,13 +17,13 @@ use Rattle.words.specs.Layout.{word, countOf, heldAt, blocksAt, partAt, pinsAt,
 use Rattle.words.specs.Parts.{processIn}
 use Rattle.words.specs.Puts.{puts, vectorPut}
 use Rattle.words.proofs.Same.{vector-length}
 use Rattle.process_words.specs.Moves.{diskIn, Moves}
 use Rattle.process_words.specs.Pins.{pinRow, movedRow, risenOrOwn}
 use Rattle.process_words.specs.Steps.{storedIn, placesOf, unnamedIn, settledPart}
-use Rattle.process_words.proofs.Stepping.{in-range, held-most, words, facts, ready, checkpoint-part, checkpoint-gone, checkpoint-room, checkpoint-named, own-number, moved, deletes, lists}
+use Rattle.step_words.proofs.Stepping.{in-range, held-most, words, facts, ready, checkpoint-part, checkpoint-gone, checkpoint-room, checkpoint-named, own-number, moved, deletes, lists}
 use borrow.Author.Needs.{needs}
-use Rattle.process_words.proofs.step.checkpoint.Statement.{statement}
-use Rattle.process_words.proofs.step.checkpoint.Tie as tie
+use Rattle.step_words.proofs.checkpoint.Statement.{statement}
+use Rattle.step_words.proofs.checkpoint.Tie as tie
 
 -- The process is one of 16, and the words have their size.
 known : (c : tie.Start) → (c .args .i < 16) × (length (c .args .w .now) ≡ 6464)

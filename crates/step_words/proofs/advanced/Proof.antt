@@ -1,4 +1,4 @@
--- `process_words::step::advanced` meets its contract. Assumes nothing.
+-- `step_words::advanced` meets its contract. Assumes nothing.
 use mathlib.Core.Path.{_≡_, refl, sym, _∙_, ap}
 use native.Mathlib.Omega.{arith}
 use Prim.Native.Nat.{ℕ, _≤_, _-_, _+_, _<_}
@@ -15,8 +15,8 @@ use Rattle.model.specs.declared.Interval.{Interval}
 use Rattle.model.specs.Words.{entry}
 use Rattle.model.specs.Steps.{advanced}
 use borrow.Author.Needs.{needs}
-use Rattle.process_words.proofs.step.advanced.Statement.{statement}
-use Rattle.process_words.proofs.step.advanced.Tie as tie
+use Rattle.step_words.proofs.advanced.Statement.{statement}
+use Rattle.step_words.proofs.advanced.Tie as tie
 
 -- What an iteration writes.
 abbrev entry-of : List Interval → ℕ → ℕ → Interval

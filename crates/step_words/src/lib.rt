@@ -71,7 +71,7 @@ fn store_if(
     ensures { λ u. ⌜ now (w .exit) ≡ pick stores (puts (now (w .entry)) (storedPuts i k index cause vector ++ one (markAt i) 0 ∷ [])) (now (w .entry)) ⌝ }
 {
     if stores {
-        super::kept::store(w, i, k, index, cause, vector);
+        process_words::kept::store(w, i, k, index, cause, vector);
         w[places::MARKS + i] = 0;
     }
 }
@@ -107,10 +107,10 @@ fn settle(
     let held = w[places::HELD + i] as usize;
     let blocks = w[places::BLOCKS + i];
     words::put_row(w, places::PINS + places::PART * i, pins);
-    let stay = super::kept::collect(w, i, from, held, pins, deleted, 0);
+    let stay = process_words::kept::collect(w, i, from, held, pins, deleted, 0);
     store_if(w, i, stores, stay, index, cause, vector);
     w[places::HELD + i] = held_then(stores, stay);
-    super::disk::bill(w, stores, held - stay, blocks);
+    process_words::disk::bill(w, stores, held - stay, blocks);
     held - stay
 }
 
@@ -125,7 +125,7 @@ pub fn checkpoint(w: &mut [u16], i: usize, deleted: &mut [u16]) -> usize
     let old = words::row_at(w, places::PINS + places::PART * i);
     let held = w[places::HELD + i] as usize;
     let index = rows::vector::live_index(vector[i]);
-    let pins = super::pins::taken_pins(0, old, i, words::pin_word(index));
+    let pins = process_words::pins::taken_pins(0, old, i, words::pin_word(index));
     words::put_vector(w, places::PARTS + places::PART * i, advanced(vector, i));
     settle(w, i, pins, held - 1, true, index, BASIC, vector, deleted)
 }
@@ -159,7 +159,7 @@ fn take_vector(
     if stores {
         words::put_vector(w, places::PARTS + places::PART * i, advanced(vector, i));
     }
-    super::taking_in::take_in(w, places::PARTS + places::PART * i, carried)
+    process_words::taking_in::take_in(w, places::PARTS + places::PART * i, carried)
 }
 
 // Process i takes a carried vector in. If `stores`, it takes a forced checkpoint first.
@@ -180,7 +180,7 @@ pub fn receive(
     let old = words::row_at(w, places::PINS + places::PART * i);
     let index = rows::vector::live_index(vector[i]);
     let rose = take_vector(w, i, stores, vector, carried);
-    let pins = super::pins::taken_pins(rose, old, i, own_pin(stores, old[i], index));
+    let pins = process_words::pins::taken_pins(rose, old, i, own_pin(stores, old[i], index));
     let gone = settle(w, i, pins, 0, stores, index, FORCED, vector, deleted);
     Received { rose, gone }
 }

@@ -1,4 +1,4 @@
--- `process_words::step::settle` meets its contract. Assumes nothing.
+-- `step_words::settle` meets its contract. Assumes nothing.
 use mathlib.Core.Path.{_≡_, refl, _∙_, ap}
 use native.Mathlib.Omega.{arith}
 use Prim.Native.Nat.{ℕ, _≤_, _<_, _-_}
@@ -13,13 +13,13 @@ use Rattle.model.specs.Steps.{listed}
 use Rattle.model.specs.Words.{named}
 use Rattle.whole_runs.specs.Outcomes.{pairs}
 use Rattle.words.specs.Layout.{word, heldAt, checkpointIn}
 use Rattle.process_words.specs.Pins.{pinRow}
 use Rattle.process_words.specs.Steps.{placesOf, unnamedIn}
 use Rattle.process_words.specs.Kept.{Collected}
 use Rattle.process_words.proofs.Settling.{pinned, pinned-places, pinned-used, pinned-named, end-size, end-disk, end-moves}
 use borrow.Author.Needs.{needs}
-use Rattle.process_words.proofs.step.settle.Statement.{statement}
-use Rattle.process_words.proofs.step.settle.Tie as tie
+use Rattle.step_words.proofs.settle.Statement.{statement}
+use Rattle.step_words.proofs.settle.Tie as tie
 
 -- There is a place for the checkpoint that is stored.
 few : (w : List ℕ) (size : length w ≡ 6464) (i : ℕ) (room : i < 16) (r p : List ℕ) → p ≡ pinned w size i room r → word w (heldAt i) ≤ 16 → (v : List ℕ) (stay : ℕ)

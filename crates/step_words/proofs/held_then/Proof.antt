@@ -1,8 +1,8 @@
--- `process_words::step::held_then` meets its contract. Assumes nothing.
+-- `step_words::held_then` meets its contract. Assumes nothing.
 use native.Mathlib.Omega.{arith}
 use borrow.Author.Needs.{needs}
-use Rattle.process_words.proofs.step.held_then.Statement.{statement}
-use Rattle.process_words.proofs.step.held_then.Tie as tie
+use Rattle.step_words.proofs.held_then.Statement.{statement}
+use Rattle.step_words.proofs.held_then.Tie as tie
 
 cast-result : tie.Need-cast-result
 cast-result c = search needs

@@ -1,4 +1,4 @@
--- `process_words::step::store_if` meets its contract. Assumes nothing.
+-- `step_words::store_if` meets its contract. Assumes nothing.
 use mathlib.Core.Path.{_∙_, ap}
 use native.Mathlib.Omega.{arith}
 use Prim.Native.Nat.{ℕ}
@@ -8,8 +8,8 @@ use Rattle.words.specs.Puts.{putFrom}
 use lib.ListN.{length-set}
 use Rattle.words.proofs.Reading.{set-is-put}
 use borrow.Author.Needs.{needs}
-use Rattle.process_words.proofs.step.store_if.Statement.{statement}
-use Rattle.process_words.proofs.step.store_if.Tie as tie
+use Rattle.step_words.proofs.store_if.Statement.{statement}
+use Rattle.step_words.proofs.store_if.Tie as tie
 
 store-requires : tie.Need-store-requires
 store-requires c κs = let p = c .before .before .before .pre in let q = p .2 (c .before .if1 .taken) in (p .0, p .1, q .0, q .1)

@@ -1,7 +1,7 @@
--- `process_words::step::entry_then` meets its contract. Assumes nothing.
+-- `step_words::entry_then` meets its contract. Assumes nothing.
 use borrow.Author.Needs.{needs}
-use Rattle.process_words.proofs.step.entry_then.Statement.{statement}
-use Rattle.process_words.proofs.step.entry_then.Tie as tie
+use Rattle.step_words.proofs.entry_then.Statement.{statement}
+use Rattle.step_words.proofs.entry_then.Tie as tie
 
 add-t5 : tie.Need-add-t5
 add-t5 c = let h = c .before .before .pre (c .before .if1 .taken) in search needs
