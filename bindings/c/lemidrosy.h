@@ -5,14 +5,20 @@
 
    A lent list goes as a pointer and how many entries it has; with none, the pointer may be null. Lent lists must not overlap each other or the words. What is written
    goes to the front of a list, and its rest is left as it was. A refused call leaves every word and every entry as it was; only a refused start makes the words zero.
+   Where several refusals hold, the lowest number is given. Numbers are judged with all their bits.
 
-   What is proved of each function is its contract in crates/lemidrosy/src. */
+   Every function is re-entrant: threads may call any of them at the same time, on words and lists that nobody else writes meanwhile. None of them fails in another way,
+   calls back, waits or touches errno.
+
+   What is proved of each function is its contract in crates/lemidrosy/src. C11 or later, C++17 or later. */
 #ifndef LEMIDROSY_H
 #define LEMIDROSY_H
 
 #include <stdbool.h>
 #include <stddef.h>
 #include <stdint.h>
+
+#define LEMIDROSY_VERSION "1.0.0"
 
 #ifdef __cplusplus
 extern "C" {
@@ -39,8 +45,24 @@ static inline bool lemidrosy_has_value(uint64_t answer) { return answer >> 23 & 
 static inline uint32_t lemidrosy_value(uint64_t answer) { return (uint32_t)(answer >> 24 & 16777215); }
 static inline unsigned lemidrosy_rose(uint64_t answer) { return (unsigned)(answer >> 48); }
 
-/* The numbers of the refusals that these functions give. */
-enum {
+/* The same as a struct. */
+struct lemidrosy_answer {
+    unsigned refused;   /* an enum lemidrosy_refusal */
+    unsigned deletions;
+    bool has_value;
+    uint32_t value;     /* 0 if there is none */
+    unsigned rose;
+};
+
+static inline struct lemidrosy_answer lemidrosy_answer(uint64_t answer)
+{
+    struct lemidrosy_answer fields = {lemidrosy_refused(answer), lemidrosy_deletions(answer), lemidrosy_has_value(answer), lemidrosy_value(answer), lemidrosy_rose(answer)};
+    return fields;
+}
+
+/* The numbers of the refusals; 6 is not used. */
+enum lemidrosy_refusal {
+    LEMIDROSY_ACCEPTED = 0,
     LEMIDROSY_COUNT_OUTSIDE_RANGE = 1,        /* a start with n outside 1 to 16 */
     LEMIDROSY_UNSOUND_STATE = 2,              /* the words stand for no sound state */
     LEMIDROSY_LIST_TOO_SHORT = 3,             /* a lent list has too few entries */
@@ -59,8 +81,16 @@ enum {
     LEMIDROSY_TOO_MANY_RECORDS = 17,
     LEMIDROSY_UNFIT_NAMED_LIST = 18,          /* no named checkpoint, too many, or two of one process */
     LEMIDROSY_NOT_KEPT = 19,                  /* a named checkpoint that is not kept */
-    LEMIDROSY_CAUSALLY_ORDERED = 20           /* no consistent line passes through all named checkpoints */
+    LEMIDROSY_CAUSALLY_ORDERED = 20,          /* no consistent line passes through all named checkpoints */
+    LEMIDROSY_BUFFER_TOO_SHORT = 21,          /* of the recorder: too few bytes left for the record */
+    LEMIDROSY_TRIAL_OUTSIDE_RANGE = 22,       /* of a simulation */
+    LEMIDROSY_HALVES_MISMATCH = 23,           /* of a merge, and so is 24 */
+    LEMIDROSY_NEITHER_READY = 24,
+    LEMIDROSY_DENIED = 25                     /* of the console: the caller may not do this */
 };
+
+/* A refusal's number in words: a text that is always there, in English, without a full stop. Any number has one. */
+const char *lemidrosy_refusal_text(unsigned number);
 
 /* Whether the words stand for a sound state. */
 bool lemidrosy_is_sound(const uint16_t *words, size_t words_length);
@@ -116,6 +146,19 @@ uint64_t lemidrosy_carried(const uint16_t *words, size_t words_length, uint32_t 
    pair bits 16 to 23 the process and bits 24 to 39 the index of the near end, bits 40 to 47 the process and bits 48 to 63 the index of the far end. 0: the trace is
    trackable. It takes 0.4 MB of stack. */
 uint64_t lemidrosy_judge(const uint8_t *trace, size_t trace_length);
+
+/* The same as a struct; the ends are 0 if no pair breaks. */
+struct lemidrosy_verdict {
+    unsigned refused;
+    bool breaks;
+    unsigned near_process, near_index, far_process, far_index;
+};
+
+static inline struct lemidrosy_verdict lemidrosy_verdict(uint64_t verdict)
+{
+    struct lemidrosy_verdict fields = {(unsigned)(verdict & 255), (bool)(verdict >> 8 & 1), (unsigned)(verdict >> 16 & 255), (unsigned)(verdict >> 24 & 65535), (unsigned)(verdict >> 40 & 255), (unsigned)(verdict >> 48)};
+    return fields;
+}
 
 #ifdef __cplusplus
 }
