@@ -8,6 +8,7 @@
 //! * `whole`: numbers of any length.
 //! * `words`: the state as words that a caller lends.
 //! * `calls`: the calls on such words, and a library held to the oracle.
+//! * `bindings`: calls through a binding and their answers, as lines of text.
 //!
 //! Every other module belongs to one note, which its first lines name.
 //!
@@ -15,6 +16,7 @@
 //! product: "Recovery lines and collected checkpoints of a message-passing
 //! run" and, where a note is named, "New change requests".
 
+pub mod bindings;
 pub mod calls;
 pub mod cases;
 pub mod console;

@@ -1,5 +1,6 @@
 //! The state as words that a caller lends: 6,464 numbers of 16 bits, each thing
-//! at a fixed place. Which state words stand for, and nothing else.
+//! at a fixed place. Which state words stand for, words of a state, and nothing
+//! else.
 //!
 //! The layout is the library's own. Its sentences are quoted here; what stands
 //! in a place that is not in use counts for nothing.
@@ -101,6 +102,63 @@ pub fn state(words: &[u16]) -> Option<State> {
         written: number(&words[WRITTEN..DELETED]),
         deleted: number(&words[DELETED..END]),
     })
+}
+
+/// Words that stand for a sound state: its messages in the first places, zeros in
+/// every place that is not in use.
+pub fn of(state: &State) -> Vec<u16> {
+    let mut words = vec![0; SIZE];
+    let numbers = [
+        (COUNT, 1, state.count),
+        (UNDER_WAY, 1, state.under_way),
+        (LAST, 2, state.last_number),
+        (WRITTEN, 4, state.written),
+        (DELETED, 4, state.deleted),
+        (END, 1, state.messages.len() as u64),
+    ];
+    for (at, many, number) in numbers {
+        put(&mut words[at..at + many], number);
+    }
+    for (p, process) in state.processes.iter().enumerate() {
+        put_process(&mut words, p, process);
+    }
+    for (k, message) in state.messages.iter().enumerate() {
+        let mut number = [0; 2];
+        put(&mut number, message.number);
+        words[LOWS + k] = number[0];
+        words[HIGHS + k] = number[1];
+        words[SENDERS + k] = message.sender as u16;
+        words[RECEIVERS + k] = message.receiver as u16;
+        put_row(&mut words, carried(k), message.carried);
+    }
+    words
+}
+
+fn put_process(words: &mut [u16], p: usize, process: &Process) {
+    words[HELD + p] = process.held as u16;
+    words[MARKS + p] = process.sent.into();
+    put_row(words, part(p), process.vector);
+    let pin = |pin: Option<Entry>| pin.map_or(0, |index| index + 1);
+    put_row(words, part(p) + PINS, process.pins.map(pin));
+    for (k, one) in process.kept.iter().flatten().enumerate() {
+        words[BLOCKS + p] = one.blocks as u16;
+        words[part(p) + INDEXES + k] = one.index as u16 + 1;
+        words[part(p) + CAUSES + k] = one.cause as u16;
+        put_row(words, stored(p, k), one.vector);
+    }
+}
+
+fn put_row(words: &mut [u16], at: usize, row: Vector) {
+    for (f, entry) in row.into_iter().enumerate() {
+        words[at + f] = entry as u16;
+    }
+}
+
+fn put(words: &mut [u16], mut number: u64) {
+    for word in words {
+        *word = number as u16;
+        number >>= 16;
+    }
 }
 
 /// "the end of the places in use is one past the last used place"

@@ -25,6 +25,12 @@ fn a_reached_state_is_sound_and_comes_back() {
     assert_eq!(Run::forged(&state).state(), state);
 }
 
+#[test]
+fn words_of_a_state_stand_for_it() {
+    let state = reached();
+    assert_eq!(words::state(&words::of(&state)), Some(state));
+}
+
 /// The state after a change is not sound.
 fn unsound(what: &str, change: impl Fn(&mut State)) {
     let mut state = reached();

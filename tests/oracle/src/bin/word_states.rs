@@ -1,0 +1,24 @@
+//! `word_states FILE..` prints the state that the words in each file stand for, one
+//! to a line, as `binding_calls` writes states. A file has the low byte of each word
+//! first. Words that stand for no state print `None`.
+
+use std::process::ExitCode;
+
+fn main() -> ExitCode {
+    for name in std::env::args().skip(1) {
+        let bytes = match std::fs::read(&name) {
+            Ok(bytes) => bytes,
+            Err(error) => {
+                eprintln!("word_states: {name}: {error}");
+                return ExitCode::FAILURE;
+            }
+        };
+        let word = |pair: &[u8]| u16::from_le_bytes([pair[0], pair[1]]);
+        let words: Vec<u16> = bytes.chunks_exact(2).map(word).collect();
+        match oracle::words::state(&words) {
+            Some(state) => println!("{state:?}"),
+            None => println!("None"),
+        }
+    }
+    ExitCode::SUCCESS
+}

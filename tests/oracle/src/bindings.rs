@@ -1,0 +1,598 @@
+//! Random calls through a binding of the library, and the answers that it must
+//! give, both as lines of text: `../bindings/README.md` has the lines.
+//!
+//! What is drawn is what `calls` draws, but for lists: a binding lends them
+//! itself, so that none is too short and none is seen behind what was written.
+
+use crate::calls::draw::{self, Draws, Habits};
+use crate::calls::hold::CALLS;
+use crate::calls::{outcome, Call, Left, Lists, Outcome};
+use crate::generate::{write_trace, Plan};
+use crate::halves::draw::drawn as halves_drawn;
+use crate::halves::merge::merge;
+use crate::judge::{judge, Verdict};
+use crate::run::refusal::{NOT_SOUND, NOT_UNDER_WAY};
+use crate::run::{Message, Run, MAX_PROCESSES, MAX_UNDER_WAY};
+use crate::simulate::{simulate, Parameters};
+use crate::words::{self, SIZE};
+use std::collections::BTreeMap;
+use std::fmt::Display;
+
+/// What is written: calls and their answers, line by line; then, for a binding
+/// that loads what another stored, the same of the states stored, and each of
+/// these states, one to a line.
+#[derive(Default)]
+pub struct Pages {
+    pub calls: String,
+    pub answers: String,
+    pub loads: String,
+    pub loaded: String,
+    pub states: String,
+    /// How often each call gave each number, 0 if accepted.
+    pub met: BTreeMap<(&'static str, u8), u64>,
+}
+
+/// A call through a binding.
+enum Asked {
+    /// n is how many block counts there are.
+    Start(Vec<u32>),
+    /// A call on the state; of `earliest`, with the numbers that name.
+    Call(Call, Vec<u32>),
+    Carried(u64),
+    Lost(u64),
+    Words(Vec<u16>),
+    Dump(String),
+    Take(String),
+    Judge(Vec<u8>),
+    Merge(u32, Vec<u8>, Vec<u8>),
+    Simulate(Parameters),
+}
+
+/// The names of the calls that are not in `calls`, with the numbers that each
+/// can give.
+const OTHERS: [(&str, &[usize]); 6] = [
+    ("carried", &[0, 2, 8]),
+    ("lost", &[0, 2, 7]),
+    ("words", &[0]),
+    ("judge", &[0, 1, 4, 5, 8, 9, 12, 13, 14, 17]),
+    ("merge", &[0, 1, 4, 5, 7, 12, 13, 14, 17, 23, 24]),
+    ("simulate", &[0, 22]),
+];
+
+/// How many calls a run has, more or less, and every how many runs the state is
+/// stored.
+const LENGTH: u64 = 200;
+const STORED: u64 = 10;
+
+/// So many calls by seed; those named in `absent` are not made.
+pub fn pages(seed: u64, count: u64, absent: &[String]) -> Pages {
+    let mut draws = Draws::new(seed);
+    let mut writer = Writer {
+        habits: Habits::draw(&mut draws),
+        draws,
+        run: Run::start(3, &[1; MAX_PROCESSES]).ok(),
+        absent: absent.to_vec(),
+        stored: 0,
+        pages: Pages::default(),
+    };
+    writer.ask(Asked::Start(vec![1; 3]));
+    let mut written = 1;
+    while written < count {
+        written += writer.some();
+    }
+    writer.pages
+}
+
+impl Pages {
+    /// What was not met, of all that can be met.
+    pub fn missing(&self, absent: &[String]) -> Option<String> {
+        let calls = CALLS.iter().chain(&OTHERS);
+        let made = calls.filter(|(name, _)| !absent.iter().any(|one| one == name));
+        for (name, numbers) in made {
+            // a binding lends lists that are long enough, and words that are enough
+            let given = numbers
+                .iter()
+                .filter(|number| **number != 3 && (*name, **number) != ("start", 2));
+            for number in given {
+                let number = *number as u8;
+                if !self.met.contains_key(&(name, number)) {
+                    return Some(format!("{name} with {number}"));
+                }
+            }
+        }
+        None
+    }
+}
+
+struct Writer {
+    draws: Draws,
+    habits: Habits,
+    /// None: the state is not sound.
+    run: Option<Run>,
+    absent: Vec<String>,
+    stored: u64,
+    pages: Pages,
+}
+
+/// What is asked.
+impl Writer {
+    /// One call or a few; how many they are.
+    fn some(&mut self) -> u64 {
+        if self.run.is_none() {
+            // a few calls on a state that is not sound, then another
+            let more = self.draws.below(3);
+            for _ in 0..more {
+                self.call();
+            }
+            return more + self.start();
+        }
+        match self.draws.below(2 * LENGTH) {
+            0..=1 => self.store() + self.start(),
+            2..=5 => self.change(),
+            6..=9 => self.aside(),
+            _ => {
+                self.call();
+                1
+            }
+        }
+    }
+
+    /// A start, mostly of a count and with block counts in range.
+    fn start(&mut self) -> u64 {
+        let draws = &mut self.draws;
+        let size = if draws.once_in(6) {
+            draws.one_of(&[0, 17, 18, 255])
+        } else {
+            1 + draws.place(MAX_PROCESSES)
+        };
+        let mut counts: Vec<u32> = (0..size)
+            .map(|_| draws.one_of(&[1, 1, 1, 2, 3, 100, 65_534, 65_535]))
+            .collect();
+        if size > 0 && draws.once_in(6) {
+            let place = draws.place(size);
+            counts[place] = draws.one_of(&[0, 65_536, 65_537, 1 << 31, u32::MAX]);
+        }
+        self.habits = Habits::draw(&mut self.draws);
+        self.ask(Asked::Start(counts));
+        1
+    }
+
+    /// The state is stored, and what is then read of it is asked for.
+    fn store(&mut self) -> u64 {
+        if !self.draws.once_in(STORED) {
+            return 0;
+        }
+        let Some(run) = self.run.clone() else {
+            return 0;
+        };
+        let name = format!("state-{}", self.stored);
+        self.stored += 1;
+        self.ask(Asked::Dump(name.clone()));
+        self.pages.states += &format!("{:?}\n", run.state());
+        self.load(Asked::Take(name));
+        for asked in readings(&run) {
+            self.load(asked);
+        }
+        self.load(Asked::Call(Call::Line { failed: 1 }, Vec::new()));
+        1
+    }
+
+    /// Other words take the place of these: those of a sound state, mostly one that
+    /// calls never leave; or of none, and after some calls a sound one again.
+    fn change(&mut self) -> u64 {
+        let Some(run) = &self.run else {
+            return 0;
+        };
+        let mut words = words::of(&run.state());
+        for _ in 0..1 + self.draws.below(12) {
+            draw::forge(&mut self.draws, &self.habits, &mut words);
+        }
+        let sound = words.clone();
+        match self.draws.below(16) {
+            0..=1 => draw::litter(&mut self.draws, &mut words),
+            2..=4 => draw::damage(&mut self.draws, &mut words),
+            5 => {
+                let size = self.draws.one_of(&[0, 1, 64, SIZE - 1, SIZE + 1, 2 * SIZE]);
+                words.resize(size, 0);
+            }
+            _ => {}
+        }
+        self.ask(Asked::Words(words));
+        if self.run.is_some() {
+            return 1;
+        }
+        let more = 1 + self.draws.below(8);
+        for _ in 0..more {
+            if self.draws.once_in(2) {
+                self.call();
+                continue;
+            }
+            let process = self.draws.below(3);
+            let call = self.draws.one_of(&[
+                Call::IsSound,
+                Call::Numbers,
+                Call::Messages,
+                Call::Vector { process },
+                Call::Pins { process },
+                Call::Kept { process },
+            ]);
+            self.ask(Asked::Call(call, Vec::new()));
+        }
+        self.ask(Asked::Words(sound));
+        more + 2
+    }
+
+    /// A call without a state.
+    fn aside(&mut self) -> u64 {
+        let draws = &mut self.draws;
+        let seed = draws.number();
+        let asked = match draws.below(3) {
+            0 => Asked::Judge(foreign(seed)),
+            1 => {
+                let halves = halves_drawn(seed);
+                // the set of damaged halves may be a number of many digits
+                let set = halves.word.parse().unwrap_or(u32::MAX);
+                Asked::Merge(set, halves.first, halves.second)
+            }
+            _ => Asked::Simulate(Parameters {
+                count: draws.one_of(&[0, 1, 2, 3, 4, 7, 16, 17, u64::MAX]),
+                spacing: draws.one_of(&[0, 1, 2, 10, 100, 1_000, 1_001]),
+                steps: draws.one_of(&[0, 1, 20, 300, 1_000, 30_001]),
+                start: draws.number() as u32,
+            }),
+        };
+        if self.is_absent(&asked) {
+            return 0;
+        }
+        self.ask(asked);
+        1
+    }
+
+    /// A call on the state.
+    fn call(&mut self) {
+        let state = self.run.as_ref().map(Run::state);
+        loop {
+            let call = fitted(draw::call(&mut self.draws, &self.habits, state.as_ref()));
+            let asked = match call {
+                Call::Earliest => {
+                    let mut named = draw::lists(&mut self.draws, call, state.as_ref()).numbers;
+                    // pairs, and nothing left over
+                    named.truncate(named.len() / 2 * 2);
+                    Asked::Call(call, named)
+                }
+                Call::Lose { number } if self.draws.once_in(4) => Asked::Carried(number),
+                Call::Recover { failed } | Call::Line { failed } if self.draws.once_in(4) => {
+                    Asked::Lost(failed)
+                }
+                _ => Asked::Call(call, Vec::new()),
+            };
+            if !self.is_absent(&asked) {
+                return self.ask(asked);
+            }
+        }
+    }
+
+    fn is_absent(&self, asked: &Asked) -> bool {
+        self.absent.iter().any(|name| name == asked.name())
+    }
+
+    fn ask(&mut self, asked: Asked) {
+        let answer = answer(&mut self.run, &asked);
+        // of the test of soundness, true and false
+        let place = usize::from(asked.name() == "is_sound");
+        let number = answer
+            .split(' ')
+            .nth(place)
+            .and_then(|word| word.parse().ok());
+        let number = number.expect("an answer begins with a number");
+        *self.pages.met.entry((asked.name(), number)).or_default() += 1;
+        write_line(&mut self.pages.calls, &asked.line());
+        write_line(&mut self.pages.answers, &answer);
+    }
+
+    fn load(&mut self, asked: Asked) {
+        let answer = answer(&mut self.run.clone(), &asked);
+        write_line(&mut self.pages.loads, &asked.line());
+        write_line(&mut self.pages.loaded, &answer);
+    }
+}
+
+fn write_line(page: &mut String, line: &str) {
+    page.push_str(line);
+    page.push('\n');
+}
+
+/// A call with numbers that its parameters have room for: 32 bits of a message
+/// and of a failed set.
+fn fitted(call: Call) -> Call {
+    let cut = |number: u64| number & u64::from(u32::MAX);
+    match call {
+        Call::Deliver { number } => Call::Deliver {
+            number: cut(number),
+        },
+        Call::Lose { number } => Call::Lose {
+            number: cut(number),
+        },
+        Call::Line { failed } => Call::Line {
+            failed: cut(failed),
+        },
+        Call::Recover { failed } => Call::Recover {
+            failed: cut(failed),
+        },
+        _ => call,
+    }
+}
+
+/// All that can be read of a run.
+fn readings(run: &Run) -> Vec<Asked> {
+    let mut calls = vec![Call::IsSound, Call::Numbers, Call::Messages];
+    for process in 0..run.count() as u64 {
+        calls.extend([
+            Call::Vector { process },
+            Call::Pins { process },
+            Call::Kept { process },
+        ]);
+    }
+    let calls = calls.into_iter().map(|call| Asked::Call(call, Vec::new()));
+    let carried = run.under_way().iter().map(|one| Asked::Carried(one.number));
+    calls.chain(carried).collect()
+}
+
+/// A foreign trace, mostly short.
+fn foreign(seed: u64) -> Vec<u8> {
+    let words = [&seed.to_string(), "--mix", "foreign"].map(String::from);
+    let plan = Plan::from_arguments(&words).expect("they are in the usage");
+    let mut trace = Vec::new();
+    write_trace(plan, &mut trace).expect("it is written to memory");
+    trace
+}
+
+/// The line of a call.
+impl Asked {
+    fn name(&self) -> &'static str {
+        match self {
+            Asked::Start(_) => "start",
+            Asked::Call(call, _) => CALLS[crate::calls::hold::place(*call)].0,
+            Asked::Carried(_) => "carried",
+            Asked::Lost(_) => "lost",
+            Asked::Words(_) => "words",
+            Asked::Dump(_) => "dump",
+            Asked::Take(_) => "take",
+            Asked::Judge(_) => "judge",
+            Asked::Merge(..) => "merge",
+            Asked::Simulate(_) => "simulate",
+        }
+    }
+
+    fn line(&self) -> String {
+        let mut line = self.name().to_string();
+        match self {
+            Asked::Start(counts) => spell(&mut line, counts),
+            Asked::Call(call, named) => match *call {
+                Call::Start { count } => spell(&mut line, [count]),
+                Call::Checkpoint { process }
+                | Call::Vector { process }
+                | Call::Pins { process }
+                | Call::Kept { process } => spell(&mut line, [process]),
+                Call::Send { from, to } => spell(&mut line, [from, to]),
+                Call::Deliver { number } | Call::Lose { number } => spell(&mut line, [number]),
+                Call::Line { failed } | Call::Recover { failed } => spell(&mut line, [failed]),
+                Call::Earliest => spell(&mut line, tuples(named, 2)),
+                Call::IsSound | Call::Numbers | Call::Messages => {}
+            },
+            Asked::Carried(number) | Asked::Lost(number) => spell(&mut line, [number]),
+            Asked::Words(words) => {
+                spell(&mut line, [words.len()]);
+                let places = words.iter().enumerate().filter(|(_, word)| **word != 0);
+                spell(&mut line, places.map(|(k, word)| format!("{k}:{word}")));
+            }
+            Asked::Dump(name) | Asked::Take(name) => spell(&mut line, [name]),
+            Asked::Judge(trace) => spell(&mut line, [digits(trace)]),
+            Asked::Merge(set, first, second) => {
+                spell(&mut line, [set]);
+                spell(&mut line, [digits(first), digits(second)]);
+            }
+            Asked::Simulate(asked) => {
+                spell(&mut line, [asked.count, asked.spacing, asked.steps]);
+                spell(&mut line, [asked.start]);
+            }
+        }
+        line
+    }
+}
+
+/// Words behind others on a line.
+fn spell<T: Display>(line: &mut String, words: impl IntoIterator<Item = T>) {
+    for word in words {
+        line.push_str(&format!(" {word}"));
+    }
+}
+
+/// Numbers in groups of so many: `P:K`.
+fn tuples<T: Display>(numbers: &[T], many: usize) -> Vec<String> {
+    let group = |group: &[T]| {
+        let texts: Vec<String> = group.iter().map(T::to_string).collect();
+        texts.join(":")
+    };
+    numbers.chunks(many).map(group).collect()
+}
+
+fn digits(bytes: &[u8]) -> String {
+    if bytes.is_empty() {
+        return "-".to_string();
+    }
+    bytes.iter().map(|byte| format!("{byte:02x}")).collect()
+}
+
+/// What is answered, and what a call leaves of the state: None if it is not
+/// sound.
+fn answer(run: &mut Option<Run>, asked: &Asked) -> String {
+    let answer = match asked {
+        Asked::Start(counts) => started(run, counts),
+        Asked::Call(call, named) => called(run, *call, named),
+        Asked::Carried(number) => carried(run.as_ref(), *number),
+        Asked::Lost(failed) => lost(run.as_ref(), *failed),
+        Asked::Words(words) => Ok(taken(run, words)),
+        Asked::Dump(_) | Asked::Take(_) => Ok(String::new()),
+        Asked::Judge(trace) => judged(trace),
+        Asked::Merge(set, first, second) => merged(*set, first, second),
+        Asked::Simulate(parameters) => simulated(*parameters),
+    };
+    match answer {
+        Ok(more) => format!("0{more}"),
+        Err(number) => number.to_string(),
+    }
+}
+
+fn started(run: &mut Option<Run>, counts: &[u32]) -> Result<String, u8> {
+    let count = Call::Start {
+        count: counts.len() as u64,
+    };
+    let outcome = outcome(SIZE, None, count, &lists(counts));
+    refused(&outcome)?;
+    // "A refused start returns a state of zeros": a binding has none, and goes on
+    // with the state that it has.
+    leave(run, &outcome);
+    Ok(String::new())
+}
+
+fn called(run: &mut Option<Run>, call: Call, named: &[u32]) -> Result<String, u8> {
+    let count = run.as_ref().map_or(0, Run::count);
+    let lent = match call {
+        Call::Earliest => lists(named),
+        _ => lists(&[0; 3 * MAX_UNDER_WAY]),
+    };
+    let outcome = outcome(SIZE, run.as_ref(), call, &lent);
+    if call == Call::IsSound {
+        return Ok(format!(" {}", outcome.answer));
+    }
+    refused(&outcome)?;
+    leave(run, &outcome);
+    Ok(said(call, &outcome, count))
+}
+
+/// Lists with room for everything.
+fn lists(numbers: &[u32]) -> Lists {
+    Lists {
+        deletions: vec![0; 2 * MAX_PROCESSES * MAX_PROCESSES],
+        line: vec![0; MAX_PROCESSES],
+        numbers: numbers.to_vec(),
+        sums: vec![0; 5],
+    }
+}
+
+fn refused(outcome: &Outcome) -> Result<(), u8> {
+    match (outcome.answer & 255) as u8 {
+        0 => Ok(()),
+        number => Err(number),
+    }
+}
+
+fn leave(run: &mut Option<Run>, outcome: &Outcome) {
+    if let Left::State(state) = &outcome.left {
+        *run = state.is_sound().then(|| Run::forged(state));
+    }
+}
+
+/// What an accepted call says behind its 0.
+fn said(call: Call, outcome: &Outcome, count: usize) -> String {
+    let lists = &outcome.lists;
+    let value = outcome.answer >> 24 & 0xff_ffff;
+    let has_value = outcome.answer >> 23 & 1 == 1;
+    let deletions = (outcome.answer >> 8 & 0x7fff) as usize;
+    let deleted = tuples(&lists.deletions[..2 * deletions], 2);
+    let mut line = String::new();
+    match call {
+        Call::Checkpoint { .. } => {
+            spell(&mut line, [value]);
+            spell(&mut line, deleted);
+        }
+        Call::Send { .. } => spell(&mut line, [value]),
+        Call::Deliver { .. } => {
+            let forced = has_value.then(|| value.to_string());
+            spell(&mut line, [forced.unwrap_or("-".to_string())]);
+            spell(&mut line, [outcome.answer >> 48]);
+            spell(&mut line, deleted);
+        }
+        Call::Line { .. } | Call::Earliest | Call::Vector { .. } => {
+            spell(&mut line, &lists.line[..count]);
+        }
+        Call::Pins { .. } => {
+            // one more than the index, 0 for none
+            let pin = |pin: &u16| match pin.checked_sub(1) {
+                Some(index) => index.to_string(),
+                None => "-".to_string(),
+            };
+            spell(&mut line, lists.line[..count].iter().map(pin));
+        }
+        Call::Recover { .. } => {
+            spell(&mut line, [value]);
+            spell(&mut line, &lists.line[..count]);
+            spell(&mut line, deleted);
+        }
+        Call::Numbers => spell(&mut line, &lists.sums),
+        Call::Kept { .. } | Call::Messages => {
+            spell(&mut line, tuples(&lists.numbers[..3 * value as usize], 3));
+        }
+        Call::Start { .. } | Call::Lose { .. } | Call::IsSound => {}
+    }
+    line
+}
+
+/// The vector that a message under way carries.
+fn carried(run: Option<&Run>, number: u64) -> Result<String, u8> {
+    let run = run.ok_or(NOT_SOUND)?;
+    let mut messages = run.under_way().iter();
+    let message = messages.find(|message| message.number == number);
+    let mut line = String::new();
+    let carried = message.ok_or(NOT_UNDER_WAY)?.carried;
+    spell(&mut line, &carried[..run.count()]);
+    Ok(line)
+}
+
+/// The messages that are under way before a recovery and not behind it.
+fn lost(run: Option<&Run>, failed: u64) -> Result<String, u8> {
+    let run = run.ok_or(NOT_SOUND)?;
+    let mut after = run.clone();
+    let (deletions, line) = (&mut [0; 2 * MAX_PROCESSES * MAX_PROCESSES], &mut [0; 16]);
+    after.recover(failed, deletions, line)?;
+    let is_lost = |message: &&Message| !after.under_way().contains(message);
+    let three = |one: &Message| format!("{}:{}:{}", one.number, one.sender, one.receiver);
+    let mut line = String::new();
+    spell(&mut line, run.under_way().iter().filter(is_lost).map(three));
+    Ok(line)
+}
+
+fn taken(run: &mut Option<Run>, words: &[u16]) -> String {
+    let state = words::state(words).filter(|state| state.is_sound());
+    *run = state.as_ref().map(Run::forged);
+    String::new()
+}
+
+fn judged(trace: &[u8]) -> Result<String, u8> {
+    let mut line = String::new();
+    match judge(trace) {
+        Verdict::Refused(number) => return Err(number),
+        Verdict::Trackable => {}
+        Verdict::Breaks { near, far } => {
+            let ends = [near, far].map(|end| format!("{}:{}", end.process, end.index));
+            spell(&mut line, ends);
+        }
+    }
+    Ok(line)
+}
+
+fn merged(set: u32, first: &[u8], second: &[u8]) -> Result<String, u8> {
+    let mut trace = vec![0; first.len() + second.len()];
+    let length = merge(first, second, set, &mut trace)?;
+    Ok(format!(" {}", digits(&trace[..length])))
+}
+
+fn simulated(parameters: Parameters) -> Result<String, u8> {
+    let figures = simulate(parameters)?;
+    let mut line = String::new();
+    let counts = [figures.deliveries, figures.forced, figures.most_kept];
+    spell(&mut line, counts);
+    spell(&mut line, [figures.quotient, figures.remainder]);
+    Ok(line)
+}
