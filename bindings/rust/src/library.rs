@@ -1,0 +1,198 @@
+//! The library's functions as `bindings/c/lemidrosy.h` declares them, each with its slices. All that is unsafe stands here.
+//!
+//! Each function takes slices and numbers of any kind: words that stand for no state, lists that are too short, numbers out of range. It reads and writes within them
+//! alone, which is proved. Two slices that are lent to a call never overlap, since one of any two is borrowed mutably or both are only read.
+#![allow(unsafe_code)]
+
+use std::ffi::{c_char, c_uint, CStr};
+
+mod c {
+    use super::{c_char, c_uint};
+
+    extern "C" {
+        pub fn lemidrosy_refusal_text(number: c_uint) -> *const c_char;
+        pub fn lemidrosy_is_sound(w: *const u16, wl: usize) -> bool;
+        pub fn lemidrosy_start(w: *mut u16, wl: usize, n: usize, c: *const u32, cl: usize) -> u64;
+        pub fn lemidrosy_checkpoint(
+            w: *mut u16,
+            wl: usize,
+            p: usize,
+            d: *mut u16,
+            dl: usize,
+        ) -> u64;
+        pub fn lemidrosy_send(w: *mut u16, wl: usize, p: usize, q: usize) -> u64;
+        pub fn lemidrosy_deliver(w: *mut u16, wl: usize, m: u32, d: *mut u16, dl: usize) -> u64;
+        pub fn lemidrosy_lose(w: *mut u16, wl: usize, m: u32) -> u64;
+        pub fn lemidrosy_line(w: *const u16, wl: usize, f: u32, l: *mut u16, ll: usize) -> u64;
+        pub fn lemidrosy_earliest(
+            w: *const u16,
+            wl: usize,
+            c: *const u32,
+            cl: usize,
+            l: *mut u16,
+            ll: usize,
+        ) -> u64;
+        pub fn lemidrosy_numbers(w: *const u16, wl: usize, s: *mut u64, sl: usize) -> u64;
+        pub fn lemidrosy_vector(w: *const u16, wl: usize, p: usize, v: *mut u16, vl: usize) -> u64;
+        pub fn lemidrosy_pins(w: *const u16, wl: usize, p: usize, v: *mut u16, vl: usize) -> u64;
+        pub fn lemidrosy_kept(w: *const u16, wl: usize, p: usize, k: *mut u32, kl: usize) -> u64;
+        pub fn lemidrosy_messages(w: *const u16, wl: usize, m: *mut u32, ml: usize) -> u64;
+        pub fn lemidrosy_carried(w: *const u16, wl: usize, m: u32, v: *mut u16, vl: usize) -> u64;
+        pub fn lemidrosy_judge(t: *const u8, tl: usize) -> u64;
+    }
+}
+
+pub fn refusal_text(number: u8) -> &'static str {
+    // Safety: the text is constant, and ends with a zero.
+    let text = unsafe { CStr::from_ptr(c::lemidrosy_refusal_text(number.into())) };
+    text.to_str().unwrap_or("")
+}
+
+// Safety, of every call below: the pointers and lengths are those of slices, which are lent for the call; what is written to is borrowed mutably.
+
+pub fn is_sound(words: &[u16]) -> bool {
+    unsafe { c::lemidrosy_is_sound(words.as_ptr(), words.len()) }
+}
+
+pub fn start(words: &mut [u16], n: usize, counts: &[u32]) -> u64 {
+    unsafe {
+        c::lemidrosy_start(
+            words.as_mut_ptr(),
+            words.len(),
+            n,
+            counts.as_ptr(),
+            counts.len(),
+        )
+    }
+}
+
+pub fn checkpoint(words: &mut [u16], process: usize, deleted: &mut [u16]) -> u64 {
+    unsafe {
+        c::lemidrosy_checkpoint(
+            words.as_mut_ptr(),
+            words.len(),
+            process,
+            deleted.as_mut_ptr(),
+            deleted.len(),
+        )
+    }
+}
+
+pub fn send(words: &mut [u16], sender: usize, receiver: usize) -> u64 {
+    unsafe { c::lemidrosy_send(words.as_mut_ptr(), words.len(), sender, receiver) }
+}
+
+pub fn deliver(words: &mut [u16], message: u32, deleted: &mut [u16]) -> u64 {
+    unsafe {
+        c::lemidrosy_deliver(
+            words.as_mut_ptr(),
+            words.len(),
+            message,
+            deleted.as_mut_ptr(),
+            deleted.len(),
+        )
+    }
+}
+
+pub fn lose(words: &mut [u16], message: u32) -> u64 {
+    unsafe { c::lemidrosy_lose(words.as_mut_ptr(), words.len(), message) }
+}
+
+pub fn line(words: &[u16], failed: u32, line: &mut [u16]) -> u64 {
+    unsafe {
+        c::lemidrosy_line(
+            words.as_ptr(),
+            words.len(),
+            failed,
+            line.as_mut_ptr(),
+            line.len(),
+        )
+    }
+}
+
+pub fn earliest(words: &[u16], named: &[u32], line: &mut [u16]) -> u64 {
+    unsafe {
+        c::lemidrosy_earliest(
+            words.as_ptr(),
+            words.len(),
+            named.as_ptr(),
+            named.len(),
+            line.as_mut_ptr(),
+            line.len(),
+        )
+    }
+}
+
+pub fn numbers(words: &[u16], numbers: &mut [u64]) -> u64 {
+    unsafe {
+        c::lemidrosy_numbers(
+            words.as_ptr(),
+            words.len(),
+            numbers.as_mut_ptr(),
+            numbers.len(),
+        )
+    }
+}
+
+pub fn vector(words: &[u16], process: usize, vector: &mut [u16]) -> u64 {
+    unsafe {
+        c::lemidrosy_vector(
+            words.as_ptr(),
+            words.len(),
+            process,
+            vector.as_mut_ptr(),
+            vector.len(),
+        )
+    }
+}
+
+pub fn pins(words: &[u16], process: usize, pins: &mut [u16]) -> u64 {
+    unsafe {
+        c::lemidrosy_pins(
+            words.as_ptr(),
+            words.len(),
+            process,
+            pins.as_mut_ptr(),
+            pins.len(),
+        )
+    }
+}
+
+pub fn kept(words: &[u16], process: usize, kept: &mut [u32]) -> u64 {
+    unsafe {
+        c::lemidrosy_kept(
+            words.as_ptr(),
+            words.len(),
+            process,
+            kept.as_mut_ptr(),
+            kept.len(),
+        )
+    }
+}
+
+pub fn messages(words: &[u16], messages: &mut [u32]) -> u64 {
+    unsafe {
+        c::lemidrosy_messages(
+            words.as_ptr(),
+            words.len(),
+            messages.as_mut_ptr(),
+            messages.len(),
+        )
+    }
+}
+
+pub fn carried(words: &[u16], message: u32, vector: &mut [u16]) -> u64 {
+    unsafe {
+        c::lemidrosy_carried(
+            words.as_ptr(),
+            words.len(),
+            message,
+            vector.as_mut_ptr(),
+            vector.len(),
+        )
+    }
+}
+
+pub fn judge(trace: &[u8]) -> u64 {
+    unsafe { c::lemidrosy_judge(trace.as_ptr(), trace.len()) }
+}

@@ -1,0 +1,225 @@
+//! A run that owns its state.
+
+use crate::answers::{accepted, Cause, Delivered, Kept, Message, Numbers, Stored};
+use crate::{library, Refusal, MESSAGES, PROCESSES, WORDS};
+use std::fmt;
+
+/// The room of a deletion list that is enough for every run.
+const DELETIONS: usize = 2 * PROCESSES * PROCESSES;
+
+/// The state of a run of up to 16 processes.
+///
+/// A call that is refused leaves the state as it was. Every call judges the state first: [`Refusal::UnsoundState`] is given where the words came from elsewhere and
+/// stand for no sound state.
+#[derive(Clone)]
+pub struct Run {
+    words: Box<[u16]>,
+}
+
+/// The calls.
+impl Run {
+    /// A run begins: each process has the block count of its checkpoints, and stores its checkpoint 0.
+    ///
+    /// Refused: `CountOutsideRange`, `BlockCountOutsideRange`.
+    pub fn start(counts: &[u32]) -> Result<Run, Refusal> {
+        let mut words = vec![0; WORDS].into_boxed_slice();
+        accepted(library::start(&mut words, counts.len(), counts))?;
+        Ok(Run { words })
+    }
+
+    /// A process takes a checkpoint.
+    ///
+    /// Refused: `NoSuchProcess`, `IntervalsUsed`, `BlocksUsed`.
+    pub fn checkpoint(&mut self, process: usize) -> Result<Stored, Refusal> {
+        let mut list = [0; DELETIONS];
+        let answer = accepted(library::checkpoint(&mut self.words, process, &mut list))?;
+        Ok(Stored {
+            index: answer.index(),
+            deleted: answer.deleted(&list),
+        })
+    }
+
+    /// A process sends a message to another; what is answered is the message's number.
+    ///
+    /// Refused: `NoSuchProcess`, `SenderIsReceiver`, `TooManyUnderWay`, `MessageNumbersUsed`.
+    pub fn send(&mut self, sender: usize, receiver: usize) -> Result<u32, Refusal> {
+        let answer = accepted(library::send(&mut self.words, sender, receiver))?;
+        Ok(answer.value())
+    }
+
+    /// A message reaches its receiver, which takes in the vector that it carries.
+    ///
+    /// Refused: `NotUnderWay`, `IntervalsUsed`, `BlocksUsed`.
+    pub fn deliver(&mut self, message: u32) -> Result<Delivered, Refusal> {
+        let mut list = [0; DELETIONS];
+        let answer = accepted(library::deliver(&mut self.words, message, &mut list))?;
+        Ok(Delivered {
+            forced: answer.index_if_any(),
+            deleted: answer.deleted(&list),
+            rose: answer.rose(),
+        })
+    }
+
+    /// A message is lost.
+    ///
+    /// Refused: `NotUnderWay`.
+    pub fn lose(&mut self, message: u32) -> Result<(), Refusal> {
+        accepted(library::lose(&mut self.words, message))?;
+        Ok(())
+    }
+
+    /// The line for a failed set, bit p of which stands for process p: the index of each process's checkpoint to restart from. That of a process which stays live is its
+    /// own entry.
+    ///
+    /// Refused: `NoSuchFailedProcess`.
+    pub fn line(&self, failed: u32) -> Result<Vec<u16>, Refusal> {
+        let mut line = [0; PROCESSES];
+        accepted(library::line(&self.words, failed, &mut line))?;
+        self.row(line)
+    }
+
+    /// The earliest consistent line through the named checkpoints, each a process and an index. It may name deleted checkpoints, so it is to be shown, not restarted from.
+    ///
+    /// Refused: `NoSuchProcess`, `UnfitNamedList`, `NotKept`, `CausallyOrdered`.
+    pub fn earliest(&self, named: &[(u32, u32)]) -> Result<Vec<u16>, Refusal> {
+        let named: Vec<u32> = named.iter().flat_map(|one| [one.0, one.1]).collect();
+        let mut line = [0; PROCESSES];
+        accepted(library::earliest(&self.words, &named, &mut line))?;
+        self.row(line)
+    }
+}
+
+/// What can be read of the state.
+///
+/// ```
+/// # use lemidrosy::{Cause, Kept, Message, Refusal, Run};
+/// # fn main() -> Result<(), Refusal> {
+/// let mut run = Run::start(&[5, 7])?;
+/// let number = run.send(0, 1)?;
+/// assert_eq!(run.messages()?, [Message { number, sender: 0, receiver: 1 }]);
+/// assert_eq!(run.carried(number)?, [1, 0]);
+/// run.deliver(number)?;
+/// assert_eq!(run.vector(1)?, [1, 1]);
+/// assert_eq!(run.pins(1)?, [Some(0), Some(0)]);
+/// assert_eq!(run.kept(1)?, [Kept { index: 0, cause: Cause::Initial, blocks: 7 }]);
+/// assert_eq!(run.numbers()?.written, 12);
+/// assert_eq!(run.vector(2), Err(Refusal::NoSuchProcess));
+/// # Ok(())
+/// # }
+/// ```
+impl Run {
+    /// The numbers of the run.
+    pub fn numbers(&self) -> Result<Numbers, Refusal> {
+        let mut numbers = [0; 5];
+        accepted(library::numbers(&self.words, &mut numbers))?;
+        let [processes, last_message, under_way, written, deleted] = numbers;
+        // n is at most 16, a message number at most 1,000,000, and 64 are under way at most.
+        Ok(Numbers {
+            processes: processes as usize,
+            last_message: last_message as u32,
+            under_way: under_way as usize,
+            written,
+            deleted,
+        })
+    }
+
+    /// The vector of a process.
+    ///
+    /// Refused: `NoSuchProcess`.
+    pub fn vector(&self, process: usize) -> Result<Vec<u16>, Refusal> {
+        let mut vector = [0; PROCESSES];
+        accepted(library::vector(&self.words, process, &mut vector))?;
+        self.row(vector)
+    }
+
+    /// The pins of a process: which checkpoint it keeps for the failure of each process, if any.
+    ///
+    /// Refused: `NoSuchProcess`.
+    pub fn pins(&self, process: usize) -> Result<Vec<Option<u16>>, Refusal> {
+        let mut pins = [0; PROCESSES];
+        accepted(library::pins(&self.words, process, &mut pins))?;
+        // one more than the index of the checkpoint, 0 for none
+        let pins = self.row(pins)?.into_iter();
+        Ok(pins.map(|pin| pin.checked_sub(1)).collect())
+    }
+
+    /// The checkpoints that a process keeps, ascending.
+    ///
+    /// Refused: `NoSuchProcess`.
+    pub fn kept(&self, process: usize) -> Result<Vec<Kept>, Refusal> {
+        let mut list = [0; 3 * PROCESSES];
+        let answer = accepted(library::kept(&self.words, process, &mut list))?;
+        Ok(answer.threes(&list, |index, cause, blocks| Kept {
+            index: index as u16,
+            cause: Cause::of(cause),
+            blocks,
+        }))
+    }
+
+    /// The messages under way, ascending by number.
+    pub fn messages(&self) -> Result<Vec<Message>, Refusal> {
+        let mut list = [0; 3 * MESSAGES];
+        let answer = accepted(library::messages(&self.words, &mut list))?;
+        Ok(answer.threes(&list, message))
+    }
+
+    /// The vector that a message under way carries.
+    ///
+    /// Refused: `NotUnderWay`.
+    pub fn carried(&self, message: u32) -> Result<Vec<u16>, Refusal> {
+        let mut vector = [0; PROCESSES];
+        accepted(library::carried(&self.words, message, &mut vector))?;
+        self.row(vector)
+    }
+
+    /// Whether the words stand for a sound state. Those of a run from [`Run::start`] always do.
+    pub fn is_sound(&self) -> bool {
+        library::is_sound(&self.words)
+    }
+
+    /// The first n entries of a row.
+    fn row(&self, row: [u16; PROCESSES]) -> Result<Vec<u16>, Refusal> {
+        let processes = self.numbers()?.processes;
+        Ok(row[..processes].to_vec())
+    }
+}
+
+/// The words.
+impl Run {
+    /// The words of the state, to be stored.
+    pub fn words(&self) -> &[u16] {
+        &self.words
+    }
+
+    /// A run with these words, whatever they are. Calls on words that stand for no sound state are refused with [`Refusal::UnsoundState`].
+    ///
+    /// ```
+    /// # use lemidrosy::{Refusal, Run};
+    /// let run = Run::start(&[1, 1]).unwrap();
+    /// assert!(Run::from_words(run.words()).is_sound());
+    /// assert_eq!(Run::from_words(&[1, 2, 3]).send(0, 1), Err(Refusal::UnsoundState));
+    /// ```
+    pub fn from_words(words: &[u16]) -> Run {
+        Run {
+            words: words.into(),
+        }
+    }
+}
+
+/// A message by the three numbers that the library tells of it.
+fn message(number: u32, sender: u32, receiver: u32) -> Message {
+    Message {
+        number,
+        sender: sender as usize,
+        receiver: receiver as usize,
+    }
+}
+
+impl fmt::Debug for Run {
+    fn fmt(&self, to: &mut fmt::Formatter) -> fmt::Result {
+        match self.numbers() {
+            Ok(numbers) => write!(to, "Run({numbers:?})"),
+            Err(refusal) => write!(to, "Run({refusal:?})"),
+        }
+    }
+}
