@@ -1,0 +1,38 @@
+"""Python's numbers as the library takes them. A number that the type of an argument does not hold goes as the type's greatest number, which the library refuses for
+the same reason: it is no count, no process, no message, no block count and no kept checkpoint."""
+
+from __future__ import annotations
+
+from operator import index
+from typing import Iterable
+
+BITS_32 = (1 << 32) - 1
+BITS_64 = (1 << 64) - 1
+
+
+def whole(number: int, greatest: int) -> int:
+    """The number, or the greatest one where it is negative or above that."""
+    number = index(number)
+    return number if 0 <= number <= greatest else greatest
+
+
+def size(number: int) -> int:
+    """For an argument of type size_t."""
+    return whole(number, BITS_64)
+
+
+def word(number: int) -> int:
+    """For an argument of 32 bits."""
+    return whole(number, BITS_32)
+
+
+def set_of(processes: Iterable[int]) -> int:
+    """A set of processes as a number of 32 bits, in which bit p stands for process p. A member that has no bit makes it the set of all 32, which names a process at n
+    or above, as that member does."""
+    number = 0
+    for process in processes:
+        process = index(process)
+        if not 0 <= process < 32:
+            return BITS_32
+        number |= 1 << process
+    return number
