@@ -106,7 +106,7 @@ module _ (w : List ℕ) (h : sound (runOf w) ≡ true) (n : ℕ) (same : n ≡ c
   all-used p lt = sound-part w h p (omega arith) .used
 
   module _ (F : ℕ) (limits : List Interval) (m : Members) (of-set : limits ≡ limitsIn w n F) (found : m ≡ membersIn w n limits) where
-    members-are : m ≡ membersIn w (countOf w) (limitsIn w (countOf w) F)
+    pub members-are : m ≡ membersIn w (countOf w) (limitsIn w (countOf w) F)
     members-are = found ∙ rw (of-set, same)
 
     pub members-missing : m .all ≡ false → noMember (runOf w) F ≡ true

@@ -1,0 +1,154 @@
+// The recovery of a failed set: each process goes back to its member of the line, its pins are moved and what no pin names is deleted; the messages that were sent up
+// to the line stay under way. For the empty set nobody goes back: it is a sweep.
+use model::Interval;
+use model::RecoverAnswer;
+use model::Refusal;
+use verdicts::Verdict;
+use words::places;
+ghost use mathlib.Core.Path.{_≡_};
+ghost use mathlib.Core.Bool.{true};
+ghost use Prim.Native.Nat.{_*_, _≤_, _<_};
+ghost use lib.ListN.{length, getD};
+ghost use lib.Seq.{sets};
+ghost use Rattle.laws.specs.Choice.{pick};
+ghost use Rattle.laws.specs.Tests.{countBelow};
+ghost use Rattle.model.specs.Sound.{sound};
+ghost use Rattle.model.specs.declared.Refusal.{Refusal};
+ghost use Rattle.model.specs.declared.RecoverAnswer.the-variants.{Refused};
+ghost use Rattle.verdicts.specs.declared.Verdict.the-variants.{Accepted};
+ghost use Rattle.verdicts.specs.Verdicts.{recoveryVerdict};
+ghost use Rattle.whole_runs.specs.Outcomes.{pairs, recoverOutcome};
+ghost use Rattle.whole_runs.specs.Calls as made;
+ghost use Rattle.whole_runs.specs.Clean.{CleanPromise};
+ghost use Rattle.whole_runs.specs.Sweep.{SweepPromise};
+ghost use Rattle.whole_runs.specs.WholeRuns.{LinePromise, StatePromise};
+ghost use Rattle.words.specs.Layout.{countOf, runOf};
+ghost use Rattle.recovery_words.specs.Restored.{goesBack};
+ghost use Rattle.in_place.specs.Left.{Leaves};
+ghost use Rattle.in_place.specs.Recovering.{lossesThen, AllRestorable, Restored};
+
+// 1 if the member of process p, in the place before this one, is a kept checkpoint: the process goes back to it.
+fn one_if_back(w: &[u16], p: usize, past: u16) -> usize
+    requires { ⌜ (length (now w) ≡ 6464) × (p < 16) ⌝ }
+    ensures { λ r. ⌜ r ≡ pick (goesBack (now (w .entry)) p past) 1 0 ⌝ }
+{
+    if past <= w[places::HELD + p] { 1 } else { 0 }
+}
+
+// How many of n processes go back.
+fn count_back(w: &[u16], n: usize, pasts: [u16; 16]) -> usize
+    requires { ⌜ (length (now w) ≡ 6464) × (n ≤ 16) ⌝ }
+    ensures { λ r. ⌜ r ≡ countBelow n (λ p. goesBack (now (w .entry)) p (getD pasts p 0)) ⌝ }
+{
+    let mut back = 0;
+    for p in 0..n {
+        let past = pasts[p];
+        let one = one_if_back(w, p, past);
+        back += one;
+    }
+    back
+}
+
+// Each of n processes after the recovery, one after the other. The pairs of what is deleted go to the front of the lent list; the result says how many there are.
+fn restore_all(
+    w: &mut [u16],
+    n: usize,
+    pasts: [u16; 16],
+    owns: [Interval; 16],
+    deleted: &mut [u16],
+) -> usize
+    requires { ⌜ (sound (runOf (now w)) ≡ true) × (n ≡ countOf (now w)) × (2 * n * n ≤ length (now deleted)) × AllRestorable n pasts (now w) ⌝ }
+    ensures { λ r. ⌜ Restored (now (w .entry)) pasts owns n (now (w .exit)) ⌝ }
+    ensures { λ r. ⌜ now (deleted .exit) ≡ sets (now (deleted .entry)) 0 (pairs (lossesThen (now (w .entry)) pasts owns n)) ⌝ }
+    ensures { λ r. ⌜ r ≡ length (lossesThen (now (w .entry)) pasts owns n) ⌝ }
+{
+    let mut gone = 0;
+    for p in 0..n {
+        let past = pasts[p] as usize;
+        let less = recovery_words::restore::restore(w, p, past, owns, deleted, gone);
+        gone += less;
+    }
+    gone
+}
+
+// A failed set that is within the run: everyone goes back if the line rule accepts a state of each process.
+fn recover_within(
+    w: &mut [u16],
+    n: usize,
+    failed: u32,
+    deleted: &mut [u16],
+    line: &mut [u16],
+) -> RecoverAnswer
+    requires { ⌜ (sound (runOf (now w)) ≡ true) × (n ≡ countOf (now w)) × (2 * n * n ≤ length (now deleted)) × (n ≤ length (now line)) × (recoveryVerdict n failed ≡ Accepted) ⌝ }
+    ensures { λ r. ⌜ runOf (now (w .exit)) ≡ recoverOutcome (runOf (now (w .entry))) failed (now (deleted .entry)) (now (line .entry)) .run ⌝ }
+    ensures { λ r. ⌜ r ≡ recoverOutcome (runOf (now (w .entry))) failed (now (deleted .entry)) (now (line .entry)) .answer ⌝ }
+    ensures { λ r. ⌜ now (deleted .exit) ≡ recoverOutcome (runOf (now (w .entry))) failed (now (deleted .entry)) (now (line .entry)) .deleted ⌝ }
+    ensures { λ r. ⌜ now (line .exit) ≡ recoverOutcome (runOf (now (w .entry))) failed (now (deleted .entry)) (now (line .entry)) .line ⌝ }
+    ensures { λ r. ⌜ ((why : Refusal) → r ≡ Refused why → now (w .exit) ≡ now (w .entry)) ⌝ }
+    ensures { λ r. ⌜ Leaves (now (w .entry)) (now (w .exit)) ⌝ }
+{
+    let limits = line_words::line::limits_of(w, n, failed);
+    let members = line_words::line::find_members(w, n, limits);
+    let all = members.all;
+    if !all {
+        return RecoverAnswer::Refused(Refusal::UnsoundState);
+    }
+    let pasts = members.pasts;
+    let indexes = line_words::line::indexes_of(w, n, pasts);
+    let owns = recovery_words::owns::owns_after(w, n, pasts);
+    let back = count_back(w, n, pasts);
+    super::line::write_line(line, indexes, n);
+    let gone = restore_all(w, n, pasts, owns, deleted);
+    sifted_words::sift(w, indexes);
+    RecoverAnswer::Recovered(back, gone)
+}
+
+// The words stand for a sound state. Bit p of the failed set stands for process p.
+pub fn recover_on(
+    w: &mut [u16],
+    failed: u32,
+    deleted: &mut [u16],
+    line: &mut [u16],
+) -> RecoverAnswer
+    requires { ⌜ sound (runOf (now w)) ≡ true ⌝ }
+    ensures { λ r. ⌜ runOf (now (w .exit)) ≡ recoverOutcome (runOf (now (w .entry))) failed (now (deleted .entry)) (now (line .entry)) .run ⌝ }
+    ensures { λ r. ⌜ r ≡ recoverOutcome (runOf (now (w .entry))) failed (now (deleted .entry)) (now (line .entry)) .answer ⌝ }
+    ensures { λ r. ⌜ now (deleted .exit) ≡ recoverOutcome (runOf (now (w .entry))) failed (now (deleted .entry)) (now (line .entry)) .deleted ⌝ }
+    ensures { λ r. ⌜ now (line .exit) ≡ recoverOutcome (runOf (now (w .entry))) failed (now (deleted .entry)) (now (line .entry)) .line ⌝ }
+    ensures { λ r. ⌜ ((why : Refusal) → r ≡ Refused why → now (w .exit) ≡ now (w .entry)) ⌝ }
+    ensures { λ r. ⌜ Leaves (now (w .entry)) (now (w .exit)) ⌝ }
+{
+    let n = w[places::COUNT] as usize;
+    let short = lent_lists::is_too_short(deleted.len(), line.len(), n);
+    if short {
+        return RecoverAnswer::Refused(Refusal::ListTooShort);
+    }
+    let verdict = verdicts::recovery_verdict(failed, n);
+    match verdict {
+        Verdict::Refused(why) => RecoverAnswer::Refused(why),
+        Verdict::Accepted => recover_within(w, n, failed, deleted, line),
+    }
+}
+
+// Everyone goes back to the line for a failed set: its indexes go to the front of the one lent list, what is deleted to the front of the other.
+// Wherever calls from an accepted start led to the state of the words, the line is right, and so is what the words kept and then keep (demand 3); if the call is
+// accepted, they keep a checkpoint exactly if some failure would use it (Note 6). Wherever they stand for a sound state, a recovery for the empty set rolls nobody back
+// (Note 4).
+pub fn recover(w: &mut [u16], failed: u32, deleted: &mut [u16], line: &mut [u16]) -> RecoverAnswer
+    ensures { λ r. ⌜ runOf (now (w .exit)) ≡ recoverOutcome (runOf (now (w .entry))) failed (now (deleted .entry)) (now (line .entry)) .run ⌝ }
+    ensures { λ r. ⌜ r ≡ recoverOutcome (runOf (now (w .entry))) failed (now (deleted .entry)) (now (line .entry)) .answer ⌝ }
+    ensures { λ r. ⌜ now (deleted .exit) ≡ recoverOutcome (runOf (now (w .entry))) failed (now (deleted .entry)) (now (line .entry)) .deleted ⌝ }
+    ensures { λ r. ⌜ now (line .exit) ≡ recoverOutcome (runOf (now (w .entry))) failed (now (deleted .entry)) (now (line .entry)) .line ⌝ }
+    ensures { λ r. ⌜ ((why : Refusal) → r ≡ Refused why → now (w .exit) ≡ now (w .entry)) ⌝ }
+    ensures { λ r. ⌜ Leaves (now (w .entry)) (now (w .exit)) ⌝ }
+    ensures { λ r. ⌜ LinePromise (runOf (now (w .entry))) failed ⌝ }
+    ensures { λ r. ⌜ StatePromise (runOf (now (w .entry))) (made.recover failed (now (deleted .entry)) (now (line .entry))) (runOf (now (w .exit))) ⌝ }
+    ensures { λ r. ⌜ CleanPromise (runOf (now (w .entry))) failed (now (deleted .entry)) (now (line .entry)) (runOf (now (w .exit))) ⌝ }
+    ensures { λ r. ⌜ SweepPromise (runOf (now (w .entry))) failed (now (deleted .entry)) (now (line .entry)) r (now (line .exit)) (runOf (now (w .exit))) ⌝ }
+{
+    let sound = sound_words::is_sound(w);
+    if !sound {
+        return RecoverAnswer::Refused(Refusal::UnsoundState);
+    }
+    recover_on(w, failed, deleted, line)
+}
