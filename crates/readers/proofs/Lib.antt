@@ -2,3 +2,4 @@
 pub mod Carried
 pub mod Readings
 pub mod Three
+pub mod Losses

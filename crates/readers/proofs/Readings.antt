@@ -50,6 +50,10 @@ module _ (rules : List Rule) (value : Option ℕ) (numbers lent : List ℕ) wher
   unfolding reading
   read-by h = rw (refusal-in rules none h)
 
+-- The answer and the list of an outcome.
+pub told : {r : Reading} {code : ℕ} {list : List ℕ} {q : Reading} → r ≡ q → code ≡ coded (q .report) 0 → list ≡ q .list → (code ≡ coded (r .report) 0) × (list ≡ r .list)
+told e a b = rw e (a, b)
+
 -- Accepted with no value, the number of the answer is 0.
 pub nothing-said : 0 ≡ coded (accepting none 0) 0
 unfolding coded valueCode

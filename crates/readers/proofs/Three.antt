@@ -1,6 +1,7 @@
 -- Three numbers of each element, written one element after the other.
 -- Assumes nothing.
 use mathlib.Core.Path.{_≡_, refl, sym, _∙_, ap}
+use mathlib.Core.Bool.{Bool}
 use mathlib.Core.List.{List, [], _∷_, _++_, append-nil}
 use Prim.Native.Nat.{ℕ, zero, suc, _+_, _*_, _≤_, _<_}
 use native.Mathlib.Numerals.{add-one}
@@ -14,7 +15,6 @@ use Rattle.laws.specs.Tables.{length-table}
 use Rattle.laws.specs.Written.{sets-after}
 use Rattle.model.specs.declared.Checkpoint.{Checkpoint}
 use Rattle.model.specs.declared.Message.{Message}
-use Rattle.words.specs.Layout.{isMessage}
 use Rattle.readers.specs.Readings.{storedNumbers, sentNumbers}
 use Rattle.readers.specs.Written.{threeStored, threeOf}
 
@@ -47,18 +47,18 @@ stored-turn f l₀ l k inv =
     sets-after l₀ l 0 (3 * k) (storedNumbers (table k f)) inv (omega (arith, stored-length (table k f), length-table k f)) (threeStored (f k))
     ∙ ap (sets l₀ 0) (sym (stored-more (table k f) (f k))))
 
--- The messages of the first k places, and those with one more.
-module _ (f : ℕ → Message) (l₀ l : List ℕ) (k many : ℕ) (inv : l ≡ sets l₀ 0 (sentNumbers (select isMessage (table k f)))) (e : many ≡ length (select isMessage (table k f))) where
-  more : select isMessage (table (k + 1) f) ≡ select isMessage (table k f) ++ pick (isMessage (f k)) (f k ∷ []) []
+-- The messages of the first k places that pass a test, and those with one more.
+module _ (t : Message → Bool) (f : ℕ → Message) (l₀ l : List ℕ) (k many : ℕ) (inv : l ≡ sets l₀ 0 (sentNumbers (select t (table k f)))) (e : many ≡ length (select t (table k f))) where
+  more : select t (table (k + 1) f) ≡ select t (table k f) ++ pick (t (f k)) (f k ∷ []) []
   unfolding table
-  more = rw (add-one k) (select-append isMessage (table k f) (f k ∷ []) ∙ ap (λ (z : List Message). select isMessage (table k f) ++ z) (select-one isMessage (f k)))
+  more = rw (add-one k) (select-append t (table k f) (f k ∷ []) ∙ ap (λ (z : List Message). select t (table k f) ++ z) (select-one t (f k)))
 
-  pub sent-turn : (pick (isMessage (f k)) (sets l (3 * many) (threeOf (f k))) l ≡ sets l₀ 0 (sentNumbers (select isMessage (table (k + 1) f))))
-      × (pick (isMessage (f k)) (many + 1) many ≡ length (select isMessage (table (k + 1) f)))
-  sent-turn = rw more (by-bool (isMessage (f k))
+  pub sent-turn : (pick (t (f k)) (sets l (3 * many) (threeOf (f k))) l ≡ sets l₀ 0 (sentNumbers (select t (table (k + 1) f))))
+      × (pick (t (f k)) (many + 1) many ≡ length (select t (table (k + 1) f)))
+  sent-turn = rw more (by-bool (t (f k))
       (λ is. rw is (
-        sets-after l₀ l 0 (3 * many) (sentNumbers (select isMessage (table k f))) inv (omega (arith, sent-length (select isMessage (table k f)))) (threeOf (f k))
-            ∙ ap (sets l₀ 0) (sym (sent-more (select isMessage (table k f)) (f k))),
-        omega (arith, length-append (select isMessage (table k f)) (f k ∷ [])),
+        sets-after l₀ l 0 (3 * many) (sentNumbers (select t (table k f))) inv (omega (arith, sent-length (select t (table k f)))) (threeOf (f k))
+            ∙ ap (sets l₀ 0) (sym (sent-more (select t (table k f)) (f k))),
+        omega (arith, length-append (select t (table k f)) (f k ∷ [])),
       ))
-      (λ isnt. rw (isnt, append-nil (select isMessage (table k f))) (inv, e)))
+      (λ isnt. rw (isnt, append-nil (select t (table k f))) (inv, e)))

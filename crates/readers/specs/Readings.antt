@@ -1,21 +1,22 @@
 -- What a run-time reads of a state, each by one reader: its answer, and the lent list as it then stands. The refusals are document 01's: 2 for a state that is not
--- sound, 3 for a list that is too short, 4 for a process not below n, 8 for a message not under way. "Where several hold, the lowest number is given."
+-- sound, 3 for a list that is too short, 4 for a process not below n, 7 for a failed set with a process not below n, 8 for a message not under way. "Where several hold,
+-- the lowest number is given."
 -- Assumes nothing.
 use mathlib.Core.List.{List, [], _∷_}
 use mathlib.Core.Option.{Option, none, some}
 use Prim.Native.Nat.{ℕ, _+_, _*_}
 use lib.Dec.{ltb}
 use lib.ListN.{length, getD}
-use Rattle.laws.specs.Lists.{table}
+use Rattle.laws.specs.Lists.{select, table}
 use Rattle.model.specs.declared.Pin.{Pin}
 use Rattle.model.specs.declared.Pin.the-variants.{Nothing, At}
 use Rattle.model.specs.declared.Checkpoint.{Checkpoint}
 use Rattle.model.specs.declared.Message.{Message}
 use Rattle.model.specs.declared.Run.{Run}
-use Rattle.model.specs.declared.Refusal.the-variants.{ListTooShort, NoSuchProcess, NotUnderWay}
+use Rattle.model.specs.declared.Refusal.the-variants.{UnsoundState, ListTooShort, NoSuchProcess, NoSuchFailedProcess, NotUnderWay}
 use Rattle.model.specs.Words.{mostUnderWay, entry, process, underWay}
-use Rattle.model.specs.Steps.{found}
-use Rattle.model.specs.Refusals.{Rule, firstOf, unsound, absent, missing}
+use Rattle.model.specs.Steps.{found, lostBy}
+use Rattle.model.specs.Refusals.{Rule, firstOf, unsound, absent, missing, outside, noMember}
 use Rattle.whole_runs.specs.Outcomes.{judged, written, Report, refusing, accepting, message}
 
 pub record Reading : Type 0 where
@@ -83,3 +84,17 @@ carriedOf s m = table (s .count) (λ f. entry (message s m .vector) f .0)
 
 unfoldable pub carriedReading : Run → ℕ → List ℕ → Reading
 carriedReading s m lent = reading (unsound s ∷ short (s .count) lent ∷ record { holds = missing (found s m); gives = NotUnderWay } ∷ []) none (carriedOf s m) lent
+
+-- The messages under way that a recovery of the failed set F would lose (document 02, Note 2), ascending: three numbers each, as those under way. It is asked before the
+-- recovery, and refused as the line is, with 2 where some process has no state that the line rule accepts.
+abbrev pub lostMessages : Run → ℕ → List Message
+lostMessages s F = select (lostBy s F) (underWay s)
+
+unfoldable pub lostReading : Run → ℕ → List ℕ → Reading
+lostReading s F lent = reading (
+    unsound s
+    ∷ short (3 * mostUnderWay) lent
+    ∷ record { holds = outside s F; gives = NoSuchFailedProcess }
+    ∷ record { holds = noMember s F; gives = UnsoundState }
+    ∷ [])
+    (some (length (lostMessages s F))) (sentNumbers (lostMessages s F)) lent

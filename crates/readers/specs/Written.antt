@@ -1,11 +1,14 @@
 -- What the readers write, by the words that they read.
 -- Assumes nothing.
+use mathlib.Core.Bool.{_&&_}
 use mathlib.Core.List.{List, [], _∷_}
 use Prim.Native.Nat.{ℕ, _+_}
 use Rattle.laws.specs.Lists.{select, table}
 use Rattle.model.specs.declared.Checkpoint.{Checkpoint}
+use Rattle.model.specs.declared.CheckpointIndex.{CheckpointIndex}
 use Rattle.model.specs.declared.Message.{Message}
 use Rattle.words.specs.Layout.{word, wide2, wide4, countOf, messageIn, isMessage}
+use Rattle.sifted_words.specs.Sifted.{lostTo}
 
 -- The numbers of the run.
 abbrev pub numbersIn : List ℕ → List ℕ
@@ -25,3 +28,7 @@ threeOf x = x .number ∷ x .sender ∷ x .receiver ∷ []
 -- The messages in the first places.
 abbrev pub messagesBelow : List ℕ → ℕ → List Message
 messagesBelow w end = select isMessage (table end (messageIn w))
+
+-- Those of them that are lost where the line has these indexes.
+abbrev pub lostBelow : List CheckpointIndex → List ℕ → ℕ → List Message
+lostBelow indexes w end = select (λ x. isMessage x && lostTo indexes x) (table end (messageIn w))

@@ -22,12 +22,15 @@ ghost use Rattle.words.specs.Layout.{word, countOf, endOf, heldAt, indexAt, che
 ghost use Rattle.readers.specs.Readings.{numbersReading, vectorReading, pinsReading, storedNumbers, keptReading, sentNumbers, messagesReading, carriedReading};
 ghost use Rattle.readers.specs.Written.{numbersIn, wordsFrom, threeStored, threeOf, messagesBelow};
 
+// lost.rt: the messages under way that a recovery would lose
+pub mod lost;
+
 // How many numbers a run has, how many are written of each checkpoint and of each message.
 const NUMBERS: usize = 5;
 
-const THREE: usize = 3;
+pub(crate) const THREE: usize = 3;
 
-fn refused(why: Refusal) -> u64
+pub(crate) fn refused(why: Refusal) -> u64
     ensures { λ r. ⌜ r ≡ coded (refusing why) 0 ⌝ }
 {
     let said = summaries::refused(why);
@@ -35,7 +38,7 @@ fn refused(why: Refusal) -> u64
 }
 
 // So many things were read.
-fn counted(many: usize) -> u64
+pub(crate) fn counted(many: usize) -> u64
     requires { ⌜ many ≤ 64 ⌝ }
     ensures { λ r. ⌜ r ≡ coded (accepting (some many) 0) 0 ⌝ }
 {
@@ -60,7 +63,7 @@ fn wide(x: u16) -> u32
     x as u32
 }
 
-fn count_in(w: &[u16]) -> usize
+pub(crate) fn count_in(w: &[u16]) -> usize
     requires { ⌜ sound (runOf (now w)) ≡ true ⌝ }
     ensures { λ r. ⌜ r ≡ countOf (now (w .entry)) ⌝ }
 {
@@ -68,7 +71,7 @@ fn count_in(w: &[u16]) -> usize
 }
 
 // The end of the places of messages in use.
-fn end_in(w: &[u16]) -> usize
+pub(crate) fn end_in(w: &[u16]) -> usize
     requires { ⌜ sound (runOf (now w)) ≡ true ⌝ }
     ensures { λ r. ⌜ r ≡ endOf (now (w .entry)) ⌝ }
 {
@@ -121,7 +124,7 @@ fn write_kept(w: &[u16], p: usize, held: usize, out: &mut [u32])
 }
 
 // The message in place k, if there is one, after `many` others. The result says how many they are then.
-fn write_message(w: &[u16], k: usize, many: usize, out: &mut [u32]) -> usize
+pub(crate) fn write_message(w: &[u16], k: usize, many: usize, out: &mut [u32]) -> usize
     requires { ⌜ (length (now w) ≡ 6464) × (k < 64) × (many < 64) × (192 ≤ length (now out)) ⌝ }
     ensures { λ r. ⌜ now (out .exit) ≡ pick (isMessage (messageIn (now (w .entry)) k)) (sets (now (out .entry)) (3 * many) (threeOf (messageIn (now (w .entry)) k))) (now (out .entry)) ⌝ }
     ensures { λ r. ⌜ r ≡ pick (isMessage (messageIn (now (w .entry)) k)) (many + 1) many ⌝ }

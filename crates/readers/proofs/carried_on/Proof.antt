@@ -12,14 +12,10 @@ use Rattle.readers.specs.Readings.{Reading}
 use Rattle.message_words.specs.declared.Found.the-variants.{Nothing, At}
 use Rattle.message_words.specs.Places.{placeOf, foundAt}
 use Rattle.in_place.proofs.Losing.{place-in}
-use Rattle.readers.proofs.Readings.{nothing-said}
+use Rattle.readers.proofs.Readings.{told, nothing-said}
 use Rattle.readers.proofs.Carried.{carried-short, carried-missing, carried-read}
 use Rattle.readers.proofs.carried_on.Statement.{statement}
 use Rattle.readers.proofs.carried_on.Tie as tie
-
--- The answer and the list of an outcome.
-told : {r : Reading} {code : ℕ} {list : List ℕ} {q : Reading} → r ≡ q → code ≡ coded (q .report) 0 → list ≡ q .list → (code ≡ coded (r .report) 0) × (list ≡ r .list)
-told e a b = rw e (a, b)
 
 -- Where no message was found, and where one was.
 none-found : (k : ℕ) → Nothing ≡ foundAt k → k ≡ 0

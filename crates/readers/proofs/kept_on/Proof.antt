@@ -10,13 +10,9 @@ use Rattle.answers.specs.Codes.{coded, valueCode}
 use Rattle.words.specs.Layout.{word}
 use Rattle.words.proofs.ViewSound.{sound-words}
 use Rattle.readers.specs.Readings.{Reading}
-use Rattle.readers.proofs.Readings.{nothing-said, refusedBy, read, kept-short, kept-absent, kept-read}
+use Rattle.readers.proofs.Readings.{told, nothing-said, refusedBy, read, kept-short, kept-absent, kept-read}
 use Rattle.readers.proofs.kept_on.Statement.{statement}
 use Rattle.readers.proofs.kept_on.Tie as tie
-
--- The answer and the list of an outcome.
-told : {r : Reading} {code : ℕ} {list : List ℕ} {q : Reading} → r ≡ q → code ≡ coded (q .report) 0 → list ≡ q .list → (code ≡ coded (r .report) 0) × (list ≡ r .list)
-told e a b = rw e (a, b)
 
 mul-if1 : tie.Need-mul-if1
 mul-if1 c = let s = c .before .before .before in omega (arith, c .count-in .ensures, sound-words (s .args .w .now) (s .pre) .few)

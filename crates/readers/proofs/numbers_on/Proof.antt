@@ -9,13 +9,9 @@ use Rattle.whole_runs.specs.Outcomes.{accepting}
 use Rattle.answers.specs.Codes.{coded, valueCode}
 use Rattle.words.proofs.ViewSound.{sound-words}
 use Rattle.readers.specs.Readings.{Reading}
-use Rattle.readers.proofs.Readings.{nothing-said, refusedBy, read, numbers-short, numbers-read}
+use Rattle.readers.proofs.Readings.{told, nothing-said, refusedBy, read, numbers-short, numbers-read}
 use Rattle.readers.proofs.numbers_on.Statement.{statement}
 use Rattle.readers.proofs.numbers_on.Tie as tie
-
--- The answer and the list of an outcome.
-told : {r : Reading} {code : ℕ} {list : List ℕ} {q : Reading} → r ≡ q → code ≡ coded (q .report) 0 → list ≡ q .list → (code ≡ coded (r .report) 0) × (list ≡ r .list)
-told e a b = rw e (a, b)
 
 returns : tie.Need-returns
 returns c = let s = c .before .before .before .before in told (numbers-short (s .args .w .now) (s .pre) (s .args .numbers .now) (c .before .if1 .taken)) (c .refused .ensures) refl

@@ -1,0 +1,95 @@
+// The messages under way that a recovery would lose, asked before it.
+use crate::THREE;
+use crate::count_in;
+use crate::counted;
+use crate::end_in;
+use crate::refused;
+use crate::write_message;
+use model::CheckpointIndex;
+use model::Refusal;
+ghost use mathlib.Core.Path.{_≡_};
+ghost use mathlib.Core.Bool.{true, false, _&&_};
+ghost use Prim.Native.Nat.{_+_, _*_, _^_, _≤_, _<_};
+ghost use lib.Dec.{leb};
+ghost use lib.ListN.{length};
+ghost use lib.Seq.{sets};
+ghost use Rattle.laws.specs.Choice.{pick};
+ghost use Rattle.model.specs.Sound.{sound};
+ghost use Rattle.answers.specs.Codes.{coded};
+ghost use Rattle.words.specs.Layout.{word, countOf, senderAt, messageIn, isMessage, runOf};
+ghost use Rattle.sifted_words.specs.Sifted.{lostTo, SendersPresent};
+ghost use Rattle.readers.specs.Readings.{sentNumbers, lostReading};
+ghost use Rattle.readers.specs.Written.{threeOf, lostBelow};
+
+// The message in place k, if it is lost where the line has these indexes, after `many` others. The result says how many they are then.
+fn write_if_lost(
+    w: &[u16],
+    k: usize,
+    many: usize,
+    indexes: [CheckpointIndex; 16],
+    out: &mut [u32],
+) -> usize
+    requires { ⌜ (length (now w) ≡ 6464) × (k < 64) × (many < 64) × (192 ≤ length (now out)) × (isMessage (messageIn (now w) k) ≡ true → word (now w) (senderAt k) < 16) ⌝ }
+    ensures { λ r. ⌜ now (out .exit) ≡ pick (isMessage (messageIn (now (w .entry)) k) && lostTo indexes (messageIn (now (w .entry)) k)) (sets (now (out .entry)) (3 * many) (threeOf (messageIn (now (w .entry)) k))) (now (out .entry)) ⌝ }
+    ensures { λ r. ⌜ r ≡ pick (isMessage (messageIn (now (w .entry)) k) && lostTo indexes (messageIn (now (w .entry)) k)) (many + 1) many ⌝ }
+{
+    let used = message_words::is_used(w, k);
+    if !used {
+        return many;
+    }
+    let lost = sifted_words::is_lost(w, k, indexes);
+    if !lost {
+        return many;
+    }
+    write_message(w, k, many, out)
+}
+
+// The lost ones in the places before the end, three numbers each.
+fn write_lost(w: &[u16], end: usize, indexes: [CheckpointIndex; 16], out: &mut [u32]) -> usize
+    requires { ⌜ (length (now w) ≡ 6464) × (end ≤ 64) × (192 ≤ length (now out)) × SendersPresent end (now w) ⌝ }
+    ensures { λ r. ⌜ now (out .exit) ≡ sets (now (out .entry)) 0 (sentNumbers (lostBelow indexes (now (w .entry)) end)) ⌝ }
+    ensures { λ r. ⌜ r ≡ length (lostBelow indexes (now (w .entry)) end) ⌝ }
+{
+    let mut many = 0;
+    for k in 0..end {
+        let next = write_if_lost(w, k, many, indexes, out);
+        many = next;
+    }
+    many
+}
+
+// A failed set that is within the run: they are written if the line rule accepts a state of each process.
+fn lost_within(w: &[u16], n: usize, failed: u32, messages: &mut [u32]) -> u64
+    requires { ⌜ (sound (runOf (now w)) ≡ true) × (n ≡ countOf (now w)) × (leb (2 ^ n) failed ≡ false) × (192 ≤ length (now messages)) ⌝ }
+    ensures { λ r. ⌜ r ≡ coded (lostReading (runOf (now (w .entry))) failed (now (messages .entry)) .report) 0 ⌝ }
+    ensures { λ r. ⌜ now (messages .exit) ≡ lostReading (runOf (now (w .entry))) failed (now (messages .entry)) .list ⌝ }
+{
+    let limits = line_words::line::limits_of(w, n, failed);
+    let members = line_words::line::find_members(w, n, limits);
+    let all = members.all;
+    if !all {
+        return refused(Refusal::UnsoundState);
+    }
+    let pasts = members.pasts;
+    let indexes = line_words::line::indexes_of(w, n, pasts);
+    let end = end_in(w);
+    let many = write_lost(w, end, indexes, messages);
+    counted(many)
+}
+
+// Bit p of the failed set stands for process p.
+pub fn lost_on(w: &[u16], failed: u32, messages: &mut [u32]) -> u64
+    requires { ⌜ sound (runOf (now w)) ≡ true ⌝ }
+    ensures { λ r. ⌜ r ≡ coded (lostReading (runOf (now (w .entry))) failed (now (messages .entry)) .report) 0 ⌝ }
+    ensures { λ r. ⌜ now (messages .exit) ≡ lostReading (runOf (now (w .entry))) failed (now (messages .entry)) .list ⌝ }
+{
+    if messages.len() < THREE * words::MESSAGES {
+        return refused(Refusal::ListTooShort);
+    }
+    let n = count_in(w);
+    let outside = verdicts::is_outside(failed, n);
+    if outside {
+        return refused(Refusal::NoSuchFailedProcess);
+    }
+    lost_within(w, n, failed, messages)
+}
