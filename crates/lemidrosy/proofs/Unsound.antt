@@ -13,7 +13,7 @@ use Rattle.model.specs.Refusals.{number, Rule, unsound}
 use Rattle.model.specs.laws.Refusals.{refusal-in}
 use Rattle.whole_runs.specs.Outcomes.{refusing}
 use Rattle.answers.specs.Codes.{coded, valueCode}
-use Rattle.readers.specs.Readings.{Reading, reading, numbersReading, vectorReading, pinsReading, keptReading, messagesReading, carriedReading}
+use Rattle.readers.specs.Readings.{Reading, reading, numbersReading, vectorReading, pinsReading, keptReading, messagesReading, carriedReading, lostReading}
 
 -- A reading that answers 2 and leaves the lent list.
 abbrev pub Refuses : Reading → List ℕ → Type 0
@@ -47,3 +47,7 @@ module _ (s : Run) (off : sound s ≡ false) where
   pub carried-unsound : (m : ℕ) (lent : List ℕ) → Refuses (carriedReading s m lent) lent
   unfolding carriedReading
   carried-unsound m lent = refuses _ _ _ lent
+
+  pub lost-unsound : (F : ℕ) (lent : List ℕ) → Refuses (lostReading s F lent) lent
+  unfolding lostReading
+  lost-unsound F lent = refuses _ _ _ lent

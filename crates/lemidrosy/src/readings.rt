@@ -1,9 +1,10 @@
 // What is read of the words, each by one reader: what it reads goes to the front of the list that it is lent, and the rest of the list is unchanged. Refused are words
-// that stand for no sound state (2), a list that is too short (3) a process not below n (4) and a message not under way (8): then the list keeps every entry.
+// that stand for no sound state (2), a list that is too short (3), a process not below n (4), a failed set with a process not below n (7) and a message not under
+// way (8): then the list keeps every entry.
 ghost use mathlib.Core.Path.{_≡_};
 ghost use Rattle.answers.specs.Codes.{coded};
 ghost use Rattle.words.specs.Layout.{runOf};
-ghost use Rattle.readers.specs.Readings.{numbersReading, vectorReading, pinsReading, keptReading, messagesReading, carriedReading};
+ghost use Rattle.readers.specs.Readings.{numbersReading, vectorReading, pinsReading, keptReading, messagesReading, carriedReading, lostReading};
 
 // The number of the answer to words that stand for no sound state.
 const UNSOUND: u64 = 2;
@@ -86,4 +87,18 @@ pub extern "C" fn lemidrosy_carried(words: &[u16], message: u32, vector: &mut [u
         return UNSOUND;
     }
     readers::carried_on(words, message, vector)
+}
+
+// The messages under way that a recovery of a failed set would lose, bit p of which stands for process p, ascending, three numbers each as those under way. The list
+// has room for 192 numbers. The value says how many they are. It is asked before the recovery.
+#[no_mangle]
+pub extern "C" fn lemidrosy_lost(words: &[u16], failed: u32, messages: &mut [u32]) -> u64
+    ensures { λ r. ⌜ r ≡ coded (lostReading (runOf (now (words .entry))) failed (now (messages .entry)) .report) 0 ⌝ }
+    ensures { λ r. ⌜ now (messages .exit) ≡ lostReading (runOf (now (words .entry))) failed (now (messages .entry)) .list ⌝ }
+{
+    let sound = sound_words::is_sound(words);
+    if !sound {
+        return UNSOUND;
+    }
+    readers::lost::lost_on(words, failed, messages)
 }
