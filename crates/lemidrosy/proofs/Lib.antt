@@ -1,4 +1,5 @@
 -- Laws that belong to no one function.
+pub mod Merging
 pub mod Starting
 pub mod Unsound
 pub mod Verdicts

@@ -1,10 +1,24 @@
--- The verdict on a trace of another run-time as one number, for C.
+-- For C: the verdict on a trace of another run-time as one number; the answer to a merge; the figures of a simulation in a lent list.
 -- Assumes nothing.
+use mathlib.Core.List.{List, [], _∷_}
 use mathlib.Core.Option.{Option, none, some}
 use Prim.Native.Nat.{ℕ, _+_, _*_, _<_}
+use lib.Dec.{ltb}
+use lib.ListN.{length}
+use Rattle.laws.specs.Choice.{pick}
+use Rattle.model.specs.declared.MergeAnswer.{MergeAnswer}
+use Rattle.model.specs.declared.Refusal.the-variants.{ListTooShort}
+use Rattle.whole_runs.specs.Outcomes.{written, refusing, accepting}
+use Rattle.answers.specs.Codes.{coded}
+use Rattle.merges.specs.Merge.{mergeReport}
 use Rattle.patterns.specs.declared.Verdict.{Verdict}
 use Rattle.patterns.specs.declared.Verdict.the-variants.{Refused, Trackable, Breaks}
 use Rattle.patterns.specs.Verdicts.{Pair, JudgeReport, judgeReport}
+use Rattle.spacing.specs.declared.TrialAnswer.{TrialAnswer}
+use Rattle.spacing.specs.declared.TrialAnswer.the-variants as trial-answer
+use Rattle.spacing.specs.declared.TrialResult.{TrialResult}
+use Rattle.spacing.specs.Spacing.{simulated}
+use Rattle.readers.specs.Readings.{Reading}
 
 -- Bits 0 to 7 the number of the refusal, 0 if none; bit 8 whether a pair of states breaks; bits 16 to 23 the process of its near
 -- end and bits 24 to 39 that end's index; bits 40 to 47 the process of its far end and bits 48 to 63 that end's index.
@@ -23,3 +37,25 @@ unfoldable pub PairFits : Verdict → Type 0
 PairFits (Refused r) = Unit {0}
 PairFits Trackable = Unit {0}
 PairFits (Breaks a α b β) = (a < 256) × (b < 256)
+
+-- The fields of a merge's answer are those of every call's: its value says how many bytes were written.
+abbrev pub mergeCode : MergeAnswer → ℕ
+mergeCode a = coded (mergeReport a) 0
+
+-- Note 10: "deliveries, forced checkpoints, the most kept at any process after any step, and 1,000 × forced divided by deliveries as quotient and remainder"
+abbrev pub figuresOf : TrialResult → List ℕ
+figuresOf r = r .deliveries ∷ r .forced ∷ r .most ∷ r .quotient ∷ r .remainder ∷ []
+
+-- Refused, the lent list keeps every entry; accepted, the five figures stand at its front and the rest of it is unchanged.
+unfoldable pub figuresAfter : TrialAnswer → List ℕ → List ℕ → Reading
+figuresAfter (trial-answer.Refused why) numbers lent = record { report = refusing why; list = lent }
+figuresAfter trial-answer.Tried numbers lent = record { report = accepting none 0; list = written lent numbers }
+
+abbrev pub figuresWritten : TrialResult → List ℕ → Reading
+figuresWritten r lent = figuresAfter (r .answer) (figuresOf r) lent
+
+-- 3, a list with fewer than five entries, is judged before 22.
+unfoldable pub simulation : ℕ → ℕ → ℕ → ℕ → List ℕ → Reading
+simulation n k steps seed lent = pick (ltb (length lent) 5)
+    (record { report = refusing ListTooShort; list = lent })
+    (figuresWritten (simulated n k steps seed) lent)

@@ -8,5 +8,5 @@ pub mod calls;
 // readings.rt: what is read of the words
 pub mod readings;
 
-// programs.rt: the judge of a trace
+// programs.rt: the judge of a trace, the merge of two halves, a simulation
 pub mod programs;

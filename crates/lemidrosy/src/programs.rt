@@ -1,8 +1,21 @@
-// What works on no state: the judge of another run-time's trace (document 02, Note 7).
+// What works on no state: the judge of another run-time's trace (document 02, Note 7), the merge of two halves of one run (Note 12) and a simulation (Note 10).
+use answers::code_of;
+use listing::Summary;
+use listing::Value;
+use model::MergeAnswer;
 use patterns::Verdict;
+use spacing::TrialAnswer;
+use spacing::TrialResult;
 ghost use mathlib.Core.Path.{_≡_};
+ghost use mathlib.Core.Option.{none};
+ghost use Prim.Native.Nat.{_≤_};
+ghost use lib.ListN.{length};
+ghost use Rattle.answers.specs.Codes.{coded, Fits};
+ghost use Rattle.merges.specs.Halves.{OrdersAgree};
+ghost use Rattle.merges.specs.Merge.{mergeOutcome, mergeReport, MergePromise};
 ghost use Rattle.patterns.specs.Verdicts.{verdict};
-ghost use Rattle.lemidrosy.specs.Programs.{judgeCode, PairFits};
+ghost use Rattle.spacing.specs.Spacing.{trialRefusal, AgreesWithReplay};
+ghost use Rattle.lemidrosy.specs.Programs.{judgeCode, PairFits, mergeCode, figuresWritten, simulation};
 
 // What the fields of a pair that breaks are worth.
 const PAIR: u64 = 256;
@@ -37,4 +50,87 @@ pub extern "C" fn lemidrosy_judge(trace: &[u8]) -> u64
 {
     let verdict = judge_trace::judge(trace);
     verdict_code(verdict)
+}
+
+fn merge_code(a: MergeAnswer) -> u64
+    requires { ⌜ Fits (mergeReport a) ⌝ }
+    ensures { λ r. ⌜ r ≡ mergeCode a ⌝ }
+{
+    match a {
+        MergeAnswer::Refused(why) => summaries::number_of(why) as u64,
+        MergeAnswer::Merged(bytes) => {
+            let value = Value::Number(bytes as u64);
+            let said = Summary {
+                refused: 0,
+                value,
+                deletions: 0,
+            };
+            code_of(said, 0)
+        }
+    }
+}
+
+// The merge of two halves of one run, as bytes of a trace at the front of the lent list; bit p of the set says that process p belongs to the first half. The value says
+// how many bytes were written. Both halves' orders are kept, a replay of the bytes is the run of the merged calls, and any other order whose records are all accepted
+// ends the same.
+#[no_mangle]
+pub extern "C" fn lemidrosy_merge<'a>(
+    first: &'a [u8],
+    second: &'a [u8],
+    set: u32,
+    trace: &mut [u8],
+) -> u64
+    ensures { λ r. ⌜ r ≡ mergeCode (mergeOutcome (now (first .entry)) (now (second .entry)) set (now (trace .entry)) .answer) ⌝ }
+    ensures { λ r. ⌜ now (trace .exit) ≡ mergeOutcome (now (first .entry)) (now (second .entry)) set (now (trace .entry)) .buffer ⌝ }
+    ensures { λ r. ⌜ MergePromise (now (first .entry)) (now (second .entry)) set (now (trace .entry)) × OrdersAgree ⌝ }
+{
+    let answer = halves::merge(first, second, set, trace);
+    merge_code(answer)
+}
+
+// How many figures a simulation has, and the number of the answer to a list with fewer entries.
+const FIGURES: usize = 5;
+
+const LIST_TOO_SHORT: u64 = 3;
+
+// The figures of a simulation go to the front of the lent list; of one that is refused, none do.
+fn write_figures(figures: &mut [u64], result: TrialResult) -> u64
+    requires { ⌜ 5 ≤ length (now figures) ⌝ }
+    ensures { λ r. ⌜ r ≡ coded (figuresWritten result (now (figures .entry)) .report) 0 ⌝ }
+    ensures { λ r. ⌜ now (figures .exit) ≡ figuresWritten result (now (figures .entry)) .list ⌝ }
+{
+    let answer = result.answer;
+    match answer {
+        TrialAnswer::Refused(why) => summaries::number_of(why) as u64,
+        TrialAnswer::Tried => {
+            figures[0] = result.deliveries as u64;
+            figures[1] = result.forced as u64;
+            figures[2] = result.most as u64;
+            figures[3] = result.quotient as u64;
+            figures[4] = result.remainder as u64;
+            0
+        }
+    }
+}
+
+// A simulation of n processes with a checkpoint spacing, so many steps and a starting value. Five figures go to the front of the lent list: the deliveries, the forced
+// checkpoints, the most kept at any process after any step, and 1,000 times the forced checkpoints divided by the deliveries, as quotient and remainder. They are those
+// of a replay of the same events.
+#[no_mangle]
+pub extern "C" fn lemidrosy_simulate(
+    n: usize,
+    spacing: u32,
+    steps: u32,
+    seed: u32,
+    figures: &mut [u64],
+) -> u64
+    ensures { λ r. ⌜ r ≡ coded (simulation n spacing steps seed (now (figures .entry)) .report) 0 ⌝ }
+    ensures { λ r. ⌜ now (figures .exit) ≡ simulation n spacing steps seed (now (figures .entry)) .list ⌝ }
+    ensures { λ r. ⌜ (trialRefusal n spacing steps ≡ none → AgreesWithReplay n spacing steps seed) ⌝ }
+{
+    if figures.len() < FIGURES {
+        return LIST_TOO_SHORT;
+    }
+    let result = trials::simulate(n, spacing, steps, seed);
+    write_figures(figures, result)
 }
