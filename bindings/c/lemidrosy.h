@@ -30,7 +30,8 @@ enum {
     LEMIDROSY_MESSAGES = 64,   /* messages under way, at most */
     LEMIDROSY_DELETIONS = 512, /* entries of a deletion list, which is enough for every n: 2 n n are asked for */
     LEMIDROSY_NUMBERS = 5,     /* what lemidrosy_numbers writes */
-    LEMIDROSY_THREES = 192     /* what lemidrosy_messages asks for: three numbers for each of 64 messages */
+    LEMIDROSY_THREES = 192,    /* what lemidrosy_messages and lemidrosy_lost ask for: three numbers for each of 64 messages */
+    LEMIDROSY_FIGURES = 5      /* what lemidrosy_simulate writes */
 };
 
 /* An answer is one number with fields, the same for every call:
@@ -73,7 +74,7 @@ enum lemidrosy_refusal {
     LEMIDROSY_TOO_MANY_UNDER_WAY = 9,         /* a send with 64 under way */
     LEMIDROSY_MESSAGE_NUMBERS_USED = 10,      /* a send with number 1,000,000 used */
     LEMIDROSY_INTERVALS_USED = 11,            /* a checkpoint, taken or forced, where the own entry is 65,535 */
-    LEMIDROSY_NO_FIRST_BYTE = 12,             /* of a trace, and so are 13, 14 and 17 */
+    LEMIDROSY_NO_FIRST_BYTE = 12,             /* of a trace or a half, and so are 13, 14 and 17 */
     LEMIDROSY_LEFT_OVER_BYTES = 13,
     LEMIDROSY_MALFORMED_RECORD = 14,
     LEMIDROSY_BLOCK_COUNT_OUTSIDE_RANGE = 15, /* a block count outside 1 to 65,535 */
@@ -87,6 +88,9 @@ enum lemidrosy_refusal {
     LEMIDROSY_HALVES_MISMATCH = 23,           /* of a merge, and so is 24 */
     LEMIDROSY_NEITHER_READY = 24,
     LEMIDROSY_DENIED = 25                     /* of the console: the caller may not do this */
+    LEMIDROSY_TRIAL_OUTSIDE_RANGE = 22,       /* a simulation's count, spacing or number of steps */
+    LEMIDROSY_HALVES_MISMATCH = 23,           /* halves of unequal counts, or a record of a process that belongs to the other half */
+    LEMIDROSY_NEITHER_READY = 24              /* records are left, and each half waits for a send of the other */
 };
 
 /* A refusal's number in words: a text that is always there, in English, without a full stop. Any number has one. */
@@ -142,6 +146,10 @@ uint64_t lemidrosy_messages(const uint16_t *words, size_t words_length, uint32_t
 /* The n entries of the vector that a message carries. Refused with 8 too. */
 uint64_t lemidrosy_carried(const uint16_t *words, size_t words_length, uint32_t message, uint16_t *vector, size_t vector_length);
 
+/* The messages under way that a recovery of a failed set would lose, asked before it: ascending, three numbers each, as lemidrosy_messages has them. The value is how many
+   they are; the list has room for 192 numbers. The set is judged with all its 32 bits. Refused with 7 too, and with 2 where the set has no line. */
+uint64_t lemidrosy_lost(const uint16_t *words, size_t words_length, uint32_t failed, uint32_t *messages, size_t messages_length);
+
 /* The verdict on a trace of another run-time, with fields of its own: bits 0 to 7 the number of the refusal; bit 8 whether a pair of states breaks trackability; of that
    pair bits 16 to 23 the process and bits 24 to 39 the index of the near end, bits 40 to 47 the process and bits 48 to 63 the index of the far end. 0: the trace is
    trackable. It takes 0.4 MB of stack. */
@@ -159,6 +167,14 @@ static inline struct lemidrosy_verdict lemidrosy_verdict(uint64_t verdict)
     struct lemidrosy_verdict fields = {(unsigned)(verdict & 255), (bool)(verdict >> 8 & 1), (unsigned)(verdict >> 16 & 255), (unsigned)(verdict >> 24 & 65535), (unsigned)(verdict >> 40 & 255), (unsigned)(verdict >> 48)};
     return fields;
 }
+/* The merge of two halves of one run: bit p of the set says that process p belongs to the first half. The merged trace goes to the list, which has as many bytes as both
+   halves together; the value is how many bytes were written. The set is judged with all its 32 bits. Refused with 1, 3, 4, 5, 7, 12, 13, 14, 17, 23 or 24. */
+uint64_t lemidrosy_merge(const uint8_t *first, size_t first_length, const uint8_t *second, size_t second_length, uint32_t set, uint8_t *trace, size_t trace_length);
+
+/* A simulation of n processes (1 to 16), each of which takes a checkpoint after so many sends and deliveries of its own (1 to 1,000), for so many steps (1 to 30,000), with
+   a starting value. Five figures go to the list: the deliveries, the forced checkpoints, the most checkpoints that a process kept after any step, and 1,000 times the forced
+   ones divided by the deliveries, as quotient and remainder. Refused with 3 (fewer than five entries), then with 22. */
+uint64_t lemidrosy_simulate(size_t n, uint32_t spacing, uint32_t steps, uint32_t seed, uint64_t *figures, size_t figures_length);
 
 #ifdef __cplusplus
 }
