@@ -88,9 +88,6 @@ enum lemidrosy_refusal {
     LEMIDROSY_HALVES_MISMATCH = 23,           /* of a merge, and so is 24 */
     LEMIDROSY_NEITHER_READY = 24,
     LEMIDROSY_DENIED = 25                     /* of the console: the caller may not do this */
-    LEMIDROSY_TRIAL_OUTSIDE_RANGE = 22,       /* a simulation's count, spacing or number of steps */
-    LEMIDROSY_HALVES_MISMATCH = 23,           /* halves of unequal counts, or a record of a process that belongs to the other half */
-    LEMIDROSY_NEITHER_READY = 24              /* records are left, and each half waits for a send of the other */
 };
 
 /* A refusal's number in words: a text that is always there, in English, without a full stop. Any number has one. */
@@ -167,6 +164,7 @@ static inline struct lemidrosy_verdict lemidrosy_verdict(uint64_t verdict)
     struct lemidrosy_verdict fields = {(unsigned)(verdict & 255), (bool)(verdict >> 8 & 1), (unsigned)(verdict >> 16 & 255), (unsigned)(verdict >> 24 & 65535), (unsigned)(verdict >> 40 & 255), (unsigned)(verdict >> 48)};
     return fields;
 }
+
 /* The merge of two halves of one run: bit p of the set says that process p belongs to the first half. The merged trace goes to the list, which has as many bytes as both
    halves together; the value is how many bytes were written. The set is judged with all its 32 bits. Refused with 1, 3, 4, 5, 7, 12, 13, 14, 17, 23 or 24. */
 uint64_t lemidrosy_merge(const uint8_t *first, size_t first_length, const uint8_t *second, size_t second_length, uint32_t set, uint8_t *trace, size_t trace_length);

@@ -34,7 +34,7 @@ use Rattle.words.proofs.ViewSound.{sound-words, sound-part, sound-process-is}
 use Rattle.process_words.specs.Moves.{diskIn, Moves}
 use Rattle.process_words.specs.Pins.{pinRow}
 use Rattle.process_words.specs.Steps.{placesOf, unnamedIn}
-use Rattle.process_words.proofs.Stepping.{selected-blocks}
+use Rattle.step_words.proofs.Stepping.{selected-blocks}
 use Rattle.recovery_words.specs.Restored.{restoredPins, restoredPart, restoredGone, SameProcess, Restorable}
 use Rattle.recovery_words.proofs.Frame.{restored-same, gone-same, restorable-same, same-stays, same-moves}
 use Rattle.in_place.specs.Recovering.{partThen, goneThen, lossesThen, diskThen, Restored}

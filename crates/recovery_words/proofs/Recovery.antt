@@ -40,7 +40,7 @@ use Rattle.process_words.specs.Kept.{Used, AllNamed}
 use Rattle.process_words.specs.Pins.{pinRow}
 use Rattle.process_words.specs.Steps.{placesOf, unnamedIn}
 use Rattle.process_words.proofs.PinRows.{named-row, pins-row, row-pin}
-use Rattle.process_words.proofs.Stepping.{selected-blocks}
+use Rattle.step_words.proofs.Stepping.{selected-blocks}
 use Rattle.recovery_words.specs.Restored.{goesBack, restoredVector, restoredOwn, ownsAfter, restoredPins, restoredPart, restoredGone, Returns, AllReturn, Restorable}
 use Rattle.recovery_words.proofs.Found.{select-alike, select-short, found-is, found-under, known-at, pick-least, pin-pick, advanced-own}
 
