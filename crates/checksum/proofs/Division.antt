@@ -8,7 +8,7 @@ use lib.Bits.{bitXor, xor-lt}
 use lib.Dec.{eqb}
 use Rattle.laws.specs.Choice.{by-bool}
 use Rattle.laws.specs.Loops.{iter}
-use Rattle.checksum.specs.Castagnoli.{polynomial, ones, bitTaken, byteTaken, remainder, crc32c, Bytes}
+use Rattle.checksum.specs.Castagnoli.{polynomial, bitTaken, byteTaken, remainder, Bytes}
 
 -- One byte more.
 pub remainder-more : (x : ℕ) (l : List ℕ) (byte : ℕ) → remainder x (l ++ byte ∷ []) ≡ byteTaken (remainder x l) byte
@@ -47,7 +47,3 @@ pub remainder-short : (x : ℕ) (l : List ℕ) → Short x → Bytes l → Short
 unfolding remainder
 remainder-short x [] h g = h
 remainder-short x (b ∷ l) h g = remainder-short (byteTaken x b) l (byte-short x b h (g 0)) (λ k. g (suc k))
-
-pub crc-short : (l : List ℕ) → Bytes l → Short (crc32c l)
-unfolding crc32c
-crc-short l g = xor-short (remainder ones l) ones (remainder-short ones l (omega arith) g) (omega arith)
