@@ -1,0 +1,12 @@
+-- `saved_bytes::heading_bytes` meets its contract, by computation. Assumes nothing.
+use mathlib.Core.Path.{refl}
+use Rattle.saved_bytes.specs.Format.{heading}
+use Rattle.saved_bytes.proofs.heading_bytes.Statement.{statement}
+use Rattle.saved_bytes.proofs.heading_bytes.Tie as tie
+
+returns : tie.Need-returns
+unfolding heading
+returns c = refl
+
+pub heading-bytes-spec : {M : Type 1} → statement M
+heading-bytes-spec = tie.close (tie.spec returns)

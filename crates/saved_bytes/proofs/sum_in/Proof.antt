@@ -1,0 +1,19 @@
+-- `saved_bytes::sum_in` meets its contract. Assumes nothing.
+use native.Mathlib.Omega.{arith}
+use borrow.Author.Needs.{needs}
+use Rattle.saved_bytes.specs.Format.{sumIn}
+use Rattle.saved_bytes.proofs.sum_in.Statement.{statement}
+use Rattle.saved_bytes.proofs.sum_in.Tie as tie
+
+returns : tie.Need-returns
+unfolding sumIn
+returns c = omega arith
+
+pub sum-in-spec : {M : Type 1} → statement M
+sum-in-spec =
+    tie.close
+    (tie.spec
+    (λ c. search needs) (λ c κs. search needs) (λ c. search needs) (λ c. search needs) (λ c κs. search needs) (λ c. search needs) (λ c. search needs)
+    (λ c. search needs) (λ c. search needs) (λ c κs. search needs) (λ c. search needs) (λ c. search needs)
+    (λ c. search needs) (λ c. search needs) (λ c κs. search needs) (λ c. search needs) (λ c. search needs)
+    returns)
