@@ -30,16 +30,16 @@ const NUMBERS: usize = 5;
 
 pub(crate) const THREE: usize = 3;
 
-pub(crate) fn refused(why: Refusal) -> u64
+pub fn refused(why: Refusal) -> u64
     ensures { λ r. ⌜ r ≡ coded (refusing why) 0 ⌝ }
 {
     let said = summaries::refused(why);
     code_of(said, 0)
 }
 
-// So many things were read.
-pub(crate) fn counted(many: usize) -> u64
-    requires { ⌜ many ≤ 64 ⌝ }
+// So many things were read; the field of the answer has 24 bits.
+pub fn counted(many: usize) -> u64
+    requires { ⌜ many < 16777216 ⌝ }
     ensures { λ r. ⌜ r ≡ coded (accepting (some many) 0) 0 ⌝ }
 {
     let value = Value::Number(many as u64);
@@ -79,7 +79,7 @@ pub(crate) fn end_in(w: &[u16]) -> usize
 }
 
 // The n words from a place on go to the front of a lent list.
-fn copy_words(w: &[u16], at: usize, n: usize, out: &mut [u16])
+pub fn copy_words(w: &[u16], at: usize, n: usize, out: &mut [u16])
     requires { ⌜ (at + n ≤ length (now w)) × (n ≤ length (now out)) ⌝ }
     ensures { λ u. ⌜ now (out .exit) ≡ sets (now (out .entry)) 0 (wordsFrom (now (w .entry)) at n) ⌝ }
 {
