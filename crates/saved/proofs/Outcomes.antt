@@ -1,0 +1,77 @@
+-- What saving and loading answer and leave, in each of their cases.
+-- Assumes nothing.
+use mathlib.Core.Path.{_≡_, refl, sym, _∙_, ap}
+use mathlib.Core.Bool.{Bool, true, false, _&&_}
+use mathlib.Core.List.{List, [], _∷_, _++_, append-nil}
+use mathlib.Core.Option.{Option, none, some}
+use Prim.Native.Nat.{ℕ, _+_, _≤_, _<_}
+use native.Mathlib.Omega.{arith}
+use lib.Dec.{eqb, ltb}
+use lib.ListN.{length, getD, drop}
+use lib.Seq.{sets, drop-length, ext-getD}
+use borrow.Author.Tests.{lt-ltb, le-ltb, eq-eqb, ne-eqb}
+use Rattle.laws.specs.Choice.{pick, by-bool}
+use Rattle.laws.specs.Front.{written-front}
+use Rattle.laws.specs.Lists.{table}
+use Rattle.laws.specs.Tables.{length-table, getD-table}
+use Rattle.laws.specs.Truth.{and-both, and-no-right}
+use Rattle.model.specs.declared.Refusal.the-variants.{UnsoundState, ListTooShort}
+use Rattle.model.specs.Sound.{sound}
+use Rattle.whole_runs.specs.Outcomes.{accepting}
+use Rattle.answers.specs.Codes.{coded}
+use Rattle.words.specs.Layout.{runOf, word}
+use Rattle.readers.specs.Readings.{Reading}
+use Rattle.readers.specs.Written.{wordsFrom}
+use Rattle.readers.proofs.Readings.{refusedBy, read, refused-by, read-by}
+use Rattle.saved_bytes.specs.Format.{savedBytes, wordsIn, isWhole}
+use Rattle.saved.specs.Saving.{saving, loadedWords, notLoaded, loadedInto, loading}
+
+-- The answer and the list of an outcome.
+pub told : {r : Reading} {code : ℕ} {list : List ℕ} {q : Reading} → r ≡ q → code ≡ coded (q .report) 0 → list ≡ q .list → (code ≡ coded (r .report) 0) × (list ≡ r .list)
+told e a b = rw e (a, b)
+
+module _ (w lent : List ℕ) where
+  pub save-unsound : sound (runOf w) ≡ false → saving w lent ≡ refusedBy UnsoundState lent
+  unfolding saving
+  save-unsound off = refused-by _ _ _ lent UnsoundState (0, tt, rw off, refl)
+
+  pub save-short : sound (runOf w) ≡ true → length lent < 12942 → saving w lent ≡ refusedBy ListTooShort lent
+  unfolding saving
+  save-short on less = refused-by _ _ _ lent ListTooShort (1, (rw on, tt), lt-ltb (length lent) 12942 less, refl)
+
+  pub save-done : sound (runOf w) ≡ true → 12942 ≤ length lent → saving w lent ≡ read (some 12942) (savedBytes w) lent
+  unfolding saving
+  save-done on room = read-by _ _ _ lent (rw on, (le-ltb (length lent) 12942 room, tt))
+
+other-room : (o : Option (List ℕ)) (lent : List ℕ) → (length lent ≡ 6464 → ⊥) → loadedInto o lent ≡ notLoaded lent
+unfolding loadedInto
+other-room none lent off = refl
+other-room (some w) lent off = rw (ne-eqb (length lent) 6464 off)
+
+module _ (bytes lent : List ℕ) where
+  pub load-room : (length lent ≡ 6464 → ⊥) → loading bytes lent ≡ notLoaded lent
+  unfolding loading
+  load-room off = other-room (loadedWords bytes) lent off
+
+  pub load-broken : isWhole bytes ≡ false → loading bytes lent ≡ notLoaded lent
+  unfolding loading loadedWords loadedInto
+  load-broken off = rw off
+
+  pub load-unsound : isWhole bytes ≡ true → sound (runOf (wordsIn bytes)) ≡ false → loading bytes lent ≡ notLoaded lent
+  unfolding loading loadedWords loadedInto
+  load-unsound on off = rw (on, off)
+
+  pub load-done : length lent ≡ 6464 → isWhole bytes ≡ true → sound (runOf (wordsIn bytes)) ≡ true
+      → loading bytes lent ≡ record { report = accepting none 0; list = wordsIn bytes }
+  unfolding loading loadedWords loadedInto
+  load-done room on sure = rw (on, sure, eq-eqb (length lent) 6464 room)
+
+-- Words copied over as many.
+pub copied-whole : (lent w v : List ℕ) → length lent ≡ 6464 → length w ≡ 6464 → v ≡ sets lent 0 (wordsFrom w 0 6464) → v ≡ w
+copied-whole lent w v room size e =
+    let all : wordsFrom w 0 6464 ≡ w = ext-getD 0 _ w (length-table 6464 _ ∙ sym size)
+    (λ k less. let few : k < 6464 = rw (length-table 6464 (λ f. word w (0 + f))) at less in
+    let place : 0 + k ≡ k = omega arith in getD-table 6464 (λ f. word w (0 + f)) k 0 few ∙ ap (λ (n : ℕ). getD w n 0) place) in
+    let fits : length w ≤ length lent = omega arith in
+    let same : length w ≡ length lent = omega arith in
+    e ∙ ap (sets lent 0) all ∙ written-front lent w fits ∙ ap (λ (n : ℕ). w ++ drop n lent) same ∙ ap (λ (l : List ℕ). w ++ l) (drop-length lent) ∙ append-nil w

@@ -1,0 +1,44 @@
+// A state saved to bytes and loaded from them. Both ask nothing of what they are lent: specs/Saving says what is refused and what is left.
+use model::Refusal;
+use readers::copy_words;
+use readers::counted;
+use readers::refused;
+ghost use mathlib.Core.Path.{_≡_};
+ghost use Rattle.answers.specs.Codes.{coded};
+ghost use Rattle.saved.specs.Saving.{saving, loading};
+
+pub fn save(w: &[u16], bytes: &mut [u8]) -> u64
+    ensures { λ r. ⌜ r ≡ coded (saving (now (w .entry)) (now (bytes .entry)) .report) 0 ⌝ }
+    ensures { λ r. ⌜ now (bytes .exit) ≡ saving (now (w .entry)) (now (bytes .entry)) .list ⌝ }
+{
+    let sound = sound_words::is_sound(w);
+    if !sound {
+        return refused(Refusal::UnsoundState);
+    }
+    if bytes.len() < saved_bytes::SAVED {
+        return refused(Refusal::ListTooShort);
+    }
+    saved_bytes::write_saved(w, bytes);
+    counted(saved_bytes::SAVED)
+}
+
+// The words are judged where they are read to, beside the lent ones: what is refused leaves those as they were.
+pub fn load(bytes: &[u8], w: &mut [u16]) -> u64
+    ensures { λ r. ⌜ r ≡ coded (loading (now (bytes .entry)) (now (w .entry)) .report) 0 ⌝ }
+    ensures { λ r. ⌜ now (w .exit) ≡ loading (now (bytes .entry)) (now (w .entry)) .list ⌝ }
+{
+    if w.len() != words::WORDS {
+        return refused(Refusal::UnsoundState);
+    }
+    let whole = saved_bytes::is_whole(bytes);
+    if !whole {
+        return refused(Refusal::UnsoundState);
+    }
+    let held = saved_bytes::words_in(bytes);
+    let sound = sound_words::is_sound(&held);
+    if !sound {
+        return refused(Refusal::UnsoundState);
+    }
+    copy_words(&held, 0, words::WORDS, w);
+    0
+}
