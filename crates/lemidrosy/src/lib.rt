@@ -8,5 +8,8 @@ pub mod calls;
 // readings.rt: what is read of the words
 pub mod readings;
 
+// saving.rt: a state as bytes
+pub mod saving;
+
 // programs.rt: the judge of a trace, the merge of two halves, a simulation
 pub mod programs;
