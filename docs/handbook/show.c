@@ -39,11 +39,13 @@ static void show_line(unsigned n, unsigned failed)
 {
     uint16_t line[LEMIDROSY_PROCESSES];
     lemidrosy_line(words, LEMIDROSY_WORDS, failed, line, LEMIDROSY_PROCESSES);
-    printf("if");
+    const char *before = "if ";
     for (unsigned p = 0; p < n; p++)
-        if (failed >> p & 1)
-            printf(" %u", p);
-    printf(" fails: line");
+        if (failed >> p & 1) {
+            printf("%s%u", before, p);
+            before = " and ";
+        }
+    printf((failed & (failed - 1)) == 0 ? " fails: line" : " fail: line");
     for (unsigned p = 0; p < n; p++)
         printf(" %u", line[p]);
     printf("\n");
