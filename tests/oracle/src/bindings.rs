@@ -60,7 +60,7 @@ const OTHERS: [(&str, &[usize]); 6] = [
 ];
 
 /// How many calls a run has, more or less, and every how many runs the state is
-/// stored.
+/// stored behind the first.
 const LENGTH: u64 = 200;
 const STORED: u64 = 10;
 
@@ -159,7 +159,7 @@ impl Writer {
 
     /// The state is stored, and what is then read of it is asked for.
     fn store(&mut self) -> u64 {
-        if !self.draws.once_in(STORED) {
+        if self.stored > 0 && !self.draws.once_in(STORED) {
             return 0;
         }
         let Some(run) = self.run.clone() else {

@@ -1,0 +1,293 @@
+/* Makes the calls on standard input through the header for C and prints the answers: README.md has the lines. */
+#define _POSIX_C_SOURCE 200809L
+#include <stdio.h>
+#include <stdlib.h>
+#include <string.h>
+
+#include "lemidrosy.h"
+
+/* The words of the state; the word of the line that comes next, null at its end. */
+static uint16_t *words;
+static size_t size;
+static char *next;
+
+static char *take_word(void)
+{
+    char *word = next;
+    if (word == NULL)
+        exit(2);
+    next = strchr(word, ' ');
+    if (next != NULL)
+        *next++ = 0;
+    return word;
+}
+
+static uint64_t number(void) { return strtoull(take_word(), NULL, 10); }
+
+static void no_memory(const void *got)
+{
+    if (got == NULL)
+        exit(3);
+}
+
+/* Words that are zero. */
+static uint16_t *zeros(size_t many)
+{
+    uint16_t *got = calloc(many + 1, sizeof *got);
+    no_memory(got);
+    return got;
+}
+
+static void use(uint16_t *other, size_t many)
+{
+    free(words);
+    words = other;
+    size = many;
+}
+
+static uint8_t *bytes(size_t *length)
+{
+    const char *digits = take_word();
+    size_t many = strcmp(digits, "-") == 0 ? 0 : strlen(digits) / 2;
+    uint8_t *got = malloc(many + 1);
+    no_memory(got);
+    for (size_t k = 0; k < many; k++) {
+        char two[3] = {digits[2 * k], digits[2 * k + 1], 0};
+        got[k] = (uint8_t)strtoul(two, NULL, 16);
+    }
+    *length = many;
+    return got;
+}
+
+/* Numbers in groups, of 16 and of 32 bits. */
+static void say16(const uint16_t *list, size_t many, size_t group)
+{
+    for (size_t k = 0; k < many; k++)
+        printf("%c%u", k % group == 0 ? ' ' : ':', list[k]);
+}
+
+static void say32(const uint32_t *list, size_t many, size_t group)
+{
+    for (size_t k = 0; k < many; k++)
+        printf("%c%u", k % group == 0 ? ' ' : ':', list[k]);
+}
+
+/* Begins the line of an answer; whether the call was accepted. */
+static bool accepted(unsigned refused)
+{
+    printf("%u", refused);
+    return refused == 0;
+}
+
+static size_t count(void)
+{
+    uint64_t numbers[LEMIDROSY_NUMBERS];
+    return lemidrosy_refused(lemidrosy_numbers(words, size, numbers, LEMIDROSY_NUMBERS)) == 0 ? (size_t)numbers[0] : 0;
+}
+
+/* An answer with a row of n entries. */
+static void say_row(uint64_t answer, const uint16_t *row)
+{
+    if (accepted(lemidrosy_answer(answer).refused))
+        say16(row, count(), 1);
+}
+
+static void start(void)
+{
+    uint32_t counts[256];
+    size_t n = 0;
+    while (next != NULL)
+        counts[n++] = (uint32_t)number();
+    uint16_t *fresh = zeros(LEMIDROSY_WORDS);
+    if (accepted(lemidrosy_refused(lemidrosy_start(fresh, LEMIDROSY_WORDS, n, counts, n))))
+        use(fresh, LEMIDROSY_WORDS);
+    else
+        free(fresh);
+}
+
+static void checkpoint(void)
+{
+    uint16_t deleted[LEMIDROSY_DELETIONS];
+    struct lemidrosy_answer got = lemidrosy_answer(lemidrosy_checkpoint(words, size, (size_t)number(), deleted, LEMIDROSY_DELETIONS));
+    if (!accepted(got.refused))
+        return;
+    printf(" %u", got.value);
+    say16(deleted, 2 * got.deletions, 2);
+}
+
+static void send_one(void)
+{
+    size_t sender = (size_t)number(), receiver = (size_t)number();
+    struct lemidrosy_answer got = lemidrosy_answer(lemidrosy_send(words, size, sender, receiver));
+    if (accepted(got.refused))
+        printf(" %u", got.value);
+}
+
+static void deliver(void)
+{
+    uint16_t deleted[LEMIDROSY_DELETIONS];
+    struct lemidrosy_answer got = lemidrosy_answer(lemidrosy_deliver(words, size, (uint32_t)number(), deleted, LEMIDROSY_DELETIONS));
+    if (!accepted(got.refused))
+        return;
+    if (got.has_value)
+        printf(" %u %u", got.value, got.rose);
+    else
+        printf(" - %u", got.rose);
+    say16(deleted, 2 * got.deletions, 2);
+}
+
+static void lose(void) { accepted(lemidrosy_refused(lemidrosy_lose(words, size, (uint32_t)number()))); }
+
+static void line(void)
+{
+    uint16_t row[LEMIDROSY_PROCESSES];
+    uint64_t got = lemidrosy_line(words, size, (uint32_t)number(), row, LEMIDROSY_PROCESSES);
+    say_row(got, row);
+}
+
+/* The next word, a pair. */
+static void pair(uint32_t two[2])
+{
+    char *second, *word = take_word();
+    two[0] = (uint32_t)strtoul(word, &second, 10);
+    two[1] = (uint32_t)strtoul(second + 1, NULL, 10);
+}
+
+static void earliest(void)
+{
+    uint32_t named[256];
+    uint16_t row[LEMIDROSY_PROCESSES];
+    size_t many = 0;
+    for (; next != NULL; many += 2)
+        pair(named + many);
+    say_row(lemidrosy_earliest(words, size, named, many, row, LEMIDROSY_PROCESSES), row);
+}
+
+static void is_sound(void) { printf("0 %d", lemidrosy_is_sound(words, size)); }
+
+static void numbers(void)
+{
+    uint64_t read[LEMIDROSY_NUMBERS];
+    if (!accepted(lemidrosy_refused(lemidrosy_numbers(words, size, read, LEMIDROSY_NUMBERS))))
+        return;
+    for (size_t k = 0; k < LEMIDROSY_NUMBERS; k++)
+        printf(" %llu", (unsigned long long)read[k]);
+}
+
+static void vector(void)
+{
+    uint16_t row[LEMIDROSY_PROCESSES];
+    uint64_t got = lemidrosy_vector(words, size, (size_t)number(), row, LEMIDROSY_PROCESSES);
+    say_row(got, row);
+}
+
+static void pins(void)
+{
+    uint16_t row[LEMIDROSY_PROCESSES];
+    if (!accepted(lemidrosy_refused(lemidrosy_pins(words, size, (size_t)number(), row, LEMIDROSY_PROCESSES))))
+        return;
+    size_t n = count();
+    for (size_t f = 0; f < n; f++)
+        if (row[f] == 0)
+            printf(" -");
+        else
+            printf(" %d", row[f] - 1);
+}
+
+static void kept(void)
+{
+    uint32_t list[3 * LEMIDROSY_PROCESSES];
+    struct lemidrosy_answer got = lemidrosy_answer(lemidrosy_kept(words, size, (size_t)number(), list, 3 * LEMIDROSY_PROCESSES));
+    if (accepted(got.refused))
+        say32(list, 3 * got.value, 3);
+}
+
+static void messages(void)
+{
+    uint32_t list[LEMIDROSY_THREES];
+    struct lemidrosy_answer got = lemidrosy_answer(lemidrosy_messages(words, size, list, LEMIDROSY_THREES));
+    if (accepted(got.refused))
+        say32(list, 3 * got.value, 3);
+}
+
+static void carried(void)
+{
+    uint16_t row[LEMIDROSY_PROCESSES];
+    uint64_t got = lemidrosy_carried(words, size, (uint32_t)number(), row, LEMIDROSY_PROCESSES);
+    say_row(got, row);
+}
+
+static void spread(void)
+{
+    size_t many = (size_t)number();
+    use(zeros(many), many);
+    while (next != NULL) {
+        uint32_t place[2];
+        pair(place);
+        words[place[0]] = (uint16_t)place[1];
+    }
+    accepted(0);
+}
+
+static void dump(void)
+{
+    FILE *file = fopen(take_word(), "wb");
+    bool done = file != NULL && fwrite(words, sizeof *words, size, file) == size;
+    if (file == NULL || fclose(file) != 0 || !done)
+        exit(4);
+    accepted(0);
+}
+
+static void take(void)
+{
+    FILE *file = fopen(take_word(), "rb");
+    uint16_t *fresh = zeros(LEMIDROSY_WORDS);
+    if (file == NULL || fread(fresh, sizeof *fresh, LEMIDROSY_WORDS, file) != LEMIDROSY_WORDS)
+        exit(4);
+    fclose(file);
+    use(fresh, LEMIDROSY_WORDS);
+    accepted(0);
+}
+
+static void judge(void)
+{
+    size_t length;
+    uint8_t *trace = bytes(&length);
+    struct lemidrosy_verdict got = lemidrosy_verdict(lemidrosy_judge(trace, length));
+    free(trace);
+    if (accepted(got.refused) && got.breaks)
+        printf(" %u:%u %u:%u", got.near_process, got.near_index, got.far_process, got.far_index);
+}
+
+static const struct {
+    const char *name;
+    void (*make)(void);
+} calls[] = {
+    {"start", start}, {"checkpoint", checkpoint}, {"send", send_one}, {"deliver", deliver}, {"lose", lose}, {"line", line}, {"earliest", earliest},
+    {"is_sound", is_sound}, {"numbers", numbers}, {"vector", vector}, {"pins", pins}, {"kept", kept}, {"messages", messages}, {"carried", carried},
+    {"words", spread}, {"dump", dump}, {"take", take}, {"judge", judge},
+};
+
+int main(void)
+{
+    char *text = NULL;
+    size_t room = 0;
+    ssize_t length;
+    use(zeros(0), 0);
+    while ((length = getline(&text, &room, stdin)) > 0) {
+        if (text[length - 1] == '\n')
+            text[length - 1] = 0;
+        next = text;
+        const char *name = take_word();
+        size_t k = 0;
+        while (k < sizeof calls / sizeof calls[0] && strcmp(calls[k].name, name) != 0)
+            k++;
+        if (k == sizeof calls / sizeof calls[0])
+            return fprintf(stderr, "no such call: %s\n", name), 1;
+        calls[k].make();
+        putchar('\n');
+    }
+    free(text);
+    free(words);
+    return 0;
+}

@@ -1,0 +1,439 @@
+! Makes the calls on standard input through the module for Fortran and prints the answers: README.md has the lines.
+module lines
+    use, intrinsic :: iso_c_binding, only: c_int8_t, c_int16_t, c_int32_t, c_int64_t
+    use, intrinsic :: iso_fortran_env, only: input_unit, iostat_end, iostat_eor
+    implicit none
+
+    ! The line that is read and how far it was taken apart; the answer that is being written.
+    character(len=:), allocatable :: line, answer
+    integer :: line_length, at, answer_length
+
+contains
+
+    ! The next line; false at the end of the input.
+    function next_line() result(there)
+        logical :: there
+        character(len=4096) :: part
+        integer :: status, many
+
+        line_length = 0
+        at = 1
+        do
+            read (input_unit, '(a)', advance='no', size=many, iostat=status) part
+            if (status == iostat_end) exit
+            call append(line, line_length, part(:many))
+            if (status == iostat_eor) exit
+            if (status /= 0) error stop "the input cannot be read"
+        end do
+        there = status /= iostat_end
+    end function
+
+    subroutine append(text, length, more)
+        character(len=:), allocatable, intent(inout) :: text
+        integer, intent(inout) :: length
+        character(len=*), intent(in) :: more
+        character(len=:), allocatable :: wider
+
+        if (.not. allocated(text)) allocate (character(len=65536) :: text)
+        if (length + len(more) > len(text)) then
+            allocate (character(len=2 * (length + len(more))) :: wider)
+            wider(:length) = text(:length)
+            call move_alloc(wider, text)
+        end if
+        text(length + 1:length + len(more)) = more
+        length = length + len(more)
+    end subroutine
+
+    ! Whether the line has another word.
+    function has_word() result(has)
+        logical :: has
+
+        has = at <= line_length
+    end function
+
+    ! Where the next word of the line ends, and where the one behind it begins.
+    subroutine take_word(first, last)
+        integer, intent(out) :: first, last
+
+        first = at
+        last = first - 1
+        do while (last < line_length)
+            if (line(last + 1:last + 1) == ' ') exit
+            last = last + 1
+        end do
+        at = last + 2
+    end subroutine
+
+    function next_word() result(word)
+        character(len=:), allocatable :: word
+        integer :: first, last
+
+        call take_word(first, last)
+        word = line(first:last)
+    end function
+
+    ! The next word as a number, or one above those of 32 bits if it is greater.
+    function next_number() result(number)
+        integer(c_int64_t) :: number
+        integer :: first, last
+
+        call take_word(first, last)
+        number = number_of(line(first:last))
+    end function
+
+    pure function number_of(digits) result(number)
+        character(len=*), intent(in) :: digits
+        integer(c_int64_t) :: number
+        integer :: k
+
+        number = 0
+        do k = 1, len(digits)
+            number = min(10 * number + iachar(digits(k:k)) - iachar('0'), 4294967296_c_int64_t)
+        end do
+    end function
+
+    ! The next word, a pair P:K, as two numbers.
+    subroutine next_pair(left, right)
+        integer(c_int64_t), intent(out) :: left, right
+        integer :: first, last, between
+
+        call take_word(first, last)
+        between = first - 1 + index(line(first:last), ':')
+        left = number_of(line(first:between - 1))
+        right = number_of(line(between + 1:last))
+    end subroutine
+
+    ! The bits of a number of 32 bits without a sign.
+    pure function bits(number) result(signed)
+        integer(c_int64_t), intent(in) :: number
+        integer(c_int32_t) :: signed
+
+        signed = int(merge(number - 4294967296_c_int64_t, number, number > 2147483647_c_int64_t), c_int32_t)
+    end function
+
+    ! The next word as a number of 32 bits without a sign.
+    function next_bits() result(number)
+        integer(c_int32_t) :: number
+
+        number = bits(next_number())
+    end function
+
+    ! The next word as bytes.
+    function next_bytes() result(bytes)
+        integer(c_int8_t), allocatable :: bytes(:)
+        integer :: first, last, k, byte
+
+        call take_word(first, last)
+        if (line(first:last) == '-') last = first - 1
+        allocate (bytes((last - first + 1) / 2))
+        do k = 1, size(bytes)
+            byte = 16 * digit(line(first + 2 * k - 2:first + 2 * k - 2)) + digit(line(first + 2 * k - 1:first + 2 * k - 1))
+            bytes(k) = int(merge(byte - 256, byte, byte > 127), c_int8_t)
+        end do
+    end function
+
+    pure function digit(letter) result(value)
+        character, intent(in) :: letter
+        integer :: value
+
+        value = index('0123456789abcdef', letter) - 1
+    end function
+
+    ! A number, or a hyphen, behind a space.
+    subroutine say(number)
+        integer(c_int64_t), intent(in) :: number
+
+        call append(answer, answer_length, ' ' // digits_of(number))
+    end subroutine
+
+    subroutine say_index(index_plus_one)
+        integer(c_int32_t), intent(in) :: index_plus_one
+
+        if (index_plus_one == 0) then
+            call append(answer, answer_length, ' -')
+        else
+            call say(int(index_plus_one - 1, c_int64_t))
+        end if
+    end subroutine
+
+    subroutine say_all(numbers)
+        integer(c_int32_t), intent(in) :: numbers(:)
+        integer :: k
+
+        do k = 1, size(numbers)
+            call say(int(numbers(k), c_int64_t))
+        end do
+    end subroutine
+
+    ! Numbers in groups of so many.
+    subroutine say_groups(numbers, many)
+        integer(c_int32_t), intent(in) :: numbers(:)
+        integer, intent(in) :: many
+        integer :: k
+
+        do k = 1, size(numbers)
+            call append(answer, answer_length, merge(' ', ':', mod(k - 1, many) == 0) // digits_of(int(numbers(k), c_int64_t)))
+        end do
+    end subroutine
+
+    function digits_of(number) result(digits)
+        integer(c_int64_t), intent(in) :: number
+        character(len=:), allocatable :: digits
+        character(len=20) :: room
+
+        write (room, '(i0)') number
+        digits = trim(room)
+    end function
+end module
+
+program driver
+    use lemidrosy
+    use lines
+    implicit none
+    integer(c_int16_t), allocatable :: words(:)
+
+    allocate (words(0))
+    do while (next_line())
+        answer_length = 0
+        call append(answer, answer_length, '0')
+        call make(next_word())
+        print '(a)', answer(:answer_length)
+    end do
+
+contains
+
+    subroutine make(call_name)
+        character(len=*), intent(in) :: call_name
+
+        select case (call_name)
+        case ('start')
+            call start()
+        case ('checkpoint', 'vector', 'pins', 'kept')
+            call of_process(call_name)
+        case ('send')
+            call send()
+        case ('deliver', 'lose', 'carried')
+            call of_message(call_name, next_bits())
+        case ('line')
+            call of_set(call_name, next_bits())
+        case ('earliest')
+            call earliest()
+        case ('is_sound')
+            call say(merge(1_c_int64_t, 0_c_int64_t, lemidrosy_is_sound(words)))
+        case ('numbers')
+            call numbers()
+        case ('messages')
+            call messages()
+        case ('words')
+            call spread()
+        case ('dump', 'take')
+            call stored(call_name, next_word())
+        case ('judge')
+            call judge(next_bytes())
+        case default
+            error stop 'no such call'
+        end select
+    end subroutine
+
+    ! The answer is the number of the refusal, if the call was refused.
+    function accepted(refused) result(is)
+        integer(c_int32_t), intent(in) :: refused
+        logical :: is
+
+        is = refused == 0
+        if (.not. is) then
+            answer_length = 0
+            call append(answer, answer_length, digits_of(int(refused, c_int64_t)))
+        end if
+    end function
+
+    ! A process as the module takes it: any number of 31 bits. Others cannot be said, and the answer is a hyphen.
+    function can_say(process) result(can)
+        integer(c_int64_t), intent(in) :: process
+        logical :: can
+
+        can = process <= 2147483647_c_int64_t
+        if (.not. can) then
+            answer_length = 0
+            call append(answer, answer_length, '-')
+        end if
+    end function
+
+    subroutine start()
+        integer(c_int16_t), allocatable :: fresh(:)
+        integer(c_int32_t) :: counts(256)
+        type(lemidrosy_answer) :: got
+        integer :: n
+
+        n = 0
+        do while (has_word())
+            n = n + 1
+            counts(n) = next_bits()
+        end do
+        allocate (fresh(lemidrosy_words))
+        got = lemidrosy_start(fresh, n, counts(:n))
+        if (accepted(got%refused)) call move_alloc(fresh, words)
+    end subroutine
+
+    subroutine of_process(call_name)
+        character(len=*), intent(in) :: call_name
+        integer(c_int64_t) :: asked
+        integer(c_int32_t) :: process, deleted(lemidrosy_deletions_size), row(lemidrosy_max_processes), kept(lemidrosy_kept_size)
+        type(lemidrosy_answer) :: got
+        integer :: k
+
+        asked = next_number()
+        if (.not. can_say(asked)) return
+        process = int(asked, c_int32_t)
+        select case (call_name)
+        case ('checkpoint')
+            got = lemidrosy_checkpoint(words, process, deleted)
+            if (.not. accepted(got%refused)) return
+            call say(int(got%value, c_int64_t))
+            call say_groups(deleted(:2 * got%deletions), 2)
+        case ('vector')
+            got = lemidrosy_vector(words, process, row)
+            if (accepted(got%refused)) call say_all(row(:count_of()))
+        case ('pins')
+            got = lemidrosy_pins(words, process, row)
+            if (.not. accepted(got%refused)) return
+            do k = 1, count_of()
+                call say_index(row(k))
+            end do
+        case ('kept')
+            got = lemidrosy_kept(words, process, kept)
+            if (accepted(got%refused)) call say_groups(kept(:3 * got%value), 3)
+        end select
+    end subroutine
+
+    ! How many processes the run has.
+    function count_of() result(n)
+        integer :: n
+        integer(c_int64_t) :: read(lemidrosy_numbers_size)
+        type(lemidrosy_answer) :: got
+
+        got = lemidrosy_numbers(words, read)
+        if (got%refused /= 0) error stop 'no numbers of a sound state'
+        n = int(read(1))
+    end function
+
+    subroutine send()
+        integer(c_int64_t) :: sender, receiver
+        type(lemidrosy_answer) :: got
+
+        sender = next_number()
+        receiver = next_number()
+        if (.not. can_say(max(sender, receiver))) return
+        got = lemidrosy_send(words, int(sender, c_int32_t), int(receiver, c_int32_t))
+        if (accepted(got%refused)) call say(int(got%value, c_int64_t))
+    end subroutine
+
+    subroutine of_message(call_name, message)
+        character(len=*), intent(in) :: call_name
+        integer(c_int32_t), intent(in) :: message
+        integer(c_int32_t) :: deleted(lemidrosy_deletions_size), row(lemidrosy_max_processes)
+        type(lemidrosy_answer) :: got
+
+        select case (call_name)
+        case ('deliver')
+            got = lemidrosy_deliver(words, message, deleted)
+            if (.not. accepted(got%refused)) return
+            call say_index(merge(got%value + 1, 0, got%has_value))
+            call say(int(got%rose, c_int64_t))
+            call say_groups(deleted(:2 * got%deletions), 2)
+        case ('lose')
+            got = lemidrosy_lose(words, message)
+            if (.not. accepted(got%refused)) return
+        case ('carried')
+            got = lemidrosy_carried(words, message, row)
+            if (accepted(got%refused)) call say_all(row(:count_of()))
+        end select
+    end subroutine
+
+    subroutine of_set(call_name, failed)
+        character(len=*), intent(in) :: call_name
+        integer(c_int32_t), intent(in) :: failed
+        integer(c_int32_t) :: row(lemidrosy_max_processes)
+        type(lemidrosy_answer) :: got
+
+        select case (call_name)
+        case ('line')
+            got = lemidrosy_line(words, failed, row)
+            if (accepted(got%refused)) call say_all(row(:count_of()))
+        end select
+    end subroutine
+
+    subroutine earliest()
+        integer(c_int32_t) :: named(256), row(lemidrosy_max_processes)
+        integer(c_int64_t) :: process, checkpoint
+        type(lemidrosy_answer) :: got
+        integer :: many
+
+        many = 0
+        do while (has_word())
+            call next_pair(process, checkpoint)
+            named(many + 1) = bits(process)
+            named(many + 2) = bits(checkpoint)
+            many = many + 2
+        end do
+        got = lemidrosy_earliest(words, named(:many), row)
+        if (accepted(got%refused)) call say_all(row(:count_of()))
+    end subroutine
+
+    subroutine numbers()
+        integer(c_int64_t) :: read(lemidrosy_numbers_size)
+        type(lemidrosy_answer) :: got
+        integer :: k
+
+        got = lemidrosy_numbers(words, read)
+        if (.not. accepted(got%refused)) return
+        do k = 1, size(read)
+            call say(read(k))
+        end do
+    end subroutine
+
+    subroutine messages()
+        integer(c_int32_t) :: list(lemidrosy_messages_size)
+        type(lemidrosy_answer) :: got
+
+        got = lemidrosy_messages(words, list)
+        if (accepted(got%refused)) call say_groups(list(:3 * got%value), 3)
+    end subroutine
+
+    ! Words that are zero but in some places.
+    subroutine spread()
+        integer(c_int64_t) :: place, word
+
+        deallocate (words)
+        allocate (words(next_number()))
+        words = 0
+        do while (has_word())
+            call next_pair(place, word)
+            words(place + 1) = int(merge(word - 65536, word, word > 32767), c_int16_t)
+        end do
+    end subroutine
+
+    subroutine stored(call_name, file)
+        character(len=*), intent(in) :: call_name, file
+        integer :: unit
+
+        open (newunit=unit, file=file, access='stream', form='unformatted')
+        if (call_name == 'dump') then
+            write (unit) words
+        else
+            deallocate (words)
+            allocate (words(lemidrosy_words))
+            read (unit) words
+        end if
+        close (unit)
+    end subroutine
+
+    subroutine judge(trace)
+        integer(c_int8_t), intent(in) :: trace(:)
+        type(lemidrosy_verdict) :: got
+
+        got = lemidrosy_judge(trace)
+        if (.not. accepted(got%refused)) return
+        if (got%breaks) call say_groups([got%near_process, got%near_index, got%far_process, got%far_index], 2)
+    end subroutine
+end program

@@ -1,0 +1,160 @@
+//! Makes the calls on standard input through the binding for Rust and prints the
+//! answers: README.md has the lines.
+
+use lemidrosy::{judge, Checkpoint, Message, Refusal, Run, Verdict};
+use std::fmt::Display;
+use std::io::{self, BufRead, BufWriter, Write};
+
+fn main() -> io::Result<()> {
+    let mut output = BufWriter::new(io::stdout().lock());
+    let mut run = Run::from_words(&[]);
+    for line in io::stdin().lock().lines() {
+        let line = line?;
+        let mut words = line.split(' ');
+        let call = words.next().unwrap_or("");
+        let words: Vec<&str> = words.collect();
+        match answer(&mut run, call, &words)? {
+            Ok(more) => writeln!(output, "0{more}")?,
+            Err(refusal) => writeln!(output, "{}", refusal.number())?,
+        }
+    }
+    output.flush()
+}
+
+/// What is said behind the 0 of an accepted call.
+fn answer(run: &mut Run, call: &str, words: &[&str]) -> io::Result<Result<String, Refusal>> {
+    match call {
+        "dump" => return dump(run, words[0]).map(Ok),
+        "take" => {
+            *run = take(words[0])?;
+            return Ok(Ok(String::new()));
+        }
+        _ => {}
+    }
+    Ok(made(run, call, words))
+}
+
+fn made(run: &mut Run, call: &str, words: &[&str]) -> Result<String, Refusal> {
+    let mut line = String::new();
+    match call {
+        "start" => *run = Run::start(&numbers(words))?,
+        "words" => *run = Run::from_words(&spread(words)),
+        "checkpoint" => {
+            let stored = run.checkpoint(number(words, 0))?;
+            spell(&mut line, [stored.index]);
+            spell(&mut line, pairs(&stored.deleted));
+        }
+        "send" => spell(&mut line, [run.send(number(words, 0), number(words, 1))?]),
+        "deliver" => {
+            let delivered = run.deliver(number(words, 0))?;
+            spell(&mut line, [or_none(delivered.forced)]);
+            spell(&mut line, [delivered.rose]);
+            spell(&mut line, pairs(&delivered.deleted));
+        }
+        "lose" => run.lose(number(words, 0))?,
+        "line" => spell(&mut line, run.line(number(words, 0))?),
+        "earliest" => spell(&mut line, run.earliest(&named(words))?),
+        "is_sound" => spell(&mut line, [u8::from(run.is_sound())]),
+        "numbers" => {
+            let numbers = run.numbers()?;
+            spell(&mut line, [numbers.processes]);
+            spell(&mut line, [numbers.last_message]);
+            spell(&mut line, [numbers.under_way]);
+            spell(&mut line, [numbers.written, numbers.deleted]);
+        }
+        "vector" => spell(&mut line, run.vector(number(words, 0))?),
+        "pins" => spell(
+            &mut line,
+            run.pins(number(words, 0))?.into_iter().map(or_none),
+        ),
+        "kept" => {
+            let kept = run.kept(number(words, 0))?;
+            let three = kept
+                .iter()
+                .map(|one| format!("{}:{}:{}", one.index, one.cause as u8, one.blocks));
+            spell(&mut line, three);
+        }
+        "messages" => spell(&mut line, run.messages()?.into_iter().map(three)),
+        "carried" => spell(&mut line, run.carried(number(words, 0))?),
+        "judge" => match judge(&bytes(words[0]))? {
+            Verdict::Trackable => {}
+            Verdict::Breaks { near, far } => spell(&mut line, pairs(&[near, far])),
+        },
+        _ => panic!("no such call: {call}"),
+    }
+    Ok(line)
+}
+
+fn spell<T: Display>(line: &mut String, words: impl IntoIterator<Item = T>) {
+    for word in words {
+        line.push_str(&format!(" {word}"));
+    }
+}
+
+fn pairs(checkpoints: &[Checkpoint]) -> Vec<String> {
+    checkpoints
+        .iter()
+        .map(|(process, index)| format!("{process}:{index}"))
+        .collect()
+}
+
+fn three(message: Message) -> String {
+    format!("{}:{}:{}", message.number, message.sender, message.receiver)
+}
+
+fn or_none(index: Option<u16>) -> String {
+    index.map_or("-".to_string(), |index| index.to_string())
+}
+
+fn number<T: std::str::FromStr>(words: &[&str], place: usize) -> T {
+    words[place]
+        .parse()
+        .unwrap_or_else(|_| panic!("no number: {}", words[place]))
+}
+
+fn numbers(words: &[&str]) -> Vec<u32> {
+    (0..words.len()).map(|place| number(words, place)).collect()
+}
+
+fn named(words: &[&str]) -> Vec<(u32, u32)> {
+    words.iter().map(|pair| split(pair)).collect()
+}
+
+fn split<T: std::str::FromStr>(pair: &str) -> (T, T) {
+    let (first, second) = pair.split_once(':').expect("a pair");
+    (number(&[first], 0), number(&[second], 0))
+}
+
+/// Words that are zero but in some places.
+fn spread(words: &[&str]) -> Vec<u16> {
+    let mut all = vec![0; number(words, 0)];
+    for pair in &words[1..] {
+        let (place, word): (usize, usize) = split(pair);
+        all[place] = word as u16;
+    }
+    all
+}
+
+fn bytes(digits: &str) -> Vec<u8> {
+    let places = (0..digits.len() / 2).map(|k| &digits[2 * k..2 * k + 2]);
+    places
+        .map(|two| u8::from_str_radix(two, 16).expect("two digits"))
+        .collect()
+}
+
+fn dump(run: &Run, name: &str) -> io::Result<String> {
+    let bytes: Vec<u8> = run
+        .words()
+        .iter()
+        .flat_map(|word| word.to_le_bytes())
+        .collect();
+    std::fs::write(name, bytes)?;
+    Ok(String::new())
+}
+
+fn take(name: &str) -> io::Result<Run> {
+    let bytes = std::fs::read(name)?;
+    let word = |pair: &[u8]| u16::from_le_bytes([pair[0], pair[1]]);
+    let words: Vec<u16> = bytes.chunks_exact(2).map(word).collect();
+    Ok(Run::from_words(&words))
+}
