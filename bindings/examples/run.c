@@ -4,8 +4,7 @@
 
 static uint16_t words[LEMIDROSY_WORDS];
 
-int main(void)
-{
+int main(void) {
     uint32_t counts[3] = {1, 1, 1}, messages[LEMIDROSY_THREES];
     uint16_t deleted[LEMIDROSY_DELETIONS], line[3];
     lemidrosy_start(words, LEMIDROSY_WORDS, 3, counts, 3);
