@@ -29,8 +29,7 @@ static const char *const texts[] = {
     [LEMIDROSY_DENIED] = "the caller may not do this",
 };
 
-const char *lemidrosy_refusal_text(unsigned number)
-{
+const char *lemidrosy_refusal_text(unsigned number) {
     if (number < sizeof texts / sizeof texts[0] && texts[number] != NULL)
         return texts[number];
     return "no refusal has this number";

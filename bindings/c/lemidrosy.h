@@ -55,8 +55,7 @@ struct lemidrosy_answer {
     unsigned rose;
 };
 
-static inline struct lemidrosy_answer lemidrosy_answer(uint64_t answer)
-{
+static inline struct lemidrosy_answer lemidrosy_answer(uint64_t answer) {
     struct lemidrosy_answer fields = {lemidrosy_refused(answer), lemidrosy_deletions(answer), lemidrosy_has_value(answer), lemidrosy_value(answer), lemidrosy_rose(answer)};
     return fields;
 }
@@ -159,8 +158,7 @@ struct lemidrosy_verdict {
     unsigned near_process, near_index, far_process, far_index;
 };
 
-static inline struct lemidrosy_verdict lemidrosy_verdict(uint64_t verdict)
-{
+static inline struct lemidrosy_verdict lemidrosy_verdict(uint64_t verdict) {
     struct lemidrosy_verdict fields = {(unsigned)(verdict & 255), (bool)(verdict >> 8 & 1), (unsigned)(verdict >> 16 & 255), (unsigned)(verdict >> 24 & 65535), (unsigned)(verdict >> 40 & 255), (unsigned)(verdict >> 48)};
     return fields;
 }

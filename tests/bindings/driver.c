@@ -11,8 +11,7 @@ static uint16_t *words;
 static size_t size;
 static char *next;
 
-static char *take_word(void)
-{
+static char *take_word(void) {
     char *word = next;
     if (word == NULL)
         exit(2);
@@ -24,29 +23,25 @@ static char *take_word(void)
 
 static uint64_t number(void) { return strtoull(take_word(), NULL, 10); }
 
-static void no_memory(const void *got)
-{
+static void no_memory(const void *got) {
     if (got == NULL)
         exit(3);
 }
 
 /* Words that are zero. */
-static uint16_t *zeros(size_t many)
-{
+static uint16_t *zeros(size_t many) {
     uint16_t *got = calloc(many + 1, sizeof *got);
     no_memory(got);
     return got;
 }
 
-static void use(uint16_t *other, size_t many)
-{
+static void use(uint16_t *other, size_t many) {
     free(words);
     words = other;
     size = many;
 }
 
-static uint8_t *bytes(size_t *length)
-{
+static uint8_t *bytes(size_t *length) {
     const char *digits = take_word();
     size_t many = strcmp(digits, "-") == 0 ? 0 : strlen(digits) / 2;
     uint8_t *got = malloc(many + 1);
@@ -60,40 +55,34 @@ static uint8_t *bytes(size_t *length)
 }
 
 /* Numbers in groups, of 16 and of 32 bits. */
-static void say16(const uint16_t *list, size_t many, size_t group)
-{
+static void say16(const uint16_t *list, size_t many, size_t group) {
     for (size_t k = 0; k < many; k++)
         printf("%c%u", k % group == 0 ? ' ' : ':', list[k]);
 }
 
-static void say32(const uint32_t *list, size_t many, size_t group)
-{
+static void say32(const uint32_t *list, size_t many, size_t group) {
     for (size_t k = 0; k < many; k++)
         printf("%c%u", k % group == 0 ? ' ' : ':', list[k]);
 }
 
 /* Begins the line of an answer; whether the call was accepted. */
-static bool accepted(unsigned refused)
-{
+static bool accepted(unsigned refused) {
     printf("%u", refused);
     return refused == 0;
 }
 
-static size_t count(void)
-{
+static size_t count(void) {
     uint64_t numbers[LEMIDROSY_NUMBERS];
     return lemidrosy_refused(lemidrosy_numbers(words, size, numbers, LEMIDROSY_NUMBERS)) == 0 ? (size_t)numbers[0] : 0;
 }
 
 /* An answer with a row of n entries. */
-static void say_row(uint64_t answer, const uint16_t *row)
-{
+static void say_row(uint64_t answer, const uint16_t *row) {
     if (accepted(lemidrosy_answer(answer).refused))
         say16(row, count(), 1);
 }
 
-static void start(void)
-{
+static void start(void) {
     uint32_t counts[256];
     size_t n = 0;
     while (next != NULL)
@@ -105,8 +94,7 @@ static void start(void)
         free(fresh);
 }
 
-static void checkpoint(void)
-{
+static void checkpoint(void) {
     uint16_t deleted[LEMIDROSY_DELETIONS];
     struct lemidrosy_answer got = lemidrosy_answer(lemidrosy_checkpoint(words, size, (size_t)number(), deleted, LEMIDROSY_DELETIONS));
     if (!accepted(got.refused))
@@ -115,16 +103,14 @@ static void checkpoint(void)
     say16(deleted, 2 * got.deletions, 2);
 }
 
-static void send_one(void)
-{
+static void send_one(void) {
     size_t sender = (size_t)number(), receiver = (size_t)number();
     struct lemidrosy_answer got = lemidrosy_answer(lemidrosy_send(words, size, sender, receiver));
     if (accepted(got.refused))
         printf(" %u", got.value);
 }
 
-static void deliver(void)
-{
+static void deliver(void) {
     uint16_t deleted[LEMIDROSY_DELETIONS];
     struct lemidrosy_answer got = lemidrosy_answer(lemidrosy_deliver(words, size, (uint32_t)number(), deleted, LEMIDROSY_DELETIONS));
     if (!accepted(got.refused))
@@ -138,23 +124,20 @@ static void deliver(void)
 
 static void lose(void) { accepted(lemidrosy_refused(lemidrosy_lose(words, size, (uint32_t)number()))); }
 
-static void line(void)
-{
+static void line(void) {
     uint16_t row[LEMIDROSY_PROCESSES];
     uint64_t got = lemidrosy_line(words, size, (uint32_t)number(), row, LEMIDROSY_PROCESSES);
     say_row(got, row);
 }
 
 /* The next word, a pair. */
-static void pair(uint32_t two[2])
-{
+static void pair(uint32_t two[2]) {
     char *second, *word = take_word();
     two[0] = (uint32_t)strtoul(word, &second, 10);
     two[1] = (uint32_t)strtoul(second + 1, NULL, 10);
 }
 
-static void earliest(void)
-{
+static void earliest(void) {
     uint32_t named[256];
     uint16_t row[LEMIDROSY_PROCESSES];
     size_t many = 0;
@@ -165,8 +148,7 @@ static void earliest(void)
 
 static void is_sound(void) { printf("0 %d", lemidrosy_is_sound(words, size)); }
 
-static void numbers(void)
-{
+static void numbers(void) {
     uint64_t read[LEMIDROSY_NUMBERS];
     if (!accepted(lemidrosy_refused(lemidrosy_numbers(words, size, read, LEMIDROSY_NUMBERS))))
         return;
@@ -174,15 +156,13 @@ static void numbers(void)
         printf(" %llu", (unsigned long long)read[k]);
 }
 
-static void vector(void)
-{
+static void vector(void) {
     uint16_t row[LEMIDROSY_PROCESSES];
     uint64_t got = lemidrosy_vector(words, size, (size_t)number(), row, LEMIDROSY_PROCESSES);
     say_row(got, row);
 }
 
-static void pins(void)
-{
+static void pins(void) {
     uint16_t row[LEMIDROSY_PROCESSES];
     if (!accepted(lemidrosy_refused(lemidrosy_pins(words, size, (size_t)number(), row, LEMIDROSY_PROCESSES))))
         return;
@@ -194,31 +174,27 @@ static void pins(void)
             printf(" %d", row[f] - 1);
 }
 
-static void kept(void)
-{
+static void kept(void) {
     uint32_t list[3 * LEMIDROSY_PROCESSES];
     struct lemidrosy_answer got = lemidrosy_answer(lemidrosy_kept(words, size, (size_t)number(), list, 3 * LEMIDROSY_PROCESSES));
     if (accepted(got.refused))
         say32(list, 3 * got.value, 3);
 }
 
-static void messages(void)
-{
+static void messages(void) {
     uint32_t list[LEMIDROSY_THREES];
     struct lemidrosy_answer got = lemidrosy_answer(lemidrosy_messages(words, size, list, LEMIDROSY_THREES));
     if (accepted(got.refused))
         say32(list, 3 * got.value, 3);
 }
 
-static void carried(void)
-{
+static void carried(void) {
     uint16_t row[LEMIDROSY_PROCESSES];
     uint64_t got = lemidrosy_carried(words, size, (uint32_t)number(), row, LEMIDROSY_PROCESSES);
     say_row(got, row);
 }
 
-static void spread(void)
-{
+static void spread(void) {
     size_t many = (size_t)number();
     use(zeros(many), many);
     while (next != NULL) {
@@ -229,8 +205,7 @@ static void spread(void)
     accepted(0);
 }
 
-static void dump(void)
-{
+static void dump(void) {
     FILE *file = fopen(take_word(), "wb");
     bool done = file != NULL && fwrite(words, sizeof *words, size, file) == size;
     if (file == NULL || fclose(file) != 0 || !done)
@@ -238,8 +213,7 @@ static void dump(void)
     accepted(0);
 }
 
-static void take(void)
-{
+static void take(void) {
     FILE *file = fopen(take_word(), "rb");
     uint16_t *fresh = zeros(LEMIDROSY_WORDS);
     if (file == NULL || fread(fresh, sizeof *fresh, LEMIDROSY_WORDS, file) != LEMIDROSY_WORDS)
@@ -249,8 +223,7 @@ static void take(void)
     accepted(0);
 }
 
-static void judge(void)
-{
+static void judge(void) {
     size_t length;
     uint8_t *trace = bytes(&length);
     struct lemidrosy_verdict got = lemidrosy_verdict(lemidrosy_judge(trace, length));
@@ -268,8 +241,7 @@ static const struct {
     {"words", spread}, {"dump", dump}, {"take", take}, {"judge", judge},
 };
 
-int main(void)
-{
+int main(void) {
     char *text = NULL;
     size_t room = 0;
     ssize_t length;
