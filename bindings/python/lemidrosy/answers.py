@@ -7,6 +7,7 @@ from dataclasses import dataclass
 from typing import FrozenSet, Optional, Sequence, Tuple
 
 from . import refusals
+from .numbers import members
 
 
 class Refused(Exception):
@@ -171,8 +172,3 @@ def verdict(answer: int) -> Verdict:
     if not accepted(answer) >> 8 & 1:
         return Verdict()
     return Verdict(Checkpoint(answer >> 16 & 0xFF, answer >> 24 & 0xFFFF), Checkpoint(answer >> 40 & 0xFF, answer >> 48 & 0xFFFF))
-
-
-def members(number: int) -> FrozenSet[int]:
-    """The set that a number is: bit p stands for p."""
-    return frozenset(p for p in range(number.bit_length()) if number >> p & 1)

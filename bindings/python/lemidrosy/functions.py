@@ -12,7 +12,7 @@ from .answers import Checkpoint, Figures, Refused, Verdict
 from .library import FIGURES, PROGRESS, library
 from .numbers import BITS_32, set_of, size, word
 from .run import Run
-from .trace import RECORD, Bytes
+from .trace import LEFT_OVER_BYTES, NO_FIRST_BYTE, RECORD, Bytes
 
 
 def judge(trace: Bytes) -> Verdict:
@@ -46,9 +46,6 @@ _TEXT = 1 << 20
 """Bytes of text that a block's lines are written to; what does not fit comes with the next call."""
 LAST_RECORD = 1_000_000_000
 """A replay ends after this record, and reads nothing past it."""
-
-_NO_FIRST_BYTE = 12
-_LEFT_OVER_BYTES = 13
 
 
 @dataclass(frozen=True)
@@ -84,7 +81,7 @@ def replay_text(trace: Union[Bytes, BinaryIO], all: bool = False) -> Iterator[by
     source: BinaryIO = io.BytesIO(trace) if isinstance(trace, (bytes, bytearray, memoryview)) else trace
     first = source.read(1)
     if not first:
-        yield b"0 %d\n" % _NO_FIRST_BYTE
+        yield b"0 %d\n" % NO_FIRST_BYTE
         return
     try:
         run = Run(first[0])
@@ -103,7 +100,7 @@ def _replay_records(run: Run, source: BinaryIO, all: bool) -> Iterator[bytes]:
         more = read(min(_BLOCK, RECORD * (LAST_RECORD - done)) - len(held))
         if not more:
             if held:
-                yield b"%d %d\n" % (done + 1, _LEFT_OVER_BYTES)
+                yield b"%d %d\n" % (done + 1, LEFT_OVER_BYTES)
             return
         held += more
         while len(held) >= RECORD:

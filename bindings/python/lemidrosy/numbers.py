@@ -4,7 +4,7 @@ the same reason: it is no count, no process, no message, no block count and no k
 from __future__ import annotations
 
 from operator import index
-from typing import Iterable
+from typing import FrozenSet, Iterable
 
 BITS_32 = (1 << 32) - 1
 BITS_64 = (1 << 64) - 1
@@ -36,3 +36,8 @@ def set_of(processes: Iterable[int]) -> int:
             return BITS_32
         number |= 1 << process
     return number
+
+
+def members(number: int) -> FrozenSet[int]:
+    """The set that a number is: bit p stands for p."""
+    return frozenset(p for p in range(number.bit_length()) if number >> p & 1)

@@ -1,17 +1,22 @@
 """The bytes of a trace: a first byte, the count of processes, and records of four bytes each, most significant bit first: kind 3 bits, process 4 bits, argument 25 bits.
 
-Any four bytes are a record here; whether it is well formed is the library's to say (14).
+Any four bytes are a record here, also those that stand for no call.
 """
 
 from __future__ import annotations
 
 import io
 from dataclasses import dataclass
-from typing import BinaryIO, Iterable, Iterator, Optional, Union
+from typing import BinaryIO, FrozenSet, Iterable, Iterator, Optional, Union
+
+from .numbers import members
 
 CHECKPOINT, SEND, DELIVER, LOSE, RECOVER = range(5)
 RECORD = 4
 """Bytes of a record."""
+
+NO_FIRST_BYTE, LEFT_OVER_BYTES, MALFORMED_RECORD = 12, 13, 14
+"""The refusals of whoever wrote the trace."""
 
 Bytes = Union[bytes, bytearray, memoryview]
 
@@ -32,6 +37,16 @@ class Record:
 
     def __bytes__(self) -> bytes:
         return (self.kind << 29 | self.process << 25 | self.argument).to_bytes(RECORD, "big")
+
+    @property
+    def is_call(self) -> bool:
+        """Whether it stands for a call: its kind is used, and the field that its kind does not use is zero."""
+        return self.kind == SEND or (self.argument == 0 if self.kind == CHECKPOINT else self.process == 0 and self.kind <= RECOVER)
+
+    @property
+    def failed(self) -> FrozenSet[int]:
+        """The failed set of a recovery; none failed in a sweep."""
+        return members(self.argument)
 
 
 class Records(Iterator[Record]):

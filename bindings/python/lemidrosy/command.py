@@ -1,0 +1,74 @@
+"""The command `lemidrosy`: subcommands, their words and statuses. What is decided, the library decides."""
+
+from __future__ import annotations
+
+import argparse
+import signal
+import sys
+from typing import List, NoReturn, Optional, Sequence
+
+from . import __version__, convert, explain, lines
+from .answers import Refused
+from .files import ACCEPTED, INTERRUPTED, REFUSED, SYSTEM, USAGE, Stop
+from .library import LibraryError
+from .words import TextError
+
+DESCRIPTION = "Checkpoints, garbage collection and recovery lines of message-passing runs."
+
+EPILOG = """\
+A trace is bytes, as the library records and replays them, or for people text, one record a line: 'lemidrosy text --help' has its lines.
+
+status: 0 all accepted; 1 refused, or not trackable; 2 wrong usage; 3 the system failed
+
+examples:
+  lemidrosy bytes example.txt > example.trace
+  lemidrosy replay example.trace
+"""
+
+
+class Parser(argparse.ArgumentParser):
+    """Says what is wrong with the words of a command in one line."""
+
+    def error(self, message: str) -> NoReturn:
+        self.exit(USAGE, f"{self.prog}: {message}; see {self.prog} --help\n")
+
+
+def parser() -> Parser:
+    """All subcommands."""
+    command = Parser(prog="lemidrosy", description=DESCRIPTION, epilog=EPILOG, formatter_class=argparse.RawDescriptionHelpFormatter)
+    command.add_argument("--version", action="version", version=f"lemidrosy {__version__}")
+    added = command.add_subparsers(dest="subcommand", metavar="SUBCOMMAND", required=True, parser_class=Parser)
+    for add in (explain.add, lines.add_line, lines.add_earliest, convert.add_text, convert.add_bytes):
+        add(added)
+    return command
+
+
+def run(words: Optional[Sequence[str]]) -> int:
+    """Does what the words ask for and gives the status."""
+    arguments = parser().parse_args(words)
+    try:
+        return int(arguments.run(arguments))
+    except Stop as stop:
+        return say(arguments.subcommand, str(stop), stop.status)
+    except (TextError, Refused) as error:
+        return say(arguments.subcommand, str(error), REFUSED)
+    except (LibraryError, OSError, MemoryError) as error:
+        return say(arguments.subcommand, str(error) or type(error).__name__, SYSTEM)
+
+
+def say(subcommand: str, text: str, status: int) -> int:
+    """One line on standard error, if it can be written."""
+    try:
+        print(f"lemidrosy {subcommand}: {text}", file=sys.stderr, flush=True)
+    except OSError:
+        pass
+    return status
+
+
+def main(words: Optional[List[str]] = None) -> int:
+    """The command. An interrupt, or a pipe that nobody reads any more, ends it quietly."""
+    signal.signal(signal.SIGPIPE, signal.SIG_DFL)
+    try:
+        return run(words)
+    except KeyboardInterrupt:
+        return INTERRUPTED

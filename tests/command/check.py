@@ -1,0 +1,522 @@
+"""The tests of the command: a class for each part of `run`. They run it as people do, in a folder of their own, at a pseudo-terminal too."""
+
+import copy
+import ctypes
+import io
+import os
+import pickle
+import pty
+import random
+import re
+import select
+import signal
+import subprocess
+import sys
+import threading
+import time
+import unittest
+from pathlib import Path
+
+import lemidrosy
+from lemidrosy import Refused, Run
+from lemidrosy.text import FORMS, bytes_of, text_of
+from lemidrosy.words import TextError
+
+TOP = Path(os.environ["TOP"])
+PROGRAMS = Path(os.environ["PROGRAMS"])
+ORACLE = Path(os.environ["ORACLE"])
+FEW = os.environ.get("FEW")
+EXAMPLE = TOP / "crates" / "replay" / "stdin"
+ABSENT_FILE = TOP / "tests" / "command" / "absent"
+ABSENT = set(ABSENT_FILE.read_text().split()) if ABSENT_FILE.exists() else set()
+"""The calls that the library does not export yet. One that is exported all the same has to leave that file."""
+
+
+def needs(*names):
+    """For a test that needs these calls: it is left out while the library does not export one of them."""
+    return unittest.skipIf(ABSENT & set(names), "not exported yet")
+
+
+def many(count):
+    """So many, or a hundredth where lists are cut short."""
+    return max(1, count // 100) if FEW else count
+
+
+def command(*words, given=b"", **more):
+    """The command run to its end: status, output and what it said."""
+    done = subprocess.run([sys.executable, "-m", "lemidrosy", *map(str, words)], input=given, capture_output=True, timeout=60, **more)
+    return done.returncode, done.stdout, done.stderr.decode()
+
+
+def program(folder, name, *words, given=b""):
+    """What a program of the tree or of the oracle prints."""
+    return subprocess.run([folder / name, *map(str, words)], input=given, capture_output=True, timeout=60).stdout
+
+
+class Case(unittest.TestCase):
+    """What tests of the command ask."""
+
+    maxDiff = None
+
+    def ends(self, status, words, *arguments, given=b"", **more):
+        """It ends with this status, prints nothing, and says these words in one line."""
+        got, output, said = command(*arguments, given=given, **more)
+        self.assertEqual((got, output), (status, b""), said)
+        self.assertEqual(said.count("\n"), 1, said)
+        self.assertIn(words, said)
+        self.assertNotIn("Traceback", said)
+
+    def prints(self, expected, *arguments, status=0, given=b"", says=""):
+        """It prints this, and ends with this status."""
+        got, output, said = command(*arguments, given=given)
+        self.assertEqual(output.decode(), expected, said)
+        self.assertEqual((got, says in said), (status, True), said)
+
+
+class Package(Case):
+    """The package beside the command."""
+
+    def test_examples_in_its_texts(self):
+        import doctest
+
+        for module in (lemidrosy, lemidrosy.run):
+            result = doctest.testmod(module)
+            self.assertEqual(result.failed, 0)
+            self.assertGreater(result.attempted, 0)
+
+    def refused(self, number, call, *arguments):
+        with self.assertRaises(Refused) as caught:
+            call(*arguments)
+        self.assertEqual(caught.exception.number, number)
+        self.assertTrue(caught.exception.text)
+        self.assertEqual(str(caught.exception), f"refused {number}: {caught.exception.text}")
+
+    def test_numbers_of_any_size_are_judged_whole(self):
+        run = Run(2)
+        for far in (-1, 2**16, 2**32, 2**64, 2**64 + 1, 10**30, -(2**64)):
+            self.refused(1, Run, far)
+            self.refused(4, run.checkpoint, far)
+            self.refused(4, run.send, far, 0)
+            self.refused(4, run.send, 0, far)
+            self.refused(4, run.vector, far)
+            self.refused(8, run.deliver, far)
+            self.refused(8, run.lose, far)
+            self.refused(8, run.carried, far)
+            self.refused(7, run.line, {far})
+            self.refused(7, run.line, {0, far})
+            self.refused(15, Run, 2, far)
+            self.refused(4, run.earliest, {far: 0})
+            self.refused(19, run.earliest, {0: far})
+        self.refused(7, run.line, [2])
+        self.refused(3, Run, 2, [1])
+        self.refused(18, run.earliest, [])
+        self.refused(18, run.earliest, [(0, 0), (0, 0)])
+        with self.assertRaises(TypeError):
+            run.checkpoint("0")
+        with self.assertRaises(TypeError):
+            run.line(1)
+
+    def test_copies_are_apart(self):
+        run = Run(2, [3, 4])
+        run.checkpoint(0)
+        for other in (run.copy(), copy.copy(run), copy.deepcopy(run), pickle.loads(pickle.dumps(run)), Run.from_words(run.words)):
+            self.assertEqual(other.words, run.words)
+            other.checkpoint(1)
+            self.assertNotEqual(other.words, run.words)
+        self.assertEqual(run.kept(0), (lemidrosy.Kept(1, lemidrosy.Cause.BASIC, 3),))
+
+    def test_words_of_no_state(self):
+        for words in ([], [0] * 6464, [1] * 6464, [65535] * 6465):
+            run = Run.from_words(words)
+            self.assertFalse(run.is_sound())
+            self.refused(2, run.numbers)
+            self.refused(2, run.checkpoint, 0)
+            self.assertEqual(repr(run), "<Run: no sound state>")
+        with self.assertRaises(ValueError):
+            Run.from_words([65536])
+
+    def test_what_is_absent(self):
+        library = ctypes.CDLL(os.environ["LEMIDROSY_LIBRARY"])
+        for name in ABSENT:
+            self.assertFalse(hasattr(library, f"lemidrosy_{name}"), f"lemidrosy_{name} is exported, and must be tested: it has to leave tests/command/absent")
+
+    def test_readers(self):
+        run = Run(3)
+        message = run.send(0, 1)
+        self.assertEqual(run.messages(), (lemidrosy.Message(1, 0, 1),))
+        self.assertEqual(run.carried(message), (1, 0, 0))
+        self.assertEqual(run.deliver(message), lemidrosy.Delivered(None, frozenset({0}), ()))
+        self.assertEqual((run.vector(1), run.pins(1)), ((1, 1, 0), (0, 0, None)))
+        self.assertEqual(run.numbers(), lemidrosy.Numbers(3, 1, 0, lemidrosy.Blocks(3, 0)))
+        self.assertEqual(run.line({0}), (0, 0, 1))
+        self.assertEqual(run.earliest({1: 0, 2: 0}), (0, 0, 0))
+
+    @needs("recover", "lost")
+    def test_recover_and_sweep(self):
+        run = Run(2)
+        run.send(0, 1)
+        self.assertEqual(run.lost({0}), (lemidrosy.Message(1, 0, 1),))
+        self.assertEqual(run.lost({1}), ())
+        self.assertEqual(run.recover({1}), lemidrosy.Recovered((1, 0), 1, ()))
+        self.assertEqual(run.sweep(), lemidrosy.Recovered((1, 1), 0, ()))
+        for far in (-1, 2, 32, 10**30):
+            self.refused(7, run.recover, {far})
+            self.refused(7, run.lost, {far})
+
+    @needs("save", "load")
+    def test_stored_states(self):
+        run = Run(2)
+        run.send(0, 1)
+        saved = run.to_bytes()
+        self.assertEqual(Run.from_bytes(saved).words, run.words)
+        draws = random.Random(1)
+        for _ in range(many(2000)):
+            damaged = bytearray(saved)
+            damaged[draws.randrange(len(damaged))] ^= 1 << draws.randrange(8)
+            self.refused(2, Run.from_bytes, bytes(damaged))
+        self.refused(2, Run.from_bytes, b"")
+        self.refused(2, Run.from_bytes, saved[:-1])
+        self.refused(2, Run.from_words([]).to_bytes)
+
+    def test_records(self):
+        draws = random.Random(2)
+        for _ in range(many(2000)):
+            trace = draws.randbytes(draws.randrange(40))
+            records = lemidrosy.Records(trace)
+            whole = list(records)
+            if records.count is None:
+                self.assertEqual((trace, whole), (b"", []))
+                continue
+            self.assertEqual(lemidrosy.trace_of(records.count, whole) + records.rest, trace)
+            self.assertEqual(records.taken, len(whole))
+
+    def test_threads_on_one_run(self):
+        run = Run(2)
+        threads = [threading.Thread(target=lambda: [run.checkpoint(0) for _ in range(500)]) for _ in range(4)]
+        for thread in threads:
+            thread.start()
+        for thread in threads:
+            thread.join()
+        self.assertEqual(run.vector(0), (2001, 0))
+
+    def test_a_library_that_is_not_there(self):
+        for named, words in (("/no/such.so", "which is no file"), (str(EXAMPLE), "cannot be loaded")):
+            environment = {**os.environ, "LEMIDROSY_LIBRARY": named}
+            self.ends(3, words, "explain", EXAMPLE, env=environment)
+
+
+class Installation(Case):
+    """pip, without a network."""
+
+    def test_installed_by_pip(self):
+        place = Path("installed").resolve()
+        environment = {key: value for key, value in os.environ.items() if key != "PYTHONPATH"}
+        pip = [sys.executable, "-m", "pip", "install", "--quiet", "--no-index", "--disable-pip-version-check", "--root-user-action=ignore", "--target", str(place)]
+        source = Path("source")
+        subprocess.run(["cp", "-r", os.environ["PYTHONPATH"], str(source)], check=True)
+        done = subprocess.run([*pip, str(source.resolve())], env=environment, capture_output=True, text=True)
+        self.assertEqual((done.returncode, done.stdout), (0, ""), done.stderr)
+        del environment["LEMIDROSY_LIBRARY"]
+        environment["PYTHONPATH"] = str(place)
+        code = "import lemidrosy; print(lemidrosy.__file__, lemidrosy.Run(3).line({0}))"
+        done = subprocess.run([sys.executable, "-c", code], env=environment, capture_output=True, text=True, cwd="/")
+        self.assertEqual(done.stdout, f"{place}/lemidrosy/__init__.py (0, 1, 1)\n", done.stderr)
+        done = subprocess.run([place / "bin" / "lemidrosy", "--version"], env=environment, capture_output=True, text=True, cwd="/")
+        self.assertEqual(done.stdout, f"lemidrosy {lemidrosy.__version__}\n", done.stderr)
+        self.assertTrue((place / "lemidrosy" / "py.typed").exists())
+
+
+def drawn(draws):
+    """Bytes that are often a trace, a half or a script, or nearly one."""
+    size = draws.choice((0, 1, 2, 3, 4, 5, 6, 9, 13, 17, 25, 33, 60, 101))
+    return bytes(draws.choice((0, 0, 0, 1, 2, draws.randrange(16), draws.randrange(256), 128, 129, 64, 32)) for _ in range(size))
+
+
+class Text(Case):
+    """The text of traces, and back."""
+
+    def test_any_bytes_and_back(self):
+        draws = random.Random(3)
+        for _ in range(many(6000)):
+            data = drawn(draws)
+            for heading in FORMS:
+                lines = list(text_of(io.BytesIO(data), heading))
+                self.assertEqual(b"".join(bytes_of(lines)), data, lines)
+
+    def test_every_kind_of_record_and_call(self):
+        for kind in range(256):
+            for field in (0, 1, 15, 16, 255):
+                data = bytes([2, kind, 0, 0, field, field, kind, 0, 0])
+                for heading in FORMS:
+                    self.assertEqual(b"".join(bytes_of(text_of(io.BytesIO(data), heading))), data)
+
+    def test_the_command_both_ways(self):
+        draws = random.Random(4)
+        for _ in range(many(20)):
+            data = drawn(draws)
+            for option in ((), ("--half",), ("--console",)):
+                status, text, said = command("text", *option, given=data)
+                self.assertEqual((status, said), (0, ""))
+                self.assertEqual(command("bytes", given=text), (0, data, ""))
+
+    def test_the_example(self):
+        records = "send 0 1,deliver 1,checkpoint 1,checkpoint 0,send 1 0,deliver 2,send 0 1,deliver 3,recover 0,deliver 3"
+        text = "processes 2\n" + records.replace(",", "\n") + "\n"
+        self.prints(text, "text", EXAMPLE)
+        Path("example.txt").write_text("# document 01's example\n\n" + text.replace("\n", "   # a comment\n"))
+        self.assertEqual(command("bytes", "example.txt"), (0, EXAMPLE.read_bytes(), ""))
+
+    def test_traces_of_the_oracle(self):
+        for seed in range(many(300)):
+            trace = program(ORACLE, "generate", seed, "--records", 40, "--mix", ("mixed", "damaged", "foreign")[seed % 3])
+            self.assertEqual(b"".join(bytes_of(text_of(io.BytesIO(trace)))), trace)
+
+    def test_names_of_messages(self):
+        named = "processes 3\nsend 0 0\nsend 0 1 as a\nsend 2 1 as b.1\ndeliver b.1\nlose a\nsend 1 0 as a\ndeliver a\n"
+        plain = "processes 3\nsend 0 0\nsend 0 1\nsend 2 1\ndeliver 2\nlose 1\nsend 1 0\ndeliver 3\n"
+        self.assertEqual(b"".join(bytes_of(named.split("\n"))), b"".join(bytes_of(plain.split("\n"))))
+
+    def test_bad_text(self):
+        cases = {
+            "x": (1, 1, "a first line: processes N, half N, console N"),
+            "processes": (1, 10, "the first byte, the count of processes, 0 to 255"),
+            "processes 256": (1, 11, "0 to 255"),
+            "processes 2 3": (1, 13, "the end of the line"),
+            "processes 2\n\nsend 0": (3, 7, "the receiver, 0 to 33554431"),
+            "processes 2\nsend 16 1": (2, 6, "a process, 0 to 15"),
+            "processes 2\nsend 0 1 as": (2, 12, "a name for the message"),
+            "processes 2\nsend 0 1 as 7": (2, 13, "a name for the message"),
+            "processes 2\nsend 0 1 as a\ndeliver b": (3, 9, "a message that a line above has named"),
+            "processes 2\nsend 0 0 as a": (2, 13, "a send that is accepted, since it names its message (refused 5:"),
+            "processes 2\nrecover": (2, 8, "a failed process, 0 to 24"),
+            "processes 2\nrecover 25": (2, 9, "a failed process, 0 to 24"),
+            "processes 2\n  deliver -1": (2, 11, "a message, 0 to 33554431"),
+            "processes 2\ndeliver 33554432": (2, 9, "a message, 0 to 33554431"),
+            "processes 2\nsweep 1": (2, 7, "the end of the line"),
+            "processes 2\nrecord 8 0 0": (2, 8, "a kind, 0 to 7"),
+            "processes 2\ndelver 1": (2, 1, "checkpoint, send, deliver, lose, recover, sweep, record or bytes"),
+            "processes 2\nbytes": (2, 6, "a byte, two hexadecimal digits"),
+            "processes 2\nbytes 01 02 03 04": (2, 16, "at most 3 bytes"),
+            "processes 2\nbytes 01\nsweep": (3, 1, "nothing after the bytes that are left over"),
+            "half 2\ndeliver 3": (2, 10, "'from'"),
+            "half 2\ndeliver 2097152 from 0": (2, 9, "the sender's running count, 0 to 2097151"),
+            "half 2\nrecover 0": (2, 1, "checkpoint, send, deliver, lose, record or bytes"),
+            "console 2\nowner: list": (2, 6, "an owned process, 0 to 15"),
+            "console 2\nboss: list": (2, 1, "operator, owner, viewer, call or bytes"),
+            "console 2\nviewer list": (2, 8, "':'"),
+            "console 2\nviewer: lists": (2, 9, "checkpoint, send,"),
+            "console 2\ncall 00": (2, 6, "eight bytes, 16 hexadecimal digits"),
+        }
+        for text, (line, column, expected) in cases.items():
+            with self.assertRaises(TextError, msg=text) as caught:
+                b"".join(bytes_of(text.split("\n")))
+            error = caught.exception
+            self.assertEqual((error.line, error.column), (line, column), error)
+            self.assertIn(expected, error.expected)
+        self.ends(1, "line 2, column 1: expected checkpoint, send, deliver, lose, recover, sweep, record or bytes, found 'x'", "bytes", given=b"processes 2\nx\n")
+        self.ends(1, "line 2, column 1", "bytes", given=b"processes 2\n\xff\xfe\x00\n")
+
+
+class Words(Case):
+    """What the command says of itself, and of wrong words."""
+
+    def test_help(self):
+        status, text, said = command("--help")
+        self.assertEqual((status, said), (0, ""))
+        for name in re.findall(r"^    (\w+) ", text.decode(), re.M):
+            status, text, said = command(name, "--help")
+            self.assertEqual((status, said), (0, ""))
+            self.assertIn(f"  lemidrosy {name}", text.decode().split("example")[-1])
+
+    def test_version(self):
+        self.prints(f"lemidrosy {lemidrosy.__version__}\n", "--version")
+
+    def test_wrong_usage(self):
+        for words in ((), ("no",), ("explain",), ("explain", EXAMPLE, "x"), ("line", EXAMPLE), ("line", EXAMPLE, "--failed", "x"), ("line", EXAMPLE, "--failed", "0,"),
+                      ("earliest", EXAMPLE), ("earliest", EXAMPLE, "0"), ("text", "a", "b"), ("text", "--half", "--console")):
+            with self.subTest(words):
+                self.ends(2, "lemidrosy", *words)
+
+    @needs("recover")
+    def test_a_record_that_is_not_there(self):
+        for words in (("explain", EXAMPLE, "11"), ("explain", EXAMPLE, "0"), ("line", EXAMPLE, "--all", "--at", "11"), ("line", EXAMPLE, "--all", "--at", "-1")):
+            with self.subTest(words):
+                self.ends(2, "there is no record ", *words)
+
+
+class Explain(Case):
+    """`explain`."""
+
+    def test_why_record_8_forced(self):
+        self.prints(
+            """\
+record 8: deliver 3, the message from 0 to 1
+  process 1 stores checkpoint 2, a forced one, before it takes the message in:
+    it has sent since its last checkpoint, and the message brings news of 0 (interval 2, 1 knew 1)
+  vector of 1: (1, 2) -> (2, 3)
+  pins of 1: (0, 1) -> (2, 2)
+  checkpoint 1:0 is deleted: no pin names it any more, the pin for 0 names 2 now
+  checkpoint 1:1 is deleted: no pin names it any more, the pin for 1 names 2 now
+  checkpoint 0:1 (basic) stays: the pins for 0 and 1 name it; the line uses it if 0 fails
+  checkpoint 1:2 (forced) stays: the pins for 0 and 1 name it; the line uses it if 0 or 1 fails
+""",
+            "explain",
+            EXAMPLE,
+            8,
+        )
+
+    @needs("recover")
+    def test_recovery_and_refusal(self):
+        status, text, said = command("explain", EXAMPLE)
+        self.assertEqual((status, said), (1, ""))
+        self.assertIn("record 9: recover 0\n  process 0 failed; the line is (1, 2)\n  process 0 goes back to checkpoint 1: 2 events are undone\n", text.decode())
+        self.assertTrue(text.decode().endswith("delivered by record 8, and the recovery of record 9 undid the receipt\n"), text)
+
+    def test_text_is_taken_too(self):
+        self.assertEqual(command("explain", "-", 8, given=command("text", EXAMPLE)[1]), command("explain", EXAMPLE, 8))
+
+    @needs("recover")
+    def test_any_trace(self):
+        """Each record's line of the replay is the one that the explanation tells."""
+        for seed in range(many(200)):
+            trace = program(ORACLE, "generate", seed, "--records", 60, "--mix", ("valid", "recovering", "mixed", "damaged")[seed % 4])
+            listing = program(PROGRAMS, "replay", "all", given=trace).decode().splitlines()
+            status, text, said = explained(trace)
+            told = re.findall(r"^record (\d+): .*(?:\n  (refused (\d+))?.*)?", text, re.M)
+            refusals = [line.split() for line in listing if line.split()[1] != "0"]
+            self.assertEqual(status != 0, bool(refusals), (seed, said))
+            here = [[number, refused] for number, _, refused in told if refused]
+            self.assertEqual(here, [words for words in refusals if words[0] != "0" and words[1] != "13"], seed)
+            deleted = re.findall(r"checkpoint (\d+:\d+) is deleted", text)
+            self.assertEqual(deleted, [pair for line in listing for pair in line.split()[4:]], seed)
+
+
+def explained(trace):
+    """What the command explains of a trace, in this process."""
+    from lemidrosy import explain
+    from lemidrosy.history import begun
+
+    text, status = [], 0
+    try:
+        follower, records = begun(trace)
+    except Refused as refusal:
+        return 1, "", str(refusal)
+    explanation = explain.Explanation(follower, True)
+    for record in records:
+        step = follower.take(record)
+        status = 1 if step.refusal else status
+        text += explanation.lines(step)
+    return (1 if records.rest else status), "\n".join(text), ""
+
+
+class Lines(Case):
+    """`line` and `earliest`."""
+
+    def test_the_exam_sheet(self):
+        cases = ((2, "0", "0 0"), (2, "1", "1 0"), (3, "0", "0 0"), (3, "1", "1 1"), (4, "0", "1 2"), (4, "1", "2 1"), (6, "1", "1 1"), (8, "1", "2 2"), (8, "0", "1 2"))
+        for at, failed, line in cases:
+            status, text, said = command("line", EXAMPLE, "--at", at, "--failed", failed)
+            self.assertEqual((status, said), (0, ""))
+            self.assertEqual(text.decode().split("\n")[0], f"after record {at}, if process {failed} fails: line {line}")
+
+    def test_a_table(self):
+        self.prints(
+            """\
+after record 8, if process 0 fails: line 1 2
+process  goes back to      checkpoints undone  events undone
+      0  checkpoint 1                       0              2
+      1  checkpoint 2                       0              1
+""",
+            "line", EXAMPLE, "--at", 8, "--failed", 0,
+        )
+
+    def test_all_sets(self):
+        self.prints(
+            """\
+failed  roll back  events undone  line
+0               2              3  1 2
+1               1              1  2 2
+0,1             2              3  1 2
+""",
+            "line", EXAMPLE, "--at", 8, "--all",
+        )
+
+    def test_the_start(self):
+        self.prints("failed  roll back  events undone  line\n0               1              0  0\n", "line", "-", "--all", given=b"\x01")
+
+    def test_refused(self):
+        self.ends(1, "refused 7: ", "line", EXAMPLE, "--at", 8, "--failed", "2")
+        self.ends(1, "refused 19: ", "earliest", EXAMPLE, "--at", 8, "1:1")
+        self.ends(1, "refused 12: ", "line", "-", "--all")
+        self.ends(1, "refused 1: ", "line", "-", "--all", given=b"\x11")
+
+    def test_earliest(self):
+        self.prints("after record 8: line 1 2\nprocess  state\n      0  checkpoint 1, basic\n      1  checkpoint 2, forced\n", "earliest", EXAMPLE, "--at", 8, "1:2")
+
+    @needs("recover")
+    def test_a_refused_record_is_told(self):
+        status, text, said = command("line", EXAMPLE, "--failed", "0")
+        self.assertEqual((status, said), (1, "lemidrosy: record 10 was refused 8: no such message is under way; it changed nothing\n"))
+        self.assertEqual(text.decode().split("\n")[0], "after record 10, if process 0 fails: line 1 3")
+
+
+class Ends(Case):
+    """Files, streams, terminals and interrupts."""
+
+    def test_files_that_cannot_be_read(self):
+        for subcommand, more in (("text", ()), ("bytes", ()), ("explain", ()), ("line", ("--all",)), ("earliest", ("0:0",))):
+            self.ends(3, "/no/such/file: No such file", subcommand, "/no/such/file", *more)
+            self.ends(3, "/: Is a directory", subcommand, "/", *more)
+
+    def test_outputs_that_cannot_be_written(self):
+        for words in (("text", EXAMPLE), ("explain", EXAMPLE, 8), ("line", EXAMPLE, "--all", "--at", 8), ("earliest", EXAMPLE, "1:2", "--at", 8)):
+            for output, said in ((">/dev/full", "No space left"), (">&-", "Bad file descriptor")):
+                line = " ".join([sys.executable, "-m", "lemidrosy", *map(str, words)])
+                done = subprocess.run(["bash", "-c", f"exec {line} {output}"], capture_output=True, text=True)
+                self.assertEqual(done.returncode, 3, (line, output, done.stderr))
+                self.assertEqual(done.stderr.count("\n"), 1)
+                self.assertIn(f"lemidrosy {words[0]}: standard output: {said}", done.stderr)
+
+    def test_a_pipe_that_nobody_reads(self):
+        line = f"{sys.executable} -m lemidrosy text /dev/zero | head -n 2; exit ${{PIPESTATUS[0]}}"
+        done = subprocess.run(["bash", "-c", line], capture_output=True, text=True)
+        self.assertEqual((done.stdout, done.stderr), ("processes 0\ncheckpoint 0\n", ""))
+        self.assertEqual(done.returncode, 128 + signal.SIGPIPE)
+
+    def test_an_interrupt(self):
+        running = subprocess.Popen([sys.executable, "-m", "lemidrosy", "bytes"], stdin=subprocess.PIPE, stdout=subprocess.PIPE, stderr=subprocess.PIPE)
+        running.stdin.write(b"processes 2\n" * 1)
+        running.stdin.flush()
+        time.sleep(1)
+        running.send_signal(signal.SIGINT)
+        output, said = running.communicate(timeout=30)
+        self.assertEqual((running.returncode, output, said), (130, b"", b""))
+
+    def test_at_a_terminal(self):
+        """The trace is typed; the command says that it waits for it."""
+        process, terminal = pty.fork()
+        if process == 0:
+            os.execv(sys.executable, [sys.executable, "-m", "lemidrosy", "bytes"])
+        seen = b""
+        typed = False
+        while True:
+            ready, _, _ = select.select([terminal], [], [], 30)
+            self.assertTrue(ready, seen)
+            try:
+                block = os.read(terminal, 4096)
+            except OSError:
+                break
+            if not block:
+                break
+            seen += block
+            if b"Ctrl-D" in seen and not typed:
+                typed = True
+                os.write(terminal, b"processes 65\n\x04")
+        _, status = os.waitpid(process, 0)
+        self.assertEqual(os.waitstatus_to_exitcode(status), 0)
+        self.assertIn(b"reading text from the terminal", seen)
+        self.assertTrue(seen.endswith(b"A"), seen)
+
+
+if __name__ == "__main__":
+    unittest.main(argv=[sys.argv[0], *sys.argv[1:]])
