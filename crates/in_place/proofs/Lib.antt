@@ -1,4 +1,5 @@
 -- Laws that belong to no one function.
+pub mod Called
 pub mod Checkpointing
 pub mod Delivering
 pub mod Judging

@@ -1,3 +1,4 @@
+pub mod Called
 pub mod Left
 pub mod Recovering
 pub mod Sending

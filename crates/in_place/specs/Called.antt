@@ -1,0 +1,27 @@
+-- Lists of calls in place: "Each gets the state the one before it returned", here the words that the one before it left. proofs/Called has the theorem.
+-- Assumes nothing.
+use mathlib.Core.Path.{_≡_}
+use mathlib.Core.List.{List, [], _∷_}
+use Prim.Native.Nat.{ℕ}
+use lib.ListN.{length}
+use Rattle.whole_runs.specs.Calls.{Call, call, stateAfter}
+use Rattle.words.specs.Clean.{Clean}
+use Rattle.words.specs.Layout.{size, runOf}
+use Rattle.in_place.specs.Left.{Leaves}
+use Rattle.in_place.specs.Starting.{startOutcomeIn, startWords}
+
+-- v is what a call leaves of the words w, accepted or refused: two clauses of the contract of every call that writes words. A call that only reads leaves w itself.
+pub record Called (w : List ℕ) (c : Call) (v : List ℕ) : Type 0 where
+  pub run : runOf v ≡ call (runOf w) c .run
+  pub leaves : Leaves w v
+
+-- The words v are what is left of w by a list of calls, the oldest first.
+unfoldable pub CalledAll : List ℕ → List Call → List ℕ → Type 0
+CalledAll w [] v = v ≡ w
+CalledAll w (c ∷ calls) v = (u : List ℕ) × Called w c u × CalledAll u calls v
+
+-- Whatever calls follow a start, with any arguments and lent lists, the words stand for the state after those calls, and every place of them that is not in use is zero:
+-- words that are stored hold nothing of what was deleted.
+unfoldable pub CleanWholeRuns : Type 0
+CleanWholeRuns = (w : List ℕ) (n : ℕ) (counts : List ℕ) → length w ≡ size → (calls : List Call) (v : List ℕ) → CalledAll (startWords w n counts) calls v
+    → (runOf v ≡ stateAfter (startOutcomeIn size n counts .run) calls) × Clean v
