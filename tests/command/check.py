@@ -15,6 +15,7 @@ import sys
 import threading
 import time
 import unittest
+import xml.etree.ElementTree
 from pathlib import Path
 
 import lemidrosy
@@ -27,7 +28,7 @@ PROGRAMS = Path(os.environ["PROGRAMS"])
 ORACLE = Path(os.environ["ORACLE"])
 FEW = os.environ.get("FEW")
 EXAMPLE = TOP / "crates" / "replay" / "stdin"
-ABSENT_FILE = TOP / "tests" / "command" / "absent"
+ABSENT_FILE = Path(os.environ.get("ABSENT", TOP / "tests" / "command" / "absent"))
 ABSENT = set(ABSENT_FILE.read_text().split()) if ABSENT_FILE.exists() else set()
 """The calls that the library does not export yet. One that is exported all the same has to leave that file."""
 
@@ -458,6 +459,78 @@ failed  roll back  events undone  line
         status, text, said = command("line", EXAMPLE, "--failed", "0")
         self.assertEqual((status, said), (1, "lemidrosy: record 10 was refused 8: no such message is under way; it changed nothing\n"))
         self.assertEqual(text.decode().split("\n")[0], "after record 10, if process 0 fails: line 1 3")
+
+
+SHAPE = "{http://www.w3.org/2000/svg}"
+
+
+def outside(svg):
+    """What stands outside the frame of a picture, which is well-formed."""
+    root = xml.etree.ElementTree.fromstring(svg)
+    width, height = float(root.get("width")), float(root.get("height"))
+    for part in root.iter():
+        name, get = part.tag.removeprefix(SHAPE), lambda key: float(part.get(key, 0))
+        places = []
+        if name == "line":
+            places = [(get("x1"), get("y1")), (get("x2"), get("y2"))]
+        elif name in ("polygon", "polyline"):
+            places = [tuple(map(float, pair.split(","))) for pair in part.get("points").split()]
+        elif name == "circle":
+            places = [(get("cx") - get("r"), get("cy") - get("r")), (get("cx") + get("r"), get("cy") + get("r"))]
+        elif name == "rect":
+            places = [(get("x"), get("y")), (get("x") + get("width"), get("y") + get("height"))]
+        elif name == "text":
+            long = 0.62 * get("font-size") * len(part.text)
+            start = get("x") - {"start": 0, "middle": long / 2, "end": long}[part.get("text-anchor")]
+            places = [(start, get("y")), (start + long, get("y"))]
+        elif name not in ("svg", "title"):
+            yield f"unknown part {name}"
+        for x, y in places:
+            if not (-0.1 <= x <= width + 0.1 and -0.1 <= y <= height + 0.1):
+                yield f"{name} at {x}, {y} of {width}, {height}"
+
+
+class Draw(Case):
+    """`draw`."""
+
+    def drawn(self, trace, *words, status=0):
+        """The picture of a trace, which is whole."""
+        got, svg, said = command("draw", "-", *words, given=trace)
+        self.assertEqual(got, status, said)
+        self.assertEqual(list(outside(svg)), [])
+        return svg.decode()
+
+    def test_the_example(self):
+        """Its marks: two initial checkpoints, deleted; one basic, kept, one deleted; one forced; three messages; and the line for {0}."""
+        svg = self.drawn(EXAMPLE.read_bytes(), "--at", 8, "--failed", 0, "--title", "a < b & c")
+        marks = svg.split("initial</text>")[0].rsplit("<circle", 1)[0]
+        self.assertEqual(len(re.findall(r'<circle [^>]*r="6.5"[^>]*fill="#ffffff"', marks)), 2)
+        self.assertEqual(len(re.findall(r"<text[^>]*>m[123]</text>", svg)), 3)
+        self.assertIn("line if 0 fails", svg)
+        self.assertIn("a &lt; b &amp; c", svg)
+        self.assertEqual(svg, self.drawn(command("text", EXAMPLE)[1], "--at", 8, "--failed", 0, "--title", "a < b & c"))
+
+    @needs("recover")
+    def test_any_trace(self):
+        for seed in range(many(30)):
+            count = (0, 3, 20, 60, 130, 1000)[seed % 6]
+            trace = program(ORACLE, "generate", seed, "--n", 1 + seed % 16, "--records", count, "--mix", ("valid", "recovering", "mixed")[seed % 3])
+            got, svg, said = command("draw", "-", "--failed", 0, "--from", max(1, count // 3), given=trace)
+            self.assertIn(got, (0, 1), said)
+            self.assertEqual(list(outside(svg)), [], seed)
+
+    def test_pixels(self):
+        environment = {**os.environ, "PATH": ""}
+        self.ends(3, "rsvg-convert is not there", "draw", EXAMPLE, "--at", 8, "-o", "example.png", env=environment)
+
+    def test_windows_that_are_not_there(self):
+        for first in ("0", "9"):
+            self.ends(2, f"there is no record {first}", "draw", EXAMPLE, "--at", 8, "--from", first)
+
+    def test_to_a_file(self):
+        self.assertEqual(command("draw", EXAMPLE, "--at", 8, "-o", "example.svg"), (0, b"", ""))
+        self.assertEqual(list(outside(Path("example.svg").read_text())), [])
+        self.ends(3, "/no/such.svg: No such file", "draw", EXAMPLE, "--at", 8, "-o", "/no/such.svg")
 
 
 class Ends(Case):
