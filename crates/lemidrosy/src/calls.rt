@@ -8,13 +8,15 @@ ghost use Rattle.model.specs.declared.CheckpointAnswer.the-variants as storing;
 ghost use Rattle.model.specs.declared.SendAnswer.the-variants as sending;
 ghost use Rattle.model.specs.declared.DeliverAnswer.the-variants as delivering;
 ghost use Rattle.model.specs.declared.LoseAnswer.the-variants as losing;
+ghost use Rattle.model.specs.declared.RecoverAnswer.the-variants as recovering;
 ghost use Rattle.model.specs.Sound.{sound};
 ghost use Rattle.whole_runs.specs.Calls as made;
-ghost use Rattle.whole_runs.specs.Outcomes.{checkpointOutcome, sendOutcome, deliverOutcome, loseOutcome, lineOutcome};
+ghost use Rattle.whole_runs.specs.Outcomes.{checkpointOutcome, sendOutcome, deliverOutcome, loseOutcome, lineOutcome, recoverOutcome};
 ghost use Rattle.whole_runs.specs.WholeRuns.{LinePromise, StartPromise, StatePromise, EarliestPromise};
 ghost use Rattle.whole_runs.specs.Earliest.{earliestOutcome};
-ghost use Rattle.whole_runs.specs.Sweep.{EmptyLinePromise};
-ghost use Rattle.answers.specs.Codes.{startCode, checkpointCode, sendCode, deliverCode, loseCode, lineCode};
+ghost use Rattle.whole_runs.specs.Clean.{CleanPromise};
+ghost use Rattle.whole_runs.specs.Sweep.{EmptyLinePromise, SweepPromise};
+ghost use Rattle.answers.specs.Codes.{startCode, checkpointCode, sendCode, deliverCode, loseCode, lineCode, recoverCode};
 ghost use Rattle.words.specs.Clean.{Clean};
 ghost use Rattle.words.specs.Layout.{runOf};
 ghost use Rattle.line_words.specs.Through.{namedIn};
@@ -112,6 +114,30 @@ pub extern "C" fn lemidrosy_line(words: &[u16], failed: u32, line: &mut [u16]) -
 {
     let answer = in_place::line::line(words, failed, line);
     answers::of_line(answer)
+}
+
+// Everyone goes back to the line for a failed set, bit p of which stands for process p: its n indexes go to the front of the one list, what is deleted to the front of the
+// other, as pairs of a process and an index. The value is how many rolled back. An empty set is a sweep: nobody rolls back.
+#[no_mangle]
+pub extern "C" fn lemidrosy_recover(
+    words: &mut [u16],
+    failed: u32,
+    deleted: &mut [u16],
+    line: &mut [u16],
+) -> u64
+    ensures { λ r. ⌜ r ≡ recoverCode (recoverOutcome (runOf (now (words .entry))) failed (now (deleted .entry)) (now (line .entry)) .answer) ⌝ }
+    ensures { λ r. ⌜ runOf (now (words .exit)) ≡ recoverOutcome (runOf (now (words .entry))) failed (now (deleted .entry)) (now (line .entry)) .run ⌝ }
+    ensures { λ r. ⌜ now (deleted .exit) ≡ recoverOutcome (runOf (now (words .entry))) failed (now (deleted .entry)) (now (line .entry)) .deleted ⌝ }
+    ensures { λ r. ⌜ now (line .exit) ≡ recoverOutcome (runOf (now (words .entry))) failed (now (deleted .entry)) (now (line .entry)) .line ⌝ }
+    ensures { λ r. ⌜ ((why : Refusal) → recoverOutcome (runOf (now (words .entry))) failed (now (deleted .entry)) (now (line .entry)) .answer ≡ recovering.Refused why → now (words .exit) ≡ now (words .entry)) ⌝ }
+    ensures { λ r. ⌜ Leaves (now (words .entry)) (now (words .exit)) ⌝ }
+    ensures { λ r. ⌜ LinePromise (runOf (now (words .entry))) failed ⌝ }
+    ensures { λ r. ⌜ StatePromise (runOf (now (words .entry))) (made.recover failed (now (deleted .entry)) (now (line .entry))) (runOf (now (words .exit))) ⌝ }
+    ensures { λ r. ⌜ CleanPromise (runOf (now (words .entry))) failed (now (deleted .entry)) (now (line .entry)) (runOf (now (words .exit))) ⌝ }
+    ensures { λ r. ⌜ SweepPromise (runOf (now (words .entry))) failed (now (deleted .entry)) (now (line .entry)) (recoverOutcome (runOf (now (words .entry))) failed (now (deleted .entry)) (now (line .entry)) .answer) (now (line .exit)) (runOf (now (words .exit))) ⌝ }
+{
+    let answer = in_place::recover::recover(words, failed, deleted, line);
+    answers::of_recover(answer)
 }
 
 // The earliest consistent line through the named checkpoints, pairs of a process and an index: its n indexes go to the front of the lent list.

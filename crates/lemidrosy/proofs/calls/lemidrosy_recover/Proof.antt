@@ -1,0 +1,42 @@
+-- `lemidrosy::calls::lemidrosy_recover` meets its contract. Assumes nothing.
+use mathlib.Core.Path.{refl, _∙_, ap}
+use borrow.Author.Needs.{needs}
+use Rattle.answers.specs.Codes.{recoverCode}
+use Rattle.answers.proofs.Fit.{recover-fits}
+use Rattle.whole_runs.proofs.Sweep.{sweep-promise}
+use Rattle.words.specs.Layout.{runOf}
+use Rattle.lemidrosy.proofs.calls.lemidrosy_recover.Statement.{statement}
+use Rattle.lemidrosy.proofs.calls.lemidrosy_recover.Tie as tie
+
+-- The call, and what it is handed.
+abbrev called : tie.After-slice-known6 → tie.After-recover
+called c = c .before .before .before .before .before .before
+
+abbrev start : tie.After-recover → tie.Start
+start r = r .before .before .before .before .before .before .before
+
+of-recover-requires : tie.Need-of-recover-requires
+of-recover-requires c κs =
+    let r = called c in
+    let a = start r .args in
+    rw (r .recover .ensures .1 .0) (recover-fits (runOf (a .words .now)) (a .failed) (a .deleted .now) (a .line .now))
+
+returns : tie.Need-returns
+returns c =
+    let r = called (c .before) in
+    let a = start r .args in
+    let g = r .recover .ensures in
+    let h = g .1 .1 .1 .1 in
+    let sweep = sweep-promise (runOf (a .words .now)) (a .failed) (a .deleted .now) (a .line .now) refl (g .1 .1 .1 .0) (g .0) in
+    (c .of-recover .ensures ∙ ap recoverCode (g .1 .0), (g .0, (g .1 .1 .0, (g .1 .1 .1 .0, (λ why e. h .0 why (g .1 .0 ∙ e), (h .1 .0, (h .1 .1 .0, (h .1 .1 .1 .0, (h .1 .1 .1 .1 .0, sweep)))))))))
+
+pub lemidrosy-recover-spec : {M : Type 1} → statement M
+lemidrosy-recover-spec =
+    tie.close
+    (tie.spec
+    (λ c κs. search needs)
+    of-recover-requires
+    (λ c. search needs)
+    (λ c. search needs)
+    (λ c. search needs)
+    returns)
