@@ -117,6 +117,11 @@ uint64_t lemidrosy_lose(uint16_t *words, size_t words_length, uint32_t message);
    is its own entry. The set is judged with all its 32 bits. Refused with 2, 3 or 7. */
 uint64_t lemidrosy_line(const uint16_t *words, size_t words_length, uint32_t failed, uint16_t *line, size_t line_length);
 
+/* Everyone goes back to the line for a failed set, bit p of which stands for process p; the value is how many rolled back. The n indexes of the line go to the one list,
+   which has room for n; what is deleted goes to the other, which has room for 2 n n entries, as pairs of a process and an index. The messages stay under way that were sent
+   up to the line. With an empty set it is a sweep: nobody rolls back, and what no failure would use is deleted. Refused with 2, 3 or 7. */
+uint64_t lemidrosy_recover(uint16_t *words, size_t words_length, uint32_t failed, uint16_t *deleted, size_t deleted_length, uint16_t *line, size_t line_length);
+
 /* The earliest consistent line through the named checkpoints, pairs of a process and an index: it may name deleted checkpoints, so it is to be shown, not restarted from.
    Refused with 2, 3, 4, 18, 19 or 20. */
 uint64_t lemidrosy_earliest(const uint16_t *words, size_t words_length, const uint32_t *named, size_t named_length, uint16_t *line, size_t line_length);
