@@ -62,7 +62,7 @@ bit-odd : (x : ℕ) → x % 2 ≡ 1 → bitTaken x ≡ bitXor (x / 2) polynomial
 unfolding bitTaken
 bit-odd x e = rw e
 
-by-parity : {P : Type 0} (x : ℕ) → (x % 2 ≡ 0 → P) → (x % 2 ≡ 1 → P) → P
+pub by-parity : {P : Type 0} (x : ℕ) → (x % 2 ≡ 0 → P) → (x % 2 ≡ 1 → P) → P
 by-parity x f g = by-bool (eqb (x % 2) 0) (λ e. f (eqb-true (x % 2) 0 e)) (λ e. let ne = eqb-false (x % 2) 0 e in g (omega arith))
 
 bit-back : (x y : ℕ) → Short x → Short y → bitTaken x ≡ bitTaken y → x ≡ y

@@ -5,27 +5,19 @@ use mathlib.Core.Bool.{true, _&&_}
 use mathlib.Core.List.{List, [], _∷_, _++_}
 use Prim.Native.Nat.{ℕ, zero, suc, _+_, _*_, _-_, _/_, _%_, _≤_, _<_}
 use native.Mathlib.Omega.{arith}
-use lib.Dec.{eqb, ltb}
+use lib.Dec.{eqb}
 use lib.ListN.{length, getD, set, take, drop, length-drop, take-append-drop, List·getD-append}
 use lib.Seq.{ext-getD, getD-take, getD-drop, getD-set-same, getD-set-other, length-take-le, take-set-le, take-set-lt, drop-set-lt, set-split, split-at}
-use borrow.Author.Tests.{eq-eqb, eqb-true, eqb-false, ltb-true, ltb-false}
+use borrow.Author.Tests.{eq-eqb, eqb-true}
 use Rattle.laws.specs.Choice.{by-bool, by-eq}
+use Rattle.laws.specs.Rows.{by-lt}
 use Rattle.laws.specs.Search.{allBelow, all-in, all-out}
 use Rattle.laws.specs.Tables.{length-table, getD-table}
 use Rattle.laws.specs.Truth.{and-left, and-right, and-both}
 use Rattle.checksum.specs.Castagnoli.{crc32c, Bytes}
-use Rattle.checksum.proofs.OneByte.{one-byte}
+use Rattle.checksum.proofs.OneByte.{by-parity, one-byte}
 use Rattle.saved_bytes.specs.Format.{heading, wordBytes, summedBytes, sumBytes, savedBytes, wordIn, wordsIn, sumIn, hasHeading, hasSum, isWhole}
 use Rattle.saved_bytes.proofs.Parts.{low-byte, high-byte, summed-length, saved-length, saved-front, saved-end, at-heading, at-words}
-
--- A number is even or odd.
-by-half : {P : Type 0} (k : ℕ) → (k ≡ 2 * (k / 2) → P) → (k ≡ 1 + 2 * (k / 2) → P) → P
-by-half k f g = by-bool (eqb (k % 2) 0)
-    (λ e. let even = eqb-true (k % 2) 0 e in f (omega arith))
-    (λ e. let odd = eqb-false (k % 2) 0 e in g (omega arith))
-
-by-less : {P : Type 0} (k n : ℕ) → (k < n → P) → (n ≤ k → P) → P
-by-less k n f g = by-bool (ltb k n) (λ e. f (ltb-true k n e)) (λ e. g (ltb-false k n e))
 
 -- A number of four bytes.
 number-back : (x : ℕ) → x % 256 + 256 * (x / 256 % 256) + 65_536 * (x / 256 / 256 % 256) + 16_777_216 * (x / 256 / 256 / 256) ≡ x
@@ -52,7 +44,7 @@ four (a ∷ b ∷ c ∷ d ∷ e ∷ l) n = absurd (omega arith)
 
 -- Parts of a list of bytes.
 bytes-take : (n : ℕ) (l : List ℕ) → Bytes l → Bytes (take n l)
-bytes-take n l h k = by-less k n
+bytes-take n l h k = by-lt k n
     (λ less. rw (getD-take n l k 0 less) (h k))
     (λ le. past n l k le)
   where
@@ -149,19 +141,21 @@ module _ (bytes : List ℕ) (small : Bytes bytes) (whole : isWhole bytes ≡ tru
 
   -- Byte k behind the heading.
   byte-held : (k : ℕ) → k < 12928 → getD (wordBytes (wordsIn bytes)) k 0 ≡ getD bytes (10 + k) 0
-  byte-held k less = by-half k
-      (λ even. let e = held (k / 2) (omega arith) in
+  byte-held k less = by-parity k
+      (λ zero. let even : k ≡ 2 * (k / 2) = omega arith in
+      let e = held (k / 2) (omega arith) in
       let lower = small (10 + 2 * (k / 2)) in
       let low : getD (wordsIn bytes) (k / 2) 0 % 256 ≡ getD bytes (10 + 2 * (k / 2)) 0 = omega arith in
       ap (λ (n : ℕ). getD (wordBytes (wordsIn bytes)) n 0) even ∙ low-byte (wordsIn bytes) (k / 2) ∙ low ∙ ap (λ (n : ℕ). getD bytes (10 + n) 0) (sym even))
-      (λ odd. let e = held (k / 2) (omega arith) in
+      (λ one. let odd : k ≡ 1 + 2 * (k / 2) = omega arith in
+      let e = held (k / 2) (omega arith) in
       let lower = small (10 + 2 * (k / 2)) in
       let place : 11 + 2 * (k / 2) ≡ 10 + k = omega arith in
       let high : getD (wordsIn bytes) (k / 2) 0 / 256 ≡ getD bytes (11 + 2 * (k / 2)) 0 = omega arith in
       ap (λ (n : ℕ). getD (wordBytes (wordsIn bytes)) n 0) odd ∙ high-byte (wordsIn bytes) (k / 2) ∙ high ∙ ap (λ (n : ℕ). getD bytes n 0) place)
 
   byte-summed : (k : ℕ) → k < 12938 → getD bytes k 0 ≡ getD (summedBytes (wordsIn bytes)) k 0
-  byte-summed k less = by-less k 10
+  byte-summed k less = by-lt k 10
       (λ early. whole-heading bytes whole k early ∙ sym (at-heading (wordsIn bytes) k early))
       (λ late. let e : 10 + (k - 10) ≡ k = omega arith in
       let same = sym (byte-held (k - 10) (omega arith)) ∙ sym (at-words (wordsIn bytes) (k - 10)) in
@@ -224,4 +218,4 @@ module _ (bytes : List ℕ) (small : Bytes bytes) (whole : isWhole bytes ≡ tru
       sym (getD-set-same bytes k b 0 inside) ∙ (rw place at same)
 
   pub one-changed : b ≡ getD bytes k 0
-  one-changed = by-less k 12938 early late
+  one-changed = by-lt k 12938 early late
