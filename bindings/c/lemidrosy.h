@@ -32,6 +32,8 @@ enum {
     LEMIDROSY_NUMBERS = 5,     /* what lemidrosy_numbers writes */
     LEMIDROSY_THREES = 192,    /* what lemidrosy_messages and lemidrosy_lost ask for: three numbers for each of 64 messages */
     LEMIDROSY_FIGURES = 5      /* what lemidrosy_simulate writes */
+    LEMIDROSY_THREES = 192,    /* what lemidrosy_messages asks for: three numbers for each of 64 messages */
+    LEMIDROSY_SAVED = 12942    /* the bytes of a saved state */
 };
 
 /* An answer is one number with fields, the same for every call:
@@ -176,6 +178,26 @@ uint64_t lemidrosy_merge(const uint8_t *first, size_t first_length, const uint8_
    a starting value. Five figures go to the list: the deliveries, the forced checkpoints, the most checkpoints that a process kept after any step, and 1,000 times the forced
    ones divided by the deliveries, as quotient and remainder. Refused with 3 (fewer than five entries), then with 22. */
 uint64_t lemidrosy_simulate(size_t n, uint32_t spacing, uint32_t steps, uint32_t seed, uint64_t *figures, size_t figures_length);
+/* A saved state is 12,942 bytes, the same on every machine: "LEMIDROS", the version 1 in two bytes, the 6,464 words in two bytes each, and in four the CRC-32C of all
+   these, every number lowest byte first. Its bytes are one to one with the words: proved. */
+
+/* The bytes of the state go to the front of the lent ones; the value is how many they are. Refused with 2, or with 3 if fewer than 12,942 are lent. */
+uint64_t lemidrosy_save(const uint16_t *words, size_t words_length, uint8_t *bytes, size_t bytes_length);
+
+/* Bytes, any at all: where they are a saved sound state, and nothing behind it, the words are those that were saved. Refused with 2 otherwise, or if not 6,464 words are
+   lent: then no word is written. No change of a single byte is overlooked: proved. It takes 13 KB of stack. */
+uint64_t lemidrosy_load(const uint8_t *bytes, size_t bytes_length, uint16_t *words, size_t words_length);
+
+/* A state in a file, of LEMIDROSY_WORDS words. These two are C (lemidrosy_file.c) over the two above, and no part of what is proved. They answer 0, the number of a
+   refusal, or below 0 the system's error, -ENOENT and so on. */
+
+/* Stores the state at the path. Until it stands there whole, on the disk, the old file does: a crash, a full disk or an error in between leaves that, and a crash may
+   leave a file beside it whose name ends in .new, which counts for nothing. A file that was there is replaced with its mode kept; a symbolic link is replaced itself. Two
+   stores at a time leave one of the two states. An error after the new file has its name (the folder does not reach the disk) is the one that leaves the new state. */
+int lemidrosy_store_file(const char *path, const uint16_t *words);
+
+/* Loads the state of a file. Refused with 2 where the file is no saved sound state, or has anything behind it; then, and with an error, no word is written. */
+int lemidrosy_load_file(const char *path, uint16_t *words);
 
 #ifdef __cplusplus
 }
