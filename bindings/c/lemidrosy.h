@@ -31,8 +31,7 @@ enum {
     LEMIDROSY_DELETIONS = 512, /* entries of a deletion list, which is enough for every n: 2 n n are asked for */
     LEMIDROSY_NUMBERS = 5,     /* what lemidrosy_numbers writes */
     LEMIDROSY_THREES = 192,    /* what lemidrosy_messages and lemidrosy_lost ask for: three numbers for each of 64 messages */
-    LEMIDROSY_FIGURES = 5      /* what lemidrosy_simulate writes */
-    LEMIDROSY_THREES = 192,    /* what lemidrosy_messages asks for: three numbers for each of 64 messages */
+    LEMIDROSY_FIGURES = 5,     /* what lemidrosy_simulate writes */
     LEMIDROSY_SAVED = 12942    /* the bytes of a saved state */
 };
 
@@ -178,6 +177,7 @@ uint64_t lemidrosy_merge(const uint8_t *first, size_t first_length, const uint8_
    a starting value. Five figures go to the list: the deliveries, the forced checkpoints, the most checkpoints that a process kept after any step, and 1,000 times the forced
    ones divided by the deliveries, as quotient and remainder. Refused with 3 (fewer than five entries), then with 22. */
 uint64_t lemidrosy_simulate(size_t n, uint32_t spacing, uint32_t steps, uint32_t seed, uint64_t *figures, size_t figures_length);
+
 /* A saved state is 12,942 bytes, the same on every machine: "LEMIDROS", the version 1 in two bytes, the 6,464 words in two bytes each, and in four the CRC-32C of all
    these, every number lowest byte first. Its bytes are one to one with the words: proved. */
 

@@ -9,6 +9,7 @@
 //! * `words`: the state as words that a caller lends.
 //! * `calls`: the calls on such words, and a library held to the oracle.
 //! * `bindings`: calls through a binding and their answers, as lines of text.
+//! * `saved`: a state saved to bytes, and loaded.
 //!
 //! Every other module belongs to one note, which its first lines name.
 //!
@@ -26,6 +27,7 @@ pub mod hold;
 pub mod judge;
 pub mod replay;
 pub mod run;
+pub mod saved;
 pub mod simulate;
 pub mod whole;
 pub mod words;
