@@ -2,8 +2,10 @@
 // the buffers, and has every second call made here.
 //
 //     driver COUNT SEED
+//     driver programs COUNT SEED
 //
-// Built with the address and undefined-behaviour sanitizers. The status is 0 if COUNT calls were made and each did what the oracle says.
+// The second is for what works on no state (programs.rs): COUNT calls of each. Built with the address and undefined-behaviour sanitizers. The status is 0 if COUNT calls
+// were made and each did what the oracle says.
 #define _GNU_SOURCE
 #include <signal.h>
 #include <stdbool.h>
@@ -33,11 +35,12 @@ struct call {
 };
 
 bool hold_calls(uint64_t seed, uint64_t count);
+bool hold_programs(uint64_t seed, uint64_t count);
 
-enum { BUFFERS = 5, FILLING = 0xa5 };
+enum { BUFFERS = 8, FILLING = 0xa5 };
 
-// How many pages each has: the first is for words, also for twice as many as a state has.
-static const size_t pages[BUFFERS] = {8, 1, 1, 1, 1};
+// How many pages each has: the first is for words, also for twice as many as a state has, the last three are for bytes.
+static const size_t pages[BUFFERS] = {8, 1, 1, 1, 1, 64, 64, 64};
 
 // A buffer is some pages with a page on either side that may not be touched. What is lent lies at its end or at its beginning; the rest holds FILLING.
 static struct buffer {
@@ -45,7 +48,7 @@ static struct buffer {
     size_t size, at, lent;
 } buffers[BUFFERS];
 
-static unsigned char filling[8 * 65536];
+static unsigned char filling[64 * 65536];
 
 static void make_buffers(void) {
     size_t page = (size_t)sysconf(_SC_PAGESIZE);
@@ -129,8 +132,26 @@ uint64_t call_from_c(const struct call *c) {
 #ifndef ABSENT_messages
     case 13: return lemidrosy_messages(c->words, c->words_len, c->numbers, c->numbers_len);
 #endif
+#ifndef ABSENT_lost
+    case 14: return lemidrosy_lost(c->words, c->words_len, (uint32_t)c->first, c->numbers, c->numbers_len);
+#endif
+#ifndef ABSENT_carried
+    case 15: return lemidrosy_carried(c->words, c->words_len, (uint32_t)c->first, c->line, c->line_len);
+#endif
     default: fprintf(stderr, "driver: no such call\n"); exit(1);
     }
+}
+
+uint64_t judge_from_c(const uint8_t *trace, size_t length) {
+    return lemidrosy_judge(trace, length);
+}
+
+uint64_t merge_from_c(const uint8_t *first, size_t first_length, const uint8_t *second, size_t second_length, uint32_t set, uint8_t *trace, size_t trace_length) {
+    return lemidrosy_merge(first, first_length, second, second_length, set, trace, trace_length);
+}
+
+uint64_t simulate_from_c(size_t n, uint32_t spacing, uint32_t steps, uint32_t seed, uint64_t *figures, size_t length) {
+    return lemidrosy_simulate(n, spacing, steps, seed, figures, length);
 }
 
 // Memory that was not lent was touched: the call is named, which the seed gives again.
@@ -155,12 +176,15 @@ const char *__asan_default_options(void) {
 }
 
 int main(int count, char **words) {
-    if (count != 3) {
-        fprintf(stderr, "usage: driver COUNT SEED\n");
+    bool programs = count == 4 && strcmp(words[1], "programs") == 0;
+    if (count != 3 && !programs) {
+        fprintf(stderr, "usage: driver [programs] COUNT SEED\n");
         return 2;
     }
     make_buffers();
     signal(SIGSEGV, touched);
     signal(SIGBUS, touched);
-    return hold_calls(strtoull(words[2], NULL, 10), strtoull(words[1], NULL, 10)) ? 0 : 1;
+    uint64_t many = strtoull(words[count - 2], NULL, 10);
+    uint64_t seed = strtoull(words[count - 1], NULL, 10);
+    return (programs ? hold_programs(seed, many) : hold_calls(seed, many)) ? 0 : 1;
 }

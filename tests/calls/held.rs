@@ -1,6 +1,10 @@
 //! The library, linked as an archive, held to the oracle. This part is linked
 //! into `driver.c`, which has the buffers that are lent and calls the library from
 //! C; every second call is made here, from Rust.
+//!
+//! * `programs`: what works on no state.
+
+mod programs;
 
 use oracle::calls::hold::{hold, place, Library, Tally, CALLS};
 use oracle::calls::{Call, Lists};
@@ -64,6 +68,8 @@ extern "C" {
     fn lemidrosy_pins(w: *const u16, l: usize, i: usize, v: *mut u16, vl: usize) -> u64;
     fn lemidrosy_kept(w: *const u16, l: usize, i: usize, k: *mut u32, kl: usize) -> u64;
     fn lemidrosy_messages(w: *const u16, l: usize, m: *mut u32, ml: usize) -> u64;
+    fn lemidrosy_lost(w: *const u16, l: usize, f: u32, m: *mut u32, ml: usize) -> u64;
+    fn lemidrosy_carried(w: *const u16, l: usize, m: u32, v: *mut u16, vl: usize) -> u64;
 }
 
 /// The numbers of `driver.c`'s buffers.
@@ -120,6 +126,12 @@ impl Library for Archive {
             Call::Recover { failed } => Call::Recover {
                 failed: cut(failed),
             },
+            Call::Lost { failed } => Call::Lost {
+                failed: cut(failed),
+            },
+            Call::Carried { number } => Call::Carried {
+                number: cut(number),
+            },
             _ => call,
         }
     }
@@ -175,8 +187,8 @@ fn numbers(call: Call) -> (u64, u64) {
         | Call::Pins { process }
         | Call::Kept { process } => (process, 0),
         Call::Send { from, to } => (from, to),
-        Call::Deliver { number } | Call::Lose { number } => (number, 0),
-        Call::Line { failed } | Call::Recover { failed } => (failed, 0),
+        Call::Deliver { number } | Call::Lose { number } | Call::Carried { number } => (number, 0),
+        Call::Line { failed } | Call::Recover { failed } | Call::Lost { failed } => (failed, 0),
         Call::Earliest | Call::IsSound | Call::Numbers | Call::Messages => (0, 0),
     }
 }
@@ -206,7 +218,9 @@ unsafe fn call_from_rust(c: &Lent) -> u64 {
         10 => lemidrosy_vector(w, l, first, c.line, c.line_len),
         11 => lemidrosy_pins(w, l, first, c.line, c.line_len),
         12 => lemidrosy_kept(w, l, first, c.numbers, c.numbers_len),
-        _ => lemidrosy_messages(w, l, c.numbers, c.numbers_len),
+        13 => lemidrosy_messages(w, l, c.numbers, c.numbers_len),
+        14 => lemidrosy_lost(w, l, c.first as u32, c.numbers, c.numbers_len),
+        _ => lemidrosy_carried(w, l, c.first as u32, c.line, c.line_len),
     }
 }
 

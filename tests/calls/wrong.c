@@ -96,6 +96,42 @@ uint64_t lemidrosy_kept(const uint16_t *words, size_t size, size_t process, uint
         kept[3 * (answer >> 24 & 0xffffff) - 2] ^= 3;
     return answer;
 }
+#elif WAY == 14 // one message fewer would be lost
+uint64_t right_lost(const uint16_t *, size_t, uint32_t, uint32_t *, size_t);
+uint64_t lemidrosy_lost(const uint16_t *words, size_t size, uint32_t failed, uint32_t *messages, size_t room) {
+    uint64_t answer = right_lost(words, size, failed, messages, room);
+    return answer >> 24 != 0 ? answer - ((uint64_t)1 << 24) : answer;
+}
+#elif WAY == 15 // an entry of a carried vector is that of the next process
+uint64_t right_carried(const uint16_t *, size_t, uint32_t, uint16_t *, size_t);
+uint64_t lemidrosy_carried(const uint16_t *words, size_t size, uint32_t message, uint16_t *vector, size_t room) {
+    uint64_t answer = right_carried(words, size, message, vector, room);
+    if (answer == 0 && room > 1)
+        vector[0] = vector[1];
+    return answer;
+}
+#elif WAY == 16 // the ends of a pair of states that breaks are exchanged
+uint64_t right_judge(const uint8_t *, size_t);
+uint64_t lemidrosy_judge(const uint8_t *trace, size_t size) {
+    uint64_t answer = right_judge(trace, size);
+    return (answer & 0xffff) | (answer >> 40) << 16 | (answer >> 16) << 40;
+}
+#elif WAY == 17 // the byte after the merged trace is written
+uint64_t right_merge(const uint8_t *, size_t, const uint8_t *, size_t, uint32_t, uint8_t *, size_t);
+uint64_t lemidrosy_merge(const uint8_t *first, size_t one, const uint8_t *second, size_t other, uint32_t set, uint8_t *trace, size_t room) {
+    uint64_t answer = right_merge(first, one, second, other, set, trace, room);
+    if ((answer & 255) == 0)
+        trace[answer >> 24] ^= 1;
+    return answer;
+}
+#elif WAY == 18 // the figures of a simulation that is refused are zero
+uint64_t right_simulate(size_t, uint32_t, uint32_t, uint32_t, uint64_t *, size_t);
+uint64_t lemidrosy_simulate(size_t n, uint32_t spacing, uint32_t steps, uint32_t seed, uint64_t *figures, size_t room) {
+    uint64_t answer = right_simulate(n, spacing, steps, seed, figures, room);
+    if (answer == 22)
+        figures[0] = 0;
+    return answer;
+}
 #else
 #error "no such way to be wrong"
 #endif

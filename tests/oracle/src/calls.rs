@@ -8,7 +8,9 @@ pub mod draw;
 pub mod hold;
 
 use crate::run::forged::State;
-use crate::run::refusal::{COUNT_OUTSIDE, LIST_TOO_SHORT, NOT_SOUND, NO_SUCH_PROCESS};
+use crate::run::refusal::{
+    COUNT_OUTSIDE, LIST_TOO_SHORT, NOT_SOUND, NOT_UNDER_WAY, NO_SUCH_PROCESS,
+};
 use crate::run::{Counts, Entry, Message, Named, Run, MAX_PROCESSES, MAX_UNDER_WAY};
 use crate::words::SIZE;
 
@@ -53,8 +55,16 @@ pub enum Call {
     Kept {
         process: u64,
     },
-    /// .. and the messages under way.
+    /// .. the messages under way, ..
     Messages,
+    /// .. those of them that a recovery would lose, ..
+    Lost {
+        failed: u64,
+    },
+    /// .. and the vector that one of them carries.
+    Carried {
+        number: u64,
+    },
 }
 
 impl Call {
@@ -240,13 +250,23 @@ fn answered(run: &mut Run, call: Call, lists: &mut Lists) -> Result<Said, u8> {
             return Ok(counted(kept.map_or(0, |kept| kept.len()) / 3));
         }
         Call::Messages => {
-            let three = |message: &Message| {
-                let number = u32::try_from(message.number).expect("at most 1,000,000");
-                [number, message.sender as u32, message.receiver as u32]
-            };
-            let messages: Vec<u32> = run.under_way().iter().flat_map(three).collect();
+            let messages: Vec<u32> = run.under_way().iter().flat_map(message_numbers).collect();
             write(&messages, 3 * MAX_UNDER_WAY, &mut lists.numbers)?;
             return Ok(counted(messages.len() / 3));
+        }
+        Call::Lost { failed } => {
+            let lost =
+                lost(run, failed).map(|lost| lost.iter().flat_map(message_numbers).collect());
+            read(&lost, 3 * MAX_UNDER_WAY, &mut lists.numbers)?;
+            return Ok(counted(lost.map_or(0, |lost: Vec<u32>| lost.len()) / 3));
+        }
+        Call::Carried { number } => {
+            let mut under_way = run.under_way().iter();
+            let found = under_way.find(|message| message.number == number);
+            let carried = found
+                .map(|message| narrow(&message.carried[..run.count()]))
+                .ok_or(NOT_UNDER_WAY);
+            return read(&carried, run.count(), &mut lists.line);
         }
         Call::Checkpoint { process } => {
             let done = run.checkpoint(as_number(process), &mut deletions)?;
@@ -294,6 +314,26 @@ fn answered(run: &mut Run, call: Call, lists: &mut Lists) -> Result<Said, u8> {
     Ok(said)
 }
 
+/// The three numbers of a message.
+fn message_numbers(message: &Message) -> [u32; 3] {
+    let number = u32::try_from(message.number).expect("at most 1,000,000");
+    [number, message.sender as u32, message.receiver as u32]
+}
+
+/// The messages that are under way before a recovery and not after it.
+fn lost(run: &Run, failed: u64) -> Result<Vec<Message>, u8> {
+    let mut after = run.clone();
+    let mut deletions = vec![0; 2 * run.count() * run.count()];
+    let mut line = vec![0; run.count()];
+    after.recover(failed, &mut deletions, &mut line)?;
+    let is_left = |number| after.under_way().iter().any(|left| left.number == number);
+    let under_way = run.under_way().iter();
+    Ok(under_way
+        .filter(|message| !is_left(message.number))
+        .copied()
+        .collect())
+}
+
 /// What is read of a process: 4 if it is not below n.
 fn of_process<T>(run: &Run, process: u64, of: impl Fn(usize) -> Vec<T>) -> Result<Vec<T>, u8> {
     let process = as_number(process);
@@ -304,7 +344,7 @@ fn of_process<T>(run: &Run, process: u64, of: impl Fn(usize) -> Vec<T>) -> Resul
 }
 
 /// What was read goes to the front of a list: 3 if the list has less room than is
-/// asked for, which is judged before 4.
+/// asked for, which is judged before all other numbers.
 fn read<T: Copy>(what: &Result<Vec<T>, u8>, asked: usize, list: &mut [T]) -> Result<Said, u8> {
     if list.len() < asked {
         return Err(LIST_TOO_SHORT);

@@ -115,18 +115,22 @@ pub fn call(draws: &mut Draws, habits: &Habits, now: Option<&State>) -> Call {
         },
         8..=9 => Call::Earliest,
         10 => Call::IsSound,
-        _ => reading(draws, count),
+        _ => reading(draws, count, now),
     }
 }
 
-fn reading(draws: &mut Draws, count: u64) -> Call {
+fn reading(draws: &mut Draws, count: u64, now: Option<&State>) -> Call {
     let process = process(draws, count);
+    let failed = failed(draws, count);
+    let number = message(draws, now);
     draws.one_of(&[
         Call::Numbers,
         Call::Vector { process },
         Call::Pins { process },
         Call::Kept { process },
         Call::Messages,
+        Call::Lost { failed },
+        Call::Carried { number },
     ])
 }
 
@@ -234,7 +238,7 @@ pub fn lists(draws: &mut Draws, call: Call, now: Option<&State>) -> Lists {
         Call::Start { count } => block_counts(draws, count),
         Call::Earliest => names(draws, now),
         Call::Kept { .. } => any(draws, 3 * count),
-        Call::Messages => any(draws, 3 * MAX_UNDER_WAY),
+        Call::Messages | Call::Lost { .. } => any(draws, 3 * MAX_UNDER_WAY),
         _ => Vec::new(),
     };
     let size = length(draws, 5);

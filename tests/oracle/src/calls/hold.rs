@@ -22,7 +22,7 @@ pub trait Library {
 }
 
 /// The calls by name, and which numbers each can give, 0 if accepted.
-pub const CALLS: [(&str, &[usize]); 14] = [
+pub const CALLS: [(&str, &[usize]); 16] = [
     ("start", &[0, 1, 2, 3, 15]),
     ("checkpoint", &[0, 2, 3, 4, 11, 16]),
     ("send", &[0, 2, 4, 5, 9, 10]),
@@ -38,6 +38,8 @@ pub const CALLS: [(&str, &[usize]); 14] = [
     ("pins", &[0, 2, 3, 4]),
     ("kept", &[0, 2, 3, 4]),
     ("messages", &[0, 2, 3]),
+    ("lost", &[0, 2, 3, 7]),
+    ("carried", &[0, 2, 3, 8]),
 ];
 
 pub fn place(call: Call) -> usize {
@@ -56,6 +58,8 @@ pub fn place(call: Call) -> usize {
         Call::Pins { .. } => 11,
         Call::Kept { .. } => 12,
         Call::Messages => 13,
+        Call::Lost { .. } => 14,
+        Call::Carried { .. } => 15,
     }
 }
 
@@ -326,7 +330,13 @@ fn count(tally: &mut Tally, call: Call, answer: u64, held: &Held) {
     let number = (answer & 255) as usize;
     tally.met[place(call)][number] += 1;
     let sound = held.run.is_some();
-    if number == 2 && sound && matches!(call, Call::Line { .. } | Call::Recover { .. }) {
+    if number == 2
+        && sound
+        && matches!(
+            call,
+            Call::Line { .. } | Call::Recover { .. } | Call::Lost { .. }
+        )
+    {
         tally.without_line += 1;
     }
     if number == 0 && sound && held.forged {
