@@ -81,9 +81,9 @@ module lemidrosy
 
     public :: lemidrosy_refusal_text, lemidrosy_is_sound
     public :: lemidrosy_start, lemidrosy_checkpoint, lemidrosy_send, lemidrosy_deliver, lemidrosy_lose
-    public :: lemidrosy_line, lemidrosy_earliest
+    public :: lemidrosy_line, lemidrosy_earliest, lemidrosy_lost
     public :: lemidrosy_numbers, lemidrosy_vector, lemidrosy_pins, lemidrosy_kept, lemidrosy_messages, lemidrosy_carried
-    public :: lemidrosy_judge
+    public :: lemidrosy_judge, lemidrosy_merge, lemidrosy_simulate
 
     interface
         function c_refusal_text(number) bind(c, name="lemidrosy_refusal_text") result(text)
@@ -134,6 +134,15 @@ module lemidrosy
             integer(c_int16_t), intent(inout) :: words(*)
             integer(c_size_t), value :: length
             integer(c_int32_t), value :: message
+            integer(c_int64_t) :: answer
+        end function
+
+        function c_lost(words, length, failed, messages, room) bind(c, name="lemidrosy_lost") result(answer)
+            import :: c_int16_t, c_int32_t, c_int64_t, c_size_t
+            integer(c_int16_t), intent(in) :: words(*)
+            integer(c_size_t), value :: length, room
+            integer(c_int32_t), value :: failed
+            integer(c_int32_t), intent(inout) :: messages(*)
             integer(c_int64_t) :: answer
         end function
 
@@ -209,6 +218,24 @@ module lemidrosy
             integer(c_int8_t), intent(in) :: trace(*)
             integer(c_size_t), value :: length
             integer(c_int64_t) :: verdict
+        end function
+
+        function c_merge(first, first_length, second, second_length, set, trace, room) bind(c, name="lemidrosy_merge") &
+            result(answer)
+            import :: c_int8_t, c_int32_t, c_int64_t, c_size_t
+            integer(c_int8_t), intent(in) :: first(*), second(*)
+            integer(c_size_t), value :: first_length, second_length, room
+            integer(c_int32_t), value :: set
+            integer(c_int8_t), intent(inout) :: trace(*)
+            integer(c_int64_t) :: answer
+        end function
+
+        function c_simulate(n, spacing, steps, seed, figures, room) bind(c, name="lemidrosy_simulate") result(answer)
+            import :: c_int32_t, c_int64_t, c_size_t
+            integer(c_size_t), value :: n, room
+            integer(c_int32_t), value :: spacing, steps, seed
+            integer(c_int64_t), intent(inout) :: figures(*)
+            integer(c_int64_t) :: answer
         end function
 
         function c_strlen(text) bind(c, name="strlen") result(length)
@@ -298,6 +325,17 @@ contains
         type(lemidrosy_answer) :: answer
 
         answer = fields(c_lose(words, length_of(words), message))
+    end function
+
+    ! The messages under way that a recovery of this failed set would lose, as lemidrosy_messages has them: to be asked before the
+    ! recovery. Refused with 2, 3 or 7.
+    function lemidrosy_lost(words, failed, messages) result(answer)
+        integer(c_int16_t), contiguous, intent(in) :: words(:)
+        integer(c_int32_t), intent(in) :: failed
+        integer(c_int32_t), contiguous, intent(inout) :: messages(:)
+        type(lemidrosy_answer) :: answer
+
+        answer = fields(c_lost(words, length_of(words), failed, messages, size(messages, kind=c_size_t)))
     end function
 
     ! The line for a failed set: the n indexes of the line go to the list. The index of a process that stays live is its own
@@ -408,6 +446,29 @@ contains
         verdict%near_index = field(number, 24, 16)
         verdict%far_process = field(number, 40, 8)
         verdict%far_index = field(number, 48, 16)
+    end function
+
+    ! The trace of two halves of a run, of which each recorded its own processes: bit p of the set says that process p belongs to
+    ! the first. The value is how many bytes it has; the list has room for the bytes of both. Refused with 1, 3, 4, 5, 7, 12, 13,
+    ! 14, 17, 23 or 24.
+    function lemidrosy_merge(first, second, set, trace) result(answer)
+        integer(c_int8_t), contiguous, intent(in) :: first(:), second(:)
+        integer(c_int32_t), intent(in) :: set
+        integer(c_int8_t), contiguous, intent(inout) :: trace(:)
+        type(lemidrosy_answer) :: answer
+
+        answer = fields(c_merge(first, size(first, kind=c_size_t), second, size(second, kind=c_size_t), set, trace, &
+            size(trace, kind=c_size_t)))
+    end function
+
+    ! The figures of a simulation: deliveries, forced checkpoints, the most kept at any process, forced checkpoints for each
+    ! thousand deliveries and the remainder of that division. Refused with 3 or 22.
+    function lemidrosy_simulate(n, spacing, steps, seed, figures) result(answer)
+        integer(c_int32_t), intent(in) :: n, spacing, steps, seed
+        integer(c_int64_t), contiguous, intent(inout) :: figures(:)
+        type(lemidrosy_answer) :: answer
+
+        answer = fields(c_simulate(int(n, c_size_t), spacing, steps, seed, figures, size(figures, kind=c_size_t)))
     end function
 
     ! The fields of an answer.

@@ -130,6 +130,13 @@ static void line(void) {
     say_row(got, row);
 }
 
+static void lost(void) {
+    uint32_t list[LEMIDROSY_THREES];
+    struct lemidrosy_answer got = lemidrosy_answer(lemidrosy_lost(words, size, (uint32_t)number(), list, LEMIDROSY_THREES));
+    if (accepted(got.refused))
+        say32(list, 3 * got.value, 3);
+}
+
 /* The next word, a pair. */
 static void pair(uint32_t two[2]) {
     char *second, *word = take_word();
@@ -232,13 +239,38 @@ static void judge(void) {
         printf(" %u:%u %u:%u", got.near_process, got.near_index, got.far_process, got.far_index);
 }
 
+static void merge(void) {
+    size_t first_length, second_length;
+    uint32_t set = (uint32_t)number();
+    uint8_t *first = bytes(&first_length), *second = bytes(&second_length), *trace = malloc(first_length + second_length + 1);
+    no_memory(trace);
+    struct lemidrosy_answer got = lemidrosy_answer(lemidrosy_merge(first, first_length, second, second_length, set, trace, first_length + second_length));
+    if (accepted(got.refused))
+        putchar(' ');
+    for (size_t k = 0; k < got.value; k++)
+        printf("%02x", trace[k]);
+    free(first);
+    free(second);
+    free(trace);
+}
+
+static void simulate(void) {
+    uint64_t figures[5];
+    size_t n = (size_t)number();
+    uint32_t spacing = (uint32_t)number(), steps = (uint32_t)number(), seed = (uint32_t)number();
+    if (!accepted(lemidrosy_refused(lemidrosy_simulate(n, spacing, steps, seed, figures, 5))))
+        return;
+    for (size_t k = 0; k < 5; k++)
+        printf(" %llu", (unsigned long long)figures[k]);
+}
+
 static const struct {
     const char *name;
     void (*make)(void);
 } calls[] = {
-    {"start", start}, {"checkpoint", checkpoint}, {"send", send_one}, {"deliver", deliver}, {"lose", lose}, {"line", line}, {"earliest", earliest},
+    {"start", start}, {"checkpoint", checkpoint}, {"send", send_one}, {"deliver", deliver}, {"lose", lose}, {"line", line}, {"lost", lost}, {"earliest", earliest},
     {"is_sound", is_sound}, {"numbers", numbers}, {"vector", vector}, {"pins", pins}, {"kept", kept}, {"messages", messages}, {"carried", carried},
-    {"words", spread}, {"dump", dump}, {"take", take}, {"judge", judge},
+    {"words", spread}, {"dump", dump}, {"take", take}, {"judge", judge}, {"merge", merge}, {"simulate", simulate},
 };
 
 int main(void) {

@@ -176,6 +176,27 @@ contains
         end do
     end subroutine
 
+    subroutine say_bytes(bytes)
+        integer(c_int8_t), intent(in) :: bytes(:)
+        character(len=2) :: two
+        integer :: k
+
+        call append(answer, answer_length, ' ')
+        do k = 1, size(bytes)
+            write (two, '(z2.2)') iand(int(bytes(k)), 255)
+            call append(answer, answer_length, small(two(1:1)) // small(two(2:2)))
+        end do
+    end subroutine
+
+    ! A digit in a small letter.
+    pure function small(letter) result(same)
+        character, intent(in) :: letter
+        character :: same
+
+        same = letter
+        if (letter >= 'A') same = achar(iachar(letter) + 32)
+    end function
+
     function digits_of(number) result(digits)
         integer(c_int64_t), intent(in) :: number
         character(len=:), allocatable :: digits
@@ -214,7 +235,7 @@ contains
             call send()
         case ('deliver', 'lose', 'carried')
             call of_message(call_name, next_bits())
-        case ('line')
+        case ('line', 'lost')
             call of_set(call_name, next_bits())
         case ('earliest')
             call earliest()
@@ -230,6 +251,10 @@ contains
             call stored(call_name, next_word())
         case ('judge')
             call judge(next_bytes())
+        case ('merge')
+            call merge_halves()
+        case ('simulate')
+            call simulate()
         case default
             error stop 'no such call'
         end select
@@ -353,13 +378,16 @@ contains
     subroutine of_set(call_name, failed)
         character(len=*), intent(in) :: call_name
         integer(c_int32_t), intent(in) :: failed
-        integer(c_int32_t) :: row(lemidrosy_max_processes)
+        integer(c_int32_t) :: row(lemidrosy_max_processes), list(lemidrosy_messages_size)
         type(lemidrosy_answer) :: got
 
         select case (call_name)
         case ('line')
             got = lemidrosy_line(words, failed, row)
             if (accepted(got%refused)) call say_all(row(:count_of()))
+        case ('lost')
+            got = lemidrosy_lost(words, failed, list)
+            if (accepted(got%refused)) call say_groups(list(:3 * got%value), 3)
         end select
     end subroutine
 
@@ -435,5 +463,35 @@ contains
         got = lemidrosy_judge(trace)
         if (.not. accepted(got%refused)) return
         if (got%breaks) call say_groups([got%near_process, got%near_index, got%far_process, got%far_index], 2)
+    end subroutine
+
+    subroutine merge_halves()
+        integer(c_int32_t) :: set
+        integer(c_int8_t), allocatable :: first(:), second(:), trace(:)
+        type(lemidrosy_answer) :: got
+
+        set = next_bits()
+        first = next_bytes()
+        second = next_bytes()
+        allocate (trace(size(first) + size(second)))
+        got = lemidrosy_merge(first, second, set, trace)
+        if (accepted(got%refused)) call say_bytes(trace(:got%value))
+    end subroutine
+
+    subroutine simulate()
+        integer(c_int64_t) :: n, figures(5)
+        integer(c_int32_t) :: spacing, steps
+        type(lemidrosy_answer) :: got
+        integer :: k
+
+        n = next_number()
+        if (.not. can_say(n)) return
+        spacing = next_bits()
+        steps = next_bits()
+        got = lemidrosy_simulate(int(n, c_int32_t), spacing, steps, next_bits(), figures)
+        if (.not. accepted(got%refused)) return
+        do k = 1, size(figures)
+            call say(figures(k))
+        end do
     end subroutine
 end program

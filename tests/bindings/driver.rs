@@ -1,7 +1,7 @@
 //! Makes the calls on standard input through the binding for Rust and prints the
 //! answers: README.md has the lines.
 
-use lemidrosy::{judge, Checkpoint, Message, Refusal, Run, Verdict};
+use lemidrosy::{judge, merge, simulate, Checkpoint, Message, Refusal, Run, Verdict};
 use std::fmt::Display;
 use std::io::{self, BufRead, BufWriter, Write};
 
@@ -53,6 +53,10 @@ fn made(run: &mut Run, call: &str, words: &[&str]) -> Result<String, Refusal> {
         }
         "lose" => run.lose(number(words, 0))?,
         "line" => spell(&mut line, run.line(number(words, 0))?),
+        "lost" => spell(
+            &mut line,
+            run.lost(number(words, 0))?.into_iter().map(three),
+        ),
         "earliest" => spell(&mut line, run.earliest(&named(words))?),
         "is_sound" => spell(&mut line, [u8::from(run.is_sound())]),
         "numbers" => {
@@ -80,6 +84,21 @@ fn made(run: &mut Run, call: &str, words: &[&str]) -> Result<String, Refusal> {
             Verdict::Trackable => {}
             Verdict::Breaks { near, far } => spell(&mut line, pairs(&[near, far])),
         },
+        "merge" => {
+            let trace = merge(&bytes(words[1]), &bytes(words[2]), number(words, 0))?;
+            spell(&mut line, [digits(&trace)]);
+        }
+        "simulate" => {
+            let figures = simulate(
+                number(words, 0),
+                number(words, 1),
+                number(words, 2),
+                number(words, 3),
+            )?;
+            spell(&mut line, [figures.deliveries, figures.forced]);
+            spell(&mut line, [figures.most_kept, figures.per_thousand]);
+            spell(&mut line, [figures.remainder]);
+        }
         _ => panic!("no such call: {call}"),
     }
     Ok(line)
@@ -140,6 +159,10 @@ fn bytes(digits: &str) -> Vec<u8> {
     places
         .map(|two| u8::from_str_radix(two, 16).expect("two digits"))
         .collect()
+}
+
+fn digits(bytes: &[u8]) -> String {
+    bytes.iter().map(|byte| format!("{byte:02x}")).collect()
 }
 
 fn dump(run: &Run, name: &str) -> io::Result<String> {

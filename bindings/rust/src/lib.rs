@@ -34,7 +34,7 @@ mod trace;
 pub use answers::{Cause, Delivered, Kept, Message, Numbers, Stored};
 pub use refusal::Refusal;
 pub use run::Run;
-pub use trace::{judge, Verdict};
+pub use trace::{judge, merge, simulate, Figures, Verdict};
 
 /// A checkpoint, or the live state behind the last one: a process and an index.
 pub type Checkpoint = (usize, u16);

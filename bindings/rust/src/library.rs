@@ -23,6 +23,7 @@ mod c {
         pub fn lemidrosy_send(w: *mut u16, wl: usize, p: usize, q: usize) -> u64;
         pub fn lemidrosy_deliver(w: *mut u16, wl: usize, m: u32, d: *mut u16, dl: usize) -> u64;
         pub fn lemidrosy_lose(w: *mut u16, wl: usize, m: u32) -> u64;
+        pub fn lemidrosy_lost(w: *const u16, wl: usize, f: u32, m: *mut u32, ml: usize) -> u64;
         pub fn lemidrosy_line(w: *const u16, wl: usize, f: u32, l: *mut u16, ll: usize) -> u64;
         pub fn lemidrosy_earliest(
             w: *const u16,
@@ -39,6 +40,16 @@ mod c {
         pub fn lemidrosy_messages(w: *const u16, wl: usize, m: *mut u32, ml: usize) -> u64;
         pub fn lemidrosy_carried(w: *const u16, wl: usize, m: u32, v: *mut u16, vl: usize) -> u64;
         pub fn lemidrosy_judge(t: *const u8, tl: usize) -> u64;
+        pub fn lemidrosy_merge(
+            a: *const u8,
+            al: usize,
+            b: *const u8,
+            bl: usize,
+            s: u32,
+            t: *mut u8,
+            tl: usize,
+        ) -> u64;
+        pub fn lemidrosy_simulate(n: usize, k: u32, s: u32, v: u32, f: *mut u64, fl: usize) -> u64;
     }
 }
 
@@ -96,6 +107,18 @@ pub fn deliver(words: &mut [u16], message: u32, deleted: &mut [u16]) -> u64 {
 
 pub fn lose(words: &mut [u16], message: u32) -> u64 {
     unsafe { c::lemidrosy_lose(words.as_mut_ptr(), words.len(), message) }
+}
+
+pub fn lost(words: &[u16], failed: u32, messages: &mut [u32]) -> u64 {
+    unsafe {
+        c::lemidrosy_lost(
+            words.as_ptr(),
+            words.len(),
+            failed,
+            messages.as_mut_ptr(),
+            messages.len(),
+        )
+    }
 }
 
 pub fn line(words: &[u16], failed: u32, line: &mut [u16]) -> u64 {
@@ -195,4 +218,22 @@ pub fn carried(words: &[u16], message: u32, vector: &mut [u16]) -> u64 {
 
 pub fn judge(trace: &[u8]) -> u64 {
     unsafe { c::lemidrosy_judge(trace.as_ptr(), trace.len()) }
+}
+
+pub fn merge(first: &[u8], second: &[u8], set: u32, trace: &mut [u8]) -> u64 {
+    unsafe {
+        c::lemidrosy_merge(
+            first.as_ptr(),
+            first.len(),
+            second.as_ptr(),
+            second.len(),
+            set,
+            trace.as_mut_ptr(),
+            trace.len(),
+        )
+    }
+}
+
+pub fn simulate(n: usize, spacing: u32, steps: u32, seed: u32, figures: &mut [u64]) -> u64 {
+    unsafe { c::lemidrosy_simulate(n, spacing, steps, seed, figures.as_mut_ptr(), figures.len()) }
 }

@@ -68,6 +68,27 @@ impl Run {
         Ok(())
     }
 
+    /// The messages under way that a recovery of this failed set would lose, ascending by number: to be asked before the recovery.
+    ///
+    /// Refused: `NoSuchFailedProcess`.
+    ///
+    /// ```
+    /// # use lemidrosy::{Refusal, Run};
+    /// # fn main() -> Result<(), Refusal> {
+    /// let mut run = Run::start(&[1, 1])?;
+    /// let message = run.send(0, 1)?;
+    /// // process 0 fails before it has stored what it sent
+    /// assert_eq!(run.lost(1 << 0)?[0].number, message);
+    /// assert!(run.lost(1 << 1)?.is_empty());
+    /// # Ok(())
+    /// # }
+    /// ```
+    pub fn lost(&self, failed: u32) -> Result<Vec<Message>, Refusal> {
+        let mut list = [0; 3 * MESSAGES];
+        let answer = accepted(library::lost(&self.words, failed, &mut list))?;
+        Ok(answer.threes(&list, message))
+    }
+
     /// The line for a failed set, bit p of which stands for process p: the index of each process's checkpoint to restart from. That of a process which stays live is its
     /// own entry.
     ///

@@ -38,3 +38,59 @@ pub fn judge(trace: &[u8]) -> Result<Verdict, Refusal> {
         far: end(40),
     })
 }
+
+/// The trace of two halves of a run, of which each recorded its own processes: bit p of the set says that process p belongs to the first.
+///
+/// Refused: `NoSuchFailedProcess` for a set that names a process which is not in the run, `HalvesMismatch`, `NeitherReady`, and the refusals of the halves.
+///
+/// ```
+/// use lemidrosy::{merge, Refusal};
+/// assert_eq!(merge(&[2], &[2], 0b01), Ok(vec![2]));
+/// assert_eq!(merge(&[2], &[3], 0b01), Err(Refusal::HalvesMismatch));
+/// ```
+pub fn merge(first: &[u8], second: &[u8], set: u32) -> Result<Vec<u8>, Refusal> {
+    let mut trace = vec![0; first.len() + second.len()];
+    let answer = accepted(library::merge(first, second, set, &mut trace))?;
+    trace.truncate(answer.value() as usize);
+    Ok(trace)
+}
+
+/// The figures of a simulation.
+#[derive(Clone, Copy, Debug, PartialEq, Eq)]
+pub struct Figures {
+    /// How many messages were delivered.
+    pub deliveries: u64,
+    /// How many checkpoints were forced.
+    pub forced: u64,
+    /// The most checkpoints that any process kept after any step.
+    pub most_kept: u64,
+    /// Forced checkpoints for each thousand deliveries, ..
+    pub per_thousand: u64,
+    /// .. and the remainder of that division.
+    pub remainder: u64,
+}
+
+/// Tries a checkpoint spacing: n processes, of which each takes a checkpoint after so many of its sends and deliveries, run so many steps; the seed is the starting value
+/// of what is drawn.
+///
+/// Refused: `TrialOutsideRange` where n is not from 1 to 16, the spacing not from 1 to 1,000 or the steps not from 1 to 30,000.
+///
+/// ```
+/// use lemidrosy::{simulate, Refusal};
+/// let figures = simulate(4, 10, 3000, 7)?;
+/// assert_eq!(figures.per_thousand, 1000 * figures.forced / figures.deliveries);
+/// assert_eq!(simulate(4, 0, 3000, 7), Err(Refusal::TrialOutsideRange));
+/// # Ok::<(), Refusal>(())
+/// ```
+pub fn simulate(n: usize, spacing: u32, steps: u32, seed: u32) -> Result<Figures, Refusal> {
+    let mut figures = [0; 5];
+    accepted(library::simulate(n, spacing, steps, seed, &mut figures))?;
+    let [deliveries, forced, most_kept, per_thousand, remainder] = figures;
+    Ok(Figures {
+        deliveries,
+        forced,
+        most_kept,
+        per_thousand,
+        remainder,
+    })
+}

@@ -10,7 +10,7 @@ use crate::calls::{outcome, Call, Left, Lists, Outcome};
 use crate::generate::{write_trace, Plan};
 use crate::halves::draw::drawn as halves_drawn;
 use crate::halves::merge::merge;
-use crate::judge::{judge, Verdict};
+use crate::judge::{judge, Verdict, MAX_RECORDS};
 use crate::run::refusal::{NOT_SOUND, NOT_UNDER_WAY};
 use crate::run::{Message, Run, MAX_PROCESSES, MAX_UNDER_WAY};
 use crate::simulate::{simulate, Parameters};
@@ -129,7 +129,7 @@ impl Writer {
         match self.draws.below(2 * LENGTH) {
             0..=1 => self.store() + self.start(),
             2..=5 => self.change(),
-            6..=9 => self.aside(),
+            6..=12 => self.aside(),
             _ => {
                 self.call();
                 1
@@ -207,28 +207,37 @@ impl Writer {
                 self.call();
                 continue;
             }
-            let process = self.draws.below(3);
-            let call = self.draws.one_of(&[
-                Call::IsSound,
-                Call::Numbers,
-                Call::Messages,
-                Call::Vector { process },
-                Call::Pins { process },
-                Call::Kept { process },
-            ]);
-            self.ask(Asked::Call(call, Vec::new()));
+            let asked = match self.draws.below(8) {
+                0 => Asked::Carried(1),
+                _ => self.reading(),
+            };
+            self.ask(asked);
         }
         self.ask(Asked::Words(sound));
         more + 2
+    }
+
+    /// What is read of the state, of any of the first processes.
+    fn reading(&mut self) -> Asked {
+        let process = self.draws.below(3);
+        let call = self.draws.one_of(&[
+            Call::IsSound,
+            Call::Numbers,
+            Call::Messages,
+            Call::Vector { process },
+            Call::Pins { process },
+            Call::Kept { process },
+        ]);
+        Asked::Call(call, Vec::new())
     }
 
     /// A call without a state.
     fn aside(&mut self) -> u64 {
         let draws = &mut self.draws;
         let seed = draws.number();
-        let asked = match draws.below(3) {
-            0 => Asked::Judge(foreign(seed)),
-            1 => {
+        let asked = match draws.below(4) {
+            0..=1 => Asked::Judge(foreign(seed)),
+            2 => {
                 let halves = halves_drawn(seed);
                 // the set of damaged halves may be a number of many digits
                 let set = halves.word.parse().unwrap_or(u32::MAX);
@@ -338,8 +347,16 @@ fn readings(run: &Run) -> Vec<Asked> {
     calls.chain(carried).collect()
 }
 
-/// A foreign trace, mostly short.
+/// A foreign trace, mostly short. Some have nothing, one message under way more
+/// than there may be, or one record more.
 fn foreign(seed: u64) -> Vec<u8> {
+    let send = [1 << 5, 0, 0, 1];
+    match seed % 64 {
+        0 => return Vec::new(),
+        1..=2 => return [&[2], [send; MAX_UNDER_WAY + 1].as_flattened()].concat(),
+        3 => return [&[2], [[0; 4]; MAX_RECORDS + 1].as_flattened()].concat(),
+        _ => {}
+    }
     let words = [&seed.to_string(), "--mix", "foreign"].map(String::from);
     let plan = Plan::from_arguments(&words).expect("they are in the usage");
     let mut trace = Vec::new();
