@@ -10,8 +10,8 @@
 ! is a number whose bit p stands for process p. Negative numbers are judged as the numbers that their bits are without a sign, so
 ! they are out of range.
 module lemidrosy
-    use, intrinsic :: iso_c_binding, only: c_bool, c_char, c_f_pointer, c_int, c_int8_t, c_int16_t, c_int32_t, c_int64_t, c_ptr, &
-        c_size_t
+    use, intrinsic :: iso_c_binding, only: c_bool, c_char, c_f_pointer, c_int, c_int8_t, c_int16_t, c_int32_t, c_int64_t, &
+        c_null_char, c_ptr, c_size_t
     implicit none
     private
 
@@ -25,6 +25,8 @@ module lemidrosy
     integer, parameter, public :: lemidrosy_kept_size = 48
     integer, parameter, public :: lemidrosy_messages_size = 192
     integer, parameter, public :: lemidrosy_numbers_size = 5
+    ! the bytes of a saved state
+    integer, parameter, public :: lemidrosy_saved_size = 12942
 
     ! The numbers of the refusals; 6 is not used. lemidrosy.h says when each is given.
     enum, bind(c)
@@ -80,9 +82,10 @@ module lemidrosy
     end type
 
     public :: lemidrosy_refusal_text, lemidrosy_is_sound
-    public :: lemidrosy_start, lemidrosy_checkpoint, lemidrosy_send, lemidrosy_deliver, lemidrosy_lose
+    public :: lemidrosy_start, lemidrosy_checkpoint, lemidrosy_send, lemidrosy_deliver, lemidrosy_lose, lemidrosy_recover
     public :: lemidrosy_line, lemidrosy_earliest, lemidrosy_lost
     public :: lemidrosy_numbers, lemidrosy_vector, lemidrosy_pins, lemidrosy_kept, lemidrosy_messages, lemidrosy_carried
+    public :: lemidrosy_save, lemidrosy_load, lemidrosy_store_file, lemidrosy_load_file
     public :: lemidrosy_judge, lemidrosy_merge, lemidrosy_simulate
 
     interface
@@ -134,6 +137,15 @@ module lemidrosy
             integer(c_int16_t), intent(inout) :: words(*)
             integer(c_size_t), value :: length
             integer(c_int32_t), value :: message
+            integer(c_int64_t) :: answer
+        end function
+
+        function c_recover(words, length, failed, deleted, deleted_room, line, line_room) bind(c, name="lemidrosy_recover") &
+            result(answer)
+            import :: c_int16_t, c_int32_t, c_int64_t, c_size_t
+            integer(c_int16_t), intent(inout) :: words(*), deleted(*), line(*)
+            integer(c_size_t), value :: length, deleted_room, line_room
+            integer(c_int32_t), value :: failed
             integer(c_int64_t) :: answer
         end function
 
@@ -211,6 +223,36 @@ module lemidrosy
             integer(c_int32_t), value :: message
             integer(c_int16_t), intent(inout) :: vector(*)
             integer(c_int64_t) :: answer
+        end function
+
+        function c_save(words, length, bytes, room) bind(c, name="lemidrosy_save") result(answer)
+            import :: c_int8_t, c_int16_t, c_int64_t, c_size_t
+            integer(c_int16_t), intent(in) :: words(*)
+            integer(c_size_t), value :: length, room
+            integer(c_int8_t), intent(inout) :: bytes(*)
+            integer(c_int64_t) :: answer
+        end function
+
+        function c_load(bytes, many, words, length) bind(c, name="lemidrosy_load") result(answer)
+            import :: c_int8_t, c_int16_t, c_int64_t, c_size_t
+            integer(c_int8_t), intent(in) :: bytes(*)
+            integer(c_size_t), value :: many, length
+            integer(c_int16_t), intent(inout) :: words(*)
+            integer(c_int64_t) :: answer
+        end function
+
+        function c_store_file(path, words) bind(c, name="lemidrosy_store_file") result(status)
+            import :: c_char, c_int, c_int16_t
+            character(kind=c_char), intent(in) :: path(*)
+            integer(c_int16_t), intent(in) :: words(*)
+            integer(c_int) :: status
+        end function
+
+        function c_load_file(path, words) bind(c, name="lemidrosy_load_file") result(status)
+            import :: c_char, c_int, c_int16_t
+            character(kind=c_char), intent(in) :: path(*)
+            integer(c_int16_t), intent(inout) :: words(*)
+            integer(c_int) :: status
         end function
 
         function c_judge(trace, length) bind(c, name="lemidrosy_judge") result(verdict)
@@ -327,6 +369,26 @@ contains
         answer = fields(c_lose(words, length_of(words), message))
     end function
 
+    ! The processes of a failed set go back to the line, and others with them where the line says so; the value is how many went
+    ! back, the n indexes of the line go to the one list and what is deleted to the other, as that of a checkpoint. A set of 0 is
+    ! a sweep: nobody goes back. Refused with 2, 3 or 7.
+    function lemidrosy_recover(words, failed, deleted, line) result(answer)
+        integer(c_int16_t), contiguous, intent(inout) :: words(:)
+        integer(c_int32_t), intent(in) :: failed
+        integer(c_int32_t), intent(inout) :: deleted(:), line(:)
+        type(lemidrosy_answer) :: answer
+        integer(c_int16_t) :: pairs(lemidrosy_deletions_size), lent(lemidrosy_max_processes)
+        integer :: n
+
+        ! asked before: a recovery of forged words may leave some that stand for no sound state
+        n = processes(words)
+        answer = fields(c_recover(words, length_of(words), failed, pairs, room_of(deleted, size(pairs)), lent, &
+            room_of(line, size(lent))))
+        if (answer%refused /= 0) return
+        call write_front(2 * answer%deletions, pairs, deleted)
+        call write_front(n, lent, line)
+    end function
+
     ! The messages under way that a recovery of this failed set would lose, as lemidrosy_messages has them: to be asked before the
     ! recovery. Refused with 2, 3 or 7.
     function lemidrosy_lost(words, failed, messages) result(answer)
@@ -431,6 +493,46 @@ contains
 
         answer = fields(c_carried(words, length_of(words), message, lent, room_of(vector, size(lent))))
         if (answer%refused == 0) call write_front(processes(words), lent, vector)
+    end function
+
+    ! The state as bytes that are the same on every machine: they go to the list, which has room for lemidrosy_saved_size; the
+    ! value is how many they are. Refused with 2 or 3.
+    function lemidrosy_save(words, bytes) result(answer)
+        integer(c_int16_t), contiguous, intent(in) :: words(:)
+        integer(c_int8_t), contiguous, intent(inout) :: bytes(:)
+        type(lemidrosy_answer) :: answer
+
+        answer = fields(c_save(words, length_of(words), bytes, size(bytes, kind=c_size_t)))
+    end function
+
+    ! The words that were saved. Refused with 2: bytes that are no saved sound state, or not lemidrosy_words words; then no word
+    ! is written.
+    function lemidrosy_load(bytes, words) result(answer)
+        integer(c_int8_t), contiguous, intent(in) :: bytes(:)
+        integer(c_int16_t), contiguous, intent(inout) :: words(:)
+        type(lemidrosy_answer) :: answer
+
+        answer = fields(c_load(bytes, size(bytes, kind=c_size_t), words, length_of(words)))
+    end function
+
+    ! Stores the state in a file: 0, the number of a refusal, or below 0 an error of the system (-errno). A crash, a full disk or
+    ! an error in the middle leaves the old file. Spaces at the end of the path do not count.
+    function lemidrosy_store_file(path, words) result(status)
+        character(len=*), intent(in) :: path
+        integer(c_int16_t), intent(in) :: words(lemidrosy_words)
+        integer(c_int32_t) :: status
+
+        status = int(c_store_file(trim(path) // c_null_char, words), c_int32_t)
+    end function
+
+    ! The words of the state of a file: 0, the number of a refusal, or below 0 an error of the system (-errno); then no word is
+    ! written.
+    function lemidrosy_load_file(path, words) result(status)
+        character(len=*), intent(in) :: path
+        integer(c_int16_t), intent(inout) :: words(lemidrosy_words)
+        integer(c_int32_t) :: status
+
+        status = int(c_load_file(trim(path) // c_null_char, words), c_int32_t)
     end function
 
     ! The verdict on a trace of another run-time: its bytes. It takes 0.4 MB of stack.

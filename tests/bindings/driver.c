@@ -130,6 +130,17 @@ static void line(void) {
     say_row(got, row);
 }
 
+static void recover(void) {
+    uint16_t deleted[LEMIDROSY_DELETIONS], row[LEMIDROSY_PROCESSES];
+    size_t n = count();
+    struct lemidrosy_answer got = lemidrosy_answer(lemidrosy_recover(words, size, (uint32_t)number(), deleted, LEMIDROSY_DELETIONS, row, LEMIDROSY_PROCESSES));
+    if (!accepted(got.refused))
+        return;
+    printf(" %u", got.value);
+    say16(row, n, 1);
+    say16(deleted, 2 * got.deletions, 2);
+}
+
 static void lost(void) {
     uint32_t list[LEMIDROSY_THREES];
     struct lemidrosy_answer got = lemidrosy_answer(lemidrosy_lost(words, size, (uint32_t)number(), list, LEMIDROSY_THREES));
@@ -230,6 +241,49 @@ static void take(void) {
     accepted(0);
 }
 
+static void save(void) {
+    uint8_t saved[LEMIDROSY_SAVED];
+    const char *name = take_word();
+    struct lemidrosy_answer got = lemidrosy_answer(lemidrosy_save(words, size, saved, sizeof saved));
+    if (!accepted(got.refused))
+        return;
+    FILE *file = fopen(name, "wb");
+    bool done = file != NULL && fwrite(saved, 1, got.value, file) == got.value;
+    if (file == NULL || fclose(file) != 0 || !done)
+        exit(4);
+}
+
+static void load(void) {
+    size_t length;
+    uint8_t *saved = bytes(&length);
+    uint16_t *fresh = zeros(LEMIDROSY_WORDS);
+    if (accepted(lemidrosy_refused(lemidrosy_load(saved, length, fresh, LEMIDROSY_WORDS))))
+        use(fresh, LEMIDROSY_WORDS);
+    else
+        free(fresh);
+    free(saved);
+}
+
+/* A number of these functions that is below 0 is an error of the system. */
+static void store_file(void) {
+    const char *name = take_word();
+    int got = size == LEMIDROSY_WORDS ? lemidrosy_store_file(name, words) : LEMIDROSY_UNSOUND_STATE;
+    if (got < 0)
+        exit(4);
+    accepted((unsigned)got);
+}
+
+static void load_file(void) {
+    uint16_t *fresh = zeros(LEMIDROSY_WORDS);
+    int got = lemidrosy_load_file(take_word(), fresh);
+    if (got < 0)
+        exit(4);
+    if (accepted((unsigned)got))
+        use(fresh, LEMIDROSY_WORDS);
+    else
+        free(fresh);
+}
+
 static void judge(void) {
     size_t length;
     uint8_t *trace = bytes(&length);
@@ -268,9 +322,10 @@ static const struct {
     const char *name;
     void (*make)(void);
 } calls[] = {
-    {"start", start}, {"checkpoint", checkpoint}, {"send", send_one}, {"deliver", deliver}, {"lose", lose}, {"line", line}, {"lost", lost}, {"earliest", earliest},
+    {"start", start}, {"checkpoint", checkpoint}, {"send", send_one}, {"deliver", deliver}, {"lose", lose}, {"line", line}, {"recover", recover}, {"lost", lost}, {"earliest", earliest},
     {"is_sound", is_sound}, {"numbers", numbers}, {"vector", vector}, {"pins", pins}, {"kept", kept}, {"messages", messages}, {"carried", carried},
-    {"words", spread}, {"dump", dump}, {"take", take}, {"judge", judge}, {"merge", merge}, {"simulate", simulate},
+    {"words", spread}, {"dump", dump}, {"take", take}, {"save", save}, {"load", load}, {"store_file", store_file}, {"load_file", load_file},
+    {"judge", judge}, {"merge", merge}, {"simulate", simulate},
 };
 
 int main(void) {

@@ -235,7 +235,7 @@ contains
             call send()
         case ('deliver', 'lose', 'carried')
             call of_message(call_name, next_bits())
-        case ('line', 'lost')
+        case ('line', 'recover', 'lost')
             call of_set(call_name, next_bits())
         case ('earliest')
             call earliest()
@@ -249,6 +249,12 @@ contains
             call spread()
         case ('dump', 'take')
             call stored(call_name, next_word())
+        case ('save')
+            call save(next_word())
+        case ('load')
+            call load(next_bytes())
+        case ('store_file', 'load_file')
+            call in_file(call_name, next_word())
         case ('judge')
             call judge(next_bytes())
         case ('merge')
@@ -378,13 +384,22 @@ contains
     subroutine of_set(call_name, failed)
         character(len=*), intent(in) :: call_name
         integer(c_int32_t), intent(in) :: failed
-        integer(c_int32_t) :: row(lemidrosy_max_processes), list(lemidrosy_messages_size)
+        integer(c_int32_t) :: row(lemidrosy_max_processes), deleted(lemidrosy_deletions_size), list(lemidrosy_messages_size)
         type(lemidrosy_answer) :: got
+        integer :: n
 
         select case (call_name)
         case ('line')
             got = lemidrosy_line(words, failed, row)
             if (accepted(got%refused)) call say_all(row(:count_of()))
+        case ('recover')
+            n = 0
+            if (lemidrosy_is_sound(words)) n = count_of()
+            got = lemidrosy_recover(words, failed, deleted, row)
+            if (.not. accepted(got%refused)) return
+            call say(int(got%value, c_int64_t))
+            call say_all(row(:n))
+            call say_groups(deleted(:2 * got%deletions), 2)
         case ('lost')
             got = lemidrosy_lost(words, failed, list)
             if (accepted(got%refused)) call say_groups(list(:3 * got%value), 3)
@@ -454,6 +469,46 @@ contains
             read (unit) words
         end if
         close (unit)
+    end subroutine
+
+    subroutine save(file)
+        character(len=*), intent(in) :: file
+        integer(c_int8_t) :: bytes(lemidrosy_saved_size)
+        type(lemidrosy_answer) :: got
+        integer :: unit
+
+        got = lemidrosy_save(words, bytes)
+        if (.not. accepted(got%refused)) return
+        open (newunit=unit, file=file, access='stream', form='unformatted', status='replace')
+        write (unit) bytes(:got%value)
+        close (unit)
+    end subroutine
+
+    subroutine load(bytes)
+        integer(c_int8_t), intent(in) :: bytes(:)
+        integer(c_int16_t), allocatable :: fresh(:)
+        type(lemidrosy_answer) :: got
+
+        allocate (fresh(lemidrosy_words))
+        got = lemidrosy_load(bytes, fresh)
+        if (accepted(got%refused)) call move_alloc(fresh, words)
+    end subroutine
+
+    subroutine in_file(call_name, file)
+        character(len=*), intent(in) :: call_name, file
+        integer(c_int16_t), allocatable :: fresh(:)
+        integer(c_int32_t) :: status
+
+        if (call_name == 'store_file') then
+            ! the module takes as many words as a state has
+            status = lemidrosy_unsound_state
+            if (size(words) == lemidrosy_words) status = lemidrosy_store_file(file, words)
+        else
+            allocate (fresh(lemidrosy_words))
+            status = lemidrosy_load_file(file, fresh)
+        end if
+        if (status < 0) error stop 'a file cannot be written or read'
+        if (accepted(status) .and. allocated(fresh)) call move_alloc(fresh, words)
     end subroutine
 
     subroutine judge(trace)

@@ -78,6 +78,21 @@ class Driver:
         self.run = Run.from_words(take(name))
         return ()
 
+    def save(self, name):
+        Path(name).write_bytes(self.run.to_bytes())
+        return ()
+
+    def load(self, saved):
+        self.run = Run.from_bytes(data(saved))
+        return ()
+
+    def store_file(self, name):
+        return self.save(name)
+
+    def load_file(self, name):
+        self.run = Run.from_bytes(Path(name).read_bytes())
+        return ()
+
     def checkpoint(self, process):
         done = self.run.checkpoint(int(process))
         return done.index, *done.deleted

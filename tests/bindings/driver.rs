@@ -1,7 +1,7 @@
 //! Makes the calls on standard input through the binding for Rust and prints the
 //! answers: README.md has the lines.
 
-use lemidrosy::{judge, merge, simulate, Checkpoint, Message, Refusal, Run, Verdict};
+use lemidrosy::{judge, merge, simulate, Checkpoint, FileError, Message, Refusal, Run, Verdict};
 use std::fmt::Display;
 use std::io::{self, BufRead, BufWriter, Write};
 
@@ -25,13 +25,30 @@ fn main() -> io::Result<()> {
 fn answer(run: &mut Run, call: &str, words: &[&str]) -> io::Result<Result<String, Refusal>> {
     match call {
         "dump" => return dump(run, words[0]).map(Ok),
+        "save" => match run.save() {
+            Ok(bytes) => std::fs::write(words[0], bytes)?,
+            Err(refusal) => return Ok(Err(refusal)),
+        },
+        "store_file" => return in_file(run.store_file(words[0])),
+        "load_file" => match Run::load_file(words[0]) {
+            Ok(loaded) => *run = loaded,
+            Err(error) => return in_file(Err(error)),
+        },
         "take" => {
             *run = take(words[0])?;
-            return Ok(Ok(String::new()));
         }
-        _ => {}
+        _ => return Ok(made(run, call, words)),
     }
-    Ok(made(run, call, words))
+    Ok(Ok(String::new()))
+}
+
+/// An error of the system ends the driver.
+fn in_file(answer: Result<(), FileError>) -> io::Result<Result<String, Refusal>> {
+    match answer {
+        Ok(()) => Ok(Ok(String::new())),
+        Err(FileError::Refused(refusal)) => Ok(Err(refusal)),
+        Err(FileError::System(error)) => Err(error),
+    }
 }
 
 fn made(run: &mut Run, call: &str, words: &[&str]) -> Result<String, Refusal> {
@@ -39,6 +56,7 @@ fn made(run: &mut Run, call: &str, words: &[&str]) -> Result<String, Refusal> {
     match call {
         "start" => *run = Run::start(&numbers(words))?,
         "words" => *run = Run::from_words(&spread(words)),
+        "load" => *run = Run::load(&bytes(words[0]))?,
         "checkpoint" => {
             let stored = run.checkpoint(number(words, 0))?;
             spell(&mut line, [stored.index]);
@@ -53,6 +71,12 @@ fn made(run: &mut Run, call: &str, words: &[&str]) -> Result<String, Refusal> {
         }
         "lose" => run.lose(number(words, 0))?,
         "line" => spell(&mut line, run.line(number(words, 0))?),
+        "recover" => {
+            let recovered = run.recover(number(words, 0))?;
+            spell(&mut line, [recovered.rolled_back]);
+            spell(&mut line, recovered.line);
+            spell(&mut line, pairs(&recovered.deleted));
+        }
         "lost" => spell(
             &mut line,
             run.lost(number(words, 0))?.into_iter().map(three),

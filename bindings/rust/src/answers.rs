@@ -22,6 +22,17 @@ pub struct Delivered {
     pub rose: u16,
 }
 
+/// The processes have gone back to a line.
+#[derive(Clone, Debug, PartialEq, Eq)]
+pub struct Recovered {
+    /// The index of each process's checkpoint that it restarts from. That of a process which stays live is its own entry.
+    pub line: Vec<u16>,
+    /// How many processes went back.
+    pub rolled_back: usize,
+    /// The checkpoints that were deleted, by process, then index.
+    pub deleted: Vec<Checkpoint>,
+}
+
 /// A checkpoint that is kept.
 #[derive(Clone, Copy, Debug, PartialEq, Eq)]
 pub struct Kept {

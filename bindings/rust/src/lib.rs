@@ -26,12 +26,14 @@
 #![deny(unsafe_code)]
 
 mod answers;
+mod file;
 mod library;
 mod refusal;
 mod run;
 mod trace;
 
-pub use answers::{Cause, Delivered, Kept, Message, Numbers, Stored};
+pub use answers::{Cause, Delivered, Kept, Message, Numbers, Recovered, Stored};
+pub use file::FileError;
 pub use refusal::Refusal;
 pub use run::Run;
 pub use trace::{judge, merge, simulate, Figures, Verdict};
@@ -45,3 +47,5 @@ pub const WORDS: usize = 6464;
 pub const PROCESSES: usize = 16;
 /// Messages under way, at most.
 pub const MESSAGES: usize = 64;
+/// The bytes of a saved state.
+pub const SAVED: usize = 12942;

@@ -4,10 +4,11 @@
 //! alone, which is proved. Two slices that are lent to a call never overlap, since one of any two is borrowed mutably or both are only read.
 #![allow(unsafe_code)]
 
-use std::ffi::{c_char, c_uint, CStr};
+use crate::WORDS;
+use std::ffi::{c_char, c_int, c_uint, CStr};
 
 mod c {
-    use super::{c_char, c_uint};
+    use super::{c_char, c_int, c_uint};
 
     extern "C" {
         pub fn lemidrosy_refusal_text(number: c_uint) -> *const c_char;
@@ -23,6 +24,15 @@ mod c {
         pub fn lemidrosy_send(w: *mut u16, wl: usize, p: usize, q: usize) -> u64;
         pub fn lemidrosy_deliver(w: *mut u16, wl: usize, m: u32, d: *mut u16, dl: usize) -> u64;
         pub fn lemidrosy_lose(w: *mut u16, wl: usize, m: u32) -> u64;
+        pub fn lemidrosy_recover(
+            w: *mut u16,
+            wl: usize,
+            f: u32,
+            d: *mut u16,
+            dl: usize,
+            l: *mut u16,
+            ll: usize,
+        ) -> u64;
         pub fn lemidrosy_lost(w: *const u16, wl: usize, f: u32, m: *mut u32, ml: usize) -> u64;
         pub fn lemidrosy_line(w: *const u16, wl: usize, f: u32, l: *mut u16, ll: usize) -> u64;
         pub fn lemidrosy_earliest(
@@ -39,6 +49,10 @@ mod c {
         pub fn lemidrosy_kept(w: *const u16, wl: usize, p: usize, k: *mut u32, kl: usize) -> u64;
         pub fn lemidrosy_messages(w: *const u16, wl: usize, m: *mut u32, ml: usize) -> u64;
         pub fn lemidrosy_carried(w: *const u16, wl: usize, m: u32, v: *mut u16, vl: usize) -> u64;
+        pub fn lemidrosy_save(w: *const u16, wl: usize, b: *mut u8, bl: usize) -> u64;
+        pub fn lemidrosy_load(b: *const u8, bl: usize, w: *mut u16, wl: usize) -> u64;
+        pub fn lemidrosy_store_file(path: *const c_char, words: *const u16) -> c_int;
+        pub fn lemidrosy_load_file(path: *const c_char, words: *mut u16) -> c_int;
         pub fn lemidrosy_judge(t: *const u8, tl: usize) -> u64;
         pub fn lemidrosy_merge(
             a: *const u8,
@@ -107,6 +121,20 @@ pub fn deliver(words: &mut [u16], message: u32, deleted: &mut [u16]) -> u64 {
 
 pub fn lose(words: &mut [u16], message: u32) -> u64 {
     unsafe { c::lemidrosy_lose(words.as_mut_ptr(), words.len(), message) }
+}
+
+pub fn recover(words: &mut [u16], failed: u32, deleted: &mut [u16], line: &mut [u16]) -> u64 {
+    unsafe {
+        c::lemidrosy_recover(
+            words.as_mut_ptr(),
+            words.len(),
+            failed,
+            deleted.as_mut_ptr(),
+            deleted.len(),
+            line.as_mut_ptr(),
+            line.len(),
+        )
+    }
 }
 
 pub fn lost(words: &[u16], failed: u32, messages: &mut [u32]) -> u64 {
@@ -214,6 +242,24 @@ pub fn carried(words: &[u16], message: u32, vector: &mut [u16]) -> u64 {
             vector.len(),
         )
     }
+}
+
+pub fn save(words: &[u16], bytes: &mut [u8]) -> u64 {
+    unsafe { c::lemidrosy_save(words.as_ptr(), words.len(), bytes.as_mut_ptr(), bytes.len()) }
+}
+
+pub fn load(bytes: &[u8], words: &mut [u16]) -> u64 {
+    unsafe { c::lemidrosy_load(bytes.as_ptr(), bytes.len(), words.as_mut_ptr(), words.len()) }
+}
+
+// These two take as many words as a state has, without a length.
+
+pub fn store_file(path: &CStr, words: &[u16; WORDS]) -> c_int {
+    unsafe { c::lemidrosy_store_file(path.as_ptr(), words.as_ptr()) }
+}
+
+pub fn load_file(path: &CStr, words: &mut [u16; WORDS]) -> c_int {
+    unsafe { c::lemidrosy_load_file(path.as_ptr(), words.as_mut_ptr()) }
 }
 
 pub fn judge(trace: &[u8]) -> u64 {

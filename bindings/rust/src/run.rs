@@ -1,7 +1,7 @@
 //! A run that owns its state.
 
-use crate::answers::{accepted, Cause, Delivered, Kept, Message, Numbers, Stored};
-use crate::{library, Refusal, MESSAGES, PROCESSES, WORDS};
+use crate::answers::{accepted, Cause, Delivered, Kept, Message, Numbers, Recovered, Stored};
+use crate::{library, Refusal, MESSAGES, PROCESSES, SAVED, WORDS};
 use std::fmt;
 
 /// The room of a deletion list that is enough for every run.
@@ -13,7 +13,7 @@ const DELETIONS: usize = 2 * PROCESSES * PROCESSES;
 /// stand for no sound state.
 #[derive(Clone)]
 pub struct Run {
-    words: Box<[u16]>,
+    pub(crate) words: Box<[u16]>,
 }
 
 /// The calls.
@@ -68,7 +68,8 @@ impl Run {
         Ok(())
     }
 
-    /// The messages under way that a recovery of this failed set would lose, ascending by number: to be asked before the recovery.
+    /// The processes of a failed set, bit p of which stands for process p, go back to the line, and others with them where the line says so; what no failure can need
+    /// any more is deleted. An empty set is a sweep: nobody goes back.
     ///
     /// Refused: `NoSuchFailedProcess`.
     ///
@@ -78,6 +79,39 @@ impl Run {
     /// let mut run = Run::start(&[1, 1])?;
     /// let message = run.send(0, 1)?;
     /// // process 0 fails before it has stored what it sent
+    /// assert_eq!(run.lost(1 << 0)?[0].number, message);
+    /// let recovered = run.recover(1 << 0)?;
+    /// assert_eq!((recovered.line, recovered.rolled_back), (vec![0, 1], 1));
+    /// assert_eq!(run.deliver(message), Err(Refusal::NotUnderWay));
+    /// # Ok(())
+    /// # }
+    /// ```
+    pub fn recover(&mut self, failed: u32) -> Result<Recovered, Refusal> {
+        let (mut list, mut line) = ([0; DELETIONS], [0; PROCESSES]);
+        // asked before: a recovery of forged words may leave some that stand for no sound state
+        let numbers = self.numbers();
+        let answer = accepted(library::recover(
+            &mut self.words,
+            failed,
+            &mut list,
+            &mut line,
+        ))?;
+        Ok(Recovered {
+            line: line[..numbers?.processes].to_vec(),
+            rolled_back: answer.value() as usize,
+            deleted: answer.deleted(&list),
+        })
+    }
+
+    /// The messages under way that a recovery of this failed set would lose, ascending by number: to be asked before the recovery.
+    ///
+    /// Refused: `NoSuchFailedProcess`.
+    ///
+    /// ```
+    /// # use lemidrosy::{Refusal, Run};
+    /// # fn main() -> Result<(), Refusal> {
+    /// let mut run = Run::start(&[1, 1])?;
+    /// let message = run.send(0, 1)?;
     /// assert_eq!(run.lost(1 << 0)?[0].number, message);
     /// assert!(run.lost(1 << 1)?.is_empty());
     /// # Ok(())
@@ -224,6 +258,35 @@ impl Run {
         Run {
             words: words.into(),
         }
+    }
+
+    /// The state as bytes that are the same on every machine, to be stored.
+    ///
+    /// Refused: `UnsoundState`.
+    ///
+    /// ```
+    /// # use lemidrosy::{Refusal, Run};
+    /// let run = Run::start(&[1, 1])?;
+    /// let mut bytes = run.save()?;
+    /// assert_eq!(Run::load(&bytes)?.words(), run.words());
+    /// bytes[100] ^= 1;
+    /// assert_eq!(Run::load(&bytes).unwrap_err(), Refusal::UnsoundState);
+    /// # Ok::<(), Refusal>(())
+    /// ```
+    pub fn save(&self) -> Result<Vec<u8>, Refusal> {
+        let mut bytes = vec![0; SAVED];
+        let answer = accepted(library::save(&self.words, &mut bytes))?;
+        bytes.truncate(answer.value() as usize);
+        Ok(bytes)
+    }
+
+    /// The state that was saved. Any bytes may be handed in.
+    ///
+    /// Refused: `UnsoundState` for bytes that are no saved sound state.
+    pub fn load(bytes: &[u8]) -> Result<Run, Refusal> {
+        let mut words = vec![0; WORDS].into_boxed_slice();
+        accepted(library::load(bytes, &mut words))?;
+        Ok(Run { words })
     }
 }
 

@@ -13,6 +13,7 @@ use crate::halves::merge::merge;
 use crate::judge::{judge, Verdict, MAX_RECORDS};
 use crate::run::refusal::{NOT_SOUND, NOT_UNDER_WAY};
 use crate::run::{Message, Run, MAX_PROCESSES, MAX_UNDER_WAY};
+use crate::saved;
 use crate::simulate::{simulate, Parameters};
 use crate::words::{self, SIZE};
 use std::collections::BTreeMap;
@@ -41,8 +42,14 @@ enum Asked {
     Carried(u64),
     Lost(u64),
     Words(Vec<u16>),
+    /// To a file and from it: its words, ..
     Dump(String),
     Take(String),
+    /// .. its bytes as a saved state, and the same by the library's own functions.
+    Save(String),
+    Store(String),
+    LoadFile(String),
+    Load(Vec<u8>),
     Judge(Vec<u8>),
     Merge(u32, Vec<u8>, Vec<u8>),
     Simulate(Parameters),
@@ -50,10 +57,13 @@ enum Asked {
 
 /// The names of the calls that are not in `calls`, with the numbers that each
 /// can give.
-const OTHERS: [(&str, &[usize]); 6] = [
+const OTHERS: [(&str, &[usize]); 9] = [
     ("carried", &[0, 2, 8]),
     ("lost", &[0, 2, 7]),
     ("words", &[0]),
+    ("save", &[0, 2]),
+    ("store_file", &[0, 2]),
+    ("load", &[0, 2]),
     ("judge", &[0, 1, 4, 5, 8, 9, 12, 13, 14, 17]),
     ("merge", &[0, 1, 4, 5, 7, 12, 13, 14, 17, 23, 24]),
     ("simulate", &[0, 22]),
@@ -130,6 +140,7 @@ impl Writer {
             0..=1 => self.store() + self.start(),
             2..=5 => self.change(),
             6..=12 => self.aside(),
+            13 => self.load_bytes(),
             _ => {
                 self.call();
                 1
@@ -167,13 +178,64 @@ impl Writer {
         };
         let name = format!("state-{}", self.stored);
         self.stored += 1;
-        self.ask(Asked::Dump(name.clone()));
-        self.pages.states += &format!("{:?}\n", run.state());
-        self.load(Asked::Take(name));
-        for asked in readings(&run) {
-            self.load(asked);
+        let stored = [
+            (Asked::Dump(name.clone()), Asked::Take(name.clone())),
+            (
+                Asked::Save(format!("{name}.saved")),
+                Asked::LoadFile(format!("{name}.saved")),
+            ),
+            (
+                Asked::Store(format!("{name}.file")),
+                Asked::LoadFile(format!("{name}.file")),
+            ),
+        ];
+        let mut many = 0;
+        for (to, from) in stored {
+            if self.is_absent(&to) {
+                continue;
+            }
+            self.ask(to);
+            self.pages.states += &format!("{:?}\n", run.state());
+            self.load(from);
+            for asked in readings(&run) {
+                self.load(asked);
+            }
+            self.load(Asked::Call(Call::Line { failed: 1 }, Vec::new()));
+            many += 1;
         }
-        self.load(Asked::Call(Call::Line { failed: 1 }, Vec::new()));
+        many
+    }
+
+    /// Bytes of a saved state are loaded, mostly damaged ones.
+    fn load_bytes(&mut self) -> u64 {
+        let Some(run) = &self.run else {
+            return 0;
+        };
+        let mut words = words::of(&run.state());
+        let draws = &mut self.draws;
+        if draws.once_in(4) {
+            draw::damage(draws, &mut words);
+        }
+        let mut bytes = saved::bytes(&words);
+        let size = bytes.len();
+        match draws.below(8) {
+            0..=2 => {
+                let place = draws.place(size);
+                bytes[place] ^= 1 << draws.below(8);
+            }
+            3 => {
+                let (one, other) = (draws.place(size), draws.place(size));
+                bytes.swap(one, other);
+            }
+            4 => bytes.truncate(draws.one_of(&[0, 1, 10, size - 1])),
+            5 => bytes.push(0),
+            _ => {}
+        }
+        let asked = Asked::Load(bytes);
+        if self.is_absent(&asked) {
+            return 0;
+        }
+        self.ask(asked);
         1
     }
 
@@ -207,11 +269,16 @@ impl Writer {
                 self.call();
                 continue;
             }
+            let name = "refused".to_string();
             let asked = match self.draws.below(8) {
-                0 => Asked::Carried(1),
+                0 => Asked::Save(name),
+                1 => Asked::Store(name),
+                2 => Asked::Carried(1),
                 _ => self.reading(),
             };
-            self.ask(asked);
+            if !self.is_absent(&asked) {
+                self.ask(asked);
+            }
         }
         self.ask(Asked::Words(sound));
         more + 2
@@ -375,6 +442,10 @@ impl Asked {
             Asked::Words(_) => "words",
             Asked::Dump(_) => "dump",
             Asked::Take(_) => "take",
+            Asked::Save(_) => "save",
+            Asked::Store(_) => "store_file",
+            Asked::LoadFile(_) => "load_file",
+            Asked::Load(_) => "load",
             Asked::Judge(_) => "judge",
             Asked::Merge(..) => "merge",
             Asked::Simulate(_) => "simulate",
@@ -403,7 +474,12 @@ impl Asked {
                 let places = words.iter().enumerate().filter(|(_, word)| **word != 0);
                 spell(&mut line, places.map(|(k, word)| format!("{k}:{word}")));
             }
-            Asked::Dump(name) | Asked::Take(name) => spell(&mut line, [name]),
+            Asked::Dump(name)
+            | Asked::Take(name)
+            | Asked::Save(name)
+            | Asked::Store(name)
+            | Asked::LoadFile(name) => spell(&mut line, [name]),
+            Asked::Load(bytes) => spell(&mut line, [digits(bytes)]),
             Asked::Judge(trace) => spell(&mut line, [digits(trace)]),
             Asked::Merge(set, first, second) => {
                 spell(&mut line, [set]);
@@ -450,7 +526,16 @@ fn answer(run: &mut Option<Run>, asked: &Asked) -> String {
         Asked::Carried(number) => carried(run.as_ref(), *number),
         Asked::Lost(failed) => lost(run.as_ref(), *failed),
         Asked::Words(words) => Ok(taken(run, words)),
-        Asked::Dump(_) | Asked::Take(_) => Ok(String::new()),
+        // what is taken or loaded from a file, is what was stored in it
+        Asked::Dump(_) | Asked::Take(_) | Asked::LoadFile(_) => Ok(String::new()),
+        Asked::Save(_) | Asked::Store(_) => match run {
+            Some(_) => Ok(String::new()),
+            None => Err(NOT_SOUND),
+        },
+        Asked::Load(bytes) => match saved::loaded(bytes) {
+            Some(words) => Ok(taken(run, &words)),
+            None => Err(NOT_SOUND),
+        },
         Asked::Judge(trace) => judged(trace),
         Asked::Merge(set, first, second) => merged(*set, first, second),
         Asked::Simulate(parameters) => simulated(*parameters),

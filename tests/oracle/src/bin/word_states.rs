@@ -1,7 +1,8 @@
 //! `word_states FILE..` prints the state that the words in each file stand for, one
 //! to a line, as `binding_calls` writes states. A file has the low byte of each word
-//! first. Words that stand for no state print `None`.
+//! first, or is a saved state. Words that stand for no state print `None`.
 
+use oracle::saved;
 use std::process::ExitCode;
 
 fn main() -> ExitCode {
@@ -14,7 +15,8 @@ fn main() -> ExitCode {
             }
         };
         let word = |pair: &[u8]| u16::from_le_bytes([pair[0], pair[1]]);
-        let words: Vec<u16> = bytes.chunks_exact(2).map(word).collect();
+        let plain = || bytes.chunks_exact(2).map(word).collect();
+        let words = saved::loaded(&bytes).unwrap_or_else(plain);
         match oracle::words::state(&words) {
             Some(state) => println!("{state:?}"),
             None => println!("None"),
