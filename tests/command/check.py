@@ -19,7 +19,7 @@ import xml.etree.ElementTree
 from pathlib import Path
 
 import lemidrosy
-from lemidrosy import Refused, Run
+from lemidrosy import Refused, Run, functions, numbers
 from lemidrosy.text import FORMS, bytes_of, text_of
 from lemidrosy.words import TextError
 
@@ -533,16 +533,175 @@ class Draw(Case):
         self.ends(3, "/no/such.svg: No such file", "draw", EXAMPLE, "--at", 8, "-o", "/no/such.svg")
 
 
+class Programs(Case):
+    """The subcommands that print what the proved programs print."""
+
+    def same(self, name, words, given=b"", more=()):
+        """The same bytes on standard output, and a status that says whether all was accepted."""
+        right = subprocess.run([PROGRAMS / name, *map(str, words)], input=given, capture_output=True, timeout=60)
+        status, output, said = command(name, *words, *more, given=given)
+        self.assertEqual(output, right.stdout, (name, words, said))
+        return status, said
+
+    @needs("replay")
+    def test_replay_in_this_process(self):
+        for seed in range(many(1000)):
+            trace = program(ORACLE, "generate", seed, "--records", (0, 5, 60, 400)[seed % 4], "--mix", ("valid", "recovering", "mixed", "damaged")[seed // 4 % 4])
+            listing = program(PROGRAMS, "replay", "all", given=trace).splitlines(keepends=True)
+            first = next((place for place, line in enumerate(listing) if line.split()[1] != b"0"), None)
+            for all, expected in ((True, listing), (False, listing if first is None else listing[: first + 1])):
+                replayed = functions.Replay(trace, all)
+                self.assertEqual(b"".join(replayed.text()), b"".join(expected), seed)
+                self.assertEqual(replayed.refusal is None, first is None)
+                self.assertEqual([[one.number, one.refused] for one in lemidrosy.replay(trace, all)], [list(map(int, line.split()[:2])) for line in expected])
+
+    @needs("replay")
+    def test_replay(self):
+        self.prints(program(PROGRAMS, "replay", given=EXAMPLE.read_bytes()).decode(), "replay", EXAMPLE, status=1, says="record 10, deliver 3: refused 8: no such message is under way")
+        for seed in range(many(12)):
+            trace = program(ORACLE, "generate", seed, "--mix", ("valid", "mixed", "damaged")[seed % 3])
+            right = program(PROGRAMS, "replay", "all", given=trace)
+            status, output, said = command("replay", "--all", given=trace)
+            self.assertEqual(output, right)
+            self.assertEqual((status, said.count("\n")), ((1, 1) if re.search(rb"^\d+ [1-9]", right, re.M) else (0, 0)))
+        self.prints("0 12\n", "replay", status=1, says="refused 12")
+        self.prints("0 1\n", "replay", status=1, given=b"\x11", says="refused 1:")
+        self.prints("1 13\n", "replay", status=1, given=b"\x02abc", says="refused 13")
+
+    @needs("replay")
+    def test_lines_that_are_due_stand_there(self):
+        """What came in is replayed before more comes."""
+        with subprocess.Popen([sys.executable, "-m", "lemidrosy", "replay"], stdin=subprocess.PIPE, stdout=subprocess.PIPE) as running:
+            running.stdin.write(bytes.fromhex("02 20000001 400000"))
+            running.stdin.flush()
+            self.assertEqual(os.read(running.stdout.fileno(), 100), b"1 0 1 0\n")
+            running.stdin.write(b"\x01")
+            running.stdin.flush()
+            self.assertEqual(os.read(running.stdout.fileno(), 100), b"2 0 - 0\n")
+            running.stdin.close()
+            self.assertEqual(running.wait(30), 0)
+
+    @needs("replay")
+    def test_progress_at_a_terminal(self):
+        trace = program(ORACLE, "generate", 1, "--n", 4, "--records", 200000, "--mix", "valid")
+        Path("long.trace").write_bytes(trace[:1] + trace[1:] * 10)
+        seen, status = typed(["-m", "lemidrosy", "replay", "--all", "long.trace"], output="/dev/null")
+        self.assertEqual(status, 1)
+        self.assertRegex(seen, rb"\r[\d,]+ of 2,000,000 records, [\d,]+ a second, \d+ s left")
+
+    def test_judge(self):
+        for seed in range(many(400)):
+            trace = program(ORACLE, "generate", seed, "--mix", "foreign")
+            expected = program(PROGRAMS, "judge", given=trace).decode()
+            try:
+                verdict = lemidrosy.judge(trace)
+                said = "trackable\n" if verdict.trackable else f"breaks {verdict.near} {verdict.far}\n"
+            except Refused as refusal:
+                said = f"refused {refusal.number}\n"
+            self.assertEqual(said, expected, seed)
+        for seed in range(many(12)):
+            trace = program(ORACLE, "generate", seed, "--mix", "foreign")
+            status, said = self.same("judge", (), trace)
+            is_right = not refused(lemidrosy.judge, trace) and lemidrosy.judge(trace).trackable
+            self.assertEqual((status, said.count("\n")), (0, 0) if is_right else (1, 1))
+        self.prints("refused 14\n", "judge", EXAMPLE, status=1, says="record 9, recover 0: refused 14")
+        self.prints("refused 17\n", "judge", status=1, given=b"\x02" + bytes(4 * 4097 + 3), says="refused 17")
+        self.prints("refused 13\n", "judge", status=1, given=b"\x02" + bytes(4 * 4096 + 3), says="refused 13")
+
+    @needs("merge")
+    def test_merge(self):
+        for seed in range(many(300)):
+            number = int(program(ORACLE, "halves", seed, "first", "second"))
+            right = subprocess.run([PROGRAMS / "merge", "first", "second", str(number)], capture_output=True, timeout=60)
+            try:
+                merged, said = lemidrosy.merge(Path("first").read_bytes(), Path("second").read_bytes(), numbers.members(number)), b""
+            except Refused as refusal:
+                merged, said = b"", b"refused %d\n" % refusal.number
+            self.assertEqual((merged, said), (right.stdout, right.stderr), seed)
+            if seed < 12:
+                status, said = self.same("merge", ("first", "second", number))
+                self.assertEqual(status, 0 if right.stdout else 1)
+                if right.stderr:
+                    self.assertIn(right.stderr.decode().strip() + ":", said)
+        self.ends(1, "refused 7", "merge", EXAMPLE, EXAMPLE, "9" * 5000)
+        self.ends(1, "refused 7", "merge", EXAMPLE, EXAMPLE, "--processes", "2")
+        self.ends(2, "SET", "merge", EXAMPLE, EXAMPLE, "x")
+        self.ends(2, "SET", "merge", EXAMPLE, EXAMPLE)
+
+    @needs("simulate")
+    def test_simulate(self):
+        for words in ((4, 10, 3000, 7), (4, "1-9", 300, 7), (1, 1, 1, 0), (16, 1000, 3000, 4294967295), (0, 1, 1, 1), (17, "1-3", 5, 1), (2, 0, 1, 1), (2, 1001, 1, 1),
+                      (2, "5-4", 1, 1), (2, "1-1001", 1, 1), (2, 1, 0, 1), (2, 1, 30001, 1), (2, 4294967297, 1, 1), (10**40, 1, 1, 1), (2, "03-04", "010", "01")):
+            status, said = self.same("simulate", words)
+            self.assertEqual((status, said.count("\n")), (1, 1) if b"refused" in program(PROGRAMS, "simulate", *words) else (0, 0), words)
+        draws = random.Random(5)
+        for _ in range(many(100)):
+            words = draws.randrange(1, 17), draws.randrange(1, 60), draws.randrange(1, 2000), draws.randrange(2**32)
+            figures = lemidrosy.simulate(*words)
+            expected = [int(line.split()[1]) for line in program(PROGRAMS, "simulate", *words).decode().splitlines()]
+            self.assertEqual([figures.deliveries, figures.forced, figures.most_kept, figures.per_thousand, figures.remainder], expected)
+        for words in ((4, 10, 3000), (4, "a", 1, 1), (4, "1-", 1, 1), (4, 1, 1, 4294967296), (4, 10, 30, 7, "--table"), (4, 10, 30, 7, "--plot", "p.svg"), (4, "1-2", 3, 7, "--table", "--plot", "p.svg")):
+            self.ends(2, "lemidrosy simulate: ", "simulate", *words)
+
+    @needs("simulate")
+    def test_tables_and_plots(self):
+        self.prints(
+            """\
+spacing  deliveries  forced  most kept  forced per thousand deliveries
+      1       1,419       0          4                               0
+      2       1,419     304          4                             214
+""",
+            "simulate", 4, "1-2", 3000, 7, "--table",
+        )
+        for spacings in ("1-40", "7-7", "990-1000", "1-300"):
+            self.assertEqual(command("simulate", 4, spacings, 100, 7, "--plot", "plot.svg"), (0, b"", ""))
+            self.assertEqual(list(outside(Path("plot.svg").read_text())), [])
+
+
+def refused(call, *arguments):
+    """Whether a call is refused."""
+    try:
+        call(*arguments)
+    except Refused:
+        return True
+    return False
+
+
+def typed(words, typing=b"", when=b"", output=None):
+    """What the command shows at a terminal, and its status. `typing` is typed once it has shown `when`."""
+    process, terminal = pty.fork()
+    if process == 0:
+        if output:
+            os.dup2(os.open(output, os.O_WRONLY), 1)
+        os.execv(sys.executable, [sys.executable, *words])
+    seen, is_typed = b"", not typing
+    while True:
+        ready, _, _ = select.select([terminal], [], [], 30)
+        try:
+            block = os.read(terminal, 4096) if ready else b""
+        except OSError:
+            break
+        if not block:
+            break
+        seen += block
+        if when in seen and not is_typed:
+            is_typed = True
+            os.write(terminal, typing)
+    _, status = os.waitpid(process, 0)
+    os.close(terminal)
+    return seen, os.waitstatus_to_exitcode(status)
+
+
 class Ends(Case):
     """Files, streams, terminals and interrupts."""
 
     def test_files_that_cannot_be_read(self):
-        for subcommand, more in (("text", ()), ("bytes", ()), ("explain", ()), ("line", ("--all",)), ("earliest", ("0:0",))):
+        for subcommand, more in (("text", ()), ("bytes", ()), ("explain", ()), ("line", ("--all",)), ("earliest", ("0:0",)), ("draw", ()), ("replay", ()), ("judge", ()), ("merge", (EXAMPLE, 1))):
             self.ends(3, "/no/such/file: No such file", subcommand, "/no/such/file", *more)
             self.ends(3, "/: Is a directory", subcommand, "/", *more)
 
     def test_outputs_that_cannot_be_written(self):
-        for words in (("text", EXAMPLE), ("explain", EXAMPLE, 8), ("line", EXAMPLE, "--all", "--at", 8), ("earliest", EXAMPLE, "1:2", "--at", 8)):
+        for words in (("text", EXAMPLE), ("explain", EXAMPLE, 8), ("line", EXAMPLE, "--all", "--at", 8), ("earliest", EXAMPLE, "1:2", "--at", 8), ("draw", EXAMPLE, "--at", 8), ("judge", EXAMPLE)):
             for output, said in ((">/dev/full", "No space left"), (">&-", "Bad file descriptor")):
                 line = " ".join([sys.executable, "-m", "lemidrosy", *map(str, words)])
                 done = subprocess.run(["bash", "-c", f"exec {line} {output}"], capture_output=True, text=True)
@@ -567,26 +726,8 @@ class Ends(Case):
 
     def test_at_a_terminal(self):
         """The trace is typed; the command says that it waits for it."""
-        process, terminal = pty.fork()
-        if process == 0:
-            os.execv(sys.executable, [sys.executable, "-m", "lemidrosy", "bytes"])
-        seen = b""
-        typed = False
-        while True:
-            ready, _, _ = select.select([terminal], [], [], 30)
-            self.assertTrue(ready, seen)
-            try:
-                block = os.read(terminal, 4096)
-            except OSError:
-                break
-            if not block:
-                break
-            seen += block
-            if b"Ctrl-D" in seen and not typed:
-                typed = True
-                os.write(terminal, b"processes 65\n\x04")
-        _, status = os.waitpid(process, 0)
-        self.assertEqual(os.waitstatus_to_exitcode(status), 0)
+        seen, status = typed(["-m", "lemidrosy", "bytes"], b"processes 65\n\x04", b"Ctrl-D")
+        self.assertEqual(status, 0)
         self.assertIn(b"reading text from the terminal", seen)
         self.assertTrue(seen.endswith(b"A"), seen)
 

@@ -7,7 +7,7 @@ import signal
 import sys
 from typing import List, NoReturn, Optional, Sequence
 
-from . import __version__, convert, draw, explain, lines
+from . import __version__, convert, draw, explain, lines, programs, simulation
 from .answers import Refused
 from .files import ACCEPTED, INTERRUPTED, REFUSED, SYSTEM, USAGE, Stop
 from .library import LibraryError
@@ -38,7 +38,18 @@ def parser() -> Parser:
     command = Parser(prog="lemidrosy", description=DESCRIPTION, epilog=EPILOG, formatter_class=argparse.RawDescriptionHelpFormatter)
     command.add_argument("--version", action="version", version=f"lemidrosy {__version__}")
     added = command.add_subparsers(dest="subcommand", metavar="SUBCOMMAND", required=True, parser_class=Parser)
-    for add in (explain.add, draw.add, lines.add_line, lines.add_earliest, convert.add_text, convert.add_bytes):
+    for add in (
+        programs.add_replay,
+        explain.add,
+        draw.add,
+        lines.add_line,
+        lines.add_earliest,
+        convert.add_text,
+        convert.add_bytes,
+        programs.add_judge,
+        programs.add_merge,
+        simulation.add,
+    ):
         add(added)
     return command
 

@@ -72,6 +72,12 @@ def reader(name: str, what: str) -> BinaryIO:
     return io.BufferedReader(file)
 
 
+def size_of(file: BinaryIO) -> int:
+    """How many bytes a file has, 0 if that is not known."""
+    raw = getattr(file, "raw", None)
+    return raw.size() if isinstance(raw, Input) else 0
+
+
 def whole(name: str, what: str) -> bytes:
     """All that a file has."""
     with reader(name, what) as file:

@@ -12,7 +12,7 @@ from .answers import Checkpoint, Figures, Refused, Verdict
 from .library import FIGURES, PROGRESS, library
 from .numbers import BITS_32, set_of, size, word
 from .run import Run
-from .trace import LEFT_OVER_BYTES, NO_FIRST_BYTE, RECORD, Bytes
+from .trace import LEFT_OVER_BYTES, NO_FIRST_BYTE, RECORD, Bytes, Record
 
 
 def judge(trace: Bytes) -> Verdict:
@@ -78,37 +78,60 @@ def replay(trace: Union[Bytes, BinaryIO], all: bool = False) -> Iterator[Line]:
 
 def replay_text(trace: Union[Bytes, BinaryIO], all: bool = False) -> Iterator[bytes]:
     """The same as text, in parts as they come: what the program `replay` prints."""
-    source: BinaryIO = io.BytesIO(trace) if isinstance(trace, (bytes, bytearray, memoryview)) else trace
-    first = source.read(1)
-    if not first:
-        yield b"0 %d\n" % NO_FIRST_BYTE
-        return
-    try:
-        run = Run(first[0])
-    except Refused as refusal:
-        yield b"0 %d\n" % refusal.number
-        return
-    yield from _replay_records(run, source, all)
+    return Replay(trace, all).text()
 
 
-def _replay_records(run: Run, source: BinaryIO, all: bool) -> Iterator[bytes]:
-    """The lines of the records, blocks of them as they are read."""
-    read = getattr(source, "read1", source.read)
-    block = Block()
-    done, held = 0, b""
-    while done < LAST_RECORD:
-        more = read(min(_BLOCK, RECORD * (LAST_RECORD - done)) - len(held))
-        if not more:
-            if held:
-                yield b"%d %d\n" % (done + 1, LEFT_OVER_BYTES)
+class Replay:
+    """The replay of a trace. `refusal` is the first one, `refused` the record that it is of, if it is of one, and `refused_at` its number; `done` says how many records
+    were taken."""
+
+    def __init__(self, trace: Union[Bytes, BinaryIO], all: bool = False) -> None:
+        self._source: BinaryIO = io.BytesIO(trace) if isinstance(trace, (bytes, bytearray, memoryview)) else trace
+        self._all = all
+        self.done = 0
+        self.refusal: Optional[Refused] = None
+        self.refused: Optional[Record] = None
+        self.refused_at = 0
+
+    def text(self) -> Iterator[bytes]:
+        """The lines, in parts as they come."""
+        first = self._source.read(1)
+        try:
+            if not first:
+                raise Refused(NO_FIRST_BYTE)
+            run = Run(first[0])
+        except Refused as refusal:
+            yield self._refuse(0, refusal)
             return
-        held += more
-        while len(held) >= RECORD:
-            taken, text = block.replay(run, all, done, held)
-            done, held = done + taken, held[RECORD * taken :]
-            yield text
-            if not block.goes_on:
+        yield from self._records(run)
+
+    def _refuse(self, number: int, refusal: Refused) -> bytes:
+        """The line of a refusal that is of no record."""
+        self.refusal = self.refusal or refusal
+        return b"%d %d\n" % (number, refusal.number)
+
+    def _records(self, run: Run) -> Iterator[bytes]:
+        """The lines of the records, blocks of them as they are read."""
+        read = getattr(self._source, "read1", self._source.read)
+        block, held = Block(), b""
+        while self.done < LAST_RECORD:
+            more = read(min(_BLOCK, RECORD * (LAST_RECORD - self.done)) - len(held))
+            if not more:
+                if held:
+                    yield self._refuse(self.done + 1, Refused(LEFT_OVER_BYTES))
                 return
+            held += more
+            while len(held) >= RECORD:
+                # Up to the first refusal, which is thus known without a look at the lines; then on, if all are asked for.
+                taken, text = block.replay(run, self.refusal is not None, self.done, held)
+                if not block.goes_on:
+                    self.refusal = Refused(int(text[:-1].rsplit(b" ", 1)[1]))
+                    self.refused = Record.of(held[RECORD * (taken - 1) : RECORD * taken])
+                    self.refused_at = self.done + taken
+                self.done, held = self.done + taken, held[RECORD * taken :]
+                yield text
+                if self.refusal is not None and not self._all:
+                    return
 
 
 class Block:
