@@ -179,6 +179,24 @@ class Package(Case):
         self.refused(2, Run.from_bytes, saved[:-1])
         self.refused(2, Run.from_words([]).to_bytes)
 
+    @needs("save", "load")
+    def test_states_in_files(self):
+        run = Run(3)
+        run.send(0, 1)
+        run.store("state")
+        run.checkpoint(2)
+        run.store(Path("state"))
+        self.assertEqual(Run.load("state").words, run.words)
+        self.assertEqual(Path("state").read_bytes(), run.to_bytes())
+        self.refused(2, Run.load, EXAMPLE)
+        self.refused(2, Run.from_words([]).store, "state")
+        self.refused(2, Run.from_words([0] * 6464).store, "state")
+        self.assertEqual(Run.load("state").words, run.words)
+        with self.assertRaises(FileNotFoundError):
+            Run.load("/no/such/file")
+        with self.assertRaises(FileNotFoundError):
+            run.store("/no/such/file")
+
     def test_records(self):
         draws = random.Random(2)
         for _ in range(many(2000)):
@@ -430,6 +448,14 @@ process  goes back to      checkpoints undone  events undone
 """,
             "line", EXAMPLE, "--at", 8, "--failed", 0,
         )
+
+    @needs("lost")
+    def test_messages_that_are_lost(self):
+        trace = b"".join(bytes_of("processes 3\nsend 0 1\ncheckpoint 1\nsend 1 2\nsend 2 0".split("\n")))
+        status, text, said = command("line", "-", "--failed", "0,1", given=trace)
+        self.assertEqual(text.decode().split("\n")[-2], "messages under way that are lost: 1 (0 to 1) and 2 (1 to 2)")
+        status, text, said = command("line", "-", "--failed", "2", given=trace)
+        self.assertEqual(text.decode().split("\n")[-2], "messages under way that are lost: 3 (2 to 0)")
 
     def test_all_sets(self):
         self.prints(

@@ -4,7 +4,7 @@ from __future__ import annotations
 
 import ctypes
 import os
-from ctypes import c_bool, c_char_p, c_size_t, c_uint, c_uint16, c_uint32, c_uint64, c_uint8
+from ctypes import c_bool, c_char_p, c_int, c_size_t, c_uint, c_uint16, c_uint32, c_uint64, c_uint8
 from pathlib import Path
 from typing import Any, Dict, Iterator, List, Optional, Tuple
 
@@ -20,6 +20,10 @@ NUMBERS = 5
 """Numbers of a run."""
 THREES = 192
 """Three numbers for each of 64 messages."""
+SAVED = 12942
+"""Bytes of a saved state."""
+UNSOUND_STATE = 2
+"""The refusal of words that stand for no sound state."""
 FIGURES = 5
 """Figures of a simulation."""
 PROGRESS = 3
@@ -52,6 +56,8 @@ _ON_WORDS: Dict[str, Tuple[Any, ...]] = {
     "replay": (_words, c_size_t, c_bool, c_uint64, c_char_p, c_size_t, _bytes, c_size_t, _sums, c_size_t),
     "save": (_words, c_size_t, _bytes, c_size_t),
     "load": (c_char_p, c_size_t, _words, c_size_t),
+    "store_file": (c_char_p, _words),
+    "load_file": (c_char_p, _words),
 }
 _ON_BYTES: Dict[str, Tuple[Any, ...]] = {
     "judge": (c_char_p, c_size_t),
@@ -59,7 +65,7 @@ _ON_BYTES: Dict[str, Tuple[Any, ...]] = {
     "simulate": (c_size_t, c_uint32, c_uint32, c_uint32, _sums, c_size_t),
     "refusal_text": (c_uint,),
 }
-_RESULTS: Dict[str, Any] = {"is_sound": c_bool, "refusal_text": c_char_p}
+_RESULTS: Dict[str, Any] = {"is_sound": c_bool, "refusal_text": c_char_p, "store_file": c_int, "load_file": c_int}
 
 
 class LibraryError(OSError):

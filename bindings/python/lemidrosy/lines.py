@@ -11,7 +11,7 @@ from typing import Iterator, List, Optional, Tuple
 from . import files
 from .files import ACCEPTED, REFUSED, USAGE, Output, Stop
 from .history import Follower, Step, Stored, begun
-from .sentences import counted, processes
+from .sentences import counted, listed, processes
 
 
 def numbers(text: str) -> Tuple[int, ...]:
@@ -93,6 +93,9 @@ def line_table(follower: Follower, failed: Tuple[int, ...]) -> Iterator[str]:
         undone = history.since(process, index)
         checkpoints = sum(isinstance(event, Stored) for event in undone)
         yield f"{process:7}  checkpoint {index:<5}  {checkpoints:18}  {len(undone) - checkpoints:13}"
+    lost = [f"{message.number} ({message.sender} to {message.receiver})" for message in follower.run.lost(failed)]
+    if follower.run.messages():
+        yield f"messages under way that are lost: {listed(lost)}"
 
 
 def all_lines(follower: Follower) -> Iterator[str]:

@@ -2,12 +2,13 @@
 
 from __future__ import annotations
 
+import os
 from ctypes import c_uint16, c_uint32, c_uint64, c_uint8
 from typing import Any, Iterable, Mapping, Optional, Tuple, Union
 
 from . import answers
-from .answers import Blocks, Cause, Checkpointed, Delivered, Kept, Message, Numbers, Recovered
-from .library import DELETIONS, NUMBERS, PROCESSES, THREES, WORDS, library
+from .answers import Blocks, Cause, Checkpointed, Delivered, Kept, Message, Numbers, Recovered, Refused
+from .library import DELETIONS, NUMBERS, PROCESSES, SAVED, THREES, UNSOUND_STATE, WORDS, library
 from .numbers import set_of, size, word
 
 _Words = c_uint16 * WORDS
@@ -16,8 +17,7 @@ _Deletions = c_uint16 * DELETIONS
 _Kept = c_uint32 * (3 * PROCESSES)
 _Threes = c_uint32 * THREES
 _Numbers = c_uint64 * NUMBERS
-# More than a saved state takes: its words and what stands around them.
-_Saved = c_uint8 * (2 * WORDS + 256)
+_Saved = c_uint8 * SAVED
 
 
 class Run:
@@ -195,12 +195,33 @@ class Run:
         answers.accepted(library().load(bytes(saved), len(saved), run._words, WORDS))
         return run
 
+    def store(self, path: Union[str, "os.PathLike[str]"]) -> None:
+        """Stores the state in a file. Until it stands there whole, on the disk, the old file does. Refused with 2; what the system cannot do is an OSError."""
+        if len(self._words) != WORDS:
+            raise Refused(UNSOUND_STATE)
+        _done(library().store_file(os.fsencode(path), self._words), path)
+
+    @classmethod
+    def load(cls, path: Union[str, "os.PathLike[str]"]) -> "Run":
+        """The run whose state a file holds. Refused with 2 where the file holds no saved sound state; what the system cannot do is an OSError."""
+        run = cls.__new__(cls)
+        run._words = _Words()
+        _done(library().load_file(os.fsencode(path), run._words), path)
+        return run
+
     def __repr__(self) -> str:
         if not self.is_sound():
             return "<Run: no sound state>"
         numbers = self.numbers()
         vectors = ", ".join(str(self.vector(process)) for process in range(numbers.n))
         return f"<Run of {numbers.n}: vectors {vectors}; {numbers.under_way} under way>"
+
+
+def _done(answer: int, path: Union[str, "os.PathLike[str]"]) -> None:
+    """An answer about a file: 0, the number of a refusal, or below 0 the system's error."""
+    if answer < 0:
+        raise OSError(-answer, os.strerror(-answer), path)
+    answers.accepted(answer)
 
 
 def _messages(count: int, threes: Any) -> Tuple[Message, ...]:
