@@ -19,7 +19,8 @@ import xml.etree.ElementTree
 from pathlib import Path
 
 import lemidrosy
-from lemidrosy import Refused, Run, functions, numbers
+from lemidrosy import Refused, Run, foreign, functions, numbers
+from lemidrosy.history import Stored
 from lemidrosy.text import FORMS, bytes_of, text_of
 from lemidrosy.words import TextError
 
@@ -490,11 +491,21 @@ failed  roll back  events undone  line
 SHAPE = "{http://www.w3.org/2000/svg}"
 
 
+def placed(part, across, down):
+    """All parts of a picture, with how far each was moved."""
+    moved = re.fullmatch(r"translate\((.*),(.*)\)", part.get("transform", ""))
+    if moved:
+        across, down = across + float(moved.group(1)), down + float(moved.group(2))
+    yield part, across, down
+    for inner in part:
+        yield from placed(inner, across, down)
+
+
 def outside(svg):
     """What stands outside the frame of a picture, which is well-formed."""
     root = xml.etree.ElementTree.fromstring(svg)
     width, height = float(root.get("width")), float(root.get("height"))
-    for part in root.iter():
+    for part, across, down in placed(root, 0, 0):
         name, get = part.tag.removeprefix(SHAPE), lambda key: float(part.get(key, 0))
         places = []
         if name == "line":
@@ -509,10 +520,10 @@ def outside(svg):
             long = 0.62 * get("font-size") * len(part.text)
             start = get("x") - {"start": 0, "middle": long / 2, "end": long}[part.get("text-anchor")]
             places = [(start, get("y")), (start + long, get("y"))]
-        elif name not in ("svg", "title"):
+        elif name not in ("svg", "title", "g"):
             yield f"unknown part {name}"
         for x, y in places:
-            if not (-0.1 <= x <= width + 0.1 and -0.1 <= y <= height + 0.1):
+            if not (-0.1 <= x + across <= width + 0.1 and -0.1 <= y + down <= height + 0.1):
                 yield f"{name} at {x}, {y} of {width}, {height}"
 
 
@@ -544,6 +555,53 @@ class Draw(Case):
             got, svg, said = command("draw", "-", "--failed", 0, "--from", max(1, count // 3), given=trace)
             self.assertIn(got, (0, 1), said)
             self.assertEqual(list(outside(svg)), [], seed)
+
+    @needs("recover")
+    def test_before_and_after(self):
+        svg = self.drawn(EXAMPLE.read_bytes(), "--at", 9, "--compare")
+        self.assertEqual((svg.count("<g "), "after record 8" in svg, "after record 9" in svg), (2, True, True))
+        long = program(ORACLE, "generate", 3, "--n", 4, "--records", 60, "--mix", "valid")
+        svg = command("draw", "-", "--compare", given=long)[1]
+        self.assertEqual((list(outside(svg)), b'translate(0,0)' in svg), ([], True))
+        self.ends(2, "--compare needs a record", "draw", "-", "--compare", given=b"\x02")
+
+    def test_a_zigzag_cycle(self):
+        text = b"processes 2\nsend 1 0\ndeliver 1\ncheckpoint 0\nsend 0 1\ndeliver 2\n"
+        svg = self.drawn(text, "--judge", status=1)
+        self.assertIn("a zigzag path from 0:1 to 0:1 without causal precedence", svg)
+        self.assertEqual(len(re.findall(r'<text[^>]*fill="#1f6fb2"[^>]*>m[12]</text>', svg)), 2)
+        self.assertIn("trackable", self.drawn(b"processes 2\nsend 1 0\ndeliver 1\n", "--judge"))
+        self.ends(1, "refused 14", "draw", EXAMPLE, "--judge")
+        self.ends(2, "--judge goes without", "draw", EXAMPLE, "--judge", "--failed", "0")
+
+    def test_zigzag_paths(self):
+        """What is drawn is such a path, between the ends that the judge names."""
+        found = 0
+        for seed in range(many(300)):
+            trace = program(ORACLE, "generate", seed, "--n", 2 + seed % 5, "--records", 50, "--mix", "foreign")
+            if refused(lemidrosy.judge, trace) or lemidrosy.judge(trace).trackable:
+                continue
+            verdict, history = lemidrosy.judge(trace), foreign.history_of(trace)
+            path = [history.messages[number] for number in foreign.zigzag(history, verdict.near, verdict.far)]
+            interval = {id(event): sum(isinstance(other, Stored) for other in events[:place]) for events in history.lists for place, event in enumerate(events)}
+            self.assertEqual((path[0].sender, path[-1].receiver), (verdict.near.process, verdict.far.process))
+            self.assertGreater(interval[id(path[0].sent)], verdict.near.index)
+            self.assertLessEqual(interval[id(path[-1].received)], verdict.far.index)
+            for one, other in zip(path, path[1:]):
+                self.assertEqual(one.receiver, other.sender)
+                self.assertLessEqual(interval[id(one.received)], interval[id(other.sent)])
+            found += 1
+        self.assertGreater(found, 0)
+
+    def test_a_run_draws_itself(self):
+        run = Run(16)
+        self.assertEqual(list(outside(run._repr_svg_())), [])
+        for process in range(15):
+            run.checkpoint(process)
+            run.send(process, process + 1)
+        self.assertEqual(list(outside(run._repr_svg_())), [])
+        self.assertEqual(list(outside(Run(1)._repr_svg_())), [])
+        self.assertEqual(Run.from_words([])._repr_svg_(), "")
 
     def test_pixels(self):
         environment = {**os.environ, "PATH": ""}

@@ -2,7 +2,7 @@
 
 from __future__ import annotations
 
-from typing import Dict, FrozenSet, Iterable, List, Optional, Sequence, Tuple
+from typing import Dict, FrozenSet, List, Optional, Sequence, Tuple
 
 from .answers import Cause
 from .history import Event, History, Passage, Recovery, Stored
@@ -110,6 +110,8 @@ class Diagram:
             self._line(picture, self.line)
         for event in self.history.events:
             self._event(picture, event)
+        for process, index in self.ends:
+            picture.circle(self._state(process, index), 13, PATH, width=2)
         self._legend(picture)
         return picture
 
@@ -214,8 +216,6 @@ class Diagram:
             return
         mark(picture, place, event.cause, colour, bool(event.deleted))
         picture.text((place[0] + 6, place[1] + 19), str(event.index), 10.5, colour)
-        if (event.process, event.index) in self.ends and not event.undone:
-            picture.circle(place, 13, PATH, width=2)
 
     def _line(self, picture: Picture, line: Sequence[int]) -> None:
         """The recovery line, through the states that it names."""

@@ -95,9 +95,10 @@ class History:
         self.lists: List[List[Event]] = [[] for _ in range(self.n)]
         """The surviving history: a list for each process."""
         for process in range(self.n):
-            self._add(Stored(process, 0))
+            self.add(Stored(process, 0))
 
-    def _add(self, event: Event) -> None:
+    def add(self, event: Event) -> None:
+        """The next event of its process."""
         self.events.append(event)
         self.lists[event.process].append(event)
 
@@ -117,7 +118,7 @@ class History:
             self._delete(number, result.deleted)
         elif record.kind == SEND and isinstance(result, int):
             sent = Sent(record.process, number, message=result)
-            self._add(sent)
+            self.add(sent)
             self.messages[result] = Passage(result, sent, record.argument)
         elif isinstance(result, Delivered):
             self._receive(number, self.messages[record.argument], result)
@@ -125,13 +126,13 @@ class History:
             self.messages[record.argument].lost = number
 
     def _store(self, number: int, process: int, index: int, cause: Cause) -> None:
-        self._add(Stored(process, number, index=index, cause=cause))
+        self.add(Stored(process, number, index=index, cause=cause))
 
     def _receive(self, number: int, message: Passage, result: Delivered) -> None:
         if result.forced is not None:
             self._store(number, message.receiver, result.forced, Cause.FORCED)
         message.received = Received(message.receiver, number, message=message.number)
-        self._add(message.received)
+        self.add(message.received)
         self._delete(number, result.deleted)
 
     def _delete(self, number: int, deleted: Iterable[Checkpoint]) -> None:

@@ -36,8 +36,13 @@ def add_trace(added: argparse.ArgumentParser) -> None:
 
 
 def followed(name: str, at: Optional[int]) -> Tuple[Follower, int]:
+    """A trace of a file followed to its end or to a record, and the status."""
+    return follow(files.trace(name), at)
+
+
+def follow(trace: bytes, at: Optional[int]) -> Tuple[Follower, int]:
     """A trace followed to its end or to a record, also after refusals, and the status: of those the first is told on standard error."""
-    follower, records = begun(files.trace(name))
+    follower, records = begun(trace)
     refused: Optional[Step] = None
     for record in records if at != 0 else ():
         step = follower.take(record)

@@ -209,6 +209,12 @@ class Run:
         _done(library().load_file(os.fsencode(path), run._words), path)
         return run
 
+    def _repr_svg_(self) -> str:
+        """The state as a picture, for a notebook."""
+        from .state import picture
+
+        return picture(self).written() if self.is_sound() else ""
+
     def __repr__(self) -> str:
         if not self.is_sound():
             return "<Run: no sound state>"

@@ -75,6 +75,12 @@ class Picture:
         self.line((x - size, y - size), (x + size, y + size), colour, 2)
         self.line((x - size, y + size), (x + size, y - size), colour, 2)
 
+    def include(self, other: "Picture", place: Point) -> None:
+        """Another picture in this one, its corner at the place."""
+        self._parts.append(f'<g transform="translate({number(place[0])},{number(place[1])})">')
+        self._parts += other._parts
+        self._parts.append("</g>")
+
     def written(self) -> str:
         """The whole file."""
         width, height = number(self.width), number(self.height)
