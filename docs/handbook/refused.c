@@ -9,16 +9,14 @@ static uint32_t ones[] = {1, 1, 1};
 static void say(const char *what, uint64_t answer) { printf("%2u  %s\n", lemidrosy_refused(answer), what); }
 
 /* The blocks written and deleted, put into the words by hand: a run would need more than fifteen billion checkpoints to come there. */
-static void put_blocks(uint64_t written, uint64_t gone)
-{
+static void put_blocks(uint64_t written, uint64_t gone) {
     for (int k = 0; k < 4; k++) {
         words[4 + k] = (uint16_t)(written >> 16 * k);
         words[8 + k] = (uint16_t)(gone >> 16 * k);
     }
 }
 
-int main(void)
-{
+int main(void) {
     say("a start with 17 processes", lemidrosy_start(words, W, 17, ones, 3));
     say("a send on words that hold no run", lemidrosy_send(words, W, 0, 1));
     say("a start with three processes and two block counts", lemidrosy_start(words, W, 3, ones, 2));

@@ -1,23 +1,22 @@
-/* show < TRACE: the vector, the pins and the kept checkpoints of each process after the calls of a trace, and the line for every failed set. Recoveries are left out. */
+/* show < TRACE: the vector, the pins and the kept checkpoints of each process after the calls of a trace, and the line for every failed set. */
 #include "lemidrosy.h"
 #include <stdio.h>
 
-static uint16_t words[LEMIDROSY_WORDS], deleted[LEMIDROSY_DELETIONS];
+static uint16_t words[LEMIDROSY_WORDS], deleted[LEMIDROSY_DELETIONS], line[LEMIDROSY_PROCESSES];
 
-static uint64_t make_call(uint32_t record)
-{
+static uint64_t make_call(uint32_t record) {
     uint32_t process = record >> 25 & 15, argument = record & 0x1ffffff;
     switch (record >> 29) {
     case 0: return lemidrosy_checkpoint(words, LEMIDROSY_WORDS, process, deleted, LEMIDROSY_DELETIONS);
     case 1: return lemidrosy_send(words, LEMIDROSY_WORDS, process, argument);
     case 2: return lemidrosy_deliver(words, LEMIDROSY_WORDS, argument, deleted, LEMIDROSY_DELETIONS);
     case 3: return lemidrosy_lose(words, LEMIDROSY_WORDS, argument);
+    case 4: return lemidrosy_recover(words, LEMIDROSY_WORDS, argument, deleted, LEMIDROSY_DELETIONS, line, LEMIDROSY_PROCESSES);
     default: return LEMIDROSY_MALFORMED_RECORD;
     }
 }
 
-static void show_process(unsigned n, unsigned p)
-{
+static void show_process(unsigned n, unsigned p) {
     uint16_t vector[LEMIDROSY_PROCESSES], pins[LEMIDROSY_PROCESSES];
     uint32_t kept[3 * LEMIDROSY_PROCESSES];
     lemidrosy_vector(words, LEMIDROSY_WORDS, p, vector, LEMIDROSY_PROCESSES);
@@ -35,9 +34,7 @@ static void show_process(unsigned n, unsigned p)
     printf("\n");
 }
 
-static void show_line(unsigned n, unsigned failed)
-{
-    uint16_t line[LEMIDROSY_PROCESSES];
+static void show_line(unsigned n, unsigned failed) {
     lemidrosy_line(words, LEMIDROSY_WORDS, failed, line, LEMIDROSY_PROCESSES);
     const char *before = "if ";
     for (unsigned p = 0; p < n; p++)
@@ -51,8 +48,7 @@ static void show_line(unsigned n, unsigned failed)
     printf("\n");
 }
 
-int main(void)
-{
+int main(void) {
     uint32_t counts[LEMIDROSY_PROCESSES];
     unsigned char bytes[4];
     unsigned n = (unsigned)getchar(), record = 1;
