@@ -1,17 +1,15 @@
-! A run of three processes: one takes a checkpoint, sends and fails.
+! A run of three processes: process 0 sends to process 1, which takes the message in, and then fails.
 program run
     use lemidrosy
     implicit none
     integer(lemidrosy_word) :: words(lemidrosy_words)
-    integer :: deleted(lemidrosy_deletions_size), messages(lemidrosy_messages_size), line(3)
-    type(lemidrosy_answer) :: started, stored, sent, under_way, lined
+    integer :: deleted(lemidrosy_deletions_size), line(3)
+    type(lemidrosy_answer) :: started, sent, received, back
 
     started = lemidrosy_start(words, 3, [1, 1, 1])
-    stored = lemidrosy_checkpoint(words, 0, deleted)
     sent = lemidrosy_send(words, 0, 1)
-    under_way = lemidrosy_messages(words, messages)
-    lined = lemidrosy_line(words, 1, line)
-    if (lined%refused /= 0) error stop lemidrosy_refusal_text(lined%refused)
-    print '(4(a, i0), 2(1x, i0))', "checkpoint ", stored%value, ", message ", sent%value, ", ", under_way%value, &
-        " under way, line ", line
+    received = lemidrosy_deliver(words, sent%value, deleted)
+    back = lemidrosy_recover(words, 1, deleted, line)
+    if (back%refused /= 0) error stop lemidrosy_refusal_text(back%refused)
+    print '(i0, a, 3(1x, i0))', back%value, " rolled back, line", line
 end program
