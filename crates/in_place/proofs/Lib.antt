@@ -9,7 +9,5 @@ pub mod Losing
 pub mod Moving
 pub mod Reached
 pub mod Receiving
-pub mod Recovering
-pub mod Restoring
 pub mod Sending
 pub mod Starting

@@ -1,6 +1,5 @@
 pub mod Called
 pub mod Left
-pub mod Recovering
 pub mod Sending
 pub mod Starting
 pub mod Storing

@@ -21,6 +21,3 @@ pub mod line;
 
 // through.rt: the earliest consistent line through named checkpoints
 pub mod through;
-
-// recover.rt: everyone goes back to the line for a failed set
-pub mod recover;

@@ -22,7 +22,7 @@ ghost use Rattle.whole_runs.specs.WholeRuns.{LinePromise};
 ghost use Rattle.words.specs.Layout.{countOf, runOf};
 
 // The indexes of n members go to the front of the lent list.
-pub(crate) fn write_line(line: &mut [u16], indexes: [CheckpointIndex; 16], n: usize)
+pub fn write_line(line: &mut [u16], indexes: [CheckpointIndex; 16], n: usize)
     requires { ⌜ (n ≤ 16) × (n ≤ length (now line)) ⌝ }
     ensures { λ u. ⌜ now (line .exit) ≡ sets (now (line .entry)) 0 (table n (λ p. getD indexes p (record { 0 = 0 }) .0)) ⌝ }
 {

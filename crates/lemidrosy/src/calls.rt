@@ -136,7 +136,7 @@ pub extern "C" fn lemidrosy_recover(
     ensures { λ r. ⌜ CleanPromise (runOf (now (words .entry))) failed (now (deleted .entry)) (now (line .entry)) (runOf (now (words .exit))) ⌝ }
     ensures { λ r. ⌜ SweepPromise (runOf (now (words .entry))) failed (now (deleted .entry)) (now (line .entry)) (recoverOutcome (runOf (now (words .entry))) failed (now (deleted .entry)) (now (line .entry)) .answer) (now (line .exit)) (runOf (now (words .exit))) ⌝ }
 {
-    let answer = in_place::recover::recover(words, failed, deleted, line);
+    let answer = recover_in_place::recover(words, failed, deleted, line);
     answers::of_recover(answer)
 }
 

@@ -1,4 +1,4 @@
--- `in_place::recover::recover_on` meets its contract: the lengths of the lists, the verdict on the failed set, then the recovery. Assumes nothing.
+-- `recover_in_place::recover_on` meets its contract: the lengths of the lists, the verdict on the failed set, then the recovery. Assumes nothing.
 use mathlib.Core.Path.{_≡_, refl, sym, _∙_}
 use mathlib.Core.Bool.{false, _||_}
 use Prim.Native.Nat.{_*_}
@@ -11,9 +11,9 @@ use Rattle.laws.specs.Truth.{or-none}
 use Rattle.verdicts.specs.declared.Verdict.the-variants.{Accepted}
 use Rattle.words.specs.Layout.{countOf}
 use Rattle.words.proofs.ViewSound.{sound-words}
-use Rattle.in_place.proofs.Recovering.{lists-short, set-refused}
-use Rattle.in_place.proofs.recover.recover_on.Statement.{statement}
-use Rattle.in_place.proofs.recover.recover_on.Tie as tie
+use Rattle.recover_in_place.proofs.Recovering.{lists-short, set-refused}
+use Rattle.recover_in_place.proofs.recover_on.Statement.{statement}
+use Rattle.recover_in_place.proofs.recover_on.Tie as tie
 
 abbrev start : tie.Else1 → tie.Start
 start e = e .before .before .before .before .before .before

@@ -43,10 +43,10 @@ use Rattle.recovery_words.specs.Restored.{goesBack, ownsAfter, AllReturn}
 use Rattle.recovery_words.proofs.Recovery.{rolled, recovered-is, gone-is, restorable}
 use Rattle.sifted_words.specs.Sifted.{lostTo, SendersPresent, Sifted}
 use Rattle.sifted_words.proofs.Lost.{senders-present, still-are}
 use Rattle.in_place.specs.Left.{Leaves}
-use Rattle.in_place.specs.Recovering.{partThen, goneThen, lossesThen, diskThen, AllRestorable, Restored}
+use Rattle.recover_in_place.specs.Recovering.{partThen, goneThen, lossesThen, diskThen, AllRestorable, Restored}
 use Rattle.in_place.proofs.Checkpointing.{disk-is}
 use Rattle.in_place.proofs.Leaving.{same-words}
 
 -- What a recovery of the words w for the failed set F, with the lists `lent` and `line`, answers and leaves.
 abbrev pub Left : List ℕ → ℕ → List ℕ → List ℕ → RecoverAnswer → List ℕ → List ℕ → List ℕ → Type 0

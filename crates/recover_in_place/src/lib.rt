@@ -24,8 +24,8 @@ ghost use Rattle.whole_runs.specs.Sweep.{SweepPromise};
 ghost use Rattle.whole_runs.specs.WholeRuns.{LinePromise, StatePromise};
 ghost use Rattle.words.specs.Layout.{countOf, runOf};
 ghost use Rattle.recovery_words.specs.Restored.{goesBack};
 ghost use Rattle.in_place.specs.Left.{Leaves};
-ghost use Rattle.in_place.specs.Recovering.{lossesThen, AllRestorable, Restored};
+ghost use Rattle.recover_in_place.specs.Recovering.{lossesThen, AllRestorable, Restored};
 
 // 1 if the member of process p, in the place before this one, is a kept checkpoint: the process goes back to it.
 fn one_if_back(w: &[u16], p: usize, past: u16) -> usize
@@ -97,7 +97,7 @@ fn recover_within(
     let indexes = line_words::line::indexes_of(w, n, pasts);
     let owns = recovery_words::owns::owns_after(w, n, pasts);
     let back = count_back(w, n, pasts);
-    super::line::write_line(line, indexes, n);
+    in_place::line::write_line(line, indexes, n);
     let gone = restore_all(w, n, pasts, owns, deleted);
     sifted_words::sift(w, indexes);
     RecoverAnswer::Recovered(back, gone)

@@ -1,11 +1,11 @@
--- `in_place::recover::one_if_back` meets its contract. Assumes nothing.
+-- `recover_in_place::one_if_back` meets its contract. Assumes nothing.
 use mathlib.Core.Bool.{Bool}
 use mathlib.Core.Path.{sym, ap}
 use borrow.Author.Tests.{le-leb, lt-leb}
 use borrow.Author.Needs.{needs}
 use Rattle.laws.specs.Choice.{pick}
-use Rattle.in_place.proofs.recover.one_if_back.Statement.{statement}
-use Rattle.in_place.proofs.recover.one_if_back.Tie as tie
+use Rattle.recover_in_place.proofs.one_if_back.Statement.{statement}
+use Rattle.recover_in_place.proofs.one_if_back.Tie as tie
 
 returns : tie.Need-returns
 returns c = sym (ap (λ (b : Bool). pick b 1 0) (le-leb _ _ (c .if1 .taken)))

@@ -1,4 +1,4 @@
--- `in_place::recover::recover_within` meets its contract: the members, by which each process is restored, then the messages. Assumes nothing.
+-- `recover_in_place::recover_within` meets its contract: the members, by which each process is restored, then the messages. Assumes nothing.
 use mathlib.Core.Path.{_≡_, sym, ap, _∙_}
 use mathlib.Core.Bool.{false, _||_}
 use Prim.Native.Nat.{ℕ, _*_, _≤_, _<_}
@@ -14,10 +14,10 @@ use Rattle.words.specs.Layout.{word, countOf, runOf}
 use Rattle.words.proofs.ViewSound.{sound-words}
 use Rattle.line_words.specs.declared.line.Members.{Members}
 use Rattle.line_words.specs.Line.{limitsIn, membersIn}
 use Rattle.in_place.proofs.Lining.{some-own, most-held, all-used, members-are, members-missing, members-there, members-found}
-use Rattle.in_place.proofs.Recovering.{no-member, recovers, all-restorable, all-returning, senders-still}
-use Rattle.in_place.proofs.recover.recover_within.Statement.{statement}
-use Rattle.in_place.proofs.recover.recover_within.Tie as tie
+use Rattle.recover_in_place.proofs.Recovering.{no-member, recovers, all-restorable, all-returning, senders-still}
+use Rattle.recover_in_place.proofs.recover_within.Statement.{statement}
+use Rattle.recover_in_place.proofs.recover_within.Tie as tie
 
 -- Where each call stands behind the one before it.
 abbrev at-limits : tie.After-limits-of → tie.Start

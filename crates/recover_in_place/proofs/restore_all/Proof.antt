@@ -1,4 +1,4 @@
--- `in_place::recover::restore_all` meets its contract. The loop's invariant: the processes passed so far are as they are after the recovery, the others as they were, and
+-- `recover_in_place::restore_all` meets its contract. The loop's invariant: the processes passed so far are as they are after the recovery, the others as they were, and
 -- the lent list has the pairs of what is deleted.
 -- Assumes nothing.
 use Prim.Native.Nat.{_+_, _-_, _≤_, _<_}
@@ -11,10 +11,10 @@ use Rattle.whole_runs.specs.Outcomes.{pairs}
 use Rattle.words.specs.Layout.{countOf}
 use Rattle.words.proofs.View.{fits-size}
 use Rattle.words.proofs.ViewSound.{sound-words}
-use Rattle.in_place.specs.Recovering.{lossesThen, Restored}
-use Rattle.in_place.proofs.Restoring.{losses-few, none-restored, none-listed, none-counted, still-size, still-disk, still-restorable, still-room, one-more, more-listed, more-counted}
-use Rattle.in_place.proofs.recover.restore_all.Statement.{statement}
-use Rattle.in_place.proofs.recover.restore_all.Tie as tie
+use Rattle.recover_in_place.specs.Recovering.{lossesThen, Restored}
+use Rattle.recover_in_place.proofs.Restoring.{losses-few, none-restored, none-listed, none-counted, still-size, still-disk, still-restorable, still-room, one-more, more-listed, more-counted}
+use Rattle.recover_in_place.proofs.restore_all.Statement.{statement}
+use Rattle.recover_in_place.proofs.restore_all.Tie as tie
 
 abbrev Inv-loop : tie.InvT-loop
 Inv-loop w₀ n owns deleted₀ pasts gone₀ p₀ w deleted gone p =

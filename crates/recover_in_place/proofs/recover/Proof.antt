@@ -1,4 +1,4 @@
--- `in_place::recover::recover` meets its contract: words that stand for no sound state are refused with 2, on others the step does it. Demand 3 and Notes 4 and 6 are
+-- `recover_in_place::recover` meets its contract: words that stand for no sound state are refused with 2, on others the step does it. Demand 3 and Notes 4 and 6 are
 -- theorems of `whole_runs`.
 -- Assumes nothing.
 use mathlib.Core.Path.{refl}
@@ -8,9 +8,9 @@ use Rattle.whole_runs.proofs.Clean.{clean-promise}
 use Rattle.whole_runs.proofs.Sweep.{sweep-promise}
 use Rattle.whole_runs.proofs.Unsound.{is-sound, is-unsound, recover-unsound}
 use Rattle.whole_runs.proofs.WholeRuns.{line-promise, recover-promise}
 use Rattle.in_place.proofs.Leaving.{same-words}
-use Rattle.in_place.proofs.recover.recover.Statement.{statement}
-use Rattle.in_place.proofs.recover.recover.Tie as tie
+use Rattle.recover_in_place.proofs.recover.Statement.{statement}
+use Rattle.recover_in_place.proofs.recover.Tie as tie
 
 returns : tie.Need-returns
 returns c =

@@ -37,9 +37,9 @@ use Rattle.process_words.specs.Steps.{placesOf, unnamedIn}
 use Rattle.step_words.proofs.Stepping.{selected-blocks}
 use Rattle.recovery_words.specs.Restored.{restoredPins, restoredPart, restoredGone, SameProcess, Restorable}
 use Rattle.recovery_words.proofs.Frame.{restored-same, gone-same, restorable-same, same-stays, same-moves}
-use Rattle.in_place.specs.Recovering.{partThen, goneThen, lossesThen, diskThen, Restored}
+use Rattle.recover_in_place.specs.Recovering.{partThen, goneThen, lossesThen, diskThen, Restored}
 use Rattle.in_place.proofs.Checkpointing.{disk-is}
 use Rattle.in_place.proofs.Moving.{moved-run, moved-leaves}
 
 -- Blocks deleted, and then more of them.
 billed-none : (d : Disk) → d ≡ billed d 0 0

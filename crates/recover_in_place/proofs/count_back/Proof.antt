@@ -1,4 +1,4 @@
--- `in_place::recover::count_back` meets its contract. The loop's invariant: those of the processes passed so far that go back are counted.
+-- `recover_in_place::count_back` meets its contract. The loop's invariant: those of the processes passed so far that go back are counted.
 -- Assumes nothing.
 use Prim.Native.Nat.{ℕ, _+_, _-_, _≤_}
 use mathlib.Core.Bool.{Bool, true, false}
@@ -11,8 +11,8 @@ use Rattle.laws.specs.Choice.{pick}
 use Rattle.laws.specs.Counting.{count-le}
 use Rattle.laws.specs.Tests.{countBelow}
 use Rattle.recovery_words.specs.Restored.{goesBack}
-use Rattle.in_place.proofs.recover.count_back.Statement.{statement}
-use Rattle.in_place.proofs.recover.count_back.Tie as tie
+use Rattle.recover_in_place.proofs.count_back.Statement.{statement}
+use Rattle.recover_in_place.proofs.count_back.Tie as tie
 
 abbrev Inv-loop : tie.InvT-loop
 Inv-loop w n pasts back₀ p₀ back p = (p ≤ n) × (back ≡ countBelow p (λ q. goesBack w q (getD pasts q 0)))
