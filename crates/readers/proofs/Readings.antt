@@ -11,6 +11,7 @@ use lib.ListN.{length, getD}
 use lib.Seq.{sets}
 use borrow.Author.Tests.{lt-ltb, le-ltb, le-leb, lt-leb}
 use Rattle.laws.specs.Lists.{table}
+use Rattle.laws.specs.Rows.{by-lt}
 use Rattle.laws.specs.Select.{select-length}
 use Rattle.laws.specs.Tables.{table-same, length-table, getD-table}
 use Rattle.model.specs.declared.Interval.{Interval}
@@ -32,7 +33,7 @@ use Rattle.words.proofs.Same.{vector-word}
 use Rattle.words.proofs.View.{count-is, underway-is, last-is, written-is, deleted-is}
 use Rattle.words.proofs.ViewSound.{SoundWords, sound-words, sound-process-is, sound-kept-is}
 use Rattle.readers.specs.Readings.{Reading, reading, short, numbersReading, ofProcess, vectorReading, pinNumber, pinsReading, storedNumbers, keptReading, sentNumbers, messagesReading}
-use Rattle.readers.specs.Written.{wordsFrom, messagesBelow}
+use Rattle.readers.specs.Written.{wordsFrom, rowReading, messagesBelow}
 
 abbrev pub refusedBy : Refusal → List ℕ → Reading
 refusedBy r lent = record { report = refusing r; list = lent }
@@ -109,32 +110,40 @@ module _ (w : List ℕ) (h : sound (runOf w) ≡ true) where
         ∙ table-same (countOf w) _ _ (λ f less. ap (λ (P : Process). pinNumber (getD (P .pins) f Nothing)) (sound-process-is w h p lt)
         ∙ ap pinNumber (getD-table 16 (λ q. pinOf (word w (pinsAt p + q))) f Nothing (omega (arith, known .few))) ∙ pin-word (word w (pinsAt p + f)))
 
-  -- The three kinds of outcome, of each reader.
+  -- The n words from a place of its part on: the three kinds of outcome, and what they are the reading of.
+  module _ (p from : ℕ) (lent : List ℕ) where
+    pub row-short : length lent < countOf w → rowReading w p from lent ≡ refusedBy ListTooShort lent
+    unfolding rowReading
+    row-short lt = process-short p (s .count) none _ lent (omega (arith, n-is))
+
+    pub row-absent : countOf w ≤ length lent → countOf w ≤ p → rowReading w p from lent ≡ refusedBy NoSuchProcess lent
+    unfolding rowReading
+    row-absent le past = process-absent p (s .count) none _ lent (omega (arith, n-is)) past
+
+    pub row-read : countOf w ≤ length lent → p < countOf w → rowReading w p from lent ≡ read none (wordsFrom w (partAt p + from) (countOf w)) lent
+    unfolding rowReading
+    row-read le lt = process-read p (s .count) none _ lent (omega (arith, n-is)) lt
+
+    row-is : (numbers : List ℕ) → (p < countOf w → numbers ≡ wordsFrom w (partAt p + from) (countOf w))
+        → reading (ofProcess s p (s .count) lent) none numbers lent ≡ rowReading w p from lent
+    unfolding rowReading
+    row-is numbers same = by-lt p (countOf w)
+        (λ lt. ap (λ (l : List ℕ). reading (ofProcess s p (s .count) lent) none l lent) (same lt))
+        (λ past. by-lt (length lent) (countOf w)
+        (λ few. process-short p (s .count) none numbers lent (omega (arith, n-is)) ∙ sym (process-short p (s .count) none _ lent (omega (arith, n-is))))
+        (λ room. process-absent p (s .count) none numbers lent (omega (arith, n-is)) past ∙ sym (process-absent p (s .count) none _ lent (omega (arith, n-is)) past)))
+
   module _ (p : ℕ) (lent : List ℕ) where
-    pub vector-short : length lent < countOf w → vectorReading s p lent ≡ refusedBy ListTooShort lent
+    pub vector-row : vectorReading s p lent ≡ rowReading w p 0 lent
     unfolding vectorReading
-    vector-short lt = process-short p (s .count) none _ lent (omega (arith, n-is))
+    vector-row = let e : partAt p + 0 ≡ partAt p = omega arith in row-is p 0 lent _ (λ lt. rw e (vector-numbers p lt))
 
-    pub vector-absent : countOf w ≤ length lent → countOf w ≤ p → vectorReading s p lent ≡ refusedBy NoSuchProcess lent
-    unfolding vectorReading
-    vector-absent le past = process-absent p (s .count) none _ lent (omega (arith, n-is)) past
-
-    pub vector-read : countOf w ≤ length lent → p < countOf w → vectorReading s p lent ≡ read none (wordsFrom w (partAt p) (countOf w)) lent
-    unfolding vectorReading
-    vector-read le lt = process-read p (s .count) none _ lent (omega (arith, n-is)) lt ∙ ap (λ (l : List ℕ). read none l lent) (vector-numbers p lt)
-
-    pub pins-short : length lent < countOf w → pinsReading s p lent ≡ refusedBy ListTooShort lent
+    pub pins-row : pinsReading s p lent ≡ rowReading w p 16 lent
     unfolding pinsReading
-    pins-short lt = process-short p (s .count) none _ lent (omega (arith, n-is))
+    pins-row = let e : partAt p + 16 ≡ pinsAt p = omega arith in row-is p 16 lent _ (λ lt. rw e (pin-numbers p lt))
 
-    pub pins-absent : countOf w ≤ length lent → countOf w ≤ p → pinsReading s p lent ≡ refusedBy NoSuchProcess lent
-    unfolding pinsReading
-    pins-absent le past = process-absent p (s .count) none _ lent (omega (arith, n-is)) past
-
-    pub pins-read : countOf w ≤ length lent → p < countOf w → pinsReading s p lent ≡ read none (wordsFrom w (pinsAt p) (countOf w)) lent
-    unfolding pinsReading
-    pins-read le lt = process-read p (s .count) none _ lent (omega (arith, n-is)) lt ∙ ap (λ (l : List ℕ). read none l lent) (pin-numbers p lt)
-
+  -- The three kinds of outcome, of each other reader.
+  module _ (p : ℕ) (lent : List ℕ) where
     pub kept-short : length lent < 3 * countOf w → keptReading s p lent ≡ refusedBy ListTooShort lent
     unfolding keptReading
     kept-short lt = process-short p (3 * s .count) _ _ lent (omega (arith, n-is))

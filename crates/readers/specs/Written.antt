@@ -2,13 +2,15 @@
 -- Assumes nothing.
 use mathlib.Core.Bool.{_&&_}
 use mathlib.Core.List.{List, [], _∷_}
+use mathlib.Core.Option.{none}
 use Prim.Native.Nat.{ℕ, _+_}
 use Rattle.laws.specs.Lists.{select, table}
 use Rattle.model.specs.declared.Checkpoint.{Checkpoint}
 use Rattle.model.specs.declared.CheckpointIndex.{CheckpointIndex}
 use Rattle.model.specs.declared.Message.{Message}
-use Rattle.words.specs.Layout.{word, wide2, wide4, countOf, messageIn, isMessage}
+use Rattle.words.specs.Layout.{word, wide2, wide4, countOf, partAt, messageIn, isMessage, runOf}
 use Rattle.sifted_words.specs.Sifted.{lostTo}
+use Rattle.readers.specs.Readings.{Reading, reading, ofProcess}
 
 -- The numbers of the run.
 abbrev pub numbersIn : List ℕ → List ℕ
@@ -17,6 +19,10 @@ numbersIn w = countOf w ∷ wide2 w 2 ∷ word w 1 ∷ wide4 w 4 ∷ wide4 w 8 �
 -- The n words from a place on.
 abbrev pub wordsFrom : List ℕ → ℕ → ℕ → List ℕ
 wordsFrom w at n = table n (λ f. word w (at + f))
+
+-- They go to a lent list, where the place is one of process p's part.
+unfoldable pub rowReading : List ℕ → ℕ → ℕ → List ℕ → Reading
+rowReading w p from lent = reading (ofProcess (runOf w) p (runOf w .count) lent) none (wordsFrom w (partAt p + from) (countOf w)) lent
 
 -- The three numbers of a checkpoint and of a message.
 abbrev pub threeStored : Checkpoint → List ℕ

@@ -20,7 +20,7 @@ ghost use Rattle.whole_runs.specs.Outcomes.{refusing, accepting};
 ghost use Rattle.answers.specs.Codes.{coded};
 ghost use Rattle.words.specs.Layout.{word, countOf, endOf, heldAt, indexAt, checkpointIn, messageIn, isMessage, messagesIn, runOf};
 ghost use Rattle.readers.specs.Readings.{numbersReading, vectorReading, pinsReading, storedNumbers, keptReading, sentNumbers, messagesReading, carriedReading};
-ghost use Rattle.readers.specs.Written.{numbersIn, wordsFrom, threeStored, threeOf, messagesBelow};
+ghost use Rattle.readers.specs.Written.{numbersIn, wordsFrom, rowReading, threeStored, threeOf, messagesBelow};
 
 // lost.rt: the messages under way that a recovery would lose
 pub mod lost;
@@ -184,40 +184,40 @@ pub fn numbers_on(w: &[u16], numbers: &mut [u64]) -> u64
     0
 }
 
-// The vector of a process.
-pub fn vector_on(w: &[u16], process: usize, vector: &mut [u16]) -> u64
-    requires { ⌜ sound (runOf (now w)) ≡ true ⌝ }
-    ensures { λ r. ⌜ r ≡ coded (vectorReading (runOf (now (w .entry))) process (now (vector .entry)) .report) 0 ⌝ }
-    ensures { λ r. ⌜ now (vector .exit) ≡ vectorReading (runOf (now (w .entry))) process (now (vector .entry)) .list ⌝ }
+// The n words from a place of a process's part on: its vector, or its pins.
+fn row_on(w: &[u16], process: usize, from: usize, row: &mut [u16]) -> u64
+    requires { ⌜ (sound (runOf (now w)) ≡ true) × (from ≤ 304) ⌝ }
+    ensures { λ r. ⌜ r ≡ coded (rowReading (now (w .entry)) process from (now (row .entry)) .report) 0 ⌝ }
+    ensures { λ r. ⌜ now (row .exit) ≡ rowReading (now (w .entry)) process from (now (row .entry)) .list ⌝ }
 {
     let n = count_in(w);
-    if vector.len() < n {
+    if row.len() < n {
         return refused(Refusal::ListTooShort);
     }
     if n <= process {
         return refused(Refusal::NoSuchProcess);
     }
     let at = places::part_at(process);
-    copy_words(w, at, n, vector);
+    copy_words(w, at + from, n, row);
     0
 }
 
-// The pins of a process.
+// The vector of a process.
+pub fn vector_on(w: &[u16], process: usize, vector: &mut [u16]) -> u64
+    requires { ⌜ sound (runOf (now w)) ≡ true ⌝ }
+    ensures { λ r. ⌜ r ≡ coded (vectorReading (runOf (now (w .entry))) process (now (vector .entry)) .report) 0 ⌝ }
+    ensures { λ r. ⌜ now (vector .exit) ≡ vectorReading (runOf (now (w .entry))) process (now (vector .entry)) .list ⌝ }
+{
+    row_on(w, process, 0, vector)
+}
+
+// The pins of a process, which stand after its vector.
 pub fn pins_on(w: &[u16], process: usize, pins: &mut [u16]) -> u64
     requires { ⌜ sound (runOf (now w)) ≡ true ⌝ }
     ensures { λ r. ⌜ r ≡ coded (pinsReading (runOf (now (w .entry))) process (now (pins .entry)) .report) 0 ⌝ }
     ensures { λ r. ⌜ now (pins .exit) ≡ pinsReading (runOf (now (w .entry))) process (now (pins .entry)) .list ⌝ }
 {
-    let n = count_in(w);
-    if pins.len() < n {
-        return refused(Refusal::ListTooShort);
-    }
-    if n <= process {
-        return refused(Refusal::NoSuchProcess);
-    }
-    let at = places::pins_at(process);
-    copy_words(w, at, n, pins);
-    0
+    row_on(w, process, places::ROW, pins)
 }
 
 // The checkpoints that a process keeps.
