@@ -31,7 +31,7 @@ pub enum Refusal {
     IntervalsUsed = 11,
     /// A trace without a first byte.
     NoFirstByte = 12,
-    /// One to three bytes are left over behind the last record of a trace.
+    /// One to three bytes are left over after the last record of a trace.
     LeftOverBytes = 13,
     /// A record of an unused kind, or with a field that must be zero and is not.
     MalformedRecord = 14,
