@@ -617,6 +617,24 @@ class Draw(Case):
         self.ends(3, "/no/such.svg: No such file", "draw", EXAMPLE, "--at", 8, "-o", "/no/such.svg")
 
 
+class Gallery(Case):
+    """docs/gallery."""
+
+    @needs("recover")
+    def test_drawn_again(self):
+        gallery = TOP / "docs" / "gallery"
+        Path("gallery").mkdir()
+        done = subprocess.run([gallery / "draw", "gallery"], capture_output=True, text=True)
+        self.assertEqual((done.returncode, done.stdout, done.stderr), (0, "", ""))
+        names = [line.split()[0] for line in (gallery / "pictures").read_text().splitlines() if not line.startswith("#")]
+        self.assertEqual(sorted(path.stem for path in gallery.glob("*.svg")), sorted(names))
+        for name in names:
+            drawn = Path("gallery", f"{name}.svg").read_text()
+            self.assertEqual(drawn, (gallery / f"{name}.svg").read_text(), f"{name}: docs/gallery/draw draws them anew")
+            self.assertEqual(list(outside(drawn)), [], name)
+        self.assertEqual(re.findall(r"\((.*)\.svg\)", (gallery / "README.md").read_text()), names)
+
+
 class Programs(Case):
     """The subcommands that print what the proved programs print."""
 

@@ -221,7 +221,7 @@ class Diagram:
         """The recovery line, through the states that it names."""
         points = [self._state(process, index) for process, index in enumerate(line)]
         first, last = points[0], points[-1]
-        through = [(first[0], first[1] - 24), *points, (last[0], last[1] + 34)]
+        through = [(first[0], first[1] - 18), *points, (last[0], last[1] + 34)]
         picture.shape(through, LINE, width=2.4, closed=False)
         is_right = last[0] > 0.6 * self.width
         picture.text((last[0] + (-6 if is_right else 6), last[1] + 34), self.line_name, 11, LINE, "end" if is_right else "start", "bold")
