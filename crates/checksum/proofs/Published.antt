@@ -1,8 +1,7 @@
 -- The check value that is published with CRC-32C: the checksum of the nine bytes "123456789" is E3069283 in hexadecimal.
 -- Assumes nothing.
 use mathlib.Core.Path.{_≡_, refl}
-use mathlib.Core.List.{List, [], _∷_}
-use lib.Bits.{bitXor}
+use mathlib.Core.List.{[], _∷_}
 use Rattle.laws.specs.Loops.{iter}
 use Rattle.checksum.specs.Castagnoli.{bitTaken, byteTaken, remainder, crc32c}
 

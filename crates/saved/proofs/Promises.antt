@@ -1,19 +1,18 @@
--- What was saved is loaded; and bytes that are loaded were saved, and with one byte changed they are not loaded.
+-- What was saved is loaded; and bytes that are loaded were saved, and with up to four in a row changed they are not loaded.
 -- Assumes nothing.
 use mathlib.Core.Path.{_≡_, refl, _∙_, ap}
 use mathlib.Core.Bool.{Bool, true, false, _&&_}
-use mathlib.Core.List.{List}
-use mathlib.Core.Option.{Option, none, some}
-use Prim.Native.Nat.{ℕ, _<_}
+use mathlib.Core.List.{List, _++_}
+use mathlib.Core.Option.{none, some}
+use Prim.Native.Nat.{ℕ}
 use native.Mathlib.Omega.{arith}
-use lib.ListN.{set}
 use Rattle.laws.specs.Choice.{pick, by-bool}
 use Rattle.laws.specs.Truth.{and-left, and-right}
 use Rattle.model.specs.Sound.{sound}
 use Rattle.words.specs.Layout.{runOf}
 use Rattle.words.proofs.ViewSound.{sound-words}
 use Rattle.saved_bytes.specs.Format.{savedBytes, wordsIn, isWhole}
-use Rattle.saved_bytes.proofs.Back.{saved-words, saved-whole, whole-saved, one-changed}
+use Rattle.saved_bytes.proofs.Back.{saved-words, saved-whole, whole-saved, four-changed}
 use Rattle.saved.specs.Saving.{loadedWords, SavedIsLoaded, LoadedWasSaved}
 
 pub saved-is-loaded : (w : List ℕ) → SavedIsLoaded w
@@ -40,5 +39,7 @@ loaded-was-saved bytes small w e =
     let sure = and-right (isWhole bytes) (sound (runOf (wordsIn bytes))) (found .0) in (
       whole-saved bytes small whole ∙ ap savedBytes (found .1),
       rw (found .1) at sure,
-      λ k b less byte off. broken (set bytes k b) (by-bool (isWhole (set bytes k b)) (λ again. absurd (off (one-changed bytes small whole k b less byte again))) (λ q. q)),
+      λ before l m behind cut others same few off. broken (before ++ m ++ behind) (by-bool (isWhole (before ++ m ++ behind))
+          (λ again. absurd (off (four-changed before l m behind (rw cut at small) others same few (rw cut at whole) again)))
+          (λ q. q)),
     )

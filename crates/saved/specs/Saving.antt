@@ -2,12 +2,12 @@
 -- proofs/Promises has the two theorems.
 -- Assumes nothing.
 use mathlib.Core.Path.{_≡_}
-use mathlib.Core.Bool.{Bool, true, _&&_}
-use mathlib.Core.List.{List, [], _∷_}
+use mathlib.Core.Bool.{true, _&&_}
+use mathlib.Core.List.{List, [], _∷_, _++_}
 use mathlib.Core.Option.{Option, none, some}
-use Prim.Native.Nat.{ℕ, _<_}
+use Prim.Native.Nat.{ℕ, _≤_}
 use lib.Dec.{eqb}
-use lib.ListN.{length, getD, set}
+use lib.ListN.{length}
 use Rattle.laws.specs.Choice.{pick}
 use Rattle.model.specs.declared.Refusal.the-variants.{UnsoundState}
 use Rattle.model.specs.Sound.{sound}
@@ -42,7 +42,9 @@ loading bytes lent = loadedInto (loadedWords bytes) lent
 unfoldable pub SavedIsLoaded : List ℕ → Type 0
 SavedIsLoaded w = sound (runOf w) ≡ true → loadedWords (savedBytes w) ≡ some w
 
--- Bytes that give words were saved from them: a state has one file. The words stand for a sound state. With one byte changed, the bytes give no words.
+-- Bytes that give words were saved from them: a state has one file. The words stand for a sound state. Where up to four bytes in a row are changed, the bytes give no
+-- words.
 unfoldable pub LoadedWasSaved : List ℕ → Type 0
 LoadedWasSaved bytes = Bytes bytes → (w : List ℕ) → loadedWords bytes ≡ some w
-    → (bytes ≡ savedBytes w) × (sound (runOf w) ≡ true) × ((k b : ℕ) → k < savedSize → b < 256 → (b ≡ getD bytes k 0 → ⊥) → loadedWords (set bytes k b) ≡ none)
+    → (bytes ≡ savedBytes w) × (sound (runOf w) ≡ true)
+    × ((before l m behind : List ℕ) → bytes ≡ before ++ l ++ behind → Bytes m → length l ≡ length m → length l ≤ 4 → (l ≡ m → ⊥) → loadedWords (before ++ m ++ behind) ≡ none)

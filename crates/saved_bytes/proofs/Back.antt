@@ -1,21 +1,21 @@
--- Words are read back from their bytes; bytes that are whole are those of the words read from them; and bytes are no longer whole where one of them was changed.
+-- Words are read back from their bytes; bytes that are whole are those of the words read from them; and bytes are no longer whole where
+-- up to four in a row were changed.
 -- Assumes nothing.
 use mathlib.Core.Path.{_≡_, refl, sym, _∙_, ap}
-use mathlib.Core.Bool.{true, _&&_}
+use mathlib.Core.Bool.{true}
 use mathlib.Core.List.{List, [], _∷_, _++_}
 use Prim.Native.Nat.{ℕ, zero, suc, _+_, _*_, _-_, _/_, _%_, _≤_, _<_}
 use native.Mathlib.Omega.{arith}
 use lib.Dec.{eqb}
-use lib.ListN.{length, getD, set, take, drop, length-drop, take-append-drop, List·getD-append}
-use lib.Seq.{ext-getD, getD-take, getD-drop, getD-set-same, getD-set-other, length-take-le, take-set-le, take-set-lt, drop-set-lt, set-split, split-at}
+use lib.ListN.{length, getD, take, drop, length-drop, take-append-drop, List·getD-append}
+use lib.Seq.{ext-getD, getD-take, getD-drop, length-take-le}
 use borrow.Author.Tests.{eq-eqb, eqb-true}
-use Rattle.laws.specs.Choice.{by-bool, by-eq}
 use Rattle.laws.specs.Rows.{by-lt}
 use Rattle.laws.specs.Search.{allBelow, all-in, all-out}
 use Rattle.laws.specs.Tables.{length-table, getD-table}
 use Rattle.laws.specs.Truth.{and-left, and-right, and-both}
-use Rattle.checksum.specs.Castagnoli.{crc32c, Bytes}
-use Rattle.checksum.proofs.OneByte.{by-parity, one-byte}
+use Rattle.checksum.specs.Castagnoli.{ones, remainder, crc32c, Bytes}
+use Rattle.checksum.proofs.FourBytes.{by-parity, number, eights, four-bytes, with-sum}
 use Rattle.saved_bytes.specs.Format.{heading, wordBytes, summedBytes, sumBytes, savedBytes, wordIn, wordsIn, sumIn, hasHeading, hasSum, isWhole}
 use Rattle.saved_bytes.proofs.Parts.{low-byte, high-byte, summed-length, saved-length, saved-front, saved-end, at-heading, at-words}
 
@@ -56,6 +56,20 @@ bytes-take n l h k = by-lt k n
 
 bytes-drop : (n : ℕ) (l : List ℕ) → Bytes l → Bytes (drop n l)
 bytes-drop n l h k = rw (getD-drop n l k 0) (h (n + k))
+
+bytes-left : (l m : List ℕ) → Bytes (l ++ m) → Bytes l
+bytes-left [] m h k = omega arith
+bytes-left (x ∷ l) m h zero = h 0
+bytes-left (x ∷ l) m h (suc k) = bytes-left l m (λ j. h (suc j)) k
+
+bytes-right : (l m : List ℕ) → Bytes (l ++ m) → Bytes m
+bytes-right [] m h = h
+bytes-right (x ∷ l) m h = bytes-right l m (λ j. h (suc j))
+
+bytes-both : (l m : List ℕ) → Bytes l → Bytes m → Bytes (l ++ m)
+bytes-both [] m h g k = g k
+bytes-both (x ∷ l) m h g zero = h 0
+bytes-both (x ∷ l) m h g (suc k) = bytes-both l m (λ j. h (suc j)) g k
 
 -- The checksum that stands behind bytes, and what it is there for.
 sum-by : (bytes : List ℕ) (x : ℕ) → drop 12938 bytes ≡ sumBytes x → sumIn bytes ≡ x
@@ -177,45 +191,33 @@ module _ (bytes : List ℕ) (small : Bytes bytes) (whole : isWhole bytes ≡ tru
       sym (take-append-drop 12938 bytes) ∙ ap (λ (l : List ℕ). l ++ drop 12938 bytes) front-held
       ∙ ap (λ (l : List ℕ). summedBytes (wordsIn bytes) ++ l) (end-held ∙ ap sumBytes summed)
 
--- One byte of whole bytes is changed, and they are whole only if it is what it was.
-module _ (bytes : List ℕ) (small : Bytes bytes) (whole : isWhole bytes ≡ true) (k b : ℕ) (less : k < 12942) (byte : b < 256) (again : isWhole (set bytes k b) ≡ true) where
-  room : length bytes ≡ 12942
-  room = whole-size bytes whole
+-- What is left of whole bytes is the same of all of them: their checksum stands behind them.
+number-held : (bytes : List ℕ) → length bytes ≡ 12942 → number (drop 12938 bytes) ≡ sumIn bytes
+unfolding number sumIn
+number-held bytes size =
+    let l = drop 12938 bytes in
+    let first : getD l 0 0 ≡ getD bytes 12_938 0 = getD-drop 12938 bytes 0 0 in
+    let second : getD l 1 0 ≡ getD bytes 12_939 0 = getD-drop 12938 bytes 1 0 in
+    let third : getD l 2 0 ≡ getD bytes 12_940 0 = getD-drop 12938 bytes 2 0 in
+    let fourth : getD l 3 0 ≡ getD bytes 12_941 0 = getD-drop 12938 bytes 3 0 in
+    ap number (four l (length-drop 12938 bytes ∙ omega (arith, size))) ∙ omega arith
 
-  inside : k < length bytes
-  inside = omega (arith, room)
+whole-left : (bytes : List ℕ) → Bytes bytes → isWhole bytes ≡ true → remainder ones bytes ≡ eights 4 ones
+whole-left bytes small whole =
+    let size = whole-size bytes whole in
+    ap (remainder ones) (sym (take-append-drop 12938 bytes))
+    ∙ with-sum (take 12938 bytes) (drop 12938 bytes) (bytes-take 12938 bytes small) (bytes-drop 12938 bytes small) (length-drop 12938 bytes ∙ omega (arith, size))
+    (number-held bytes size ∙ whole-sum bytes whole)
 
-  changed-small : Bytes (set bytes k b)
-  changed-small q = by-eq q k
-      (λ e. rw (e, getD-set-same bytes k b 0 inside) byte)
-      (λ ne. rw (getD-set-other bytes k q b 0 ne) (small q))
+-- Bytes in the place of up to four in a row: both are whole only if they are the same.
+module _ (before l m behind : List ℕ) (small : Bytes (before ++ l ++ behind)) (others : Bytes m) (same : length l ≡ length m) (few : length l ≤ 4) where
+  front-small : Bytes (before ++ l)
+  front-small = bytes-left (before ++ l) behind small
 
-  -- among those that the checksum is of
-  early : k < 12938 → b ≡ getD bytes k 0
-  early few =
-      let front = take 12938 bytes in
-      let short : k < length front = omega (arith, length-take-le 12938 bytes (omega (arith, room))) in
-      let ends : drop 12938 (set bytes k b) ≡ drop 12938 bytes = drop-set-lt 12938 bytes k b few in
-      let sums : sumIn (set bytes k b) ≡ sumIn bytes = sum-by (set bytes k b) (sumIn bytes) (ends ∙ end-held bytes small whole) in
-      let same : crc32c (set front k b) ≡ crc32c front =
-      ap crc32c (sym (take-set-lt 12938 bytes k b few)) ∙ sym (whole-sum (set bytes k b) again) ∙ sums ∙ whole-sum bytes whole in
-      let cut : crc32c (take k front ++ b ∷ drop (suc k) front) ≡ crc32c (take k front ++ getD front k 0 ∷ drop (suc k) front) =
-      ap crc32c (sym (set-split front k b short)) ∙ same ∙ ap crc32c (split-at front k 0 short) in
-      let old : getD front k 0 ≡ getD bytes k 0 = getD-take 12938 bytes k 0 few in
-      one-byte (take k front) (drop (suc k) front) (bytes-take k front (bytes-take 12938 bytes small)) (bytes-drop (suc k) front (bytes-take 12938 bytes small))
-      b (getD front k 0) byte (rw old (small k)) cut ∙ old
+  changed-small : Bytes (before ++ m ++ behind)
+  changed-small = bytes-both (before ++ m) behind (bytes-both before m (bytes-left before l front-small) others) (bytes-right (before ++ l) behind small)
 
-  -- in the checksum itself
-  late : 12938 ≤ k → b ≡ getD bytes k 0
-  late many =
-      let sums : sumIn (set bytes k b) ≡ sumIn bytes =
-      whole-sum (set bytes k b) again ∙ ap crc32c (take-set-le 12938 bytes k b many) ∙ sym (whole-sum bytes whole) in
-      let ends : drop 12938 (set bytes k b) ≡ drop 12938 bytes =
-      end-held (set bytes k b) changed-small again ∙ ap sumBytes sums ∙ sym (end-held bytes small whole) in
-      let place : 12938 + (k - 12938) ≡ k = omega arith in
-      let same : getD (set bytes k b) (12938 + (k - 12938)) 0 ≡ getD bytes (12938 + (k - 12938)) 0 =
-      sym (getD-drop 12938 (set bytes k b) (k - 12938) 0) ∙ ap (λ (l : List ℕ). getD l (k - 12938) 0) ends ∙ getD-drop 12938 bytes (k - 12938) 0 in
-      sym (getD-set-same bytes k b 0 inside) ∙ (rw place at same)
-
-  pub one-changed : b ≡ getD bytes k 0
-  one-changed = by-lt k 12938 early late
+  pub four-changed : isWhole (before ++ l ++ behind) ≡ true → isWhole (before ++ m ++ behind) ≡ true → l ≡ m
+  four-changed whole again =
+      four-bytes before behind l m (bytes-left before l front-small) (bytes-right (before ++ l) behind small) (bytes-right before l front-small) others same few
+      (whole-left (before ++ l ++ behind) small whole ∙ sym (whole-left (before ++ m ++ behind) changed-small again))

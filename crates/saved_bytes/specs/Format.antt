@@ -1,6 +1,6 @@
 -- The bytes of a saved state: eight that say what it is, "LEMIDROS", two of the version of this format, 1, two of each of the 6,464 words, and four of the checksum of
 -- all these. Every number has its lowest byte first, on every machine. proofs/Back says that words are read back from their bytes, that whole bytes are those of the
--- words read from them, and that bytes are no longer whole where one of them was changed.
+-- words read from them, and that bytes are no longer whole where up to four in a row were changed.
 -- Assumes nothing.
 use mathlib.Core.Bool.{Bool, _&&_}
 use mathlib.Core.List.{List, [], _∷_, _++_}

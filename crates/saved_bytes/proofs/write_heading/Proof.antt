@@ -1,13 +1,12 @@
 -- `saved_bytes::write_heading` meets its contract. Assumes nothing.
 use Prim.Native.Nat.{ℕ, _≤_, _-_}
-use mathlib.Core.Path.{_≡_, refl, sym, _∙_, ap}
+use mathlib.Core.Path.{_≡_, refl, _∙_, ap}
 use mathlib.Core.List.{List}
 use native.Mathlib.Omega.{arith}
 use lib.ListN.{length, getD, length-set}
 use lib.Seq.{sets}
 use borrow.Author.Needs.{needs}
 use Rattle.laws.specs.Below.{below-written}
-use Rattle.laws.specs.Lists.{table}
 use Rattle.laws.specs.Loops.{setBelow, below-none, turn-set}
 use Rattle.saved_bytes.specs.Format.{heading}
 use Rattle.saved_bytes.proofs.Parts.{heading-table}
