@@ -186,7 +186,7 @@ uint64_t lemidrosy_simulate(size_t n, uint32_t spacing, uint32_t steps, uint32_t
 uint64_t lemidrosy_save(const uint16_t *words, size_t words_length, uint8_t *bytes, size_t bytes_length);
 
 /* Bytes, any at all: where they are a saved sound state, and nothing behind it, the words are those that were saved. Refused with 2 otherwise, or if not 6,464 words are
-   lent: then no word is written. No change of a single byte is overlooked: proved. It takes 13 KB of stack. */
+   lent: then no word is written. No change of up to four bytes in a row is overlooked: proved. It takes 13 KB of stack. */
 uint64_t lemidrosy_load(const uint8_t *bytes, size_t bytes_length, uint16_t *words, size_t words_length);
 
 /* A state in a file, of LEMIDROSY_WORDS words. These two are C (lemidrosy_file.c) over the two above, and no part of what is proved. They answer 0, the number of a
