@@ -1,0 +1,4 @@
+-- Laws that belong to no one function.
+pub mod Deleted
+pub mod Said
+pub mod Turns

@@ -1,0 +1,36 @@
+-- `replay_in_place::record::recover` meets its contract. Assumes nothing.
+use mathlib.Core.Path.{sym, _∙_, ap}
+use borrow.Author.Needs.{needs}
+use Rattle.model.specs.Sound.{sound}
+use Rattle.words.specs.Layout.{runOf}
+use Rattle.whole_runs.proofs.WholeRuns.{reachable-sound}
+use Rattle.replay_in_place.proofs.Said.{recover-performs, refused-stays, recover-reachable}
+use Rattle.replay_in_place.proofs.record.recover.Statement.{statement}
+use Rattle.replay_in_place.proofs.record.recover.Tie as tie
+
+sound-after-requires : tie.Need-sound-after-requires
+sound-after-requires c κs =
+    let s = c .before .before .before .before .before .before .before .before .before .before .before .before .before .before .before in
+    let a = s .args in
+    let g = c .before .before .before .before .before .before .before .before .recover-on .ensures in (
+      λ e. ap sound (g .0) ∙ reachable-sound _ (recover-reachable (runOf (a .w .now)) (s .pre .1 e) (a .failed) (a .deleted .now) (a .line .now)),
+      λ ne. ap sound (g .0 ∙ refused-stays (runOf (a .w .now)) (a .failed) (a .deleted .now) (a .line .now) (g .1 .0) _ (c .before .of-recover .ensures) ne) ∙ s .pre .0,
+    )
+
+returns : tie.Need-returns
+returns c =
+    let s = c .before .before .before .before .before .before .before .before .before .before .before .before .before .before .before .before in
+    let a = s .args in
+    let g = c .before .before .before .before .before .before .before .before .before .recover-on .ensures in (
+      recover-performs (runOf (a .w .now)) (a .failed) (a .deleted .now) (a .line .now) (s .pre .2) (s .pre .3) (g .0) (g .1 .0) (g .1 .1 .0) (c .before .before .of-recover .ensures),
+      (c .sound-after .ensures, g .1 .1 .1 .1 .1),
+    )
+
+pub recover-spec : {M : Type 1} → statement M
+recover-spec =
+    tie.close
+    (tie.spec
+    (λ c κs. search needs) (λ c κs. search needs)
+    sound-after-requires
+    (λ c. search needs) (λ c. search needs) (λ c. search needs)
+    returns)

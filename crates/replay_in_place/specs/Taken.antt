@@ -1,0 +1,57 @@
+-- A block of records, each of four bytes: how many of them are taken, and what they come to by whole_runs's specs/Listing, on any state, sound or not.
+-- Assumes nothing.
+use mathlib.Core.Bool.{Bool, _&&_}
+use mathlib.Core.List.{List, [], _∷_}
+use Prim.Native.Nat.{ℕ, suc, _+_, _-_, _*_}
+use lib.Dec.{ltb, leb}
+use lib.ListN.{length, take}
+use Rattle.laws.specs.Choice.{pick}
+use Rattle.model.specs.declared.Run.{Run}
+use Rattle.model.specs.Trace.{decoded}
+use Rattle.whole_runs.specs.Listing.{perform, lineText, mostRecords, goesOn, records, goesOnBehind, stateAfterRecords}
+use Rattle.trace.specs.Answers.{recordAt}
+use Rattle.listing.specs.Lines.{longestLine}
+
+-- "The program ends after record 1,000,000,000", and a record is taken only where the longest line fits into the room that is left for lines.
+unfoldable pub mayTake : ℕ → ℕ → Bool
+mayTake done room = ltb done mostRecords && leb longestLine room
+
+-- How many records of a block are taken, where `done` were taken before it and there is so much room for their lines: one more as long as a whole one is left, it may
+-- be taken, and the replay goes on. Left-over bytes are no record.
+unfoldable pub takenOf : Bool → ℕ → Run → List ℕ → ℕ → ℕ
+takenOf all done s [] room = 0
+takenOf all done s (a ∷ []) room = 0
+takenOf all done s (a ∷ b ∷ []) room = 0
+takenOf all done s (a ∷ b ∷ c ∷ []) room = 0
+takenOf all done s (a ∷ b ∷ c ∷ d ∷ l) room =
+    let o = perform s (decoded (a ∷ b ∷ c ∷ d ∷ [])) in
+    let left = room - length (lineText (done + 1) (o .reply)) in
+    let rest = pick (goesOn all (o .reply .report .refused)) (takenOf all (done + 1) (o .run) l left) 0 in
+    pick (mayTake done room) (suc rest) 0
+
+-- What a replay of a block comes to: how many records are taken, their lines, whether the replay goes on after them, and the state after them.
+pub record BlockOutcome : Type 0 where
+  pub taken : ℕ
+  pub lines : List ℕ
+  pub going : Bool
+  pub run : Run
+
+-- The outcome of so many records.
+unfoldable pub outcomeOf : Bool → ℕ → Run → List ℕ → ℕ → BlockOutcome
+outcomeOf all done s block taken =
+    let part = take (4 * taken) block in
+    record { taken = taken; lines = records all done s part; going = goesOnBehind all s part; run = stateAfterRecords s part }
+
+unfoldable pub blockOutcome : Bool → ℕ → Run → List ℕ → ℕ → BlockOutcome
+blockOutcome all done s block room = outcomeOf all done s block (takenOf all done s block room)
+
+-- Whether a whole record is left of a block behind those taken, and which: nothing if none is.
+unfoldable pub isLeft : List ℕ → ℕ → Bool
+isLeft block taken = leb (4 * taken + 4) (length block)
+
+unfoldable pub recordIn : List ℕ → ℕ → List ℕ
+recordIn block taken = recordAt block (4 * taken)
+
+-- Whether one more record of a block is taken behind those taken.
+unfoldable pub takesNext : Bool → ℕ → List ℕ → ℕ → ℕ → Bool
+takesNext going done block taken room = going && mayTake (done + taken) room && isLeft block taken
