@@ -87,10 +87,11 @@ class Driver:
         return ()
 
     def store_file(self, name):
-        return self.save(name)
+        self.run.store(name)
+        return ()
 
     def load_file(self, name):
-        self.run = Run.from_bytes(Path(name).read_bytes())
+        self.run = Run.load(name)
         return ()
 
     def checkpoint(self, process):
