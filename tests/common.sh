@@ -45,6 +45,15 @@ fail() {
     [ -z "${AT_ONCE:-}" ] || exit 1
 }
 
+# have COMMAND PACKAGE: the command is there, or Debian's package of it is installed; one suite at a time does so
+have() {
+    command -v "$1" >/dev/null && return
+    (flock 9 && apt-get update && apt-get install -y "$2") 9>"${TMPDIR:-/tmp}/lemidrosy.installing" >"$folder/installed" 2>&1
+    command -v "$1" >/dev/null && return
+    fail "$1 is not there and cannot be installed (apt-get install $2): $(tail -n 3 "$folder/installed")"
+    return 1
+}
+
 # part NAME: the cases of a part come next. One in which nothing was compared fails.
 part() {
     [ -z "$PART" ] || [ "$told" -gt 0 ] || fail "nothing was compared"
