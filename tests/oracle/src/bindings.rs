@@ -11,8 +11,8 @@ use crate::generate::{write_trace, Plan};
 use crate::halves::draw::drawn as halves_drawn;
 use crate::halves::merge::merge;
 use crate::judge::{judge, Verdict, MAX_RECORDS};
-use crate::run::refusal::{NOT_SOUND, NOT_UNDER_WAY};
-use crate::run::{Message, Run, MAX_PROCESSES, MAX_UNDER_WAY};
+use crate::run::refusal::NOT_SOUND;
+use crate::run::{Run, MAX_PROCESSES, MAX_UNDER_WAY};
 use crate::saved;
 use crate::simulate::{simulate, Parameters};
 use crate::words::{self, SIZE};
@@ -39,8 +39,6 @@ enum Asked {
     Start(Vec<u32>),
     /// A call on the state; of `earliest`, with the numbers that name.
     Call(Call, Vec<u32>),
-    Carried(u64),
-    Lost(u64),
     Words(Vec<u16>),
     /// To a file and from it: its words, ..
     Dump(String),
@@ -57,9 +55,7 @@ enum Asked {
 
 /// The names of the calls that are not in `calls`, with the numbers that each
 /// can give.
-const OTHERS: [(&str, &[usize]); 9] = [
-    ("carried", &[0, 2, 8]),
-    ("lost", &[0, 2, 7]),
+const OTHERS: [(&str, &[usize]); 7] = [
     ("words", &[0]),
     ("save", &[0, 2]),
     ("store_file", &[0, 2]),
@@ -273,7 +269,7 @@ impl Writer {
             let asked = match self.draws.below(8) {
                 0 => Asked::Save(name),
                 1 => Asked::Store(name),
-                2 => Asked::Carried(1),
+                2 => Asked::Call(Call::Carried { number: 1 }, Vec::new()),
                 _ => self.reading(),
             };
             if !self.is_absent(&asked) {
@@ -329,16 +325,18 @@ impl Writer {
         let state = self.run.as_ref().map(Run::state);
         loop {
             let call = fitted(draw::call(&mut self.draws, &self.habits, state.as_ref()));
+            // some of those that are seldom drawn
+            let call = match call {
+                Call::Lose { number } if self.draws.once_in(4) => Call::Carried { number },
+                Call::Line { failed } if self.draws.once_in(4) => Call::Lost { failed },
+                _ => call,
+            };
             let asked = match call {
                 Call::Earliest => {
                     let mut named = draw::lists(&mut self.draws, call, state.as_ref()).numbers;
                     // pairs, and nothing left over
                     named.truncate(named.len() / 2 * 2);
                     Asked::Call(call, named)
-                }
-                Call::Lose { number } if self.draws.once_in(4) => Asked::Carried(number),
-                Call::Recover { failed } | Call::Line { failed } if self.draws.once_in(4) => {
-                    Asked::Lost(failed)
                 }
                 _ => Asked::Call(call, Vec::new()),
             };
@@ -395,6 +393,12 @@ fn fitted(call: Call) -> Call {
         Call::Recover { failed } => Call::Recover {
             failed: cut(failed),
         },
+        Call::Lost { failed } => Call::Lost {
+            failed: cut(failed),
+        },
+        Call::Carried { number } => Call::Carried {
+            number: cut(number),
+        },
         _ => call,
     }
 }
@@ -409,9 +413,13 @@ fn readings(run: &Run) -> Vec<Asked> {
             Call::Kept { process },
         ]);
     }
+    calls.extend(
+        run.under_way()
+            .iter()
+            .map(|one| Call::Carried { number: one.number }),
+    );
     let calls = calls.into_iter().map(|call| Asked::Call(call, Vec::new()));
-    let carried = run.under_way().iter().map(|one| Asked::Carried(one.number));
-    calls.chain(carried).collect()
+    calls.collect()
 }
 
 /// A foreign trace, mostly short. Some have nothing, one message under way more
@@ -437,8 +445,6 @@ impl Asked {
         match self {
             Asked::Start(_) => "start",
             Asked::Call(call, _) => CALLS[crate::calls::hold::place(*call)].0,
-            Asked::Carried(_) => "carried",
-            Asked::Lost(_) => "lost",
             Asked::Words(_) => "words",
             Asked::Dump(_) => "dump",
             Asked::Take(_) => "take",
@@ -463,12 +469,15 @@ impl Asked {
                 | Call::Pins { process }
                 | Call::Kept { process } => spell(&mut line, [process]),
                 Call::Send { from, to } => spell(&mut line, [from, to]),
-                Call::Deliver { number } | Call::Lose { number } => spell(&mut line, [number]),
-                Call::Line { failed } | Call::Recover { failed } => spell(&mut line, [failed]),
+                Call::Deliver { number } | Call::Lose { number } | Call::Carried { number } => {
+                    spell(&mut line, [number])
+                }
+                Call::Line { failed } | Call::Recover { failed } | Call::Lost { failed } => {
+                    spell(&mut line, [failed])
+                }
                 Call::Earliest => spell(&mut line, tuples(named, 2)),
                 Call::IsSound | Call::Numbers | Call::Messages => {}
             },
-            Asked::Carried(number) | Asked::Lost(number) => spell(&mut line, [number]),
             Asked::Words(words) => {
                 spell(&mut line, [words.len()]);
                 let places = words.iter().enumerate().filter(|(_, word)| **word != 0);
@@ -523,8 +532,6 @@ fn answer(run: &mut Option<Run>, asked: &Asked) -> String {
     let answer = match asked {
         Asked::Start(counts) => started(run, counts),
         Asked::Call(call, named) => called(run, *call, named),
-        Asked::Carried(number) => carried(run.as_ref(), *number),
-        Asked::Lost(failed) => lost(run.as_ref(), *failed),
         Asked::Words(words) => Ok(taken(run, words)),
         // what is taken or loaded from a file, is what was stored in it
         Asked::Dump(_) | Asked::Take(_) | Asked::LoadFile(_) => Ok(String::new()),
@@ -616,7 +623,7 @@ fn said(call: Call, outcome: &Outcome, count: usize) -> String {
             spell(&mut line, [outcome.answer >> 48]);
             spell(&mut line, deleted);
         }
-        Call::Line { .. } | Call::Earliest | Call::Vector { .. } => {
+        Call::Line { .. } | Call::Earliest | Call::Vector { .. } | Call::Carried { .. } => {
             spell(&mut line, &lists.line[..count]);
         }
         Call::Pins { .. } => {
@@ -633,36 +640,12 @@ fn said(call: Call, outcome: &Outcome, count: usize) -> String {
             spell(&mut line, deleted);
         }
         Call::Numbers => spell(&mut line, &lists.sums),
-        Call::Kept { .. } | Call::Messages => {
+        Call::Kept { .. } | Call::Messages | Call::Lost { .. } => {
             spell(&mut line, tuples(&lists.numbers[..3 * value as usize], 3));
         }
         Call::Start { .. } | Call::Lose { .. } | Call::IsSound => {}
     }
     line
-}
-
-/// The vector that a message under way carries.
-fn carried(run: Option<&Run>, number: u64) -> Result<String, u8> {
-    let run = run.ok_or(NOT_SOUND)?;
-    let mut messages = run.under_way().iter();
-    let message = messages.find(|message| message.number == number);
-    let mut line = String::new();
-    let carried = message.ok_or(NOT_UNDER_WAY)?.carried;
-    spell(&mut line, &carried[..run.count()]);
-    Ok(line)
-}
-
-/// The messages that are under way before a recovery and not behind it.
-fn lost(run: Option<&Run>, failed: u64) -> Result<String, u8> {
-    let run = run.ok_or(NOT_SOUND)?;
-    let mut after = run.clone();
-    let (deletions, line) = (&mut [0; 2 * MAX_PROCESSES * MAX_PROCESSES], &mut [0; 16]);
-    after.recover(failed, deletions, line)?;
-    let is_lost = |message: &&Message| !after.under_way().contains(message);
-    let three = |one: &Message| format!("{}:{}:{}", one.number, one.sender, one.receiver);
-    let mut line = String::new();
-    spell(&mut line, run.under_way().iter().filter(is_lost).map(three));
-    Ok(line)
 }
 
 fn taken(run: &mut Option<Run>, words: &[u16]) -> String {
