@@ -272,7 +272,7 @@ class Text(Case):
 
     def test_the_command_both_ways(self):
         draws = random.Random(4)
-        for _ in range(many(20)):
+        for _ in range(many(6)):
             data = drawn(draws)
             for option in ((), ("--half",), ("--console",)):
                 status, text, said = command("text", *option, given=data)
@@ -398,8 +398,8 @@ record 8: deliver 3, the message from 0 to 1
     @needs("recover")
     def test_any_trace(self):
         """Each record's line of the replay is the one that the explanation tells."""
-        for seed in range(many(200)):
-            trace = program(ORACLE, "generate", seed, "--records", 60, "--mix", ("valid", "recovering", "mixed", "damaged")[seed % 4])
+        for seed in range(many(100)):
+            trace = program(ORACLE, "generate", seed, "--records", 40, "--mix", ("valid", "recovering", "mixed", "damaged")[seed % 4])
             listing = program(PROGRAMS, "replay", "all", given=trace).decode().splitlines()
             status, text, said = explained(trace)
             told = re.findall(r"^record (\d+): .*(?:\n  (refused (\d+))?.*)?", text, re.M)
@@ -549,7 +549,7 @@ class Draw(Case):
 
     @needs("recover")
     def test_any_trace(self):
-        for seed in range(many(30)):
+        for seed in range(many(18)):
             count = (0, 3, 20, 60, 130, 1000)[seed % 6]
             trace = program(ORACLE, "generate", seed, "--n", 1 + seed % 16, "--records", count, "--mix", ("valid", "recovering", "mixed")[seed % 3])
             got, svg, said = command("draw", "-", "--failed", 0, "--from", max(1, count // 3), given=trace)

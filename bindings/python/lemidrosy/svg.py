@@ -2,8 +2,8 @@
 
 from __future__ import annotations
 
+from html import escape
 from typing import List, Sequence, Tuple
-from xml.sax.saxutils import escape, quoteattr
 
 Point = Tuple[float, float]
 
@@ -34,7 +34,7 @@ class Picture:
         for key, value in attributes.items():
             if value is not None:
                 written = number(value) if isinstance(value, float) else str(value)
-                words.append(f"{key.replace('_', '-')}={quoteattr(written)}")
+                words.append(f'{key.replace("_", "-")}="{escape(written)}"')
         self._parts.append(f"<{' '.join(words)}>{escape(text)}</{name}>" if text else f"<{' '.join(words)}/>")
 
     def line(self, start: Point, end: Point, colour: str = INK, width: float = 1.5, dashes: str = "") -> None:
