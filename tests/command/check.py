@@ -346,7 +346,7 @@ class Words(Case):
         for name in re.findall(r"^    (\w+) ", text.decode(), re.M):
             status, text, said = command(name, "--help")
             self.assertEqual((status, said), (0, ""))
-            self.assertIn(f"  lemidrosy {name}", text.decode().split("example")[-1])
+            self.assertRegex(text.decode(), rf"\nexamples?(, .*)?:\n  lemidrosy {name} ")
 
     def test_version(self):
         self.prints(f"lemidrosy {lemidrosy.__version__}\n", "--version")
@@ -448,6 +448,17 @@ process  goes back to      checkpoints undone  events undone
       1  checkpoint 2                       0              1
 """,
             "line", EXAMPLE, "--at", 8, "--failed", 0,
+        )
+
+    def test_checkpoints_that_are_undone(self):
+        self.prints(
+            """\
+after record 3, if process 0 fails: line 0 0
+process  goes back to      checkpoints undone  events undone
+      0  checkpoint 0                       0              1
+      1  checkpoint 0                       1              1
+""",
+            "line", EXAMPLE, "--at", 3, "--failed", 0,
         )
 
     @needs("lost")

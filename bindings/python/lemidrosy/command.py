@@ -9,7 +9,7 @@ from typing import List, NoReturn, Optional, Sequence
 
 from . import __version__, convert, draw, explain, lines, programs, simulation
 from .answers import Refused
-from .files import ACCEPTED, INTERRUPTED, REFUSED, SYSTEM, USAGE, Stop
+from .files import INTERRUPTED, REFUSED, SYSTEM, USAGE, Stop
 from .library import LibraryError
 from .words import TextError
 

@@ -3,7 +3,7 @@
 from __future__ import annotations
 
 import argparse
-from typing import Iterator, Optional, Sequence
+from typing import Iterator
 
 from . import files
 from .answers import Checkpointed, Delivered, Recovered, Refused
