@@ -656,7 +656,6 @@ class Programs(Case):
         self.assertEqual(output, right.stdout, (name, words, said))
         return status, said
 
-    @needs("replay")
     def test_replay_in_this_process(self):
         for seed in range(many(1000)):
             trace = program(ORACLE, "generate", seed, "--records", (0, 5, 60, 400)[seed % 4], "--mix", ("valid", "recovering", "mixed", "damaged")[seed // 4 % 4])
@@ -668,7 +667,6 @@ class Programs(Case):
                 self.assertEqual(replayed.refusal is None, first is None)
                 self.assertEqual([[one.number, one.refused] for one in lemidrosy.replay(trace, all)], [list(map(int, line.split()[:2])) for line in expected])
 
-    @needs("replay")
     def test_replay(self):
         self.prints(program(PROGRAMS, "replay", given=EXAMPLE.read_bytes()).decode(), "replay", EXAMPLE, status=1, says="record 10, deliver 3: refused 8: no such message is under way")
         for seed in range(many(12)):
@@ -681,7 +679,6 @@ class Programs(Case):
         self.prints("0 1\n", "replay", status=1, given=b"\x11", says="refused 1:")
         self.prints("1 13\n", "replay", status=1, given=b"\x02abc", says="refused 13")
 
-    @needs("replay")
     def test_lines_that_are_due_stand_there(self):
         """What came in is replayed before more comes."""
         with subprocess.Popen([sys.executable, "-m", "lemidrosy", "replay"], stdin=subprocess.PIPE, stdout=subprocess.PIPE) as running:
@@ -694,13 +691,13 @@ class Programs(Case):
             running.stdin.close()
             self.assertEqual(running.wait(30), 0)
 
-    @needs("replay")
     def test_progress_at_a_terminal(self):
         trace = program(ORACLE, "generate", 1, "--n", 4, "--records", 200000, "--mix", "valid")
-        Path("long.trace").write_bytes(trace[:1] + trace[1:] * 10)
+        times = 1 if "replay" in ABSENT else 10
+        Path("long.trace").write_bytes(trace[:1] + trace[1:] * times)
         seen, status = typed(["-m", "lemidrosy", "replay", "--all", "long.trace"], output="/dev/null")
         self.assertEqual(status, 1)
-        self.assertRegex(seen, rb"\r[\d,]+ of 2,000,000 records, [\d,]+ a second, \d+ s left")
+        self.assertRegex(seen, rb"\r[\d,]+ of %s00,000 records, [\d,]+ a second, \d+ s left" % (b"2" if times == 1 else b"2,0"))
 
     def test_judge(self):
         for seed in range(many(400)):
