@@ -498,6 +498,11 @@ failed  roll back  events undone  line
         self.assertEqual((status, said), (1, "lemidrosy: record 10 was refused 8: no such message is under way; it changed nothing\n"))
         self.assertEqual(text.decode().split("\n")[0], "after record 10, if process 0 fails: line 1 3")
 
+    def test_bytes_left_over_are_told(self):
+        for words in (("line", "-", "--all"), ("earliest", "-", "0:0"), ("draw", "-"), ("draw", "-", "--compare"), ("explain", "-")):
+            status, text, said = command(*words, given=bytes.fromhex("02 20000001 4000"))
+            self.assertEqual((status, said.count("\n"), "refused 13: " in said), (1, 1, True), said)
+
 
 SHAPE = "{http://www.w3.org/2000/svg}"
 

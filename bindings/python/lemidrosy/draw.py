@@ -13,7 +13,7 @@ from .files import ACCEPTED, REFUSED, STANDARD, SYSTEM, USAGE, Output, Stop
 from .foreign import history_of, zigzag
 from .functions import judge
 from .history import Follower
-from .lines import follow, followed, numbers
+from .lines import follow, followed, numbers, told
 from .sentences import counted
 from .summary import Summary
 from .svg import Picture
@@ -86,10 +86,10 @@ def compared(arguments: argparse.Namespace, title: str) -> Tuple[Picture, int]:
     if last < 1:
         raise Stop(USAGE, "--compare needs a record: before it, and after it")
     pictures = []
-    for at in (last - 1, last):
-        follower, status = follow(data, at)
-        pictures.append(drawn(follower, arguments, f"{title}, after record {follower.taken:,}" if at else f"{title}, at the start"))
-    return beside(title, pictures[0], pictures[1]), status
+    for at in (last - 1, arguments.at):
+        follower, refusal = follow(data, at)
+        pictures.append(drawn(follower, arguments, f"{title}, after record {follower.taken:,}" if follower.taken else f"{title}, at the start"))
+    return beside(title, pictures[0], pictures[1]), told(refusal)
 
 
 def beside(title: str, first: Picture, second: Picture) -> Picture:

@@ -9,9 +9,11 @@ from itertools import combinations
 from typing import Iterator, List, Optional, Tuple
 
 from . import files
+from .answers import Refused
 from .files import ACCEPTED, REFUSED, USAGE, Output, Stop
-from .history import Follower, Step, Stored, begun
+from .history import Follower, Stored, begun
 from .sentences import counted, listed, processes
+from .trace import LEFT_OVER_BYTES
 
 
 def numbers(text: str) -> Tuple[int, ...]:
@@ -36,25 +38,34 @@ def add_trace(added: argparse.ArgumentParser) -> None:
 
 
 def followed(name: str, at: Optional[int]) -> Tuple[Follower, int]:
-    """A trace of a file followed to its end or to a record, and the status."""
-    return follow(files.trace(name), at)
+    """A trace of a file followed to its end or to a record, and the status. What was refused first is told on standard error."""
+    follower, refusal = follow(files.trace(name), at)
+    return follower, told(refusal)
 
 
-def follow(trace: bytes, at: Optional[int]) -> Tuple[Follower, int]:
-    """A trace followed to its end or to a record, also after refusals, and the status: of those the first is told on standard error."""
+def follow(trace: bytes, at: Optional[int]) -> Tuple[Follower, Optional[str]]:
+    """A trace followed to its end or to a record, also after refusals, and what is to be told of the first of these."""
     follower, records = begun(trace)
-    refused: Optional[Step] = None
+    refusal: Optional[str] = None
     for record in records if at != 0 else ():
         step = follower.take(record)
-        refused = refused or (step if step.refusal else None)
+        if step.refusal is not None and refusal is None:
+            refusal = f"record {step.number} was {step.refusal}; it changed nothing"
         if step.number == at:
             break
     if at is not None and not 0 <= at <= follower.taken:
         raise Stop(USAGE, f"there is no record {at}: the trace has {counted(follower.taken, 'record')}")
-    if refused is None:
-        return follower, ACCEPTED
-    print(f"lemidrosy: record {refused.number} was {refused.refusal}; it changed nothing", file=sys.stderr)
-    return follower, REFUSED
+    if records.rest and refusal is None:
+        refusal = f"after record {follower.taken}: {Refused(LEFT_OVER_BYTES)}"
+    return follower, refusal
+
+
+def told(refusal: Optional[str]) -> int:
+    """Tells a refusal, if there was one, and gives the status."""
+    if refusal is None:
+        return ACCEPTED
+    print(f"lemidrosy: {refusal}", file=sys.stderr)
+    return REFUSED
 
 
 # -------------------------------------------------------------------------- line
