@@ -1,4 +1,5 @@
 -- Laws that belong to no one function.
+pub mod Blocks
 pub mod Merging
 pub mod Starting
 pub mod Unsound

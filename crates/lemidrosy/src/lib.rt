@@ -8,6 +8,9 @@ pub mod calls;
 // readings.rt: what is read of the words
 pub mod readings;
 
+// replaying.rt: a block of records
+pub mod replaying;
+
 // saving.rt: a state as bytes
 pub mod saving;
 
