@@ -32,7 +32,9 @@ enum {
     LEMIDROSY_NUMBERS = 5,     /* what lemidrosy_numbers writes */
     LEMIDROSY_THREES = 192,    /* what lemidrosy_messages and lemidrosy_lost ask for: three numbers for each of 64 messages */
     LEMIDROSY_FIGURES = 5,     /* what lemidrosy_simulate writes */
-    LEMIDROSY_SAVED = 12942    /* the bytes of a saved state */
+    LEMIDROSY_SAVED = 12942,   /* the bytes of a saved state */
+    LEMIDROSY_LINE = 3102,     /* the bytes of a record's line, at most: a text with less room takes no record */
+    LEMIDROSY_PROGRESS = 3     /* what lemidrosy_replay writes beside the text */
 };
 
 /* An answer is one number with fields, the same for every call:
@@ -126,6 +128,14 @@ uint64_t lemidrosy_recover(uint16_t *words, size_t words_length, uint32_t failed
 /* The earliest consistent line through the named checkpoints, pairs of a process and an index: it may name deleted checkpoints, so it is to be shown, not restarted from.
    Refused with 2, 3, 4, 18, 19 or 20. */
 uint64_t lemidrosy_earliest(const uint16_t *words, size_t words_length, const uint32_t *named, size_t named_length, uint16_t *line, size_t line_length);
+
+/* A block of records, four bytes each as in a trace and without a trace's first byte, applied to the words one after the other: what a run-time that hands its events over
+   in batches calls, as the words are judged once, and once more after each recovery. The line of each record goes to the text, as the replay of a trace prints it. A record
+   is taken as long as a whole one is left, the one before was accepted (with `all`: in any case), fewer than 1,000,000,000 were taken, `done` before the block included,
+   and the text has room for LEMIDROSY_LINE bytes more. Three numbers go to the progress: how many records were taken, how many bytes of lines were written, and 1 if the
+   replay goes on after them. So the next block begins 4 times the records taken further on, with `done` more by as many. What is refused is a record, not the call; words
+   that stand for no sound state refuse each record, with 14 or else with 2. Refused with 3 (fewer than three numbers lent): then nothing is written. */
+uint64_t lemidrosy_replay(uint16_t *words, size_t words_length, bool all, uint64_t done, const uint8_t *records, size_t records_length, uint8_t *text, size_t text_length, uint64_t *progress, size_t progress_length);
 
 /* The readers. Each is refused with 2, and with 3 if the list is too short for what it may have to hold; those of a process with 4. */
 
