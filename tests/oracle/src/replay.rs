@@ -1,5 +1,7 @@
 //! The replay: a trace in, a listing out, in constant memory.
 
+use crate::run::forged::State;
+use crate::run::refusal::NOT_SOUND;
 use crate::run::{Entry, Run, MAX_PROCESSES, ONES};
 use std::ffi::OsString;
 use std::io::{self, ErrorKind, Read, Write};
@@ -100,6 +102,72 @@ fn list_trace<R: Read, W: Write>(
     Ok(())
 }
 
+/// No line has more bytes: 10 digits of the record number, 3 of the refusal
+/// number, 10 of the value, 3 of the count, 12 bytes for each of 256 deletions,
+/// three spaces and the line feed.
+const LONGEST_LINE: usize = 3102;
+
+/// What a block of records comes to.
+pub struct Block {
+    pub taken: usize,
+    pub lines: Vec<u8>,
+    /// Whether the replay goes on after them.
+    pub going: bool,
+    /// The state after them; none if it is the one that came, which is not sound.
+    pub left: Option<State>,
+}
+
+/// A block of records, where so many were taken before it and their lines have so
+/// much room: one is taken as long as the replay goes on, it is not behind the last
+/// record, the longest line fits, and a whole one is left. `state` is that of a
+/// sound state. Once it is not sound each record is refused, with 14 or else 2.
+pub fn block(
+    state: Option<&State>,
+    after_refusal: AfterRefusal,
+    done: u64,
+    records: &[u8],
+    room: usize,
+) -> Block {
+    let mut run = state.map(Run::forged);
+    let mut is_sound = run.is_some();
+    let mut lists = Lists::new();
+    let mut listing = Listing::new(Vec::new());
+    let (mut taken, mut going) = (0, true);
+    for bytes in records.chunks_exact(4) {
+        let lines = listing.output.len();
+        let past = done >= LAST_RECORD || LAST_RECORD - done <= taken as u64;
+        if !going || past || room - lines < LONGEST_LINE {
+            break;
+        }
+        let record = u32::from_be_bytes([bytes[0], bytes[1], bytes[2], bytes[3]]);
+        taken += 1;
+        let number = done + taken as u64;
+        let answered = match &mut run {
+            Some(run) if is_sound => apply(run, record, &mut lists),
+            _ if is_well_formed(record) => Err(NOT_SOUND),
+            _ => Err(BAD_RECORD),
+        };
+        match answered {
+            Ok(answer) => listing.accepted(number, &answer, &lists),
+            Err(refusal) => {
+                going = after_refusal == AfterRefusal::GoOn;
+                listing.refused(number, refusal)
+            }
+        }
+        .and_then(|()| listing.write_out())
+        .expect("a line in memory");
+        // Only a recovery of a state that calls from a start did not leave can
+        // leave one that is not sound.
+        is_sound = is_sound && run.as_ref().is_some_and(|run| run.state().is_sound());
+    }
+    Block {
+        taken,
+        lines: listing.output,
+        going,
+        left: run.map(|run| run.state()),
+    }
+}
+
 /// The lists lent to every call, long enough for every n.
 struct Lists {
     deletions: [Entry; 2 * MAX_PROCESSES * MAX_PROCESSES],
@@ -124,10 +192,18 @@ struct Answer {
 
 /// "Then records of 32 bits, most significant bit first: kind 3 bits, process
 /// 4 bits, argument 25 bits."
-fn apply(run: &mut Run, record: u32, lists: &mut Lists) -> Result<Answer, u8> {
-    let kind = record >> 29;
+fn fields(record: u32) -> (u32, usize, u32) {
     let process = (record >> 25 & 0b1111) as usize;
-    let argument = record & 0x1FF_FFFF;
+    (record >> 29, process, record & 0x1FF_FFFF)
+}
+
+fn is_well_formed(record: u32) -> bool {
+    let (kind, process, argument) = fields(record);
+    well_formed(kind, process, argument)
+}
+
+fn apply(run: &mut Run, record: u32, lists: &mut Lists) -> Result<Answer, u8> {
+    let (kind, process, argument) = fields(record);
     // "14: [...] given before any other number for that record."
     if !well_formed(kind, process, argument) {
         return Err(BAD_RECORD);
