@@ -129,9 +129,9 @@ same-part trace taken =
     let long = length-drop 1 trace in
     let part : take 4 (drop (4 * taken) (drop 1 trace)) ≡ take 4 (drop (1 + 4 * taken) trace) = ap (take 4) (drop-drop (4 * taken) 1 trace) in
     let left : leb (4 * taken + 4) (length (drop 1 trace)) ≡ leb (1 + 4 * taken + 4) (length trace)
-        = by-bool (leb (1 + 4 * taken + 4) (length trace))
-        (λ e. le-leb (4 * taken + 4) (length (drop 1 trace)) (omega (arith, long, leb-true (1 + 4 * taken + 4) (length trace) e)) ∙ sym e)
-        (λ e. lt-leb (4 * taken + 4) (length (drop 1 trace)) (omega (arith, long, leb-false (1 + 4 * taken + 4) (length trace) e)) ∙ sym e) in
+    = by-bool (leb (1 + 4 * taken + 4) (length trace))
+    (λ e. le-leb (4 * taken + 4) (length (drop 1 trace)) (omega (arith, long, leb-true (1 + 4 * taken + 4) (length trace) e)) ∙ sym e)
+    (λ e. lt-leb (4 * taken + 4) (length (drop 1 trace)) (omega (arith, long, leb-false (1 + 4 * taken + 4) (length trace) e)) ∙ sym e) in
     rw (left, part)
 
 module _ (all : Bool) (done : ℕ) (s : Run) (block out : List ℕ) (run : Run) (taken : ℕ) (now-out : List ℕ) (written : ℕ) (going : Bool)

@@ -1,8 +1,9 @@
 -- A block of records, each of four bytes: how many of them are taken, and what they come to by whole_runs's specs/Listing, on any state, sound or not.
 -- Assumes nothing.
-use mathlib.Core.Bool.{Bool, _&&_}
+use mathlib.Core.Path.{_≡_}
+use mathlib.Core.Bool.{Bool, true, _&&_}
 use mathlib.Core.List.{List, [], _∷_}
-use Prim.Native.Nat.{ℕ, suc, _+_, _-_, _*_}
+use Prim.Native.Nat.{ℕ, suc, _+_, _-_, _*_, _≤_, _<_}
 use lib.Dec.{ltb, leb}
 use lib.ListN.{length, take}
 use Rattle.laws.specs.Choice.{pick}
@@ -55,3 +56,15 @@ recordIn block taken = recordAt block (4 * taken)
 -- Whether one more record of a block is taken behind those taken.
 unfoldable pub takesNext : Bool → ℕ → List ℕ → ℕ → ℕ → Bool
 takesNext going done block taken room = going && mayTake (done + taken) room && isLeft block taken
+
+-- What a caller relies on who goes on block by block, of so many records taken: they are in the block; no more are taken than a replay takes; before each there was room
+-- for the longest line, and the replay went on; and where a record may be taken, at least one is.
+pub record Within (all : Bool) (done : ℕ) (s : Run) (block : List ℕ) (room taken : ℕ) : Type 0 where
+  pub inside : 4 * taken ≤ length block
+  pub few : done ≤ mostRecords → done + taken ≤ mostRecords
+  pub went-on : (k : ℕ) → k < taken → goesOnBehind all s (take (4 * k) block) ≡ true
+  pub roomy : (k : ℕ) → k < taken → length (records all done s (take (4 * k) block)) + longestLine ≤ room
+  pub some : 4 ≤ length block → mayTake done room ≡ true → 1 ≤ taken
+
+unfoldable pub BlocksGoOn : Type 0
+BlocksGoOn = (all : Bool) (done : ℕ) (s : Run) (block : List ℕ) (room : ℕ) → Within all done s block room (takenOf all done s block room)

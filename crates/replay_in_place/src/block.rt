@@ -2,6 +2,7 @@
 use crate::record;
 ghost use mathlib.Core.Path.{_≡_};
 ghost use mathlib.Core.Bool.{true};
+ghost use Prim.Native.Nat.{_≤_};
 ghost use lib.ListN.{length};
 ghost use lib.Seq.{sets};
 ghost use Rattle.model.specs.Sound.{sound};
@@ -80,7 +81,7 @@ fn replay_beside(
 ) -> Progress
     requires { ⌜ (tested ≡ sound (runOf (now w))) × (reached ≡ true → Reachable (runOf (now w))) × (length (now deleted) ≡ 512) × (length (now line) ≡ 16) ⌝ }
     ensures { λ r. ⌜ r .taken ≡ blockOutcome all done (runOf (now (w .entry))) (now (block .entry)) (length (now (out .entry))) .taken ⌝ }
-    ensures { λ r. ⌜ r .written ≡ length (blockOutcome all done (runOf (now (w .entry))) (now (block .entry)) (length (now (out .entry))) .lines) ⌝ }
+    ensures { λ r. ⌜ (r .written ≡ length (blockOutcome all done (runOf (now (w .entry))) (now (block .entry)) (length (now (out .entry))) .lines)) × (r .written ≤ length (now (out .entry))) ⌝ }
     ensures { λ r. ⌜ r .going ≡ blockOutcome all done (runOf (now (w .entry))) (now (block .entry)) (length (now (out .entry))) .going ⌝ }
     ensures { λ r. ⌜ now (out .exit) ≡ sets (now (out .entry)) 0 (blockOutcome all done (runOf (now (w .entry))) (now (block .entry)) (length (now (out .entry))) .lines) ⌝ }
     ensures { λ r. ⌜ runOf (now (w .exit)) ≡ blockOutcome all done (runOf (now (w .entry))) (now (block .entry)) (length (now (out .entry))) .run ⌝ }
@@ -119,7 +120,7 @@ fn replay_from(
 ) -> Progress
     requires { ⌜ (tested ≡ sound (runOf (now w))) × (reached ≡ true → Reachable (runOf (now w))) ⌝ }
     ensures { λ r. ⌜ r .taken ≡ blockOutcome all done (runOf (now (w .entry))) (now (block .entry)) (length (now (out .entry))) .taken ⌝ }
-    ensures { λ r. ⌜ r .written ≡ length (blockOutcome all done (runOf (now (w .entry))) (now (block .entry)) (length (now (out .entry))) .lines) ⌝ }
+    ensures { λ r. ⌜ (r .written ≡ length (blockOutcome all done (runOf (now (w .entry))) (now (block .entry)) (length (now (out .entry))) .lines)) × (r .written ≤ length (now (out .entry))) ⌝ }
     ensures { λ r. ⌜ r .going ≡ blockOutcome all done (runOf (now (w .entry))) (now (block .entry)) (length (now (out .entry))) .going ⌝ }
     ensures { λ r. ⌜ now (out .exit) ≡ sets (now (out .entry)) 0 (blockOutcome all done (runOf (now (w .entry))) (now (block .entry)) (length (now (out .entry))) .lines) ⌝ }
     ensures { λ r. ⌜ runOf (now (w .exit)) ≡ blockOutcome all done (runOf (now (w .entry))) (now (block .entry)) (length (now (out .entry))) .run ⌝ }
@@ -137,7 +138,7 @@ fn replay_from(
 // Wherever calls from an accepted start led to the state of the words, they lead to the state that is left (demand 3).
 pub fn replay(w: &mut [u16], all: bool, done: u64, block: &[u8], out: &mut [u8]) -> Progress
     ensures { λ r. ⌜ r .taken ≡ blockOutcome all done (runOf (now (w .entry))) (now (block .entry)) (length (now (out .entry))) .taken ⌝ }
-    ensures { λ r. ⌜ r .written ≡ length (blockOutcome all done (runOf (now (w .entry))) (now (block .entry)) (length (now (out .entry))) .lines) ⌝ }
+    ensures { λ r. ⌜ (r .written ≡ length (blockOutcome all done (runOf (now (w .entry))) (now (block .entry)) (length (now (out .entry))) .lines)) × (r .written ≤ length (now (out .entry))) ⌝ }
     ensures { λ r. ⌜ r .going ≡ blockOutcome all done (runOf (now (w .entry))) (now (block .entry)) (length (now (out .entry))) .going ⌝ }
     ensures { λ r. ⌜ now (out .exit) ≡ sets (now (out .entry)) 0 (blockOutcome all done (runOf (now (w .entry))) (now (block .entry)) (length (now (out .entry))) .lines) ⌝ }
     ensures { λ r. ⌜ runOf (now (w .exit)) ≡ blockOutcome all done (runOf (now (w .entry))) (now (block .entry)) (length (now (out .entry))) .run ⌝ }
@@ -152,7 +153,7 @@ pub fn replay(w: &mut [u16], all: bool, done: u64, block: &[u8], out: &mut [u8])
 pub fn replay_reached(w: &mut [u16], all: bool, done: u64, block: &[u8], out: &mut [u8]) -> Progress
     requires { ⌜ Reachable (runOf (now w)) ⌝ }
     ensures { λ r. ⌜ r .taken ≡ blockOutcome all done (runOf (now (w .entry))) (now (block .entry)) (length (now (out .entry))) .taken ⌝ }
-    ensures { λ r. ⌜ r .written ≡ length (blockOutcome all done (runOf (now (w .entry))) (now (block .entry)) (length (now (out .entry))) .lines) ⌝ }
+    ensures { λ r. ⌜ (r .written ≡ length (blockOutcome all done (runOf (now (w .entry))) (now (block .entry)) (length (now (out .entry))) .lines)) × (r .written ≤ length (now (out .entry))) ⌝ }
     ensures { λ r. ⌜ r .going ≡ blockOutcome all done (runOf (now (w .entry))) (now (block .entry)) (length (now (out .entry))) .going ⌝ }
     ensures { λ r. ⌜ now (out .exit) ≡ sets (now (out .entry)) 0 (blockOutcome all done (runOf (now (w .entry))) (now (block .entry)) (length (now (out .entry))) .lines) ⌝ }
     ensures { λ r. ⌜ runOf (now (w .exit)) ≡ blockOutcome all done (runOf (now (w .entry))) (now (block .entry)) (length (now (out .entry))) .run ⌝ }

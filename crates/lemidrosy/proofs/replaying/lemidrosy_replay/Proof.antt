@@ -20,8 +20,8 @@ returns-2 c =
     let long = c .before .before .before .before .before .before .before .before .before .before .before .if1 .left in
     let g = c .before .before .before .before .before .before .before .before .replay .ensures in
     let k = g .1 .1 .1 in
-    let h = long-enough (a .all) (a .done) (runOf (a .words .now)) (a .records .now) (a .text .now) (a .progress .now) long _ _ _ _ _ _ (g .0) (g .1 .0) (g .1 .1 .0) (k .0) (k .1 .0)
-        (c .before .before .write-progress .ensures) in
+    let h = long-enough (a .all) (a .done) (runOf (a .words .now)) (a .records .now) (a .text .now) (a .progress .now) long _ _ _ _ _ _ (g .0) (g .1 .0 .0) (g .1 .1 .0) (k .0) (k .1 .0)
+    (c .before .before .write-progress .ensures) in
     (h .0, (h .1 .0, (h .1 .1 .0, (h .1 .1 .1, (λ few. absurd (omega (arith, long)), (k .1 .1 .0, k .1 .1 .1))))))
 
 pub lemidrosy-replay-spec : {M : Type 1} → statement M

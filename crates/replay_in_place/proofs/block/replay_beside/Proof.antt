@@ -87,7 +87,7 @@ returns : tie.Need-returns Inv-loop μ-loop
 returns c =
     let inv = c .before .before .loop .inv in
     let whole = all-taken _ _ _ _ _ _ _ _ _ _ (inv .0) (none-next _ _ _ _ _ _ _ _ _ _ (inv .0) (c .before .takes-next .ensures) (c .if1 .left)) in
-    (whole .many, (whole .long, (whole .goes-on, (whole .lines, (whole .state, inv .5)))))
+    (whole .many, ((whole .long, inv .0 .fits), (whole .goes-on, (whole .lines, (whole .state, inv .5)))))
 
 pub replay-beside-spec : {M : Type 1} → statement M
 replay-beside-spec =
