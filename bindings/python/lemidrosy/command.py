@@ -21,8 +21,11 @@ A trace is bytes, as the library records and replays them, or for people text, o
 status: 0 all accepted; 1 refused, or not trackable; 2 wrong usage; 3 the system failed
 
 examples:
-  lemidrosy bytes example.txt > example.trace
-  lemidrosy replay example.trace
+  lemidrosy bytes run.txt > run.trace              a trace, from text
+  lemidrosy replay run.trace                       what each record did, a line each
+  lemidrosy explain run.trace 8                    why record 8 forced a checkpoint, or was refused
+  lemidrosy draw run.trace -o run.svg              the run as a picture
+  lemidrosy line run.trace --failed 0,2            where to restart from if 0 and 2 fail
 """
 
 
