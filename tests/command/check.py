@@ -697,12 +697,15 @@ class Programs(Case):
             self.assertEqual(running.wait(30), 0)
 
     def test_progress_at_a_terminal(self):
-        trace = program(ORACLE, "generate", 1, "--n", 4, "--records", 200000, "--mix", "valid")
-        times = 1 if "replay" in ABSENT else 10
-        Path("long.trace").write_bytes(trace[:1] + trace[1:] * times)
-        seen, status = typed(["-m", "lemidrosy", "replay", "--all", "long.trace"], output="/dev/null")
+        """Shown from the first block on, which takes no half second."""
+        Path("long.trace").write_bytes(program(ORACLE, "generate", 1, "--n", 4, "--records", 40000, "--mix", "valid"))
+        code = "import sys, lemidrosy.progress as p; p._FIRST = p._EVERY = 0; from lemidrosy.command import main; sys.exit(main(['replay', '--all', 'long.trace']))"
+        seen, status = typed(["-c", code], output="/dev/null")
         self.assertEqual(status, 1)
-        self.assertRegex(seen, rb"\r[\d,]+ of %s00,000 records, [\d,]+ a second, \d+ s left" % (b"2" if times == 1 else b"2,0"))
+        self.assertRegex(seen, rb"\r[\d,]+ of 40,000 records, [\d,]+ a second, \d+ s left\x1b\[K\r")
+        self.assertRegex(seen, rb"\r\x1b\[Klemidrosy replay: record ")
+        seen, status = typed(["-m", "lemidrosy", "replay", "long.trace"])
+        self.assertNotIn(b"a second", seen)
 
     def test_judge(self):
         for seed in range(many(400)):
