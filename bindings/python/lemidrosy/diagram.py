@@ -38,11 +38,11 @@ class Columns:
         for record in sorted((set(by_record) | others) - {0}):
             if not first <= record <= last:
                 continue
-            for event in by_record.get(record, [None]):  # type: ignore[list-item]
-                if event is not None:
-                    self._of_event[id(event)] = column
-                self._of_record[record] = column
-                column += 1
+            events = by_record.get(record, [])
+            for place, event in enumerate(events):
+                self._of_event[id(event)] = column + place
+            column += max(1, len(events))
+            self._of_record[record] = column - 1
             self.records.append((record, column - 1))
         self.count = column
 

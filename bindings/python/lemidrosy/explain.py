@@ -11,7 +11,7 @@ from .files import ACCEPTED, REFUSED, USAGE, Output, Stop
 from .history import Follower, History, Step, begun
 from .records import TraceForm
 from .sentences import counted, listed, processes, row
-from .trace import DELIVER, LEFT_OVER_BYTES, LOSE, SEND
+from .trace import DELIVER, LEFT_OVER_BYTES, LOSE
 
 _FORM = TraceForm()
 
@@ -45,8 +45,8 @@ class Explanation:
             return
         if isinstance(result, Checkpointed):
             yield f"process {step.record.process} stores checkpoint {result.index}, a basic one"
-        elif step.record.kind == SEND:
-            yield f"message {result} is under way and carries {row(self.run.carried(int(result)))}"  # type: ignore[call-overload]
+        elif isinstance(result, int):
+            yield f"message {result} is under way and carries {row(self.run.carried(result))}"
         elif isinstance(result, Delivered):
             yield from self._delivered(step, result)
         elif isinstance(result, Recovered):
