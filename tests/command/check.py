@@ -296,6 +296,15 @@ class Text(Case):
         plain = "processes 3\nsend 0 0\nsend 0 1\nsend 2 1\ndeliver 2\nlose 1\nsend 1 0\ndeliver 3\n"
         self.assertEqual(b"".join(bytes_of(named.split("\n"))), b"".join(bytes_of(plain.split("\n"))))
 
+    @needs("recover")
+    def test_names_that_are_given(self):
+        for seed in range(many(200)):
+            trace = program(ORACLE, "generate", seed, "--records", 40, "--mix", ("valid", "recovering", "mixed", "damaged")[seed % 4])
+            self.assertEqual(b"".join(bytes_of(text_of(io.BytesIO(trace), names=True))), trace, seed)
+        status, text, said = command("text", "--names", EXAMPLE)
+        self.assertEqual(text.decode().split("\n")[1:3], ["send 0 1 as m1", "deliver m1"])
+        self.ends(2, "not allowed with", "text", "--names", "--half")
+
     def test_bad_text(self):
         cases = {
             "x": (1, 1, "a first line: processes N, half N, console N"),

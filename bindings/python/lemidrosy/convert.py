@@ -21,6 +21,7 @@ def add_text(subcommands: "argparse._SubParsersAction[argparse.ArgumentParser]")
     form = added.add_mutually_exclusive_group()
     form.add_argument("--half", dest="heading", action="store_const", const="half", help="it is a half of a run, as 'lemidrosy merge' takes them")
     form.add_argument("--console", dest="heading", action="store_const", const="console", help="it is a console script")
+    form.add_argument("--names", action="store_true", help="each message has a name: m3 is message 3")
     added.add_argument("trace", metavar="TRACE", nargs="?", default=STANDARD, help="the file; standard input without it")
     added.set_defaults(run=run_text, heading="processes")
 
@@ -28,7 +29,7 @@ def add_text(subcommands: "argparse._SubParsersAction[argparse.ArgumentParser]")
 def run_text(arguments: argparse.Namespace) -> int:
     """Lines for bytes."""
     with reader(arguments.trace, "a trace") as source, Output() as output:
-        for line in text_of(source, arguments.heading):
+        for line in text_of(source, arguments.heading, arguments.names):
             output.write(line + "\n")
     return ACCEPTED
 

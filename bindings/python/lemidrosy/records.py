@@ -3,7 +3,7 @@
 from __future__ import annotations
 
 import re
-from typing import Dict, Optional, Tuple
+from typing import Dict, Optional, Set, Tuple
 
 from . import calls
 from .answers import Refused
@@ -165,6 +165,32 @@ class Names:
                 pass
         self._records.clear()
         return run
+
+
+class NamedForm(TraceForm):
+    """The lines of a plain trace in which each message that a send is answered with has a name: m3 is message 3."""
+
+    def start(self, count: int) -> None:
+        self._sent: Set[int] = set()
+        try:
+            self._run: Optional[Run] = Run(count)
+        except Refused:
+            self._run = None
+
+    def text(self, part: bytes) -> str:
+        record, line = Record.of(part), super().text(part)
+        if not record.is_call or self._run is None:
+            return line
+        if record.kind in (DELIVER, LOSE) and record.argument in self._sent:
+            line = f"{_KINDS[record.kind]} m{record.argument}"
+        try:
+            answer = calls.make(self._run, record)
+        except Refused:
+            return line
+        if record.kind == SEND and isinstance(answer, int):
+            self._sent.add(answer)
+            return f"{line} as m{answer}"
+        return line
 
 
 class HalfForm(Form):

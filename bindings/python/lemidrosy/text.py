@@ -4,7 +4,7 @@ from __future__ import annotations
 
 from typing import BinaryIO, Dict, Iterable, Iterator, Type
 
-from .records import Form, HalfForm, TraceForm
+from .records import Form, HalfForm, NamedForm, TraceForm
 from .scripts import ConsoleForm
 from .words import Words
 
@@ -41,13 +41,14 @@ FORMS: Dict[str, Type[Form]] = {form.heading: form for form in (TraceForm, HalfF
 _BLOCK = 1 << 15
 
 
-def text_of(source: BinaryIO, heading: str = TraceForm.heading) -> Iterator[str]:
-    """The lines of what a file holds: a trace, a half or a console script."""
-    form = FORMS[heading]()
+def text_of(source: BinaryIO, heading: str = TraceForm.heading, names: bool = False) -> Iterator[str]:
+    """The lines of what a file holds: a trace, a half or a console script; of a trace with names of messages, if they are asked for."""
+    form = NamedForm() if names else FORMS[heading]()
     held = source.read(1)
     if not held:
         return
-    yield f"{heading} {held[0]}"
+    yield f"{form.heading} {held[0]}"
+    form.start(held[0])
     held, block = b"", source.read(_BLOCK)
     while block:
         held += block
