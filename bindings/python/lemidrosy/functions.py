@@ -5,10 +5,10 @@ from __future__ import annotations
 import io
 from ctypes import c_uint64, c_uint8, string_at
 from dataclasses import dataclass
-from typing import BinaryIO, Iterable, Iterator, List, Optional, Sequence, Tuple, Union
+from typing import BinaryIO, Iterable, Iterator, Optional, Tuple, Union
 
-from . import answers, calls
-from .answers import Checkpoint, Checkpointed, Delivered, Figures, Recovered, Refused, Verdict
+from . import answers
+from .answers import Checkpoint, Figures, Refused, Verdict
 from .library import FIGURES, PROGRESS, library
 from .numbers import BITS_32, set_of, size, word
 from .run import Run
@@ -113,7 +113,7 @@ class Replay:
     def _records(self, run: Run) -> Iterator[bytes]:
         """The lines of the records, blocks of them as they are read."""
         read = getattr(self._source, "read1", self._source.read)
-        block, held = Block() if library().has("replay") else OneByOne(), b""
+        block, held = Block(), b""
         while self.done < LAST_RECORD:
             more = read(min(_BLOCK, RECORD * (LAST_RECORD - self.done)) - len(held))
             if not more:
@@ -139,7 +139,7 @@ class Block:
 
     def __init__(self) -> None:
         self._text = (c_uint8 * _TEXT)()
-        self._progress: Sequence[int] = (c_uint64 * PROGRESS)()
+        self._progress = (c_uint64 * PROGRESS)()
 
     def replay(self, run: Run, all: bool, done: int, records: bytes) -> Tuple[int, bytes]:
         """How many records were taken, and their lines; `done` of them came before."""
@@ -151,37 +151,3 @@ class Block:
     def goes_on(self) -> bool:
         """Whether the replay goes on after these records."""
         return bool(self._progress[2])
-
-
-class OneByOne(Block):
-    """The same by a call for each record: for a library that does not replay blocks."""
-
-    def __init__(self) -> None:
-        self._progress: List[int] = [0, 0, 1]
-
-    def replay(self, run: Run, all: bool, done: int, records: bytes) -> Tuple[int, bytes]:
-        lines = []
-        self._progress[2] = 1
-        for place in range(0, len(records) // RECORD * RECORD, RECORD):
-            number = done + len(lines) + 1
-            try:
-                lines.append(_line(number, calls.make(run, Record.of(records[place : place + RECORD]))))
-            except Refused as refusal:
-                lines.append(f"{number} {refusal.number}\n")
-                if not all:
-                    self._progress[2] = 0
-                    break
-        return len(lines), "".join(lines).encode()
-
-
-def _line(number: int, result: calls.Result) -> str:
-    """The line of an accepted record."""
-    deleted: Tuple[Checkpoint, ...] = getattr(result, "deleted", ())
-    value = result
-    if isinstance(result, Checkpointed):
-        value = result.index
-    elif isinstance(result, Delivered):
-        value = result.forced
-    elif isinstance(result, Recovered):
-        value = result.rolled_back
-    return " ".join(map(str, (number, 0, "-" if value is None else value, len(deleted), *deleted))) + "\n"

@@ -109,10 +109,6 @@ class Library:
         except OSError as error:
             raise LibraryError(f"{path} cannot be loaded ({error}): run bindings/build, or name the library in LEMIDROSY_LIBRARY") from None
 
-    def has(self, name: str) -> bool:
-        """Whether the library has the function lemidrosy_NAME."""
-        return hasattr(self._free, "lemidrosy_" + name)
-
     def __getattr__(self, name: str) -> Any:
         if name not in _ON_WORDS and name not in _ON_BYTES:
             raise AttributeError(name)
