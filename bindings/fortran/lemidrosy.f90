@@ -20,11 +20,13 @@ module lemidrosy
     integer, parameter, public :: lemidrosy_words = 6464
     integer, parameter, public :: lemidrosy_max_processes = 16
     integer, parameter, public :: lemidrosy_max_under_way = 64
-    ! the sizes of lists that are enough for every run: of deletions, of kept checkpoints, of messages, of numbers
+    ! the sizes of lists that are enough for every run: of deletions, of kept checkpoints, of messages, of numbers, of the
+    ! progress of a replay
     integer, parameter, public :: lemidrosy_deletions_size = 512
     integer, parameter, public :: lemidrosy_kept_size = 48
     integer, parameter, public :: lemidrosy_messages_size = 192
     integer, parameter, public :: lemidrosy_numbers_size = 5
+    integer, parameter, public :: lemidrosy_progress_size = 3
     ! the bytes of a saved state
     integer, parameter, public :: lemidrosy_saved_size = 12942
 
@@ -83,6 +85,7 @@ module lemidrosy
 
     public :: lemidrosy_refusal_text, lemidrosy_is_sound
     public :: lemidrosy_start, lemidrosy_checkpoint, lemidrosy_send, lemidrosy_deliver, lemidrosy_lose, lemidrosy_recover
+    public :: lemidrosy_replay
     public :: lemidrosy_line, lemidrosy_earliest, lemidrosy_lost
     public :: lemidrosy_numbers, lemidrosy_vector, lemidrosy_pins, lemidrosy_kept, lemidrosy_messages, lemidrosy_carried
     public :: lemidrosy_save, lemidrosy_load, lemidrosy_store_file, lemidrosy_load_file
@@ -222,6 +225,19 @@ module lemidrosy
             integer(c_size_t), value :: length, room
             integer(c_int32_t), value :: message
             integer(c_int16_t), intent(inout) :: vector(*)
+            integer(c_int64_t) :: answer
+        end function
+
+        function c_replay(words, length, all, done, records, many, text, room, progress, progress_room) &
+            bind(c, name="lemidrosy_replay") result(answer)
+            import :: c_bool, c_char, c_int8_t, c_int16_t, c_int64_t, c_size_t
+            integer(c_int16_t), intent(inout) :: words(*)
+            integer(c_size_t), value :: length, many, room, progress_room
+            logical(c_bool), value :: all
+            integer(c_int64_t), value :: done
+            integer(c_int8_t), intent(in) :: records(*)
+            character(kind=c_char), intent(inout) :: text(*)
+            integer(c_int64_t), intent(inout) :: progress(*)
             integer(c_int64_t) :: answer
         end function
 
@@ -493,6 +509,23 @@ contains
 
         answer = fields(c_carried(words, length_of(words), message, lent, room_of(vector, size(lent))))
         if (answer%refused == 0) call write_front(processes(words), lent, vector)
+    end function
+
+    ! Records of a trace, four bytes each and without its first byte, as calls on the words; done says how many were before them.
+    ! Their lines go to the text, and to the list how many records were taken, how many letters were written, and 1 if the replay
+    ! goes on. It stops behind a refusal, unless all are asked for, behind record 1,000,000,000, and where the longest line, 3,102
+    ! letters, might not fit any more. Refused with 3 if the list has fewer than three entries.
+    function lemidrosy_replay(words, all, done, records, text, progress) result(answer)
+        integer(c_int16_t), contiguous, intent(inout) :: words(:)
+        logical, intent(in) :: all
+        integer(c_int64_t), intent(in) :: done
+        integer(c_int8_t), contiguous, intent(in) :: records(:)
+        character(len=*), intent(inout) :: text
+        integer(c_int64_t), contiguous, intent(inout) :: progress(:)
+        type(lemidrosy_answer) :: answer
+
+        answer = fields(c_replay(words, length_of(words), logical(all, c_bool), done, records, size(records, kind=c_size_t), text, &
+            len(text, kind=c_size_t), progress, size(progress, kind=c_size_t)))
     end function
 
     ! The state as bytes that are the same on every machine: they go to the list, which has room for lemidrosy_saved_size; the

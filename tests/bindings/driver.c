@@ -241,6 +241,29 @@ static void take(void) {
     accepted(0);
 }
 
+/* As many blocks as it takes. */
+static void replay(void) {
+    bool all = number() == 1;
+    uint64_t done = number();
+    size_t length, taken = 0, written = 0;
+    uint8_t *records = bytes(&length), text[8192], *lines = malloc(3200 * (length / 4) + 1);
+    uint64_t progress[3] = {0, 0, 1};
+    no_memory(lines);
+    do {
+        uint64_t got = lemidrosy_replay(words, size, all, done + taken, records + 4 * taken, length - 4 * taken, text, sizeof text, progress, 3);
+        if (lemidrosy_refused(got) != 0)
+            exit(5);
+        memcpy(lines + written, text, progress[1]);
+        taken += progress[0];
+        written += progress[1];
+    } while (progress[0] > 0 && progress[2] == 1);
+    printf("0 %zu %d %s", taken, progress[2] == 1, written == 0 ? "-" : "");
+    for (size_t k = 0; k < written; k++)
+        printf("%02x", lines[k]);
+    free(records);
+    free(lines);
+}
+
 static void save(void) {
     uint8_t saved[LEMIDROSY_SAVED];
     const char *name = take_word();
@@ -324,7 +347,7 @@ static const struct {
 } calls[] = {
     {"start", start}, {"checkpoint", checkpoint}, {"send", send_one}, {"deliver", deliver}, {"lose", lose}, {"line", line}, {"recover", recover}, {"lost", lost}, {"earliest", earliest},
     {"is_sound", is_sound}, {"numbers", numbers}, {"vector", vector}, {"pins", pins}, {"kept", kept}, {"messages", messages}, {"carried", carried},
-    {"words", spread}, {"dump", dump}, {"take", take}, {"save", save}, {"load", load}, {"store_file", store_file}, {"load_file", load_file},
+    {"words", spread}, {"dump", dump}, {"take", take}, {"replay", replay}, {"save", save}, {"load", load}, {"store_file", store_file}, {"load_file", load_file},
     {"judge", judge}, {"merge", merge}, {"simulate", simulate},
 };
 

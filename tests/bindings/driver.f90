@@ -81,6 +81,15 @@ contains
         number = number_of(line(first:last))
     end function
 
+    ! The next word as a number of 63 bits.
+    function next_long() result(number)
+        integer(c_int64_t) :: number
+        integer :: first, last
+
+        call take_word(first, last)
+        read (line(first:last), *) number
+    end function
+
     pure function number_of(digits) result(number)
         character(len=*), intent(in) :: digits
         integer(c_int64_t) :: number
@@ -176,12 +185,21 @@ contains
         end do
     end subroutine
 
+    ! The letters of a text as bytes.
+    subroutine say_text(text)
+        character(len=*), intent(in) :: text
+        integer :: k
+
+        call say_bytes([(int(iachar(text(k:k)), c_int8_t), k = 1, len(text))])
+    end subroutine
+
     subroutine say_bytes(bytes)
         integer(c_int8_t), intent(in) :: bytes(:)
         character(len=2) :: two
         integer :: k
 
         call append(answer, answer_length, ' ')
+        if (size(bytes) == 0) call append(answer, answer_length, '-')
         do k = 1, size(bytes)
             write (two, '(z2.2)') iand(int(bytes(k)), 255)
             call append(answer, answer_length, small(two(1:1)) // small(two(2:2)))
@@ -249,6 +267,8 @@ contains
             call spread()
         case ('dump', 'take')
             call stored(call_name, next_word())
+        case ('replay')
+            call replay()
         case ('save')
             call save(next_word())
         case ('load')
@@ -469,6 +489,33 @@ contains
             read (unit) words
         end if
         close (unit)
+    end subroutine
+
+    ! As many blocks as it takes.
+    subroutine replay()
+        logical :: all
+        integer(c_int64_t) :: done, taken, progress(lemidrosy_progress_size)
+        integer(c_int8_t), allocatable :: records(:)
+        character(len=8192) :: text
+        character(len=:), allocatable :: lines
+        integer :: written
+        type(lemidrosy_answer) :: got
+
+        all = next_number() == 1
+        done = next_long()
+        allocate (records, source=next_bytes())
+        taken = 0
+        written = 0
+        do
+            got = lemidrosy_replay(words, all, done + taken, records(4 * taken + 1:), text, progress)
+            if (got%refused /= 0) error stop 'a replay is refused'
+            call append(lines, written, text(:progress(2)))
+            taken = taken + progress(1)
+            if (progress(1) == 0 .or. progress(3) /= 1) exit
+        end do
+        call say(taken)
+        call say(progress(3))
+        call say_text(lines(:written))
     end subroutine
 
     subroutine save(file)

@@ -6,6 +6,7 @@ from pathlib import Path
 
 import lemidrosy
 from lemidrosy import Refused, Run
+from lemidrosy.functions import Block
 
 WORDS = 6464
 
@@ -61,6 +62,7 @@ class Driver:
 
     def __init__(self):
         self.run = Run.from_words([])
+        self.block = Block()
 
     def start(self, *counts):
         self.run = Run(len(counts), map(int, counts))
@@ -93,6 +95,10 @@ class Driver:
     def load_file(self, name):
         self.run = Run.load(name)
         return ()
+
+    def replay(self, everything, done, records):
+        taken, lines = self.block.replay(self.run, everything == "1", int(done), data(records))
+        return taken, int(self.block.goes_on), lines.hex() or "-"
 
     def checkpoint(self, process):
         done = self.run.checkpoint(int(process))

@@ -57,6 +57,13 @@ fn made(run: &mut Run, call: &str, words: &[&str]) -> Result<String, Refusal> {
         "start" => *run = Run::start(&numbers(words))?,
         "words" => *run = Run::from_words(&spread(words)),
         "load" => *run = Run::load(&bytes(words[0]))?,
+        "replay" => {
+            let records = bytes(words[2]);
+            let replayed = run.replay(words[0] == "1", number(words, 1), &records)?;
+            spell(&mut line, [replayed.taken]);
+            spell(&mut line, [u8::from(replayed.goes_on)]);
+            spell(&mut line, [digits(replayed.lines.as_bytes())]);
+        }
         "checkpoint" => {
             let stored = run.checkpoint(number(words, 0))?;
             spell(&mut line, [stored.index]);
@@ -186,6 +193,9 @@ fn bytes(digits: &str) -> Vec<u8> {
 }
 
 fn digits(bytes: &[u8]) -> String {
+    if bytes.is_empty() {
+        return "-".to_string();
+    }
     bytes.iter().map(|byte| format!("{byte:02x}")).collect()
 }
 

@@ -33,6 +33,17 @@ pub struct Recovered {
     pub deleted: Vec<Checkpoint>,
 }
 
+/// What a block of records came to.
+#[derive(Clone, Debug, PartialEq, Eq)]
+pub struct Replayed {
+    /// How many records were taken.
+    pub taken: usize,
+    /// Their lines, as the program `replay` prints them.
+    pub lines: String,
+    /// Whether the replay goes on behind them.
+    pub goes_on: bool,
+}
+
 /// A checkpoint that is kept.
 #[derive(Clone, Copy, Debug, PartialEq, Eq)]
 pub struct Kept {

@@ -32,7 +32,7 @@ mod refusal;
 mod run;
 mod trace;
 
-pub use answers::{Cause, Delivered, Kept, Message, Numbers, Recovered, Stored};
+pub use answers::{Cause, Delivered, Kept, Message, Numbers, Recovered, Replayed, Stored};
 pub use file::FileError;
 pub use refusal::Refusal;
 pub use run::Run;

@@ -49,6 +49,18 @@ mod c {
         pub fn lemidrosy_kept(w: *const u16, wl: usize, p: usize, k: *mut u32, kl: usize) -> u64;
         pub fn lemidrosy_messages(w: *const u16, wl: usize, m: *mut u32, ml: usize) -> u64;
         pub fn lemidrosy_carried(w: *const u16, wl: usize, m: u32, v: *mut u16, vl: usize) -> u64;
+        pub fn lemidrosy_replay(
+            w: *mut u16,
+            wl: usize,
+            all: bool,
+            done: u64,
+            r: *const u8,
+            rl: usize,
+            t: *mut u8,
+            tl: usize,
+            p: *mut u64,
+            pl: usize,
+        ) -> u64;
         pub fn lemidrosy_save(w: *const u16, wl: usize, b: *mut u8, bl: usize) -> u64;
         pub fn lemidrosy_load(b: *const u8, bl: usize, w: *mut u16, wl: usize) -> u64;
         pub fn lemidrosy_store_file(path: *const c_char, words: *const u16) -> c_int;
@@ -240,6 +252,30 @@ pub fn carried(words: &[u16], message: u32, vector: &mut [u16]) -> u64 {
             message,
             vector.as_mut_ptr(),
             vector.len(),
+        )
+    }
+}
+
+pub fn replay(
+    words: &mut [u16],
+    all: bool,
+    done: u64,
+    records: &[u8],
+    text: &mut [u8],
+    progress: &mut [u64],
+) -> u64 {
+    unsafe {
+        c::lemidrosy_replay(
+            words.as_mut_ptr(),
+            words.len(),
+            all,
+            done,
+            records.as_ptr(),
+            records.len(),
+            text.as_mut_ptr(),
+            text.len(),
+            progress.as_mut_ptr(),
+            progress.len(),
         )
     }
 }

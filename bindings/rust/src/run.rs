@@ -1,8 +1,13 @@
 //! A run that owns its state.
 
-use crate::answers::{accepted, Cause, Delivered, Kept, Message, Numbers, Recovered, Stored};
+use crate::answers::{
+    accepted, Cause, Delivered, Kept, Message, Numbers, Recovered, Replayed, Stored,
+};
 use crate::{library, Refusal, MESSAGES, PROCESSES, SAVED, WORDS};
 use std::fmt;
+
+/// The bytes of lines that are written at a time: many of the longest line.
+const TEXT: usize = 1 << 16;
 
 /// The room of a deletion list that is enough for every run.
 const DELETIONS: usize = 2 * PROCESSES * PROCESSES;
@@ -121,6 +126,49 @@ impl Run {
         let mut list = [0; 3 * MESSAGES];
         let answer = accepted(library::lost(&self.words, failed, &mut list))?;
         Ok(answer.threes(&list, message))
+    }
+
+    /// Records of a trace, four bytes each and without its first byte, as calls on the state; `done` says how many were before them. It stops behind a refusal, unless
+    /// `all` is asked for, and behind record 1,000,000,000; bytes that are left over are not looked at.
+    ///
+    /// ```
+    /// # use lemidrosy::{Refusal, Run};
+    /// # fn main() -> Result<(), Refusal> {
+    /// let mut run = Run::start(&[1, 1])?;
+    /// // a send from 0 to 1, the delivery of message 1, the same once more, a checkpoint of 0
+    /// let records = [32, 0, 0, 1, 64, 0, 0, 1, 64, 0, 0, 1, 0, 0, 0, 0];
+    /// let replayed = run.replay(false, 0, &records)?;
+    /// assert_eq!((replayed.taken, replayed.goes_on), (3, false));
+    /// assert_eq!(replayed.lines, "1 0 1 0\n2 0 - 0\n3 8\n");
+    /// # Ok(())
+    /// # }
+    /// ```
+    pub fn replay(&mut self, all: bool, done: u64, records: &[u8]) -> Result<Replayed, Refusal> {
+        let mut text = vec![0; TEXT];
+        let mut replayed = Replayed {
+            taken: 0,
+            lines: String::new(),
+            goes_on: true,
+        };
+        loop {
+            let mut progress = [0; 3];
+            accepted(library::replay(
+                &mut self.words,
+                all,
+                done.saturating_add(replayed.taken as u64),
+                &records[4 * replayed.taken..],
+                &mut text,
+                &mut progress,
+            ))?;
+            let [taken, written, going] = progress;
+            let lines = String::from_utf8_lossy(&text[..written as usize]);
+            replayed.lines.push_str(&lines);
+            replayed.taken += taken as usize;
+            replayed.goes_on = going == 1;
+            if taken == 0 || !replayed.goes_on {
+                return Ok(replayed);
+            }
+        }
     }
 
     /// The line for a failed set, bit p of which stands for process p: the index of each process's checkpoint to restart from. That of a process which stays live is its

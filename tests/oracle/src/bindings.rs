@@ -11,6 +11,7 @@ use crate::generate::{write_trace, Plan};
 use crate::halves::draw::drawn as halves_drawn;
 use crate::halves::merge::merge;
 use crate::judge::{judge, Verdict, MAX_RECORDS};
+use crate::replay::{block, AfterRefusal, LAST_RECORD};
 use crate::run::refusal::NOT_SOUND;
 use crate::run::{Run, MAX_PROCESSES, MAX_UNDER_WAY};
 use crate::saved;
@@ -40,6 +41,8 @@ enum Asked {
     /// A call on the state; of `earliest`, with the numbers that name.
     Call(Call, Vec<u32>),
     Words(Vec<u16>),
+    /// A block of records, behind so many others.
+    Replay(AfterRefusal, u64, Vec<u8>),
     /// To a file and from it: its words, ..
     Dump(String),
     Take(String),
@@ -55,8 +58,9 @@ enum Asked {
 
 /// The names of the calls that are not in `calls`, with the numbers that each
 /// can give.
-const OTHERS: [(&str, &[usize]); 7] = [
+const OTHERS: [(&str, &[usize]); 8] = [
     ("words", &[0]),
+    ("replay", &[0]),
     ("save", &[0, 2]),
     ("store_file", &[0, 2]),
     ("load", &[0, 2]),
@@ -137,6 +141,7 @@ impl Writer {
             2..=5 => self.change(),
             6..=12 => self.aside(),
             13 => self.load_bytes(),
+            14..=15 => self.replay(),
             _ => {
                 self.call();
                 1
@@ -270,6 +275,11 @@ impl Writer {
                 0 => Asked::Save(name),
                 1 => Asked::Store(name),
                 2 => Asked::Call(Call::Carried { number: 1 }, Vec::new()),
+                3 => Asked::Replay(
+                    AfterRefusal::GoOn,
+                    0,
+                    vec![0, 0, 0, 0, 255, 0, 0, 0, 32, 0, 0, 1],
+                ),
                 _ => self.reading(),
             };
             if !self.is_absent(&asked) {
@@ -292,6 +302,34 @@ impl Writer {
             Call::Kept { process },
         ]);
         Asked::Call(call, Vec::new())
+    }
+
+    /// A block of records, mostly of a trace that fits.
+    fn replay(&mut self) -> u64 {
+        let count = self.run.as_ref().map_or(3, Run::count);
+        let draws = &mut self.draws;
+        let mix = draws.one_of(&["mixed", "mixed", "recovering", "damaged"]);
+        let count = count.to_string();
+        let seed = draws.number().to_string();
+        let records = draws.below(100).to_string();
+        let words = [&seed, "--n", &count, "--records", &records, "--mix", mix];
+        let mut block = trace(&words.map(String::from));
+        // a block has no first byte
+        block.drain(..block.len().min(1));
+        let after = draws.one_of(&[
+            AfterRefusal::GoOn,
+            AfterRefusal::GoOn,
+            AfterRefusal::GoOn,
+            AfterRefusal::Stop,
+        ]);
+        let near = LAST_RECORD - draws.below(20);
+        let done = draws.one_of(&[0, 0, 1, 99, near, LAST_RECORD, u64::MAX >> 1]);
+        let asked = Asked::Replay(after, done, block);
+        if self.is_absent(&asked) {
+            return 0;
+        }
+        self.ask(asked);
+        1
     }
 
     /// A call without a state.
@@ -432,8 +470,12 @@ fn foreign(seed: u64) -> Vec<u8> {
         3 => return [&[2], [[0; 4]; MAX_RECORDS + 1].as_flattened()].concat(),
         _ => {}
     }
-    let words = [&seed.to_string(), "--mix", "foreign"].map(String::from);
-    let plan = Plan::from_arguments(&words).expect("they are in the usage");
+    trace(&[&seed.to_string(), "--mix", "foreign"].map(String::from))
+}
+
+/// The trace of these arguments of `generate`.
+fn trace(arguments: &[String]) -> Vec<u8> {
+    let plan = Plan::from_arguments(arguments).expect("they are in the usage");
     let mut trace = Vec::new();
     write_trace(plan, &mut trace).expect("it is written to memory");
     trace
@@ -446,6 +488,7 @@ impl Asked {
             Asked::Start(_) => "start",
             Asked::Call(call, _) => CALLS[crate::calls::hold::place(*call)].0,
             Asked::Words(_) => "words",
+            Asked::Replay(..) => "replay",
             Asked::Dump(_) => "dump",
             Asked::Take(_) => "take",
             Asked::Save(_) => "save",
@@ -489,6 +532,11 @@ impl Asked {
             | Asked::Store(name)
             | Asked::LoadFile(name) => spell(&mut line, [name]),
             Asked::Load(bytes) => spell(&mut line, [digits(bytes)]),
+            Asked::Replay(after, done, block) => {
+                spell(&mut line, [u8::from(*after == AfterRefusal::GoOn)]);
+                spell(&mut line, [done]);
+                spell(&mut line, [digits(block)]);
+            }
             Asked::Judge(trace) => spell(&mut line, [digits(trace)]),
             Asked::Merge(set, first, second) => {
                 spell(&mut line, [set]);
@@ -543,6 +591,7 @@ fn answer(run: &mut Option<Run>, asked: &Asked) -> String {
             Some(words) => Ok(taken(run, &words)),
             None => Err(NOT_SOUND),
         },
+        Asked::Replay(after, done, records) => Ok(replayed(run, *after, *done, records)),
         Asked::Judge(trace) => judged(trace),
         Asked::Merge(set, first, second) => merged(*set, first, second),
         Asked::Simulate(parameters) => simulated(*parameters),
@@ -652,6 +701,19 @@ fn taken(run: &mut Option<Run>, words: &[u16]) -> String {
     let state = words::state(words).filter(|state| state.is_sound());
     *run = state.as_ref().map(Run::forged);
     String::new()
+}
+
+/// A block of records: however long their lines are, a binding has room for them.
+fn replayed(run: &mut Option<Run>, after: AfterRefusal, done: u64, records: &[u8]) -> String {
+    let state = run.as_ref().map(Run::state);
+    let block = block(state.as_ref(), after, done, records, usize::MAX);
+    *run = block
+        .left
+        .filter(|left| left.is_sound())
+        .as_ref()
+        .map(Run::forged);
+    let going = u8::from(block.going);
+    format!(" {} {going} {}", block.taken, digits(&block.lines))
 }
 
 fn judged(trace: &[u8]) -> Result<String, u8> {
