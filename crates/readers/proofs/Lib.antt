@@ -1,5 +1,6 @@
 -- Laws that belong to no one function.
 pub mod Carried
+pub mod Copying
 pub mod Readings
 pub mod Three
 pub mod Losses

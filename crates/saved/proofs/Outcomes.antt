@@ -15,9 +15,8 @@ use Rattle.model.specs.declared.Refusal.the-variants.{UnsoundState, ListTooShor
 use Rattle.model.specs.Sound.{sound}
 use Rattle.whole_runs.specs.Outcomes.{accepting}
 use Rattle.answers.specs.Codes.{coded}
-use Rattle.words.specs.Layout.{runOf, word}
+use Rattle.words.specs.Layout.{runOf}
 use Rattle.readers.specs.Readings.{Reading}
-use Rattle.readers.specs.Written.{wordsFrom}
 use Rattle.readers.proofs.Readings.{refusedBy, read, refused-by, read-by}
 use Rattle.saved_bytes.specs.Format.{savedBytes, wordsIn, isWhole}
 use Rattle.saved.specs.Saving.{saving, loadedWords, notLoaded, loadedInto, loading}
@@ -61,13 +60,3 @@ module _ (bytes lent : List ℕ) where
       → loading bytes lent ≡ record { report = accepting none 0; list = wordsIn bytes }
   unfolding loading loadedWords loadedInto
   load-done room on sure = rw (on, sure, eq-eqb (length lent) 6464 room)
-
--- Words copied over as many.
-pub copied-whole : (lent w v : List ℕ) → length lent ≡ 6464 → length w ≡ 6464 → v ≡ sets lent 0 (wordsFrom w 0 6464) → v ≡ w
-copied-whole lent w v room size e =
-    let all : wordsFrom w 0 6464 ≡ w = ext-getD 0 _ w (length-table 6464 _ ∙ sym size)
-    (λ k less. let few : k < 6464 = rw (length-table 6464 (λ f. word w (0 + f))) at less in
-    let place : 0 + k ≡ k = omega arith in getD-table 6464 (λ f. word w (0 + f)) k 0 few ∙ ap (λ (n : ℕ). getD w n 0) place) in
-    let fits : length w ≤ length lent = omega arith in
-    let same : length w ≡ length lent = omega arith in
-    e ∙ ap (sets lent 0) all ∙ written-front lent w fits ∙ ap (λ (n : ℕ). w ++ drop n lent) same ∙ ap (λ (l : List ℕ). w ++ l) (drop-length lent) ∙ append-nil w
