@@ -20,7 +20,7 @@ use Rattle.whole_runs.specs.Outcomes.{startOutcome, startReport}
 use Rattle.model.proofs.simulation.Accepted.{start-out}
 use Rattle.whole_runs.proofs.whole.Reached.{refused-number}
 use Rattle.recording.specs.Recording.{unwritten, appended, recording, recordedStart}
-use Rattle.recorder_parts.proofs.Ways.{negated, affirmed}
+use Rattle.recorder_bytes.proofs.Ways.{negated, affirmed}
 
 clash : {P : Type 0} (b : Bool) → b ≡ true → b ≡ false → P
 clash b p q = absurd (let y : _≡_ {A = ℕ} 0 1 = cc in omega arith)

@@ -10,19 +10,24 @@ use lib.ListN.{length, take}
 use lib.Seq.{length-take-le}
 use Rattle.model.specs.declared.Run.{Run}
 use Rattle.model.specs.declared.Refusal.{Refusal}
-use Rattle.model.specs.declared.Refusal.the-variants.{BufferTooShort}
+use Rattle.model.specs.declared.Refusal.the-variants.{BufferTooShort, UnsoundState}
 use Rattle.model.specs.declared.CheckpointAnswer.{CheckpointAnswer}
 use Rattle.model.specs.declared.CheckpointAnswer.the-variants as checkpoint-answer
+use Rattle.model.specs.declared.SendAnswer.{SendAnswer}
+use Rattle.model.specs.declared.SendAnswer.the-variants as send-answer
 use Rattle.model.specs.declared.DeliverAnswer.{DeliverAnswer}
 use Rattle.model.specs.declared.DeliverAnswer.the-variants as deliver-answer
+use Rattle.model.specs.declared.LoseAnswer.{LoseAnswer}
+use Rattle.model.specs.declared.LoseAnswer.the-variants as lose-answer
 use Rattle.model.specs.declared.RecoverAnswer.{RecoverAnswer}
 use Rattle.model.specs.declared.RecoverAnswer.the-variants as recover-answer
-use Rattle.model.specs.Refusals.{checkpointRefusal, deliverRefusal, recoverRefusal}
-use Rattle.whole_runs.specs.Outcomes.{judged, checkpointOutcome, checkpointReport, deliverOutcome, deliverReport, recoverOutcome, recoverReport}
-use Rattle.whole_runs.specs.Calls.{checkpoint, deliver, recover, answered, call}
+use Rattle.model.specs.Sound.{sound}
+use Rattle.model.specs.Refusals.{firstOf, checkpointRefusal, sendRefusal, deliverRefusal, loseRefusal, recoverRefusal}
+use Rattle.whole_runs.specs.Outcomes.{judged, checkpointOutcome, checkpointReport, sendOutcome, sendReport, deliverOutcome, deliverReport, loseOutcome, loseReport, recoverOutcome, recoverReport}
+use Rattle.whole_runs.specs.Calls.{checkpoint, send, deliver, lose, recover, answered, call}
 use Rattle.whole_runs.proofs.whole.Reached.{refusal}
 use Rattle.recording.proofs.Recording.{checkpoint-scratch, deliver-scratch, recover-scratch}
-use Rattle.recorder_parts.proofs.Ways.{is-accepted, is-refused}
+use Rattle.recorder_bytes.proofs.Ways.{is-accepted, is-refused}
 
 -- The first entries of a list of zeros.
 pub front : (k most size : ℕ) (zeros lent : List ℕ) → k ≡ min size most → k ≤ length zeros → length lent ≡ size → length (take k zeros) ≡ min (length lent) most
@@ -84,3 +89,63 @@ module _ (s : Run) (F : ℕ) (a c b d : List ℕ) where
   recover-own {answer} {v} e f q t h =
       let w = is-refused s (recover F a c) (ap (λ (a : RecoverAnswer). eqb (recoverReport a .refused) 0) (sym q) ∙ sym t ∙ h) in
       q ∙ recover-says (w .0) (w .1) ∙ sym (rw (sym (recover-scratch s F a b c d e f) ∙ w .1) refl)
+
+module _ (s : Run) (i j : ℕ) where
+  send-says : (x : Refusal) → sendRefusal s i j ≡ some x → sendOutcome s i j .answer ≡ send-answer.Refused x
+  unfolding sendOutcome
+  send-says x h = rw h refl
+
+  pub send-short : {answer : SendAnswer} {v : Bool} → answer ≡ sendOutcome s i j .answer → v ≡ eqb (sendReport answer .refused) 0 → v ≡ true
+      → send-answer.Refused BufferTooShort ≡ judged (sendRefusal s i j) (λ x. send-answer.Refused x) (send-answer.Refused BufferTooShort)
+  unfolding refusal call answered
+  send-short {answer} {v} q t h =
+      let ok : sendRefusal s i j ≡ none = is-accepted s (send i j) (ap (λ (a : SendAnswer). eqb (sendReport a .refused) 0) (sym q) ∙ sym t ∙ h) in
+      rw ok refl
+
+  pub send-own : {answer : SendAnswer} {v : Bool} → answer ≡ sendOutcome s i j .answer → v ≡ eqb (sendReport answer .refused) 0 → v ≡ false
+      → answer ≡ judged (sendRefusal s i j) (λ x. send-answer.Refused x) (send-answer.Refused BufferTooShort)
+  unfolding refusal call answered
+  send-own {answer} {v} q t h =
+      let w = is-refused s (send i j) (ap (λ (a : SendAnswer). eqb (sendReport a .refused) 0) (sym q) ∙ sym t ∙ h) in
+      q ∙ send-says (w .0) (w .1) ∙ sym (rw (w .1) refl)
+
+module _ (s : Run) (m : ℕ) where
+  lose-says : (x : Refusal) → loseRefusal s m ≡ some x → loseOutcome s m .answer ≡ lose-answer.Refused x
+  unfolding loseOutcome
+  lose-says x h = rw h refl
+
+  pub lose-short : {answer : LoseAnswer} {v : Bool} → answer ≡ loseOutcome s m .answer → v ≡ eqb (loseReport answer .refused) 0 → v ≡ true
+      → lose-answer.Refused BufferTooShort ≡ judged (loseRefusal s m) (λ x. lose-answer.Refused x) (lose-answer.Refused BufferTooShort)
+  unfolding refusal call answered
+  lose-short {answer} {v} q t h =
+      let ok : loseRefusal s m ≡ none = is-accepted s (lose m) (ap (λ (a : LoseAnswer). eqb (loseReport a .refused) 0) (sym q) ∙ sym t ∙ h) in
+      rw ok refl
+
+  pub lose-own : {answer : LoseAnswer} {v : Bool} → answer ≡ loseOutcome s m .answer → v ≡ eqb (loseReport answer .refused) 0 → v ≡ false
+      → answer ≡ judged (loseRefusal s m) (λ x. lose-answer.Refused x) (lose-answer.Refused BufferTooShort)
+  unfolding refusal call answered
+  lose-own {answer} {v} q t h =
+      let w = is-refused s (lose m) (ap (λ (a : LoseAnswer). eqb (loseReport a .refused) 0) (sym q) ∙ sym t ∙ h) in
+      q ∙ lose-says (w .0) (w .1) ∙ sym (rw (w .1) refl)
+
+-- A state that is not sound: number 2, whatever the lists are.
+module _ (s : Run) (h : sound s ≡ false) where
+  pub checkpoint-unsound : (i : ℕ) (deleted : List ℕ) → checkpoint-answer.Refused UnsoundState ≡ judged (checkpointRefusal s i deleted) (λ x. checkpoint-answer.Refused x) (checkpoint-answer.Refused BufferTooShort)
+  unfolding checkpointRefusal firstOf
+  checkpoint-unsound i deleted = rw h refl
+
+  pub send-unsound : (i j : ℕ) → send-answer.Refused UnsoundState ≡ judged (sendRefusal s i j) (λ x. send-answer.Refused x) (send-answer.Refused BufferTooShort)
+  unfolding sendRefusal firstOf
+  send-unsound i j = rw h refl
+
+  pub deliver-unsound : (m : ℕ) (deleted : List ℕ) → deliver-answer.Refused UnsoundState ≡ judged (deliverRefusal s m deleted) (λ x. deliver-answer.Refused x) (deliver-answer.Refused BufferTooShort)
+  unfolding deliverRefusal firstOf
+  deliver-unsound m deleted = rw h refl
+
+  pub lose-unsound : (m : ℕ) → lose-answer.Refused UnsoundState ≡ judged (loseRefusal s m) (λ x. lose-answer.Refused x) (lose-answer.Refused BufferTooShort)
+  unfolding loseRefusal firstOf
+  lose-unsound m = rw h refl
+
+  pub recover-unsound : (F : ℕ) (deleted lent : List ℕ) → recover-answer.Refused UnsoundState ≡ judged (recoverRefusal s F deleted lent) (λ x. recover-answer.Refused x) (recover-answer.Refused BufferTooShort)
+  unfolding recoverRefusal firstOf
+  recover-unsound F deleted lent = rw h refl

@@ -4,11 +4,12 @@ use mathlib.Core.Path.{_≡_, refl, sym, _∙_, ap}
 use mathlib.Core.Bool.{Bool, true, false, not}
 use mathlib.Core.List.{List, []}
 use mathlib.Core.Option.{Option, none, some}
-use Prim.Native.Nat.{ℕ, _+_, _-_, _≤_}
+use Prim.Native.Nat.{ℕ, _+_, _-_, _≤_, _<_}
 use native.Mathlib.Omega.{arith}
 use lib.Dec.{eqb, ltb}
 use lib.ListN.{length}
-use borrow.Author.Tests.{ltb-false}
+use borrow.Author.Tests.{ltb-true, ltb-false}
+use Rattle.laws.specs.Truth.{and-right}
 use Rattle.model.specs.declared.Run.{Run}
 use Rattle.model.specs.declared.Event.{Event}
 use Rattle.model.specs.declared.Event.the-variants.{Checkpoint, Send, Deliver, Lose, Recover}
@@ -24,7 +25,7 @@ use Rattle.model.specs.declared.LoseAnswer.{LoseAnswer}
 use Rattle.model.specs.declared.LoseAnswer.the-variants as lose-answer
 use Rattle.model.specs.declared.RecoverAnswer.{RecoverAnswer}
 use Rattle.model.specs.declared.RecoverAnswer.the-variants as recover-answer
-use Rattle.model.specs.Trace.{fits}
+use Rattle.model.specs.Trace.{fits, fieldsOf}
 use Rattle.model.specs.Refusals.{number, checkpointRefusal, sendRefusal, deliverRefusal, loseRefusal, recoverRefusal}
 use Rattle.model.specs.laws.Refusals.{by-refusal}
 use Rattle.whole_runs.specs.Outcomes.{Outcome, judged, checkpointOutcome, checkpointReport, sendOutcome, sendReport, deliverOutcome, deliverReport, loseOutcome, loseReport, recoverOutcome, recoverReport}
@@ -52,6 +53,11 @@ module _ {A : Type 0} (own : Option Refusal) (outcome short : Outcome A) (bytes 
 -- The record of an accepted call fits, and has four bytes.
 pub four : (s : Run) (c : Call) (e : Event) → eventOfCall c ≡ some e → refusal s c ≡ none → length (recordBytes e) ≡ 4
 four s c e asks h = record-of e (fits-event s c e h asks) .0
+
+-- A receiver whose record fits is small.
+pub small : (i j : ℕ) → fits (Send i j) ≡ true → j < 33554432
+unfolding fits fieldsOf
+small i j h = ltb-true j 33554432 (and-right (ltb i 16) (ltb j 33554432) h)
 
 -- What a test says.
 pub negated : (b : Bool) → not b ≡ true → b ≡ false
@@ -140,6 +146,15 @@ module _ (s : Run) (i j : ℕ) (buffer : List ℕ) (place : ℕ) where
   unfolding recordedSend
   send-short ok four b = short-way (sendRefusal s i j) (sendOutcome s i j) _ (recordBytes (Send i j)) buffer place ok four b
 
+  -- Without room: the state as it came, and the answer of the call's own refusal, else 21.
+  pub send-without : (answer : SendAnswer) → ltb (length buffer - place) 4 ≡ true
+      → answer ≡ judged (sendRefusal s i j) (λ x. send-answer.Refused x) (send-answer.Refused BufferTooShort)
+      → recordedSend s i j buffer place ≡ unwritten (record { run = s; answer = answer; rose = 0; deleted = []; line = [] }) buffer place
+  unfolding refusal eventOfCall recordedSend recording unwritten sendOutcome
+  send-without answer b e = by-refusal (sendRefusal s i j)
+      (λ h. rw (e, h, four s (send i j) (Send i j) refl h, b))
+      (λ x h. rw (e, h))
+
 module _ (s : Run) (m : ℕ) (deleted : List ℕ) (buffer : List ℕ) (place : ℕ) where
   pub deliver-accepted : {answer : DeliverAnswer} {v : Bool} → answer ≡ deliverOutcome s m deleted .answer → v ≡ eqb (deliverReport answer .refused) 0 → not v ≡ false
       → (deliverRefusal s m deleted ≡ none) × (fits (Deliver m) ≡ true) × (length (recordBytes (Deliver m)) ≡ 4)
@@ -193,6 +208,15 @@ module _ (s : Run) (m : ℕ) (buffer : List ℕ) (place : ℕ) where
       → recordedLose s m buffer place ≡ unwritten (record { run = s; answer = lose-answer.Refused BufferTooShort; rose = 0; deleted = []; line = [] }) buffer place
   unfolding recordedLose
   lose-short ok four b = short-way (loseRefusal s m) (loseOutcome s m) _ (recordBytes (Lose m)) buffer place ok four b
+
+  -- Without room: the state as it came, and the answer of the call's own refusal, else 21.
+  pub lose-without : (answer : LoseAnswer) → ltb (length buffer - place) 4 ≡ true
+      → answer ≡ judged (loseRefusal s m) (λ x. lose-answer.Refused x) (lose-answer.Refused BufferTooShort)
+      → recordedLose s m buffer place ≡ unwritten (record { run = s; answer = answer; rose = 0; deleted = []; line = [] }) buffer place
+  unfolding refusal eventOfCall recordedLose recording unwritten loseOutcome
+  lose-without answer b e = by-refusal (loseRefusal s m)
+      (λ h. rw (e, h, four s (lose m) (Lose m) refl h, b))
+      (λ x h. rw (e, h))
 
 module _ (s : Run) (F : ℕ) (deleted lent : List ℕ) (buffer : List ℕ) (place : ℕ) where
   pub recover-accepted : {answer : RecoverAnswer} {v : Bool} → answer ≡ recoverOutcome s F deleted lent .answer → v ≡ eqb (recoverReport answer .refused) 0 → not v ≡ false

@@ -3,7 +3,7 @@
 use mathlib.Core.Path.{_∙_, refl}
 use borrow.Author.Needs.{needs}
 use Rattle.recording.specs.Recording.{recordedLine}
-use Rattle.recorder.proofs.Leaves.{leaves-all}
+use Rattle.recorder_bytes.proofs.Leaves.{leaves-all}
 use Rattle.recorder.proofs.line.Statement.{statement}
 use Rattle.recorder.proofs.line.Tie as tie
 

@@ -3,8 +3,8 @@
 use mathlib.Core.Path.{_∙_}
 use lib.ListN.{length}
 use borrow.Author.Needs.{needs}
-use Rattle.recorder_parts.proofs.Ways.{has-room, no-room, lose-accepted, lose-refused, lose-short, lose-done}
-use Rattle.recorder.proofs.Leaves.{leaves-all, leaves-written}
+use Rattle.recorder_bytes.proofs.Ways.{has-room, no-room, lose-accepted, lose-refused, lose-short, lose-done}
+use Rattle.recorder_bytes.proofs.Leaves.{leaves-all, leaves-written}
 use Rattle.recorder.proofs.lose.Statement.{statement}
 use Rattle.recorder.proofs.lose.Tie as tie
 

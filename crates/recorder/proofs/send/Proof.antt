@@ -1,25 +1,13 @@
 -- `recorder::send` meets its contract: the three ways of a call through the recorder.
 -- Assumes nothing.
-use mathlib.Core.Bool.{true}
-use mathlib.Core.Path.{_≡_, _∙_}
-use Prim.Native.Nat.{ℕ, _<_}
+use mathlib.Core.Path.{_∙_}
 use native.Mathlib.Omega.{arith}
-use lib.Dec.{ltb}
 use lib.ListN.{length}
 use borrow.Author.Needs.{needs}
-use borrow.Author.Tests.{ltb-true}
-use Rattle.laws.specs.Truth.{and-right}
-use Rattle.model.specs.declared.Event.the-variants.{Send}
-use Rattle.model.specs.Trace.{fits, fieldsOf}
-use Rattle.recorder_parts.proofs.Ways.{has-room, no-room, send-accepted, send-refused, send-short, send-done}
-use Rattle.recorder.proofs.Leaves.{leaves-all, leaves-written}
+use Rattle.recorder_bytes.proofs.Ways.{has-room, no-room, send-accepted, send-refused, send-short, send-done, small}
+use Rattle.recorder_bytes.proofs.Leaves.{leaves-all, leaves-written}
 use Rattle.recorder.proofs.send.Statement.{statement}
 use Rattle.recorder.proofs.send.Tie as tie
-
--- A receiver whose record fits is small.
-small : (i j : ℕ) → fits (Send i j) ≡ true → j < 33554432
-unfolding fits fieldsOf
-small i j h = ltb-true j 33554432 (and-right (ltb i 16) (ltb j 33554432) h)
 
 returns : tie.Need-returns
 returns c =

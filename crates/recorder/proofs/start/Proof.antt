@@ -3,7 +3,7 @@
 use mathlib.Core.Path.{_∙_}
 use native.Mathlib.Omega.{arith}
 use borrow.Author.Needs.{needs}
-use Rattle.recorder.proofs.Leaves.{leaves-all, leaves-written}
+use Rattle.recorder_bytes.proofs.Leaves.{leaves-all, leaves-written}
 use Rattle.recorder.proofs.Begun.{none-begun, few, start-accepted, start-refused, start-short, start-done}
 use Rattle.recorder.proofs.start.Statement.{statement}
 use Rattle.recorder.proofs.start.Tie as tie

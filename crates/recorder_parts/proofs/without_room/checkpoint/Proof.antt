@@ -4,7 +4,7 @@ use mathlib.Core.Path.{sym}
 use lib.ListN.{replicate}
 use lib.Seq.{length-take-le}
 use borrow.Author.Needs.{needs}
-use Rattle.recorder_parts.proofs.Scratch.{front, checkpoint-short, checkpoint-own}
+use Rattle.recorder_bytes.proofs.Scratch.{front, checkpoint-short, checkpoint-own}
 use Rattle.recorder_parts.proofs.without_room.checkpoint.Statement.{statement}
 use Rattle.recorder_parts.proofs.without_room.checkpoint.Tie as tie
 
