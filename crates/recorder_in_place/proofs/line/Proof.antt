@@ -1,0 +1,24 @@
+-- `recorder_in_place::line` meets its contract: the call is made, and nothing is written.
+-- Assumes nothing.
+use mathlib.Core.Path.{_∙_, refl}
+use borrow.Author.Needs.{needs}
+use Rattle.words.specs.Layout.{runOf}
+use Rattle.recording.specs.Recording.{recordedLine}
+use Rattle.recorder_bytes.proofs.Leaves.{leaves-all}
+use Rattle.recorder_in_place.proofs.line.Statement.{statement}
+use Rattle.recorder_in_place.proofs.line.Tie as tie
+
+returns : tie.Need-returns
+unfolding recordedLine
+returns c =
+    let a = c .before .before .before .before .before .before .before .args in
+    let made = c .before .before .line .ensures in
+    let l = leaves-all _ (recordedLine (runOf (a .w .now)) (a .failed) (a .line .now) (a .buffer .now) (a .place)) (a .buffer .now) (a .place) refl in
+    (made .0 ∙ l .run, (made .1 .0 ∙ l .answer, (made .1 .1 .0 ∙ l .line, (l .buffer, l .place))))
+
+pub line-spec : {M : Type 1} → statement M
+line-spec =
+    tie.close
+    (tie.spec
+    (λ c κs. search needs) (λ c. search needs)
+    returns)
