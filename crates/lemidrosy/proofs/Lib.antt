@@ -1,6 +1,7 @@
 -- Laws that belong to no one function.
 pub mod Blocks
 pub mod Merging
+pub mod Recording
 pub mod Starting
 pub mod Unsound
 pub mod Verdicts

@@ -1,2 +1,3 @@
 pub mod Programs
 pub mod Replaying
+pub mod Recording

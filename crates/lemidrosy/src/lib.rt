@@ -5,6 +5,9 @@
 // calls.rt: the calls in place
 pub mod calls;
 
+// recorded.rt: the calls in place through the recorder
+pub mod recorded;
+
 // readings.rt: what is read of the words
 pub mod readings;
 

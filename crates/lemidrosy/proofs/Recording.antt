@@ -1,0 +1,228 @@
+-- A call through the recorder for C: what it leaves, field by field, and that its report fits the fields of its number.
+-- Assumes nothing.
+use mathlib.Core.Path.{_≡_, refl, sym, ap}
+use mathlib.Core.List.{List, [], _∷_}
+use mathlib.Core.Option.{Option}
+use Prim.Native.Nat.{ℕ, _-_, _≤_}
+use native.Mathlib.Omega.{arith}
+use lib.Dec.{ltb}
+use lib.ListN.{length, getD, set}
+use Rattle.laws.specs.Choice.{by-bool}
+use Rattle.model.specs.declared.Named.{Named}
+use Rattle.model.specs.declared.Run.{Run}
+use Rattle.model.specs.declared.Refusal.{Refusal}
+use Rattle.model.specs.declared.Refusal.the-variants.{ListTooShort, BufferTooShort}
+use Rattle.model.specs.declared.StartAnswer.the-variants as start-answer
+use Rattle.model.specs.declared.CheckpointAnswer.the-variants as checkpoint-answer
+use Rattle.model.specs.declared.SendAnswer.the-variants as send-answer
+use Rattle.model.specs.declared.DeliverAnswer.the-variants as deliver-answer
+use Rattle.model.specs.declared.LoseAnswer.the-variants as lose-answer
+use Rattle.model.specs.declared.LineAnswer.the-variants as line-answer
+use Rattle.model.specs.declared.RecoverAnswer.the-variants as recover-answer
+use Rattle.model.specs.Refusals.{number, checkpointRefusal, sendRefusal, deliverRefusal, loseRefusal, recoverRefusal}
+use Rattle.model.specs.laws.Refusals.{by-refusal}
+use Rattle.whole_runs.specs.Outcomes.{Outcome, Report, startReport, checkpointReport, checkpointOutcome, sendReport, sendOutcome, deliverReport, deliverOutcome, loseReport, loseOutcome, lineReport, lineOutcome, recoverReport, recoverOutcome}
+use Rattle.whole_runs.specs.Earliest.{earliestOutcome}
+use Rattle.recording.specs.Recording.{Recorded, unwritten, appended, recording, recordedCheckpoint, recordedSend, recordedDeliver, recordedLose, recordedLine, recordedRecover, recordedEarliest}
+use Rattle.answers.specs.Codes.{Fits, coded, valueCode, startCode, checkpointCode, sendCode, deliverCode, loseCode, lineCode, recoverCode}
+use Rattle.answers.proofs.Fit.{fits-refused, checkpoint-fits, send-fits, deliver-fits, lose-fits, line-fits, recover-fits, earliest-fits}
+use Rattle.words.specs.Layout.{runOf}
+use Rattle.in_place.specs.Starting.{startRefusalIn, startOutcomeIn}
+use Rattle.recorder_in_place.specs.Recorded.{recordedStartIn, recordedStartWords}
+use Rattle.lemidrosy.specs.Recording.{Placed, atPlace, unplaced, startAt, startWordsAt, checkpointAt, sendAt, deliverAt, loseAt, lineAt, recoverAt, earliestAt}
+use Rattle.lemidrosy.proofs.Starting.{start-fits}
+
+-- What a call leaves, each by itself.
+pub record LeavesAt {A : Type 0} (r : Placed A) (outcome : Outcome A) (bytes list : List ℕ) : Type 0 where
+  pub run : outcome .run ≡ r .outcome .run
+  pub answer : outcome .answer ≡ r .outcome .answer
+  pub rose : outcome .rose ≡ r .outcome .rose
+  pub deleted : outcome .deleted ≡ r .outcome .deleted
+  pub line : outcome .line ≡ r .outcome .line
+  pub buffer : bytes ≡ r .buffer
+  pub places : list ≡ r .places
+
+module _ {A : Type 0} where
+  leaves-at : (r : Placed A) (outcome : Outcome A) (bytes list : List ℕ) → r ≡ record { outcome = outcome; buffer = bytes; places = list } → LeavesAt r outcome bytes list
+  leaves-at r outcome bytes list e = record {
+    run = ap (λ (x : Placed A). x .outcome .run) (sym e);
+    answer = ap (λ (x : Placed A). x .outcome .answer) (sym e);
+    rose = ap (λ (x : Placed A). x .outcome .rose) (sym e);
+    deleted = ap (λ (x : Placed A). x .outcome .deleted) (sym e);
+    line = ap (λ (x : Placed A). x .outcome .line) (sym e);
+    buffer = ap (λ (x : Placed A). x .buffer) (sym e);
+    places = ap (λ (x : Placed A). x .places) (sym e);
+  }
+
+  module _ (none : Outcome A) (made : ℕ → Recorded A) (buffer : List ℕ) where
+    is-none : (l : List ℕ) → length l ≡ 0 → atPlace none made buffer l ≡ record { outcome = none; buffer = buffer; places = l }
+    unfolding atPlace
+    is-none [] e = refl
+    is-none (p ∷ l) e = absurd (omega arith)
+
+    is-some : (l : List ℕ) → (length l ≡ 0 → ⊥)
+        → atPlace none made buffer l ≡ record { outcome = made (getD l 0 0) .outcome; buffer = made (getD l 0 0) .buffer; places = set l 0 (made (getD l 0 0) .place) }
+    unfolding atPlace
+    is-some [] e = absurd (e refl)
+    is-some (p ∷ l) e = refl
+
+    leaves-none : (l : List ℕ) → length l ≡ 0 → LeavesAt (atPlace none made buffer l) none buffer l
+    leaves-none l e = leaves-at _ none buffer l (is-none l e)
+
+    leaves-some : (l : List ℕ) → (length l ≡ 0 → ⊥) → LeavesAt (atPlace none made buffer l) (made (getD l 0 0) .outcome) (made (getD l 0 0) .buffer) (set l 0 (made (getD l 0 0) .place))
+    leaves-some l e = leaves-at _ _ _ _ (is-some l e)
+
+module _ (w : List ℕ) (n : ℕ) (counts buffer l : List ℕ) where
+  pub start-none : length l ≡ 0 → LeavesAt (startAt w n counts buffer l) (unplaced (start-answer.Refused ListTooShort) (runOf w) [] []) buffer l
+  unfolding startAt
+  start-none e = leaves-none _ _ buffer l e
+
+  pub start-some : (length l ≡ 0 → ⊥) → LeavesAt (startAt w n counts buffer l) (recordedStartIn (length w) n counts buffer (getD l 0 0) .outcome) (recordedStartIn (length w) n counts buffer (getD l 0 0) .buffer) (set l 0 (recordedStartIn (length w) n counts buffer (getD l 0 0) .place))
+  unfolding startAt
+  start-some e = leaves-some _ (recordedStartIn (length w) n counts buffer) buffer l e
+
+module _ (s : Run) (i : ℕ) (deleted buffer l : List ℕ) where
+  pub checkpoint-none : length l ≡ 0 → LeavesAt (checkpointAt s i deleted buffer l) (unplaced (checkpoint-answer.Refused ListTooShort) s deleted []) buffer l
+  unfolding checkpointAt
+  checkpoint-none e = leaves-none _ _ buffer l e
+
+  pub checkpoint-some : (length l ≡ 0 → ⊥) → LeavesAt (checkpointAt s i deleted buffer l) (recordedCheckpoint s i deleted buffer (getD l 0 0) .outcome) (recordedCheckpoint s i deleted buffer (getD l 0 0) .buffer) (set l 0 (recordedCheckpoint s i deleted buffer (getD l 0 0) .place))
+  unfolding checkpointAt
+  checkpoint-some e = leaves-some _ (recordedCheckpoint s i deleted buffer) buffer l e
+
+module _ (s : Run) (i j : ℕ) (buffer l : List ℕ) where
+  pub send-none : length l ≡ 0 → LeavesAt (sendAt s i j buffer l) (unplaced (send-answer.Refused ListTooShort) s [] []) buffer l
+  unfolding sendAt
+  send-none e = leaves-none _ _ buffer l e
+
+  pub send-some : (length l ≡ 0 → ⊥) → LeavesAt (sendAt s i j buffer l) (recordedSend s i j buffer (getD l 0 0) .outcome) (recordedSend s i j buffer (getD l 0 0) .buffer) (set l 0 (recordedSend s i j buffer (getD l 0 0) .place))
+  unfolding sendAt
+  send-some e = leaves-some _ (recordedSend s i j buffer) buffer l e
+
+module _ (s : Run) (m : ℕ) (deleted buffer l : List ℕ) where
+  pub deliver-none : length l ≡ 0 → LeavesAt (deliverAt s m deleted buffer l) (unplaced (deliver-answer.Refused ListTooShort) s deleted []) buffer l
+  unfolding deliverAt
+  deliver-none e = leaves-none _ _ buffer l e
+
+  pub deliver-some : (length l ≡ 0 → ⊥) → LeavesAt (deliverAt s m deleted buffer l) (recordedDeliver s m deleted buffer (getD l 0 0) .outcome) (recordedDeliver s m deleted buffer (getD l 0 0) .buffer) (set l 0 (recordedDeliver s m deleted buffer (getD l 0 0) .place))
+  unfolding deliverAt
+  deliver-some e = leaves-some _ (recordedDeliver s m deleted buffer) buffer l e
+
+module _ (s : Run) (m : ℕ) (buffer l : List ℕ) where
+  pub lose-none : length l ≡ 0 → LeavesAt (loseAt s m buffer l) (unplaced (lose-answer.Refused ListTooShort) s [] []) buffer l
+  unfolding loseAt
+  lose-none e = leaves-none _ _ buffer l e
+
+  pub lose-some : (length l ≡ 0 → ⊥) → LeavesAt (loseAt s m buffer l) (recordedLose s m buffer (getD l 0 0) .outcome) (recordedLose s m buffer (getD l 0 0) .buffer) (set l 0 (recordedLose s m buffer (getD l 0 0) .place))
+  unfolding loseAt
+  lose-some e = leaves-some _ (recordedLose s m buffer) buffer l e
+
+module _ (s : Run) (F : ℕ) (line buffer l : List ℕ) where
+  pub line-none : length l ≡ 0 → LeavesAt (lineAt s F line buffer l) (unplaced (line-answer.Refused ListTooShort) s [] line) buffer l
+  unfolding lineAt
+  line-none e = leaves-none _ _ buffer l e
+
+  pub line-some : (length l ≡ 0 → ⊥) → LeavesAt (lineAt s F line buffer l) (recordedLine s F line buffer (getD l 0 0) .outcome) (recordedLine s F line buffer (getD l 0 0) .buffer) (set l 0 (recordedLine s F line buffer (getD l 0 0) .place))
+  unfolding lineAt
+  line-some e = leaves-some _ (recordedLine s F line buffer) buffer l e
+
+module _ (s : Run) (F : ℕ) (deleted line buffer l : List ℕ) where
+  pub recover-none : length l ≡ 0 → LeavesAt (recoverAt s F deleted line buffer l) (unplaced (recover-answer.Refused ListTooShort) s deleted line) buffer l
+  unfolding recoverAt
+  recover-none e = leaves-none _ _ buffer l e
+
+  pub recover-some : (length l ≡ 0 → ⊥) → LeavesAt (recoverAt s F deleted line buffer l) (recordedRecover s F deleted line buffer (getD l 0 0) .outcome) (recordedRecover s F deleted line buffer (getD l 0 0) .buffer) (set l 0 (recordedRecover s F deleted line buffer (getD l 0 0) .place))
+  unfolding recoverAt
+  recover-some e = leaves-some _ (recordedRecover s F deleted line buffer) buffer l e
+
+module _ (s : Run) (x : List Named) (line buffer l : List ℕ) where
+  pub earliest-none : length l ≡ 0 → LeavesAt (earliestAt s x line buffer l) (unplaced (line-answer.Refused ListTooShort) s [] line) buffer l
+  unfolding earliestAt
+  earliest-none e = leaves-none _ _ buffer l e
+
+  pub earliest-some : (length l ≡ 0 → ⊥) → LeavesAt (earliestAt s x line buffer l) (recordedEarliest s x line buffer (getD l 0 0) .outcome) (recordedEarliest s x line buffer (getD l 0 0) .buffer) (set l 0 (recordedEarliest s x line buffer (getD l 0 0) .place))
+  unfolding earliestAt
+  earliest-some e = leaves-some _ (recordedEarliest s x line buffer) buffer l e
+
+module _ (w : List ℕ) (n : ℕ) (counts buffer : List ℕ) where
+  pub words-none : (l : List ℕ) → length l ≡ 0 → w ≡ startWordsAt w n counts buffer l
+  unfolding startWordsAt
+  words-none [] e = refl
+  words-none (p ∷ l) e = absurd (omega arith)
+
+  pub words-some : (l : List ℕ) → (length l ≡ 0 → ⊥) → recordedStartWords w n counts buffer ≡ startWordsAt w n counts buffer l
+  unfolding startWordsAt
+  words-some [] e = absurd (e refl)
+  words-some (p ∷ l) e = refl
+
+-- The code of an answer to a call that is lent no place.
+pub start-three : 3 ≡ startCode (start-answer.Refused ListTooShort)
+unfolding startReport coded valueCode number
+start-three = refl
+
+pub checkpoint-three : 3 ≡ checkpointCode (checkpoint-answer.Refused ListTooShort)
+unfolding checkpointReport coded valueCode number
+checkpoint-three = refl
+
+pub send-three : 3 ≡ sendCode (send-answer.Refused ListTooShort)
+unfolding sendReport coded valueCode number
+send-three = refl
+
+pub deliver-three : 3 ≡ deliverCode (deliver-answer.Refused ListTooShort) 0
+unfolding deliverReport coded valueCode number
+deliver-three = refl
+
+pub lose-three : 3 ≡ loseCode (lose-answer.Refused ListTooShort)
+unfolding loseReport coded valueCode number
+lose-three = refl
+
+pub line-three : 3 ≡ lineCode (line-answer.Refused ListTooShort)
+unfolding lineReport coded valueCode number
+line-three = refl
+
+pub recover-three : 3 ≡ recoverCode (recover-answer.Refused ListTooShort)
+unfolding recoverReport coded valueCode number
+recover-three = refl
+
+-- The answer is the call's own, or the refusal with 21.
+fits-recorded : {A : Type 0} (report : A → Report) (own : Option Refusal) (outcome short : Outcome A) (bytes buffer : List ℕ) (place : ℕ)
+    → Fits (report (outcome .answer)) → Fits (report (short .answer)) → Fits (report (recording own outcome short bytes buffer place .outcome .answer))
+unfolding recording unwritten appended
+fits-recorded report own outcome short bytes buffer place a b = by-refusal own
+    (λ e. rw e (by-bool (ltb (length buffer - place) (length bytes)) (λ q. rw q b) (λ q. rw q a)))
+    (λ x e. rw e a)
+
+pub start-recorded-fits : (many n : ℕ) (counts buffer : List ℕ) (place : ℕ) → Fits (startReport (recordedStartIn many n counts buffer place .outcome .answer))
+unfolding startReport recordedStartIn unwritten appended
+start-recorded-fits many n counts buffer place = by-refusal (startRefusalIn many n counts)
+    (λ e. rw e (by-bool (ltb (length buffer) 1) (λ q. rw q (fits-refused BufferTooShort)) (λ q. rw q (start-fits many n counts))))
+    (λ x e. rw e (start-fits many n counts))
+
+module _ (s : Run) where
+  pub checkpoint-recorded-fits : (i : ℕ) (deleted buffer : List ℕ) (place : ℕ) → Fits (checkpointReport (recordedCheckpoint s i deleted buffer place .outcome .answer))
+  unfolding recordedCheckpoint checkpointReport
+  checkpoint-recorded-fits i deleted buffer place = fits-recorded checkpointReport (checkpointRefusal s i deleted) (checkpointOutcome s i deleted) _ _ buffer place (checkpoint-fits s i deleted) (fits-refused BufferTooShort)
+
+  pub send-recorded-fits : (i j : ℕ) (buffer : List ℕ) (place : ℕ) → Fits (sendReport (recordedSend s i j buffer place .outcome .answer))
+  unfolding recordedSend sendReport
+  send-recorded-fits i j buffer place = fits-recorded sendReport (sendRefusal s i j) (sendOutcome s i j) _ _ buffer place (send-fits s i j) (fits-refused BufferTooShort)
+
+  pub deliver-recorded-fits : (m : ℕ) (deleted buffer : List ℕ) (place : ℕ) → Fits (deliverReport (recordedDeliver s m deleted buffer place .outcome .answer))
+  unfolding recordedDeliver deliverReport
+  deliver-recorded-fits m deleted buffer place = fits-recorded deliverReport (deliverRefusal s m deleted) (deliverOutcome s m deleted) _ _ buffer place (deliver-fits s m deleted) (fits-refused BufferTooShort)
+
+  pub lose-recorded-fits : (m : ℕ) (buffer : List ℕ) (place : ℕ) → Fits (loseReport (recordedLose s m buffer place .outcome .answer))
+  unfolding recordedLose loseReport
+  lose-recorded-fits m buffer place = fits-recorded loseReport (loseRefusal s m) (loseOutcome s m) _ _ buffer place (lose-fits s m) (fits-refused BufferTooShort)
+
+  pub line-recorded-fits : (F : ℕ) (line buffer : List ℕ) (place : ℕ) → Fits (lineReport (recordedLine s F line buffer place .outcome .answer))
+  unfolding recordedLine unwritten
+  line-recorded-fits F line buffer place = line-fits s F line
+
+  pub recover-recorded-fits : (F : ℕ) (deleted line buffer : List ℕ) (place : ℕ) → Fits (recoverReport (recordedRecover s F deleted line buffer place .outcome .answer))
+  unfolding recordedRecover recoverReport
+  recover-recorded-fits F deleted line buffer place = fits-recorded recoverReport (recoverRefusal s F deleted line) (recoverOutcome s F deleted line) _ _ buffer place (recover-fits s F deleted line) (fits-refused BufferTooShort)
+
+  pub earliest-recorded-fits : (l : List Named) (line buffer : List ℕ) (place : ℕ) → Fits (lineReport (recordedEarliest s l line buffer place .outcome .answer))
+  unfolding recordedEarliest unwritten
+  earliest-recorded-fits l line buffer place = earliest-fits s l line
