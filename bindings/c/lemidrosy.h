@@ -136,6 +136,7 @@ uint64_t lemidrosy_earliest(const uint16_t *words, size_t words_length, const ui
    replay goes on after them. So the next block begins 4 times the records taken further on, with `done` more by as many. What is refused is a record, not the call; words
    that stand for no sound state refuse each record, with 14 or else with 2. Refused with 3 (fewer than three numbers lent): then nothing is written. */
 uint64_t lemidrosy_replay(uint16_t *words, size_t words_length, bool all, uint64_t done, const uint8_t *records, size_t records_length, uint8_t *text, size_t text_length, uint64_t *progress, size_t progress_length);
+
 /* The recorder: each of these calls once more, with a buffer that is lent and a list with the place that its next byte goes to (of the list the first entry counts). The
    buffer is a trace: its first byte is n, which the start writes, wherever the place was; behind it stand the records of the accepted calls, four bytes each, in their order,
    and the place is then behind the last of them. A line request writes none. The call answers, leaves and is refused as it is without the recorder; besides with 3, before any

@@ -1,3 +1,3 @@
 pub mod Programs
-pub mod Replaying
 pub mod Recording
+pub mod Replaying

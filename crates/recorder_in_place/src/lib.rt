@@ -263,7 +263,7 @@ pub fn recover(
         let answer = without_room::recover(w, failed, deleted.len(), line.len());
         return RecoverRecorded { answer, place };
     }
-    let answer = in_place::recover::recover(w, failed, deleted, line);
+    let answer = recover_in_place::recover(w, failed, deleted, line);
     let done = accepted::recover(answer);
     if !done {
         return RecoverRecorded { answer, place };

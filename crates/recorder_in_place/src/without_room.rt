@@ -122,7 +122,7 @@ pub fn recover(w: &[u16], failed: u32, size: usize, members: usize) -> RecoverAn
     let mut line = [0u16; 16];
     let entries = least(size, DELETIONS);
     let places = least(members, MEMBERS);
-    let answer = in_place::recover::recover_on(
+    let answer = recover_in_place::recover_on(
         &mut copy,
         failed,
         &mut deleted[..entries],
