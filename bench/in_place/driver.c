@@ -56,12 +56,12 @@ static uint64_t in_place_tested(void)
                lemidrosy_recover(words, WORDS, r.argument, deleted, DELETIONS, line, PROCESSES));
 }
 
-static uint64_t in_place_untested(void) { return timing_untested(words, WORDS, trace, size); }
+static uint64_t in_place_untested(void) { return timing_untested(words, WORDS, trace[0], trace, size); }
 
 static uint64_t by_value(void)
 {
     size_t most = 1 + RECORD * by_value_records;
-    return timing_by_value(trace, size < most ? size : most);
+    return timing_by_value(trace[0], trace, size < most ? size : most);
 }
 
 static uint64_t c_tested(void)

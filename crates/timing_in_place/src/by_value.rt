@@ -11,7 +11,7 @@ pub struct Applied {
     pub refused: u8,
 }
 
-fn applied(run: Run, said: Summary) -> Applied {
+fn answered(run: Run, said: Summary) -> Applied {
     Applied {
         run,
         refused: said.refused,
@@ -23,28 +23,28 @@ fn event(s: Run, e: Event, deleted: &mut [u16], line: &mut [u16]) -> Applied {
         Event::Checkpoint(i) => {
             let o = calls::checkpoint(s, i, deleted);
             let answer = o.answer;
-            applied(o.run, summaries::of_checkpoint(answer))
+            answered(o.run, summaries::of_checkpoint(answer))
         }
         Event::Send(i, j) => {
             let o = calls::send(s, i, j as usize);
             let answer = o.answer;
-            applied(o.run, summaries::of_send(answer))
+            answered(o.run, summaries::of_send(answer))
         }
         Event::Deliver(m) => {
             let o = calls::deliver(s, m, deleted);
             let answer = o.answer;
-            applied(o.run, summaries::of_deliver(answer))
+            answered(o.run, summaries::of_deliver(answer))
         }
         Event::Lose(m) => {
             let o = calls::lose(s, m);
             let answer = o.answer;
-            applied(o.run, summaries::of_lose(answer))
+            answered(o.run, summaries::of_lose(answer))
         }
         // the set of a record of the generator's has 16 bits
         Event::Recover(failed) => {
-            let o = calls::recover(s, failed as u16, deleted, line);
+            let o = calls::recover(s, (failed % 65536) as u16, deleted, line);
             let answer = o.answer;
-            applied(o.run, summaries::of_recover(answer))
+            answered(o.run, summaries::of_recover(answer))
         }
     }
 }
@@ -55,7 +55,7 @@ pub(crate) fn apply(s: Run, d: Decoded) -> Applied {
     let mut indexes = [0u16; 16];
     let line: &mut [u16] = &mut indexes;
     match d {
-        Decoded::Malformed => applied(s, summaries::refused(Refusal::MalformedRecord)),
+        Decoded::Malformed => answered(s, summaries::refused(Refusal::MalformedRecord)),
         Decoded::StandsFor(e) => event(s, e, deleted, line),
     }
 }

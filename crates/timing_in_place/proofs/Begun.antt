@@ -1,0 +1,31 @@
+-- A start that is accepted leads to a state that calls from a start lead to.
+-- Assumes nothing.
+use mathlib.Core.Path.{_≡_, sym, _∙_, ap}
+use mathlib.Core.List.{List}
+use mathlib.Core.Option.{none, some}
+use Prim.Native.Nat.{ℕ}
+use native.Mathlib.Omega.{arith}
+use Rattle.model.specs.declared.Run.{Run}
+use Rattle.model.specs.declared.Refusal.{Refusal}
+use Rattle.model.specs.declared.StartAnswer.{StartAnswer}
+use Rattle.model.specs.declared.StartAnswer.the-variants.{Refused, Started}
+use Rattle.model.specs.Refusals.{startRefusal}
+use Rattle.model.specs.laws.Refusals.{by-refusal}
+use Rattle.whole_runs.specs.Outcomes.{Outcome, startOutcome}
+use Rattle.whole_runs.specs.WholeRuns.{Reachable}
+use Rattle.whole_runs.proofs.WholeRuns.{reachable-start}
+use Rattle.in_place.specs.Starting.{startOutcomeIn, StartsTheSame}
+use Rattle.in_place.proofs.Judging.{by-answer, starts-the-same}
+use Rattle.in_place.proofs.Starting.{accepted-size, accepted-long}
+
+accepted : (n : ℕ) (counts : List ℕ) → startOutcome n counts .answer ≡ Started → startRefusal n counts ≡ none
+unfolding startOutcome
+accepted n counts e = by-refusal (startRefusal n counts) (λ f. f)
+    (λ why f. absurd (let z : Refused why ≡ Started = rw f at e in let y : _≡_ {A = ℕ} 0 1 = cc in omega arith))
+
+pub started-reachable : (many n : ℕ) (counts : List ℕ) (t : Run) → t ≡ startOutcomeIn many n counts .run → startOutcomeIn many n counts .answer ≡ Started → Reachable t
+unfolding StartsTheSame
+started-reachable many n counts t e a =
+    let fine = by-answer many n counts a in
+    let same : startOutcomeIn many n counts ≡ startOutcome n counts = rw (accepted-size many n counts fine) (starts-the-same n counts (accepted-long many n counts fine)) in
+    rw (e, same) (reachable-start n counts (accepted n counts (sym (ap (λ (o : Outcome StartAnswer). o .answer) same) ∙ a)))
