@@ -3,8 +3,9 @@
 //
 //     driver COUNT SEED
 //     driver programs COUNT SEED
+//     driver recorded COUNT SEED
 //
-// The second is for what works on no state (programs.rs): COUNT calls of each. Built with the address and undefined-behaviour sanitizers. The status is 0 if COUNT calls
+// The second is for what works on no state (programs.rs): COUNT calls of each. The third makes the calls through the recorder (recorded.rs). Built with the address and undefined-behaviour sanitizers. The status is 0 if COUNT calls
 // were made and each did what the oracle says.
 #define _GNU_SOURCE
 #include <signal.h>
@@ -36,6 +37,7 @@ struct call {
 
 bool hold_calls(uint64_t seed, uint64_t count);
 bool hold_programs(uint64_t seed, uint64_t count);
+bool hold_recorded(uint64_t seed, uint64_t count);
 
 enum { BUFFERS = 8, FILLING = 0xa5 };
 
@@ -142,6 +144,20 @@ uint64_t call_from_c(const struct call *c) {
     }
 }
 
+uint64_t record_from_c(const struct call *c, uint8_t *buffer, size_t size, uint64_t *place, size_t places) {
+    switch (c->which) {
+    case 0: return lemidrosy_record_start(c->words, c->words_len, c->first, c->numbers, c->numbers_len, buffer, size, place, places);
+    case 1: return lemidrosy_record_checkpoint(c->words, c->words_len, c->first, c->deletions, c->deletions_len, buffer, size, place, places);
+    case 2: return lemidrosy_record_send(c->words, c->words_len, c->first, c->second, buffer, size, place, places);
+    case 3: return lemidrosy_record_deliver(c->words, c->words_len, (uint32_t)c->first, c->deletions, c->deletions_len, buffer, size, place, places);
+    case 4: return lemidrosy_record_lose(c->words, c->words_len, (uint32_t)c->first, buffer, size, place, places);
+    case 5: return lemidrosy_record_line(c->words, c->words_len, (uint32_t)c->first, c->line, c->line_len, buffer, size, place, places);
+    case 6: return lemidrosy_record_recover(c->words, c->words_len, (uint32_t)c->first, c->deletions, c->deletions_len, c->line, c->line_len, buffer, size, place, places);
+    case 7: return lemidrosy_record_earliest(c->words, c->words_len, c->numbers, c->numbers_len, c->line, c->line_len, buffer, size, place, places);
+    default: fprintf(stderr, "driver: no such call\n"); exit(1);
+    }
+}
+
 uint64_t judge_from_c(const uint8_t *trace, size_t length) {
     return lemidrosy_judge(trace, length);
 }
@@ -177,8 +193,9 @@ const char *__asan_default_options(void) {
 
 int main(int count, char **words) {
     bool programs = count == 4 && strcmp(words[1], "programs") == 0;
-    if (count != 3 && !programs) {
-        fprintf(stderr, "usage: driver [programs] COUNT SEED\n");
+    bool recorded = count == 4 && strcmp(words[1], "recorded") == 0;
+    if (count != 3 && !programs && !recorded) {
+        fprintf(stderr, "usage: driver [programs | recorded] COUNT SEED\n");
         return 2;
     }
     make_buffers();
@@ -186,5 +203,5 @@ int main(int count, char **words) {
     signal(SIGBUS, touched);
     uint64_t many = strtoull(words[count - 2], NULL, 10);
     uint64_t seed = strtoull(words[count - 1], NULL, 10);
-    return (programs ? hold_programs(seed, many) : hold_calls(seed, many)) ? 0 : 1;
+    return (programs ? hold_programs(seed, many) : recorded ? hold_recorded(seed, many) : hold_calls(seed, many)) ? 0 : 1;
 }

@@ -3,8 +3,10 @@
 //! C; every second call is made here, from Rust.
 //!
 //! * `programs`: what works on no state.
+//! * `recorded`: the calls through the recorder.
 
 mod programs;
+mod recorded;
 
 use oracle::calls::hold::{hold, place, Library, Tally, CALLS};
 use oracle::calls::{Call, Lists};

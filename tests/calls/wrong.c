@@ -132,6 +132,29 @@ uint64_t lemidrosy_simulate(size_t n, uint32_t spacing, uint32_t steps, uint32_t
         figures[0] = 0;
     return answer;
 }
+#elif WAY == 19 // the record of a send names the wrong receiver
+uint64_t right_record_send(uint16_t *, size_t, size_t, size_t, uint8_t *, size_t, uint64_t *, size_t);
+uint64_t lemidrosy_record_send(uint16_t *words, size_t size, size_t sender, size_t receiver, uint8_t *buffer, size_t bytes, uint64_t *place, size_t places) {
+    uint64_t answer = right_record_send(words, size, sender, receiver, buffer, bytes, place, places);
+    if (now() && (answer & 255) == 0)
+        buffer[*place - 1] ^= 1;
+    return answer;
+}
+#elif WAY == 20 // 21 is said before the number of the call itself
+uint64_t right_record_deliver(uint16_t *, size_t, uint32_t, uint16_t *, size_t, uint8_t *, size_t, uint64_t *, size_t);
+uint64_t lemidrosy_record_deliver(uint16_t *words, size_t size, uint32_t message, uint16_t *deleted, size_t room, uint8_t *buffer, size_t bytes, uint64_t *place, size_t places) {
+    if (places > 0 && bytes < 4)
+        return 21;
+    return right_record_deliver(words, size, message, deleted, room, buffer, bytes, place, places);
+}
+#elif WAY == 21 // the place moves though the call is refused with 21
+uint64_t right_record_recover(uint16_t *, size_t, uint32_t, uint16_t *, size_t, uint16_t *, size_t, uint8_t *, size_t, uint64_t *, size_t);
+uint64_t lemidrosy_record_recover(uint16_t *words, size_t size, uint32_t failed, uint16_t *deleted, size_t many, uint16_t *line, size_t room, uint8_t *buffer, size_t bytes, uint64_t *place, size_t places) {
+    uint64_t answer = right_record_recover(words, size, failed, deleted, many, line, room, buffer, bytes, place, places);
+    if (answer == 21)
+        *place += 4;
+    return answer;
+}
 #else
 #error "no such way to be wrong"
 #endif
