@@ -28,12 +28,14 @@
 mod answers;
 mod file;
 mod library;
+mod recorder;
 mod refusal;
 mod run;
 mod trace;
 
 pub use answers::{Cause, Delivered, Kept, Message, Numbers, Recovered, Replayed, Stored};
 pub use file::FileError;
+pub use recorder::Recorder;
 pub use refusal::Refusal;
 pub use run::Run;
 pub use trace::{judge, merge, simulate, Figures, Verdict};

@@ -43,6 +43,71 @@ mod c {
             l: *mut u16,
             ll: usize,
         ) -> u64;
+        pub fn lemidrosy_record_start(
+            w: *mut u16,
+            wl: usize,
+            n: usize,
+            c: *const u32,
+            cl: usize,
+            b: *mut u8,
+            bl: usize,
+            p: *mut u64,
+            pl: usize,
+        ) -> u64;
+        pub fn lemidrosy_record_checkpoint(
+            w: *mut u16,
+            wl: usize,
+            i: usize,
+            d: *mut u16,
+            dl: usize,
+            b: *mut u8,
+            bl: usize,
+            p: *mut u64,
+            pl: usize,
+        ) -> u64;
+        pub fn lemidrosy_record_send(
+            w: *mut u16,
+            wl: usize,
+            i: usize,
+            j: usize,
+            b: *mut u8,
+            bl: usize,
+            p: *mut u64,
+            pl: usize,
+        ) -> u64;
+        pub fn lemidrosy_record_deliver(
+            w: *mut u16,
+            wl: usize,
+            m: u32,
+            d: *mut u16,
+            dl: usize,
+            b: *mut u8,
+            bl: usize,
+            p: *mut u64,
+            pl: usize,
+        ) -> u64;
+        pub fn lemidrosy_record_lose(
+            w: *mut u16,
+            wl: usize,
+            m: u32,
+            b: *mut u8,
+            bl: usize,
+            p: *mut u64,
+            pl: usize,
+        ) -> u64;
+        pub fn lemidrosy_record_recover(
+            w: *mut u16,
+            wl: usize,
+            f: u32,
+            d: *mut u16,
+            dl: usize,
+            l: *mut u16,
+            ll: usize,
+            b: *mut u8,
+            bl: usize,
+            p: *mut u64,
+            pl: usize,
+        ) -> u64;
         pub fn lemidrosy_numbers(w: *const u16, wl: usize, s: *mut u64, sl: usize) -> u64;
         pub fn lemidrosy_vector(w: *const u16, wl: usize, p: usize, v: *mut u16, vl: usize) -> u64;
         pub fn lemidrosy_pins(w: *const u16, wl: usize, p: usize, v: *mut u16, vl: usize) -> u64;
@@ -318,4 +383,122 @@ pub fn merge(first: &[u8], second: &[u8], set: u32, trace: &mut [u8]) -> u64 {
 
 pub fn simulate(n: usize, spacing: u32, steps: u32, seed: u32, figures: &mut [u64]) -> u64 {
     unsafe { c::lemidrosy_simulate(n, spacing, steps, seed, figures.as_mut_ptr(), figures.len()) }
+}
+
+/// The buffer of a recorder and the place of its next byte.
+#[derive(Clone)]
+pub struct Tape {
+    pub bytes: Vec<u8>,
+    pub place: u64,
+}
+
+pub fn record_start(words: &mut [u16], n: usize, counts: &[u32], tape: &mut Tape) -> u64 {
+    unsafe {
+        c::lemidrosy_record_start(
+            words.as_mut_ptr(),
+            words.len(),
+            n,
+            counts.as_ptr(),
+            counts.len(),
+            tape.bytes.as_mut_ptr(),
+            tape.bytes.len(),
+            &mut tape.place,
+            1,
+        )
+    }
+}
+
+pub fn record_checkpoint(
+    words: &mut [u16],
+    process: usize,
+    deleted: &mut [u16],
+    tape: &mut Tape,
+) -> u64 {
+    unsafe {
+        c::lemidrosy_record_checkpoint(
+            words.as_mut_ptr(),
+            words.len(),
+            process,
+            deleted.as_mut_ptr(),
+            deleted.len(),
+            tape.bytes.as_mut_ptr(),
+            tape.bytes.len(),
+            &mut tape.place,
+            1,
+        )
+    }
+}
+
+pub fn record_send(words: &mut [u16], sender: usize, receiver: usize, tape: &mut Tape) -> u64 {
+    unsafe {
+        c::lemidrosy_record_send(
+            words.as_mut_ptr(),
+            words.len(),
+            sender,
+            receiver,
+            tape.bytes.as_mut_ptr(),
+            tape.bytes.len(),
+            &mut tape.place,
+            1,
+        )
+    }
+}
+
+pub fn record_deliver(
+    words: &mut [u16],
+    message: u32,
+    deleted: &mut [u16],
+    tape: &mut Tape,
+) -> u64 {
+    unsafe {
+        c::lemidrosy_record_deliver(
+            words.as_mut_ptr(),
+            words.len(),
+            message,
+            deleted.as_mut_ptr(),
+            deleted.len(),
+            tape.bytes.as_mut_ptr(),
+            tape.bytes.len(),
+            &mut tape.place,
+            1,
+        )
+    }
+}
+
+pub fn record_lose(words: &mut [u16], message: u32, tape: &mut Tape) -> u64 {
+    unsafe {
+        c::lemidrosy_record_lose(
+            words.as_mut_ptr(),
+            words.len(),
+            message,
+            tape.bytes.as_mut_ptr(),
+            tape.bytes.len(),
+            &mut tape.place,
+            1,
+        )
+    }
+}
+
+pub fn record_recover(
+    words: &mut [u16],
+    failed: u32,
+    deleted: &mut [u16],
+    line: &mut [u16],
+    tape: &mut Tape,
+) -> u64 {
+    unsafe {
+        c::lemidrosy_record_recover(
+            words.as_mut_ptr(),
+            words.len(),
+            failed,
+            deleted.as_mut_ptr(),
+            deleted.len(),
+            line.as_mut_ptr(),
+            line.len(),
+            tape.bytes.as_mut_ptr(),
+            tape.bytes.len(),
+            &mut tape.place,
+            1,
+        )
+    }
 }

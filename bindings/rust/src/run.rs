@@ -10,7 +10,7 @@ use std::fmt;
 const TEXT: usize = 1 << 16;
 
 /// The room of a deletion list that is enough for every run.
-const DELETIONS: usize = 2 * PROCESSES * PROCESSES;
+pub(crate) const DELETIONS: usize = 2 * PROCESSES * PROCESSES;
 
 /// The state of a run of up to 16 processes.
 ///
