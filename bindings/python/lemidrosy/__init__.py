@@ -30,6 +30,7 @@ from .answers import (
 )
 from .functions import Line, judge, merge, replay, simulate
 from .library import LibraryError
+from .recorder import Recorder
 from .run import Run
 from .trace import Record, Records, trace_of
 
@@ -48,6 +49,7 @@ __all__ = [
     "Message",
     "Numbers",
     "Record",
+    "Recorder",
     "Records",
     "Recovered",
     "Refused",
