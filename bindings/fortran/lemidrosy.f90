@@ -87,6 +87,8 @@ module lemidrosy
     public :: lemidrosy_start, lemidrosy_checkpoint, lemidrosy_send, lemidrosy_deliver, lemidrosy_lose, lemidrosy_recover
     public :: lemidrosy_replay
     public :: lemidrosy_line, lemidrosy_earliest, lemidrosy_lost
+    public :: lemidrosy_record_start, lemidrosy_record_checkpoint, lemidrosy_record_send, lemidrosy_record_deliver
+    public :: lemidrosy_record_lose, lemidrosy_record_recover
     public :: lemidrosy_numbers, lemidrosy_vector, lemidrosy_pins, lemidrosy_kept, lemidrosy_messages, lemidrosy_carried
     public :: lemidrosy_save, lemidrosy_load, lemidrosy_store_file, lemidrosy_load_file
     public :: lemidrosy_judge, lemidrosy_merge, lemidrosy_simulate
@@ -149,6 +151,70 @@ module lemidrosy
             integer(c_int16_t), intent(inout) :: words(*), deleted(*), line(*)
             integer(c_size_t), value :: length, deleted_room, line_room
             integer(c_int32_t), value :: failed
+            integer(c_int64_t) :: answer
+        end function
+
+        function c_record_start(words, length, n, counts, room, buffer, bytes, place, places) &
+            bind(c, name="lemidrosy_record_start") result(answer)
+            import :: c_int8_t, c_int16_t, c_int32_t, c_int64_t, c_size_t
+            integer(c_int16_t), intent(inout) :: words(*)
+            integer(c_size_t), value :: length, n, room, bytes, places
+            integer(c_int32_t), intent(in) :: counts(*)
+            integer(c_int8_t), intent(inout) :: buffer(*)
+            integer(c_int64_t), intent(inout) :: place
+            integer(c_int64_t) :: answer
+        end function
+
+        function c_record_checkpoint(words, length, process, deleted, room, buffer, bytes, place, places) &
+            bind(c, name="lemidrosy_record_checkpoint") result(answer)
+            import :: c_int8_t, c_int16_t, c_int64_t, c_size_t
+            integer(c_int16_t), intent(inout) :: words(*), deleted(*)
+            integer(c_size_t), value :: length, process, room, bytes, places
+            integer(c_int8_t), intent(inout) :: buffer(*)
+            integer(c_int64_t), intent(inout) :: place
+            integer(c_int64_t) :: answer
+        end function
+
+        function c_record_send(words, length, sender, receiver, buffer, bytes, place, places) &
+            bind(c, name="lemidrosy_record_send") result(answer)
+            import :: c_int8_t, c_int16_t, c_int64_t, c_size_t
+            integer(c_int16_t), intent(inout) :: words(*)
+            integer(c_size_t), value :: length, sender, receiver, bytes, places
+            integer(c_int8_t), intent(inout) :: buffer(*)
+            integer(c_int64_t), intent(inout) :: place
+            integer(c_int64_t) :: answer
+        end function
+
+        function c_record_deliver(words, length, message, deleted, room, buffer, bytes, place, places) &
+            bind(c, name="lemidrosy_record_deliver") result(answer)
+            import :: c_int8_t, c_int16_t, c_int32_t, c_int64_t, c_size_t
+            integer(c_int16_t), intent(inout) :: words(*), deleted(*)
+            integer(c_size_t), value :: length, room, bytes, places
+            integer(c_int32_t), value :: message
+            integer(c_int8_t), intent(inout) :: buffer(*)
+            integer(c_int64_t), intent(inout) :: place
+            integer(c_int64_t) :: answer
+        end function
+
+        function c_record_lose(words, length, message, buffer, bytes, place, places) &
+            bind(c, name="lemidrosy_record_lose") result(answer)
+            import :: c_int8_t, c_int16_t, c_int32_t, c_int64_t, c_size_t
+            integer(c_int16_t), intent(inout) :: words(*)
+            integer(c_size_t), value :: length, bytes, places
+            integer(c_int32_t), value :: message
+            integer(c_int8_t), intent(inout) :: buffer(*)
+            integer(c_int64_t), intent(inout) :: place
+            integer(c_int64_t) :: answer
+        end function
+
+        function c_record_recover(words, length, failed, deleted, deleted_room, line, line_room, buffer, bytes, place, places) &
+            bind(c, name="lemidrosy_record_recover") result(answer)
+            import :: c_int8_t, c_int16_t, c_int32_t, c_int64_t, c_size_t
+            integer(c_int16_t), intent(inout) :: words(*), deleted(*), line(*)
+            integer(c_size_t), value :: length, deleted_room, line_room, bytes, places
+            integer(c_int32_t), value :: failed
+            integer(c_int8_t), intent(inout) :: buffer(*)
+            integer(c_int64_t), intent(inout) :: place
             integer(c_int64_t) :: answer
         end function
 
@@ -400,6 +466,89 @@ contains
         n = processes(words)
         answer = fields(c_recover(words, length_of(words), failed, pairs, room_of(deleted, size(pairs)), lent, &
             room_of(line, size(lent))))
+        if (answer%refused /= 0) return
+        call write_front(2 * answer%deletions, pairs, deleted)
+        call write_front(n, lent, line)
+    end function
+
+    ! The recorder: each call once more, with a buffer that is a trace and the place of its next byte, counted from 0, so that it
+    ! says how many bytes the trace has. The start writes n as the first byte, and the place is then 1; another call that is
+    ! accepted appends its record, four bytes. Refused as without the recorder, and with 21, after every other number, where the
+    ! buffer has too few bytes left; then no byte changes, and neither does the place.
+    function lemidrosy_record_start(words, n, counts, buffer, place) result(answer)
+        integer(c_int16_t), contiguous, intent(inout) :: words(:)
+        integer(c_int32_t), intent(in) :: n
+        integer(c_int32_t), contiguous, intent(in) :: counts(:)
+        integer(c_int8_t), contiguous, intent(inout) :: buffer(:)
+        integer(c_int64_t), intent(inout) :: place
+        type(lemidrosy_answer) :: answer
+
+        answer = fields(c_record_start(words, length_of(words), int(n, c_size_t), counts, size(counts, kind=c_size_t), &
+            buffer, size(buffer, kind=c_size_t), place, 1_c_size_t))
+    end function
+
+    function lemidrosy_record_checkpoint(words, process, deleted, buffer, place) result(answer)
+        integer(c_int16_t), contiguous, intent(inout) :: words(:)
+        integer(c_int32_t), intent(in) :: process
+        integer(c_int32_t), intent(inout) :: deleted(:)
+        integer(c_int8_t), contiguous, intent(inout) :: buffer(:)
+        integer(c_int64_t), intent(inout) :: place
+        type(lemidrosy_answer) :: answer
+        integer(c_int16_t) :: lent(lemidrosy_deletions_size)
+
+        answer = fields(c_record_checkpoint(words, length_of(words), int(process, c_size_t), lent, room_of(deleted, size(lent)), &
+            buffer, size(buffer, kind=c_size_t), place, 1_c_size_t))
+        call write_front(2 * answer%deletions, lent, deleted)
+    end function
+
+    function lemidrosy_record_send(words, sender, receiver, buffer, place) result(answer)
+        integer(c_int16_t), contiguous, intent(inout) :: words(:)
+        integer(c_int32_t), intent(in) :: sender, receiver
+        integer(c_int8_t), contiguous, intent(inout) :: buffer(:)
+        integer(c_int64_t), intent(inout) :: place
+        type(lemidrosy_answer) :: answer
+
+        answer = fields(c_record_send(words, length_of(words), int(sender, c_size_t), int(receiver, c_size_t), &
+            buffer, size(buffer, kind=c_size_t), place, 1_c_size_t))
+    end function
+
+    function lemidrosy_record_deliver(words, message, deleted, buffer, place) result(answer)
+        integer(c_int16_t), contiguous, intent(inout) :: words(:)
+        integer(c_int32_t), intent(in) :: message
+        integer(c_int32_t), intent(inout) :: deleted(:)
+        integer(c_int8_t), contiguous, intent(inout) :: buffer(:)
+        integer(c_int64_t), intent(inout) :: place
+        type(lemidrosy_answer) :: answer
+        integer(c_int16_t) :: lent(lemidrosy_deletions_size)
+
+        answer = fields(c_record_deliver(words, length_of(words), message, lent, room_of(deleted, size(lent)), &
+            buffer, size(buffer, kind=c_size_t), place, 1_c_size_t))
+        call write_front(2 * answer%deletions, lent, deleted)
+    end function
+
+    function lemidrosy_record_lose(words, message, buffer, place) result(answer)
+        integer(c_int16_t), contiguous, intent(inout) :: words(:)
+        integer(c_int32_t), intent(in) :: message
+        integer(c_int8_t), contiguous, intent(inout) :: buffer(:)
+        integer(c_int64_t), intent(inout) :: place
+        type(lemidrosy_answer) :: answer
+
+        answer = fields(c_record_lose(words, length_of(words), message, buffer, size(buffer, kind=c_size_t), place, 1_c_size_t))
+    end function
+
+    function lemidrosy_record_recover(words, failed, deleted, line, buffer, place) result(answer)
+        integer(c_int16_t), contiguous, intent(inout) :: words(:)
+        integer(c_int32_t), intent(in) :: failed
+        integer(c_int32_t), intent(inout) :: deleted(:), line(:)
+        integer(c_int8_t), contiguous, intent(inout) :: buffer(:)
+        integer(c_int64_t), intent(inout) :: place
+        type(lemidrosy_answer) :: answer
+        integer(c_int16_t) :: pairs(lemidrosy_deletions_size), lent(lemidrosy_max_processes)
+        integer :: n
+
+        n = processes(words)
+        answer = fields(c_record_recover(words, length_of(words), failed, pairs, room_of(deleted, size(pairs)), lent, &
+            room_of(line, size(lent)), buffer, size(buffer, kind=c_size_t), place, 1_c_size_t))
         if (answer%refused /= 0) return
         call write_front(2 * answer%deletions, pairs, deleted)
         call write_front(n, lent, line)
