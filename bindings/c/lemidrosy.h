@@ -142,21 +142,14 @@ uint64_t lemidrosy_replay(uint16_t *words, size_t words_length, bool all, uint64
    and the place is then behind the last of them. A line request writes none. The call answers, leaves and is refused as it is without the recorder; besides with 3, before any
    other number, where no place is lent (then a start, too, leaves every word), and with 21, after every other number, where the buffer has too few bytes from the place on.
    A refused call changes no byte and no place. A replay of the buffer up to the place, from a start with the same block counts, ends in the same state and answers the same. */
-uint64_t lemidrosy_record_start(uint16_t *words, size_t words_length, size_t n, const uint32_t *counts, size_t counts_length,
-                                uint8_t *buffer, size_t buffer_length, uint64_t *place, size_t place_length);
-uint64_t lemidrosy_record_checkpoint(uint16_t *words, size_t words_length, size_t process, uint16_t *deleted, size_t deleted_length,
-                                     uint8_t *buffer, size_t buffer_length, uint64_t *place, size_t place_length);
-uint64_t lemidrosy_record_send(uint16_t *words, size_t words_length, size_t sender, size_t receiver,
-                               uint8_t *buffer, size_t buffer_length, uint64_t *place, size_t place_length);
-uint64_t lemidrosy_record_deliver(uint16_t *words, size_t words_length, uint32_t message, uint16_t *deleted, size_t deleted_length,
-                                  uint8_t *buffer, size_t buffer_length, uint64_t *place, size_t place_length);
+uint64_t lemidrosy_record_start(uint16_t *words, size_t words_length, size_t n, const uint32_t *counts, size_t counts_length, uint8_t *buffer, size_t buffer_length, uint64_t *place, size_t place_length);
+uint64_t lemidrosy_record_checkpoint(uint16_t *words, size_t words_length, size_t process, uint16_t *deleted, size_t deleted_length, uint8_t *buffer, size_t buffer_length, uint64_t *place, size_t place_length);
+uint64_t lemidrosy_record_send(uint16_t *words, size_t words_length, size_t sender, size_t receiver, uint8_t *buffer, size_t buffer_length, uint64_t *place, size_t place_length);
+uint64_t lemidrosy_record_deliver(uint16_t *words, size_t words_length, uint32_t message, uint16_t *deleted, size_t deleted_length, uint8_t *buffer, size_t buffer_length, uint64_t *place, size_t place_length);
 uint64_t lemidrosy_record_lose(uint16_t *words, size_t words_length, uint32_t message, uint8_t *buffer, size_t buffer_length, uint64_t *place, size_t place_length);
-uint64_t lemidrosy_record_line(const uint16_t *words, size_t words_length, uint32_t failed, uint16_t *line, size_t line_length,
-                               uint8_t *buffer, size_t buffer_length, uint64_t *place, size_t place_length);
-uint64_t lemidrosy_record_recover(uint16_t *words, size_t words_length, uint32_t failed, uint16_t *deleted, size_t deleted_length, uint16_t *line, size_t line_length,
-                                  uint8_t *buffer, size_t buffer_length, uint64_t *place, size_t place_length);
-uint64_t lemidrosy_record_earliest(const uint16_t *words, size_t words_length, const uint32_t *named, size_t named_length, uint16_t *line, size_t line_length,
-                                   uint8_t *buffer, size_t buffer_length, uint64_t *place, size_t place_length);
+uint64_t lemidrosy_record_line(const uint16_t *words, size_t words_length, uint32_t failed, uint16_t *line, size_t line_length, uint8_t *buffer, size_t buffer_length, uint64_t *place, size_t place_length);
+uint64_t lemidrosy_record_recover(uint16_t *words, size_t words_length, uint32_t failed, uint16_t *deleted, size_t deleted_length, uint16_t *line, size_t line_length, uint8_t *buffer, size_t buffer_length, uint64_t *place, size_t place_length);
+uint64_t lemidrosy_record_earliest(const uint16_t *words, size_t words_length, const uint32_t *named, size_t named_length, uint16_t *line, size_t line_length, uint8_t *buffer, size_t buffer_length, uint64_t *place, size_t place_length);
 
 /* The readers. Each is refused with 2, and with 3 if the list is too short for what it may have to hold; those of a process with 4. */
 
