@@ -20,6 +20,7 @@ from pathlib import Path
 
 import lemidrosy
 from lemidrosy import Refused, Run, foreign, functions, numbers
+from lemidrosy.calls import make
 from lemidrosy.history import Stored
 from lemidrosy.text import FORMS, bytes_of, text_of
 from lemidrosy.words import TextError
@@ -81,10 +82,34 @@ class Package(Case):
     def test_examples_in_its_texts(self):
         import doctest
 
-        for module in (lemidrosy, lemidrosy.run):
+        for module in (lemidrosy, lemidrosy.recorder, lemidrosy.run):
             result = doctest.testmod(module)
             self.assertEqual(result.failed, 0)
             self.assertGreater(result.attempted, 0)
+
+    def test_a_recorded_run_is_made_again_by_its_records(self):
+        for seed in range(many(50)):
+            draws = random.Random(seed)
+            n = 2 + draws.randrange(4)
+            recorder = lemidrosy.Recorder(n)
+            run = recorder.run
+            for _ in range(60):
+                pair = [draws.randrange(n + 1), draws.randrange(n + 1)]
+                name, asked = draws.choice((("checkpoint", pair[:1]), ("send", pair), ("deliver", [draws.randrange(20)]), ("lose", [draws.randrange(60)]), ("recover", [pair[:1]])))
+                said = []
+                for call in (getattr(recorder, name), getattr(run, name)):
+                    try:
+                        said.append(call(*asked))
+                    except Refused as refusal:
+                        said.append(refusal.number)
+                self.assertEqual(said[0], said[1], (seed, name, asked))
+            self.assertEqual(recorder.run.words, run.words, seed)
+            records = lemidrosy.Records(recorder.trace())
+            again = Run(records.count)
+            for record in records:
+                make(again, record)
+            self.assertEqual((again.words, records.rest), (run.words, b""), seed)
+            self.assertGreater(records.taken, 5)
 
     def refused(self, number, call, *arguments):
         with self.assertRaises(Refused) as caught:
