@@ -395,22 +395,23 @@ static void begin(void) {
         workers[p].back = true;
 }
 
-/* The committed words and their trace. The trace may have one record more, that of a call whose words were not committed: it goes. */
+/* The committed words and their trace. The trace may have one record more, that of a call whose words were not committed: it goes. (A record that changes nothing, as of a
+   second failure before anything was done, stays: the trace leads to the same words.) */
 static void resume(void) {
     uint32_t counts[LEMIDROSY_PROCESSES];
     ssize_t many = read(trace_file, trace, TRACE);
+    uint64_t last = many < 1 ? 0 : 1 + (uint64_t)(many - 1) / RECORD * RECORD;
     for (uint32_t p = 0; p < job->n; p++)
         counts[p] = 1;
     lemidrosy_start(next.words, LEMIDROSY_WORDS, job->n, counts, job->n);
-    uint64_t last = many < 1 ? 0 : 1 + (uint64_t)(many - 1) / RECORD * RECORD;
-    next.place = 1;
-    while (next.place < last && (next.place + RECORD < last || memcmp(next.words, now.words, sizeof now.words) != 0)) {
-        trace_apply(next.words, trace + next.place, deleted, line);
-        next.place += RECORD;
+    for (next.place = 1; next.place <= last; next.place += RECORD) {
+        if (next.place + RECORD >= last && memcmp(next.words, now.words, sizeof now.words) == 0)
+            now.place = next.place;
+        if (next.place < last)
+            trace_apply(next.words, trace + next.place, deleted, line);
     }
-    if (memcmp(next.words, now.words, sizeof now.words) != 0)
+    if (now.place == 0)
         stop("trace", "it does not lead to the words");
-    now.place = next.place;
     if (ftruncate(trace_file, (off_t)now.place) != 0)
         stop("trace", strerror(errno));
 }
