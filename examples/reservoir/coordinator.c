@@ -17,7 +17,7 @@
 #include <time.h>
 #include <unistd.h>
 
-enum { TRACE = 8000001, RECORD = 4, WAIT = 20 /* milliseconds */ };
+enum { TRACE = 8000001, RECORD = 4, WAIT = 20 /* milliseconds */, NOBODY = LEMIDROSY_PROCESSES };
 
 /* A worker as the coordinator sees it: what it asks stands until it is answered. */
 struct worker {
@@ -153,14 +153,14 @@ static void delete(uint64_t answer) {
     }
 }
 
-/* Carries out what a call on the copy has answered; `process` stores the checkpoint of the value first, if it is below n. False: nothing has changed, and the call may be
-   made again later. */
+/* Carries out what a call on the copy has answered; `process` stores the checkpoint of the value first, unless it is NOBODY. False: nothing has changed, and the call may
+   be made again later. */
 static bool carry_out(uint64_t answer, uint32_t process) {
     if (lemidrosy_refused(answer) == LEMIDROSY_TOO_MANY_UNDER_WAY)
         return false;
     if (lemidrosy_refused(answer) != 0)
         stop("a call is refused", lemidrosy_refusal_text(lemidrosy_refused(answer)));
-    bool done = process >= job->n || store(process, lemidrosy_value(answer));
+    bool done = process == NOBODY || store(process, lemidrosy_value(answer));
     if (done)
         TIMED(storing, done = commit());
     if (!done) {
@@ -174,8 +174,6 @@ static bool carry_out(uint64_t answer, uint32_t process) {
     return true;
 }
 
-static const uint32_t NOBODY = LEMIDROSY_PROCESSES;
-
 static void reply(uint32_t process, struct message *message) {
     workers[process].asks = false;
     if (!message_put(workers[process].socket, message))
@@ -187,7 +185,7 @@ static void reply_kind(uint32_t process, uint32_t kind, uint32_t index) {
     reply(process, &message);
 }
 
-/* Begins a call: it is made on a copy. */
+/* The arguments of a call, and behind them those of the recorder. */
 #define RECORDED(...) __VA_ARGS__, trace, sizeof trace, &next.place, 1
 
 static bool send_message(uint32_t process) {
