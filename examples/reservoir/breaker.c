@@ -437,7 +437,7 @@ static void begin_run(uint32_t n, uint32_t spacing, uint32_t loss, uint32_t swee
     snprintf(command, sizeof command, "rm -rf '%.200s'", folder);
     if (system(command) != 0 || mkdir(folder, 0777) != 0)
         fail("%s: %s", folder, strerror(errno));
-    job = (struct job){.folder = folder, .n = n, .steps = STEPS, .spacing = spacing, .loss = loss, .sweep = sweep, .watch = -1};
+    job = (struct job){.folder = folder, .n = n, .steps = STEPS, .spacing = spacing, .loss = loss, .sweep = sweep, .starter = getpid(), .watch = -1};
     for (uint32_t p = 0; p < n; p++)
         counts[p] = 1, to_load[p] = true, expected[p] = progress[p] = 0;
     lemidrosy_start(mine, LEMIDROSY_WORDS, n, counts, n);

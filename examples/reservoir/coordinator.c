@@ -415,11 +415,11 @@ static void resume(void) {
 }
 
 /* Waits until every worker has said hello. The workers of an earlier coordinator are then gone, and nobody writes files but those that this one asks. */
-static void meet_all(pid_t starter) {
+static void meet_all(void) {
     bool all = false;
     while (!all) {
         listen_to_all(WAIT);
-        if (getppid() != starter)
+        if (getppid() != job->starter)
             exit(1);
         all = true;
         for (uint32_t p = 0; p < job->n; p++)
@@ -474,7 +474,6 @@ static bool finish(void) {
 
 int coordinate(const struct job *the_job) {
     job = the_job;
-    pid_t starter = getppid();
     figures.all = -seconds();
     srand((unsigned)getpid());
     for (uint32_t p = 0; p < job->n; p++)
@@ -493,12 +492,12 @@ int coordinate(const struct job *the_job) {
         begin();
     if ((listener = socket_open(job, true)) < 0)
         stop("socket", strerror(errno));
-    meet_all(starter);
+    meet_all();
     if (status == 0)
         recover_all();
     for (bool busy = false; !finish(); ) {
         listen_to_all(busy ? 0 : WAIT);
-        if (getppid() != starter)
+        if (getppid() != job->starter)
             return 1;
         if (failed != 0)
             recover_failed();

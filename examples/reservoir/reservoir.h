@@ -4,6 +4,8 @@
 
 #include "lemidrosy.h"
 
+#include <sys/types.h>
+
 enum { WIDTH = 32, HEIGHT = 48 }; /* the cells of the reservoir */
 enum { UP, DOWN, SIDES };         /* the neighbours of a strip: process - 1 and process + 1 */
 enum { PATH = 256 };              /* room for the name of a file */
@@ -13,6 +15,7 @@ struct job {
     uint32_t n, steps;             /* how many processes and steps */
     uint32_t spacing;              /* a worker takes a checkpoint after so many sends and receipts of its own */
     uint32_t loss, sweep;          /* one message of so many is lost, and a sweep comes after so many calls; 0: never */
+    pid_t starter;                 /* who started everyone: nobody outlives it */
     int watch;                     /* a socket to whoever looks on after each committed call, or -1 */
 };
 

@@ -37,7 +37,7 @@ int main(int argc, char **argv) {
         fprintf(stderr, "usage: reservoir FOLDER N STEPS SPACING\n       reservoir alone STEPS\n");
         return 1;
     }
-    struct job job = {.folder = argv[1], .n = (uint32_t)atoi(argv[2]), .steps = (uint32_t)atoi(argv[3]), .spacing = (uint32_t)atoi(argv[4]), .sweep = 1000, .watch = -1};
+    struct job job = {.folder = argv[1], .n = (uint32_t)atoi(argv[2]), .steps = (uint32_t)atoi(argv[3]), .spacing = (uint32_t)atoi(argv[4]), .sweep = 1000, .starter = getpid(), .watch = -1};
     pid_t children[LEMIDROSY_PROCESSES + 1];
     for (uint32_t k = 0; k <= job.n; k++)
         children[k] = start(&job, k);

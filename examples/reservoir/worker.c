@@ -19,9 +19,8 @@ static int coordinator;
 static void pause_for(long microseconds) { nanosleep(&(struct timespec){0, 1000 * microseconds}, NULL); }
 
 static void connect_to_coordinator(void) {
-    pid_t starter = getppid();
     while ((coordinator = socket_open(job, false)) < 0) {
-        if (getppid() != starter)
+        if (getppid() != job->starter)
             exit(1);
         pause_for(1000);
     }
