@@ -390,6 +390,7 @@ static void strike_some(void) {
         return;
     }
     lemidrosy_numbers(mine, LEMIDROSY_WORDS, numbers, LEMIDROSY_NUMBERS);
+    uint64_t before = sum.processes;
     sum.kills++;
     sum.during_recovery += recovering;
     sum.with_messages += numbers[2] > 0;
@@ -400,8 +401,8 @@ static void strike_some(void) {
     for (uint32_t p = 0; p < job.n; p++)
         if (way == 3 || (way > 3 && way < 7 && below(3) == 0))
             strike(p);
-    if (way >= 7 || way == 2)
-        strike(below(job.n));
+    if (way >= 7 || way == 2 || (way > 3 && sum.processes == before))
+        strike(below(job.n)); /* nobody may have been drawn */
 }
 
 static void make_room(void) {
