@@ -8,15 +8,7 @@
 // The second is for what works on no state (programs.rs): COUNT calls of each. The third makes the calls through the recorder (recorded.rs). Built with the address and undefined-behaviour sanitizers. The status is 0 if COUNT calls
 // were made and each did what the oracle says.
 #define _GNU_SOURCE
-#include <signal.h>
-#include <stdbool.h>
-#include <stdint.h>
-#include <stdio.h>
-#include <stdlib.h>
-#include <string.h>
-#include <sys/mman.h>
-#include <unistd.h>
-
+#include "../guarded.h"
 #include "lemidrosy.h"
 
 // As in held.rs: Lent.
@@ -39,56 +31,8 @@ bool hold_calls(uint64_t seed, uint64_t count);
 bool hold_programs(uint64_t seed, uint64_t count);
 bool hold_recorded(uint64_t seed, uint64_t count);
 
-enum { BUFFERS = 8, FILLING = 0xa5 };
-
-// How many pages each has: the first is for words, also for twice as many as a state has, the last three are for bytes.
-static const size_t pages[BUFFERS] = {8, 1, 1, 1, 1, 64, 64, 64};
-
-// A buffer is some pages with a page on either side that may not be touched. What is lent lies at its end or at its beginning; the rest holds FILLING.
-static struct buffer {
-    unsigned char *pages;
-    size_t size, at, lent;
-} buffers[BUFFERS];
-
-static unsigned char filling[64 * 65536];
-
-static void make_buffers(void) {
-    size_t page = (size_t)sysconf(_SC_PAGESIZE);
-    memset(filling, FILLING, sizeof filling);
-    for (int k = 0; k < BUFFERS; k++) {
-        size_t size = pages[k] * page;
-        unsigned char *all = mmap(NULL, size + 2 * page, PROT_NONE, MAP_PRIVATE | MAP_ANONYMOUS, -1, 0);
-        if (all == MAP_FAILED || size > sizeof filling || mprotect(all + page, size, PROT_READ | PROT_WRITE) != 0) {
-            fprintf(stderr, "driver: no memory\n");
-            exit(1);
-        }
-        buffers[k].pages = all + page;
-        buffers[k].size = size;
-        memset(buffers[k].pages, FILLING, buffers[k].size);
-    }
-}
-
-// The bytes that are lent of a buffer.
-unsigned char *lend(int buffer, size_t bytes, bool at_end) {
-    struct buffer *b = &buffers[buffer];
-    if (bytes > b->size) {
-        fprintf(stderr, "driver: a buffer is too small\n");
-        exit(1);
-    }
-    b->at = at_end ? b->size - bytes : 0;
-    b->lent = bytes;
-    return b->pages + b->at;
-}
-
-// Whether nothing but what was lent was written.
-bool take_back(int buffer) {
-    struct buffer *b = &buffers[buffer];
-    size_t after = b->at + b->lent;
-    bool same = memcmp(b->pages, filling, b->at) == 0 && memcmp(b->pages + after, filling, b->size - after) == 0;
-    memset(b->pages + b->at, FILLING, b->lent);
-    b->at = b->lent = 0;
-    return same;
-}
+// How many pages each buffer has: the first is for words, also for twice as many as a state has, the last three are for bytes.
+static const size_t pages[] = {8, 1, 1, 1, 1, 64, 64, 64};
 
 uint64_t call_from_c(const struct call *c) {
     switch (c->which) {
@@ -170,27 +114,6 @@ uint64_t simulate_from_c(size_t n, uint32_t spacing, uint32_t steps, uint32_t se
     return lemidrosy_simulate(n, spacing, steps, seed, figures, length);
 }
 
-// Memory that was not lent was touched: the call is named, which the seed gives again.
-static volatile uint64_t call_now;
-
-void about_to(uint64_t call) {
-    call_now = call;
-}
-
-static void touched(int signal) {
-    char text[80];
-    (void)signal;
-    int size = snprintf(text, sizeof text, "call %llu: it touches memory that was not lent\n", (unsigned long long)call_now);
-    if (write(STDOUT_FILENO, text, (size_t)size) < 0)
-        _exit(2);
-    _exit(1);
-}
-
-// The oracle makes many small vectors: no stack is kept of each.
-const char *__asan_default_options(void) {
-    return "handle_segv=0:handle_sigbus=0:detect_leaks=0:malloc_context_size=0:quarantine_size_mb=1:max_malloc_fill_size=0:intercept_memcmp=0";
-}
-
 int main(int count, char **words) {
     bool programs = count == 4 && strcmp(words[1], "programs") == 0;
     bool recorded = count == 4 && strcmp(words[1], "recorded") == 0;
@@ -198,9 +121,8 @@ int main(int count, char **words) {
         fprintf(stderr, "usage: driver [programs | recorded] COUNT SEED\n");
         return 2;
     }
-    make_buffers();
-    signal(SIGSEGV, touched);
-    signal(SIGBUS, touched);
+    make_buffers(pages, sizeof pages / sizeof pages[0]);
+    watch();
     uint64_t many = strtoull(words[count - 2], NULL, 10);
     uint64_t seed = strtoull(words[count - 1], NULL, 10);
     return (programs ? hold_programs(seed, many) : recorded ? hold_recorded(seed, many) : hold_calls(seed, many)) ? 0 : 1;

@@ -2,12 +2,16 @@
 //! into `driver.c`, which has the buffers that are lent and calls the library from
 //! C; every second call is made here, from Rust.
 //!
+//! * `guarded`: the buffers that are lent.
 //! * `programs`: what works on no state.
 //! * `recorded`: the calls through the recorder.
 
+#[path = "../guarded.rs"]
+mod guarded;
 mod programs;
 mod recorded;
 
+use guarded::{about_to, lent, returned, take_back};
 use oracle::calls::hold::{hold, place, Library, Tally, CALLS};
 use oracle::calls::{Call, Lists};
 use std::ffi::c_int;
@@ -30,12 +34,9 @@ struct Lent {
     sums_len: usize,
 }
 
-// The buffers of `driver.c`, and the library called from there.
+// The library, called from `driver.c`.
 extern "C" {
-    fn lend(buffer: c_int, bytes: usize, at_end: bool) -> *mut u8;
-    fn take_back(buffer: c_int) -> bool;
     fn call_from_c(call: *const Lent) -> u64;
-    fn about_to(call: u64);
     static absent_calls: u32;
 }
 
@@ -85,28 +86,6 @@ struct Archive {
     calls: u64,
 }
 
-/// A copy of a list in a lent buffer, three times in four at its end. An empty one
-/// may have a null pointer.
-fn lent<T: Copy>(buffer: c_int, list: &[T], how: u64) -> *mut T {
-    if list.is_empty() && how & 1 == 0 {
-        return std::ptr::null_mut();
-    }
-    let bytes = std::mem::size_of_val(list);
-    // Safety: the buffer has room for so many bytes, and nobody else writes it.
-    unsafe {
-        let to = lend(buffer, bytes, how & 6 != 6).cast::<T>();
-        std::ptr::copy_nonoverlapping(list.as_ptr(), to, list.len());
-        to
-    }
-}
-
-fn returned<T: Copy>(from: *const T, list: &mut [T]) {
-    if !list.is_empty() {
-        // Safety: `lent` has put as many there.
-        unsafe { std::ptr::copy_nonoverlapping(from, list.as_mut_ptr(), list.len()) }
-    }
-}
-
 impl Library for Archive {
     fn has(&self, call: usize) -> bool {
         // Safety: nobody writes it.
@@ -114,28 +93,7 @@ impl Library for Archive {
     }
 
     fn fitted(&self, call: Call) -> Call {
-        let cut = |number: u64| number & u64::from(u32::MAX);
-        match call {
-            Call::Deliver { number } => Call::Deliver {
-                number: cut(number),
-            },
-            Call::Lose { number } => Call::Lose {
-                number: cut(number),
-            },
-            Call::Line { failed } => Call::Line {
-                failed: cut(failed),
-            },
-            Call::Recover { failed } => Call::Recover {
-                failed: cut(failed),
-            },
-            Call::Lost { failed } => Call::Lost {
-                failed: cut(failed),
-            },
-            Call::Carried { number } => Call::Carried {
-                number: cut(number),
-            },
-            _ => call,
-        }
+        call.fitted()
     }
 
     fn call(&mut self, call: Call, words: &mut [u16], lists: &mut Lists) -> Result<u64, String> {

@@ -2,7 +2,8 @@
 //! oracle: the judge of a trace (Note 7), the merge of two halves (Note 12), a
 //! simulation (Note 10).
 
-use crate::{lent, returned, take_back, SUMS};
+use crate::guarded::{about_to, lent, returned, take_back};
+use crate::SUMS;
 use oracle::calls::draw::Draws;
 use oracle::generate::trace_in;
 use oracle::halves::draw::drawn;
@@ -31,7 +32,6 @@ extern "C" {
         figures: *mut u64,
         length: usize,
     ) -> u64;
-    fn about_to(call: u64);
 }
 
 /// The numbers of `driver.c`'s buffers for bytes.

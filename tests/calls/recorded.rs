@@ -4,7 +4,8 @@
 //! refusals more: 21, where the record has no room and the call would be
 //! accepted, and 3, where no place is lent.
 
-use crate::{about_to, lent, numbers, returned, take_back, Archive, Lent};
+use crate::guarded::{about_to, lent, returned, take_back};
+use crate::{numbers, Archive, Lent};
 use crate::{DELETIONS, LINE, NUMBERS, SUMS, WORDS};
 use oracle::calls::draw::Draws;
 use oracle::calls::hold::{hold, place, Library, CALLS};

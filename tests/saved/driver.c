@@ -4,61 +4,13 @@
 //
 // Built with the address and undefined-behaviour sanitizers. The status is 0 if COUNT calls were made and each did what the oracle says.
 #define _GNU_SOURCE
-#include <signal.h>
-#include <stdio.h>
-#include <stdlib.h>
-#include <string.h>
-#include <sys/mman.h>
-#include <unistd.h>
-
+#include "../guarded.h"
 #include "lemidrosy.h"
 
 bool hold_saved(uint64_t seed, uint64_t count);
 
-enum { WORDS = 0, BYTES = 1, PAGES = 8, FILLING = 0xa5 };
-
-// The words and the bytes: each some pages with a page on either side that may not be touched. What is lent lies at their end or at their beginning; the rest holds FILLING.
-static struct buffer {
-    unsigned char *pages;
-    size_t size, at, lent;
-} buffers[2];
-
-static void make_buffers(void) {
-    size_t page = (size_t)sysconf(_SC_PAGESIZE);
-    for (int k = WORDS; k <= BYTES; k++) {
-        unsigned char *all = mmap(NULL, (PAGES + 2) * page, PROT_NONE, MAP_PRIVATE | MAP_ANONYMOUS, -1, 0);
-        if (all == MAP_FAILED || mprotect(all + page, PAGES * page, PROT_READ | PROT_WRITE) != 0) {
-            fprintf(stderr, "driver: no memory\n");
-            exit(1);
-        }
-        buffers[k].pages = all + page;
-        buffers[k].size = PAGES * page;
-        memset(buffers[k].pages, FILLING, buffers[k].size);
-    }
-}
-
-// The bytes that are lent of a buffer.
-unsigned char *lend(int buffer, size_t bytes, bool at_end) {
-    struct buffer *b = &buffers[buffer];
-    if (bytes > b->size) {
-        fprintf(stderr, "driver: a buffer is too small\n");
-        exit(1);
-    }
-    b->at = at_end ? b->size - bytes : 0;
-    b->lent = bytes;
-    return b->pages + b->at;
-}
-
-// Whether nothing but what was lent was written.
-bool take_back(int buffer) {
-    struct buffer *b = &buffers[buffer];
-    bool same = true;
-    for (size_t k = 0; k < b->size; k++)
-        same = same && ((k >= b->at && k < b->at + b->lent) || b->pages[k] == FILLING);
-    memset(b->pages, FILLING, b->size);
-    b->at = b->lent = 0;
-    return same;
-}
+// How many pages each buffer has: for the words and for the bytes.
+static const size_t pages[] = {8, 8};
 
 uint64_t save_from_c(const uint16_t *words, size_t words_length, uint8_t *bytes, size_t bytes_length) {
     return lemidrosy_save(words, words_length, bytes, bytes_length);
@@ -68,33 +20,12 @@ uint64_t load_from_c(const uint8_t *bytes, size_t bytes_length, uint16_t *words,
     return lemidrosy_load(bytes, bytes_length, words, words_length);
 }
 
-// Memory that was not lent was touched: the call is named, which the seed gives again.
-static volatile uint64_t call_now;
-
-void about_to(uint64_t call) {
-    call_now = call;
-}
-
-static void touched(int signal) {
-    char text[80];
-    (void)signal;
-    int size = snprintf(text, sizeof text, "call %llu: it touches memory that was not lent\n", (unsigned long long)call_now);
-    if (write(STDOUT_FILENO, text, (size_t)size) < 0)
-        _exit(2);
-    _exit(1);
-}
-
-const char *__asan_default_options(void) {
-    return "handle_segv=0:handle_sigbus=0:detect_leaks=0:malloc_context_size=0:quarantine_size_mb=1:max_malloc_fill_size=0:intercept_memcmp=0";
-}
-
 int main(int count, char **words) {
     if (count != 3) {
         fprintf(stderr, "usage: driver COUNT SEED\n");
         return 2;
     }
-    make_buffers();
-    signal(SIGSEGV, touched);
-    signal(SIGBUS, touched);
+    make_buffers(pages, sizeof pages / sizeof pages[0]);
+    watch();
     return hold_saved(strtoull(words[2], NULL, 10), strtoull(words[1], NULL, 10)) ? 0 : 1;
 }

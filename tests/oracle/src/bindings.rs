@@ -362,7 +362,7 @@ impl Writer {
     fn call(&mut self) {
         let state = self.run.as_ref().map(Run::state);
         loop {
-            let call = fitted(draw::call(&mut self.draws, &self.habits, state.as_ref()));
+            let call = draw::call(&mut self.draws, &self.habits, state.as_ref()).fitted();
             // some of those that are seldom drawn
             let call = match call {
                 Call::Lose { number } if self.draws.once_in(4) => Call::Carried { number },
@@ -412,33 +412,6 @@ impl Writer {
 fn write_line(page: &mut String, line: &str) {
     page.push_str(line);
     page.push('\n');
-}
-
-/// A call with numbers that its parameters have room for: 32 bits of a message
-/// and of a failed set.
-fn fitted(call: Call) -> Call {
-    let cut = |number: u64| number & u64::from(u32::MAX);
-    match call {
-        Call::Deliver { number } => Call::Deliver {
-            number: cut(number),
-        },
-        Call::Lose { number } => Call::Lose {
-            number: cut(number),
-        },
-        Call::Line { failed } => Call::Line {
-            failed: cut(failed),
-        },
-        Call::Recover { failed } => Call::Recover {
-            failed: cut(failed),
-        },
-        Call::Lost { failed } => Call::Lost {
-            failed: cut(failed),
-        },
-        Call::Carried { number } => Call::Carried {
-            number: cut(number),
-        },
-        _ => call,
-    }
 }
 
 /// All that can be read of a run.

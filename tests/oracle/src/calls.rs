@@ -68,6 +68,33 @@ pub enum Call {
 }
 
 impl Call {
+    /// The call with numbers that its parameters in C have room for: 32 bits of a
+    /// message and of a failed set.
+    pub fn fitted(self) -> Call {
+        let cut = |number: u64| number & u64::from(u32::MAX);
+        match self {
+            Call::Deliver { number } => Call::Deliver {
+                number: cut(number),
+            },
+            Call::Lose { number } => Call::Lose {
+                number: cut(number),
+            },
+            Call::Line { failed } => Call::Line {
+                failed: cut(failed),
+            },
+            Call::Recover { failed } => Call::Recover {
+                failed: cut(failed),
+            },
+            Call::Lost { failed } => Call::Lost {
+                failed: cut(failed),
+            },
+            Call::Carried { number } => Call::Carried {
+                number: cut(number),
+            },
+            _ => self,
+        }
+    }
+
     /// It leaves every word as it is, accepted or refused.
     fn only_reads(self) -> bool {
         !matches!(
