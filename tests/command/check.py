@@ -718,6 +718,9 @@ class Programs(Case):
         self.prints("0 1\n", "replay", status=1, given=b"\x11", says="refused 1:")
         self.prints("1 13\n", "replay", status=1, given=b"\x02abc", says="refused 13")
 
+    def test_exam(self):
+        self.assertEqual(self.same("exam", ()), (0, ""))
+
     def test_lines_that_are_due_stand_there(self):
         """What came in is replayed before more comes."""
         with subprocess.Popen([sys.executable, "-m", "lemidrosy", "replay"], stdin=subprocess.PIPE, stdout=subprocess.PIPE) as running:

@@ -7,7 +7,7 @@ import signal
 import sys
 from typing import List, NoReturn, Optional, Sequence
 
-from . import __version__, convert, draw, explain, lines, programs, simulation
+from . import __version__, convert, draw, exam, explain, lines, programs, simulation
 from .answers import Refused
 from .files import INTERRUPTED, REFUSED, SYSTEM, USAGE, Stop
 from .library import LibraryError
@@ -52,6 +52,7 @@ def parser() -> Parser:
         programs.add_judge,
         programs.add_merge,
         simulation.add,
+        exam.add,
     ):
         add(added)
     return command
