@@ -1,0 +1,153 @@
+-- The tables of the state that words stand for, as loops fill them.
+-- Assumes nothing.
+use mathlib.Core.Path.{_≡_, refl, sym, _∙_, ap}
+use mathlib.Core.Bool.{Bool, true, false, _&&_, not, false≢true}
+use mathlib.Core.List.{List, [], _∷_, _++_, append-nil}
+use Prim.Native.Nat.{ℕ, _+_, _*_, _/_, _%_, _≤_, _<_}
+use native.Mathlib.Numerals.{add-one}
+use native.Mathlib.Omega.{arith}
+use lib.Dec.{eqb, ltb}
+use lib.ListN.{length, getD, set, replicate, length-replicate, getD-replicate, length-append}
+use borrow.Author.Tests.{lt-ltb, le-ltb, ne-eqb}
+use Rattle.laws.specs.Choice.{pick, by-eq}
+use Rattle.laws.specs.Lists.{select, table, placed}
+use Rattle.laws.specs.Loops.{setBelow, below-length, below-above, below-at}
+use Rattle.laws.specs.Prefixes.{placed-more}
+use Rattle.laws.specs.Rows.{by-lt}
+use Rattle.laws.specs.Select.{select-append, select-one, select-length}
+use Rattle.laws.specs.Tables.{length-table, getD-table, table-is, table-same, table-set, table-replicate}
+use Rattle.laws.specs.Update.{upd, upd-same, upd-other}
+use Rattle.model.specs.declared.Checkpoint.{Checkpoint}
+use Rattle.model.specs.declared.Message.{Message}
+use Rattle.model.specs.Words.{places, noCheckpoint, noMessage}
+use Rattle.laws.specs.Truth.{and-out}
+use Rattle.words.specs.Layout.{word, heldAt, indexAt, countOf, checkpointIn, isKeptIn, keptIn, messageIn, isMessage, ofProcesses}
+
+-- A row for each process.
+pub rows-of : {A : Type 0} (w : List ℕ) (n : ℕ) (part : ℕ → A) (unused : A) → n ≡ countOf w → n ≤ 16 → setBelow n part (replicate 16 unused) ≡ ofProcesses w part unused
+rows-of {A} w n part unused e few =
+    let long : length (replicate 16 unused) ≡ 16 = length-replicate 16 unused in
+    table-is unused (setBelow n part (replicate 16 unused)) 16 (λ p. pick (ltb p (countOf w)) (part p) unused) (below-length part (replicate 16 unused) n ∙ long)
+    (λ p lt. by-lt p n
+    (λ less. below-at part (replicate 16 unused) n p unused less (omega (arith, long)) ∙ sym (ap (λ (b : Bool). pick b (part p) unused) (lt-ltb p (countOf w) (omega arith))))
+    (λ le. below-above part (replicate 16 unused) n p unused le ∙ getD-replicate 16 p unused unused lt ∙ sym (ap (λ (b : Bool). pick b (part p) unused) (le-ltb p (countOf w) (omega arith)))))
+
+-- The kept checkpoints of the first q places, of all processes.
+module _ (w : List ℕ) where
+  abbrev placeAt : ℕ → ℕ → ℕ → Checkpoint
+  placeAt q p k = pick (ltb (16 * p + k) q && isKeptIn w p k) (checkpointIn w p k) noCheckpoint
+
+  unfoldable pub soFar : ℕ → List (List Checkpoint)
+  soFar q = table 16 (λ p. table 16 (placeAt q p))
+
+  pub so-far-length : (q : ℕ) → length (soFar q) ≡ 16
+  unfolding soFar
+  so-far-length q = length-table 16 _
+
+  pub so-far-row : (q p : ℕ) → p < 16 → length (getD (soFar q) p []) ≡ 16
+  unfolding soFar
+  so-far-row q p lt = ap length (getD-table 16 (λ j. table 16 (placeAt q j)) p [] lt) ∙ length-table 16 _
+
+  pub so-far-none : replicate 16 (replicate 16 noCheckpoint) ≡ soFar 0
+  unfolding soFar
+  so-far-none =
+      table-replicate 16 (replicate 16 noCheckpoint)
+      ∙ table-same 16 (λ p. replicate 16 noCheckpoint) (λ p. table 16 (placeAt 0 p))
+      (λ p lt. table-replicate 16 noCheckpoint ∙ table-same 16 (λ k. noCheckpoint) (placeAt 0 p) (λ k less. sym (ap (λ (b : Bool). pick (b && isKeptIn w p k) (checkpointIn w p k) noCheckpoint) (le-ltb (16 * p + k) 0 (omega arith)))))
+
+  -- A place that is not the next one.
+  further : (m q : ℕ) → (m ≡ q → ⊥) → ltb m q ≡ ltb m (q + 1)
+  further m q ne = by-lt m q (λ lt. lt-ltb m q lt ∙ sym (lt-ltb m (q + 1) (omega arith))) (λ le. le-ltb m q le ∙ sym (le-ltb m (q + 1) (omega arith)))
+
+  same-place : (q p k : ℕ) → (16 * p + k ≡ q → ⊥) → placeAt q p k ≡ placeAt (q + 1) p k
+  same-place q p k ne = ap (λ (b : Bool). pick (b && isKeptIn w p k) (checkpointIn w p k) noCheckpoint) (further (16 * p + k) q ne)
+
+  module _ (q : ℕ) (under : q < 256) where
+    new-place : isKeptIn w (q / 16) (q % 16) ≡ true → checkpointIn w (q / 16) (q % 16) ≡ placeAt (q + 1) (q / 16) (q % 16)
+    new-place used = sym (rw (lt-ltb (16 * (q / 16) + q % 16) (q + 1) (omega arith), used))
+
+    row-set : isKeptIn w (q / 16) (q % 16) ≡ true → (k : ℕ) → k < 16
+        → upd (placeAt q (q / 16)) (q % 16) (checkpointIn w (q / 16) (q % 16)) k ≡ placeAt (q + 1) (q / 16) k
+    row-set used k lt = by-eq k (q % 16)
+        (λ e. rw e (upd-same (placeAt q (q / 16)) (q % 16) (checkpointIn w (q / 16) (q % 16)) ∙ new-place used))
+        (λ ne. upd-other (placeAt q (q / 16)) (q % 16) (checkpointIn w (q / 16) (q % 16)) k ne ∙ same-place q (q / 16) k (λ e. ne (omega arith)))
+
+    pub so-far-set : isKeptIn w (q / 16) (q % 16) ≡ true
+        → set (soFar q) (q / 16) (set (getD (soFar q) (q / 16) []) (q % 16) (checkpointIn w (q / 16) (q % 16))) ≡ soFar (q + 1)
+    unfolding soFar
+    so-far-set used =
+        let p = q / 16 in
+        let k = q % 16 in
+        let c = checkpointIn w (q / 16) (q % 16) in
+        ap (λ (r : List Checkpoint). set (table 16 (λ j. table 16 (placeAt q j))) (q / 16) (set r (q % 16) c)) (getD-table 16 (λ j. table 16 (placeAt q j)) (q / 16) [] (omega arith))
+        ∙ ap (λ (r : List Checkpoint). set (table 16 (λ j. table 16 (placeAt q j))) (q / 16) r) (table-set 16 (placeAt q (q / 16)) (q % 16) c ∙ table-same 16 (upd (placeAt q (q / 16)) (q % 16) c) (placeAt (q + 1) (q / 16)) (row-set used))
+        ∙ table-set 16 (λ j. table 16 (placeAt q j)) (q / 16) (table 16 (placeAt (q + 1) (q / 16)))
+        ∙ table-same 16 (upd (λ j. table 16 (placeAt q j)) (q / 16) (table 16 (placeAt (q + 1) (q / 16)))) (λ j. table 16 (placeAt (q + 1) j))
+        (λ j lt. by-eq j (q / 16)
+        (λ e. rw e (upd-same (λ i. table 16 (placeAt q i)) (q / 16) (table 16 (placeAt (q + 1) (q / 16)))))
+        (λ ne. upd-other (λ i. table 16 (placeAt q i)) (q / 16) (table 16 (placeAt (q + 1) (q / 16))) j ne
+        ∙ table-same 16 (placeAt q j) (placeAt (q + 1) j) (λ i less. same-place q j i (λ e. ne (omega arith)))))
+
+    pub so-far-turn : (kept : List (List Checkpoint)) (c : Checkpoint) → kept ≡ soFar q → c ≡ checkpointIn w (q / 16) (q % 16) → isKeptIn w (q / 16) (q % 16) ≡ true
+        → set kept (q / 16) (set (getD kept (q / 16) []) (q % 16) c) ≡ soFar (q + 1)
+    so-far-turn kept c e f used = rw (e, f) (so-far-set used)
+
+    none-place : isKeptIn w (q / 16) (q % 16) ≡ false → (b : Bool) → pick (b && isKeptIn w (q / 16) (q % 16)) (checkpointIn w (q / 16) (q % 16)) noCheckpoint ≡ noCheckpoint
+    none-place unused true = rw unused
+    none-place unused false = refl
+
+    pub so-far-keep : isKeptIn w (q / 16) (q % 16) ≡ false → soFar q ≡ soFar (q + 1)
+    unfolding soFar
+    so-far-keep unused = table-same 16 (λ j. table 16 (placeAt q j)) (λ j. table 16 (placeAt (q + 1) j))
+        (λ j lt. table-same 16 (placeAt q j) (placeAt (q + 1) j)
+        (λ i less. by-eq (16 * j + i) q
+        (λ e. let a : j ≡ q / 16 = omega arith in let b : i ≡ q % 16 = omega arith in
+        rw (a, b) (none-place unused (ltb (16 * (q / 16) + q % 16) q) ∙ sym (none-place unused (ltb (16 * (q / 16) + q % 16) (q + 1)))))
+        (λ ne. same-place q j i ne)))
+
+  pub so-far-all : (n : ℕ) → n ≡ countOf w → n ≤ 16 → soFar (16 * n) ≡ ofProcesses w (keptIn w) (replicate places noCheckpoint)
+  unfolding soFar keptIn
+  so-far-all n e few = table-same 16 (λ p. table 16 (placeAt (16 * n) p)) (λ p. pick (ltb p (countOf w)) (table 16 (λ k. pick (isKeptIn w p k) (checkpointIn w p k) noCheckpoint)) (replicate places noCheckpoint))
+      (λ p lt. by-lt p n
+      (λ less. table-same 16 (placeAt (16 * n) p) (λ k. pick (isKeptIn w p k) (checkpointIn w p k) noCheckpoint)
+      (λ k under. ap (λ (b : Bool). pick (b && isKeptIn w p k) (checkpointIn w p k) noCheckpoint) (lt-ltb (16 * p + k) (16 * n) (omega arith)))
+      ∙ sym (ap (λ (b : Bool). pick b (table 16 (λ k. pick (isKeptIn w p k) (checkpointIn w p k) noCheckpoint)) (replicate places noCheckpoint)) (lt-ltb p (countOf w) (omega arith))))
+      (λ le. table-same 16 (placeAt (16 * n) p) (λ k. noCheckpoint)
+      (λ k under. ap (λ (b : Bool). pick (b && isKeptIn w p k) (checkpointIn w p k) noCheckpoint) (le-ltb (16 * p + k) (16 * n) (omega arith)))
+      ∙ sym (table-replicate 16 noCheckpoint)
+      ∙ sym (ap (λ (b : Bool). pick b (table 16 (λ k. pick (isKeptIn w p k) (checkpointIn w p k) noCheckpoint)) (replicate places noCheckpoint)) (le-ltb p (countOf w) (omega arith)))))
+
+  -- A place in use has an index.
+  pub kept-some : (p k : ℕ) → isKeptIn w p k ≡ true → 1 ≤ word w (indexAt p k)
+  unfolding isKeptIn
+  kept-some p k used = by-eq (word w (indexAt p k)) 0
+      (λ e. absurd (false≢true (rw e at (and-out (ltb k (word w (heldAt p))) (not (eqb (word w (indexAt p k)) 0)) used .1))))
+      (λ ne. omega arith)
+
+  -- The messages of the first k places.
+  abbrev pub mail : ℕ → List Message
+  mail k = select isMessage (table k (messageIn w))
+
+  mail-more : (k : ℕ) → mail (k + 1) ≡ mail k ++ pick (isMessage (messageIn w k)) (messageIn w k ∷ []) []
+  unfolding table
+  mail-more k = rw (add-one k) (select-append isMessage (table k (messageIn w)) (messageIn w k ∷ []) ∙ ap (λ (l : List Message). mail k ++ l) (select-one isMessage (messageIn w k)))
+
+  pub mail-few : (k : ℕ) → length (mail k) ≤ k
+  mail-few k = omega (arith, select-length isMessage (table k (messageIn w)), length-table k (messageIn w))
+
+  module _ (k many : ℕ) (messages : List Message) (x : Message) (room : k < 64) (here : x ≡ messageIn w k) (so-many : many ≡ length (mail k)) (laid : messages ≡ placed 64 noMessage (mail k)) where
+    pub mail-yes : (x .number ≡ 0 → ⊥) → (many + 1 ≡ length (mail (k + 1))) × (set messages many x ≡ placed 64 noMessage (mail (k + 1)))
+    unfolding isMessage
+    mail-yes some =
+        let used : not (eqb (messageIn w k .number) 0) ≡ true = ap (λ (m : Message). not (eqb (m .number) 0)) (sym here) ∙ ap not (ne-eqb (x .number) 0 some) in
+        let e : mail (k + 1) ≡ mail k ++ (messageIn w k ∷ []) = mail-more k ∙ ap (λ (b : Bool). mail k ++ pick b (messageIn w k ∷ []) []) used in (
+          ap (λ (n : ℕ). n + 1) so-many ∙ sym (ap length e ∙ length-append (mail k) (messageIn w k ∷ [])),
+          rw (laid, so-many, here) (placed-more 64 noMessage (mail k) (messageIn w k) (omega (arith, mail-few k)) ∙ ap (placed 64 noMessage) (sym e)),
+        )
+
+    pub mail-no : x .number ≡ 0 → (many ≡ length (mail (k + 1))) × (messages ≡ placed 64 noMessage (mail (k + 1)))
+    unfolding isMessage
+    mail-no none =
+        let unused : not (eqb (messageIn w k .number) 0) ≡ false = ap (λ (m : Message). not (eqb (m .number) 0)) (sym here) ∙ ap (λ (n : ℕ). not (eqb n 0)) none in
+        let e : mail (k + 1) ≡ mail k = mail-more k ∙ ap (λ (b : Bool). mail k ++ pick b (messageIn w k ∷ []) []) unused ∙ append-nil (mail k) in
+        (so-many ∙ ap length (sym e), laid ∙ ap (placed 64 noMessage) (sym e))

@@ -1,0 +1,61 @@
+-- `run_words::fill::put_kept` meets its contract. Assumes nothing.
+use mathlib.Core.Path.{_≡_, refl, _∙_}
+use native.Mathlib.Omega.{arith}
+use Prim.Native.Nat.{_≤_, _-_, _/_, _%_}
+use lib.ListN.{length, getD}
+use mathlib.Core.List.{[]}
+use Rattle.laws.specs.Below.{all-and}
+use Rattle.laws.specs.Loops.{iter, iter-none, iter-more, all-zero}
+use Rattle.laws.specs.Search.{allBelow}
+use Rattle.model.specs.Words.{pastEnd}
+use Rattle.run_words.specs.Fits.{placeFits, keptFits}
+use Rattle.run_words.specs.Filled.{keptFilled}
+use borrow.Author.Needs.{needs}
+use Rattle.run_words.proofs.fill.put_kept.Statement.{statement}
+use Rattle.run_words.proofs.fill.put_kept.Tie as tie
+
+abbrev Inv-loop : tie.InvT-loop
+Inv-loop w₀ kept held all₀ q₀ w all q =
+    (q ≤ 256) × (length w ≡ length w₀)
+    × (all ≡ allBelow q (λ j. placeFits (j % 16) (getD held (j / 16) 0) (getD (getD kept (j / 16) []) 0 pastEnd .blocks) (getD (getD kept (j / 16) []) (j % 16) pastEnd)))
+    × (w ≡ iter q (keptFilled kept held) w₀)
+
+abbrev μ-loop : tie.MeasureT-loop
+μ-loop w₀ kept held all₀ q₀ w all q = 256 - q
+
+loop-holds : tie.Need-loop-holds Inv-loop μ-loop
+loop-holds c = (search needs, refl, all-zero _, iter-none _ _)
+
+put-place-requires : tie.Need-put-place-requires Inv-loop μ-loop
+put-place-requires c κs = let x = c .before .before .before .before in (x .loop .inv .1 ∙ x .before .before .pre, search needs, search needs)
+
+loop-again : tie.Need-loop-again Inv-loop μ-loop
+unfolding keptFilled
+loop-again c =
+    let u = c .before .before in
+    let x = u .before .before .before .before .before in
+    let l = x .loop in
+    let a = x .before .before .args in (
+      search needs,
+      u .put-place .kept .0 ∙ l .inv .1,
+      all-and (λ j. placeFits (j % 16) (getD (a .t3) (j / 16) 0) (getD (getD (a .t2) (j / 16) []) 0 pastEnd .blocks) (getD (getD (a .t2) (j / 16) []) (j % 16) pastEnd)) (l .q) (l .all) _ (l .inv .2) (u .put-place .ensures .0),
+      iter-more (keptFilled (a .t2) (a .t3)) (a .w .now) (l .w) (l .q) _ (l .inv .3) (u .put-place .ensures .1),
+    )
+
+same-length : tie.Need-same-length Inv-loop μ-loop
+same-length c = c .before .loop .inv .1
+
+returns : tie.Need-returns Inv-loop μ-loop
+unfolding keptFits
+returns c =
+    let l = c .before .loop in
+    let e : l .q ≡ 256 = omega arith in
+    (rw e at (l .inv .2), rw e at (l .inv .3))
+
+pub put-kept-spec : {M : Type 1} → statement M
+put-kept-spec =
+    tie.close
+    (tie.spec
+    Inv-loop μ-loop loop-holds (λ c. search needs) (λ c. search needs) (λ c. search needs) (λ c. search needs) (λ c. search needs)
+    (λ c. search needs) (λ c. search needs) (λ c. search needs) (λ c. search needs) put-place-requires (λ c. search needs) (λ c. search needs)
+    loop-again same-length returns)

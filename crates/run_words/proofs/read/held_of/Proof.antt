@@ -1,0 +1,39 @@
+-- `run_words::read::held_of` meets its contract. Assumes nothing.
+use Prim.Native.Nat.{_≤_, _-_}
+use mathlib.Core.Path.{_≡_, _∙_}
+use native.Mathlib.Omega.{arith}
+use Rattle.laws.specs.Loops.{setBelow, below-none, turn-set}
+use Rattle.words.specs.Layout.{word, heldAt}
+use Rattle.run_words.proofs.Tables.{rows-of}
+use borrow.Author.Needs.{needs}
+use Rattle.run_words.proofs.read.held_of.Statement.{statement}
+use Rattle.run_words.proofs.read.held_of.Tie as tie
+
+abbrev Inv-loop : tie.InvT-loop
+Inv-loop w n held₀ p₀ held p = (p ≤ n) × (held ≡ setBelow p (λ q. word w (heldAt q)) held₀)
+
+abbrev μ-loop : tie.MeasureT-loop
+μ-loop w n held₀ p₀ held p = n - p
+
+loop-holds : tie.Need-loop-holds Inv-loop μ-loop
+loop-holds c = (search needs, below-none _ _)
+
+loop-again : tie.Need-loop-again Inv-loop μ-loop
+loop-again c =
+    let l = c .before .before .before .loop in
+    let a = c .before .before .before .before .before .args in
+    (search needs, turn-set (λ q. word (a .w .now) (heldAt q)) _ (l .held) (l .p) (l .inv .1) _ (c .number-of .ensures))
+
+returns : tie.Need-returns Inv-loop μ-loop
+returns c =
+    let l = c .before .loop in
+    let s = c .before .before .before in
+    let e : l .p ≡ s .args .n = omega arith in
+    rw e at (l .inv .1) ∙ rows-of (s .args .w .now) (s .args .n) (λ q. word (s .args .w .now) (heldAt q)) 0 (s .pre .1) (s .pre .2)
+
+pub held-of-spec : {M : Type 1} → statement M
+held-of-spec =
+    tie.close
+    (tie.spec
+    Inv-loop μ-loop loop-holds (λ c. search needs) (λ c. search needs) (λ c. search needs) (λ c κs. search needs) (λ c. search needs)
+    (λ c. search needs) (λ c. search needs) (λ c. search needs) loop-again returns)

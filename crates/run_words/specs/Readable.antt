@@ -1,0 +1,14 @@
+-- Words that stand for a state of the declared type: what a call in place leaves of words that stand for a sound one.
+-- Assumes nothing.
+use mathlib.Core.Path.{_≡_}
+use mathlib.Core.Bool.{true}
+use mathlib.Core.List.{List}
+use Prim.Native.Nat.{ℕ, _≤_, _<_}
+use Rattle.words.specs.Layout.{word, countOf, causeAt, isKeptIn, fits}
+
+pub record Readable (w : List ℕ) : Type 0 where
+  pub fit : fits w ≡ true
+  -- A state has rows for 16 processes,
+  pub few : countOf w ≤ 16
+  -- and a cause is a number of 8 bits.
+  pub causes : (p k : ℕ) → p < countOf w → k < 16 → isKeptIn w p k ≡ true → word w (causeAt p k) < 256

@@ -1,0 +1,335 @@
+// Words filled from a state. A state fits its words if, read back, it is the same: specs/Fits says when, and a sound one does. What is left in the words of a state that
+// does not fit is for nobody to read. One pass puts each thing and tests it, so that each is read once.
+use model::Checkpoint;
+use model::CheckpointIndex;
+use model::Disk;
+use model::Interval;
+use model::Message;
+use model::Pin;
+use model::Run;
+use words::places;
+ghost use mathlib.Core.Path.{_≡_};
+ghost use mathlib.Core.Bool.{true};
+ghost use mathlib.Core.List.{[], _∷_};
+ghost use Prim.Native.Nat.{_+_, _≤_, _<_};
+ghost use lib.ListN.{length, getD};
+ghost use Rattle.laws.specs.Choice.{pick};
+ghost use Rattle.laws.specs.Loops.{iter};
+ghost use Rattle.laws.specs.Search.{allBelow};
+ghost use Rattle.model.specs.declared.Pin.the-variants.{Nothing};
+ghost use Rattle.model.specs.Sound.{zeroFrom, isNothing, nothingFrom, unusedCheckpoint, unusedMessage};
+ghost use Rattle.words.specs.Layout.{runOf};
+ghost use Rattle.words.specs.Puts.{puts};
+ghost use Rattle.run_words.specs.Fits.{indexFits, pinFits, messageFits, placeFits, keptFits, rowFits, rowsFit, oneFits, messagesFit, fitsWords};
+ghost use Rattle.run_words.specs.Filled.{pinWord, pinsPut, markWord, checkpointPuts, placeFilled, keptFilled, processPuts, rowFilled, rowsFilled, messagePuts, oneFilled, messagesFilled, numberPuts};
+
+// The index that no word is one above.
+const NO_WORD: u16 = 65535;
+
+// One above the greatest word.
+const WORD: usize = 65536;
+
+// How many places the kept checkpoints of all processes have.
+const PLACES: usize = 256;
+
+fn is_index_fit(index: CheckpointIndex) -> bool
+    ensures { λ r. ⌜ r ≡ indexFits index ⌝ }
+{
+    index.0 != NO_WORD
+}
+
+fn is_pin_fit(pin: Pin) -> bool
+    ensures { λ r. ⌜ r ≡ pinFits pin ⌝ }
+{
+    match pin {
+        Pin::Nothing => true,
+        Pin::At(a) => is_index_fit(a),
+    }
+}
+
+fn word_of_index(index: CheckpointIndex) -> u16
+    ensures { λ r. ⌜ r ≡ pick (indexFits index) (index .0 + 1) 0 ⌝ }
+{
+    if index.0 != NO_WORD { index.0 + 1 } else { 0 }
+}
+
+fn word_of_pin(pin: Pin) -> u16
+    ensures { λ r. ⌜ r ≡ pinWord pin ⌝ }
+{
+    match pin {
+        Pin::Nothing => 0,
+        Pin::At(a) => word_of_index(a),
+    }
+}
+
+fn put_pins(w: &mut [u16], at: usize, pins: [Pin; 16]) -> bool
+    requires { ⌜ at + 16 ≤ length (now w) ⌝ }
+    ensures { λ r. ⌜ (r ≡ allBelow 16 (λ f. pinFits (getD pins f Nothing))) × (now (w .exit) ≡ puts (now (w .entry)) (pinsPut at pins ∷ [])) ⌝ }
+{
+    let mut all = true;
+    for f in 0..words::PROCESSES {
+        let pin = pins[f];
+        let x = word_of_pin(pin);
+        w[at + f] = x;
+        let fit = is_pin_fit(pin);
+        all = all & fit;
+    }
+    all
+}
+
+// What has to be zero is gathered with `|` in one word: a processor then tests several words at a time.
+fn is_zero(vector: [Interval; 16]) -> bool
+    ensures { λ r. ⌜ r ≡ zeroFrom 0 vector ⌝ }
+{
+    let mut any: u16 = 0;
+    for f in 0..words::PROCESSES {
+        let x = vector[f];
+        any = any | x.0;
+    }
+    any == 0
+}
+
+fn is_nothing(pin: Pin) -> bool
+    ensures { λ r. ⌜ r ≡ isNothing pin ⌝ }
+{
+    match pin {
+        Pin::Nothing => true,
+        Pin::At(a) => false,
+    }
+}
+
+fn are_nothing(pins: [Pin; 16]) -> bool
+    ensures { λ r. ⌜ r ≡ nothingFrom 0 pins ⌝ }
+{
+    let mut all = true;
+    for f in 0..words::PROCESSES {
+        let pin = pins[f];
+        let nothing = is_nothing(pin);
+        all = all & nothing;
+    }
+    all
+}
+
+fn is_unused(c: Checkpoint) -> bool
+    ensures { λ r. ⌜ r ≡ unusedCheckpoint c ⌝ }
+{
+    let index = c.index;
+    let vector = c.vector;
+    let zero = is_zero(vector);
+    (index.0 == 0) & zero & (c.cause == 0) & (c.blocks == 0)
+}
+
+fn put_checkpoint(w: &mut [u16], p: usize, k: usize, c: Checkpoint)
+    requires { ⌜ (length (now w) ≡ 6464) × (p < 16) × (k < 16) × (indexFits (c .index) ≡ true) ⌝ }
+    ensures { λ u. ⌜ now (w .exit) ≡ puts (now (w .entry)) (checkpointPuts p k c) ⌝ }
+{
+    let index = c.index;
+    let vector = c.vector;
+    let x = words::pin_word(index);
+    w[places::INDEXES + places::PART * p + k] = x;
+    w[places::CAUSES + places::PART * p + k] = c.cause as u16;
+    words::put_vector(
+        w,
+        places::STORED + places::PART * p + places::ROW * k,
+        vector,
+    );
+}
+
+fn put_place(w: &mut [u16], p: usize, k: usize, c: Checkpoint, held: usize, blocks: u16) -> bool
+    requires { ⌜ (length (now w) ≡ 6464) × (p < 16) × (k < 16) ⌝ }
+    ensures { λ r. ⌜ (r ≡ placeFits k held blocks c) × (now (w .exit) ≡ placeFilled p k held c (now (w .entry))) ⌝ }
+{
+    if k < held {
+        let fit = is_index_fit(c.index);
+        if !fit {
+            return false;
+        }
+        put_checkpoint(w, p, k, c);
+        return c.blocks == blocks;
+    }
+    is_unused(c)
+}
+
+fn put_kept(w: &mut [u16], kept: [[Checkpoint; 16]; 16], held: [usize; 16]) -> bool
+    requires { ⌜ length (now w) ≡ 6464 ⌝ }
+    ensures { λ r. ⌜ (r ≡ keptFits kept held) × (now (w .exit) ≡ iter 256 (keptFilled kept held) (now (w .entry))) ⌝ }
+{
+    let mut all = true;
+    for q in 0..PLACES {
+        let p = q / 16;
+        let k = q % 16;
+        let c = kept[p][k];
+        let first = kept[p][0];
+        let fit = put_place(w, p, k, c, held[p], first.blocks);
+        all = all & fit;
+    }
+    all
+}
+
+fn mark_word(mark: bool) -> u16
+    ensures { λ r. ⌜ r ≡ markWord mark ⌝ }
+{
+    if mark { 1 } else { 0 }
+}
+
+fn put_process(
+    w: &mut [u16],
+    p: usize,
+    vector: [Interval; 16],
+    pins: [Pin; 16],
+    held: usize,
+    blocks: u16,
+    mark: bool,
+) -> bool
+    requires { ⌜ (length (now w) ≡ 6464) × (p < 16) × (held ≤ 16) ⌝ }
+    ensures { λ r. ⌜ (r ≡ allBelow 16 (λ f. pinFits (getD pins f Nothing))) × (now (w .exit) ≡ puts (now (w .entry)) (processPuts p vector pins held blocks mark)) ⌝ }
+{
+    words::put_vector(w, places::PARTS + places::PART * p, vector);
+    let fit = put_pins(w, places::PINS + places::PART * p, pins);
+    w[places::HELD + p] = held as u16;
+    w[places::BLOCKS + p] = blocks;
+    let x = mark_word(mark);
+    w[places::MARKS + p] = x;
+    fit
+}
+
+fn put_row(
+    w: &mut [u16],
+    p: usize,
+    n: usize,
+    vector: [Interval; 16],
+    pins: [Pin; 16],
+    held: usize,
+    blocks: u16,
+    mark: bool,
+) -> bool
+    requires { ⌜ (length (now w) ≡ 6464) × (p < 16) ⌝ }
+    ensures { λ r. ⌜ (r ≡ rowFits p n vector pins held mark) × (now (w .exit) ≡ rowFilled p n vector pins held blocks mark (now (w .entry))) ⌝ }
+{
+    if p < n {
+        if words::PROCESSES < held {
+            return false;
+        }
+        return put_process(w, p, vector, pins, held, blocks, mark);
+    }
+    let zero = is_zero(vector);
+    let nothing = are_nothing(pins);
+    zero & nothing & (held == 0) & !mark
+}
+
+fn put_rows(
+    w: &mut [u16],
+    n: usize,
+    vectors: [[Interval; 16]; 16],
+    pins: [[Pin; 16]; 16],
+    held: [usize; 16],
+    kept: [[Checkpoint; 16]; 16],
+    sent: [bool; 16],
+) -> bool
+    requires { ⌜ length (now w) ≡ 6464 ⌝ }
+    ensures { λ r. ⌜ (r ≡ rowsFit n vectors pins held sent) × (now (w .exit) ≡ iter 16 (rowsFilled n vectors pins held kept sent) (now (w .entry))) ⌝ }
+{
+    let mut all = true;
+    for p in 0..words::PROCESSES {
+        let vector = vectors[p];
+        let row = pins[p];
+        let first = kept[p][0];
+        let mark = sent[p];
+        let fit = put_row(w, p, n, vector, row, held[p], first.blocks, mark);
+        all = all & fit;
+    }
+    all
+}
+
+fn is_message_fit(x: Message) -> bool
+    ensures { λ r. ⌜ r ≡ messageFits x ⌝ }
+{
+    (x.number != 0) & (x.sender < WORD) & (x.receiver < WORD)
+}
+
+fn is_message_unused(x: Message) -> bool
+    ensures { λ r. ⌜ r ≡ unusedMessage x ⌝ }
+{
+    let vector = x.vector;
+    let zero = is_zero(vector);
+    (x.number == 0) & (x.sender == 0) & (x.receiver == 0) & zero
+}
+
+fn put_message(w: &mut [u16], k: usize, x: Message)
+    requires { ⌜ (length (now w) ≡ 6464) × (k < 64) × (x .sender < 65536) × (x .receiver < 65536) ⌝ }
+    ensures { λ u. ⌜ now (w .exit) ≡ puts (now (w .entry)) (messagePuts k x) ⌝ }
+{
+    let number = x.number;
+    let vector = x.vector;
+    w[places::LOWS + k] = (number % 65536) as u16;
+    w[places::HIGHS + k] = (number / 65536) as u16;
+    w[places::SENDERS + k] = x.sender as u16;
+    w[places::RECEIVERS + k] = x.receiver as u16;
+    words::put_vector(w, places::CARRIED + places::ROW * k, vector);
+}
+
+fn put_one(w: &mut [u16], k: usize, x: Message, many: usize) -> bool
+    requires { ⌜ (length (now w) ≡ 6464) × (k < 64) ⌝ }
+    ensures { λ r. ⌜ (r ≡ oneFits k many x) × (now (w .exit) ≡ oneFilled k many x (now (w .entry))) ⌝ }
+{
+    if k < many {
+        let fit = is_message_fit(x);
+        if !fit {
+            return false;
+        }
+        put_message(w, k, x);
+        return true;
+    }
+    is_message_unused(x)
+}
+
+fn put_messages(w: &mut [u16], messages: [Message; 64], many: usize) -> bool
+    requires { ⌜ length (now w) ≡ 6464 ⌝ }
+    ensures { λ r. ⌜ (r ≡ messagesFit many messages) × (now (w .exit) ≡ iter 64 (messagesFilled many messages) (now (w .entry))) ⌝ }
+{
+    let mut all = true;
+    for k in 0..words::MESSAGES {
+        let x = messages[k];
+        let fit = put_one(w, k, x, many);
+        all = all & fit;
+    }
+    all
+}
+
+fn put_numbers(w: &mut [u16], n: usize, many: usize, last: u32, disk: Disk)
+    requires { ⌜ (length (now w) ≡ 6464) × (n ≤ 16) × (many ≤ 64) ⌝ }
+    ensures { λ u. ⌜ now (w .exit) ≡ puts (now (w .entry)) (numberPuts n many last disk) ⌝ }
+{
+    w[places::COUNT] = n as u16;
+    w[places::UNDER_WAY] = many as u16;
+    words::put2(w, places::LAST, last);
+    words::put4(w, places::WRITTEN, disk.written);
+    words::put4(w, places::DELETED, disk.deleted);
+    w[places::END] = many as u16;
+}
+
+pub fn fill(w: &mut [u16], s: Run) -> bool
+    requires { ⌜ length (now w) ≡ 6464 ⌝ }
+    ensures { λ r. ⌜ r ≡ fitsWords s ⌝ }
+    ensures { λ r. ⌜ (r ≡ true → runOf (now (w .exit)) ≡ s) ⌝ }
+{
+    let n = s.count;
+    if words::PROCESSES < n {
+        return false;
+    }
+    let many = s.underway;
+    if words::MESSAGES < many {
+        return false;
+    }
+    let sent = s.sent;
+    let held = s.held;
+    let messages = s.messages;
+    let kept = rows::squares::kept_rows(s.kept);
+    let places_fit = put_kept(w, kept, held);
+    let vectors = rows::squares::vector_rows(s.vectors);
+    let pins = rows::squares::pin_rows(s.pins);
+    let rows_fit = put_rows(w, n, vectors, pins, held, kept, sent);
+    let messages_fit = put_messages(w, messages, many);
+    put_numbers(w, n, many, s.last, s.disk);
+    places_fit & rows_fit & messages_fit
+}

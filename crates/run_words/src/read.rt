@@ -1,0 +1,211 @@
+// The state that words stand for, by value.
+use model::Checkpoint;
+use model::Disk;
+use model::Interval;
+use model::Message;
+use model::Pin;
+use model::Run;
+use words::places;
+ghost use mathlib.Core.Path.{_≡_};
+ghost use mathlib.Core.Bool.{false};
+ghost use Prim.Native.Nat.{_+_, _*_, _≤_, _<_};
+ghost use lib.ListN.{length, replicate};
+ghost use Rattle.laws.specs.Lists.{placed};
+ghost use Rattle.model.specs.Words.{places as rowPlaces, mostUnderWay, zeroVector, noPins, noCheckpoint, noMessage};
+ghost use Rattle.words.specs.Layout.{word, countOf, endOf, heldAt, partAt, pinsAt, indexAt, causeAt, vectorIn, pinsIn, markIn, checkpointIn, isKeptIn, keptIn, messageIn, messagesIn, ofProcesses, runOf};
+ghost use Rattle.run_words.specs.Readable.{Readable};
+
+fn pins_at(w: &[u16], at: usize) -> [Pin; 16]
+    requires { ⌜ at + 16 ≤ length (now w) ⌝ }
+    ensures { λ r. ⌜ r ≡ pinsIn (now (w .entry)) at ⌝ }
+{
+    let none = Pin::Nothing;
+    let mut pins = [none; 16];
+    for f in 0..words::PROCESSES {
+        let pin = words::pin_of(w[at + f]);
+        pins[f] = pin;
+    }
+    pins
+}
+
+// A word as a number that counts or names a place.
+fn number_of(x: u16) -> usize
+    ensures { λ r. ⌜ r ≡ x ⌝ }
+{
+    x as usize
+}
+
+fn cause_of(x: u16) -> u8
+    requires { ⌜ x < 256 ⌝ }
+    ensures { λ r. ⌜ r ≡ x ⌝ }
+{
+    x as u8
+}
+
+fn checkpoint_at(w: &[u16], p: usize, k: usize) -> Checkpoint
+    requires { ⌜ (length (now w) ≡ 6464) × (p < 16) × (k < 16) × (1 ≤ word (now w) (indexAt p k)) × (word (now w) (causeAt p k) < 256) ⌝ }
+    ensures { λ r. ⌜ r ≡ checkpointIn (now (w .entry)) p k ⌝ }
+{
+    let index = words::index_of(w[places::INDEXES + places::PART * p + k]);
+    let vector = words::vector_at(w, places::STORED + places::PART * p + places::ROW * k);
+    let cause = cause_of(w[places::CAUSES + places::PART * p + k]);
+    Checkpoint {
+        index,
+        vector,
+        cause,
+        blocks: w[places::BLOCKS + p],
+    }
+}
+
+fn is_kept(w: &[u16], p: usize, k: usize) -> bool
+    requires { ⌜ (length (now w) ≡ 6464) × (p < 16) × (k < 16) ⌝ }
+    ensures { λ r. ⌜ r ≡ isKeptIn (now (w .entry)) p k ⌝ }
+{
+    let held = number_of(w[places::HELD + p]);
+    (k < held) & (w[places::INDEXES + places::PART * p + k] != 0)
+}
+
+// One loop over all places: the table is then written where it stands, and no row is copied.
+fn kept_of(w: &[u16], n: usize) -> [[Checkpoint; 16]; 16]
+    requires { ⌜ Readable (now w) × (n ≡ countOf (now w)) × (n ≤ 16) ⌝ }
+    ensures { λ r. ⌜ r ≡ ofProcesses (now (w .entry)) (keptIn (now (w .entry))) (replicate rowPlaces noCheckpoint) ⌝ }
+{
+    let none = rows::start::no_checkpoint();
+    let row = [none; 16];
+    let mut kept = [row; 16];
+    for q in 0..16 * n {
+        let p = q / 16;
+        let k = q % 16;
+        let used = is_kept(w, p, k);
+        if used {
+            let c = checkpoint_at(w, p, k);
+            kept[p][k] = c;
+        }
+    }
+    kept
+}
+
+fn message_at(w: &[u16], k: usize) -> Message
+    requires { ⌜ (length (now w) ≡ 6464) × (k < 64) ⌝ }
+    ensures { λ r. ⌜ r ≡ messageIn (now (w .entry)) k ⌝ }
+{
+    let number = message_words::number_at(w, k);
+    let vector = words::vector_at(w, places::CARRIED + places::ROW * k);
+    let sender = number_of(w[places::SENDERS + k]);
+    let receiver = number_of(w[places::RECEIVERS + k]);
+    Message {
+        number,
+        sender,
+        receiver,
+        vector,
+    }
+}
+
+fn no_message() -> Message
+    ensures { λ r. ⌜ r ≡ noMessage ⌝ }
+{
+    let vector = rows::start::zero_vector();
+    Message {
+        number: 0,
+        sender: 0,
+        receiver: 0,
+        vector,
+    }
+}
+
+fn messages_of(w: &[u16], end: usize) -> [Message; 64]
+    requires { ⌜ (length (now w) ≡ 6464) × (end ≡ endOf (now w)) × (end ≤ 64) ⌝ }
+    ensures { λ r. ⌜ r ≡ placed mostUnderWay noMessage (messagesIn (now (w .entry))) ⌝ }
+{
+    let none = no_message();
+    let mut messages = [none; 64];
+    let mut many = 0;
+    for k in 0..end {
+        let x = message_at(w, k);
+        if x.number != 0 {
+            messages[many] = x;
+            many = many + 1;
+        }
+    }
+    messages
+}
+
+fn vectors_of(w: &[u16], n: usize) -> [[Interval; 16]; 16]
+    requires { ⌜ (length (now w) ≡ 6464) × (n ≡ countOf (now w)) × (n ≤ 16) ⌝ }
+    ensures { λ r. ⌜ r ≡ ofProcesses (now (w .entry)) (λ p. vectorIn (now (w .entry)) (partAt p)) zeroVector ⌝ }
+{
+    let zeros = rows::start::zero_vector();
+    let mut vectors = [zeros; 16];
+    for p in 0..n {
+        let vector = words::vector_at(w, places::PARTS + places::PART * p);
+        vectors[p] = vector;
+    }
+    vectors
+}
+
+fn pins_of(w: &[u16], n: usize) -> [[Pin; 16]; 16]
+    requires { ⌜ (length (now w) ≡ 6464) × (n ≡ countOf (now w)) × (n ≤ 16) ⌝ }
+    ensures { λ r. ⌜ r ≡ ofProcesses (now (w .entry)) (λ p. pinsIn (now (w .entry)) (pinsAt p)) noPins ⌝ }
+{
+    let none = rows::start::no_pins();
+    let mut pins = [none; 16];
+    for p in 0..n {
+        let row = pins_at(w, places::PINS + places::PART * p);
+        pins[p] = row;
+    }
+    pins
+}
+
+fn held_of(w: &[u16], n: usize) -> [usize; 16]
+    requires { ⌜ (length (now w) ≡ 6464) × (n ≡ countOf (now w)) × (n ≤ 16) ⌝ }
+    ensures { λ r. ⌜ r ≡ ofProcesses (now (w .entry)) (λ p. word (now (w .entry)) (heldAt p)) 0 ⌝ }
+{
+    let mut held = [0usize; 16];
+    for p in 0..n {
+        let many = number_of(w[places::HELD + p]);
+        held[p] = many;
+    }
+    held
+}
+
+fn marks_of(w: &[u16], n: usize) -> [bool; 16]
+    requires { ⌜ (length (now w) ≡ 6464) × (n ≡ countOf (now w)) × (n ≤ 16) ⌝ }
+    ensures { λ r. ⌜ r ≡ ofProcesses (now (w .entry)) (markIn (now (w .entry))) false ⌝ }
+{
+    let mut sent = [false; 16];
+    for p in 0..n {
+        sent[p] = w[places::MARKS + p] != 0;
+    }
+    sent
+}
+
+pub fn read(w: &[u16]) -> Run
+    requires { ⌜ Readable (now w) ⌝ }
+    ensures { λ r. ⌜ r ≡ runOf (now (w .entry)) ⌝ }
+{
+    let n = number_of(w[places::COUNT]);
+    let vectors = rows::squares::vectors_from(vectors_of(w, n));
+    let pins = rows::squares::pins_from(pins_of(w, n));
+    let sent = marks_of(w, n);
+    let kept = rows::squares::kept_from(kept_of(w, n));
+    let held = held_of(w, n);
+    let end = number_of(w[places::END]);
+    let messages = messages_of(w, end);
+    let written = words::wide4(w, places::WRITTEN);
+    let deleted = words::wide4(w, places::DELETED);
+    let disk = Disk { written, deleted };
+    let last = words::wide2(w, places::LAST);
+    let underway = number_of(w[places::UNDER_WAY]);
+    Run {
+        count: n,
+        vectors,
+        pins,
+        sent,
+        kept,
+        held,
+        messages,
+        underway,
+        last,
+        disk,
+    }
+}
