@@ -1,8 +1,8 @@
--- `calls_by_words::is_sound` meets its contract. Assumes nothing.
+-- `calls_by_words::judged::is_sound` meets its contract. Assumes nothing.
 use borrow.Author.Needs.{needs}
 use Rattle.calls_by_words.proofs.Changing.{no-flag, flag}
-use Rattle.calls_by_words.proofs.is_sound.Statement.{statement}
-use Rattle.calls_by_words.proofs.is_sound.Tie as tie
+use Rattle.calls_by_words.proofs.judged.is_sound.Statement.{statement}
+use Rattle.calls_by_words.proofs.judged.is_sound.Tie as tie
 
 returns : tie.Need-returns
 returns c = no-flag (c .before .before .args .fit) _ (c .if1 .taken)

@@ -1,4 +1,4 @@
--- `calls_by_words::line` meets its contract: a state that does not fit its words, or whose words stand for no sound one, is refused with 2; on others the call in place
+-- `calls_by_words::line::line` meets its contract: a state that does not fit its words, or whose words stand for no sound one, is refused with 2; on others the call in place
 -- does it. Demand 3 and Note 4 are theorems of `whole_runs`.
 -- Assumes nothing.
 use mathlib.Core.Path.{_≡_, sym, _∙_, ap}
@@ -13,8 +13,8 @@ use Rattle.whole_runs.proofs.WholeRuns.{line-promise}
 use Rattle.whole_runs.proofs.Sweep.{empty-line-promise}
 use Rattle.run_words.proofs.Sizes.{sizes}
 use Rattle.calls_by_words.proofs.Changing.{filled-sound, filled-unsound}
-use Rattle.calls_by_words.proofs.line.Statement.{statement}
-use Rattle.calls_by_words.proofs.line.Tie as tie
+use Rattle.calls_by_words.proofs.line.line.Statement.{statement}
+use Rattle.calls_by_words.proofs.line.line.Tie as tie
 
 -- The state that was handed in is sound, and is what the filled words stand for.
 ready : (c : tie.Else1) → let f = c .before .before .before .before in let a = f .before .before .before .args in (runOf (f .fill .last .0) ≡ a .s) × (sound (a .s) ≡ true)
