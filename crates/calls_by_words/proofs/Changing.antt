@@ -26,7 +26,7 @@ use Rattle.run_words.proofs.Causes.{Small, small-messages, small-process, small
 use Rattle.run_words.proofs.ReadOut.{readable}
 
 -- Of two outcomes the state.
-either-run : {A : Type 0} (P : Run → Type 0) (o : Option Refusal) (a : Refusal → Outcome A) (b : Outcome A) → ((r : Refusal) → P (a r .run)) → P (b .run) → P (judged o a b .run)
+pub either-run : {A : Type 0} (P : Run → Type 0) (o : Option Refusal) (a : Refusal → Outcome A) (b : Outcome A) → ((r : Refusal) → P (a r .run)) → P (b .run) → P (judged o a b .run)
 either-run P none a b x y = y
 either-run P (some r) a b x y = x r
 

@@ -1,2 +1,5 @@
 -- Laws that belong to no one function.
 pub mod Changing
+pub mod Keeping
+pub mod Stepping
+pub mod Beginning

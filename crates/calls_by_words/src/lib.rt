@@ -4,8 +4,17 @@
 // judged.rt: words that were filled from a state, and whether the state is sound
 mod judged;
 
+// start.rt: the first state of a run
+pub mod start;
+
+// checkpoint.rt: a checkpoint is stored, and what no pin names any more is deleted
+pub mod checkpoint;
+
 // send.rt: a message is sent
 pub mod send;
+
+// deliver.rt: a message reaches its receiver
+pub mod deliver;
 
 // lose.rt: a message is lost
 pub mod lose;

@@ -15,7 +15,7 @@ use Rattle.model.specs.declared.Run.{Run}
 use Rattle.model.specs.Words.{places, noCheckpoint, Process, process, withProcess, withMessages, withDisk}
 use Rattle.words.proofs.View.{placed-at, placed-past}
 
-length-take-most : {A : Type 0} (i : ℕ) (l : List A) → length (take i l) ≤ i
+pub length-take-most : {A : Type 0} (i : ℕ) (l : List A) → length (take i l) ≤ i
 length-take-most zero [] = omega arith
 length-take-most zero (x ∷ l) = omega arith
 length-take-most (suc i) [] = omega arith
