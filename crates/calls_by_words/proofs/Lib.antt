@@ -3,3 +3,4 @@ pub mod Changing
 pub mod Keeping
 pub mod Stepping
 pub mod Beginning
+pub mod Recovering

@@ -21,3 +21,9 @@ pub mod lose;
 
 // line.rt: the line for a failed set
 pub mod line;
+
+// recover.rt: the recovery of a failed set
+pub mod recover;
+
+// through.rt: the earliest line through named checkpoints
+pub mod through;

@@ -4,3 +4,4 @@ pub mod Searches
 pub mod Lines
 pub mod Calling
 pub mod Judged
+pub mod Naming

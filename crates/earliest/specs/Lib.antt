@@ -1,3 +1,4 @@
 pub mod Copying
 pub mod Searching
 pub mod Through
+pub mod Pairs

@@ -12,3 +12,6 @@ pub mod line;
 
 // call.rt: the call on what was copied
 pub mod call;
+
+// pairs.rt: what was copied as pairs of numbers
+pub mod pairs;
