@@ -1,51 +1,17 @@
 -- What a recovery leaves is a state of 1 to 16 processes whose causes have 8 bits: it keeps nothing that was not kept before.
 -- Assumes nothing.
 use mathlib.Core.Path.{_≡_}
-use mathlib.Core.Bool.{Bool, true}
-use mathlib.Core.List.{List, [], _∷_}
-use Prim.Native.Nat.{ℕ, zero, suc, _≤_, _<_}
-use native.Mathlib.Omega.{arith}
-use lib.ListN.{length, getD, take}
-use Rattle.laws.specs.Choice.{by-bool}
-use Rattle.laws.specs.Lists.{select}
-use Rattle.model.specs.declared.Checkpoint.{Checkpoint}
+use mathlib.Core.Bool.{true}
+use mathlib.Core.List.{List}
+use Prim.Native.Nat.{ℕ}
 use Rattle.model.specs.declared.Run.{Run}
-use Rattle.model.specs.Words.{noCheckpoint, Process, process, withProcess}
-use Rattle.model.specs.Steps.{withProcesses, notLost, recovered, recoverState}
+use Rattle.model.specs.Steps.{notLost, recovered, recoverState}
 use Rattle.model.specs.Sound.{sound}
-use Rattle.model.specs.laws.Sound.{sound-state}
 use Rattle.model.specs.Refusals.{recoverRefusal}
 use Rattle.whole_runs.specs.Outcomes.{recoverOutcome}
-use Rattle.run_words.proofs.Causes.{Small, length-take-most, small-messages, small-disk, small-process, small-kept}
+use Rattle.run_words.proofs.Causes.{Small, small-messages, small-disk}
 use Rattle.calls_by_words.proofs.Changing.{either-run}
-
--- Checkpoints whose causes have 8 bits.
-abbrev Few : List Checkpoint → Type 0
-Few l = (k : ℕ) → k < length l → getD l k noCheckpoint .cause < 256
-
-few-more : (c : Checkpoint) (l : List Checkpoint) → c .cause < 256 → Few l → Few (c ∷ l)
-few-more c l h few zero b = h
-few-more c l h few (suc k) b = few k (omega arith)
-
-few-chosen : (t : Checkpoint → Bool) (l : List Checkpoint) → Few l → Few (select t l)
-unfolding select
-few-chosen t [] few = few
-few-chosen t (c ∷ l) few = by-bool (t c)
-    (λ e. rw e (few-more c (select t l) (few 0 (omega arith)) (few-chosen t l (λ k b. few (suc k) (omega arith)))))
-    (λ e. rw e (few-chosen t l (λ k b. few (suc k) (omega arith))))
-
--- Each process below n takes a part that keeps such checkpoints alone.
-small-processes : (n : ℕ) (f : ℕ → Process) (s : Run) → Small s → ((p : ℕ) → p < n → Few (f p .kept)) → Small (withProcesses n f s)
-unfolding withProcesses
-small-processes zero f s small few = small
-small-processes (suc n) f s small few =
-    small-process (withProcesses n f s) (small-processes n f s small (λ p b. few p (omega arith))) n (f n) (λ lt k under less. few n (omega arith) k under)
-
-kept-few : (s : Run) → sound s ≡ true → Small s → (p : ℕ) → p < s .count → Few (process s p .kept)
-unfolding process
-kept-few s whole small p lt k under =
-    let st = sound-state s whole in
-    small-kept s small p lt k under (omega (arith, under, length-take-most (getD (s .held) p 0) (getD (s .kept .0) p []), st .processes p lt .held-most, st .count-most))
+use Rattle.calls_by_words.proofs.Keeping.{few-chosen, kept-few, small-processes}
 
 pub recover-small : (s : Run) → sound s ≡ true → (F : ℕ) (deleted line : List ℕ) → Small s → Small (recoverOutcome s F deleted line .run)
 unfolding recoverOutcome recoverState recovered notLost
