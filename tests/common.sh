@@ -4,7 +4,7 @@
 #
 # For the tests of the suites themselves (tests/suites/run), from the environment:
 #     PROGRAMS   the folder of the programs, in the place of target/bin
-#     ORACLE     the folder of the oracle's programs, in the place of tests/oracle/target/release
+#     ORACLE     the folder of the oracle's program, in the place of tests/oracle/target/release
 #     FEW        so many inputs by seed, and of every long list of cases the first and the last
 #     AT_ONCE    a suite ends with its first failure
 # A suite tells the programs that it starts in which part it is: PART.
@@ -14,7 +14,7 @@ programs=$(realpath -m -- "${PROGRAMS:-target/bin}")
 oracle=$(realpath -m -- "${ORACLE:-tests/oracle/target/release}")
 export PART=${PART:-}
 
-# build NAME..: these programs and the oracle's are there
+# build NAME..: these programs and the oracle are there
 build() {
     local name
     for name in "$@"; do
@@ -91,9 +91,9 @@ byte() {
     printf '%b' "$hex"
 }
 
-# expect PROGRAM WORD..: what the oracle's program prints and says on standard error is expected
+# expect COMMAND WORD..: what the oracle prints and says on standard error is expected
 expect() {
-    "$oracle/$1" "${@:2}" >expected 2>expected.errors || fail "the oracle's program ended with $?: $*"
+    "$oracle/oracle" "$@" >expected 2>expected.errors || fail "the oracle ended with $?: $*"
 }
 
 # difference: the first line that is not as expected
@@ -116,11 +116,11 @@ same() {
     return 1
 }
 
-# seeds COUNT SOAK PROGRAM..: so many inputs by seed, on which the oracle's program SOAK holds PROGRAM to the oracle
+# seeds COUNT COMMAND PROGRAM..: so many inputs by seed, on which this command of the oracle holds PROGRAM to it
 seeds() {
     local count=${FEW:-$1} soak=$2
     shift 2
-    if ! "$soak" "$count" 1 "$@" >said 2>&1 || ! grep -q "agree on $count " said; then fail "not held on $count seeds"; fi
+    if ! "$oracle/oracle" "$soak" "$count" 1 "$@" >said 2>&1 || ! grep -q "agree on $count " said; then fail "not held on $count seeds"; fi
     cat said
     told=$((told + count))
 }

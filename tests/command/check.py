@@ -313,7 +313,7 @@ class Text(Case):
 
     def test_traces_of_the_oracle(self):
         for seed in range(many(300)):
-            trace = program(ORACLE, "generate", seed, "--records", 40, "--mix", ("mixed", "damaged", "foreign")[seed % 3])
+            trace = program(ORACLE, "oracle", "generate", seed, "--records", 40, "--mix", ("mixed", "damaged", "foreign")[seed % 3])
             self.assertEqual(b"".join(bytes_of(text_of(io.BytesIO(trace)))), trace)
 
     def test_names_of_messages(self):
@@ -324,7 +324,7 @@ class Text(Case):
     @needs("recover")
     def test_names_that_are_given(self):
         for seed in range(many(200)):
-            trace = program(ORACLE, "generate", seed, "--records", 40, "--mix", ("valid", "recovering", "mixed", "damaged")[seed % 4])
+            trace = program(ORACLE, "oracle", "generate", seed, "--records", 40, "--mix", ("valid", "recovering", "mixed", "damaged")[seed % 4])
             self.assertEqual(b"".join(bytes_of(text_of(io.BytesIO(trace), names=True))), trace, seed)
         status, text, said = command("text", "--names", EXAMPLE)
         self.assertEqual(text.decode().split("\n")[1:3], ["send 0 1 as m1", "deliver m1"])
@@ -433,7 +433,7 @@ record 8: deliver 3, the message from 0 to 1
     def test_any_trace(self):
         """Each record's line of the replay is the one that the explanation tells."""
         for seed in range(many(100)):
-            trace = program(ORACLE, "generate", seed, "--records", 40, "--mix", ("valid", "recovering", "mixed", "damaged")[seed % 4])
+            trace = program(ORACLE, "oracle", "generate", seed, "--records", 40, "--mix", ("valid", "recovering", "mixed", "damaged")[seed % 4])
             listing = program(PROGRAMS, "replay", "all", given=trace).decode().splitlines()
             status, text, said = explained(trace)
             told = re.findall(r"^record (\d+): .*(?:\n  (refused (\d+))?.*)?", text, re.M)
@@ -601,7 +601,7 @@ class Draw(Case):
     def test_any_trace(self):
         for seed in range(many(18)):
             count = (0, 3, 20, 60, 130, 1000)[seed % 6]
-            trace = program(ORACLE, "generate", seed, "--n", 1 + seed % 16, "--records", count, "--mix", ("valid", "recovering", "mixed")[seed % 3])
+            trace = program(ORACLE, "oracle", "generate", seed, "--n", 1 + seed % 16, "--records", count, "--mix", ("valid", "recovering", "mixed")[seed % 3])
             got, svg, said = command("draw", "-", "--failed", 0, "--from", max(1, count // 3), given=trace)
             self.assertIn(got, (0, 1), said)
             self.assertEqual(list(outside(svg)), [], seed)
@@ -610,7 +610,7 @@ class Draw(Case):
     def test_before_and_after(self):
         svg = self.drawn(EXAMPLE.read_bytes(), "--at", 9, "--compare")
         self.assertEqual((svg.count("<g "), "after record 8" in svg, "after record 9" in svg), (2, True, True))
-        long = program(ORACLE, "generate", 3, "--n", 4, "--records", 60, "--mix", "valid")
+        long = program(ORACLE, "oracle", "generate", 3, "--n", 4, "--records", 60, "--mix", "valid")
         svg = command("draw", "-", "--compare", given=long)[1]
         self.assertEqual((list(outside(svg)), b'translate(0,0)' in svg), ([], True))
         self.ends(2, "--compare needs a record", "draw", "-", "--compare", given=b"\x02")
@@ -628,7 +628,7 @@ class Draw(Case):
         """What is drawn is such a path, between the ends that the judge names."""
         found = 0
         for seed in range(many(300)):
-            trace = program(ORACLE, "generate", seed, "--n", 2 + seed % 5, "--records", 50, "--mix", "foreign")
+            trace = program(ORACLE, "oracle", "generate", seed, "--n", 2 + seed % 5, "--records", 50, "--mix", "foreign")
             if refused(lemidrosy.judge, trace) or lemidrosy.judge(trace).trackable:
                 continue
             verdict, history = lemidrosy.judge(trace), foreign.history_of(trace)
@@ -697,7 +697,7 @@ class Programs(Case):
 
     def test_replay_in_this_process(self):
         for seed in range(many(1000)):
-            trace = program(ORACLE, "generate", seed, "--records", (0, 5, 60, 400)[seed % 4], "--mix", ("valid", "recovering", "mixed", "damaged")[seed // 4 % 4])
+            trace = program(ORACLE, "oracle", "generate", seed, "--records", (0, 5, 60, 400)[seed % 4], "--mix", ("valid", "recovering", "mixed", "damaged")[seed // 4 % 4])
             listing = program(PROGRAMS, "replay", "all", given=trace).splitlines(keepends=True)
             first = next((place for place, line in enumerate(listing) if line.split()[1] != b"0"), None)
             for all, expected in ((True, listing), (False, listing if first is None else listing[: first + 1])):
@@ -709,7 +709,7 @@ class Programs(Case):
     def test_replay(self):
         self.prints(program(PROGRAMS, "replay", given=EXAMPLE.read_bytes()).decode(), "replay", EXAMPLE, status=1, says="record 10, deliver 3: refused 8: no such message is under way")
         for seed in range(many(12)):
-            trace = program(ORACLE, "generate", seed, "--mix", ("valid", "mixed", "damaged")[seed % 3])
+            trace = program(ORACLE, "oracle", "generate", seed, "--mix", ("valid", "mixed", "damaged")[seed % 3])
             right = program(PROGRAMS, "replay", "all", given=trace)
             status, output, said = command("replay", "--all", given=trace)
             self.assertEqual(output, right)
@@ -735,7 +735,7 @@ class Programs(Case):
 
     def test_progress_at_a_terminal(self):
         """Shown from the first block on, which takes no half second."""
-        Path("long.trace").write_bytes(program(ORACLE, "generate", 1, "--n", 4, "--records", 40000, "--mix", "valid"))
+        Path("long.trace").write_bytes(program(ORACLE, "oracle", "generate", 1, "--n", 4, "--records", 40000, "--mix", "valid"))
         code = "import sys, lemidrosy.progress as p; p._FIRST = p._EVERY = 0; from lemidrosy.command import main; sys.exit(main(['replay', '--all', 'long.trace']))"
         seen, status = typed(["-c", code], output="/dev/null")
         self.assertEqual(status, 1)
@@ -746,7 +746,7 @@ class Programs(Case):
 
     def test_judge(self):
         for seed in range(many(400)):
-            trace = program(ORACLE, "generate", seed, "--mix", "foreign")
+            trace = program(ORACLE, "oracle", "generate", seed, "--mix", "foreign")
             expected = program(PROGRAMS, "judge", given=trace).decode()
             try:
                 verdict = lemidrosy.judge(trace)
@@ -755,7 +755,7 @@ class Programs(Case):
                 said = f"refused {refusal.number}\n"
             self.assertEqual(said, expected, seed)
         for seed in range(many(12)):
-            trace = program(ORACLE, "generate", seed, "--mix", "foreign")
+            trace = program(ORACLE, "oracle", "generate", seed, "--mix", "foreign")
             status, said = self.same("judge", (), trace)
             is_right = not refused(lemidrosy.judge, trace) and lemidrosy.judge(trace).trackable
             self.assertEqual((status, said.count("\n")), (0, 0) if is_right else (1, 1))
@@ -766,7 +766,7 @@ class Programs(Case):
     @needs("merge")
     def test_merge(self):
         for seed in range(many(300)):
-            number = int(program(ORACLE, "halves", seed, "first", "second"))
+            number = int(program(ORACLE, "oracle", "halves", seed, "first", "second"))
             right = subprocess.run([PROGRAMS / "merge", "first", "second", str(number)], capture_output=True, timeout=60)
             try:
                 merged, said = lemidrosy.merge(Path("first").read_bytes(), Path("second").read_bytes(), numbers.members(number)), b""

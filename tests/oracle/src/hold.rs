@@ -10,11 +10,10 @@ use std::process::{Command, Output};
 use std::sync::atomic::{AtomicBool, AtomicU64, Ordering};
 use std::thread;
 
-/// What the command line `COUNT FIRST PROGRAM ..` asks for: how many seeds, the
+/// What the words `COUNT FIRST PROGRAM ..` ask for: how many seeds, the
 /// first of them, and N programs. None if it is another one.
-pub fn asked<const N: usize>() -> Option<(u64, u64, [PathBuf; N])> {
-    let arguments: Vec<String> = std::env::args().skip(1).collect();
-    let [count, first, programs @ ..] = arguments.as_slice() else {
+pub fn asked<const N: usize>(words: &[String]) -> Option<(u64, u64, [PathBuf; N])> {
+    let [count, first, programs @ ..] = words else {
         return None;
     };
     let programs: Vec<PathBuf> = programs.iter().map(PathBuf::from).collect();

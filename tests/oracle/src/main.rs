@@ -1,43 +1,63 @@
-//! `oracle` replays the trace on standard input and prints the listing up to
-//! the first refusal, `oracle all` the whole listing. `oracle --cases` prints
-//! the exam text.
+//! `oracle COMMAND ..`: replays, draws, judges and compares, as its first word
+//! says. The file of a command in `commands` says what it does.
 
-use oracle::replay::AfterRefusal;
-use std::fs::File;
+mod commands;
+
+use std::ffi::OsString;
 use std::io;
-use std::os::fd::AsFd;
 use std::process::ExitCode;
 
 fn main() -> ExitCode {
-    let arguments: Vec<_> = std::env::args_os().skip(1).collect();
-    let outcome = match arguments.as_slice() {
-        [option] if option == "--cases" => print_cases(),
-        words => replay(AfterRefusal::asked_by(words)),
-    };
-    // A reader of the listing that has gone away is no news to anyone: no
-    // message, only the status tells.
-    match outcome {
-        Ok(()) => ExitCode::SUCCESS,
-        Err(_) => ExitCode::FAILURE,
+    let mut words = std::env::args_os().skip(1);
+    let command = words.next().and_then(|word| word.into_string().ok());
+    let words: Vec<OsString> = words.collect();
+    match command.as_deref() {
+        Some("replay") => commands::replay::run(&words),
+        Some("cases") => commands::replay::cases(&words),
+        Some(command) => in_text(command, words),
+        None => usage(),
     }
 }
 
-fn replay(after_refusal: AfterRefusal) -> io::Result<()> {
-    oracle::replay::replay(after_refusal, standard_input()?, standard_output()?)
+/// The commands whose words are all text.
+fn in_text(command: &str, words: Vec<OsString>) -> ExitCode {
+    let words: Result<Vec<String>, OsString> =
+        words.into_iter().map(OsString::into_string).collect();
+    let Ok(words) = words else {
+        return usage();
+    };
+    let words = &words[..];
+    match command {
+        "binding_calls" => commands::binding_calls::run(words),
+        "console" => said(commands::console::run(words)),
+        "console_soak" => commands::console_soak::run(words),
+        "generate" => commands::generate::run(words),
+        "halves" => commands::halves::run(words),
+        "judge" => said(commands::judge::run(words)),
+        "judge_soak" => commands::judge_soak::run(words),
+        "merge" => commands::merge::run(words),
+        "merge_soak" => commands::merge_soak::run(words),
+        "record" => said(commands::record::run(words)),
+        "record_soak" => commands::record_soak::run(words),
+        "simulate" => said(commands::simulate::run(words)),
+        "soak" => commands::soak::run(words),
+        "word_states" => commands::word_states::run(words),
+        _ => usage(),
+    }
 }
 
-fn print_cases() -> io::Result<()> {
-    oracle::cases::print(&mut standard_output()?)
+/// An error of the system is said as it is.
+fn said(outcome: io::Result<()>) -> ExitCode {
+    match outcome {
+        Ok(()) => ExitCode::SUCCESS,
+        Err(error) => {
+            eprintln!("oracle: {error}");
+            ExitCode::FAILURE
+        }
+    }
 }
 
-/// Standard input without the standard library's buffer, which would read
-/// ahead past the last record.
-fn standard_input() -> io::Result<File> {
-    Ok(File::from(io::stdin().as_fd().try_clone_to_owned()?))
-}
-
-/// Standard output without the standard library's buffer: the listing has its
-/// own.
-fn standard_output() -> io::Result<File> {
-    Ok(File::from(io::stdout().as_fd().try_clone_to_owned()?))
+fn usage() -> ExitCode {
+    eprintln!("usage: oracle COMMAND ..; README.md has the commands");
+    ExitCode::from(2)
 }

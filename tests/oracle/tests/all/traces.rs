@@ -1,9 +1,7 @@
 //! The trace and the listing: first bytes, left-over bytes, damaged records,
 //! short reads, the last record.
 
-mod common;
-
-use common::{listing, stopped_listing, trace};
+use crate::common::{self, listing, stopped_listing, trace};
 use oracle::replay::{replay, replay_up_to, AfterRefusal};
 use std::io::{self, ErrorKind, Read, Write};
 

@@ -1,12 +1,11 @@
-//! `halves SEED FIRST SECOND` writes the two halves of a seed (Note 12) to the files
+//! `oracle halves SEED FIRST SECOND` writes the two halves of a seed (Note 12) to the files
 //! FIRST and SECOND and prints the set of the processes that belong to the first.
 //! `oracle::halves::draw` says what is drawn.
 
 use std::process::ExitCode;
 
-fn main() -> ExitCode {
-    let arguments: Vec<String> = std::env::args().skip(1).collect();
-    let [seed, first, second] = arguments.as_slice() else {
+pub fn run(words: &[String]) -> ExitCode {
+    let [seed, first, second] = words else {
         return usage();
     };
     let Ok(seed) = seed.parse() else {
@@ -24,6 +23,6 @@ fn main() -> ExitCode {
 }
 
 fn usage() -> ExitCode {
-    eprintln!("usage: halves SEED FIRST SECOND");
+    eprintln!("usage: oracle halves SEED FIRST SECOND");
     ExitCode::from(2)
 }

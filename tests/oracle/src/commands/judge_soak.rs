@@ -1,4 +1,4 @@
-//! `judge_soak COUNT FIRST PROGRAM` holds PROGRAM to the oracle's verdicts on
+//! `oracle judge_soak COUNT FIRST PROGRAM` holds PROGRAM to the oracle's verdicts on
 //! COUNT foreign traces (Note 7), of the seeds FIRST, FIRST + 1 and on. PROGRAM gets each
 //! trace on standard input and must print the oracle's one line, nothing on
 //! standard error, and end with status 0. At the first trace where it does not,
@@ -13,9 +13,9 @@ use std::path::{Path, PathBuf};
 use std::process::ExitCode;
 use std::sync::Mutex;
 
-fn main() -> ExitCode {
-    let Some((count, first, [program])) = asked() else {
-        eprintln!("usage: judge_soak COUNT FIRST PROGRAM");
+pub fn run(words: &[String]) -> ExitCode {
+    let Some((count, first, [program])) = asked(words) else {
+        eprintln!("usage: oracle judge_soak COUNT FIRST PROGRAM");
         return ExitCode::from(2);
     };
     let soak = Soak {
@@ -78,7 +78,7 @@ fn checkpoints(trace: &[u8], process: usize) -> usize {
 
 impl Comparison for Soak {
     fn input(&self, seed: u64) -> String {
-        format!("generate {}", arguments_of(seed).join(" "))
+        format!("oracle generate {}", arguments_of(seed).join(" "))
     }
 
     fn compare(&self, seed: u64, file: &Path) -> io::Result<Option<String>> {

@@ -1,4 +1,4 @@
-//! `record_soak COUNT FIRST PROGRAM REPLAY` holds PROGRAM, which plays a trace
+//! `oracle record_soak COUNT FIRST PROGRAM REPLAY` holds PROGRAM, which plays a trace
 //! through a recorder (Note 9) and prints what was recorded, to the oracle on COUNT random
 //! traces, of the seeds FIRST, FIRST + 1 and on, those of `soak`. One trace in
 //! four is recorded in a buffer that is mostly too small, whose size is PROGRAM's
@@ -23,9 +23,9 @@ use std::sync::atomic::{AtomicU64, Ordering};
 /// The buffer where no size is asked for.
 const BUFFER: usize = 1 << 20;
 
-fn main() -> ExitCode {
-    let Some((count, first, [program, replay])) = asked() else {
-        eprintln!("usage: record_soak COUNT FIRST PROGRAM REPLAY");
+pub fn run(words: &[String]) -> ExitCode {
+    let Some((count, first, [program, replay])) = asked(words) else {
+        eprintln!("usage: oracle record_soak COUNT FIRST PROGRAM REPLAY");
         return ExitCode::from(2);
     };
     let soak = Soak {
@@ -57,7 +57,7 @@ struct Soak {
 
 impl Comparison for Soak {
     fn input(&self, seed: u64) -> String {
-        format!("generate {}", half_damaged(seed).join(" "))
+        format!("oracle generate {}", half_damaged(seed).join(" "))
     }
 
     fn compare(&self, seed: u64, file: &Path) -> io::Result<Option<String>> {

@@ -2,14 +2,12 @@
 //! their order, our own runs, and small traces held against the definitions by
 //! the closure of relations.
 
-mod common;
-
-use common::{trace, Random, DELETIONS};
+use crate::common::{trace, Random, DELETIONS};
 use oracle::generate::{write_trace, Plan};
 use oracle::judge::judge;
 use oracle::run::{Run, ONES};
 use std::io::Write;
-use std::process::{Command, Stdio};
+use std::process::Stdio;
 
 const CHECKPOINT: u32 = 0;
 const SEND: u32 = 1;
@@ -470,7 +468,7 @@ fn long_traces() {
 fn the_program() {
     for seed in 0..50 {
         let bytes = foreign(seed, &[]);
-        let mut program = Command::new(env!("CARGO_BIN_EXE_judge_oracle"))
+        let mut program = crate::common::oracle("judge")
             .stdin(Stdio::piped())
             .stdout(Stdio::piped())
             .spawn()

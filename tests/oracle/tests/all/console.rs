@@ -1,15 +1,13 @@
 //! Note 13, a console for shared clusters: the table, what counts as denied,
 //! what each caller sees, and the named leaks.
 
-mod common;
-
-use common::{Random, DELETIONS, LINE};
+use crate::common::{self, Random, DELETIONS, LINE};
 use oracle::console::scripts::script;
 use oracle::console::Caller::{Operator, Owner, Viewer};
 use oracle::console::{facts, may, Caller, Console, Operation};
 use oracle::run::{Named, Run, MOST_WRITTEN, ONES};
 use std::io::Write;
-use std::process::{Command, Stdio};
+use std::process::Stdio;
 
 const ROLES: [Caller; 3] = [Operator, Owner(0b011), Viewer];
 
@@ -436,12 +434,12 @@ fn scripts_have_all_numbers() {
 #[test]
 fn the_program() {
     for seed in 0..20 {
-        let printed = Command::new(env!("CARGO_BIN_EXE_console_oracle"))
+        let printed = crate::common::oracle("console")
             .arg(seed.to_string())
             .output()
             .unwrap();
         assert_eq!(printed.stdout, script(seed));
-        let mut program = Command::new(env!("CARGO_BIN_EXE_console_oracle"))
+        let mut program = crate::common::oracle("console")
             .stdin(Stdio::piped())
             .stdout(Stdio::piped())
             .spawn()

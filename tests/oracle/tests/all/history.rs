@@ -5,9 +5,7 @@
 //! state". The reported lines are then held against all lines there are, and
 //! what is on the disks is counted from it after every call.
 
-mod common;
-
-use common::{Random, DELETIONS, LINE};
+use crate::common::{self, Random, DELETIONS, LINE};
 use oracle::run::{Counts, Named, Run, ONES};
 use std::collections::HashMap;
 

@@ -1,11 +1,8 @@
 //! Note 10, trying a checkpoint spacing: the generator, the figures against a
 //! replay of the same events, the steps against the rules, the numbers.
 
-mod common;
-
-use common::listing;
+use crate::common::listing;
 use oracle::simulate::{simulate, text, trace, Figures, Generator, Parameters};
-use std::process::Command;
 
 fn parameters(count: u64, spacing: u64, steps: u64, start: u32) -> Parameters {
     Parameters {
@@ -268,7 +265,7 @@ fn the_text() {
 #[test]
 fn the_program() {
     let output = |words: &[&str]| {
-        let mut program = Command::new(env!("CARGO_BIN_EXE_simulate_oracle"));
+        let mut program = crate::common::oracle("simulate");
         program.args(words).output().unwrap()
     };
     for words in [

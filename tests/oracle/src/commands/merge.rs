@@ -1,4 +1,4 @@
-//! `merge_oracle FIRST SECOND SET` merges the two halves of a run in the files
+//! `oracle merge FIRST SECOND SET` merges the two halves of a run in the files
 //! FIRST and SECOND (Note 12) and prints the plain trace. A refusal is the line
 //! `refused R` on standard error.
 
@@ -6,9 +6,8 @@ use oracle::whole::Whole;
 use std::io::{self, Write};
 use std::process::ExitCode;
 
-fn main() -> ExitCode {
-    let arguments: Vec<String> = std::env::args().skip(1).collect();
-    let [first, second, set] = arguments.as_slice() else {
+pub fn run(words: &[String]) -> ExitCode {
+    let [first, second, set] = words else {
         return usage();
     };
     let Some(set) = Whole::in_decimal(set) else {
@@ -17,7 +16,7 @@ fn main() -> ExitCode {
     match merged(first, second, set) {
         Ok(()) => ExitCode::SUCCESS,
         Err(error) => {
-            eprintln!("merge_oracle: {error}");
+            eprintln!("merge: {error}");
             ExitCode::FAILURE
         }
     }
@@ -33,6 +32,6 @@ fn merged(first: &str, second: &str, set: Whole) -> io::Result<()> {
 }
 
 fn usage() -> ExitCode {
-    eprintln!("usage: merge_oracle FIRST SECOND SET");
+    eprintln!("usage: oracle merge FIRST SECOND SET");
     ExitCode::from(2)
 }

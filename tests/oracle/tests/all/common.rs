@@ -1,8 +1,8 @@
 //! What several tests use.
-#![allow(dead_code)]
 
 use oracle::replay::{replay, AfterRefusal};
 use oracle::run::Run;
+use std::process::Command;
 
 /// Lists that are long enough for every run.
 pub const DELETIONS: usize = 2 * 16 * 16;
@@ -135,4 +135,11 @@ pub fn assert_sound(run: &Run) {
         assert!(bounded(&message.carried));
     }
     assert!(run.last_number() <= 1_000_000);
+}
+
+/// A command of the program `oracle`.
+pub fn oracle(command: &str) -> Command {
+    let mut program = Command::new(env!("CARGO_BIN_EXE_oracle"));
+    program.arg(command);
+    program
 }

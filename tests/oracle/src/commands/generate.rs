@@ -1,4 +1,4 @@
-//! `generate SEED [--n N] [--records COUNT] [--mix valid|recovering|mixed|damaged|limits|foreign]`
+//! `oracle generate SEED [--n N] [--records COUNT] [--mix valid|recovering|mixed|damaged|limits|foreign]`
 //! writes a random trace to standard output. `oracle::generate` says what the
 //! mixes are and what is drawn where an option is not given.
 
@@ -8,11 +8,10 @@ use std::io;
 use std::os::fd::AsFd;
 use std::process::ExitCode;
 
-fn main() -> ExitCode {
-    let arguments: Vec<String> = std::env::args().skip(1).collect();
-    let Some(plan) = Plan::from_arguments(&arguments) else {
+pub fn run(words: &[String]) -> ExitCode {
+    let Some(plan) = Plan::from_arguments(words) else {
         eprintln!(
-            "usage: generate SEED [--n N] [--records COUNT] [--mix valid|recovering|mixed|damaged|limits|foreign]\n\
+            "usage: oracle generate SEED [--n N] [--records COUNT] [--mix valid|recovering|mixed|damaged|limits|foreign]\n\
              N is 1 to 16, COUNT 0 to {MAX_RECORDS}"
         );
         return ExitCode::from(2);

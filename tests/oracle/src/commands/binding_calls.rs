@@ -1,4 +1,4 @@
-//! `binding_calls COUNT SEED FOLDER [ABSENT..]` writes COUNT calls by seed, as a
+//! `oracle binding_calls COUNT SEED FOLDER [ABSENT..]` writes COUNT calls by seed, as a
 //! driver of a binding takes them, and the answers to them into FOLDER: `calls`,
 //! `answers`, for states that another binding has stored `loads` and `loaded`, and
 //! these states, `states`. Calls of the names ABSENT are not made. It prints how
@@ -13,9 +13,8 @@ use std::process::ExitCode;
 /// In a run of at least so many calls, everything that can be met is met.
 const MANY: u64 = 100_000;
 
-fn main() -> ExitCode {
-    let arguments: Vec<String> = std::env::args().skip(1).collect();
-    let [count, seed, folder, absent @ ..] = arguments.as_slice() else {
+pub fn run(words: &[String]) -> ExitCode {
+    let [count, seed, folder, absent @ ..] = words else {
         return usage();
     };
     let (Ok(count), Ok(seed)) = (count.parse(), seed.parse()) else {
@@ -53,6 +52,6 @@ fn write(pages: &Pages, folder: &Path) -> io::Result<()> {
 }
 
 fn usage() -> ExitCode {
-    eprintln!("usage: binding_calls COUNT SEED FOLDER [ABSENT..]");
+    eprintln!("usage: oracle binding_calls COUNT SEED FOLDER [ABSENT..]");
     ExitCode::from(2)
 }

@@ -1,13 +1,13 @@
-//! `word_states FILE..` prints the state that the words in each file stand for, one
+//! `oracle word_states FILE..` prints the state that the words in each file stand for, one
 //! to a line, as `binding_calls` writes states. A file has the low byte of each word
 //! first, or is a saved state. Words that stand for no state print `None`.
 
 use oracle::saved;
 use std::process::ExitCode;
 
-fn main() -> ExitCode {
-    for name in std::env::args().skip(1) {
-        let bytes = match std::fs::read(&name) {
+pub fn run(words: &[String]) -> ExitCode {
+    for name in words {
+        let bytes = match std::fs::read(name) {
             Ok(bytes) => bytes,
             Err(error) => {
                 eprintln!("word_states: {name}: {error}");

@@ -1,8 +1,6 @@
 //! Which refusal, in which order, and that a refused call changes nothing.
 
-mod common;
-
-use common::{Random, DELETIONS, LINE};
+use crate::common::{self, Random, DELETIONS, LINE};
 use oracle::run::{Named, Run, ONES};
 
 const MOST_WRITTEN: u64 = 1_000_000_000_000_000;

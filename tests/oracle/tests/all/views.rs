@@ -6,9 +6,7 @@
 //! The other run is built and looked at: for random runs, at the limits of the
 //! paper and at lower ones, which small runs reach.
 
-mod common;
-
-use common::{Random, DELETIONS};
+use crate::common::{self, Random, DELETIONS};
 use oracle::run::refusal::{INTERVALS_USED_UP, NUMBERS_USED_UP, TOO_MANY_UNDER_WAY};
 use oracle::run::{Message, Run, Vector, LAST_ENTRY, LAST_MESSAGE_NUMBER, MAX_UNDER_WAY, ONES};
 

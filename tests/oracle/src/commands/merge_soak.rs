@@ -1,4 +1,4 @@
-//! `merge_soak COUNT FIRST PROGRAM REPLAY` holds PROGRAM to the oracle's merge
+//! `oracle merge_soak COUNT FIRST PROGRAM REPLAY` holds PROGRAM to the oracle's merge
 //! (Note 12) on COUNT pairs of halves, of the seeds FIRST, FIRST + 1 and on. PROGRAM gets
 //! the names of two files and the set. Where the oracle accepts it must print
 //! the very same trace and end with status 0; where the oracle refuses it must
@@ -23,9 +23,9 @@ use std::path::{Path, PathBuf};
 use std::process::{Command, ExitCode, Output};
 use std::sync::Mutex;
 
-fn main() -> ExitCode {
-    let Some((count, first, [program, replay])) = asked() else {
-        eprintln!("usage: merge_soak COUNT FIRST PROGRAM REPLAY");
+pub fn run(words: &[String]) -> ExitCode {
+    let Some((count, first, [program, replay])) = asked(words) else {
+        eprintln!("usage: oracle merge_soak COUNT FIRST PROGRAM REPLAY");
         return ExitCode::from(2);
     };
     let soak = Soak {
@@ -67,7 +67,7 @@ struct Met {
 
 impl Comparison for Soak {
     fn input(&self, seed: u64) -> String {
-        format!("halves {seed} FIRST SECOND")
+        format!("oracle halves {seed} FIRST SECOND")
     }
 
     fn compare(&self, seed: u64, file: &Path) -> io::Result<Option<String>> {

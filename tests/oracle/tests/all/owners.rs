@@ -2,9 +2,7 @@
 //! owner's processes, and the leaks have the same values at its calls, answer it
 //! the same, whatever the others do.
 
-mod common;
-
-use common::Random;
+use crate::common::{self, Random};
 use oracle::console::Caller::{Operator, Owner};
 use oracle::console::{Caller, Console};
 use oracle::run::{Message, Run, ONES};

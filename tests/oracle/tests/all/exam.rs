@@ -1,8 +1,6 @@
 //! The ten-record example and the exam sheet.
 
-mod common;
-
-use common::{kept, line, pins, DELETIONS, LINE};
+use crate::common::{self, kept, line, pins, DELETIONS, LINE};
 use oracle::cases::example;
 use oracle::run::{Checkpointed, Delivered, Recovered, Run, ONES};
 

@@ -1,8 +1,8 @@
-//! `console_soak COUNT FIRST PROGRAM` holds PROGRAM to the oracle's console
+//! `oracle console_soak COUNT FIRST PROGRAM` holds PROGRAM to the oracle's console
 //! (Note 13) on COUNT scripts, of the seeds FIRST, FIRST + 1 and on. PROGRAM gets each script
 //! on standard input and must print the oracle's facts, nothing on standard
 //! error, and end with status 0. At the first difference the seed of
-//! `console_oracle` and the line are printed, and the status is 1.
+//! `console` and the line are printed, and the status is 1.
 
 use oracle::console::facts;
 use oracle::console::scripts::script;
@@ -13,9 +13,9 @@ use std::path::{Path, PathBuf};
 use std::process::ExitCode;
 use std::sync::Mutex;
 
-fn main() -> ExitCode {
-    let Some((count, first, [program])) = asked() else {
-        eprintln!("usage: console_soak COUNT FIRST PROGRAM");
+pub fn run(words: &[String]) -> ExitCode {
+    let Some((count, first, [program])) = asked(words) else {
+        eprintln!("usage: oracle console_soak COUNT FIRST PROGRAM");
         return ExitCode::from(2);
     };
     let soak = Soak {
@@ -43,7 +43,7 @@ struct Soak {
 
 impl Comparison for Soak {
     fn input(&self, seed: u64) -> String {
-        format!("console_oracle {seed}")
+        format!("console {seed}")
     }
 
     fn compare(&self, seed: u64, file: &Path) -> io::Result<Option<String>> {

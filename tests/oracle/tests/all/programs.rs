@@ -4,11 +4,11 @@ use oracle::replay::AfterRefusal;
 use std::ffi::OsStr;
 use std::io::{Read, Write};
 use std::os::unix::ffi::OsStrExt;
-use std::process::{Child, Command, Output, Stdio};
+use std::process::{Child, Output, Stdio};
 use std::thread;
 
 fn generate(arguments: &[&str]) -> Vec<u8> {
-    let output = Command::new(env!("CARGO_BIN_EXE_generate"))
+    let output = crate::common::oracle("generate")
         .args(arguments)
         .output()
         .unwrap();
@@ -18,7 +18,7 @@ fn generate(arguments: &[&str]) -> Vec<u8> {
 
 /// The program with its input, output and messages at hand.
 fn running_oracle(arguments: &[&OsStr]) -> Child {
-    Command::new(env!("CARGO_BIN_EXE_oracle"))
+    crate::common::oracle("replay")
         .args(arguments)
         .stdin(Stdio::piped())
         .stdout(Stdio::piped())
@@ -61,10 +61,7 @@ fn count(numbers: &[u8], wanted: u8) -> usize {
 
 #[test]
 fn the_program_prints_the_cases() {
-    let output = Command::new(env!("CARGO_BIN_EXE_oracle"))
-        .arg("--cases")
-        .output()
-        .unwrap();
+    let output = crate::common::oracle("cases").output().unwrap();
     assert!(output.status.success());
     assert_eq!(
         String::from_utf8(output.stdout).unwrap(),
@@ -318,7 +315,7 @@ fn wrong_arguments() {
         &["1", "2", "3"],
     ];
     for arguments in wrong {
-        let status = Command::new(env!("CARGO_BIN_EXE_generate"))
+        let status = crate::common::oracle("generate")
             .args(arguments)
             .stderr(Stdio::null())
             .status()

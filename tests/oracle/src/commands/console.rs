@@ -1,10 +1,10 @@
-//! `console_oracle < SCRIPT` makes the console calls of a script (Note 13) and
-//! prints their facts. `console_oracle SEED` prints the script of a seed.
+//! `oracle console < SCRIPT` makes the console calls of a script (Note 13) and
+//! prints their facts. `console SEED` prints the script of a seed.
 
 use std::io::{self, ErrorKind, Read, Write};
 
-fn main() -> io::Result<()> {
-    if let Some(seed) = std::env::args().nth(1) {
+pub fn run(words: &[String]) -> io::Result<()> {
+    if let Some(seed) = words.first() {
         let seed = seed.parse().map_err(|_| ErrorKind::InvalidInput)?;
         return io::stdout().write_all(&oracle::console::scripts::script(seed));
     }

@@ -1,13 +1,11 @@
 //! Note 9, a recorder: what it writes, where there is no room, and that a replay
 //! of what was recorded ends in the same state.
 
-mod common;
-
-use common::{listing, stopped_listing, trace, Random, DELETIONS, LINE};
+use crate::common::{listing, stopped_listing, trace, Random, DELETIONS, LINE};
 use oracle::run::record::{recorded, Recorder};
 use oracle::run::{Run, ONES};
 use std::io::Write;
-use std::process::{Command, Stdio};
+use std::process::Stdio;
 
 const CHECKPOINT: u32 = 0;
 const SEND: u32 = 1;
@@ -224,7 +222,7 @@ fn of_a_trace_the_accepted_records_remain() {
 fn the_program() {
     let bytes = trace(2, &[(SEND, 0, 1), (SEND, 1, 1), (DELIVER, 0, 1), (7, 0, 0)]);
     for room in [None, Some(0), Some(1), Some(8), Some(9)] {
-        let mut program = Command::new(env!("CARGO_BIN_EXE_record_oracle"))
+        let mut program = crate::common::oracle("record")
             .args(room.map(|room: usize| room.to_string()))
             .stdin(Stdio::piped())
             .stdout(Stdio::piped())

@@ -1,4 +1,4 @@
-//! `soak COUNT FIRST PROGRAM` holds PROGRAM to the oracle on COUNT random
+//! `oracle soak COUNT FIRST PROGRAM` holds PROGRAM to the oracle on COUNT random
 //! traces, of the seeds FIRST, FIRST + 1 and on. Every second trace is damaged,
 //! the others are what their seed draws: valid, with many recoveries, mixed,
 //! damaged or up to the limits.
@@ -18,9 +18,9 @@ use std::path::{Path, PathBuf};
 use std::process::ExitCode;
 use std::sync::atomic::{AtomicU64, Ordering};
 
-fn main() -> ExitCode {
-    let Some((count, first, [program])) = asked() else {
-        eprintln!("usage: soak COUNT FIRST PROGRAM");
+pub fn run(words: &[String]) -> ExitCode {
+    let Some((count, first, [program])) = asked(words) else {
+        eprintln!("usage: oracle soak COUNT FIRST PROGRAM");
         return ExitCode::from(2);
     };
     let soak = Soak {
@@ -49,7 +49,7 @@ struct Soak {
 
 impl Comparison for Soak {
     fn input(&self, seed: u64) -> String {
-        format!("generate {}", half_damaged(seed).join(" "))
+        format!("oracle generate {}", half_damaged(seed).join(" "))
     }
 
     fn compare(&self, seed: u64, file: &Path) -> io::Result<Option<String>> {

@@ -1,14 +1,11 @@
 //! Note 12, two halves of one run: examples, the numbers in their order, what
 //! holds of every merged trace, and that both ways round end alike.
 
-mod common;
-
-use common::{listing, trace, DELETIONS};
+use crate::common::{self, listing, trace, DELETIONS};
 use oracle::halves::draw::{drawn, drawn_whole, Halves};
 use oracle::halves::merge::merge;
 use oracle::run::{Run, ONES};
 use oracle::whole::Whole;
-use std::process::Command;
 
 const CHECKPOINT: u32 = 0;
 const SEND: u32 = 1;
@@ -447,7 +444,7 @@ fn the_programs() {
     let (first, second) = (folder.join("first"), folder.join("second"));
     let mut refused = 0;
     for seed in 0..40 {
-        let output = Command::new(env!("CARGO_BIN_EXE_halves"))
+        let output = crate::common::oracle("halves")
             .arg(seed.to_string())
             .args([&first, &second])
             .output()
@@ -459,7 +456,7 @@ fn the_programs() {
         assert!(std::fs::read(&first).unwrap() == halves.first);
         assert!(std::fs::read(&second).unwrap() == halves.second);
 
-        let output = Command::new(env!("CARGO_BIN_EXE_merge_oracle"))
+        let output = crate::common::oracle("merge")
             .args([&first, &second])
             .arg(set.trim())
             .output()
