@@ -1,0 +1,3 @@
+-- Laws of machines, whatever their states.
+pub mod Runs
+pub mod Places

@@ -1,0 +1,75 @@
+-- What the places of a request come to, by its kind.
+-- Assumes nothing.
+use mathlib.Core.Path.{_≡_, refl, sym, _∙_, subst}
+use mathlib.Core.Bool.{true, false}
+use mathlib.Core.List.{List}
+use Prim.Native.Nat.{ℕ, _+_, _-_, _≤_}
+use native.Mathlib.Omega.{arith}
+use lib.ListN.{length, take, drop}
+use borrow.Rule.Slice.PartMut.{midOf, putMid, mid-len, take-put, drop-put, same-len-mid}
+use Rattle.machines.specs.declared.Request as requests
+use Rattle.machines.specs.declared.Request.the-variants as request
+use Rattle.machines.specs.Machines.{Stop}
+use Rattle.machines.specs.Forms.{goesOn, requestOf, Placed, Around, Leaves}
+
+pub around-put : (at most : ℕ) (input last : List ℕ) → at + most ≤ length input → length last ≡ length (midOf at (at + most - at) input)
+    → Around at most input (putMid at (at + most - at) input last)
+unfolding Around
+around-put at most input last h e = (
+  same-len-mid at (at + most - at) input last e,
+  take-put at (at + most - at) input last (omega (arith, h)),
+  drop-put at (at + most) input last (omega arith) h (e ∙ mid-len at (at + most) input h),
+)
+
+-- What the places of a request say, by its kind.
+module _ (r : requests.Request) (input out : ℕ) (inside : Placed r input out) where
+  pub argument-inside : (i at most : ℕ) → r ≡ request.Argument i at most → at + most ≤ input
+  unfolding Placed
+  argument-inside i at most e = subst (λ (x : requests.Request). Placed x input out) e inside
+
+  pub read-inside : (at most : ℕ) → r ≡ request.Read at most → at + most ≤ input
+  unfolding Placed
+  read-inside at most e = subst (λ (x : requests.Request). Placed x input out) e inside
+
+  pub open-inside : (size : ℕ) → r ≡ request.Open size → size ≤ out
+  unfolding Placed
+  open-inside size e = subst (λ (x : requests.Request). Placed x input out) e inside
+
+  pub write-inside : (size : ℕ) → r ≡ request.Write size → size ≤ out
+  unfolding Placed
+  write-inside size e = subst (λ (x : requests.Request). Placed x input out) e inside
+
+  pub say-inside : (size : ℕ) → r ≡ request.Say size → size ≤ out
+  unfolding Placed
+  say-inside size e = subst (λ (x : requests.Request). Placed x input out) e inside
+
+  pub fail-inside : (size : ℕ) → r ≡ request.Fail size → size ≤ out
+  unfolding Placed
+  fail-inside size e = subst (λ (x : requests.Request). Placed x input out) e inside
+
+-- What is left of the buffer, where the kind is known.
+pub leaves-by : (r kind : requests.Request) (before after : List ℕ) → r ≡ kind → Leaves kind before after → Leaves r before after
+leaves-by r kind before after e h = subst (λ (x : requests.Request). Leaves x before after) (sym e) h
+
+-- A form that goes on stands for no `Stop`, and one that does not for nothing else.
+pub going-is : (r : requests.Request) (out : List ℕ) → goesOn r ≡ true → requestOf r out ≡ Stop → ⊥
+unfolding goesOn requestOf
+going-is request.Count out e f = let z : _≡_ {A = ℕ} 0 1 = cc in omega arith
+going-is (request.Argument i at most) out e f = let z : _≡_ {A = ℕ} 0 1 = cc in omega arith
+going-is (request.Open size) out e f = let z : _≡_ {A = ℕ} 0 1 = cc in omega arith
+going-is (request.Read at most) out e f = let z : _≡_ {A = ℕ} 0 1 = cc in omega arith
+going-is (request.Write size) out e f = let z : _≡_ {A = ℕ} 0 1 = cc in omega arith
+going-is (request.Say size) out e f = let z : _≡_ {A = ℕ} 0 1 = cc in omega arith
+going-is (request.Fail size) out e f = let z : _≡_ {A = ℕ} 0 1 = cc in omega arith
+going-is request.Stop out e f = let z : _≡_ {A = ℕ} 0 1 = cc in omega arith
+
+pub stopped-is : (r : requests.Request) (out : List ℕ) → goesOn r ≡ false → requestOf r out ≡ Stop
+unfolding goesOn requestOf
+stopped-is request.Count out e = cc
+stopped-is (request.Argument i at most) out e = cc
+stopped-is (request.Open size) out e = cc
+stopped-is (request.Read at most) out e = cc
+stopped-is (request.Write size) out e = cc
+stopped-is (request.Say size) out e = cc
+stopped-is (request.Fail size) out e = cc
+stopped-is request.Stop out e = refl

@@ -1,0 +1,20 @@
+-- `machines::system::fail` is safe.
+-- Assumes nothing.
+use borrow.Author.Needs.{needs}
+use mathlib.Core.Path.{sym}
+use denote.Ref.{now}
+use lib.Seq.{length-take-le}
+use Rattle.machines.proofs.system.fail.Statement.{statement}
+use Rattle.machines.proofs.system.fail.Tie as tie
+
+slice-aggregate-fail : tie.Need-slice-aggregate-fail
+slice-aggregate-fail c = sym (length-take-le (c .before .before .args .size) (now (c .before .before .args .out)) (c .before .before .pre .1))
+
+fail-requires : tie.Need-fail-requires
+fail-requires c κs = search needs
+
+returns : tie.Need-returns
+returns c = search needs
+
+pub fail-spec : {M : Type 1} → statement M
+fail-spec = tie.close (tie.spec slice-aggregate-fail fail-requires returns)

@@ -1,0 +1,86 @@
+-- The forms that requests and answers have in code: numbers and places of lent buffers. The bytes that a program asks for go to a place of its buffer `input`; those
+-- that it hands out stand at the front of its buffer `out`.
+-- Assumes nothing.
+use mathlib.Core.Path.{_≡_}
+use mathlib.Core.Bool.{Bool, true, false}
+use mathlib.Core.List.{List}
+use Prim.Native.Nat.{ℕ, _+_, _≤_}
+use lib.ListN.{length, take, drop}
+use Rattle.machines.specs.declared.Request as requests
+use Rattle.machines.specs.declared.Request.the-variants as request
+use Rattle.machines.specs.declared.Answer as answers
+use Rattle.machines.specs.declared.Answer.the-variants as answer
+use Rattle.machines.specs.Machines.{Request, Count, Argument, Open, Read, Write, Say, Fail, Stop, Answer, Number, Bytes, End, Done, Failed}
+
+-- The request that a form stands for, with these bytes in `out`.
+unfoldable pub requestOf : requests.Request → List ℕ → Request
+requestOf request.Count out = Count
+requestOf (request.Argument i at most) out = Argument i most
+requestOf (request.Open size) out = Open (take size out)
+requestOf (request.Read at most) out = Read most
+requestOf (request.Write size) out = Write (take size out)
+requestOf (request.Say size) out = Say (take size out)
+requestOf (request.Fail size) out = Fail (take size out)
+requestOf request.Stop out = Stop
+
+-- The answer that a form stands for, with these bytes in `input`, where the bytes that were asked for are at a place.
+unfoldable pub answerOf : answers.Answer → ℕ → List ℕ → Answer
+answerOf (answer.Number n) at input = Number n
+answerOf (answer.Bytes size) at input = Bytes (take size (drop at input))
+answerOf answer.End at input = End
+answerOf answer.Done at input = Done
+answerOf answer.Failed at input = Failed
+
+-- Whether there is anything to obey.
+unfoldable pub goesOn : requests.Request → Bool
+goesOn request.Count = true
+goesOn (request.Argument i at most) = true
+goesOn (request.Open size) = true
+goesOn (request.Read at most) = true
+goesOn (request.Write size) = true
+goesOn (request.Say size) = true
+goesOn (request.Fail size) = true
+goesOn request.Stop = false
+
+-- The places of a request lie inside buffers of these lengths.
+unfoldable pub Placed : requests.Request → ℕ → ℕ → Type 0
+Placed request.Count input out = Unit {0}
+Placed (request.Argument i at most) input out = at + most ≤ input
+Placed (request.Open size) input out = size ≤ out
+Placed (request.Read at most) input out = at + most ≤ input
+Placed (request.Write size) input out = size ≤ out
+Placed (request.Say size) input out = size ≤ out
+Placed (request.Fail size) input out = size ≤ out
+Placed request.Stop input out = Unit {0}
+
+-- The buffer before and after a call that may have put bytes at a place: it is as it was around them.
+unfoldable pub Around : ℕ → ℕ → List ℕ → List ℕ → Type 0
+Around at most before after = (length after ≡ length before) × (take at after ≡ take at before) × (drop (at + most) after ≡ drop (at + most) before)
+
+-- What obeying a request leaves of the buffer `input`.
+unfoldable pub Leaves : requests.Request → List ℕ → List ℕ → Type 0
+Leaves request.Count before after = after ≡ before
+Leaves (request.Argument i at most) before after = Around at most before after
+Leaves (request.Open size) before after = after ≡ before
+Leaves (request.Read at most) before after = Around at most before after
+Leaves (request.Write size) before after = after ≡ before
+Leaves (request.Say size) before after = after ≡ before
+Leaves (request.Fail size) before after = after ≡ before
+Leaves request.Stop before after = after ≡ before
+
+-- The place that the bytes which a request asks for go to.
+unfoldable pub GoesTo : requests.Request → ℕ → Type 0
+GoesTo request.Count place = Unit {0}
+GoesTo (request.Argument i at most) place = at ≡ place
+GoesTo (request.Open size) place = Unit {0}
+GoesTo (request.Read at most) place = at ≡ place
+GoesTo (request.Write size) place = Unit {0}
+GoesTo (request.Say size) place = Unit {0}
+GoesTo (request.Fail size) place = Unit {0}
+GoesTo request.Stop place = Unit {0}
+
+-- A form, with these buffers, is what a machine asks for; the bytes that it asks for will be looked for at a place.
+pub record Asks (r : requests.Request) (place : ℕ) (input out : List ℕ) (wanted : Request) : Type 0 where
+  pub stands : requestOf r out ≡ wanted
+  pub inside : Placed r (length input) (length out)
+  pub there : GoesTo r place

@@ -1,0 +1,89 @@
+// What a program asks of the system and what the system answers, as numbers and places of two lent buffers: the bytes that are asked for go to a place of `input`,
+// those that are handed out are the first of `out`. Which request and answer a form stands for is said in `specs/Forms`; what a machine is, in `specs/Machines`.
+// `obey` does what a request asks for: the only function of all programs that calls the system.
+
+// system.rt: one function for each kind of request
+mod system;
+
+ghost use mathlib.Core.Path.{_≡_};
+ghost use lib.ListN.{length};
+ghost use Rattle.machines.specs.Forms.{goesOn, Placed, Leaves};
+
+pub enum Request {
+    Count,
+    // Word number, place and most bytes.
+    Argument(usize, usize, usize),
+    // The first so many bytes of `out` are the name.
+    Open(usize),
+    // Place and most bytes.
+    Read(usize, usize),
+    Write(usize),
+    Say(usize),
+    Fail(usize),
+    Stop,
+}
+
+pub enum Answer {
+    Number(usize),
+    Bytes(usize),
+    End,
+    Done,
+    Failed,
+}
+
+// Where bytes are read from: a descriptor of the system's.
+pub struct Source(i32);
+
+// What came of a request, and where bytes are read from then on.
+pub struct Obeyed {
+    pub answer: Answer,
+    pub source: Source,
+}
+
+pub fn standard_input() -> Source {
+    let descriptor = libc::STDIN_FILENO;
+    Source(descriptor)
+}
+
+// Whether there is anything to obey.
+pub fn goes_on(request: Request) -> bool
+    ensures { λ r. ⌜ r ≡ goesOn request ⌝ }
+{
+    match request {
+        Request::Count => true,
+        Request::Argument(_, _, _) => true,
+        Request::Open(_) => true,
+        Request::Read(_, _) => true,
+        Request::Write(_) => true,
+        Request::Say(_) => true,
+        Request::Fail(_) => true,
+        Request::Stop => false,
+    }
+}
+
+// An answer, with the source as it is.
+fn told(source: Source, answer: Answer) -> Obeyed
+    ensures { λ r. ⌜ r .answer ≡ answer ⌝ }
+{
+    Obeyed { answer, source }
+}
+
+// Does what a request asks for, and hands back what came of it.
+pub fn obey(request: Request, source: Source, input: &mut [u8], out: &[u8]) -> Obeyed
+    requires { ⌜ Placed request (length (now input)) (length (now out)) ⌝ }
+    ensures { λ r. ⌜ Leaves request (now (input .entry)) (now (input .exit)) ⌝ }
+{
+    match request {
+        Request::Count => told(source, system::count(request)),
+        Request::Argument(i, at, most) => told(
+            source,
+            system::argument(request, i, at, most, input),
+        ),
+        Request::Open(size) => system::open(request, size, out, source),
+        Request::Read(at, most) => told(source, system::read(request, at, most, input, source)),
+        Request::Write(size) => told(source, system::write(request, size, out)),
+        Request::Say(size) => told(source, system::say(request, size, out)),
+        Request::Fail(size) => told(source, system::fail(request, size, out)),
+        Request::Stop => told(source, Answer::Done),
+    }
+}

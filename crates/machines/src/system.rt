@@ -1,0 +1,88 @@
+// One function for each kind of request: the call of the system, and what it answered. No contract can say what a call reads or writes, so these lines are for the
+// eye. Each function takes the request that it obeys as well, which says the bytes that it is about.
+use crate::Answer;
+use crate::Obeyed;
+use crate::Request;
+use crate::Source;
+use libc::STDERR_FILENO;
+use libc::STDOUT_FILENO;
+ghost use mathlib.Core.Path.{_≡_};
+ghost use Prim.Native.Nat.{_+_, _≤_};
+ghost use lib.ListN.{length};
+ghost use Rattle.machines.specs.Forms.{Around};
+
+pub fn count(request: Request) -> Answer
+    requires { ⌜ request ≡ Request.Count ⌝ }
+{
+    Answer::Number(os::arg_count())
+}
+
+// `arg` sets `errno` to 0 exactly if all of the word is in the buffer.
+pub fn argument(request: Request, i: usize, at: usize, most: usize, input: &mut [u8]) -> Answer
+    requires { ⌜ (request ≡ Request.Argument i at most) × (at + most ≤ length (now input)) ⌝ }
+    ensures { λ r. ⌜ Around at most (now (input .entry)) (now (input .exit)) ⌝ }
+{
+    let end = at + most;
+    let size = os::arg(i, &mut input[at..end]);
+    if os::errno() == 0 {
+        return Answer::Bytes(size);
+    }
+    Answer::Failed
+}
+
+// The file stays open to the program's end.
+pub fn open(request: Request, size: usize, out: &[u8], source: Source) -> Obeyed
+    requires { ⌜ (request ≡ Request.Open size) × (size ≤ length (now out)) ⌝ }
+{
+    let opened = os::open_read(&out[..size]);
+    if opened < 0 {
+        return Obeyed {
+            answer: Answer::Failed,
+            source,
+        };
+    }
+    Obeyed {
+        answer: Answer::Done,
+        source: Source(opened),
+    }
+}
+
+pub fn read(request: Request, at: usize, most: usize, input: &mut [u8], source: Source) -> Answer
+    requires { ⌜ (request ≡ Request.Read at most) × (at + most ≤ length (now input)) ⌝ }
+    ensures { λ r. ⌜ Around at most (now (input .entry)) (now (input .exit)) ⌝ }
+{
+    let end = at + most;
+    let got = libc::read(source.0, &mut input[at..end]);
+    let size = io::count(got, &input[at..end]);
+    if got < 0 {
+        return Answer::Failed;
+    }
+    if size == 0 {
+        return Answer::End;
+    }
+    Answer::Bytes(size)
+}
+
+pub fn write(request: Request, size: usize, out: &[u8]) -> Answer
+    requires { ⌜ (request ≡ Request.Write size) × (size ≤ length (now out)) ⌝ }
+{
+    if io::write_all(STDOUT_FILENO, &out[..size]) {
+        return Answer::Done;
+    }
+    Answer::Failed
+}
+
+pub fn say(request: Request, size: usize, out: &[u8]) -> Answer
+    requires { ⌜ (request ≡ Request.Say size) × (size ≤ length (now out)) ⌝ }
+{
+    io::write_all(STDERR_FILENO, &out[..size]);
+    Answer::Done
+}
+
+// `os::fail` adds what the system says of the call that failed.
+pub fn fail(request: Request, size: usize, out: &[u8]) -> Answer
+    requires { ⌜ (request ≡ Request.Fail size) × (size ≤ length (now out)) ⌝ }
+{
+    os::fail(&out[..size]);
+    Answer::Done
+}
