@@ -1,0 +1,21 @@
+-- `console_in_place::denied::is_entitled` meets its contract, by the cases of the role.
+-- Assumes nothing.
+use borrow.Author.Needs.{needs}
+use Rattle.roles.specs.Console.{entitledBy}
+use Rattle.console_in_place.proofs.denied.is_entitled.Statement.{statement}
+use Rattle.console_in_place.proofs.denied.is_entitled.Tie as tie
+
+returns : tie.Need-returns
+unfolding entitledBy
+returns c = search needs
+
+returns-2 : tie.Need-returns-2
+unfolding entitledBy
+returns-2 c = rw (c .before .enum-told2 .given .1) (c .is-own .ensures)
+
+returns-3 : tie.Need-returns-3
+unfolding entitledBy
+returns-3 c = search needs
+
+pub is-entitled-spec : {M : Type 1} → statement M
+is-entitled-spec = tie.close (tie.spec (λ c. search needs) (λ c. search needs) (λ c κs. search needs) (λ c. search needs) returns returns-2 returns-3)

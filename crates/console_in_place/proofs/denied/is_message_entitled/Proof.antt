@@ -1,0 +1,41 @@
+-- `console_in_place::denied::is_message_entitled` meets its contract, by the cases of the role.
+-- Assumes nothing.
+use mathlib.Core.Path.{_≡_, sym, _∙_, ap}
+use borrow.Author.Needs.{needs}
+use Rattle.words.specs.Layout.{runOf}
+use Rattle.model.specs.Steps.{found}
+use Rattle.roles.specs.Console.{entitledMessageBy}
+use Rattle.console_in_place.proofs.Receiving.{reaches-own}
+use Rattle.console_in_place.proofs.denied.is_message_entitled.Statement.{statement}
+use Rattle.console_in_place.proofs.denied.is_message_entitled.Tie as tie
+
+returns : tie.Need-returns
+unfolding entitledMessageBy
+returns c = search needs
+
+returns-2 : tie.Need-returns-2
+returns-2 c =
+    let o = c .before in
+    let r = o .before in
+    let n = r .before in
+    let t = n .before in
+    let a = t .before .before .before .args in
+    rw (t .enum-told2 .given .1) (reaches-own (a .owned) (runOf (a .w .now) .count) (found (runOf (a .w .now)) (a .m)) _ _ (r .receiver-of .ensures) (rw (n .count-of .ensures) at (o .is-own .ensures)))
+
+returns-3 : tie.Need-returns-3
+unfolding entitledMessageBy
+returns-3 c = search needs
+
+pub is-message-entitled-spec : {M : Type 1} → statement M
+is-message-entitled-spec =
+    tie.close
+    (tie.spec
+    (λ c. search needs)
+    (λ c. search needs)
+    (λ c κs. search needs)
+    (λ c κs. search needs)
+    (λ c κs. search needs)
+    (λ c. search needs)
+    returns
+    returns-2
+    returns-3)

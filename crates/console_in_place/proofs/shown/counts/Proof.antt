@@ -1,0 +1,86 @@
+-- `console_in_place::shown::counts` meets its contract: it is denied, refused with 2 or 3, or how many each process keeps is written.
+-- Assumes nothing.
+use mathlib.Core.Path.{_≡_, sym, ap, _∙_}
+use borrow.Author.Needs.{needs}
+use Rattle.words.specs.Layout.{runOf}
+use mathlib.Core.List.{List}
+use Prim.Native.Nat.{ℕ}
+use native.Mathlib.Omega.{arith}
+use borrow.Author.Tests.{ltb-false}
+use lib.Dec.{ltb}
+use lib.ListN.{length}
+use lib.Seq.{sets}
+use Rattle.whole_runs.proofs.Unsound.{is-sound, is-unsound}
+use Rattle.words.proofs.View.{count-is}
+use Rattle.words.proofs.ViewSound.{sound-words}
+use Rattle.readers.specs.Written.{wordsFrom}
+use Rattle.console_in_place.proofs.Showing.{counts-denied, counts-unsound, counts-short, counts-written}
+use Rattle.console_in_place.proofs.shown.counts.Statement.{statement}
+use Rattle.console_in_place.proofs.shown.counts.Tie as tie
+
+returns : tie.Need-returns
+returns c =
+    let d = c .before in
+    let a = d .before .before .before .args in
+    counts-denied (a .role) (a .owned) (a .w .now) (a .line .now) (d .is-denied .ensures (a .owned)) (c .if1 .taken)
+
+returns-2 : tie.Need-returns-2
+returns-2 c =
+    let q = c .before in
+    let e = q .before in
+    let d = e .before in
+    let a = d .before .before .before .args in
+    counts-unsound (a .role) (a .owned) (a .w .now) (a .line .now) (d .is-denied .ensures (a .owned)) (e .if1 .left) (is-unsound (runOf (a .w .now)) (q .is-sound .ensures) (c .if2 .taken))
+
+returns-3 : tie.Need-returns-3
+returns-3 c =
+    let sh = c .before in
+    let k = sh .before in
+    let f = k .before in
+    let q = f .before in
+    let e = q .before in
+    let d = e .before in
+    let a = d .before .before .before .args in
+    counts-short (a .role) (a .owned) (a .w .now) (a .line .now) (d .is-denied .ensures (a .owned)) (e .if1 .left) (is-sound (runOf (a .w .now)) (q .is-sound .ensures) (f .if2 .left))
+    (ap (λ (j : ℕ). ltb (length (a .line .now)) j) (sym (k .count-of .ensures)) ∙ sym (sh .is-line-short .ensures) ∙ c .if3 .taken)
+
+copy-words-requires : tie.Need-copy-words-requires
+copy-words-requires c κs =
+    let x = c .before in
+    let sh = x .before in
+    let k = sh .before in
+    let f = k .before in
+    let q = f .before in
+    let a = q .before .before .before .before .before .args in
+    let known = sound-words (a .w .now) (is-sound (runOf (a .w .now)) (q .is-sound .ensures) (f .if2 .left)) in
+    (omega (arith, known .size, known .few, count-is (a .w .now) (known .fit), k .count-of .ensures), ltb-false _ _ (sym (sh .is-line-short .ensures) ∙ x .if3 .left))
+
+returns-4 : tie.Need-returns-4
+returns-4 c =
+    let v = c .before .before in
+    let x = v .before .before in
+    let sh = x .before in
+    let k = sh .before in
+    let f = k .before in
+    let q = f .before in
+    let e = q .before in
+    let d = e .before in
+    let a = d .before .before .before .args in
+    counts-written (a .role) (a .owned) (a .w .now) (a .line .now) (d .is-denied .ensures (a .owned)) (e .if1 .left) (is-sound (runOf (a .w .now)) (q .is-sound .ensures) (f .if2 .left))
+    (ap (λ (j : ℕ). ltb (length (a .line .now)) j) (sym (k .count-of .ensures)) ∙ sym (sh .is-line-short .ensures) ∙ x .if3 .left) _
+    (v .copy-words .ensures ∙ ap (λ (j : ℕ). sets (a .line .now) 0 (wordsFrom (a .w .now) 16 j)) (k .count-of .ensures))
+
+pub counts-spec : {M : Type 1} → statement M
+counts-spec =
+    tie.close
+    (tie.spec
+    (λ c κs. search needs)
+    returns
+    (λ c κs. search needs)
+    returns-2
+    (λ c κs. search needs)
+    (λ c κs. search needs)
+    returns-3
+    copy-words-requires
+    (λ c. search needs)
+    returns-4)

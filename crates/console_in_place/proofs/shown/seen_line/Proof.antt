@@ -1,0 +1,71 @@
+-- `console_in_place::shown::seen_line` meets its contract: a lent list that is too short, a refused line, and the caller's members of the line.
+-- Assumes nothing.
+use mathlib.Core.Path.{_≡_, refl, sym, ap, _∙_}
+use borrow.Author.Needs.{needs}
+use Rattle.words.specs.Layout.{runOf}
+use native.Mathlib.Omega.{arith}
+use Rattle.model.specs.laws.Sound.{sound-state}
+use Rattle.roles.specs.Console.{entitled}
+use Rattle.console_in_place.proofs.Members.{short-line, line-refused, written-sound, line-written}
+use Rattle.console_in_place.proofs.shown.seen_line.Statement.{statement}
+use Rattle.console_in_place.proofs.shown.seen_line.Tie as tie
+
+returns : tie.Need-returns
+returns c =
+    let t = c .before .before in
+    let x = t .before .before in
+    let k = x .before in
+    let a = k .before .before .before .args in
+    let g = t .line .ensures in
+    (g .1 .0, g .1 .1 .0 ∙ short-line (record { role = a .role; owned = a .owned }) (runOf (a .w .now)) (a .failed) (a .line .now) (omega (arith, x .if1 .taken, k .count-of .ensures)))
+
+write-seen-requires : tie.Need-write-seen-requires
+write-seen-requires c κs =
+    let told = c .before in
+    let l = told .before .before .before in
+    let e = l .before .before in
+    let k = e .before in
+    let a = k .before .before .before .args in
+    let s = runOf (a .w .now) in
+    let h = written-sound (record { role = a .role; owned = a .owned }) s (a .failed) (a .line .now) (omega (arith, e .if1 .left, k .count-of .ensures)) (sym (told .enum-told .given .1) ∙ l .line3 .ensures .1 .0) in
+    (omega (arith, sound-state s h .count-most, k .count-of .ensures), e .if1 .left)
+
+returns-2 : tie.Need-returns-2
+returns-2 c =
+    let told = c .before in
+    let l = told .before .before .before in
+    let e = l .before .before in
+    let k = e .before in
+    let a = k .before .before .before .args in
+    let g = line-refused (record { role = a .role; owned = a .owned }) (runOf (a .w .now)) (a .failed) (a .line .now) (omega (arith, e .if1 .left, k .count-of .ensures)) _ (sym (told .answer .given .1) ∙ l .line3 .ensures .1 .0) in
+    (g .0, g .1)
+
+returns-3 : tie.Need-returns-3
+unfolding entitled
+returns-3 c =
+    let v = c .before .before in
+    let told = v .before .before in
+    let l = told .before .before .before in
+    let e = l .before .before in
+    let k = e .before in
+    let a = k .before .before .before .args in
+    let g = line-written (record { role = a .role; owned = a .owned }) (runOf (a .w .now)) (a .failed) (a .line .now) (omega (arith, e .if1 .left, k .count-of .ensures)) _ _
+    (sym (told .enum-told .given .1) ∙ l .line3 .ensures .1 .0) (l .line3 .ensures .1 .1 .0) (rw (k .count-of .ensures) at (v .write-seen .ensures)) in
+    (g .0, g .1)
+
+pub seen-line-spec : {M : Type 1} → statement M
+seen-line-spec =
+    tie.close
+    (tie.spec
+    (λ c κs. search needs)
+    (λ c κs. search needs)
+    (λ c. search needs)
+    returns
+    (λ c. search needs)
+    (λ c κs. search needs)
+    (λ c. search needs)
+    (λ c. search needs)
+    write-seen-requires
+    returns-2
+    (λ c. search needs)
+    returns-3)
