@@ -43,7 +43,7 @@ use Rattle.whole_runs.proofs.whole.Reached.{Reached, refusal}
 use Rattle.whole_runs.proofs.whole.Runs.{stepped as stepOf}
 use Rattle.whole_runs.proofs.WholeRuns.{started-state, start-reached, accepted-reached}
 use Rattle.recording.proofs.Replay.{Accepts, none-left, one-more, fits-accepted, state-append, performed-append, accepts-append}
-use Rattle.spacing.specs.declared.Trial.{Trial}
+use Rattle.spacing.specs.Trial.{Trial}
 use Rattle.spacing.specs.Spacing.{draw, generated, drawnProcess, drawnNumber, headOf, oldestTo, chosenReceiver, sends, delivers, action, isDue, withCheckpoint, stepEvents, isDelivery, hasValue, deliveriesIn, forcedIn, stepped, trialStart, trialAfter, eventsOf}
 
 -- A run with block counts of 1 starts.

@@ -1,9 +1,9 @@
--- For the code: the states of a trial are reached by calls, how many checkpoints a process keeps stands in the state, and the counts of a trial stay small.
+-- For the code: the states of a trial are reached by calls, and the counts of a trial stay small.
 -- Assumes nothing.
-use mathlib.Core.Path.{_≡_, refl, sym, _∙_, ap}
+use mathlib.Core.Path.{_≡_, _∙_, ap}
 use mathlib.Core.List.{List, [], _∷_}
 use mathlib.Core.Option.{Option, none, some}
-use Prim.Native.Nat.{ℕ, zero, suc, _+_, _≤_, _<_}
+use Prim.Native.Nat.{ℕ, zero, suc, _+_, _≤_}
 use native.Mathlib.Omega.{arith}
 use lib.Dec.{ltb}
 use lib.ListN.{length, getD, set, replicate, length-set, length-replicate, getD-replicate, List·getD-eq-default}
@@ -13,18 +13,16 @@ use Rattle.laws.specs.Choice.{by-bool, by-eq}
 use Rattle.laws.specs.Lists.{select}
 use Rattle.model.specs.declared.Run.{Run}
 use Rattle.model.specs.declared.Event.{Event}
-use Rattle.model.specs.Words.{places, ones, process}
+use Rattle.model.specs.Words.{places, ones}
 use Rattle.model.specs.Steps.{startState}
 use Rattle.whole_runs.specs.WholeRuns.{Traced}
 use Rattle.recording.specs.Replay.{EventReply, performed}
-use Rattle.model.proofs.simulation.View.{processOf}
-use Rattle.model.proofs.simulation.Reads.{count-is, process-is}
-use Rattle.model.proofs.simulation.SoundUnused.{row-is}
+use Rattle.model.proofs.simulation.Reads.{count-is}
 use Rattle.whole_runs.proofs.WholeRuns.{started-state}
 use Rattle.whole_runs.proofs.Traced.{traced-start}
 use Rattle.recording.proofs.Replay.{traced-events}
-use Rattle.spacing.specs.declared.Trial.{Trial}
-use Rattle.spacing.specs.Spacing.{drawnProcess, drawnNumber, action, isDue, withCheckpoint, stepEvents, isDelivery, hasValue, deliveriesIn, forcedIn, greatestBelow, mostKept, counted, stepped, trialStart, trialAfter, eventsOf}
+use Rattle.spacing.specs.Trial.{Trial}
+use Rattle.spacing.specs.Spacing.{drawnProcess, drawnNumber, action, isDue, withCheckpoint, stepEvents, isDelivery, hasValue, deliveriesIn, forcedIn, counted, stepped, trialStart, trialAfter, eventsOf}
 use Rattle.spacing.proofs.Accepted.{Going, ones-start, tried}
 
 one-delivery : (s : Run) (k acted p : ℕ) (o : Option Event) → deliveriesIn (performed s (withCheckpoint k acted p o)) ≤ 1
@@ -87,21 +85,6 @@ trial-traced n k i seed pos few most =
     let start : Traced (startState n ones) = rw (started-state n ones ok) at (traced-start n ok) in
     rw (← tried n k i seed pos few most .run) (traced-events (startState n ones) start (eventsOf n k i seed))
 
-greatest-held : (n m : ℕ) (s : Run) → ((p : ℕ) → p < n → length (process s p .kept) ≡ getD (s .held) p 0) → m ≤ n → greatestBelow m (λ p. length (process s p .kept)) ≡ greatestBelow m (λ p. getD (s .held) p 0)
-unfolding greatestBelow
-greatest-held n zero s h le = refl
-greatest-held n (suc m) s h le = rw (greatest-held n m s h (omega arith), h m (omega arith))
-
 module _ (n b m : ℕ) (s : Run) (g : Going n b m s) where
-  kept-held : (p : ℕ) → p < n → length (process s p .kept) ≡ getD (s .held) p 0
-  unfolding processOf
-  kept-held p hp =
-      let v = g .reached in
-      rw (v .state, process-is (g .ideal) p (v .limits .few-processes) (rw (v .size) hp)) (sym (row-is (g .ideal) p (v .limits .few-processes) (rw (v .size) hp) .many))
-
-  pub most-held : mostKept n s ≡ greatestBelow n (λ p. getD (s .held) p 0)
-  unfolding mostKept
-  most-held = greatest-held n n s kept-held (omega arith)
-
   pub going-count : s .count ≡ n
   going-count = ap (λ (t : Run). t .count) (g .reached .state) ∙ count-is (g .ideal) ∙ g .reached .size

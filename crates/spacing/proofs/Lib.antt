@@ -4,4 +4,3 @@ pub mod Agreement
 pub mod Cases
 pub mod Counts
 pub mod Oldest
-pub mod Search

@@ -1,3 +1,3 @@
-pub mod Cases
-pub mod Found
+pub mod Trial
 pub mod Spacing
+pub mod Cases

@@ -25,7 +25,7 @@ use Rattle.whole_runs.specs.Calls.{Reply}
 use Rattle.whole_runs.specs.Listing.{stateAfterRecords, listing}
 use Rattle.whole_runs.specs.WholeRuns.{Reachable}
 use Rattle.recording.specs.Replay.{recordsOf, stateAfterEvents, EventReply, performed, repliesOf, noneRefused, paired, linesOf}
-use Rattle.spacing.specs.declared.Trial.{Trial}
+use Rattle.spacing.specs.Trial.{Trial}
 use Rattle.spacing.specs.declared.TrialAnswer.{TrialAnswer}
 use Rattle.spacing.specs.declared.TrialAnswer.the-variants as trial-answer
 use Rattle.spacing.specs.declared.TrialResult.{TrialResult}

@@ -1,28 +1,13 @@
 // The numbers of a result.
 ghost use mathlib.Core.Path.{_≡_};
 ghost use Prim.Native.Nat.{_≤_, max};
-ghost use lib.ListN.{getD};
-ghost use Rattle.spacing.specs.Spacing.{greatestBelow, outOfRange, quotientOf, remainderOf};
+ghost use Rattle.spacing.specs.Spacing.{outOfRange, quotientOf, remainderOf};
 
 // Whether a parameter of a simulation is out of its range.
 pub fn is_outside(low: usize, high: usize, x: usize) -> bool
     ensures { λ r. ⌜ r ≡ outOfRange low high x ⌝ }
 {
     if x < low { true } else { high < x }
-}
-
-// The greatest of the first n counts.
-pub fn greatest(counts: [usize; 16], n: usize) -> usize
-    requires { ⌜ n ≤ 16 ⌝ }
-    ensures { λ r. ⌜ r ≡ greatestBelow n (λ p. getD counts p 0) ⌝ }
-{
-    let mut most = 0;
-    for p in 0..n {
-        let count = counts[p];
-        let next = greater(most, count);
-        most = next;
-    }
-    most
 }
 
 pub fn greater(a: usize, b: usize) -> usize

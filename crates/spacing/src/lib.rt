@@ -1,23 +1,12 @@
 // Document 02, Note 10, "Trying a checkpoint spacing": a trial is one simulation that it asks for. What a trial is, is in specs/, the theorems about it are in
 // proofs/; here are its types and what a step needs that touches no state: the generator, the choices and the figures.
 use model::Refusal;
-use model::Run;
 
 // draws.rt: the generator, and what a step chooses by its draws
 pub mod draws;
 
 // figures.rt: the numbers of the result
 pub mod figures;
-
-// A trial between two steps: the state, the generator's last value, how many sends and deliveries of its own each process has done, and the figures so far.
-pub struct Trial {
-    pub run: Run,
-    pub value: u32,
-    pub acted: [u32; 16],
-    pub deliveries: u32,
-    pub forced: u32,
-    pub most: usize,
-}
 
 pub enum TrialAnswer {
     Refused(Refusal),

@@ -23,12 +23,11 @@ use Rattle.whole_runs.specs.Outcomes.{checkpointOutcome, sendOutcome, deliverOu
 use Rattle.whole_runs.specs.Calls.{answered, call}
 use Rattle.whole_runs.specs.Listing.{callOf}
 use Rattle.recording.specs.Replay.{stateAfterEvents, performed}
-use Rattle.spacing.specs.declared.draws.Found.{Found}
-use Rattle.spacing.specs.Found.{foundIn}
 use Rattle.spacing.specs.Spacing.{oldestTo, chosenReceiver, sends, delivers, action, isDue, withCheckpoint, isDelivery, hasValue, deliveriesIn, forcedIn, counted}
 use Rattle.spacing.proofs.Accepted.{by-option}
 use Rattle.trials.specs.declared.Action.{Action}
-use Rattle.trials.specs.Steps.{eventsIn, actionOf, forcedBy}
+use Rattle.trials.specs.declared.Found.{Found}
+use Rattle.trials.specs.Steps.{eventsIn, after, actionOf, forcedBy, foundIn}
 
 forced-one : {A : Type 0} (a : DeliverAnswer) (x : A) → forcedBy a ≡ length (pick (hasValue (deliverReport a .value)) (x ∷ []) [])
 unfolding hasValue deliverReport forcedBy
@@ -36,29 +35,49 @@ forced-one (Refused why) x = refl
 forced-one (Received count) x = refl
 forced-one (Forced index count) x = refl
 
-pub deliver-is : (s : Run) (m : ℕ) (run : Run) (answer : DeliverAnswer) (f : ℕ) → run ≡ deliverOutcome s m (replicate 512 0) .run
-    → answer ≡ deliverOutcome s m (replicate 512 0) .answer → f ≡ forcedBy answer
-    → record { run = run; acted = 1; deliveries = 1; forced = f } ≡ actionOf s (some (Deliver m))
-unfolding actionOf eventsIn stateAfterEvents performed call answered callOf deliveriesIn forcedIn select isDelivery
-deliver-is s m run answer f here said is =
-    let all : f ≡ forcedIn (performed s (Deliver m ∷ [])) = is ∙ ap forcedBy said ∙ forced-one (deliverOutcome s m (replicate 512 0) .answer) _ in
-    λ j. record { run = here j; acted = 1; deliveries = 1; forced = all j }
+-- The state that an event leaves is the call's.
+pub deliver-leaves : (s : Run) (m : ℕ) → deliverOutcome s m (replicate 512 0) .run ≡ after s (some (Deliver m))
+unfolding after eventsIn stateAfterEvents call answered callOf
+deliver-leaves s m = refl
 
-pub send-is : (s : Run) (p q : ℕ) (run : Run) → run ≡ sendOutcome s p q .run → record { run = run; acted = 1; deliveries = 0; forced = 0 } ≡ actionOf s (some (Send p q))
-unfolding actionOf eventsIn stateAfterEvents performed call answered callOf deliveriesIn forcedIn select isDelivery
-send-is s p q run here = λ j. record { run = here j; acted = 1; deliveries = 0; forced = 0 }
+send-leaves : (s : Run) (p q : ℕ) → sendOutcome s p q .run ≡ after s (some (Send p q))
+unfolding after eventsIn stateAfterEvents call answered callOf
+send-leaves s p q = refl
 
-pub nothing-is : (s : Run) → record { run = s; acted = 0; deliveries = 0; forced = 0 } ≡ actionOf s none
-unfolding actionOf eventsIn stateAfterEvents performed deliveriesIn forcedIn select
-nothing-is s = refl
+nothing-leaves : (s : Run) → s ≡ after s none
+unfolding after eventsIn stateAfterEvents
+nothing-leaves s = refl
 
-pub rests : (s : Run) (p : ℕ) (run : Run) → run ≡ checkpointOutcome s p (replicate 512 0) .run → run ≡ stateAfterEvents s (Checkpoint p ∷ [])
+pub rests : (s : Run) (p : ℕ) → checkpointOutcome s p (replicate 512 0) .run ≡ stateAfterEvents s (Checkpoint p ∷ [])
 unfolding stateAfterEvents call answered callOf
-rests s p run here = here
+rests s p = refl
 
 pub rests-not : (s : Run) → s ≡ stateAfterEvents s []
 unfolding stateAfterEvents
 rests-not s = refl
+
+-- What is counted of it.
+pub deliver-is : (s : Run) (m : ℕ) (answer : DeliverAnswer) (f : ℕ) → answer ≡ deliverOutcome s m (replicate 512 0) .answer → f ≡ forcedBy answer
+    → record { acted = 1; deliveries = 1; forced = f } ≡ actionOf s (some (Deliver m))
+unfolding actionOf eventsIn performed call answered callOf deliveriesIn forcedIn select isDelivery
+deliver-is s m answer f said is =
+    let all : f ≡ forcedIn (performed s (Deliver m ∷ [])) = is ∙ ap forcedBy said ∙ forced-one (deliverOutcome s m (replicate 512 0) .answer) _ in
+    λ j. record { acted = 1; deliveries = 1; forced = all j }
+
+send-is : (s : Run) (p q : ℕ) → record { acted = 1; deliveries = 0; forced = 0 } ≡ actionOf s (some (Send p q))
+unfolding actionOf eventsIn performed call answered callOf deliveriesIn forcedIn select isDelivery
+send-is s p q = refl
+
+nothing-is : (s : Run) → record { acted = 0; deliveries = 0; forced = 0 } ≡ actionOf s none
+unfolding actionOf eventsIn performed deliveriesIn forcedIn select
+nothing-is s = refl
+
+-- Both, of what a step does.
+pub nothing-so : (s : Run) (o : Option Event) → o ≡ none → (s ≡ after s o) × (record { acted = 0; deliveries = 0; forced = 0 } ≡ actionOf s o)
+nothing-so s o e = rw e (nothing-leaves s, nothing-is s)
+
+pub send-so : (s : Run) (p q : ℕ) (o : Option Event) → o ≡ some (Send p q) → (sendOutcome s p q .run ≡ after s o) × (record { acted = 1; deliveries = 0; forced = 0 } ≡ actionOf s o)
+send-so s p q o e = rw e (send-leaves s p q, send-is s p q)
 
 module _ (n : ℕ) (s : Run) (p d : ℕ) where
   pub sends-alone : n < 2 → sends n s p d ≡ none
@@ -94,8 +113,8 @@ module _ (n : ℕ) (s : Run) (p d : ℕ) where
 
 -- A step by its parts.
 module _ (s : Run) (k acted p : ℕ) where
-  pub run-by-parts : (o : Option Event) → stateAfterEvents (actionOf s o .run) (pick (eqb (actionOf s o .acted) 1 && isDue k acted) (Checkpoint p ∷ []) []) ≡ stateAfterEvents s (withCheckpoint k acted p o)
-  unfolding actionOf eventsIn stateAfterEvents withCheckpoint
+  pub run-by-parts : (o : Option Event) → stateAfterEvents (after s o) (pick (eqb (actionOf s o .acted) 1 && isDue k acted) (Checkpoint p ∷ []) []) ≡ stateAfterEvents s (withCheckpoint k acted p o)
+  unfolding after actionOf eventsIn stateAfterEvents withCheckpoint
   run-by-parts none = refl
   run-by-parts (some e) = refl
 

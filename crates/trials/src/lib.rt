@@ -1,29 +1,45 @@
-// Document 02, Note 10, "Trying a checkpoint spacing": the simulation itself. Every event of a step is a call of the library on a state that calls reached;
-// what a step chooses and what is counted is in `spacing`.
+// Document 02, Note 10, "Trying a checkpoint spacing": the simulation itself. Every event of a step is a call in place, on words that stand for a state which calls
+// reached; what a step chooses and what is counted is in `spacing`.
 use model::DeliverAnswer;
 use model::Refusal;
-use model::Run;
-use spacing::Trial;
 use spacing::TrialAnswer;
 use spacing::TrialResult;
+use words::places;
 ghost use mathlib.Core.Path.{_≡_};
 ghost use mathlib.Core.Bool.{true};
-ghost use mathlib.Core.List.{[], _∷_};
+ghost use mathlib.Core.List.{List, [], _∷_};
 ghost use mathlib.Core.Option.{none, some};
-ghost use Prim.Native.Nat.{_≤_, _<_};
+ghost use Prim.Native.Nat.{ℕ, _≤_, _<_};
+ghost use lib.ListN.{length};
 ghost use Rattle.laws.specs.Choice.{pick};
 ghost use Rattle.model.specs.declared.Event.the-variants.{Checkpoint, Deliver};
 ghost use Rattle.model.specs.Sound.{sound};
 ghost use Rattle.recording.specs.Replay.{stateAfterEvents};
-ghost use Rattle.spacing.specs.Spacing.{sends, action, stepped, trialStart, trialAfter, trialRefusal, figures, noFigures, simulated, AgreesWithReplay};
-ghost use Rattle.trials.specs.Steps.{actionOf, forcedBy, Underway};
+ghost use Rattle.words.specs.Layout.{countOf, runOf};
+ghost use Rattle.spacing.specs.Spacing.{oldestTo, sends, action, mostKept, stepped, trialStart, trialAfter, trialRefusal, figures, noFigures, simulated, AgreesWithReplay};
+ghost use Rattle.trials.specs.Steps.{after, actionOf, forcedBy, foundIn, trialOf, Underway};
 
-// What the action of a step leaves: the state, and how many sends and deliveries, deliveries and forced checkpoints it was, none or one each.
+// What a trial has between two steps beside its state, which the words stand for: the generator's last value, how many sends and deliveries of its own each process
+// has done, and the figures so far.
+struct Tally {
+    value: u32,
+    acted: [u32; 16],
+    deliveries: u32,
+    forced: u32,
+    most: usize,
+}
+
+// How many sends and deliveries, deliveries and forced checkpoints the action of a step is, none or one each.
 struct Action {
-    run: Run,
     acted: u32,
     deliveries: u32,
     forced: u32,
+}
+
+// Whether a message was found, and its number.
+struct Found {
+    found: bool,
+    number: u32,
 }
 
 // Whether a delivery stored a forced checkpoint, as a count.
@@ -38,17 +54,16 @@ fn forced_by(answer: DeliverAnswer) -> u32
 }
 
 // "the oldest is delivered"
-fn deliver(s: Run, number: u32) -> Action
-    requires { ⌜ sound s ≡ true ⌝ }
-    ensures { λ r. ⌜ r ≡ actionOf s (some (Deliver number)) ⌝ }
+fn deliver(w: &mut [u16], number: u32) -> Action
+    requires { ⌜ sound (runOf (now w)) ≡ true ⌝ }
+    ensures { λ r. ⌜ runOf (now (w .exit)) ≡ after (runOf (now (w .entry))) (some (Deliver number)) ⌝ }
+    ensures { λ r. ⌜ r ≡ actionOf (runOf (now (w .entry))) (some (Deliver number)) ⌝ }
 {
     let mut deleted = [0u16; 512];
-    let o = steps::deliver::deliver(s, number, &mut deleted);
-    let run = o.run;
-    let answer = o.answer;
+    let delivered = in_place::deliver::deliver_on(w, number, &mut deleted);
+    let answer = delivered.answer;
     let forced = forced_by(answer);
     Action {
-        run,
         acted: 1,
         deliveries: 1,
         forced,
@@ -56,11 +71,10 @@ fn deliver(s: Run, number: u32) -> Action
 }
 
 // A step that does nothing.
-fn nothing(s: Run) -> Action
-    ensures { λ r. ⌜ r ≡ actionOf s none ⌝ }
+fn nothing() -> Action
+    ensures { λ r. ⌜ r ≡ record { acted = 0; deliveries = 0; forced = 0 } ⌝ }
 {
     Action {
-        run: s,
         acted: 0,
         deliveries: 0,
         forced: 0,
@@ -68,61 +82,94 @@ fn nothing(s: Run) -> Action
 }
 
 // "Otherwise, if n is at least 2 and fewer than 64 are under way, p sends"
-fn send(s: Run, n: usize, p: usize, d: u32) -> Action
-    requires { ⌜ (sound s ≡ true) × (n ≤ 16) × (p < n) ⌝ }
-    ensures { λ r. ⌜ r ≡ actionOf s (sends n s p d) ⌝ }
+fn send(w: &mut [u16], n: usize, p: usize, d: u32) -> Action
+    requires { ⌜ (sound (runOf (now w)) ≡ true) × (n ≤ 16) × (p < n) ⌝ }
+    ensures { λ r. ⌜ runOf (now (w .exit)) ≡ after (runOf (now (w .entry))) (sends n (runOf (now (w .entry))) p d) ⌝ }
+    ensures { λ r. ⌜ r ≡ actionOf (runOf (now (w .entry))) (sends n (runOf (now (w .entry))) p d) ⌝ }
 {
     if n < 2 {
-        return nothing(s);
+        return nothing();
     }
-    if 64 <= s.underway {
-        return nothing(s);
+    let many = w[places::UNDER_WAY] as usize;
+    if words::MESSAGES <= many {
+        return nothing();
     }
     let to = spacing::draws::chosen_receiver(n, p, d);
-    let o = steps::send::send(s, p, to);
-    let run = o.run;
+    let answer = in_place::send::send_on(w, p, to);
     Action {
-        run,
         acted: 1,
         deliveries: 0,
         forced: 0,
     }
 }
 
-// "If a message to p is under way and d is even, the oldest is delivered. Otherwise .."
-fn act(s: Run, n: usize, p: usize, d: u32) -> Action
-    requires { ⌜ (sound s ≡ true) × (n ≤ 16) × (p < n) ⌝ }
-    ensures { λ r. ⌜ r ≡ actionOf s (action n s p d) ⌝ }
+// The oldest message to p under way: numbers ascend with the places, so it is the first of those to p.
+fn oldest_to(w: &[u16], p: usize) -> Found
+    requires { ⌜ sound (runOf (now w)) ≡ true ⌝ }
+    ensures { λ r. ⌜ r ≡ foundIn (oldestTo (runOf (now (w .entry))) p) ⌝ }
 {
-    let messages = s.messages;
-    let oldest = spacing::draws::oldest_to(messages, s.underway, p);
+    let end = w[places::END] as usize;
+    for k in 0..end {
+        let number = message_words::number_at(w, k);
+        let to = w[places::RECEIVERS + k] as usize;
+        if (number != 0) & (to == p) {
+            return Found {
+                found: true,
+                number,
+            };
+        }
+    }
+    Found {
+        found: false,
+        number: 0,
+    }
+}
+
+// "If a message to p is under way and d is even, the oldest is delivered. Otherwise .."
+fn act(w: &mut [u16], n: usize, p: usize, d: u32) -> Action
+    requires { ⌜ (sound (runOf (now w)) ≡ true) × (n ≤ 16) × (p < n) ⌝ }
+    ensures { λ r. ⌜ runOf (now (w .exit)) ≡ after (runOf (now (w .entry))) (action n (runOf (now (w .entry))) p d) ⌝ }
+    ensures { λ r. ⌜ r ≡ actionOf (runOf (now (w .entry))) (action n (runOf (now (w .entry))) p d) ⌝ }
+{
+    let oldest = oldest_to(w, p);
     if !oldest.found {
-        return send(s, n, p, d);
+        return send(w, n, p, d);
     }
     if d % 2 == 0 {
-        return deliver(s, oldest.number);
+        return deliver(w, oldest.number);
     }
-    send(s, n, p, d)
+    send(w, n, p, d)
 }
 
 // "p takes a checkpoint", if it is due.
-fn rest(s: Run, p: usize, due: bool) -> Run
-    requires { ⌜ sound s ≡ true ⌝ }
-    ensures { λ r. ⌜ r ≡ stateAfterEvents s (pick due (Checkpoint p ∷ []) []) ⌝ }
+fn rest(w: &mut [u16], p: usize, due: bool)
+    requires { ⌜ sound (runOf (now w)) ≡ true ⌝ }
+    ensures { λ u. ⌜ runOf (now (w .exit)) ≡ stateAfterEvents (runOf (now (w .entry))) (pick due (Checkpoint p ∷ []) []) ⌝ }
 {
     if due {
         let mut deleted = [0u16; 512];
-        let o = steps::checkpoint::checkpoint(s, p, &mut deleted);
-        let run = o.run;
-        return run;
+        let answer = in_place::checkpoint::checkpoint_on(w, p, &mut deleted);
     }
-    s
+}
+
+// "the most kept at any process"
+fn most_kept(w: &[u16], n: usize) -> usize
+    requires { ⌜ (sound (runOf (now w)) ≡ true) × (n ≡ countOf (now w)) ⌝ }
+    ensures { λ r. ⌜ r ≡ mostKept n (runOf (now (w .entry))) ⌝ }
+{
+    let mut most = 0;
+    for p in 0..n {
+        let count = w[places::HELD + p] as usize;
+        let next = spacing::figures::greater(most, count);
+        most = next;
+    }
+    most
 }
 
 // One step.
-fn step(z: Trial, n: usize, k: u32) -> Trial
-    requires { ⌜ Underway n k z ⌝ }
-    ensures { λ r. ⌜ r ≡ stepped n k z ⌝ }
+fn step(w: &mut [u16], z: Tally, n: usize, k: u32) -> Tally
+    requires { ⌜ Underway n k (trialOf (now w) z) ⌝ }
+    ensures { λ r. ⌜ trialOf (now (w .exit)) r ≡ stepped n k (trialOf (now (w .entry)) z) ⌝ }
 {
     let first = spacing::draws::next(z.value);
     let value = spacing::draws::next(first);
@@ -131,17 +178,15 @@ fn step(z: Trial, n: usize, k: u32) -> Trial
     let d = spacing::draws::draw_of(value);
     let mut acted = z.acted;
     let before = acted[p];
-    let action = act(z.run, n, p, d);
+    let action = act(w, n, p, d);
     let due = spacing::draws::is_due(k, before, action.acted);
-    let run = rest(action.run, p, due);
+    rest(w, p, due);
     acted[p] = before + action.acted;
-    let held = run.held;
-    let kept = spacing::figures::greatest(held, n);
+    let kept = most_kept(w, n);
     let most = spacing::figures::greater(z.most, kept);
     let deliveries = z.deliveries + action.deliveries;
     let forced = z.forced + action.forced;
-    Trial {
-        run,
+    Tally {
         value,
         acted,
         deliveries,
@@ -151,14 +196,13 @@ fn step(z: Trial, n: usize, k: u32) -> Trial
 }
 
 // The trial before its first step.
-fn begin(n: usize, seed: u32) -> Trial
-    requires { ⌜ (1 ≤ n) × (n ≤ 16) ⌝ }
-    ensures { λ r. ⌜ r ≡ trialStart n seed ⌝ }
+fn begin(w: &mut [u16], n: usize, seed: u32) -> Tally
+    requires { ⌜ (1 ≤ n) × (n ≤ 16) × (length (now w) ≡ 6464) ⌝ }
+    ensures { λ r. ⌜ trialOf (now (w .exit)) r ≡ trialStart n seed ⌝ }
 {
-    let o = steps::start::start(n, [1; 16]);
-    let run = o.run;
-    Trial {
-        run,
+    let counts = [1u32; 16];
+    let answer = in_place::start::start(w, n, &counts);
+    Tally {
         value: seed,
         acted: [0; 16],
         deliveries: 0,
@@ -167,10 +211,25 @@ fn begin(n: usize, seed: u32) -> Trial
     }
 }
 
+// So many steps.
+fn run_steps(w: &mut [u16], n: usize, k: u32, steps: u32, seed: u32) -> Tally
+    requires { ⌜ (1 ≤ n) × (n ≤ 16) × (1 ≤ k) × (steps ≤ 30000) × (length (now w) ≡ 6464) ⌝ }
+    ensures { λ r. ⌜ trialOf (now (w .exit)) r ≡ trialAfter n k steps seed ⌝ }
+{
+    let mut z = begin(w, n, seed);
+    let mut done: u32 = 0;
+    while done < steps {
+        let next = step(w, z, n, k);
+        z = next;
+        done += 1;
+    }
+    z
+}
+
 // The five figures of a trial.
-fn result_of(z: Trial) -> TrialResult
+fn result_of(z: Tally) -> TrialResult
     requires { ⌜ z .forced ≤ 30000 ⌝ }
-    ensures { λ r. ⌜ r ≡ figures z ⌝ }
+    ensures { λ r. ⌜ ((w : List ℕ) → r ≡ figures (trialOf w z)) ⌝ }
 {
     let quotient = spacing::figures::quotient_of(z.forced, z.deliveries);
     let remainder = spacing::figures::remainder_of(z.forced, z.deliveries);
@@ -200,21 +259,6 @@ fn refuse(why: Refusal) -> TrialResult
     }
 }
 
-// So many steps.
-fn run_steps(n: usize, k: u32, steps: u32, seed: u32) -> Trial
-    requires { ⌜ (1 ≤ n) × (n ≤ 16) × (1 ≤ k) × (steps ≤ 30000) ⌝ }
-    ensures { λ r. ⌜ r ≡ trialAfter n k steps seed ⌝ }
-{
-    let mut z = begin(n, seed);
-    let mut done: u32 = 0;
-    while done < steps {
-        let next = step(z, n, k);
-        z = next;
-        done += 1;
-    }
-    z
-}
-
 // A simulation of n processes with this spacing, so many steps and this starting value: its figures, or 22 and zeros.
 pub fn simulate(n: usize, spacing: u32, steps: u32, seed: u32) -> TrialResult
     ensures { λ r. ⌜ r ≡ simulated n spacing steps seed ⌝ }
@@ -229,6 +273,7 @@ pub fn simulate(n: usize, spacing: u32, steps: u32, seed: u32) -> TrialResult
     if spacing::figures::is_outside(1, 30000, steps as usize) {
         return refuse(Refusal::TrialOutsideRange);
     }
-    let z = run_steps(n, spacing, steps, seed);
+    let mut w = [0u16; 6464];
+    let z = run_steps(&mut w, n, spacing, steps, seed);
     result_of(z)
 }

@@ -1,14 +1,15 @@
 -- `trials::begin` meets its contract.
 -- Assumes nothing.
 use borrow.Author.Needs.{needs}
-use Rattle.trials.proofs.Trials.{begun-is}
+use Rattle.trials.proofs.Trials.{begun-words}
 use Rattle.trials.proofs.begin.Statement.{statement}
 use Rattle.trials.proofs.begin.Tie as tie
 
 returns : tie.Need-returns
 returns c =
-    let a = c .before .before .args in
-    begun-is (a .n) (a .seed) (search needs) (search needs) (c .before .start .result .run) (c .before .start .ensures .0)
+    let o = c .before .before in
+    let s = o .before .before .before .before in
+    begun-words (s .args .n) (s .args .seed) (s .pre .0) (s .pre .1) (s .args .w .now) (o .start .last .0) (s .pre .2) (o .start .ensures .1 .0)
 
 pub begin-spec : {M : Type 1} → statement M
-begin-spec = tie.close (tie.spec (λ c κs. search needs) returns)
+begin-spec = tie.close (tie.spec (λ c. search needs) (λ c κs. search needs) (λ c. c .before .before .start .kept .0) returns)

@@ -1,11 +1,11 @@
 -- `trials::nothing` meets its contract.
 -- Assumes nothing.
-use Rattle.trials.proofs.Actions.{nothing-is}
+use mathlib.Core.Path.{refl}
 use Rattle.trials.proofs.nothing.Statement.{statement}
 use Rattle.trials.proofs.nothing.Tie as tie
 
 returns : tie.Need-returns
-returns c = nothing-is (c .args .s)
+returns c = refl
 
 pub nothing-spec : {M : Type 1} → statement M
 nothing-spec = tie.close (tie.spec returns)

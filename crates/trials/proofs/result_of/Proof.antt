@@ -2,12 +2,13 @@
 -- Assumes nothing.
 use borrow.Author.Needs.{needs}
 use Rattle.spacing.specs.Spacing.{figures}
+use Rattle.trials.specs.Steps.{trialOf}
 use Rattle.trials.proofs.result_of.Statement.{statement}
 use Rattle.trials.proofs.result_of.Tie as tie
 
 returns : tie.Need-returns
-unfolding figures
-returns c = rw (c .remainder-of .ensures, c .before .quotient-of .ensures)
+unfolding figures trialOf
+returns c = λ w. rw (c .remainder-of .ensures, c .before .quotient-of .ensures)
 
 pub result-of-spec : {M : Type 1} → statement M
 result-of-spec = tie.close (tie.spec (λ c κs. search needs) (λ c κs. search needs) returns)

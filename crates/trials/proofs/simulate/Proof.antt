@@ -1,10 +1,11 @@
 -- `trials::simulate` meets its contract, by the three ranges.
 -- Assumes nothing.
-use mathlib.Core.Path.{_≡_, _∙_, sym}
+use mathlib.Core.Path.{_≡_, refl, _∙_, sym}
 use mathlib.Core.Option.{none}
 use borrow.Author.Needs.{needs}
 use Rattle.spacing.specs.Spacing.{trialRefusal, TrialsAgree}
 use Rattle.spacing.proofs.Agreement.{trials-agree, trial-out}
+use Rattle.trials.specs.Steps.{trialOf}
 use Rattle.trials.proofs.Trials.{count-outside, spacing-outside, steps-outside, all-inside, figures-are, small-forced}
 use Rattle.trials.proofs.simulate.Statement.{statement}
 use Rattle.trials.proofs.simulate.Tie as tie
@@ -46,22 +47,24 @@ returns-3 c =
 
 run-steps-requires : tie.Need-run-steps-requires
 run-steps-requires c κs =
-    let a = c .before .before .before .before .before .before .args in
-    let range = trial-out (a .n) (a .spacing) (a .steps) (inside c) in
-    (range .some-process, range .few-processes, range .some-spacing, range .few-steps)
-
-result-of-requires : tie.Need-result-of-requires
-result-of-requires c κs =
     let a = c .before .before .before .before .before .before .before .args in
     let range = trial-out (a .n) (a .spacing) (a .steps) (inside (c .before)) in
-    small-forced (a .n) (a .spacing) (a .steps) (a .seed) (c .run-steps .result) (range .few-steps) (c .run-steps .ensures)
+    (range .some-process, range .few-processes, range .some-spacing, range .few-steps, refl)
+
+result-of-requires : tie.Need-result-of-requires
+unfolding trialOf
+result-of-requires c κs =
+    let ran = c .before in
+    let a = ran .before .before .before .before .before .before .before .before .args in
+    let range = trial-out (a .n) (a .spacing) (a .steps) (inside (ran .before .before)) in
+    small-forced (a .n) (a .spacing) (a .steps) (a .seed) _ (range .few-steps) (ran .run-steps .ensures)
 
 returns-4 : tie.Need-returns-4
 unfolding TrialsAgree
 returns-4 c =
-    let ran = c .before in
-    let a = ran .before .before .before .before .before .before .before .args in (
-      c .result-of .ensures ∙ figures-are (a .n) (a .spacing) (a .steps) (a .seed) (ran .run-steps .result) (inside (ran .before)) (ran .run-steps .ensures),
+    let ran = c .before .before in
+    let a = ran .before .before .before .before .before .before .before .before .args in (
+      c .result-of .ensures (ran .run-steps .last .0) ∙ figures-are (a .n) (a .spacing) (a .steps) (a .seed) _ (inside (ran .before .before)) (ran .run-steps .ensures),
       trials-agree (a .n) (a .spacing) (a .steps) (a .seed),
     )
 
@@ -75,6 +78,7 @@ simulate-spec =
     returns-2
     (λ c κs. search needs) (λ c κs. search needs)
     returns-3
+    (λ c. search needs)
     run-steps-requires
     result-of-requires
     returns-4)
