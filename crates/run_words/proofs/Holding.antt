@@ -2,7 +2,7 @@
 -- Assumes nothing.
 use mathlib.Core.Path.{_≡_, _∙_, ap}
 use mathlib.Core.Bool.{Bool, true, false, _&&_}
-use mathlib.Core.List.{List, []}
+use mathlib.Core.List.{List, [], _∷_}
 use Prim.Native.Nat.{ℕ, _+_, _*_, _/_, _%_, _≤_, _<_}
 use native.Mathlib.Omega.{arith}
 use lib.Dec.{ltb, leb}
@@ -21,7 +21,7 @@ use Rattle.words.specs.Layout.{word, wide2, wide4, heldAt, markAt, blocksAt, pa
 use Rattle.words.specs.Puts.{Put, puts}
 use Rattle.words.proofs.Reading.{Clear, Hits, nth, puts-length, untouched, touched, wide2-back, wide4-back}
 use Rattle.run_words.specs.Fits.{pastMessages, indexFits, messageFits}
-use Rattle.run_words.specs.Filled.{pinWord, markWord, checkpointPuts, placeFilled, keptFilled, processPuts, rowFilled, rowsFilled, messagePuts, oneFilled, messagesFilled, numberPuts, filled}
+use Rattle.run_words.specs.Filled.{pinWord, markWord, checkpointPuts, placeFilled, blocksPut, keptFilled, processPuts, rowFilled, rowsFilled, messagePuts, oneFilled, messagesFilled, numberPuts, filled}
 use Rattle.run_words.proofs.Iters.{iter-length, iter-stays, iter-at}
 
 -- The things of a state by their places.
@@ -80,16 +80,16 @@ module _ (p k held : ℕ) (c : Checkpoint) (v : List ℕ) where
   unfolding placeFilled
   place-is lt fit = rw (lt-ltb k held lt, fit)
 
-module _ (p n : ℕ) (vector : List Interval) (pins : List Pin) (held blocks : ℕ) (mark : Bool) (v : List ℕ) where
-  row-size : length (rowFilled p n vector pins held blocks mark v) ≡ length v
+module _ (p n : ℕ) (vector : List Interval) (pins : List Pin) (held : ℕ) (mark : Bool) (v : List ℕ) where
+  row-size : length (rowFilled p n vector pins held mark v) ≡ length v
   unfolding rowFilled
-  row-size = by-bool (ltb p n && leb held 16) (λ e. rw e (puts-length v (processPuts p vector pins held blocks mark))) (λ e. rw e)
+  row-size = by-bool (ltb p n && leb held 16) (λ e. rw e (puts-length v (processPuts p vector pins held mark))) (λ e. rw e)
 
-  row-stays : (m : ℕ) → Clear (processPuts p vector pins held blocks mark) m → word (rowFilled p n vector pins held blocks mark v) m ≡ word v m
+  row-stays : (m : ℕ) → Clear (processPuts p vector pins held mark) m → word (rowFilled p n vector pins held mark v) m ≡ word v m
   unfolding rowFilled
-  row-stays m clear = by-bool (ltb p n && leb held 16) (λ e. rw e (untouched v (processPuts p vector pins held blocks mark) m clear)) (λ e. rw e)
+  row-stays m clear = by-bool (ltb p n && leb held 16) (λ e. rw e (untouched v (processPuts p vector pins held mark) m clear)) (λ e. rw e)
 
-  row-is : p < n → held ≤ 16 → rowFilled p n vector pins held blocks mark v ≡ puts v (processPuts p vector pins held blocks mark)
+  row-is : p < n → held ≤ 16 → rowFilled p n vector pins held mark v ≡ puts v (processPuts p vector pins held mark)
   unfolding rowFilled
   row-is lt fit = rw (lt-ltb p n lt, le-leb held 16 fit)
 
@@ -122,18 +122,18 @@ module _ (s : Run) (w : List ℕ) (long : length w ≡ 6464) where
   keptStep = keptFilled (s .kept .0) (s .held)
 
   abbrev rowStep : ℕ → List ℕ → List ℕ
-  rowStep = rowsFilled (s .count) (s .vectors .0) (s .pins .0) (s .held) (s .kept .0) (s .sent)
+  rowStep = rowsFilled (s .count) (s .vectors .0) (s .pins .0) (s .held) (s .sent)
 
   abbrev mailStep : ℕ → List ℕ → List ℕ
   mailStep = messagesFilled (s .underway) (s .messages)
 
   kept-size : (q : ℕ) (v : List ℕ) → length (keptStep q v) ≡ length v
   unfolding keptFilled
-  kept-size q v = place-size (q / 16) (q % 16) _ _ v
+  kept-size q v = place-size (q / 16) (q % 16) _ _ _ ∙ puts-length v (blocksPut (q / 16) (s .kept .0) ∷ [])
 
   rows-size : (p : ℕ) (v : List ℕ) → length (rowStep p v) ≡ length v
   unfolding rowsFilled
-  rows-size p v = row-size p _ _ _ _ _ _ v
+  rows-size p v = row-size p _ _ _ _ _ v
 
   mail-size : (k : ℕ) (v : List ℕ) → length (mailStep k v) ≡ length v
   unfolding messagesFilled
@@ -170,57 +170,70 @@ module _ (s : Run) (w : List ℕ) (long : length w ≡ 6464) where
 
   rows-stay : (p m : ℕ) → p < 16 → 96 + 320 * p ≤ m → m < 384 + 320 * p → word all m ≡ word a m
   unfolding rowsFilled
-  rows-stay p m lt low under = mail-stays m (omega arith) (omega arith) ∙ iter-stays rowStep rows-size a 16 m (λ q less v. row-stays q _ _ _ _ _ _ v m (omega arith))
+  rows-stay p m lt low under = mail-stays m (omega arith) (omega arith) ∙ iter-stays rowStep rows-size a 16 m (λ q less v. row-stays q _ _ _ _ _ v m (omega arith))
 
   module _ (p k : ℕ) (lt : p < 16) (room : k < 16) (used : k < getD (s .held) p 0) (fit : indexFits (stored s p k .index) ≡ true) where
-    this : (v : List ℕ) → keptStep (16 * p + k) v ≡ puts v (checkpointPuts p k (stored s p k))
+    this : (v : List ℕ) → keptStep (16 * p + k) v ≡ puts (puts v (blocksPut p (s .kept .0) ∷ [])) (checkpointPuts p k (stored s p k))
     unfolding keptFilled
     this v =
         let e : (16 * p + k) / 16 ≡ p = omega arith in
         let r : (16 * p + k) % 16 ≡ k = omega arith in
-        rw (e, r) (place-is p k (getD (s .held) p 0) (stored s p k) v used fit)
+        rw (e, r) (place-is p k (getD (s .held) p 0) (stored s p k) _ used fit)
 
-    other : (m : ℕ) → ((j : ℕ) → 16 * p + k < j → (c : Checkpoint) → Clear (checkpointPuts (j / 16) (j % 16) c) m) → (j : ℕ) → 16 * p + k < j → j < 256 → (v : List ℕ) → word (keptStep j v) m ≡ word v m
+    other : (m : ℕ) → 64 ≤ m → ((j : ℕ) → 16 * p + k < j → (c : Checkpoint) → Clear (checkpointPuts (j / 16) (j % 16) c) m) → (j : ℕ) → 16 * p + k < j → j < 256 → (v : List ℕ) → word (keptStep j v) m ≡ word v m
     unfolding keptFilled
-    other m clear j less under v =
-        place-stays (j / 16) (j % 16) (getD (s .held) (j / 16) 0) (stored s (j / 16) (j % 16)) v m (clear j less (stored s (j / 16) (j % 16)))
+    other m past clear j less under v =
+        place-stays (j / 16) (j % 16) (getD (s .held) (j / 16) 0) (stored s (j / 16) (j % 16)) _ m (clear j less (stored s (j / 16) (j % 16)))
+        ∙ untouched v (blocksPut (j / 16) (s .kept .0) ∷ []) m (omega arith)
 
-    there : (m x : ℕ) → ((v : List ℕ) → length v ≡ 6464 → word (puts v (checkpointPuts p k (stored s p k))) m ≡ x)
+    there : (m x : ℕ) → 64 ≤ m → ((v : List ℕ) → length v ≡ 6464 → word (puts v (checkpointPuts p k (stored s p k))) m ≡ x)
         → ((j : ℕ) → 16 * p + k < j → (c : Checkpoint) → Clear (checkpointPuts (j / 16) (j % 16) c) m) → word a m ≡ x
-    there m x here clear = iter-at keptStep kept-size w 256 (16 * p + k) m x (omega arith)
-        (λ v same. ap (λ (u : List ℕ). word u m) (this v) ∙ here v (same ∙ long)) (other m clear)
+    there m x past here clear = iter-at keptStep kept-size w 256 (16 * p + k) m x (omega arith)
+        (λ v same. ap (λ (u : List ℕ). word u m) (this v) ∙ here _ (puts-length v (blocksPut p (s .kept .0) ∷ []) ∙ same ∙ long)) (other m past clear)
 
     holds-stored : HoldsStored all s p k
     holds-stored = record {
       index = rows-stay p (indexAt p k) lt (omega arith) (omega arith)
-          ∙ there (indexAt p k) _ (λ v l. touched v (checkpointPuts p k (stored s p k)) 0 0 (indexAt p k) (omega arith)) (λ j less c. index-clear p k j room less c);
+          ∙ there (indexAt p k) _ (omega arith) (λ v l. touched v (checkpointPuts p k (stored s p k)) 0 0 (indexAt p k) (omega arith)) (λ j less c. index-clear p k j room less c);
       cause = rows-stay p (causeAt p k) lt (omega arith) (omega arith)
-          ∙ there (causeAt p k) _ (λ v l. touched v (checkpointPuts p k (stored s p k)) 1 0 (causeAt p k) (omega arith)) (λ j less c. cause-clear p k j room less c);
+          ∙ there (causeAt p k) _ (omega arith) (λ v l. touched v (checkpointPuts p k (stored s p k)) 1 0 (causeAt p k) (omega arith)) (λ j less c. cause-clear p k j room less c);
       vector = λ f less. rows-stay p (storedAt p k + f) lt (omega arith) (omega arith)
-          ∙ there (storedAt p k + f) _ (λ v l. touched v (checkpointPuts p k (stored s p k)) 2 f (storedAt p k + f) (omega arith)) (λ j under c. stored-clear p k j room under c f less);
+          ∙ there (storedAt p k + f) _ (omega arith) (λ v l. touched v (checkpointPuts p k (stored s p k)) 2 f (storedAt p k + f) (omega arith)) (λ j under c. stored-clear p k j room under c f less);
     }
 
+  -- The block count is put with each place of the process: the last of them leaves it.
+  blocks-there : (p : ℕ) → p < 16 → word all (blocksAt p) ≡ stored s p 0 .blocks
+  unfolding keptFilled rowsFilled
+  blocks-there p lt =
+      mail-stays (blocksAt p) (omega arith) (omega arith)
+      ∙ iter-stays rowStep rows-size a 16 (blocksAt p) (λ q less v. row-stays q _ _ _ _ _ v (blocksAt p) (omega arith))
+      ∙ iter-at keptStep kept-size w 256 (16 * p + 15) (blocksAt p) (stored s p 0 .blocks) (omega arith)
+      (λ v same.
+      let e : (16 * p + 15) / 16 ≡ p = omega arith in
+      rw e (place-stays p _ _ _ _ (blocksAt p) (omega arith) ∙ touched v (blocksPut p (s .kept .0) ∷ []) 0 0 (blocksAt p) (omega (arith, same, long))))
+      (λ j less most v. place-stays (j / 16) _ _ _ _ (blocksAt p) (omega arith) ∙ untouched v (blocksPut (j / 16) (s .kept .0) ∷ []) (blocksAt p) (omega arith))
+
   module _ (p : ℕ) (lt : p < s .count) (room : p < 16) (few : getD (s .held) p 0 ≤ 16) where
-    this-row : (v : List ℕ) → rowStep p v ≡ puts v (processPuts p (getD (s .vectors .0) p []) (getD (s .pins .0) p []) (getD (s .held) p 0) (stored s p 0 .blocks) (getD (s .sent) p false))
+    this-row : (v : List ℕ) → rowStep p v ≡ puts v (processPuts p (getD (s .vectors .0) p []) (getD (s .pins .0) p []) (getD (s .held) p 0) (getD (s .sent) p false))
     unfolding rowsFilled
-    this-row v = row-is p _ _ _ _ _ _ v lt few
+    this-row v = row-is p _ _ _ _ _ v lt few
 
     abbrev rowPuts : ℕ → List Put
-    rowPuts q = processPuts q (getD (s .vectors .0) q []) (getD (s .pins .0) q []) (getD (s .held) q 0) (stored s q 0 .blocks) (getD (s .sent) q false)
+    rowPuts q = processPuts q (getD (s .vectors .0) q []) (getD (s .pins .0) q []) (getD (s .held) q 0) (getD (s .sent) q false)
 
     there-row : (m x : ℕ) → 16 ≤ m → m < 5184 → ((v : List ℕ) → length v ≡ 6464 → word (puts v (rowPuts p)) m ≡ x) → ((q : ℕ) → p < q → q < 16 → Clear (rowPuts q) m) → word all m ≡ x
     unfolding rowsFilled
     there-row m x low under here clear = mail-stays m low under ∙ iter-at rowStep rows-size a 16 p m x room
         (λ v same. ap (λ (u : List ℕ). word u m) (this-row v) ∙ here v (same ∙ a-long))
-        (λ q less most v. row-stays q _ _ _ _ _ _ v m (clear q less most))
+        (λ q less most v. row-stays q _ _ _ _ _ v m (clear q less most))
 
     holds-process : HoldsProcess all s p
     holds-process = record {
       vector = λ f less. there-row (partAt p + f) _ (omega arith) (omega arith) (λ v l. touched v (rowPuts p) 0 f (partAt p + f) (omega arith)) (λ q more most. omega arith);
       pins = λ f less. there-row (pinsAt p + f) _ (omega arith) (omega arith) (λ v l. touched v (rowPuts p) 1 f (pinsAt p + f) (omega arith)) (λ q more most. omega arith);
       held = there-row (heldAt p) _ (omega arith) (omega arith) (λ v l. touched v (rowPuts p) 2 0 (heldAt p) (omega arith)) (λ q more most. omega arith);
-      blocks = there-row (blocksAt p) _ (omega arith) (omega arith) (λ v l. touched v (rowPuts p) 3 0 (blocksAt p) (omega arith)) (λ q more most. omega arith);
-      mark = there-row (markAt p) _ (omega arith) (omega arith) (λ v l. touched v (rowPuts p) 4 0 (markAt p) (omega arith)) (λ q more most. omega arith);
+      blocks = blocks-there p room;
+      mark = there-row (markAt p) _ (omega arith) (omega arith) (λ v l. touched v (rowPuts p) 3 0 (markAt p) (omega arith)) (λ q more most. omega arith);
     }
 
   module _ (k : ℕ) (lt : k < s .underway) (room : k < 64) (fit : messageFits (message s k) ≡ true) where

@@ -11,6 +11,7 @@ use Rattle.laws.specs.Lists.{placed}
 use Rattle.laws.specs.Tables.{getD-table}
 use Rattle.model.specs.declared.Checkpoint.{Checkpoint}
 use Rattle.model.specs.declared.Message.{Message}
+use Rattle.model.specs.declared.Disk.{Disk}
 use Rattle.model.specs.declared.Vectors.{Vectors}
 use Rattle.model.specs.declared.Pins.{Pins}
 use Rattle.model.specs.declared.Kept.{Kept}
@@ -20,14 +21,14 @@ use Rattle.words.specs.Layout.{word, wide2, wide4, countOf, heldAt, partAt, pin
 use Rattle.words.proofs.View.{run-fits, run-unfit, count-is, row-is}
 use Rattle.run_words.specs.Readable.{Readable}
 
-pub read-ends : (w : List ℕ) → Readable w → (vectors : Vectors) (pins : Pins) (sent : List Bool) (kept : Kept) (held : List ℕ) (messages : List Message) (last written deleted n many : ℕ)
+pub read-ends : (w : List ℕ) → Readable w → (vectors : Vectors) (pins : Pins) (sent : List Bool) (kept : Kept) (held : List ℕ) (messages : List Message) (last : ℕ) (disk : Disk) (n many : ℕ)
     → vectors ≡ record { 0 = ofProcesses w (λ p. vectorIn w (partAt p)) zeroVector } → pins ≡ record { 0 = ofProcesses w (λ p. pinsIn w (pinsAt p)) noPins }
     → sent ≡ ofProcesses w (markIn w) false → kept ≡ record { 0 = ofProcesses w (keptIn w) (replicate places noCheckpoint) }
-    → held ≡ ofProcesses w (λ p. word w (heldAt p)) 0 → messages ≡ placed mostUnderWay noMessage (messagesIn w) → last ≡ wide2 w 2 → written ≡ wide4 w 4 → deleted ≡ wide4 w 8
+    → held ≡ ofProcesses w (λ p. word w (heldAt p)) 0 → messages ≡ placed mostUnderWay noMessage (messagesIn w) → last ≡ wide2 w 2 → disk ≡ record { written = wide4 w 4; deleted = wide4 w 8 }
     → n ≡ word w 0 → many ≡ word w 1
-    → record { count = n; vectors = vectors; pins = pins; sent = sent; kept = kept; held = held; messages = messages; underway = many; last = last; disk = record { written = written; deleted = deleted } } ≡ runOf w
+    → record { count = n; vectors = vectors; pins = pins; sent = sent; kept = kept; held = held; messages = messages; underway = many; last = last; disk = disk } ≡ runOf w
 unfolding decoded
-read-ends w r vectors pins sent kept held messages last written deleted n many a b c d e f g h i j k = rw (a, b, c, d, e, f, g, h, i, j, k) (sym (run-fits w (r .fit)))
+read-ends w r vectors pins sent kept held messages last disk n many a b c d e f g h i j = rw (a, b, c, d, e, f, g, h, i, j) (sym (run-fits w (r .fit)))
 
 -- Words are readable whose state has 1 to 16 processes and causes of 8 bits.
 module _ (w : List ℕ) (s : Run) (is : runOf w ≡ s) (some : 1 ≤ s .count) (few : s .count ≤ 16)

@@ -1,9 +1,9 @@
 -- One step of the filling, in its cases: what a function returns and leaves of the words is what the definitions say.
 -- Assumes nothing.
-use mathlib.Core.Path.{_≡_, refl}
+use mathlib.Core.Path.{_≡_, refl, _∙_, ap}
 use mathlib.Core.Bool.{Bool, true, false, not, _&&_}
 use mathlib.Core.List.{List, [], _∷_}
-use Prim.Native.Nat.{ℕ, _+_, _≤_, _<_}
+use Prim.Native.Nat.{ℕ, _+_, _/_, _%_, _≤_, _<_}
 use native.Mathlib.Omega.{arith}
 use lib.Dec.{eqb}
 use lib.ListN.{getD, set}
@@ -14,13 +14,14 @@ use Rattle.model.specs.declared.Pin.{Pin}
 use Rattle.model.specs.declared.Pin.the-variants.{Nothing}
 use Rattle.model.specs.declared.Checkpoint.{Checkpoint}
 use Rattle.model.specs.declared.Message.{Message}
+use Rattle.model.specs.Words.{pastEnd}
 use Rattle.model.specs.Sound.{zeroFrom, nothingFrom, unusedCheckpoint, unusedMessage}
 use Rattle.model.specs.declared.Disk.{Disk}
 use Rattle.words.specs.Layout.{heldAt, markAt, blocksAt, partAt, pinsAt, indexAt, causeAt, storedAt}
 use Rattle.words.specs.Puts.{puts, vectorPut, puts2, puts4}
 use Rattle.words.proofs.Reading.{set-is-put}
 use Rattle.run_words.specs.Fits.{indexFits, pinFits, messageFits, checkpointFits, placeFits, rowFits, oneFits}
-use Rattle.run_words.specs.Filled.{pinsPut, markWord, checkpointPuts, placeFilled, processPuts, rowFilled, messagePuts, oneFilled, numberPuts}
+use Rattle.run_words.specs.Filled.{pinsPut, markWord, checkpointPuts, placeFilled, keptFilled, processPuts, rowFilled, messagePuts, oneFilled, numberPuts}
 
 -- A test's verdict, of which the code has the negation.
 pub denied : {fit : Bool} (b : Bool) → fit ≡ b → not fit ≡ true → b ≡ false
@@ -44,18 +45,25 @@ module _ (p k held blocks : ℕ) (c : Checkpoint) (w : List ℕ) where
   unfolding placeFits placeFilled
   place-unused r le e = rw (le-ltb k held le) (e, refl)
 
-module _ (p n : ℕ) (vector : List Interval) (pins : List Pin) (held blocks : ℕ) (mark : Bool) (w : List ℕ) where
-  pub row-refused : p < n → 16 < held → (false ≡ rowFits p n vector pins held mark) × (w ≡ rowFilled p n vector pins held blocks mark w)
+-- The same of all places, the block count put first.
+pub place-more : (kept : List (List Checkpoint)) (held : List ℕ) (q : ℕ) (w v : List ℕ)
+    → v ≡ placeFilled (q / 16) (q % 16) (getD held (q / 16) 0) (getD (getD kept (q / 16) []) (q % 16) pastEnd) (set w (blocksAt (q / 16)) (getD (getD kept (q / 16) []) 0 pastEnd .blocks))
+    → v ≡ keptFilled kept held q w
+unfolding keptFilled
+place-more kept held q w v e = e ∙ ap (placeFilled (q / 16) (q % 16) (getD held (q / 16) 0) (getD (getD kept (q / 16) []) (q % 16) pastEnd)) (set-is-put w _ _)
+
+module _ (p n : ℕ) (vector : List Interval) (pins : List Pin) (held : ℕ) (mark : Bool) (w : List ℕ) where
+  pub row-refused : p < n → 16 < held → (false ≡ rowFits p n vector pins held mark) × (w ≡ rowFilled p n vector pins held mark w)
   unfolding rowFits rowFilled
   row-refused lt more = rw (lt-ltb p n lt, lt-leb held 16 more) (refl, refl)
 
-  pub row-put : (r : Bool) (v : List ℕ) → p < n → held ≤ 16 → r ≡ allBelow 16 (λ f. pinFits (getD pins f Nothing)) → v ≡ puts w (processPuts p vector pins held blocks mark)
-      → (r ≡ rowFits p n vector pins held mark) × (v ≡ rowFilled p n vector pins held blocks mark w)
+  pub row-put : (r : Bool) (v : List ℕ) → p < n → held ≤ 16 → r ≡ allBelow 16 (λ f. pinFits (getD pins f Nothing)) → v ≡ puts w (processPuts p vector pins held mark)
+      → (r ≡ rowFits p n vector pins held mark) × (v ≡ rowFilled p n vector pins held mark w)
   unfolding rowFits rowFilled
   row-put r v lt few e q = rw (lt-ltb p n lt, le-leb held 16 few) (e, q)
 
   pub row-unused : (zero nothing : Bool) → n ≤ p → zero ≡ zeroFrom 0 vector → nothing ≡ nothingFrom 0 pins
-      → ((zero && nothing && eqb held 0 && not mark) ≡ rowFits p n vector pins held mark) × (w ≡ rowFilled p n vector pins held blocks mark w)
+      → ((zero && nothing && eqb held 0 && not mark) ≡ rowFits p n vector pins held mark) × (w ≡ rowFilled p n vector pins held mark w)
   unfolding rowFits rowFilled
   row-unused zero nothing le a b = rw (le-ltb p n le, a, b) (refl, refl)
 
@@ -77,9 +85,9 @@ pub numbers-put : (w a b d : List ℕ) (n many last : ℕ) (disk : Disk) → a �
     → set d 12 many ≡ puts w (numberPuts n many last disk)
 numbers-put w a b d n many last disk x y z = rw (z, y, x) (simp set-is-put)
 
-pub process-put : (w a b : List ℕ) (p : ℕ) (vector : List Interval) (pins : List Pin) (held blocks : ℕ) (mark : Bool) (x : ℕ) → a ≡ puts w (vectorPut (partAt p) vector ∷ [])
-    → b ≡ puts a (pinsPut (pinsAt p) pins ∷ []) → x ≡ markWord mark → set (set (set b (heldAt p) held) (blocksAt p) blocks) (markAt p) x ≡ puts w (processPuts p vector pins held blocks mark)
-process-put w a b p vector pins held blocks mark x e f g = rw (f, e, g) (simp set-is-put)
+pub process-put : (w a b : List ℕ) (p : ℕ) (vector : List Interval) (pins : List Pin) (held : ℕ) (mark : Bool) (x : ℕ) → a ≡ puts w (vectorPut (partAt p) vector ∷ [])
+    → b ≡ puts a (pinsPut (pinsAt p) pins ∷ []) → x ≡ markWord mark → set (set b (heldAt p) held) (markAt p) x ≡ puts w (processPuts p vector pins held mark)
+process-put w a b p vector pins held mark x e f g = rw (f, e, g) (simp set-is-put)
 
 pub checkpoint-put : (w b : List ℕ) (p k : ℕ) (c : Checkpoint) (x : ℕ) → x ≡ c .index .0 + 1
     → b ≡ puts (set (set w (indexAt p k) x) (causeAt p k) (c .cause)) (vectorPut (storedAt p k) (c .vector) ∷ []) → b ≡ puts w (checkpointPuts p k c)

@@ -8,6 +8,7 @@ use native.Mathlib.Numerals.{add-one}
 use native.Mathlib.Omega.{arith}
 use lib.Dec.{eqb, ltb}
 use lib.ListN.{length, getD, set, replicate, length-replicate, getD-replicate, length-append}
+use lib.Seq.{set-getD}
 use borrow.Author.Tests.{lt-ltb, le-ltb, ne-eqb}
 use Rattle.laws.specs.Choice.{pick, by-eq}
 use Rattle.laws.specs.Lists.{select, table, placed}
@@ -48,12 +49,18 @@ module _ (w : List ℕ) where
   unfolding soFar
   so-far-row q p lt = ap length (getD-table 16 (λ j. table 16 (placeAt q j)) p [] lt) ∙ length-table 16 _
 
-  pub so-far-none : replicate 16 (replicate 16 noCheckpoint) ≡ soFar 0
+  so-far-none : replicate 16 (replicate 16 noCheckpoint) ≡ soFar 0
   unfolding soFar
   so-far-none =
       table-replicate 16 (replicate 16 noCheckpoint)
       ∙ table-same 16 (λ p. replicate 16 noCheckpoint) (λ p. table 16 (placeAt 0 p))
       (λ p lt. table-replicate 16 noCheckpoint ∙ table-same 16 (λ k. noCheckpoint) (placeAt 0 p) (λ k less. sym (ap (λ (b : Bool). pick (b && isKeptIn w p k) (checkpointIn w p k) noCheckpoint) (le-ltb (16 * p + k) 0 (omega arith)))))
+
+  -- A row that is stored into where it is the same already.
+  pub unused-rows : (c : Checkpoint) (k : ℕ) → k < 16 → c ≡ noCheckpoint → replicate 16 (set (replicate 16 c) k c) ≡ soFar 0
+  unused-rows c k lt e =
+      ap (λ (r : List Checkpoint). replicate 16 r) (ap (set (replicate 16 c) k) (sym (getD-replicate 16 k c c lt)) ∙ set-getD (replicate 16 c) k c)
+      ∙ ap (λ (x : Checkpoint). replicate 16 (replicate 16 x)) e ∙ so-far-none
 
   -- A place that is not the next one.
   further : (m q : ℕ) → (m ≡ q → ⊥) → ltb m q ≡ ltb m (q + 1)

@@ -37,20 +37,22 @@ checkpointPuts p k c = one (indexAt p k) (c .index .0 + 1) ∷ one (causeAt p k)
 unfoldable pub placeFilled : ℕ → ℕ → ℕ → Checkpoint → List ℕ → List ℕ
 placeFilled p k held c w = pick (ltb k held && indexFits (c .index)) (puts w (checkpointPuts p k c)) w
 
+-- The block count of process p, which is its first checkpoint's.
+abbrev pub blocksPut : ℕ → List (List Checkpoint) → Put
+blocksPut p kept = one (blocksAt p) (getD (getD kept p []) 0 pastEnd .blocks)
+
 unfoldable pub keptFilled : List (List Checkpoint) → List ℕ → ℕ → List ℕ → List ℕ
-keptFilled kept held q w = placeFilled (q / 16) (q % 16) (getD held (q / 16) 0) (getD (getD kept (q / 16) []) (q % 16) pastEnd) w
+keptFilled kept held q w = placeFilled (q / 16) (q % 16) (getD held (q / 16) 0) (getD (getD kept (q / 16) []) (q % 16) pastEnd) (puts w (blocksPut (q / 16) kept ∷ []))
 
 -- What else process p has.
-abbrev pub processPuts : ℕ → List Interval → List Pin → ℕ → ℕ → Bool → List Put
-processPuts p vector pins held blocks mark =
-    vectorPut (partAt p) vector ∷ pinsPut (pinsAt p) pins ∷ one (heldAt p) held ∷ one (blocksAt p) blocks ∷ one (markAt p) (markWord mark) ∷ []
+abbrev pub processPuts : ℕ → List Interval → List Pin → ℕ → Bool → List Put
+processPuts p vector pins held mark = vectorPut (partAt p) vector ∷ pinsPut (pinsAt p) pins ∷ one (heldAt p) held ∷ one (markAt p) (markWord mark) ∷ []
 
-unfoldable pub rowFilled : ℕ → ℕ → List Interval → List Pin → ℕ → ℕ → Bool → List ℕ → List ℕ
-rowFilled p n vector pins held blocks mark w = pick (ltb p n && leb held places) (puts w (processPuts p vector pins held blocks mark)) w
+unfoldable pub rowFilled : ℕ → ℕ → List Interval → List Pin → ℕ → Bool → List ℕ → List ℕ
+rowFilled p n vector pins held mark w = pick (ltb p n && leb held places) (puts w (processPuts p vector pins held mark)) w
 
-unfoldable pub rowsFilled : ℕ → List (List Interval) → List (List Pin) → List ℕ → List (List Checkpoint) → List Bool → ℕ → List ℕ → List ℕ
-rowsFilled n vectors pins held kept sent p w =
-    rowFilled p n (getD vectors p []) (getD pins p []) (getD held p 0) (getD (getD kept p []) 0 pastEnd .blocks) (getD sent p false) w
+unfoldable pub rowsFilled : ℕ → List (List Interval) → List (List Pin) → List ℕ → List Bool → ℕ → List ℕ → List ℕ
+rowsFilled n vectors pins held sent p w = rowFilled p n (getD vectors p []) (getD pins p []) (getD held p 0) (getD sent p false) w
 
 -- A message in place k.
 abbrev pub messagePuts : ℕ → Message → List Put
@@ -72,6 +74,6 @@ numberPuts n many last disk =
 unfoldable pub filled : Run → List ℕ → List ℕ
 filled s w = puts
     (iter 64 (messagesFilled (s .underway) (s .messages))
-    (iter 16 (rowsFilled (s .count) (s .vectors .0) (s .pins .0) (s .held) (s .kept .0) (s .sent))
+    (iter 16 (rowsFilled (s .count) (s .vectors .0) (s .pins .0) (s .held) (s .sent))
     (iter 256 (keptFilled (s .kept .0) (s .held)) w)))
     (numberPuts (s .count) (s .underway) (s .last) (s .disk))

@@ -160,6 +160,7 @@ fn put_kept(w: &mut [u16], kept: [[Checkpoint; 16]; 16], held: [usize; 16]) -> b
         let k = q % 16;
         let c = kept[p][k];
         let first = kept[p][0];
+        w[places::BLOCKS + p] = first.blocks;
         let fit = put_place(w, p, k, c, held[p], first.blocks);
         all = all & fit;
     }
@@ -178,16 +179,14 @@ fn put_process(
     vector: [Interval; 16],
     pins: [Pin; 16],
     held: usize,
-    blocks: u16,
     mark: bool,
 ) -> bool
     requires { ⌜ (length (now w) ≡ 6464) × (p < 16) × (held ≤ 16) ⌝ }
-    ensures { λ r. ⌜ (r ≡ allBelow 16 (λ f. pinFits (getD pins f Nothing))) × (now (w .exit) ≡ puts (now (w .entry)) (processPuts p vector pins held blocks mark)) ⌝ }
+    ensures { λ r. ⌜ (r ≡ allBelow 16 (λ f. pinFits (getD pins f Nothing))) × (now (w .exit) ≡ puts (now (w .entry)) (processPuts p vector pins held mark)) ⌝ }
 {
     words::put_vector(w, places::PARTS + places::PART * p, vector);
     let fit = put_pins(w, places::PINS + places::PART * p, pins);
     w[places::HELD + p] = held as u16;
-    w[places::BLOCKS + p] = blocks;
     let x = mark_word(mark);
     w[places::MARKS + p] = x;
     fit
@@ -200,17 +199,16 @@ fn put_row(
     vector: [Interval; 16],
     pins: [Pin; 16],
     held: usize,
-    blocks: u16,
     mark: bool,
 ) -> bool
     requires { ⌜ (length (now w) ≡ 6464) × (p < 16) ⌝ }
-    ensures { λ r. ⌜ (r ≡ rowFits p n vector pins held mark) × (now (w .exit) ≡ rowFilled p n vector pins held blocks mark (now (w .entry))) ⌝ }
+    ensures { λ r. ⌜ (r ≡ rowFits p n vector pins held mark) × (now (w .exit) ≡ rowFilled p n vector pins held mark (now (w .entry))) ⌝ }
 {
     if p < n {
         if words::PROCESSES < held {
             return false;
         }
-        return put_process(w, p, vector, pins, held, blocks, mark);
+        return put_process(w, p, vector, pins, held, mark);
     }
     let zero = is_zero(vector);
     let nothing = are_nothing(pins);
@@ -223,19 +221,17 @@ fn put_rows(
     vectors: [[Interval; 16]; 16],
     pins: [[Pin; 16]; 16],
     held: [usize; 16],
-    kept: [[Checkpoint; 16]; 16],
     sent: [bool; 16],
 ) -> bool
     requires { ⌜ length (now w) ≡ 6464 ⌝ }
-    ensures { λ r. ⌜ (r ≡ rowsFit n vectors pins held sent) × (now (w .exit) ≡ iter 16 (rowsFilled n vectors pins held kept sent) (now (w .entry))) ⌝ }
+    ensures { λ r. ⌜ (r ≡ rowsFit n vectors pins held sent) × (now (w .exit) ≡ iter 16 (rowsFilled n vectors pins held sent) (now (w .entry))) ⌝ }
 {
     let mut all = true;
     for p in 0..words::PROCESSES {
         let vector = vectors[p];
         let row = pins[p];
-        let first = kept[p][0];
         let mark = sent[p];
-        let fit = put_row(w, p, n, vector, row, held[p], first.blocks, mark);
+        let fit = put_row(w, p, n, vector, row, held[p], mark);
         all = all & fit;
     }
     all
@@ -328,7 +324,7 @@ pub fn fill(w: &mut [u16], s: Run) -> bool
     let places_fit = put_kept(w, kept, held);
     let vectors = rows::squares::vector_rows(s.vectors);
     let pins = rows::squares::pin_rows(s.pins);
-    let rows_fit = put_rows(w, n, vectors, pins, held, kept, sent);
+    let rows_fit = put_rows(w, n, vectors, pins, held, sent);
     let messages_fit = put_messages(w, messages, many);
     put_numbers(w, n, many, s.last, s.disk);
     places_fit & rows_fit & messages_fit

@@ -8,11 +8,11 @@ use model::Run;
 use words::places;
 ghost use mathlib.Core.Path.{_≡_};
 ghost use mathlib.Core.Bool.{false};
-ghost use Prim.Native.Nat.{_+_, _*_, _≤_, _<_};
-ghost use lib.ListN.{length, replicate};
+ghost use Prim.Native.Nat.{_+_, _≤_, _<_};
+ghost use lib.ListN.{length};
 ghost use Rattle.laws.specs.Lists.{placed};
-ghost use Rattle.model.specs.Words.{places as rowPlaces, mostUnderWay, zeroVector, noPins, noCheckpoint, noMessage};
-ghost use Rattle.words.specs.Layout.{word, countOf, endOf, heldAt, partAt, pinsAt, indexAt, causeAt, vectorIn, pinsIn, markIn, checkpointIn, isKeptIn, keptIn, messageIn, messagesIn, ofProcesses, runOf};
+ghost use Rattle.model.specs.Words.{mostUnderWay, zeroVector, noPins, noMessage};
+ghost use Rattle.words.specs.Layout.{word, wide4, countOf, endOf, heldAt, partAt, pinsAt, indexAt, causeAt, vectorIn, pinsIn, markIn, checkpointIn, isKeptIn, messageIn, messagesIn, ofProcesses, runOf};
 ghost use Rattle.run_words.specs.Readable.{Readable};
 
 fn pins_at(w: &[u16], at: usize) -> [Pin; 16]
@@ -63,26 +63,6 @@ fn is_kept(w: &[u16], p: usize, k: usize) -> bool
 {
     let held = number_of(w[places::HELD + p]);
     (k < held) & (w[places::INDEXES + places::PART * p + k] != 0)
-}
-
-// One loop over all places: the table is then written where it stands, and no row is copied.
-fn kept_of(w: &[u16], n: usize) -> [[Checkpoint; 16]; 16]
-    requires { ⌜ Readable (now w) × (n ≡ countOf (now w)) × (n ≤ 16) ⌝ }
-    ensures { λ r. ⌜ r ≡ ofProcesses (now (w .entry)) (keptIn (now (w .entry))) (replicate rowPlaces noCheckpoint) ⌝ }
-{
-    let none = rows::start::no_checkpoint();
-    let row = [none; 16];
-    let mut kept = [row; 16];
-    for q in 0..16 * n {
-        let p = q / 16;
-        let k = q % 16;
-        let used = is_kept(w, p, k);
-        if used {
-            let c = checkpoint_at(w, p, k);
-            kept[p][k] = c;
-        }
-    }
-    kept
 }
 
 fn message_at(w: &[u16], k: usize) -> Message
@@ -179,6 +159,17 @@ fn marks_of(w: &[u16], n: usize) -> [bool; 16]
     sent
 }
 
+fn disk_of(w: &[u16]) -> Disk
+    requires { ⌜ length (now w) ≡ 6464 ⌝ }
+    ensures { λ r. ⌜ r ≡ record { written = wide4 (now (w .entry)) 4; deleted = wide4 (now (w .entry)) 8 } ⌝ }
+{
+    let written = words::wide4(w, places::WRITTEN);
+    let deleted = words::wide4(w, places::DELETED);
+    Disk { written, deleted }
+}
+
+// The places of kept checkpoints are filled here and last, right before they go into the state: a function that returns them costs two more copies of 9,728 bytes.
+// The row of unused places is stored into at a place that is not known before the run: the compiler then copies it whole, and not each number of it.
 pub fn read(w: &[u16]) -> Run
     requires { ⌜ Readable (now w) ⌝ }
     ensures { λ r. ⌜ r ≡ runOf (now (w .entry)) ⌝ }
@@ -187,15 +178,26 @@ pub fn read(w: &[u16]) -> Run
     let vectors = rows::squares::vectors_from(vectors_of(w, n));
     let pins = rows::squares::pins_from(pins_of(w, n));
     let sent = marks_of(w, n);
-    let kept = rows::squares::kept_from(kept_of(w, n));
     let held = held_of(w, n);
     let end = number_of(w[places::END]);
     let messages = messages_of(w, end);
-    let written = words::wide4(w, places::WRITTEN);
-    let deleted = words::wide4(w, places::DELETED);
-    let disk = Disk { written, deleted };
+    let disk = disk_of(w);
     let last = words::wide2(w, places::LAST);
     let underway = number_of(w[places::UNDER_WAY]);
+    let none = rows::start::no_checkpoint();
+    let mut row = [none; 16];
+    row[end % 16] = none;
+    let mut table = [row; 16];
+    for q in 0..16 * n {
+        let p = q / 16;
+        let k = q % 16;
+        let used = is_kept(w, p, k);
+        if used {
+            let c = checkpoint_at(w, p, k);
+            table[p][k] = c;
+        }
+    }
+    let kept = rows::squares::kept_from(table);
     Run {
         count: n,
         vectors,

@@ -2,7 +2,7 @@
 use mathlib.Core.Path.{_≡_, refl, _∙_}
 use native.Mathlib.Omega.{arith}
 use Prim.Native.Nat.{_≤_, _-_, _/_, _%_}
-use lib.ListN.{length, getD}
+use lib.ListN.{length, getD, length-set}
 use mathlib.Core.List.{[]}
 use Rattle.laws.specs.Below.{all-and}
 use Rattle.laws.specs.Loops.{iter, iter-none, iter-more, all-zero}
@@ -10,6 +10,7 @@ use Rattle.laws.specs.Search.{allBelow}
 use Rattle.model.specs.Words.{pastEnd}
 use Rattle.run_words.specs.Fits.{placeFits, keptFits}
 use Rattle.run_words.specs.Filled.{keptFilled}
+use Rattle.run_words.proofs.Steps.{place-more}
 use borrow.Author.Needs.{needs}
 use Rattle.run_words.proofs.fill.put_kept.Statement.{statement}
 use Rattle.run_words.proofs.fill.put_kept.Tie as tie
@@ -26,20 +27,22 @@ abbrev μ-loop : tie.MeasureT-loop
 loop-holds : tie.Need-loop-holds Inv-loop μ-loop
 loop-holds c = (search needs, refl, all-zero _, iter-none _ _)
 
+slice-write-w : tie.Need-slice-write-w Inv-loop μ-loop
+slice-write-w c = let x = c .before .before .before in omega (arith, x .loop .inv .1, x .before .before .pre)
+
 put-place-requires : tie.Need-put-place-requires Inv-loop μ-loop
-put-place-requires c κs = let x = c .before .before .before .before in (x .loop .inv .1 ∙ x .before .before .pre, search needs, search needs)
+put-place-requires c κs = let x = c .before .before .before .before in (length-set (x .loop .w) _ _ ∙ x .loop .inv .1 ∙ x .before .before .pre, search needs, search needs)
 
 loop-again : tie.Need-loop-again Inv-loop μ-loop
-unfolding keptFilled
 loop-again c =
     let u = c .before .before in
     let x = u .before .before .before .before .before in
     let l = x .loop in
     let a = x .before .before .args in (
       search needs,
-      u .put-place .kept .0 ∙ l .inv .1,
+      u .put-place .kept .0 ∙ length-set (l .w) _ _ ∙ l .inv .1,
       all-and (λ j. placeFits (j % 16) (getD (a .t3) (j / 16) 0) (getD (getD (a .t2) (j / 16) []) 0 pastEnd .blocks) (getD (getD (a .t2) (j / 16) []) (j % 16) pastEnd)) (l .q) (l .all) _ (l .inv .2) (u .put-place .ensures .0),
-      iter-more (keptFilled (a .t2) (a .t3)) (a .w .now) (l .w) (l .q) _ (l .inv .3) (u .put-place .ensures .1),
+      iter-more (keptFilled (a .t2) (a .t3)) (a .w .now) (l .w) (l .q) _ (l .inv .3) (place-more (a .t2) (a .t3) (l .q) (l .w) _ (u .put-place .ensures .1)),
     )
 
 same-length : tie.Need-same-length Inv-loop μ-loop
@@ -57,5 +60,5 @@ put-kept-spec =
     tie.close
     (tie.spec
     Inv-loop μ-loop loop-holds (λ c. search needs) (λ c. search needs) (λ c. search needs) (λ c. search needs) (λ c. search needs)
-    (λ c. search needs) (λ c. search needs) (λ c. search needs) (λ c. search needs) put-place-requires (λ c. search needs) (λ c. search needs)
-    loop-again same-length returns)
+    (λ c. search needs) (λ c. search needs) (λ c. search needs) (λ c. search needs) slice-write-w (λ c. search needs) (λ c. search needs)
+    put-place-requires (λ c. search needs) (λ c. search needs) loop-again same-length returns)

@@ -15,31 +15,31 @@ use Rattle.run_words.proofs.fill.put_rows.Statement.{statement}
 use Rattle.run_words.proofs.fill.put_rows.Tie as tie
 
 abbrev Inv-loop : tie.InvT-loop
-Inv-loop w₀ n vectors pins held kept sent all₀ p₀ w all p =
+Inv-loop w₀ n vectors pins held sent all₀ p₀ w all p =
     (p ≤ 16) × (length w ≡ length w₀)
     × (all ≡ allBelow p (λ q. rowFits q n (getD vectors q []) (getD pins q []) (getD held q 0) (getD sent q false)))
-    × (w ≡ iter p (rowsFilled n vectors pins held kept sent) w₀)
+    × (w ≡ iter p (rowsFilled n vectors pins held sent) w₀)
 
 abbrev μ-loop : tie.MeasureT-loop
-μ-loop w₀ n vectors pins held kept sent all₀ p₀ w all p = 16 - p
+μ-loop w₀ n vectors pins held sent all₀ p₀ w all p = 16 - p
 
 loop-holds : tie.Need-loop-holds Inv-loop μ-loop
 loop-holds c = (search needs, refl, all-zero _, iter-none _ _)
 
 put-row-requires : tie.Need-put-row-requires Inv-loop μ-loop
-put-row-requires c κs = let x = c .before .before .before .before .before in (x .loop .inv .1 ∙ x .before .before .pre, search needs)
+put-row-requires c κs = let x = c .before .before .before .before in (x .loop .inv .1 ∙ x .before .before .pre, search needs)
 
 loop-again : tie.Need-loop-again Inv-loop μ-loop
 unfolding rowsFilled
 loop-again c =
     let u = c .before .before in
-    let x = u .before .before .before .before .before .before in
+    let x = u .before .before .before .before .before in
     let l = x .loop in
     let a = x .before .before .args in (
       search needs,
       u .put-row .kept .0 ∙ l .inv .1,
-      all-and (λ q. rowFits q (a .n) (getD (a .t3) q []) (getD (a .t4) q []) (getD (a .t5) q 0) (getD (a .t7) q false)) (l .p) (l .all) _ (l .inv .2) (u .put-row .ensures .0),
-      iter-more (rowsFilled (a .n) (a .t3) (a .t4) (a .t5) (a .t6) (a .t7)) (a .w .now) (l .w) (l .p) _ (l .inv .3) (u .put-row .ensures .1),
+      all-and (λ q. rowFits q (a .n) (getD (a .t3) q []) (getD (a .t4) q []) (getD (a .t5) q 0) (getD (a .t6) q false)) (l .p) (l .all) _ (l .inv .2) (u .put-row .ensures .0),
+      iter-more (rowsFilled (a .n) (a .t3) (a .t4) (a .t5) (a .t6)) (a .w .now) (l .w) (l .p) _ (l .inv .3) (u .put-row .ensures .1),
     )
 
 same-length : tie.Need-same-length Inv-loop μ-loop
@@ -57,5 +57,4 @@ put-rows-spec =
     tie.close
     (tie.spec
     Inv-loop μ-loop loop-holds (λ c. search needs) (λ c. search needs) (λ c. search needs) (λ c. search needs) (λ c. search needs)
-    (λ c. search needs) (λ c. search needs) (λ c. search needs) (λ c. search needs) (λ c. search needs) put-row-requires (λ c. search needs)
-    (λ c. search needs) loop-again same-length returns)
+    (λ c. search needs) (λ c. search needs) put-row-requires (λ c. search needs) (λ c. search needs) loop-again same-length returns)

@@ -1,100 +1,135 @@
 -- `run_words::read::read` meets its contract. Assumes nothing.
-use mathlib.Core.Path.{_≡_, ap, _∙_}
+use mathlib.Core.Path.{_≡_, sym, ap, _∙_}
 use mathlib.Core.List.{List}
-use Prim.Native.Nat.{_≤_}
+use Prim.Native.Nat.{_*_, _%_, _-_, _≤_}
 use native.Mathlib.Omega.{arith}
 use lib.ListN.{length}
+use Rattle.laws.specs.Loops.{either}
 use Rattle.model.specs.declared.Interval.{Interval}
 use Rattle.model.specs.declared.Pin.{Pin}
 use Rattle.model.specs.declared.Checkpoint.{Checkpoint}
 use Rattle.words.specs.Layout.{countOf}
 use Rattle.words.proofs.View.{fits-size, fits-end, end-most}
 use Rattle.run_words.proofs.ReadOut.{read-ends}
+use Rattle.run_words.proofs.Tables.{soFar, unused-rows, so-far-turn, so-far-keep, so-far-all, kept-some}
 use borrow.Author.Needs.{needs}
 use Rattle.run_words.proofs.read.read.Statement.{statement}
 use Rattle.run_words.proofs.read.read.Tie as tie
 
--- What the readers of rows ask for.
-asked : (c : tie.After-number-of) → (length (c .before .before .before .args .w .now) ≡ 6464) × (c .number-of .result ≡ countOf (c .before .before .before .args .w .now)) × (c .number-of .result ≤ 16)
-asked c = let s = c .before .before .before in (fits-size (s .args .w .now) (s .pre .fit), c .number-of .ensures, omega (arith, c .number-of .ensures, s .pre .few))
+abbrev Inv-loop : tie.InvT-loop
+Inv-loop w n vectors pins sent held end messages disk last underway table₀ q₀ q-end table q = (q ≤ q-end) × (n ≤ 16) × (table ≡ soFar w q)
+
+abbrev μ-loop : tie.MeasureT-loop
+μ-loop w n vectors pins sent held end messages disk last underway table₀ q₀ q-end table q = q-end - q
 
 -- How many words there are.
-sized : (c : tie.Start) → length (c .args .w .now) ≡ 6464
+sized : (c : tie.Start Inv-loop μ-loop) → length (c .args .w .now) ≡ 6464
 sized c = fits-size (c .args .w .now) (c .pre .fit)
 
-count-read : tie.Need-shared-slice-read-number-of
+-- What the readers of rows ask for.
+asked : (c : tie.After-number-of Inv-loop μ-loop)
+    → (length (c .before .before .before .args .w .now) ≡ 6464) × (c .number-of .result ≡ countOf (c .before .before .before .args .w .now)) × (c .number-of .result ≤ 16)
+asked c = let s = c .before .before .before in (sized s, c .number-of .ensures, omega (arith, c .number-of .ensures, s .pre .few))
+
+-- The place where the count was read, from later ones.
+abbrev count : tie.After-held-of Inv-loop μ-loop → tie.After-number-of Inv-loop μ-loop
+count c = c .before .before .before .before .before .before
+
+abbrev counted : tie.After-no-checkpoint Inv-loop μ-loop → tie.After-number-of Inv-loop μ-loop
+counted c = count (c .before .before .before .before .before .before .before .before)
+
+count-read : tie.Need-shared-slice-read-number-of Inv-loop μ-loop
 count-read c = let e = sized (c .before .before) in omega arith
 
-vectors-of-requires : tie.Need-vectors-of-requires
+vectors-of-requires : tie.Need-vectors-of-requires Inv-loop μ-loop
 vectors-of-requires c κs = asked c
 
-pins-of-requires : tie.Need-pins-of-requires
+pins-of-requires : tie.Need-pins-of-requires Inv-loop μ-loop
 pins-of-requires c κs = asked (c .before .before)
 
-marks-of-requires : tie.Need-marks-of-requires
+marks-of-requires : tie.Need-marks-of-requires Inv-loop μ-loop
 marks-of-requires c κs = asked (c .before .before .before .before)
 
-kept-of-requires : tie.Need-kept-of-requires
-kept-of-requires c κs = let n = c .before .before .before .before .before in (n .before .before .before .pre, asked n .1, asked n .2)
+held-of-requires : tie.Need-held-of-requires Inv-loop μ-loop
+held-of-requires c κs = asked (c .before .before .before .before .before)
 
-held-of-requires : tie.Need-held-of-requires
-held-of-requires c κs = asked (c .before .before .before .before .before .before .before)
+end-read : tie.Need-shared-slice-read-number-of-2 Inv-loop μ-loop
+end-read c = let e = asked (count (c .before)) .0 in omega arith
 
--- The place before a step, from the place where the kept checkpoints are read.
-abbrev begin : (c : tie.After-kept-from) → tie.Start
-begin c = c .before .before .before .before .before .before .before .before .before .before
-
-end-read : tie.Need-shared-slice-read-number-of-2
-end-read c = let e = sized (begin (c .before .before)) in omega arith
-
-messages-of-requires : tie.Need-messages-of-requires
+messages-of-requires : tie.Need-messages-of-requires Inv-loop μ-loop
 messages-of-requires c κs =
-    let s = begin (c .before .before .before) in
+    let s = count (c .before .before) .before .before .before in
     (sized s, c .number-of2 .ensures, omega (arith, c .number-of2 .ensures, end-most (s .args .w .now) (fits-end (s .args .w .now) (s .pre .fit))))
 
-wide4-requires : tie.Need-wide4-requires
-wide4-requires c κs = let e = sized (begin (c .before .before .before .before)) in omega arith
+disk-of-requires : tie.Need-disk-of-requires Inv-loop μ-loop
+disk-of-requires c κs = asked (count (c .before .before .before)) .0
 
-wide4-requires-2 : tie.Need-wide4-requires-2
-wide4-requires-2 c κs = let e = sized (begin (c .before .before .before .before .before)) in omega arith
+wide2-requires : tie.Need-wide2-requires Inv-loop μ-loop
+wide2-requires c κs = let e = asked (count (c .before .before .before .before)) .0 in omega arith
 
-wide2-requires : tie.Need-wide2-requires
-wide2-requires c κs = let e = sized (begin (c .before .before .before .before .before .before)) in omega arith
+underway-read : tie.Need-shared-slice-read-number-of-3 Inv-loop μ-loop
+underway-read c = let e = asked (count (c .before .before .before .before .before .before)) .0 in omega arith
 
-underway-read : tie.Need-shared-slice-read-number-of-3
-underway-read c = let e = sized (begin (c .before .before .before .before .before .before .before .before)) in omega arith
+end-of-loop : tie.Need-mul-q-end Inv-loop μ-loop
+end-of-loop c = let e = asked (counted c) .2 in omega arith
 
-returns : tie.Need-returns
+loop-holds : tie.Need-loop-holds Inv-loop μ-loop
+loop-holds c =
+    let end = c .before .before .before .before .before .before .number-of2 .result in
+    (search needs, asked (counted c) .2, unused-rows (counted c .before .before .before .args .w .now) _ (end % 16) (omega arith) (c .no-checkpoint .ensures))
+
+is-kept-requires : tie.Need-is-kept-requires Inv-loop μ-loop
+is-kept-requires c κs = (asked (counted (c .before .before)) .0, search needs, search needs)
+
+checkpoint-at-requires : tie.Need-checkpoint-at-requires Inv-loop μ-loop
+checkpoint-at-requires c κs =
+    let k = c .before in
+    let n = counted (k .before .before .before) in
+    let s = n .before .before .before in
+    let used = sym (k .is-kept .ensures) ∙ c .if1 .taken in
+    (sized s, search needs, search needs, kept-some (s .args .w .now) _ _ used, s .pre .causes _ _ (omega (arith, n .number-of .ensures)) (search needs) used)
+
+loop-again : tie.Need-loop-again Inv-loop μ-loop
+loop-again c =
+    let k = c .before in
+    let b = k .before .before in
+    let l = b .loop in
+    let w = counted (b .before) .before .before .before .args .w .now in
+    either (c .if1 .came)
+    (λ t. (search needs, l .inv .1, t .2 ∙ so-far-turn w (l .q) (search needs) (l .table) _ (l .inv .2) (t .1 .ensures) (sym (k .is-kept .ensures) ∙ t .0 .taken)))
+    (λ t. (search needs, l .inv .1, t .1 ∙ l .inv .2 ∙ so-far-keep w (l .q) (search needs) (sym (k .is-kept .ensures) ∙ t .0 .left)))
+
+returns : tie.Need-returns Inv-loop μ-loop
 returns c =
-    let two = c .before .before in
-    let eight = two .before in
-    let four = eight .before in
-    let mail = four .before in
-    let end = mail .before in
-    let held = end .before .before in
-    let kept = held .before in
-    let marks = kept .before .before in
+    let l = c .before .before .loop in
+    let ten = c .before .before .before .before in
+    let two = ten .before .before in
+    let disk = two .before in
+    let mail = disk .before in
+    let held = mail .before .before .before in
+    let marks = held .before in
     let pins = marks .before in
     let vectors = pins .before .before in
     let n = vectors .before .before in
     let s = n .before .before .before in
-    read-ends (s .args .w .now) (s .pre) _ _ _ _ _ _ _ _ _ _ _
+    let e : l .q ≡ 16 * n .number-of .result = omega arith in
+    read-ends (s .args .w .now) (s .pre) _ _ _ _ _ _ _ _ _ _
     (vectors .vectors-from .ensures ∙ ap (λ (r : List (List Interval)). record { 0 = r }) (vectors .before .vectors-of .ensures))
     (pins .pins-from .ensures ∙ ap (λ (r : List (List Pin)). record { 0 = r }) (pins .before .pins-of .ensures))
     (marks .marks-of .ensures)
-    (kept .kept-from .ensures ∙ ap (λ (r : List (List Checkpoint)). record { 0 = r }) (kept .before .kept-of .ensures))
+    (c .kept-from .ensures ∙ ap (λ (r : List (List Checkpoint)). record { 0 = r }) (rw e at (l .inv .2) ∙ so-far-all (s .args .w .now) (n .number-of .result) (n .number-of .ensures) (l .inv .1)))
     (held .held-of .ensures)
     (mail .messages-of .ensures)
     (two .wide2 .ensures)
-    (four .wide4 .ensures)
-    (eight .wide42 .ensures)
+    (disk .disk-of .ensures)
     (n .number-of .ensures)
-    (c .number-of3 .ensures)
+    (ten .number-of3 .ensures)
 
 pub read-spec : {M : Type 1} → statement M
 read-spec =
     tie.close
     (tie.spec
-    count-read (λ c κs. search needs) vectors-of-requires (λ c κs. search needs) pins-of-requires (λ c κs. search needs) marks-of-requires
-    kept-of-requires (λ c κs. search needs) held-of-requires end-read (λ c κs. search needs) messages-of-requires wide4-requires wide4-requires-2
-    wide2-requires underway-read (λ c κs. search needs) returns)
+    Inv-loop μ-loop count-read (λ c κs. search needs) vectors-of-requires (λ c κs. search needs) pins-of-requires (λ c κs. search needs) marks-of-requires held-of-requires
+    end-read (λ c κs. search needs) messages-of-requires disk-of-requires wide2-requires underway-read (λ c κs. search needs) (λ c κs. search needs)
+    (λ c. search needs) (λ c. search needs) end-of-loop loop-holds is-kept-requires checkpoint-at-requires (λ c. search needs) (λ c. search needs) (λ c. search needs)
+    (λ c. search needs) (λ c. search needs) (λ c. search needs) loop-again (λ c κs. search needs) returns)
