@@ -19,7 +19,7 @@ use Rattle.model.specs.Sound.{sound}
 use Rattle.model.specs.Refusals.{firstOf}
 use Rattle.model.specs.laws.Sound.{sound-state}
 use Rattle.whole_runs.specs.Outcomes.{pairs}
-use Rattle.plans.specs.Sized.{Sized}
+use Rattle.run_words.proofs.Sizes.{Sized}
 use Rattle.roles.specs.declared.Caller.{Caller}
 use Rattle.roles.specs.declared.ListAnswer.{ListAnswer}
 use Rattle.roles.specs.declared.ListAnswer.the-variants as list-answer

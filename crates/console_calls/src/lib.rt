@@ -1,9 +1,16 @@
 // The console (document 02, Note 13): the library's calls and two more, each with its caller. What the caller may not do is refused with number 25, before every
 // other number; the rest is done by the crate calls. Each takes any caller, any state and any arguments, and says in its contract what it returns and what it
 // leaves of the lists that it is lent, denied, refused or accepted: specs/Console of the crate roles has the definitions.
+use calls::checkpoint::CheckpointOutcome;
+use calls::deliver::DeliverOutcome;
+use calls::line::LineOutcome;
+use calls::lose::LoseOutcome;
+use calls::recover::RecoverOutcome;
+use calls::send::SendOutcome;
+use calls::start::StartOutcome;
+use calls::through::EarliestOutcome;
 use console_parts::denied;
 use console_parts::shown;
-use earliest::call::EarliestOutcome;
 use earliest::list::Copied;
 use model::CheckpointAnswer;
 use model::DeliverAnswer;
@@ -18,13 +25,6 @@ use model::StartAnswer;
 use roles::Caller;
 use roles::ListAnswer;
 use roles::Operation;
-use rollback::line::LineOutcome;
-use rollback::recover::RecoverOutcome;
-use steps::checkpoint::CheckpointOutcome;
-use steps::deliver::DeliverOutcome;
-use steps::lose::LoseOutcome;
-use steps::send::SendOutcome;
-use steps::start::StartOutcome;
 ghost use mathlib.Core.Path.{_≡_};
 ghost use mathlib.Core.List.{List};
 ghost use lib.ListN.{take};
@@ -40,12 +40,12 @@ pub fn start(caller: Caller, n: usize, counts: [u32; 16]) -> StartOutcome
 {
     let denied = denied::is_denied(caller, Operation::Start);
     if denied {
-        let refused = calls::start(0, counts);
+        let refused = calls::start::start(0, counts);
         let run = refused.run;
         let answer = StartAnswer::Refused(Refusal::Denied);
         return StartOutcome { run, answer };
     }
-    calls::start(n, counts)
+    calls::start::start(n, counts)
 }
 
 // Process i takes a checkpoint. What is deleted goes to the front of the lent list.
@@ -59,7 +59,7 @@ pub fn checkpoint(caller: Caller, s: Run, i: usize, deleted: &mut [u16]) -> Chec
         let answer = CheckpointAnswer::Refused(Refusal::Denied);
         return CheckpointOutcome { run: s, answer };
     }
-    calls::checkpoint(s, i, deleted)
+    calls::checkpoint::checkpoint(s, i, deleted)
 }
 
 // Process i sends a message to process j, which may be anyone's.
@@ -72,7 +72,7 @@ pub fn send(caller: Caller, s: Run, i: usize, j: usize) -> SendOutcome
         let answer = SendAnswer::Refused(Refusal::Denied);
         return SendOutcome { run: s, answer };
     }
-    calls::send(s, i, j)
+    calls::send::send(s, i, j)
 }
 
 // Message m reaches its receiver. What is deleted goes to the front of the lent list; `rose` is the set of the receiver's entries that rose.
@@ -99,7 +99,7 @@ pub fn deliver(caller: Caller, s: Run, m: u32, deleted: &mut [u16]) -> DeliverOu
             rose: 0,
         };
     }
-    calls::deliver(s, m, deleted)
+    calls::deliver::deliver(s, m, deleted)
 }
 
 // Message m is lost.
@@ -120,7 +120,7 @@ pub fn lose(caller: Caller, s: Run, m: u32) -> LoseOutcome
         let answer = LoseAnswer::Refused(Refusal::Denied);
         return LoseOutcome { run: s, answer };
     }
-    calls::lose(s, m)
+    calls::lose::lose(s, m)
 }
 
 // Everyone goes back to the line for a failed set, or the run is swept: for an operator alone.
@@ -141,7 +141,7 @@ pub fn recover(
         let answer = RecoverAnswer::Refused(Refusal::Denied);
         return RecoverOutcome { run: s, answer };
     }
-    calls::recover(s, failed, deleted, line)
+    calls::recover::recover(s, failed, deleted, line)
 }
 
 // The line for a failed set goes to a list of the console's own, and of it the caller's members to the lent one. A lent list that is too short is refused by the
@@ -152,10 +152,10 @@ fn seen_line(caller: Caller, s: Run, failed: u16, line: &mut [u16]) -> LineOutco
 {
     let n = s.count;
     if line.len() < n {
-        return calls::line(s, failed, line);
+        return calls::line::line(s, failed, line);
     }
     let mut whole = [0u16; 16];
-    let outcome = calls::line(s, failed, &mut whole);
+    let outcome = calls::line::line(s, failed, &mut whole);
     let answer = outcome.answer;
     match answer {
         LineAnswer::Refused(why) => LineOutcome {
@@ -203,7 +203,7 @@ pub fn list(caller: Caller, s: Run, deleted: &mut [u16]) -> ListOutcome
         let answer = ListAnswer::Refused(Refusal::Denied);
         return ListOutcome { run: s, answer };
     }
-    let sound = soundness::is_sound(s);
+    let sound = calls::judged::is_sound_state(s);
     if !sound {
         let answer = ListAnswer::Refused(Refusal::UnsoundState);
         return ListOutcome { run: s, answer };
@@ -231,7 +231,7 @@ pub fn counts(caller: Caller, s: Run, line: &mut [u16]) -> LineOutcome
         let answer = LineAnswer::Refused(Refusal::Denied);
         return LineOutcome { run: s, answer };
     }
-    let sound = soundness::is_sound(s);
+    let sound = calls::judged::is_sound_state(s);
     if !sound {
         let answer = LineAnswer::Refused(Refusal::UnsoundState);
         return LineOutcome { run: s, answer };
@@ -257,12 +257,7 @@ fn earliest_of(caller: Caller, s: Run, copied: Copied, line: &mut [u16]) -> Earl
         let answer = LineAnswer::Refused(Refusal::Denied);
         return EarliestOutcome { run: s, answer };
     }
-    let sound = soundness::is_sound(s);
-    if !sound {
-        let answer = LineAnswer::Refused(Refusal::UnsoundState);
-        return EarliestOutcome { run: s, answer };
-    }
-    earliest::call::earliest(s, copied, line)
+    calls::through::earliest_of(s, copied, line)
 }
 
 // The earliest consistent line through every named checkpoint: for an operator alone. The list of named checkpoints is a lent slice of structs, so this function is
@@ -293,5 +288,5 @@ pub fn earliest_among(
         let answer = LineAnswer::Refused(Refusal::Denied);
         return EarliestOutcome { run: s, answer };
     }
-    calls::earliest_among(s, named, length, line)
+    calls::through::earliest_among(s, named, length, line)
 }

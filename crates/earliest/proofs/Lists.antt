@@ -1,4 +1,4 @@
--- What a loop over named checkpoints has found after k turns: tests of the first k, of two of them, and the copy of a list that has room.
+-- The copy of a list of named checkpoints: how many they are, the greatest process, and the elements where there is room.
 -- Assumes nothing.
 use mathlib.Core.Path.{_≡_, refl, sym, _∙_, ap}
 use mathlib.Core.Bool.{Bool, true, false, _||_}
@@ -24,48 +24,10 @@ use Rattle.whole_runs.specs.Earliest.{someAbsent, repeats, unfit}
 use Rattle.earliest.specs.declared.list.Copied.{Copied}
 use Rattle.earliest.specs.Copying.{noNamed, nothingCopied, withElement, copyTo, copyOf}
 
--- A mark over the first k elements, and over the indexes below k: one more.
-pub some-more : {A : Type 0} (t : A → Bool) (l : List A) (k : ℕ) (d : A) → k < length l → (mark : Bool) → mark ≡ some-of t (take k l)
+-- A mark over the first k elements: one more.
+some-more : {A : Type 0} (t : A → Bool) (l : List A) (k : ℕ) (d : A) → k < length l → (mark : Bool) → mark ≡ some-of t (take k l)
     → (mark || t (getD l k d)) ≡ some-of t (take (k + 1) l)
 some-more t l k d h mark inv = rw (inv, take-more l k d h, some-append) (ap (λ (b : Bool). some-of t (take k l) || b) (sym (some-one t (getD l k d))))
-
-pub any-more : (t : ℕ → Bool) (k : ℕ) (mark x : Bool) → mark ≡ anyBelow k t → x ≡ t k → (mark || x) ≡ anyBelow (k + 1) t
-any-more t k mark x inv e = by-bool x
-    (λ q. rw q (or-true mark ∙ any-yes t k (sym e ∙ q)))
-    (λ q. rw q (or-false mark ∙ any-no t k mark inv (sym e ∙ q)))
-  where
-    or-true : (b : Bool) → (b || true) ≡ true
-    or-true true = refl
-    or-true false = refl
-
-    or-false : (b : Bool) → (b || false) ≡ b
-    or-false true = refl
-    or-false false = refl
-
--- Two of a list name one process: with one element more, two of the others do, or one of the others names the process of this one.
-same-process : (c d : Named) → eqb (c .process) (d .process) ≡ eqb (d .process) (c .process)
-same-process c d = by-bool (eqb (d .process) (c .process))
-    (λ e. rw e (eq-eqb (c .process) (d .process) (sym (eqb-true (d .process) (c .process) e))))
-    (λ e. rw e (ne-eqb (c .process) (d .process) (λ q. eqb-false (d .process) (c .process) e (sym q))))
-
-regroup : (a b c d : Bool) → ((a || b) || (c || d)) ≡ ((a || c) || (b || d))
-regroup true b c d = refl
-regroup false true true d = refl
-regroup false true false d = refl
-regroup false false true d = refl
-regroup false false false d = refl
-
-repeats-snoc : (l : List Named) (x : Named) → repeats (l ++ (x ∷ [])) ≡ (repeats l || some-of (λ d. eqb (d .process) (x .process)) l)
-unfolding repeats some-of
-repeats-snoc [] x = refl
-repeats-snoc (c ∷ l) x =
-    ap (λ (b : Bool). b || repeats (l ++ (x ∷ []))) (some-append (λ d. eqb (d .process) (c .process)) l (x ∷ []))
-    ∙ rw (repeats-snoc l x, some-one (λ d. eqb (d .process) (c .process)) x, same-process x c)
-    (regroup (some-of (λ d. eqb (d .process) (c .process)) l) (eqb (c .process) (x .process)) (repeats l) (some-of (λ d. eqb (d .process) (x .process)) l))
-
-pub repeats-more : (l : List Named) (k : ℕ) → k < length l → (mark x : Bool) → mark ≡ repeats (take k l) → x ≡ some-of (λ d. eqb (d .process) (getD l k noNamed .process)) (take k l)
-    → (mark || x) ≡ repeats (take (k + 1) l)
-repeats-more l k h mark x inv e = rw (inv, e, take-more l k noNamed h) (sym (repeats-snoc (take k l) (getD l k noNamed)))
 
 -- The copy of the first k elements of a list: how many, the greatest process, and the elements where there are at most 16.
 pub to-length : (l : List Named) (k : ℕ) → copyTo k l .length ≡ k
@@ -123,14 +85,3 @@ copy-named l few = to-named l (length l) (omega arith) few ∙ ap (placed 16 noN
 
 pub copy-taken : (l : List Named) → length l ≤ 16 → take (length l) (copyOf l .named) ≡ l
 copy-taken l few = ap (take (length l)) (copy-named l few) ∙ take-placed 16 noNamed l
-
--- Whether it is unfit.
-pub copy-unfit : (n : ℕ) → n ≤ 16 → (l : List Named) → (eqb (copyOf l .length) 0 || ltb n (copyOf l .length) || repeats (take (copyOf l .length) (copyOf l .named))) ≡ unfit n l
-unfolding unfit
-copy-unfit n few l = rw (copy-length l) (by-bool (ltb n (length l))
-    (λ e. rw e (any-or (eqb (length l) 0) _ _))
-    (λ e. rw (copy-taken l (omega (arith, ltb-false n (length l) e)))))
-  where
-    any-or : (a b c : Bool) → (a || true || b) ≡ (a || true || c)
-    any-or true b c = refl
-    any-or false b c = refl

@@ -1,4 +1,2 @@
 pub mod Copying
-pub mod Searching
-pub mod Through
 pub mod Pairs

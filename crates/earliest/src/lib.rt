@@ -1,17 +1,7 @@
-// Document 02, Note 8: the earliest consistent line through named checkpoints. The list of them comes as a lent slice of structs; everything behind its walk
-// is on plain values.
+// Document 02, Note 8: named checkpoints, which come as a lent slice of structs, for the earliest consistent line through them.
 
-// list.rt: what is copied out of a lent list of named checkpoints, and the tests of the list alone
+// list.rt: what is copied out of a lent list of named checkpoints
 pub mod list;
 
-// search.rt: the named checkpoints among those that their processes keep
-pub mod search;
-
-// line.rt: named checkpoints against each other, and the line through them
-pub mod line;
-
-// call.rt: the call on what was copied
-pub mod call;
-
-// pairs.rt: what was copied as pairs of numbers
+// pairs.rt: what was copied, as pairs of numbers
 pub mod pairs;

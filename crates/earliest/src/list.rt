@@ -3,13 +3,10 @@
 use model::CheckpointIndex;
 use model::Named;
 ghost use mathlib.Core.Path.{_≡_};
-ghost use mathlib.Core.Bool.{_||_};
 ghost use Prim.Native.Nat.{_+_, _<_, _≤_, _^_, max};
-ghost use lib.Dec.{eqb, ltb};
+ghost use lib.Dec.{ltb};
 ghost use lib.ListN.{length, getD, set, take};
 ghost use Rattle.laws.specs.Choice.{pick};
-ghost use Rattle.laws.specs.Tests.{some-of};
-ghost use Rattle.whole_runs.specs.Earliest.{repeats};
 ghost use Rattle.earliest.specs.Copying.{noNamed, nothingCopied, withElement, copyOf};
 
 // What is copied out of a list: its first 16 elements, how many elements it has, and the greatest process that one of them names.
@@ -111,48 +108,4 @@ pub fn copy_front(named: [Named; 16], length: usize) -> Copied
         return copy_some(named, length);
     }
     copy_some(named, 16)
-}
-
-// One of the first m elements names process p. There are at most 16.
-fn is_among(named: [Named; 16], m: usize, p: usize) -> bool
-    requires { ⌜ m ≤ 16 ⌝ }
-    ensures { λ r. ⌜ r ≡ some-of (λ d. eqb (d .process) p) (take m named) ⌝ }
-{
-    let mut any = false;
-    for k in 0..m {
-        let c = named[k];
-        let same = c.process == p;
-        any = any | same;
-    }
-    any
-}
-
-// Two of the first m elements name one process.
-fn names_twice(named: [Named; 16], m: usize) -> bool
-    requires { ⌜ m ≤ 16 ⌝ }
-    ensures { λ r. ⌜ r ≡ repeats (take m named) ⌝ }
-{
-    let mut any = false;
-    for k in 0..m {
-        let c = named[k];
-        let twice = is_among(named, k, c.process);
-        any = any | twice;
-    }
-    any
-}
-
-// The list that was copied is empty, longer than n, or names a process twice.
-pub(crate) fn is_unfit(copied: Copied, n: usize) -> bool
-    requires { ⌜ n ≤ 16 ⌝ }
-    ensures { λ r. ⌜ r ≡ (eqb (copied .length) 0 || ltb n (copied .length) || repeats (take (copied .length) (copied .named))) ⌝ }
-{
-    let m = copied.length;
-    if m == 0 {
-        return true;
-    }
-    if n < m {
-        return true;
-    }
-    let named = copied.named;
-    names_twice(named, m)
 }

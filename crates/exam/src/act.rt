@@ -18,7 +18,7 @@ pub struct After {
 pub(crate) fn start_with(n: usize, counts: [u32; 16]) -> After
     ensures { λ r. ⌜ (r .run ≡ startOutcome n counts .run) × (r .refused ≡ startReport (startOutcome n counts .answer) .refused) ⌝ }
 {
-    let outcome = calls::start(n, counts);
+    let outcome = calls::start::start(n, counts);
     let run = outcome.run;
     let answer = outcome.answer;
     let said = summaries::of_start(answer);
@@ -46,7 +46,7 @@ pub(crate) fn checkpoint(before: After, i: usize, length: usize) -> After
     ensures { λ r. ⌜ (r .run ≡ checkpointOutcome (before .run) i (take length (replicate 512 0)) .run) × (r .refused ≡ checkpointReport (checkpointOutcome (before .run) i (take length (replicate 512 0)) .answer) .refused) ⌝ }
 {
     let mut deleted = [0u16; 512];
-    let outcome = calls::checkpoint(before.run, i, &mut deleted[..length]);
+    let outcome = calls::checkpoint::checkpoint(before.run, i, &mut deleted[..length]);
     let run = outcome.run;
     let answer = outcome.answer;
     let said = summaries::of_checkpoint(answer);
@@ -57,7 +57,7 @@ pub(crate) fn checkpoint(before: After, i: usize, length: usize) -> After
 pub(crate) fn send(before: After, i: usize, j: usize) -> After
     ensures { λ r. ⌜ (r .run ≡ sendOutcome (before .run) i j .run) × (r .refused ≡ sendReport (sendOutcome (before .run) i j .answer) .refused) ⌝ }
 {
-    let outcome = calls::send(before.run, i, j);
+    let outcome = calls::send::send(before.run, i, j);
     let run = outcome.run;
     let answer = outcome.answer;
     let said = summaries::of_send(answer);
@@ -70,7 +70,7 @@ pub(crate) fn deliver(before: After, m: u32, length: usize) -> After
     ensures { λ r. ⌜ (r .run ≡ deliverOutcome (before .run) m (take length (replicate 512 0)) .run) × (r .refused ≡ deliverReport (deliverOutcome (before .run) m (take length (replicate 512 0)) .answer) .refused) ⌝ }
 {
     let mut deleted = [0u16; 512];
-    let outcome = calls::deliver(before.run, m, &mut deleted[..length]);
+    let outcome = calls::deliver::deliver(before.run, m, &mut deleted[..length]);
     let run = outcome.run;
     let answer = outcome.answer;
     let said = summaries::of_deliver(answer);
@@ -85,7 +85,7 @@ pub(crate) fn recover(before: After, failed: u16, length: usize, members: usize)
 {
     let mut deleted = [0u16; 512];
     let mut line = [0u16; 16];
-    let outcome = calls::recover(
+    let outcome = calls::recover::recover(
         before.run,
         failed,
         &mut deleted[..length],

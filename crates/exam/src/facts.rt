@@ -156,7 +156,7 @@ fn indexes(words: &[u8], failed: u16, line: &[u16; 16], n: usize)
 fn line(s: Run, failed: u16) -> bool {
     let n = within(16, s.count);
     let mut line = [0u16; 16];
-    let outcome = calls::line(s, failed, &mut line);
+    let outcome = calls::line::line(s, failed, &mut line);
     let answer = outcome.answer;
     match answer {
         LineAnswer::Refused(_) => false,
@@ -203,7 +203,7 @@ fn of_delivery(words: &[u8], m: u32, x: u64) {
 // A delivery with the number of its answer and the set of the entries that rose, and the state behind it.
 pub(crate) fn deliver(before: After, m: u32) -> After {
     let mut deleted = [0u16; 512];
-    let outcome = calls::deliver(before.run, m, &mut deleted);
+    let outcome = calls::deliver::deliver(before.run, m, &mut deleted);
     let run = outcome.run;
     let answer = outcome.answer;
     let said = summaries::of_deliver(answer);
@@ -248,7 +248,7 @@ pub(crate) fn recover(before: After, failed: u16) -> After {
     let n = within(16, s.count);
     let mut deleted = [0u16; 512];
     let mut line = [0u16; 16];
-    let outcome = calls::recover(s, failed, &mut deleted, &mut line);
+    let outcome = calls::recover::recover(s, failed, &mut deleted, &mut line);
     let run = outcome.run;
     let answer = outcome.answer;
     indexes(b"written", failed, &line, n);

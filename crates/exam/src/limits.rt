@@ -52,7 +52,7 @@ fn line(n: usize, length: usize)
 {
     let start = act::start(n);
     let mut line = [0u16; 16];
-    let outcome = calls::line(start.run, 1, &mut line[..length]);
+    let outcome = calls::line::line(start.run, 1, &mut line[..length]);
     let answer = outcome.answer;
     let said = summaries::of_line(answer);
     with_list(b"line", n, length, said.refused);

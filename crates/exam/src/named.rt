@@ -99,7 +99,7 @@ fn show(s: After, number: u64, list: NamedList) {
     elements(list);
     let named = list.named;
     let mut line = [0u16; 16];
-    let outcome = calls::earliest_among(s.run, named, list.length, &mut line);
+    let outcome = calls::through::earliest_among(s.run, named, list.length, &mut line);
     let answer = outcome.answer;
     let said = summaries::of_line(answer);
     let refused = said.refused;
@@ -165,7 +165,7 @@ fn with_line(n: usize, length: u64, line: &mut [u16]) {
     let start = act::start(n);
     let list = one(0, 0);
     let named = list.named;
-    let outcome = calls::earliest_among(start.run, named, list.length, line);
+    let outcome = calls::through::earliest_among(start.run, named, list.length, line);
     let answer = outcome.answer;
     let said = summaries::of_line(answer);
     say::text(b"earliestline");

@@ -2,7 +2,14 @@
 // byte goes to. "A writer takes a call, does it, and appends the record to a lent buffer". What each function returns and leaves, refused or accepted,
 // is in specs/Recording of the crate recording.
 
-use earliest::call::EarliestOutcome;
+use calls::checkpoint::CheckpointOutcome;
+use calls::deliver::DeliverOutcome;
+use calls::line::LineOutcome;
+use calls::lose::LoseOutcome;
+use calls::recover::RecoverOutcome;
+use calls::send::SendOutcome;
+use calls::start::StartOutcome;
+use calls::through::EarliestOutcome;
 use model::Event;
 use model::LoseAnswer;
 use model::Named;
@@ -10,13 +17,6 @@ use model::Refusal;
 use model::Run;
 use model::SendAnswer;
 use model::StartAnswer;
-use rollback::line::LineOutcome;
-use rollback::recover::RecoverOutcome;
-use steps::checkpoint::CheckpointOutcome;
-use steps::deliver::DeliverOutcome;
-use steps::lose::LoseOutcome;
-use steps::send::SendOutcome;
-use steps::start::StartOutcome;
 ghost use mathlib.Core.Path.{_≡_};
 ghost use Rattle.recording.specs.Recording.{recordedStart, recordedCheckpoint, recordedSend, recordedDeliver, recordedLose, recordedLine, recordedRecover, recordedEarliest};
 
@@ -68,14 +68,14 @@ pub fn start(n: usize, counts: [u32; 16], buffer: &mut [u8]) -> StartRecorded
     ensures { λ r. ⌜ now (buffer .exit) ≡ recordedStart n counts (now (buffer .entry)) .buffer ⌝ }
     ensures { λ r. ⌜ r .place ≡ recordedStart n counts (now (buffer .entry)) .place ⌝ }
 {
-    let outcome = calls::start(n, counts);
+    let outcome = calls::start::start(n, counts);
     let answer = outcome.answer;
     let done = recorder_bytes::accepted::start(answer);
     if !done {
         return StartRecorded { outcome, place: 0 };
     }
     if buffer.len() == 0 {
-        let none = calls::start(0, counts);
+        let none = calls::start::start(0, counts);
         let run = none.run;
         let answer = StartAnswer::Refused(Refusal::BufferTooShort);
         let outcome = StartOutcome { run, answer };
@@ -105,7 +105,7 @@ pub fn checkpoint(
         let outcome = CheckpointOutcome { run: s, answer };
         return CheckpointRecorded { outcome, place };
     }
-    let outcome = calls::checkpoint(s, i, deleted);
+    let outcome = calls::checkpoint::checkpoint(s, i, deleted);
     let answer = outcome.answer;
     let done = recorder_bytes::accepted::checkpoint(answer);
     if !done {
@@ -125,7 +125,7 @@ pub fn send(s: Run, i: usize, j: usize, buffer: &mut [u8], place: usize) -> Send
     ensures { λ r. ⌜ now (buffer .exit) ≡ recordedSend s i j (now (buffer .entry)) place .buffer ⌝ }
     ensures { λ r. ⌜ r .place ≡ recordedSend s i j (now (buffer .entry)) place .place ⌝ }
 {
-    let outcome = calls::send(s, i, j);
+    let outcome = calls::send::send(s, i, j);
     let answer = outcome.answer;
     let done = recorder_bytes::accepted::send(answer);
     if !done {
@@ -169,7 +169,7 @@ pub fn deliver(
         };
         return DeliverRecorded { outcome, place };
     }
-    let outcome = calls::deliver(s, m, deleted);
+    let outcome = calls::deliver::deliver(s, m, deleted);
     let answer = outcome.answer;
     let done = recorder_bytes::accepted::deliver(answer);
     if !done {
@@ -189,7 +189,7 @@ pub fn lose(s: Run, m: u32, buffer: &mut [u8], place: usize) -> LoseRecorded
     ensures { λ r. ⌜ now (buffer .exit) ≡ recordedLose s m (now (buffer .entry)) place .buffer ⌝ }
     ensures { λ r. ⌜ r .place ≡ recordedLose s m (now (buffer .entry)) place .place ⌝ }
 {
-    let outcome = calls::lose(s, m);
+    let outcome = calls::lose::lose(s, m);
     let answer = outcome.answer;
     let done = recorder_bytes::accepted::lose(answer);
     if !done {
@@ -216,7 +216,7 @@ pub fn line(s: Run, failed: u16, line: &mut [u16], buffer: &mut [u8], place: usi
     ensures { λ r. ⌜ now (buffer .exit) ≡ recordedLine s failed (now (line .entry)) (now (buffer .entry)) place .buffer ⌝ }
     ensures { λ r. ⌜ r .place ≡ recordedLine s failed (now (line .entry)) (now (buffer .entry)) place .place ⌝ }
 {
-    let outcome = calls::line(s, failed, line);
+    let outcome = calls::line::line(s, failed, line);
     LineRecorded { outcome, place }
 }
 
@@ -242,7 +242,7 @@ pub fn recover(
         let outcome = RecoverOutcome { run: s, answer };
         return RecoverRecorded { outcome, place };
     }
-    let outcome = calls::recover(s, failed, deleted, line);
+    let outcome = calls::recover::recover(s, failed, deleted, line);
     let answer = outcome.answer;
     let done = recorder_bytes::accepted::recover(answer);
     if !done {
@@ -277,6 +277,6 @@ pub fn earliest(
     ensures { λ r. ⌜ now (buffer .exit) ≡ recordedEarliest s (now (named .entry)) (now (line .entry)) (now (buffer .entry)) place .buffer ⌝ }
     ensures { λ r. ⌜ r .place ≡ recordedEarliest s (now (named .entry)) (now (line .entry)) (now (buffer .entry)) place .place ⌝ }
 {
-    let outcome = calls::earliest(s, named, line);
+    let outcome = calls::through::earliest(s, named, line);
     unrecorded(outcome, buffer, place)
 }

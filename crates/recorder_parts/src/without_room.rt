@@ -28,7 +28,7 @@ pub fn checkpoint(s: Run, i: usize, size: usize) -> CheckpointAnswer
 {
     let mut deleted = [0u16; 512];
     let entries = least(size, 512);
-    let outcome = calls::checkpoint(s, i, &mut deleted[..entries]);
+    let outcome = calls::checkpoint::checkpoint(s, i, &mut deleted[..entries]);
     let answer = outcome.answer;
     let done = accepted::checkpoint(answer);
     if done {
@@ -42,7 +42,7 @@ pub fn deliver(s: Run, m: u32, size: usize) -> DeliverAnswer
 {
     let mut deleted = [0u16; 512];
     let entries = least(size, 512);
-    let outcome = calls::deliver(s, m, &mut deleted[..entries]);
+    let outcome = calls::deliver::deliver(s, m, &mut deleted[..entries]);
     let answer = outcome.answer;
     let done = accepted::deliver(answer);
     if done {
@@ -58,7 +58,7 @@ pub fn recover(s: Run, failed: u16, size: usize, members: usize) -> RecoverAnswe
     let mut line = [0u16; 16];
     let entries = least(size, 512);
     let places = least(members, 16);
-    let outcome = calls::recover(s, failed, &mut deleted[..entries], &mut line[..places]);
+    let outcome = calls::recover::recover(s, failed, &mut deleted[..entries], &mut line[..places]);
     let answer = outcome.answer;
     let done = accepted::recover(answer);
     if done {

@@ -3,14 +3,18 @@
 use model::Run;
 
 pub(crate) fn left(s: Run, refused: u8) -> u8 {
-    if soundness::is_sound(s) { refused } else { 2 }
+    if calls::judged::is_sound_state(s) {
+        refused
+    } else {
+        2
+    }
 }
 
 pub(crate) fn starts(s: Run, times: u32) -> u8 {
     let mut last = s;
     let mut refused: u8 = 0;
     for k in 0..times {
-        let outcome = calls::start(16, [1; 16]);
+        let outcome = calls::start::start(16, [1; 16]);
         last = outcome.run;
         let answer = outcome.answer;
         let said = summaries::of_start(answer);
@@ -24,7 +28,7 @@ pub(crate) fn checkpoints(s: Run, times: u32) -> u8 {
     let mut refused: u8 = 0;
     for k in 0..times {
         let mut deleted = [0u16; 512];
-        let outcome = calls::checkpoint(s, 3, &mut deleted);
+        let outcome = calls::checkpoint::checkpoint(s, 3, &mut deleted);
         last = outcome.run;
         let answer = outcome.answer;
         let said = summaries::of_checkpoint(answer);
@@ -37,7 +41,7 @@ pub(crate) fn sends(s: Run, times: u32) -> u8 {
     let mut last = s;
     let mut refused: u8 = 0;
     for k in 0..times {
-        let outcome = calls::send(s, 3, 7);
+        let outcome = calls::send::send(s, 3, 7);
         last = outcome.run;
         let answer = outcome.answer;
         let said = summaries::of_send(answer);
@@ -51,7 +55,7 @@ pub(crate) fn delivers(s: Run, times: u32) -> u8 {
     let mut refused: u8 = 0;
     for k in 0..times {
         let mut deleted = [0u16; 512];
-        let outcome = calls::deliver(s, 113, &mut deleted);
+        let outcome = calls::deliver::deliver(s, 113, &mut deleted);
         last = outcome.run;
         let answer = outcome.answer;
         let said = summaries::of_deliver(answer);
@@ -64,7 +68,7 @@ pub(crate) fn loses(s: Run, times: u32) -> u8 {
     let mut last = s;
     let mut refused: u8 = 0;
     for k in 0..times {
-        let outcome = calls::lose(s, 113);
+        let outcome = calls::lose::lose(s, 113);
         last = outcome.run;
         let answer = outcome.answer;
         let said = summaries::of_lose(answer);
@@ -78,7 +82,7 @@ pub(crate) fn lines(s: Run, times: u32) -> u8 {
     let mut refused: u8 = 0;
     for k in 0..times {
         let mut line = [0u16; 16];
-        let outcome = calls::line(s, 8, &mut line);
+        let outcome = calls::line::line(s, 8, &mut line);
         last = outcome.run;
         let answer = outcome.answer;
         let said = summaries::of_line(answer);
@@ -93,7 +97,7 @@ pub(crate) fn recovers(s: Run, times: u32) -> u8 {
     for k in 0..times {
         let mut deleted = [0u16; 512];
         let mut line = [0u16; 16];
-        let outcome = calls::recover(s, 8, &mut deleted, &mut line);
+        let outcome = calls::recover::recover(s, 8, &mut deleted, &mut line);
         last = outcome.run;
         let answer = outcome.answer;
         let said = summaries::of_recover(answer);

@@ -8,7 +8,7 @@ fn sends(s: Run, far: usize) -> Run
 {
     let mut run = s;
     for p in 0..16 {
-        let outcome = calls::send(run, p, (p + far) % 16);
+        let outcome = calls::send::send(run, p, (p + far) % 16);
         run = outcome.run;
     }
     run
@@ -16,13 +16,13 @@ fn sends(s: Run, far: usize) -> Run
 
 fn checkpoint(s: Run, p: usize) -> Run {
     let mut deleted = [0u16; 512];
-    let outcome = calls::checkpoint(s, p, &mut deleted);
+    let outcome = calls::checkpoint::checkpoint(s, p, &mut deleted);
     outcome.run
 }
 
 fn deliver(s: Run, m: u32) -> Run {
     let mut deleted = [0u16; 512];
-    let outcome = calls::deliver(s, m, &mut deleted);
+    let outcome = calls::deliver::deliver(s, m, &mut deleted);
     outcome.run
 }
 
@@ -57,7 +57,7 @@ fn round(s: Run, far: usize, first: u32) -> Run
 
 // Five rounds leave each process with five checkpoints. Then 64 messages are sent, and the first of them is lost.
 pub(crate) fn state() -> Run {
-    let outcome = calls::start(16, [1; 16]);
+    let outcome = calls::start::start(16, [1; 16]);
     let first = round(outcome.run, 1, 1);
     let second = round(first, 2, 17);
     let third = round(second, 3, 33);
@@ -67,6 +67,6 @@ pub(crate) fn state() -> Run {
     let two = sends(one, 2);
     let three = sends(two, 3);
     let four = sends(three, 4);
-    let lost = calls::lose(four, 81);
+    let lost = calls::lose::lose(four, 81);
     lost.run
 }

@@ -21,28 +21,28 @@ fn answered(run: Run, said: Summary) -> Applied {
 fn event(s: Run, e: Event, deleted: &mut [u16], line: &mut [u16]) -> Applied {
     match e {
         Event::Checkpoint(i) => {
-            let o = calls::checkpoint(s, i, deleted);
+            let o = calls::checkpoint::checkpoint(s, i, deleted);
             let answer = o.answer;
             answered(o.run, summaries::of_checkpoint(answer))
         }
         Event::Send(i, j) => {
-            let o = calls::send(s, i, j as usize);
+            let o = calls::send::send(s, i, j as usize);
             let answer = o.answer;
             answered(o.run, summaries::of_send(answer))
         }
         Event::Deliver(m) => {
-            let o = calls::deliver(s, m, deleted);
+            let o = calls::deliver::deliver(s, m, deleted);
             let answer = o.answer;
             answered(o.run, summaries::of_deliver(answer))
         }
         Event::Lose(m) => {
-            let o = calls::lose(s, m);
+            let o = calls::lose::lose(s, m);
             let answer = o.answer;
             answered(o.run, summaries::of_lose(answer))
         }
         // the set of a record of the generator's has 16 bits
         Event::Recover(failed) => {
-            let o = calls::recover(s, (failed % 65536) as u16, deleted, line);
+            let o = calls::recover::recover(s, (failed % 65536) as u16, deleted, line);
             let answer = o.answer;
             answered(o.run, summaries::of_recover(answer))
         }

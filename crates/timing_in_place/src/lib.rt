@@ -98,6 +98,6 @@ fn apply_by_value(s: Run, trace: &[u8]) -> u64 {
 // The same from a start of n processes on, with block counts of 1.
 #[no_mangle]
 pub extern "C" fn timing_by_value(n: usize, trace: &[u8]) -> u64 {
-    let started = calls::start(n, [1; 16]);
+    let started = calls::start::start(n, [1; 16]);
     apply_by_value(started.run, trace)
 }

@@ -3,7 +3,7 @@
 use borrow.Author.Needs.{needs}
 use Rattle.model.specs.laws.Sound.{sound-state}
 use Rattle.whole_runs.proofs.Unsound.{is-sound, is-unsound}
-use Rattle.apply.proofs.Sizes.{sizes}
+use Rattle.run_words.proofs.Sizes.{sizes}
 use Rattle.console_calls.proofs.Denials.{counts-denied}
 use Rattle.console_calls.proofs.Listed.{held-most, counts-unsound, counts-short, counts-made}
 use Rattle.console_calls.proofs.counts.Statement.{statement}
@@ -21,7 +21,7 @@ returns-2 c =
     let e = q .before in
     let d = e .before in
     let a = d .before .before .args in
-    counts-unsound (a .caller) (a .s) (a .line .now) (d .is-denied .ensures) (e .if1 .left) (is-unsound (a .s) (q .is-sound .ensures) (c .if2 .taken))
+    counts-unsound (a .caller) (a .s) (a .line .now) (d .is-denied .ensures) (e .if1 .left) (is-unsound (a .s) (q .is-sound-state .ensures) (c .if2 .taken))
 
 returns-3 : tie.Need-returns-3
 returns-3 c =
@@ -30,7 +30,7 @@ returns-3 c =
     let e = q .before in
     let d = e .before in
     let a = d .before .before .args in
-    counts-short (a .caller) (a .s) (a .line .now) (d .is-denied .ensures) (e .if1 .left) (is-sound (a .s) (q .is-sound .ensures) (p .if2 .left)) (c .if3 .taken)
+    counts-short (a .caller) (a .s) (a .line .now) (d .is-denied .ensures) (e .if1 .left) (is-sound (a .s) (q .is-sound-state .ensures) (p .if2 .left)) (c .if3 .taken)
 
 write-counts-requires : tie.Need-write-counts-requires
 write-counts-requires c κs =
@@ -38,7 +38,7 @@ write-counts-requires c κs =
     let p = l .before in
     let q = p .before in
     let s = q .before .before .before .before .args .s in
-    let h = is-sound s (q .is-sound .ensures) (p .if2 .left) in
+    let h = is-sound s (q .is-sound-state .ensures) (p .if2 .left) in
     (sound-state s h .count-most, l .if3 .left, held-most s h)
 
 returns-4 : tie.Need-returns-4
@@ -51,7 +51,7 @@ returns-4 c =
     let d = e .before in
     let u = d .before .before in
     let a = u .args in
-    counts-made (a .caller) (a .s) (a .line .now) (d .is-denied .ensures) (e .if1 .left) (sizes (a .s) _ (u .good .1 .0)) (is-sound (a .s) (q .is-sound .ensures) (p .if2 .left)) (l .if3 .left) _
+    counts-made (a .caller) (a .s) (a .line .now) (d .is-denied .ensures) (e .if1 .left) (sizes (a .s) _ (u .good .1 .0)) (is-sound (a .s) (q .is-sound-state .ensures) (p .if2 .left)) (l .if3 .left) _
     (w .write-counts .ensures)
 
 pub counts-spec : {M : Type 1} → statement M

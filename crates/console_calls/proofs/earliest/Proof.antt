@@ -48,12 +48,12 @@ use Rattle.roles.specs.Console.{consoleEarliest}
 use Rattle.roles.proofs.Caller as K
 use Rattle.roles.proofs.Caller.Laws as K′
 use Rattle.earliest.specs.declared.list.Copied.{Copied}
-use Rattle.earliest.specs.declared.call.EarliestOutcome.{EarliestOutcome}
+use Rattle.calls.specs.declared.through.EarliestOutcome.{EarliestOutcome}
 use Rattle.earliest.specs.Copying.{copyOf, IsCopy}
 use Rattle.earliest.proofs.list.Copied as T
 use Rattle.earliest.proofs.list.Copied.Laws as T′
-use Rattle.earliest.proofs.call.EarliestOutcome as O
-use Rattle.earliest.proofs.call.EarliestOutcome.Laws as O′
+use Rattle.calls.proofs.through.EarliestOutcome as O
+use Rattle.calls.proofs.through.EarliestOutcome.Laws as O′
 use Rattle.earliest.proofs.list.copy_out as copy-out
 use Rattle.earliest.proofs.list.copy_out.Symbol as copy-out-def
 use Rattle.earliest.proofs.list.copy_out.Symbol.{name as #copy-out}

@@ -22,18 +22,18 @@ returns-2 c =
     let e = q .before in
     let d = e .before in
     let a = d .before .before .args in
-    list-unsound (a .caller) (a .s) (a .deleted .now) (d .is-denied .ensures) (e .if1 .left) (is-unsound (a .s) (q .is-sound .ensures) (c .if2 .taken))
+    list-unsound (a .caller) (a .s) (a .deleted .now) (d .is-denied .ensures) (e .if1 .left) (is-unsound (a .s) (q .is-sound-state .ensures) (c .if2 .taken))
 
 mul-if3 : tie.Need-mul-if3
 mul-if3 c =
     let s = c .before .before .before .before .before .args .s in
-    let most : s .count ≤ 16 = sound-state s (is-sound s (c .before .is-sound .ensures) (c .if2 .left)) .count-most in
+    let most : s .count ≤ 16 = sound-state s (is-sound s (c .before .is-sound-state .ensures) (c .if2 .left)) .count-most in
     search needs
 
 mul-if3-2 : tie.Need-mul-if3-2
 mul-if3-2 c =
     let s = c .before .before .before .before .before .args .s in
-    let most : 2 * s .count * s .count ≤ 512 = square-most s (is-sound s (c .before .is-sound .ensures) (c .if2 .left)) in
+    let most : 2 * s .count * s .count ≤ 512 = square-most s (is-sound s (c .before .is-sound-state .ensures) (c .if2 .left)) in
     search needs
 
 returns-3 : tie.Need-returns-3
@@ -43,7 +43,7 @@ returns-3 c =
     let e = q .before in
     let d = e .before in
     let a = d .before .before .args in
-    list-short (a .caller) (a .s) (a .deleted .now) (d .is-denied .ensures) (e .if1 .left) (is-sound (a .s) (q .is-sound .ensures) (p .if2 .left)) (c .if3 .taken)
+    list-short (a .caller) (a .s) (a .deleted .now) (d .is-denied .ensures) (e .if1 .left) (is-sound (a .s) (q .is-sound-state .ensures) (p .if2 .left)) (c .if3 .taken)
 
 write-list-requires : tie.Need-write-list-requires
 write-list-requires c κs =
@@ -51,7 +51,7 @@ write-list-requires c κs =
     let p = l .before in
     let q = p .before in
     let s = q .before .before .before .before .args .s in
-    let h = is-sound s (q .is-sound .ensures) (p .if2 .left) in
+    let h = is-sound s (q .is-sound-state .ensures) (p .if2 .left) in
     (sound-state s h .count-most, l .if3 .left, held-most s h)
 
 returns-4 : tie.Need-returns-4
@@ -64,7 +64,7 @@ returns-4 c =
     let e = q .before in
     let d = e .before in
     let a = d .before .before .args in
-    list-made (a .caller) (a .s) (a .deleted .now) (d .is-denied .ensures) (e .if1 .left) (is-sound (a .s) (q .is-sound .ensures) (p .if2 .left)) (l .if3 .left) _ _
+    list-made (a .caller) (a .s) (a .deleted .now) (d .is-denied .ensures) (e .if1 .left) (is-sound (a .s) (q .is-sound-state .ensures) (p .if2 .left)) (l .if3 .left) _ _
     (rw (k .kept-rows .ensures) at (w .write-list .ensures .0)) (rw (k .kept-rows .ensures) at (w .write-list .ensures .1))
 
 pub list-spec : {M : Type 1} → statement M

@@ -47,16 +47,16 @@ use Rattle.recording.specs.Recording.{unwritten, recordedEarliest}
 use Rattle.model.proofs.Named as N
 use Rattle.model.proofs.Run as R
 use Rattle.model.proofs.Run.Laws as R′
-use Rattle.earliest.specs.declared.call.EarliestOutcome.{EarliestOutcome}
-use Rattle.earliest.proofs.call.EarliestOutcome as O
-use Rattle.earliest.proofs.call.EarliestOutcome.Laws as O′
+use Rattle.calls.specs.declared.through.EarliestOutcome.{EarliestOutcome}
+use Rattle.calls.proofs.through.EarliestOutcome as O
+use Rattle.calls.proofs.through.EarliestOutcome.Laws as O′
 use Rattle.recorder.specs.declared.EarliestRecorded.{EarliestRecorded}
 use Rattle.recorder.proofs.EarliestRecorded as E
 use Rattle.recorder.proofs.EarliestRecorded.Laws as E′
-use Rattle.calls.proofs.earliest as made
-use Rattle.calls.proofs.earliest.Symbol as made-def
-use Rattle.calls.proofs.earliest.Symbol.{name as #made}
-use Rattle.calls.proofs.earliest.Met as made-thm
+use Rattle.calls.proofs.through.earliest as made
+use Rattle.calls.proofs.through.earliest.Symbol as made-def
+use Rattle.calls.proofs.through.earliest.Symbol.{name as #made}
+use Rattle.calls.proofs.through.earliest.Met as made-thm
 use Rattle.recorder.proofs.unrecorded as unrecorded
 use Rattle.recorder.proofs.unrecorded.Symbol as unrecorded-def
 use Rattle.recorder.proofs.unrecorded.Symbol.{name as #unrecorded}
@@ -320,5 +320,5 @@ earliest-spec 𝓤 H 𝓜 𝓖 𝓡 =
     entered 𝓤 H (tripleOf 𝓤 H (𝓖 .A) f.signature (f.spec 𝓤 H (𝓖 .A) (𝓜 .mem) (𝓡 .run)))
     (tables 𝓤 H 𝓜 𝓡 code.env .C) (tables 𝓤 H 𝓜 𝓡 code.env .Λ) #own code.function (code.unfolded 𝓤 H 𝓜 𝓡)
     (earliest-meets 𝓤 H (𝓖 .A) (givenOf 𝓤 H 𝓜 𝓖) (𝓜 .mem) (𝓡 .run) (tablesOf 𝓤 H 𝓜 (tables 𝓤 H 𝓜 𝓡 code.env))
-    (cited 𝓤 H (Made 𝓤 H (𝓖 .A) (𝓜 .mem) (𝓡 .run)) 𝓜 𝓡 code.env #made made-def.routine code.calls-calls·earliest (made-thm.met 𝓤 H 𝓜 𝓖 𝓡))
+    (cited 𝓤 H (Made 𝓤 H (𝓖 .A) (𝓜 .mem) (𝓡 .run)) 𝓜 𝓡 code.env #made made-def.routine code.calls-calls·through·earliest (made-thm.met 𝓤 H 𝓜 𝓖 𝓡))
     (cited 𝓤 H (Unrecorded 𝓤 H (𝓖 .A) (𝓜 .mem) (𝓡 .run)) 𝓜 𝓡 code.env #unrecorded unrecorded-def.routine code.calls-recorder·unrecorded (unrecorded-thm.met 𝓤 H 𝓜 𝓖 𝓡)))

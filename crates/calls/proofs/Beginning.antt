@@ -1,0 +1,84 @@
+-- What a start leaves of 6,464 words, with 16 counts lent, is readable, and stands for the state that document 01's start returns.
+-- Assumes nothing.
+use mathlib.Core.Path.{_≡_, refl}
+use mathlib.Core.List.{List, []}
+use mathlib.Core.Option.{none}
+use Prim.Native.Nat.{ℕ, zero, suc, _≤_}
+use native.Mathlib.Omega.{arith}
+use lib.Dec.{leb}
+use lib.ListN.{length, replicate, length-replicate, getD-replicate}
+use borrow.Author.Tests.{lt-leb, le-leb, leb-true, eq-eqb, not-false}
+use Rattle.laws.specs.Rows.{by-lt}
+use Rattle.laws.specs.Truth.{and-left}
+use Rattle.model.specs.Refusals.{firstOf, startRefusal}
+use Rattle.model.specs.Words.{places, noCheckpoint, blank}
+use Rattle.model.specs.Steps.{checkpointZero, started, startState}
+use Rattle.model.specs.laws.Refusals.{no-rule, by-refusal}
+use Rattle.whole_runs.specs.Outcomes.{startOutcome}
+use Rattle.words.specs.Layout.{size, word}
+use Rattle.words.proofs.ViewBlank.{blank-fits}
+use Rattle.run_words.specs.Readable.{Readable}
+use Rattle.run_words.proofs.Causes.{Small, small-disk}
+use Rattle.in_place.specs.Starting.{zeros, startRefusalIn, startOutcomeIn, startWords, startedWords, StartsTheSame}
+use Rattle.in_place.proofs.Starting.{zeros-length, accepted-few, started-run}
+use Rattle.in_place.proofs.Judging.{starts-the-same}
+use Rattle.calls.proofs.Changing.{small-readable}
+use Rattle.calls.proofs.Keeping.{Few, small-processes}
+
+-- More than 16 processes are refused whatever is lent.
+pub started-so : (n : ℕ) (counts : List ℕ) → length counts ≡ 16 → startOutcomeIn size n counts ≡ startOutcome n counts
+unfolding StartsTheSame startOutcomeIn startRefusalIn startOutcome startRefusal firstOf
+started-so n counts long = by-lt 16 n
+    (λ many. rw (lt-leb n 16 many, le-leb 1 n (omega arith)))
+    (λ few. starts-the-same n counts (omega arith))
+
+-- The words of a refused start are zero.
+replicate-zero : (n k : ℕ) → word (replicate n 0) k ≡ 0
+replicate-zero zero k = refl
+replicate-zero (suc n) zero = refl
+replicate-zero (suc n) (suc k) = replicate-zero n k
+
+zero-at : (k : ℕ) → word zeros k ≡ 0
+unfolding zeros
+zero-at k = replicate-zero size k
+
+zeros-readable : Readable zeros
+zeros-readable = record {
+  fit = blank-fits zeros (λ k low lt. zero-at k) (λ k low. zero-at k) zeros-length;
+  few = omega (arith, zero-at 0);
+  causes = λ p k lt less used. absurd (omega (arith, zero-at 0));
+}
+
+-- Those of another stand for a state in which each process keeps checkpoint 0, of cause 0.
+module _ (n : ℕ) (one : 1 ≤ n) (most : n ≤ 16) where
+  blank-small : Small (blank n)
+  unfolding blank
+  blank-small = record {
+    count-some = one;
+    count-few = most;
+    rows = length-replicate places (replicate places noCheckpoint);
+    causes = λ p k lt less.
+        rw (getD-replicate places p (replicate places noCheckpoint) [] (omega arith), getD-replicate places k noCheckpoint noCheckpoint less)
+        (omega arith);
+  }
+
+  first : (counts : List ℕ) (p : ℕ) → Few (started counts p .kept)
+  unfolding started checkpointZero
+  first counts p zero under = omega arith
+  first counts p (suc k) under = absurd (omega arith)
+
+  start-small : (counts : List ℕ) → Small (startState n counts)
+  unfolding startState
+  start-small counts = small-disk _ (small-processes n (started counts) (blank n) blank-small (λ p lt. first counts p)) _
+
+accepted-some : (many n : ℕ) (counts : List ℕ) → startRefusalIn many n counts ≡ none → 1 ≤ n
+unfolding startRefusalIn
+accepted-some many n counts fine = leb-true 1 n (and-left (leb 1 n) (leb n 16) (not-false _ (no-rule _ fine 0)))
+
+pub start-readable : (w : List ℕ) (n : ℕ) (counts : List ℕ) → length w ≡ size → Readable (startWords w n counts)
+unfolding startWords
+start-readable w n counts long = by-refusal (startRefusalIn (length w) n counts)
+    (λ fine.
+    let few = accepted-few (length w) n counts fine in
+    rw fine (small-readable (startedWords n counts) (startState n counts) (started-run n counts few) (start-small n (accepted-some (length w) n counts fine) few counts)))
+    (λ why e. rw (e, eq-eqb (length w) size long) zeros-readable)

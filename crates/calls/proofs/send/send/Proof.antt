@@ -1,0 +1,67 @@
+-- `calls::send::send` meets its contract: a state that does not fit its words, or whose words stand for no sound one, is refused with 2; on others the call in place
+-- does it. Demand 3 is the theorem of `whole_runs`.
+-- Assumes nothing.
+use mathlib.Core.Path.{_≡_, _∙_, ap}
+use mathlib.Core.Bool.{true}
+use borrow.Author.Needs.{needs}
+use Rattle.model.specs.declared.Run.{Run}
+use Rattle.model.specs.Sound.{sound}
+use Rattle.words.specs.Layout.{runOf}
+use Rattle.whole_runs.specs.Outcomes.{sendOutcome}
+use Rattle.whole_runs.proofs.Unsound.{send-unsound}
+use Rattle.whole_runs.proofs.WholeRuns.{send-promise}
+use Rattle.run_words.proofs.Sizes.{sizes}
+use Rattle.calls.proofs.Changing.{sound-small, small-readable, send-small, filled-sound, filled-unsound}
+use Rattle.calls.proofs.send.send.Statement.{statement}
+use Rattle.calls.proofs.send.send.Tie as tie
+
+-- The state that was handed in is sound, and is what the filled words stand for.
+ready : (c : tie.Else1) → let f = c .before .before .before .before in let a = f .before .before .args in (runOf (f .fill .last .0) ≡ a .s) × (sound (a .s) ≡ true)
+ready c =
+    let v = c .before in
+    let f = v .before .before .before in
+    let s = f .before .before in
+    filled-sound (s .args .s) (f .fill .last .0) _ _ (sizes (s .args .s) _ (s .good .0)) (f .fill .ensures .0) (f .fill .ensures .1) (v .is-sound .ensures) (c .if1 .left)
+
+returns : tie.Need-returns
+returns c =
+    let v = c .before in
+    let f = v .before .before .before in
+    let s = f .before .before in
+    let a = s .args in
+    let bad = filled-unsound (a .s) (f .fill .last .0) _ _ (sizes (a .s) _ (s .good .0)) (f .fill .ensures .0) (f .fill .ensures .1) (v .is-sound .ensures) (c .if1 .taken) in
+    let g = send-unsound (a .s) bad (a .i) (a .j) in
+    (g .0, (g .1, send-promise (a .s) (a .i) (a .j) (a .s) (g .0)))
+
+send-on-requires : tie.Need-send-on-requires
+send-on-requires c κs = let r = ready (c .before) in ap sound (r .0) ∙ r .1
+
+read-requires : tie.Need-read-requires
+read-requires c κs =
+    let o = c .before .before in
+    let e = o .before .before in
+    let s = e .before .before .before .before .before .before in
+    let a = s .args in
+    let r = ready e in
+    small-readable _ (sendOutcome (a .s) (a .i) (a .j) .run) (o .send-on .ensures .0 ∙ ap (λ (x : Run). sendOutcome x (a .i) (a .j) .run) (r .0)) (send-small (a .s) (a .i) (a .j) (sound-small (a .s) (sizes (a .s) _ (s .good .0)) (r .1)))
+
+returns-2 : tie.Need-returns-2
+returns-2 c =
+    let o = c .before .before .before in
+    let e = o .before .before in
+    let a = e .before .before .before .before .before .before .args in
+    let r = ready e in
+    let run = c .read .ensures ∙ o .send-on .ensures .0 ∙ ap (λ (x : Run). sendOutcome x (a .i) (a .j) .run) (r .0) in
+    (run, (o .send-on .ensures .1 .0 ∙ ap (λ (x : Run). sendOutcome x (a .i) (a .j) .answer) (r .0), send-promise (a .s) (a .i) (a .j) (c .read .result) run))
+
+pub send-spec : {M : Type 1} → statement M
+send-spec =
+    tie.close
+    (tie.spec
+    (λ c. search needs) (λ c κs. search needs) (λ c. search needs) (λ c κs. search needs)
+    returns
+    (λ c. search needs)
+    send-on-requires
+    (λ c. search needs)
+    read-requires
+    returns-2)
