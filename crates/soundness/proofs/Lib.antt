@@ -1,6 +1,0 @@
--- Laws that belong to no one function.
-pub mod OneProcess
-pub mod Sizes
-pub mod StandIn
-pub mod Walks
-pub mod Whole
