@@ -30,7 +30,7 @@ use Rattle.words.specs.Parts.{processIn}
 use Rattle.words.proofs.View.{count-is, written-is, deleted-is}
 use Rattle.words.proofs.ViewSound.{sound-words, sound-process-is, sound-own-is}
 use Rattle.process_words.specs.Moves.{diskIn, Moves}
-use Rattle.step_words.proofs.Stepping.{block-count, own-entry}
+use Rattle.process_words.proofs.Stepping.{block-count, own-entry}
 use Rattle.in_place.specs.Left.{Leaves}
 use Rattle.in_place.specs.Storing.{storingVerdict}
 use Rattle.in_place.proofs.Leaving.{same-words}

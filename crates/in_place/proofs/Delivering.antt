@@ -32,7 +32,7 @@ use Rattle.message_words.proofs.Taken.{taken-length, taken-count, taken-rest, t
 use Rattle.message_words.proofs.Zeros.{clean-taken}
 use Rattle.process_words.specs.Moves.{diskIn, Moves}
 use Rattle.process_words.specs.Steps.{received}
-use Rattle.step_words.proofs.Stepping.{block-count}
+use Rattle.process_words.proofs.Stepping.{block-count}
 use Rattle.words.specs.Parts.{processIn}
 use Rattle.in_place.specs.Left.{Leaves}
 use Rattle.in_place.specs.Storing.{storingVerdict}

@@ -21,7 +21,7 @@ pub(crate) fn storing_verdict(w: &[u16], i: usize) -> Verdict
     requires { ⌜ (sound (runOf (now w)) ≡ true) × (i < countOf (now w)) ⌝ }
     ensures { λ r. ⌜ r ≡ storingVerdict (runOf (now (w .entry))) i ⌝ }
 {
-    let own = step_words::own_of(w, i);
+    let own = process_words::steps::own_of(w, i);
     let full = verdicts::is_last_interval(own);
     if full {
         return Verdict::Refused(Refusal::IntervalsUsed);
@@ -55,8 +55,8 @@ pub fn checkpoint_on(w: &mut [u16], i: usize, deleted: &mut [u16]) -> Checkpoint
     match verdict {
         Verdict::Refused(why) => CheckpointAnswer::Refused(why),
         Verdict::Accepted => {
-            let own = step_words::own_of(w, i);
-            let gone = step_words::checkpoint(w, i, deleted);
+            let own = process_words::steps::own_of(w, i);
+            let gone = process_words::steps::checkpoint(w, i, deleted);
             CheckpointAnswer::Stored(rows::vector::live_index(own), gone)
         }
     }

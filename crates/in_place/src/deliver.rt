@@ -86,8 +86,8 @@ fn take_from(
     ensures { λ r. ⌜ ((why : Refusal) → r .answer ≡ DeliverAnswer.Refused why → now (w .exit) ≡ now (w .entry)) ⌝ }
     ensures { λ r. ⌜ Leaves (now (w .entry)) (now (w .exit)) ⌝ }
 {
-    let own = step_words::own_of(w, i);
-    let received = step_words::receive(w, i, forced, carried, deleted);
+    let own = process_words::steps::own_of(w, i);
+    let received = process_words::steps::receive(w, i, forced, carried, deleted);
     message_words::take_out(w, k);
     let answer = answer_of(forced, own, received.gone);
     let rose = received.rose;

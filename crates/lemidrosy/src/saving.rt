@@ -1,4 +1,4 @@
-// A state saved to bytes, which a caller may store, and loaded from them again: the bytes are the same on every machine (`saved_bytes`, specs/Format).
+// A state saved to bytes, which a caller may store, and loaded from them again: the bytes are the same on every machine (crate `saved`, specs/Format).
 ghost use mathlib.Core.Path.{_≡_};
 ghost use Rattle.answers.specs.Codes.{coded};
 ghost use Rattle.saved.specs.Saving.{saving, loading, SavedIsLoaded, LoadedWasSaved};

@@ -1,3 +1,4 @@
 pub mod Line
 pub mod Restored
+pub mod Sifted
 pub mod Through

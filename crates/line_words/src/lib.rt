@@ -1,5 +1,8 @@
 // The line and the recovery of one process, on its part of the words.
 
+// sifted.rt: the messages that a recovery loses leave their places
+pub mod sifted;
+
 // line.rt: the line's member of each process
 pub mod line;
 

@@ -1,6 +1,9 @@
+pub mod Examples
+pub mod Follow
 pub mod Keeping
 pub mod Lists
 pub mod Merges
+pub mod NothingMore
 pub mod Orders
 pub mod Parts
 pub mod Replaying

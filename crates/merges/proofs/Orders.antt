@@ -22,7 +22,7 @@ use Rattle.whole_runs.specs.Outcomes.{startOutcome}
 use Rattle.whole_runs.specs.Calls.{Call, call, stateAfter}
 use Rattle.whole_runs.specs.Listing.{callOf}
 use Rattle.whole_runs.specs.Survival.{Surviving, beginning, after, survivingFrom}
-use Rattle.nothing_more.specs.Seen.{isAccepted, allAccepted}
+use Rattle.merges.specs.Seen.{isAccepted, allAccepted}
 use Rattle.merges.specs.Halves.{HalfEvent, checkpointAt, sendTo, deliverOf, loseOf, isSend, sendBy, howMany, messageNumber, receiverOf, receiverIn, plainEvent, callsFrom, newestFirst, happensAt, SplitBy, KeepsBoth, SameProcesses, OrdersAgree}
 use Rattle.histories.proofs.Run.{Ideal, begun}
 use Rattle.histories.proofs.Messages.{underway-proper}
@@ -35,7 +35,7 @@ use Rattle.model.proofs.simulation.Parts.{all-agree}
 use Rattle.model.proofs.simulation.SoundCalls.{deliver-run}
 use Rattle.whole_runs.proofs.whole.Reached.{Reached, exchange, refusal}
 use Rattle.whole_runs.proofs.whole.Runs.{stepped, runAfter, run-accepted}
-use Rattle.nothing_more.proofs.NothingMore.{refused-in}
+use Rattle.merges.proofs.NothingMore.{refused-in}
 use Rattle.whole_runs.proofs.WholeRuns.{start-reached, accepted-reached, calls-reached}
 
 module _ (n : ℕ) (counts : List ℕ) (to : ℕ → ℕ → ℕ) (records : ℕ → List HalfEvent) where

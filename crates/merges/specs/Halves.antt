@@ -17,7 +17,7 @@ use Rattle.model.specs.Refusals.{startRefusal}
 use Rattle.whole_runs.specs.Outcomes.{startOutcome}
 use Rattle.whole_runs.specs.Calls.{Call, stateAfter}
 use Rattle.whole_runs.specs.Listing.{callOf}
-use Rattle.nothing_more.specs.Seen.{allAccepted}
+use Rattle.merges.specs.Seen.{allAccepted}
 
 -- What a record of a half stands for. "In a half, kinds 0 to 3 occur, and in deliver and lose .. the argument names a message by .. sender, then .. that
 -- sender's running count from 1".

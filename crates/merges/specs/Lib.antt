@@ -1,3 +1,4 @@
 pub mod Halves
 pub mod Merge
 pub mod Merges
+pub mod Seen

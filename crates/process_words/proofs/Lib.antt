@@ -4,4 +4,5 @@ pub mod Collecting
 pub mod PinRows
 pub mod Sets
 pub mod Settling
+pub mod Stepping
 pub mod TakingIn

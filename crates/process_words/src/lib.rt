@@ -1,4 +1,7 @@
-// One process's part of the words: its vector, its pins and the checkpoints that it keeps. A checkpoint and a receipt are whole in `step_words`.
+// One process's part of the words: its vector, its pins and the checkpoints that it keeps.
+
+// steps.rt: a checkpoint of a process, and a receipt at it, whole
+pub mod steps;
 
 // pins.rt: the pins of one process
 pub mod pins;

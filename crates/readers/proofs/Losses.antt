@@ -24,8 +24,8 @@ use Rattle.words.proofs.View.{count-is}
 use Rattle.words.proofs.ViewSound.{SoundWords, sound-words}
 use Rattle.line_words.specs.declared.line.Members.{Members}
 use Rattle.line_words.specs.Line.{limitsIn, membersIn, indexesIn}
-use Rattle.sifted_words.specs.Sifted.{lostTo}
-use Rattle.sifted_words.proofs.Lost.{lineIndexes, lost-are}
+use Rattle.line_words.specs.Sifted.{lostTo}
+use Rattle.line_words.proofs.Lost.{lineIndexes, lost-are}
 use Rattle.readers.specs.Readings.{sentNumbers, lostMessages, lostReading}
 use Rattle.readers.specs.Written.{lostBelow}
 use Rattle.readers.proofs.Readings.{refusedBy, read, refused-by, read-by}

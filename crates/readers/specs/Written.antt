@@ -9,7 +9,7 @@ use Rattle.model.specs.declared.Checkpoint.{Checkpoint}
 use Rattle.model.specs.declared.CheckpointIndex.{CheckpointIndex}
 use Rattle.model.specs.declared.Message.{Message}
 use Rattle.words.specs.Layout.{word, wide2, wide4, countOf, partAt, messageIn, isMessage, runOf}
-use Rattle.sifted_words.specs.Sifted.{lostTo}
+use Rattle.line_words.specs.Sifted.{lostTo}
 use Rattle.readers.specs.Readings.{Reading, reading, ofProcess}
 
 -- The numbers of the run.

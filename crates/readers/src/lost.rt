@@ -17,7 +17,7 @@ ghost use Rattle.laws.specs.Choice.{pick};
 ghost use Rattle.model.specs.Sound.{sound};
 ghost use Rattle.answers.specs.Codes.{coded};
 ghost use Rattle.words.specs.Layout.{word, countOf, senderAt, messageIn, isMessage, runOf};
-ghost use Rattle.sifted_words.specs.Sifted.{lostTo, SendersPresent};
+ghost use Rattle.line_words.specs.Sifted.{lostTo, SendersPresent};
 ghost use Rattle.readers.specs.Readings.{sentNumbers, lostReading};
 ghost use Rattle.readers.specs.Written.{threeOf, lostBelow};
 
@@ -37,7 +37,7 @@ fn write_if_lost(
     if !used {
         return many;
     }
-    let lost = sifted_words::is_lost(w, k, indexes);
+    let lost = line_words::sifted::is_lost(w, k, indexes);
     if !lost {
         return many;
     }

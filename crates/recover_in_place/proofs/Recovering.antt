@@ -39,10 +39,10 @@ use Rattle.words.proofs.ViewClean.{clean-messages}
 use Rattle.words.proofs.ViewSound.{sound-words}
 use Rattle.line_words.specs.Line.{limitsIn, membersIn, indexesIn}
 use Rattle.line_words.proofs.LineRule.{all-found, line-is}
-use Rattle.recovery_words.specs.Restored.{goesBack, ownsAfter, AllReturn}
-use Rattle.recovery_words.proofs.Recovery.{rolled, recovered-is, gone-is, restorable}
-use Rattle.sifted_words.specs.Sifted.{lostTo, SendersPresent, Sifted}
-use Rattle.sifted_words.proofs.Lost.{senders-present, still-are}
+use Rattle.recover_in_place.specs.Restored.{goesBack, ownsAfter, AllReturn}
+use Rattle.recover_in_place.proofs.Recovery.{rolled, recovered-is, gone-is, restorable}
+use Rattle.line_words.specs.Sifted.{lostTo, SendersPresent, Sifted}
+use Rattle.line_words.proofs.Lost.{senders-present, still-are}
 use Rattle.in_place.specs.Left.{Leaves}
 use Rattle.recover_in_place.specs.Recovering.{partThen, goneThen, lossesThen, diskThen, AllRestorable, Restored}
 use Rattle.in_place.proofs.Checkpointing.{disk-is}

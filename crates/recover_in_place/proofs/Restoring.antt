@@ -34,9 +34,9 @@ use Rattle.words.proofs.ViewSound.{sound-words, sound-part, sound-process-is}
 use Rattle.process_words.specs.Moves.{diskIn, Moves}
 use Rattle.process_words.specs.Pins.{pinRow}
 use Rattle.process_words.specs.Steps.{placesOf, unnamedIn}
-use Rattle.step_words.proofs.Stepping.{selected-blocks}
-use Rattle.recovery_words.specs.Restored.{restoredPins, restoredPart, restoredGone, SameProcess, Restorable}
-use Rattle.recovery_words.proofs.Frame.{restored-same, gone-same, restorable-same, same-stays, same-moves}
+use Rattle.process_words.proofs.Stepping.{selected-blocks}
+use Rattle.recover_in_place.specs.Restored.{restoredPins, restoredPart, restoredGone, SameProcess, Restorable}
+use Rattle.recover_in_place.proofs.Frame.{restored-same, gone-same, restorable-same, same-stays, same-moves}
 use Rattle.recover_in_place.specs.Recovering.{partThen, goneThen, lossesThen, diskThen, Restored}
 use Rattle.in_place.proofs.Checkpointing.{disk-is}
 use Rattle.in_place.proofs.Moving.{moved-run, moved-leaves}

@@ -15,7 +15,7 @@ use Rattle.model.specs.Steps.{Deletion, listed, billed, withProcesses}
 use Rattle.words.specs.Clean.{Clean}
 use Rattle.words.specs.Layout.{word, endOf, fits, runOf}
 use Rattle.process_words.specs.Moves.{diskIn}
-use Rattle.recovery_words.specs.Restored.{restoredPart, restoredGone, Restorable, SameProcess}
+use Rattle.recover_in_place.specs.Restored.{restoredPart, restoredGone, Restorable, SameProcess}
 
 -- The part of process p, and what is deleted of it.
 abbrev pub partThen : List ℕ → List ℕ → List Interval → ℕ → Process

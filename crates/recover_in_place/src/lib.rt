@@ -23,9 +23,12 @@ ghost use Rattle.whole_runs.specs.Clean.{CleanPromise};
 ghost use Rattle.whole_runs.specs.Sweep.{SweepPromise};
 ghost use Rattle.whole_runs.specs.WholeRuns.{LinePromise, StatePromise};
 ghost use Rattle.words.specs.Layout.{countOf, runOf};
-ghost use Rattle.recovery_words.specs.Restored.{goesBack};
+ghost use Rattle.recover_in_place.specs.Restored.{goesBack};
 ghost use Rattle.in_place.specs.Left.{Leaves};
 ghost use Rattle.recover_in_place.specs.Recovering.{lossesThen, AllRestorable, Restored};
+
+// process.rt: the recovery of one process, on its part of the words
+pub mod process;
 
 // 1 if the member of process p, in the place before this one, is a kept checkpoint: the process goes back to it.
 fn one_if_back(w: &[u16], p: usize, past: u16) -> usize
@@ -65,7 +68,7 @@ fn restore_all(
     let mut gone = 0;
     for p in 0..n {
         let past = pasts[p] as usize;
-        let less = recovery_words::restore::restore(w, p, past, owns, deleted, gone);
+        let less = crate::process::restore::restore(w, p, past, owns, deleted, gone);
         gone += less;
     }
     gone
@@ -95,11 +98,11 @@ fn recover_within(
     }
     let pasts = members.pasts;
     let indexes = line_words::line::indexes_of(w, n, pasts);
-    let owns = recovery_words::owns::owns_after(w, n, pasts);
+    let owns = crate::process::owns::owns_after(w, n, pasts);
     let back = count_back(w, n, pasts);
     in_place::line::write_line(line, indexes, n);
     let gone = restore_all(w, n, pasts, owns, deleted);
-    sifted_words::sift(w, indexes);
+    line_words::sifted::sift(w, indexes);
     RecoverAnswer::Recovered(back, gone)
 }
 

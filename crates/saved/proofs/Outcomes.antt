@@ -18,7 +18,7 @@ use Rattle.answers.specs.Codes.{coded}
 use Rattle.words.specs.Layout.{runOf}
 use Rattle.readers.specs.Readings.{Reading}
 use Rattle.readers.proofs.Readings.{refusedBy, read, refused-by, read-by}
-use Rattle.saved_bytes.specs.Format.{savedBytes, wordsIn, isWhole}
+use Rattle.saved.specs.Format.{savedBytes, wordsIn, isWhole}
 use Rattle.saved.specs.Saving.{saving, loadedWords, notLoaded, loadedInto, loading}
 
 -- The answer and the list of an outcome.

@@ -11,8 +11,8 @@ use Rattle.laws.specs.Truth.{and-left, and-right}
 use Rattle.model.specs.Sound.{sound}
 use Rattle.words.specs.Layout.{runOf}
 use Rattle.words.proofs.ViewSound.{sound-words}
-use Rattle.saved_bytes.specs.Format.{savedBytes, wordsIn, isWhole}
-use Rattle.saved_bytes.proofs.Back.{saved-words, saved-whole, whole-saved, four-changed}
+use Rattle.saved.specs.Format.{savedBytes, wordsIn, isWhole}
+use Rattle.saved.proofs.Back.{saved-words, saved-whole, whole-saved, four-changed}
 use Rattle.saved.specs.Saving.{loadedWords, SavedIsLoaded, LoadedWasSaved}
 
 pub saved-is-loaded : (w : List ℕ) → SavedIsLoaded w

@@ -1,1 +1,3 @@
+pub mod Castagnoli
+pub mod Format
 pub mod Saving

@@ -1,4 +1,4 @@
--- What it answers and leaves to save the state that words stand for, and to load words from bytes, any at all. The bytes are those of `saved_bytes`, specs/Format.
+-- What it answers and leaves to save the state that words stand for, and to load words from bytes, any at all. The bytes are those of specs/Format.
 -- proofs/Promises has the two theorems.
 -- Assumes nothing.
 use mathlib.Core.Path.{_≡_}
@@ -15,8 +15,8 @@ use Rattle.model.specs.Refusals.{unsound}
 use Rattle.whole_runs.specs.Outcomes.{refusing, accepting}
 use Rattle.words.specs.Layout.{size, runOf}
 use Rattle.readers.specs.Readings.{Reading, reading, short}
-use Rattle.checksum.specs.Castagnoli.{Bytes}
-use Rattle.saved_bytes.specs.Format.{savedSize, savedBytes, wordsIn, isWhole}
+use Rattle.saved.specs.Castagnoli.{Bytes}
+use Rattle.saved.specs.Format.{savedSize, savedBytes, wordsIn, isWhole}
 
 -- 2 if the words stand for no sound state, 3 if there is room for fewer bytes than are saved; else the bytes go to the front of the lent ones, and the value says how
 -- many they are.

@@ -7,6 +7,12 @@ ghost use mathlib.Core.Path.{_≡_};
 ghost use Rattle.answers.specs.Codes.{coded};
 ghost use Rattle.saved.specs.Saving.{saving, loading};
 
+// bytes.rt: the bytes of a saved state (specs/Format): written from its words, judged, and the words read from them.
+pub mod bytes;
+
+// checksum.rt: CRC-32C, the checksum of a saved state: specs/Castagnoli says what it is, and here it is computed, bit by bit.
+pub mod checksum;
+
 pub fn save(w: &[u16], bytes: &mut [u8]) -> u64
     ensures { λ r. ⌜ r ≡ coded (saving (now (w .entry)) (now (bytes .entry)) .report) 0 ⌝ }
     ensures { λ r. ⌜ now (bytes .exit) ≡ saving (now (w .entry)) (now (bytes .entry)) .list ⌝ }
@@ -15,11 +21,11 @@ pub fn save(w: &[u16], bytes: &mut [u8]) -> u64
     if !sound {
         return refused(Refusal::UnsoundState);
     }
-    if bytes.len() < saved_bytes::SAVED {
+    if bytes.len() < crate::bytes::SAVED {
         return refused(Refusal::ListTooShort);
     }
-    saved_bytes::write_saved(w, bytes);
-    counted(saved_bytes::SAVED)
+    crate::bytes::write_saved(w, bytes);
+    counted(crate::bytes::SAVED)
 }
 
 // The words are judged where they are read to, beside the lent ones: what is refused leaves those as they were.
@@ -30,11 +36,11 @@ pub fn load(bytes: &[u8], w: &mut [u16]) -> u64
     if w.len() != words::WORDS {
         return refused(Refusal::UnsoundState);
     }
-    let whole = saved_bytes::is_whole(bytes);
+    let whole = crate::bytes::is_whole(bytes);
     if !whole {
         return refused(Refusal::UnsoundState);
     }
-    let held = saved_bytes::words_in(bytes);
+    let held = crate::bytes::words_in(bytes);
     let sound = sound_words::is_sound(&held);
     if !sound {
         return refused(Refusal::UnsoundState);

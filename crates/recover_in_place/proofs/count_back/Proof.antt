@@ -10,7 +10,7 @@ use borrow.Author.Needs.{needs}
 use Rattle.laws.specs.Choice.{pick}
 use Rattle.laws.specs.Counting.{count-le}
 use Rattle.laws.specs.Tests.{countBelow}
-use Rattle.recovery_words.specs.Restored.{goesBack}
+use Rattle.recover_in_place.specs.Restored.{goesBack}
 use Rattle.recover_in_place.proofs.count_back.Statement.{statement}
 use Rattle.recover_in_place.proofs.count_back.Tie as tie
 

@@ -10,7 +10,7 @@ use Rattle.model.specs.Sound.{sound}
 use Rattle.words.specs.Layout.{runOf}
 use Rattle.readers.proofs.Copying.{copied-whole}
 use Rattle.readers.proofs.Readings.{nothing-said}
-use Rattle.saved_bytes.proofs.Back.{whole-size, held-length}
+use Rattle.saved.proofs.Back.{whole-size, held-length}
 use Rattle.saved.proofs.Outcomes.{told, load-room, load-broken, load-unsound, load-done}
 use Rattle.saved.proofs.load.Statement.{statement}
 use Rattle.saved.proofs.load.Tie as tie

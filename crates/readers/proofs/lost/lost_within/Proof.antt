@@ -5,7 +5,7 @@ use borrow.Author.Needs.{needs}
 use borrow.Author.Tests.{not-true, not-false}
 use Rattle.words.proofs.ViewSound.{sound-words}
 use Rattle.in_place.proofs.Lining.{some-own, most-held, all-used, members-missing, members-there, members-found}
-use Rattle.sifted_words.proofs.Lost.{senders-present}
+use Rattle.line_words.proofs.Lost.{senders-present}
 use Rattle.readers.proofs.Readings.{told}
 use Rattle.readers.proofs.Losses.{few-lost, indexes-are, lost-missing, lost-read}
 use Rattle.readers.proofs.lost.lost_within.Statement.{statement}

@@ -9,7 +9,7 @@ use borrow.Author.Tests.{not-true, not-false}
 use Rattle.laws.specs.Choice.{pick}
 use Rattle.model.specs.declared.CheckpointIndex.{CheckpointIndex}
 use Rattle.words.specs.Layout.{messageIn, isMessage}
-use Rattle.sifted_words.specs.Sifted.{lostTo}
+use Rattle.line_words.specs.Sifted.{lostTo}
 use Rattle.readers.specs.Written.{threeOf}
 use Rattle.readers.proofs.lost.write_if_lost.Statement.{statement}
 use Rattle.readers.proofs.lost.write_if_lost.Tie as tie

@@ -11,7 +11,7 @@ use borrow.Author.Needs.{needs}
 use Rattle.laws.specs.Lists.{select, table}
 use Rattle.model.specs.declared.CheckpointIndex.{CheckpointIndex}
 use Rattle.words.specs.Layout.{messageIn, isMessage}
-use Rattle.sifted_words.specs.Sifted.{lostTo}
+use Rattle.line_words.specs.Sifted.{lostTo}
 use Rattle.readers.specs.Readings.{sentNumbers}
 use Rattle.readers.specs.Written.{lostBelow}
 use Rattle.readers.proofs.Three.{sent-turn}

@@ -1,0 +1,91 @@
+-- `process_words::steps::advanced` meets its contract. Assumes nothing.
+use mathlib.Core.Path.{_≡_, refl, sym, _∙_, ap}
+use native.Mathlib.Omega.{arith}
+use Prim.Native.Nat.{ℕ, _≤_, _-_, _+_, _<_}
+use mathlib.Core.List.{List}
+use lib.Dec.{eqb}
+use lib.ListN.{length, set, length-set}
+use lib.Seq.{getD-set-same, getD-set-other}
+use borrow.Author.Tests.{eq-eqb, ne-eqb, eqb-true}
+use Rattle.laws.specs.Choice.{pick, by-eq}
+use Rattle.laws.specs.Loops.{setBelow, below-none, below-all, turn-set}
+use Rattle.laws.specs.Lists.{table}
+use Rattle.laws.specs.Tables.{table-is}
+use Rattle.model.specs.declared.Interval.{Interval}
+use Rattle.model.specs.Words.{entry}
+use Rattle.model.specs.Steps.{advanced}
+use borrow.Author.Needs.{needs}
+use Rattle.process_words.proofs.steps.advanced.Statement.{statement}
+use Rattle.process_words.proofs.steps.advanced.Tie as tie
+
+-- What an iteration writes.
+abbrev entry-of : List Interval → ℕ → ℕ → Interval
+entry-of v i k = record { 0 = pick (eqb k i) (entry v k .0 + 1) (entry v k .0) }
+
+advanced-is : (v : List Interval) (i : ℕ) → length v ≡ 16 → i < 16 → table 16 (entry-of v i) ≡ advanced i v
+unfolding advanced
+advanced-is v i long lt = sym (table-is (record { 0 = 0 }) (set v i (record { 0 = entry v i .0 + 1 })) 16 (entry-of v i) (length-set v i (record { 0 = entry v i .0 + 1 }) ∙ long)
+    (λ k less. by-eq k i
+    (λ e. rw (e, eq-eqb i i refl) (getD-set-same v i (record { 0 = entry v i .0 + 1 }) (record { 0 = 0 }) (omega arith)))
+    (λ ne. rw (ne-eqb k i ne) (getD-set-other v i k (record { 0 = entry v i .0 + 1 }) (record { 0 = 0 }) ne))))
+
+abbrev Inv-loop : tie.InvT-loop
+Inv-loop i v then₀ f₀ then f = (f ≤ 16) × (then ≡ setBelow f (entry-of v i) v)
+
+abbrev μ-loop : tie.MeasureT-loop
+μ-loop i v then₀ f₀ then f = 16 - f
+
+loop-holds : tie.Need-loop-holds Inv-loop μ-loop
+loop-holds c = (search needs, below-none _ _)
+
+mul-known : tie.Need-mul-known Inv-loop μ-loop
+mul-known c = search needs
+
+array-copy-out-known : tie.Need-array-copy-out-known Inv-loop μ-loop
+array-copy-out-known c = search needs
+
+entry-then-requires : tie.Need-entry-then-requires Inv-loop μ-loop
+entry-then-requires c κs = λ e. let same : c .before .before .loop .f ≡ c .before .before .before .args .i = eqb-true (c .before .before .loop .f) (c .before .before .before .args .i) e in rw same (c .before .before .before .pre .1)
+
+mul-then : tie.Need-mul-then Inv-loop μ-loop
+mul-then c = search needs
+
+array-set-from-then : tie.Need-array-set-from-then Inv-loop μ-loop
+array-set-from-then c = search needs
+
+add-f : tie.Need-add-f Inv-loop μ-loop
+add-f c = search needs
+
+loop-less : tie.Need-loop-less Inv-loop μ-loop
+loop-less c = search needs
+
+loop-again : tie.Need-loop-again Inv-loop μ-loop
+loop-again c =
+    let l = c .before .before .before .loop in
+    let a = c .before .before .before .before .args in
+    (search needs, turn-set (entry-of (a .t1) (a .i)) (a .t1) _ _ (l .inv .1) _ (ap (λ (n : ℕ). record { 0 = n }) (c .entry-then .ensures)))
+
+returns : tie.Need-returns Inv-loop μ-loop
+returns c =
+    let l = c .before .loop in
+    let a = c .before .before .args in
+    let e : l .f ≡ 16 = omega arith in
+    let long : length (a .t1) ≡ 16 = search needs in
+    rw e at (l .inv .1) ∙ below-all (entry-of (a .t1) (a .i)) (a .t1) 16 long ∙ advanced-is (a .t1) (a .i) long (c .before .before .pre .0)
+
+pub advanced-spec : {M : Type 1} → statement M
+advanced-spec =
+    tie.close
+    (tie.spec
+    Inv-loop
+    μ-loop
+    loop-holds
+    mul-known
+    array-copy-out-known
+    entry-then-requires
+    mul-then
+    array-set-from-then
+    add-f
+    loop-less
+    loop-again
+    returns)

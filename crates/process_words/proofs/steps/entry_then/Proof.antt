@@ -1,0 +1,16 @@
+-- `process_words::steps::entry_then` meets its contract. Assumes nothing.
+use borrow.Author.Needs.{needs}
+use Rattle.process_words.proofs.steps.entry_then.Statement.{statement}
+use Rattle.process_words.proofs.steps.entry_then.Tie as tie
+
+add-t5 : tie.Need-add-t5
+add-t5 c = let h = c .before .before .pre (c .before .if1 .taken) in search needs
+
+returns : tie.Need-returns
+returns c = rw (c .before .if1 .taken)
+
+returns-2 : tie.Need-returns-2
+returns-2 c = search needs
+
+pub entry-then-spec : {M : Type 1} → statement M
+entry-then-spec = tie.close (tie.spec add-t5 returns returns-2)

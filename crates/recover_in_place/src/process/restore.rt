@@ -1,0 +1,108 @@
+// One process after a recovery.
+use model::Interval;
+use words::places;
+ghost use mathlib.Core.Path.{_≡_};
+ghost use Prim.Native.Nat.{_+_, _*_, _≤_, _<_};
+ghost use lib.ListN.{length};
+ghost use lib.Seq.{sets};
+ghost use Rattle.model.specs.Steps.{listed, billed};
+ghost use Rattle.whole_runs.specs.Outcomes.{pairs};
+ghost use Rattle.words.specs.Layout.{word, heldAt, blocksAt};
+ghost use Rattle.process_words.specs.Kept.{Used};
+ghost use Rattle.process_words.specs.Moves.{diskIn, Moves};
+ghost use Rattle.process_words.specs.Pins.{pinRow};
+ghost use Rattle.process_words.specs.Steps.{unnamedIn};
+ghost use Rattle.recover_in_place.specs.Restored.{restoredPart, restoredGone, Restorable, namedPart};
+
+// Process p has these pins: what none of them names is deleted, and its pairs go after those of the `before` that were deleted before. The result says how many are
+// deleted.
+fn settle(w: &mut [u16], p: usize, pins: [u16; 16], deleted: &mut [u16], before: usize) -> usize
+    requires { ⌜ (length (now w) ≡ 6464) × (p < 16) × (diskIn (now w) .written ≤ 1000000000000000) × (diskIn (now w) .deleted ≤ 1000000000000000) ⌝ }
+    requires { ⌜ (word (now w) (heldAt p) ≤ 16) × Used (now w) p (word (now w) (heldAt p)) ⌝ }
+    requires { ⌜ (2 * before + 2 * word (now w) (heldAt p) ≤ length (now deleted)) × (before ≤ 256) ⌝ }
+    ensures { λ r. ⌜ Moves (now (w .entry)) p (namedPart (now (w .entry)) p (pinRow pins)) (billed (diskIn (now (w .entry))) 0 (r * word (now (w .entry)) (blocksAt p))) (now (w .exit)) ⌝ }
+    ensures { λ r. ⌜ now (deleted .exit) ≡ sets (now (deleted .entry)) (2 * before) (pairs (listed p (unnamedIn (now (w .entry)) p (pinRow pins)))) ⌝ }
+    ensures { λ r. ⌜ r ≡ length (unnamedIn (now (w .entry)) p (pinRow pins)) ⌝ }
+{
+    let held = w[places::HELD + p] as usize;
+    let blocks = w[places::BLOCKS + p];
+    words::put_row(w, places::PINS + places::PART * p, pins);
+    let stay = process_words::kept::collect(w, p, 0, held, pins, deleted, before);
+    w[places::HELD + p] = stay as u16;
+    process_words::disk::bill(w, false, held - stay, blocks);
+    held - stay
+}
+
+// A process whose member is the checkpoint in the place before this one.
+fn restore_stored(
+    w: &mut [u16],
+    p: usize,
+    past: usize,
+    owns: [Interval; 16],
+    deleted: &mut [u16],
+    before: usize,
+) -> usize
+    requires { ⌜ (length (now w) ≡ 6464) × (p < 16) × (diskIn (now w) .written ≤ 1000000000000000) × (diskIn (now w) .deleted ≤ 1000000000000000) ⌝ }
+    requires { ⌜ (past ≤ word (now w) (heldAt p)) × Restorable (now w) p past ⌝ }
+    requires { ⌜ (2 * before + 2 * word (now w) (heldAt p) ≤ length (now deleted)) × (before ≤ 256) ⌝ }
+    ensures { λ r. ⌜ Moves (now (w .entry)) p (restoredPart (now (w .entry)) p past owns) (billed (diskIn (now (w .entry))) 0 (r * word (now (w .entry)) (blocksAt p))) (now (w .exit)) ⌝ }
+    ensures { λ r. ⌜ now (deleted .exit) ≡ sets (now (deleted .entry)) (2 * before) (pairs (listed p (restoredGone (now (w .entry)) p past owns))) ⌝ }
+    ensures { λ r. ⌜ r ≡ length (restoredGone (now (w .entry)) p past owns) ⌝ }
+{
+    line_words::restored::go_back(w, p, past - 1);
+    let vector = words::vector_at(w, places::PARTS + places::PART * p);
+    let found = line_words::restored::find_latest(w, p, past, owns);
+    let pins = line_words::restored::known_pins(vector, owns, found);
+    settle(w, p, pins, deleted, before)
+}
+
+// A process that stays live: `past` is one above the place of its live state. Where no pin becomes none, nothing is to be done: a pin names each kept checkpoint still.
+fn restore_live(
+    w: &mut [u16],
+    p: usize,
+    past: usize,
+    owns: [Interval; 16],
+    deleted: &mut [u16],
+    before: usize,
+) -> usize
+    requires { ⌜ (length (now w) ≡ 6464) × (p < 16) × (diskIn (now w) .written ≤ 1000000000000000) × (diskIn (now w) .deleted ≤ 1000000000000000) ⌝ }
+    requires { ⌜ (word (now w) (heldAt p) < past) × Restorable (now w) p past ⌝ }
+    requires { ⌜ (2 * before + 2 * word (now w) (heldAt p) ≤ length (now deleted)) × (before ≤ 256) ⌝ }
+    ensures { λ r. ⌜ Moves (now (w .entry)) p (restoredPart (now (w .entry)) p past owns) (billed (diskIn (now (w .entry))) 0 (r * word (now (w .entry)) (blocksAt p))) (now (w .exit)) ⌝ }
+    ensures { λ r. ⌜ now (deleted .exit) ≡ sets (now (deleted .entry)) (2 * before) (pairs (listed p (restoredGone (now (w .entry)) p past owns))) ⌝ }
+    ensures { λ r. ⌜ r ≡ length (restoredGone (now (w .entry)) p past owns) ⌝ }
+{
+    let vector = words::vector_at(w, places::PARTS + places::PART * p);
+    let old = words::row_at(w, places::PINS + places::PART * p);
+    let pins = line_words::restored::known_pins(vector, owns, old);
+    let less = sound_rows::row_over(old, pins);
+    if sound_rows::is_zero(less) {
+        return 0;
+    }
+    settle(w, p, pins, deleted, before)
+}
+
+// Process p after the recovery: its member is in the place before `past`, `owns` are the own entries of all processes then. The pairs of what is deleted go after those
+// of the `before` that were deleted before. The result says how many are deleted.
+pub fn restore(
+    w: &mut [u16],
+    p: usize,
+    past: usize,
+    owns: [Interval; 16],
+    deleted: &mut [u16],
+    before: usize,
+) -> usize
+    requires { ⌜ (length (now w) ≡ 6464) × (p < 16) × (diskIn (now w) .written ≤ 1000000000000000) × (diskIn (now w) .deleted ≤ 1000000000000000) ⌝ }
+    requires { ⌜ Restorable (now w) p past ⌝ }
+    requires { ⌜ (2 * before + 2 * word (now w) (heldAt p) ≤ length (now deleted)) × (before ≤ 256) ⌝ }
+    ensures { λ r. ⌜ Moves (now (w .entry)) p (restoredPart (now (w .entry)) p past owns) (billed (diskIn (now (w .entry))) 0 (r * word (now (w .entry)) (blocksAt p))) (now (w .exit)) ⌝ }
+    ensures { λ r. ⌜ now (deleted .exit) ≡ sets (now (deleted .entry)) (2 * before) (pairs (listed p (restoredGone (now (w .entry)) p past owns))) ⌝ }
+    ensures { λ r. ⌜ r ≡ length (restoredGone (now (w .entry)) p past owns) ⌝ }
+{
+    let held = w[places::HELD + p] as usize;
+    if past <= held {
+        restore_stored(w, p, past, owns, deleted, before)
+    } else {
+        restore_live(w, p, past, owns, deleted, before)
+    }
+}
