@@ -25,7 +25,7 @@ pub fn first(n: u8, out: &mut [u8]) -> Beginning
     requires { ⌜ longestLine ≤ length (now out) ⌝ }
     ensures { λ r. ⌜ Begins n (r .started) (r .run) (now (out .entry)) (now (out .exit)) (r .written) × (r .written ≤ length (now (out .entry))) ⌝ }
 {
-    let o = steps::start::start(n as usize, [1; 16]);
+    let o = calls::start::start(n as usize, [1; 16]);
     let run = o.run;
     let answer = o.answer;
     match answer {

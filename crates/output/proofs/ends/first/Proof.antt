@@ -16,7 +16,7 @@ returns c =
     let known = c .before .before .before .before .before .answer in
     let asked = c .before .before .before .before .before .before .before .before .start in
     let start = c .before .before .before .before .before .before .before .before .before .before in
-    let refused = sym (known .given .1) ∙ asked .ensures .1 in (
+    let refused = sym (known .given .1) ∙ asked .ensures .1 .0 in (
       start-refused (start .args .n) (known .given .0 .0) (asked .result .run) (now (start .args .out)) _ (called .result) (asked .ensures .0) refused (called .ensures .0),
       called .ensures .1,
     )
@@ -26,7 +26,7 @@ unfolding Begins
 returns-2 c =
     let asked = c .before .before .before .start in
     let start = c .before .before .before .before .before in
-    (start-starts (start .args .n) (asked .result .run) (now (start .args .out)) (asked .ensures .0) (search needs ∙ asked .ensures .1), omega arith)
+    (start-starts (start .args .n) (asked .result .run) (now (start .args .out)) (asked .ensures .0) (search needs ∙ asked .ensures .1 .0), omega arith)
 
 pub first-spec : {M : Type 1} → statement M
 first-spec =

@@ -1,4 +1,0 @@
--- Laws that belong to no one function.
-pub mod ClosedTables
-pub mod Moving
-pub mod Sizes
