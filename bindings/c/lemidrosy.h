@@ -4,7 +4,7 @@
    no sound state are refused with number 2. The library allocates nothing, keeps nothing and has no state of its own.
 
    A lent list goes as a pointer and how many entries it has; with none, the pointer may be null. Lent lists must not overlap each other or the words. What is written
-   goes to the front of a list, and its rest is left as it was. A refused call leaves every word and every entry as it was; only a refused start makes the words zero.
+   goes to the front of a list, and its rest is left as it was. A refused call leaves every word and every entry as it was; only a refused start makes the words zero (but with 25, of the console, it leaves them too).
    Where several refusals hold, the lowest number is given. Numbers are judged with all their bits.
 
    Every function is re-entrant: threads may call any of them at the same time, on words and lists that nobody else writes meanwhile. None of them fails in another way,
@@ -150,6 +150,32 @@ uint64_t lemidrosy_record_lose(uint16_t *words, size_t words_length, uint32_t me
 uint64_t lemidrosy_record_line(const uint16_t *words, size_t words_length, uint32_t failed, uint16_t *line, size_t line_length, uint8_t *buffer, size_t buffer_length, uint64_t *place, size_t place_length);
 uint64_t lemidrosy_record_recover(uint16_t *words, size_t words_length, uint32_t failed, uint16_t *deleted, size_t deleted_length, uint16_t *line, size_t line_length, uint8_t *buffer, size_t buffer_length, uint64_t *place, size_t place_length);
 uint64_t lemidrosy_record_earliest(const uint16_t *words, size_t words_length, const uint32_t *named, size_t named_length, uint16_t *line, size_t line_length, uint8_t *buffer, size_t buffer_length, uint64_t *place, size_t place_length);
+
+/* The console for shared clusters: each of these calls once more, and two more. First comes the caller: its role, an enum lemidrosy_role, and the set of a job owner's
+   processes, bit p of which stands for process p; bits at n and above count for nothing, and the set of another role is not looked at. Then come the call's own arguments.
+   An operator may do everything; a job owner may checkpoint, send from, deliver to, lose to and list its own processes, and see its own members of a line; a viewer may see
+   the counts. Refused with 25, before any other number: what the caller may not do, a number that is no role's, and to an owner a process that is not its own (the receiver
+   of a send may be anyone's) and a message that is not under way to one of its own. So 4 and 8 are given to operators alone. A call that is refused with 25 leaves every
+   word and every entry as it was, a start too. Otherwise the call answers, leaves and is refused as it is without the console. */
+enum lemidrosy_role { LEMIDROSY_OPERATOR = 0, LEMIDROSY_JOB_OWNER = 1, LEMIDROSY_VIEWER = 2 };
+
+uint64_t lemidrosy_console_start(uint32_t role, uint32_t owned, uint16_t *words, size_t words_length, size_t n, const uint32_t *counts, size_t counts_length);
+uint64_t lemidrosy_console_checkpoint(uint32_t role, uint32_t owned, uint16_t *words, size_t words_length, size_t process, uint16_t *deleted, size_t deleted_length);
+uint64_t lemidrosy_console_send(uint32_t role, uint32_t owned, uint16_t *words, size_t words_length, size_t sender, size_t receiver);
+uint64_t lemidrosy_console_deliver(uint32_t role, uint32_t owned, uint16_t *words, size_t words_length, uint32_t message, uint16_t *deleted, size_t deleted_length);
+uint64_t lemidrosy_console_lose(uint32_t role, uint32_t owned, uint16_t *words, size_t words_length, uint32_t message);
+uint64_t lemidrosy_console_recover(uint32_t role, uint32_t owned, uint16_t *words, size_t words_length, uint32_t failed, uint16_t *deleted, size_t deleted_length, uint16_t *line, size_t line_length);
+uint64_t lemidrosy_console_earliest(uint32_t role, uint32_t owned, const uint16_t *words, size_t words_length, const uint32_t *named, size_t named_length, uint16_t *line, size_t line_length);
+
+/* The members of the caller's own processes go to their places in the list, and no other place of it changes. Refused with 2, 3, 7 or 25. */
+uint64_t lemidrosy_console_line(uint32_t role, uint32_t owned, const uint16_t *words, size_t words_length, uint32_t failed, uint16_t *line, size_t line_length);
+
+/* The checkpoints that the caller's own processes keep, to an operator those of all: they go to the list, which has room for 2 n n entries, as pairs of a process and an
+   index, ascending. The value is how many they are. Refused with 2, 3 or 25. */
+uint64_t lemidrosy_console_list(uint32_t role, uint32_t owned, const uint16_t *words, size_t words_length, uint16_t *deleted, size_t deleted_length);
+
+/* How many checkpoints each process keeps: n numbers go to the list, which has room for n. Refused with 2, 3 or 25. */
+uint64_t lemidrosy_console_counts(uint32_t role, uint32_t owned, const uint16_t *words, size_t words_length, uint16_t *counts, size_t counts_length);
 
 /* The readers. Each is refused with 2, and with 3 if the list is too short for what it may have to hold; those of a process with 4. */
 

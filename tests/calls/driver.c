@@ -4,9 +4,10 @@
 //     driver COUNT SEED
 //     driver programs COUNT SEED
 //     driver recorded COUNT SEED
+//     driver console COUNT SEED
 //
-// The second is for what works on no state (programs.rs): COUNT calls of each. The third makes the calls through the recorder (recorded.rs). Built with the address and undefined-behaviour sanitizers. The status is 0 if COUNT calls
-// were made and each did what the oracle says.
+// The second is for what works on no state (programs.rs): COUNT calls of each. The third makes the calls through the recorder (recorded.rs), the fourth through the console
+// (console.rs). Built with the address and undefined-behaviour sanitizers. The status is 0 if COUNT calls were made and each did what the oracle says.
 #define _GNU_SOURCE
 #include "../guarded.h"
 #include "lemidrosy.h"
@@ -30,6 +31,7 @@ struct call {
 bool hold_calls(uint64_t seed, uint64_t count);
 bool hold_programs(uint64_t seed, uint64_t count);
 bool hold_recorded(uint64_t seed, uint64_t count);
+bool hold_console(uint64_t seed, uint64_t count);
 
 // How many pages each buffer has: the first is for words, also for twice as many as a state has, the last three are for bytes.
 static const size_t pages[] = {8, 1, 1, 1, 1, 64, 64, 64};
@@ -102,6 +104,22 @@ uint64_t record_from_c(const struct call *c, uint8_t *buffer, size_t size, uint6
     }
 }
 
+uint64_t console_from_c(const struct call *c, uint32_t role, uint32_t owned) {
+    switch (c->which) {
+    case 0: return lemidrosy_console_start(role, owned, c->words, c->words_len, c->first, c->numbers, c->numbers_len);
+    case 1: return lemidrosy_console_checkpoint(role, owned, c->words, c->words_len, c->first, c->deletions, c->deletions_len);
+    case 2: return lemidrosy_console_send(role, owned, c->words, c->words_len, c->first, c->second);
+    case 3: return lemidrosy_console_deliver(role, owned, c->words, c->words_len, (uint32_t)c->first, c->deletions, c->deletions_len);
+    case 4: return lemidrosy_console_lose(role, owned, c->words, c->words_len, (uint32_t)c->first);
+    case 5: return lemidrosy_console_line(role, owned, c->words, c->words_len, (uint32_t)c->first, c->line, c->line_len);
+    case 6: return lemidrosy_console_recover(role, owned, c->words, c->words_len, (uint32_t)c->first, c->deletions, c->deletions_len, c->line, c->line_len);
+    case 7: return lemidrosy_console_earliest(role, owned, c->words, c->words_len, c->numbers, c->numbers_len, c->line, c->line_len);
+    case 8: return lemidrosy_console_list(role, owned, c->words, c->words_len, c->deletions, c->deletions_len);
+    case 9: return lemidrosy_console_counts(role, owned, c->words, c->words_len, c->line, c->line_len);
+    default: fprintf(stderr, "driver: no such call\n"); exit(1);
+    }
+}
+
 uint64_t judge_from_c(const uint8_t *trace, size_t length) {
     return lemidrosy_judge(trace, length);
 }
@@ -117,13 +135,15 @@ uint64_t simulate_from_c(size_t n, uint32_t spacing, uint32_t steps, uint32_t se
 int main(int count, char **words) {
     bool programs = count == 4 && strcmp(words[1], "programs") == 0;
     bool recorded = count == 4 && strcmp(words[1], "recorded") == 0;
-    if (count != 3 && !programs && !recorded) {
-        fprintf(stderr, "usage: driver [programs | recorded] COUNT SEED\n");
+    bool console = count == 4 && strcmp(words[1], "console") == 0;
+    if (count != 3 && !programs && !recorded && !console) {
+        fprintf(stderr, "usage: driver [programs | recorded | console] COUNT SEED\n");
         return 2;
     }
     make_buffers(pages, sizeof pages / sizeof pages[0]);
     watch();
     uint64_t many = strtoull(words[count - 2], NULL, 10);
     uint64_t seed = strtoull(words[count - 1], NULL, 10);
-    return (programs ? hold_programs(seed, many) : recorded ? hold_recorded(seed, many) : hold_calls(seed, many)) ? 0 : 1;
+    bool held = programs ? hold_programs(seed, many) : recorded ? hold_recorded(seed, many) : console ? hold_console(seed, many) : hold_calls(seed, many);
+    return held ? 0 : 1;
 }

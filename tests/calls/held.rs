@@ -2,10 +2,12 @@
 //! into `driver.c`, which has the buffers that are lent and calls the library from
 //! C; every second call is made here, from Rust.
 //!
+//! * `console`: the calls through the console.
 //! * `guarded`: the buffers that are lent.
 //! * `programs`: what works on no state.
 //! * `recorded`: the calls through the recorder.
 
+mod console;
 #[path = "../guarded.rs"]
 mod guarded;
 mod programs;

@@ -1,3 +1,4 @@
+pub mod Console
 pub mod Programs
 pub mod Recording
 pub mod Replaying

@@ -8,6 +8,9 @@ pub mod calls;
 // recorded.rt: the calls in place through the recorder
 pub mod recorded;
 
+// console.rt: the calls in place through the console
+pub mod console;
+
 // readings.rt: what is read of the words
 pub mod readings;
 

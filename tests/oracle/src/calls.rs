@@ -1,9 +1,11 @@
 //! The calls on words that a caller lends: what each must answer and leave, on
 //! any words, with any lists and numbers.
 //!
+//! * `console`: the same calls through the console, and two more.
 //! * `draw`: random calls, and words that calls did not leave.
 //! * `hold`: a library held to this.
 
+pub mod console;
 pub mod draw;
 pub mod hold;
 

@@ -1,0 +1,20 @@
+-- `lemidrosy::console::lemidrosy_console_earliest` meets its contract. Assumes nothing.
+use mathlib.Core.Path.{_≡_, _∙_, ap}
+use borrow.Author.Needs.{needs}
+use Rattle.answers.specs.Codes.{lineCode}
+use Rattle.words.specs.Layout.{runOf}
+use Rattle.line_words.specs.Through.{namedIn}
+use Rattle.lemidrosy.proofs.Consoles.{earliest-as-fits}
+use Rattle.lemidrosy.proofs.console.lemidrosy_console_earliest.Statement.{statement}
+use Rattle.lemidrosy.proofs.console.lemidrosy_console_earliest.Tie as tie
+
+of-line-requires : tie.Need-of-line-requires
+of-line-requires c κs = let a = c .before .before .before .before .before .before .before .args in rw (c .before .before .earliest .ensures .1 .0) (earliest-as-fits (a .role) (a .owned) (runOf (a .words .now)) (namedIn (a .named .now)) (a .line .now))
+
+returns : tie.Need-returns
+returns c =
+    let g = c .before .before .before .earliest .ensures .1 in
+    (c .of-line .ensures ∙ ap lineCode (g .0), g .1)
+
+pub lemidrosy-console-earliest-spec : {M : Type 1} → statement M
+lemidrosy-console-earliest-spec = tie.close (tie.spec (λ c κs. search needs) of-line-requires (λ c. search needs) returns)

@@ -1,0 +1,19 @@
+-- `lemidrosy::console::lemidrosy_console_list` meets its contract. Assumes nothing.
+use mathlib.Core.Path.{_≡_, _∙_, ap}
+use borrow.Author.Needs.{needs}
+use Rattle.lemidrosy.specs.Console.{listCode}
+use Rattle.words.specs.Layout.{runOf}
+use Rattle.lemidrosy.proofs.Consoles.{list-as-fits}
+use Rattle.lemidrosy.proofs.console.lemidrosy_console_list.Statement.{statement}
+use Rattle.lemidrosy.proofs.console.lemidrosy_console_list.Tie as tie
+
+of-list-requires : tie.Need-of-list-requires
+of-list-requires c κs = let a = c .before .before .before .before .before .before .args in rw (c .before .before .list .ensures .1 .0) (list-as-fits (a .role) (a .owned) (runOf (a .words .now)) (a .deleted .now))
+
+returns : tie.Need-returns
+returns c =
+    let g = c .before .before .before .list .ensures .1 in
+    (c .of-list .ensures ∙ ap listCode (g .0), g .1)
+
+pub lemidrosy-console-list-spec : {M : Type 1} → statement M
+lemidrosy-console-list-spec = tie.close (tie.spec (λ c κs. search needs) of-list-requires (λ c. search needs) returns)

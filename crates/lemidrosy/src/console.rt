@@ -1,0 +1,207 @@
+// The console (document 02, Note 13): each call in place once more, and two more calls. First comes the caller: the number of its role (0 an operator, 1 a job owner, 2 a
+// viewer) and the set of an owner's processes, bit p of which stands for process p; then the call's own arguments. What the caller may not do is refused with 25, before
+// every other number, and so is a number that is no role's. A refused call leaves every word and every entry of its lists as it was; only a start that is refused with a
+// number other than 25 makes the words zero.
+use roles::ListAnswer;
+ghost use mathlib.Core.Path.{_≡_};
+ghost use lib.ListN.{length};
+ghost use Rattle.model.specs.declared.Refusal.{Refusal};
+ghost use Rattle.model.specs.declared.CheckpointAnswer.the-variants as storing;
+ghost use Rattle.model.specs.declared.SendAnswer.the-variants as sending;
+ghost use Rattle.model.specs.declared.DeliverAnswer.the-variants as delivering;
+ghost use Rattle.model.specs.declared.LoseAnswer.the-variants as losing;
+ghost use Rattle.model.specs.declared.RecoverAnswer.the-variants as recovering;
+ghost use Rattle.answers.specs.Codes.{Fits, startCode, checkpointCode, sendCode, deliverCode, loseCode, lineCode, recoverCode};
+ghost use Rattle.words.specs.Clean.{Clean};
+ghost use Rattle.words.specs.Layout.{runOf};
+ghost use Rattle.line_words.specs.Through.{namedIn};
+ghost use Rattle.in_place.specs.Left.{Leaves};
+ghost use Rattle.roles.specs.Console.{listReport};
+ghost use Rattle.console_in_place.specs.Asked.{startAs, startWordsAs, checkpointAs, sendAs, deliverAs, loseAs, recoverAs, lineAs, earliestAs, listAs, countsAs};
+ghost use Rattle.lemidrosy.specs.Console.{listCode};
+
+// The number of the answer to a list. The value says how many checkpoints are listed.
+fn of_list(answer: ListAnswer) -> u64
+    requires { ⌜ Fits (listReport answer) ⌝ }
+    ensures { λ r. ⌜ r ≡ listCode answer ⌝ }
+{
+    match answer {
+        ListAnswer::Refused(why) => readers::refused(why),
+        ListAnswer::Listed(many) => readers::counted(many),
+    }
+}
+
+// A run of n processes with the block count of each begins in the words: for an operator alone.
+#[no_mangle]
+pub extern "C" fn lemidrosy_console_start(
+    role: u32,
+    owned: u32,
+    words: &mut [u16],
+    n: usize,
+    counts: &[u32],
+) -> u64
+    ensures { λ r. ⌜ r ≡ startCode (startAs role owned (now (words .entry)) n (now (counts .entry)) .answer) ⌝ }
+    ensures { λ r. ⌜ runOf (now (words .exit)) ≡ startAs role owned (now (words .entry)) n (now (counts .entry)) .run ⌝ }
+    ensures { λ r. ⌜ now (words .exit) ≡ startWordsAs role owned (now (words .entry)) n (now (counts .entry)) ⌝ }
+    ensures { λ r. ⌜ (length (now (words .entry)) ≡ 6464 → Clean (now (words .entry)) → Clean (now (words .exit))) ⌝ }
+{
+    let answer = console_in_place::calls::start(role, owned, words, n, counts);
+    answers::of_start(answer)
+}
+
+// A process takes a checkpoint.
+#[no_mangle]
+pub extern "C" fn lemidrosy_console_checkpoint(
+    role: u32,
+    owned: u32,
+    words: &mut [u16],
+    process: usize,
+    deleted: &mut [u16],
+) -> u64
+    ensures { λ r. ⌜ r ≡ checkpointCode (checkpointAs role owned (runOf (now (words .entry))) process (now (deleted .entry)) .answer) ⌝ }
+    ensures { λ r. ⌜ runOf (now (words .exit)) ≡ checkpointAs role owned (runOf (now (words .entry))) process (now (deleted .entry)) .run ⌝ }
+    ensures { λ r. ⌜ now (deleted .exit) ≡ checkpointAs role owned (runOf (now (words .entry))) process (now (deleted .entry)) .deleted ⌝ }
+    ensures { λ r. ⌜ ((why : Refusal) → checkpointAs role owned (runOf (now (words .entry))) process (now (deleted .entry)) .answer ≡ storing.Refused why → now (words .exit) ≡ now (words .entry)) ⌝ }
+    ensures { λ r. ⌜ Leaves (now (words .entry)) (now (words .exit)) ⌝ }
+{
+    let answer = console_in_place::calls::checkpoint(role, owned, words, process, deleted);
+    answers::of_checkpoint(answer)
+}
+
+// A process sends a message to another, which may be anyone's.
+#[no_mangle]
+pub extern "C" fn lemidrosy_console_send(
+    role: u32,
+    owned: u32,
+    words: &mut [u16],
+    sender: usize,
+    receiver: usize,
+) -> u64
+    ensures { λ r. ⌜ r ≡ sendCode (sendAs role owned (runOf (now (words .entry))) sender receiver .answer) ⌝ }
+    ensures { λ r. ⌜ runOf (now (words .exit)) ≡ sendAs role owned (runOf (now (words .entry))) sender receiver .run ⌝ }
+    ensures { λ r. ⌜ ((why : Refusal) → sendAs role owned (runOf (now (words .entry))) sender receiver .answer ≡ sending.Refused why → now (words .exit) ≡ now (words .entry)) ⌝ }
+    ensures { λ r. ⌜ Leaves (now (words .entry)) (now (words .exit)) ⌝ }
+{
+    let answer = console_in_place::calls::send(role, owned, words, sender, receiver);
+    answers::of_send(answer)
+}
+
+// A message reaches its receiver.
+#[no_mangle]
+pub extern "C" fn lemidrosy_console_deliver(
+    role: u32,
+    owned: u32,
+    words: &mut [u16],
+    message: u32,
+    deleted: &mut [u16],
+) -> u64
+    ensures { λ r. ⌜ r ≡ deliverCode (deliverAs role owned (runOf (now (words .entry))) message (now (deleted .entry)) .answer) (deliverAs role owned (runOf (now (words .entry))) message (now (deleted .entry)) .rose) ⌝ }
+    ensures { λ r. ⌜ runOf (now (words .exit)) ≡ deliverAs role owned (runOf (now (words .entry))) message (now (deleted .entry)) .run ⌝ }
+    ensures { λ r. ⌜ now (deleted .exit) ≡ deliverAs role owned (runOf (now (words .entry))) message (now (deleted .entry)) .deleted ⌝ }
+    ensures { λ r. ⌜ ((why : Refusal) → deliverAs role owned (runOf (now (words .entry))) message (now (deleted .entry)) .answer ≡ delivering.Refused why → now (words .exit) ≡ now (words .entry)) ⌝ }
+    ensures { λ r. ⌜ Leaves (now (words .entry)) (now (words .exit)) ⌝ }
+{
+    let delivered = console_in_place::calls::deliver(role, owned, words, message, deleted);
+    let answer = delivered.answer;
+    answers::of_deliver(answer, delivered.rose)
+}
+
+// A message is lost.
+#[no_mangle]
+pub extern "C" fn lemidrosy_console_lose(
+    role: u32,
+    owned: u32,
+    words: &mut [u16],
+    message: u32,
+) -> u64
+    ensures { λ r. ⌜ r ≡ loseCode (loseAs role owned (runOf (now (words .entry))) message .answer) ⌝ }
+    ensures { λ r. ⌜ runOf (now (words .exit)) ≡ loseAs role owned (runOf (now (words .entry))) message .run ⌝ }
+    ensures { λ r. ⌜ ((why : Refusal) → loseAs role owned (runOf (now (words .entry))) message .answer ≡ losing.Refused why → now (words .exit) ≡ now (words .entry)) ⌝ }
+    ensures { λ r. ⌜ Leaves (now (words .entry)) (now (words .exit)) ⌝ }
+{
+    let answer = console_in_place::calls::lose(role, owned, words, message);
+    answers::of_lose(answer)
+}
+
+// The caller's members of the line for a failed set go to their places in the lent list; no other place of it changes.
+#[no_mangle]
+pub extern "C" fn lemidrosy_console_line(
+    role: u32,
+    owned: u32,
+    words: &[u16],
+    failed: u32,
+    line: &mut [u16],
+) -> u64
+    ensures { λ r. ⌜ r ≡ lineCode (lineAs role owned (runOf (now (words .entry))) failed (now (line .entry)) .answer) ⌝ }
+    ensures { λ r. ⌜ now (line .exit) ≡ lineAs role owned (runOf (now (words .entry))) failed (now (line .entry)) .line ⌝ }
+{
+    let answer = console_in_place::shown::line(role, owned, words, failed, line);
+    answers::of_line(answer)
+}
+
+// Everyone goes back to the line for a failed set, or the run is swept: for an operator alone.
+#[no_mangle]
+pub extern "C" fn lemidrosy_console_recover(
+    role: u32,
+    owned: u32,
+    words: &mut [u16],
+    failed: u32,
+    deleted: &mut [u16],
+    line: &mut [u16],
+) -> u64
+    ensures { λ r. ⌜ r ≡ recoverCode (recoverAs role owned (runOf (now (words .entry))) failed (now (deleted .entry)) (now (line .entry)) .answer) ⌝ }
+    ensures { λ r. ⌜ runOf (now (words .exit)) ≡ recoverAs role owned (runOf (now (words .entry))) failed (now (deleted .entry)) (now (line .entry)) .run ⌝ }
+    ensures { λ r. ⌜ now (deleted .exit) ≡ recoverAs role owned (runOf (now (words .entry))) failed (now (deleted .entry)) (now (line .entry)) .deleted ⌝ }
+    ensures { λ r. ⌜ now (line .exit) ≡ recoverAs role owned (runOf (now (words .entry))) failed (now (deleted .entry)) (now (line .entry)) .line ⌝ }
+    ensures { λ r. ⌜ ((why : Refusal) → recoverAs role owned (runOf (now (words .entry))) failed (now (deleted .entry)) (now (line .entry)) .answer ≡ recovering.Refused why → now (words .exit) ≡ now (words .entry)) ⌝ }
+    ensures { λ r. ⌜ Leaves (now (words .entry)) (now (words .exit)) ⌝ }
+{
+    let answer = console_in_place::calls::recover(role, owned, words, failed, deleted, line);
+    answers::of_recover(answer)
+}
+
+// The earliest consistent line through the named checkpoints: for an operator alone.
+#[no_mangle]
+pub extern "C" fn lemidrosy_console_earliest(
+    role: u32,
+    owned: u32,
+    words: &[u16],
+    named: &[u32],
+    line: &mut [u16],
+) -> u64
+    ensures { λ r. ⌜ r ≡ lineCode (earliestAs role owned (runOf (now (words .entry))) (namedIn (now (named .entry))) (now (line .entry)) .answer) ⌝ }
+    ensures { λ r. ⌜ now (line .exit) ≡ earliestAs role owned (runOf (now (words .entry))) (namedIn (now (named .entry))) (now (line .entry)) .line ⌝ }
+{
+    let answer = console_in_place::calls::earliest(role, owned, words, named, line);
+    answers::of_line(answer)
+}
+
+// The checkpoints that the caller's processes keep go to the front of the lent list, as deletions do. The value says how many they are.
+#[no_mangle]
+pub extern "C" fn lemidrosy_console_list(
+    role: u32,
+    owned: u32,
+    words: &[u16],
+    deleted: &mut [u16],
+) -> u64
+    ensures { λ r. ⌜ r ≡ listCode (listAs role owned (runOf (now (words .entry))) (now (deleted .entry)) .answer) ⌝ }
+    ensures { λ r. ⌜ now (deleted .exit) ≡ listAs role owned (runOf (now (words .entry))) (now (deleted .entry)) .deleted ⌝ }
+{
+    let answer = console_in_place::list::list(role, owned, words, deleted);
+    of_list(answer)
+}
+
+// How many checkpoints each process keeps: n numbers go to the front of the lent list.
+#[no_mangle]
+pub extern "C" fn lemidrosy_console_counts(
+    role: u32,
+    owned: u32,
+    words: &[u16],
+    line: &mut [u16],
+) -> u64
+    ensures { λ r. ⌜ r ≡ lineCode (countsAs role owned (runOf (now (words .entry))) (now (line .entry)) .answer) ⌝ }
+    ensures { λ r. ⌜ now (line .exit) ≡ countsAs role owned (runOf (now (words .entry))) (now (line .entry)) .line ⌝ }
+{
+    let answer = console_in_place::shown::counts(role, owned, words, line);
+    answers::of_line(answer)
+}
