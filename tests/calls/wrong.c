@@ -155,6 +155,29 @@ uint64_t lemidrosy_record_recover(uint16_t *words, size_t size, uint32_t failed,
         *place += 4;
     return answer;
 }
+#elif WAY == 22 // an owner is shown everybody's members of a line
+uint64_t right_console_line(uint32_t, uint32_t, const uint16_t *, size_t, uint32_t, uint16_t *, size_t);
+uint64_t lemidrosy_console_line(uint32_t role, uint32_t owned, const uint16_t *words, size_t size, uint32_t failed, uint16_t *line, size_t room) {
+    return right_console_line(role == 1 ? 0 : role, owned, words, size, failed, line, room);
+}
+#elif WAY == 23 // a role is judged by its lowest 8 bits
+uint64_t right_console_counts(uint32_t, uint32_t, const uint16_t *, size_t, uint16_t *, size_t);
+uint64_t lemidrosy_console_counts(uint32_t role, uint32_t owned, const uint16_t *words, size_t size, uint16_t *counts, size_t room) {
+    return right_console_counts((uint8_t)role, owned, words, size, counts, room);
+}
+#elif WAY == 24 // a start that is denied makes the words zero
+uint64_t right_console_start(uint32_t, uint32_t, uint16_t *, size_t, size_t, const uint32_t *, size_t);
+uint64_t lemidrosy_console_start(uint32_t role, uint32_t owned, uint16_t *words, size_t size, size_t n, const uint32_t *counts, size_t room) {
+    uint64_t answer = right_console_start(role, owned, words, size, n, counts, room);
+    for (size_t k = 0; answer == 25 && k < size; k++)
+        words[k] = 0;
+    return answer;
+}
+#elif WAY == 25 // to an owner there is never a message 0, though the state is not sound and says so
+uint64_t right_console_lose(uint32_t, uint32_t, uint16_t *, size_t, uint32_t);
+uint64_t lemidrosy_console_lose(uint32_t role, uint32_t owned, uint16_t *words, size_t size, uint32_t message) {
+    return role == 1 && message == 0 ? 25 : right_console_lose(role, owned, words, size, message);
+}
 #else
 #error "no such way to be wrong"
 #endif
