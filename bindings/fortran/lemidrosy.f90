@@ -66,6 +66,14 @@ module lemidrosy
         lemidrosy_buffer_too_short, lemidrosy_trial_outside_range, lemidrosy_halves_mismatch, lemidrosy_neither_ready, &
         lemidrosy_denied
 
+    ! The roles of the console's callers.
+    enum, bind(c)
+        enumerator :: lemidrosy_operator = 0
+        enumerator :: lemidrosy_job_owner = 1
+        enumerator :: lemidrosy_viewer = 2
+    end enum
+    public :: lemidrosy_operator, lemidrosy_job_owner, lemidrosy_viewer
+
     ! What a call answers: the number of the refusal, 0 if it was accepted; how many checkpoints were deleted; the value, if there
     ! is one; the set of vector entries that rose, of a delivery.
     type, public :: lemidrosy_answer
@@ -89,6 +97,9 @@ module lemidrosy
     public :: lemidrosy_line, lemidrosy_earliest, lemidrosy_lost
     public :: lemidrosy_record_start, lemidrosy_record_checkpoint, lemidrosy_record_send, lemidrosy_record_deliver
     public :: lemidrosy_record_lose, lemidrosy_record_recover
+    public :: lemidrosy_console_start, lemidrosy_console_checkpoint, lemidrosy_console_send, lemidrosy_console_deliver
+    public :: lemidrosy_console_lose, lemidrosy_console_line, lemidrosy_console_recover, lemidrosy_console_earliest
+    public :: lemidrosy_console_list, lemidrosy_console_counts
     public :: lemidrosy_numbers, lemidrosy_vector, lemidrosy_pins, lemidrosy_kept, lemidrosy_messages, lemidrosy_carried
     public :: lemidrosy_save, lemidrosy_load, lemidrosy_store_file, lemidrosy_load_file
     public :: lemidrosy_judge, lemidrosy_merge, lemidrosy_simulate
@@ -215,6 +226,106 @@ module lemidrosy
             integer(c_int32_t), value :: failed
             integer(c_int8_t), intent(inout) :: buffer(*)
             integer(c_int64_t), intent(inout) :: place
+            integer(c_int64_t) :: answer
+        end function
+
+        function c_console_start(role, owned, words, length, n, counts, room) &
+            bind(c, name="lemidrosy_console_start") result(answer)
+            import :: c_int16_t, c_int32_t, c_int64_t, c_size_t
+            integer(c_int32_t), value :: role, owned
+            integer(c_int16_t), intent(inout) :: words(*)
+            integer(c_size_t), value :: length, n, room
+            integer(c_int32_t), intent(in) :: counts(*)
+            integer(c_int64_t) :: answer
+        end function
+
+        function c_console_checkpoint(role, owned, words, length, process, deleted, room) &
+            bind(c, name="lemidrosy_console_checkpoint") result(answer)
+            import :: c_int16_t, c_int32_t, c_int64_t, c_size_t
+            integer(c_int32_t), value :: role, owned
+            integer(c_int16_t), intent(inout) :: words(*), deleted(*)
+            integer(c_size_t), value :: length, process, room
+            integer(c_int64_t) :: answer
+        end function
+
+        function c_console_send(role, owned, words, length, sender, receiver) &
+            bind(c, name="lemidrosy_console_send") result(answer)
+            import :: c_int16_t, c_int32_t, c_int64_t, c_size_t
+            integer(c_int32_t), value :: role, owned
+            integer(c_int16_t), intent(inout) :: words(*)
+            integer(c_size_t), value :: length, sender, receiver
+            integer(c_int64_t) :: answer
+        end function
+
+        function c_console_deliver(role, owned, words, length, message, deleted, room) &
+            bind(c, name="lemidrosy_console_deliver") result(answer)
+            import :: c_int16_t, c_int32_t, c_int64_t, c_size_t
+            integer(c_int32_t), value :: role, owned
+            integer(c_int16_t), intent(inout) :: words(*), deleted(*)
+            integer(c_size_t), value :: length, room
+            integer(c_int32_t), value :: message
+            integer(c_int64_t) :: answer
+        end function
+
+        function c_console_lose(role, owned, words, length, message) &
+            bind(c, name="lemidrosy_console_lose") result(answer)
+            import :: c_int16_t, c_int32_t, c_int64_t, c_size_t
+            integer(c_int32_t), value :: role, owned
+            integer(c_int16_t), intent(inout) :: words(*)
+            integer(c_size_t), value :: length
+            integer(c_int32_t), value :: message
+            integer(c_int64_t) :: answer
+        end function
+
+        function c_console_line(role, owned, words, length, failed, line, room) &
+            bind(c, name="lemidrosy_console_line") result(answer)
+            import :: c_int16_t, c_int32_t, c_int64_t, c_size_t
+            integer(c_int32_t), value :: role, owned
+            integer(c_int16_t), intent(in) :: words(*)
+            integer(c_size_t), value :: length, room
+            integer(c_int32_t), value :: failed
+            integer(c_int16_t), intent(inout) :: line(*)
+            integer(c_int64_t) :: answer
+        end function
+
+        function c_console_recover(role, owned, words, length, failed, deleted, deleted_room, line, line_room) &
+            bind(c, name="lemidrosy_console_recover") result(answer)
+            import :: c_int16_t, c_int32_t, c_int64_t, c_size_t
+            integer(c_int32_t), value :: role, owned
+            integer(c_int16_t), intent(inout) :: words(*), deleted(*), line(*)
+            integer(c_size_t), value :: length, deleted_room, line_room
+            integer(c_int32_t), value :: failed
+            integer(c_int64_t) :: answer
+        end function
+
+        function c_console_earliest(role, owned, words, length, named, many, line, room) &
+            bind(c, name="lemidrosy_console_earliest") result(answer)
+            import :: c_int16_t, c_int32_t, c_int64_t, c_size_t
+            integer(c_int32_t), value :: role, owned
+            integer(c_int16_t), intent(in) :: words(*)
+            integer(c_size_t), value :: length, many, room
+            integer(c_int32_t), intent(in) :: named(*)
+            integer(c_int16_t), intent(inout) :: line(*)
+            integer(c_int64_t) :: answer
+        end function
+
+        function c_console_list(role, owned, words, length, deleted, room) &
+            bind(c, name="lemidrosy_console_list") result(answer)
+            import :: c_int16_t, c_int32_t, c_int64_t, c_size_t
+            integer(c_int32_t), value :: role, owned
+            integer(c_int16_t), intent(in) :: words(*)
+            integer(c_size_t), value :: length, room
+            integer(c_int16_t), intent(inout) :: deleted(*)
+            integer(c_int64_t) :: answer
+        end function
+
+        function c_console_counts(role, owned, words, length, counts, room) &
+            bind(c, name="lemidrosy_console_counts") result(answer)
+            import :: c_int16_t, c_int32_t, c_int64_t, c_size_t
+            integer(c_int32_t), value :: role, owned
+            integer(c_int16_t), intent(in) :: words(*)
+            integer(c_size_t), value :: length, room
+            integer(c_int16_t), intent(inout) :: counts(*)
             integer(c_int64_t) :: answer
         end function
 
@@ -552,6 +663,133 @@ contains
         if (answer%refused /= 0) return
         call write_front(2 * answer%deletions, pairs, deleted)
         call write_front(n, lent, line)
+    end function
+
+    ! The console for shared clusters: each call once more, and two more. First comes the caller: its role and the set of a job
+    ! owner's processes, bits at n and above of which count for nothing. Refused as without the console, and with 25, before any
+    ! other number, where the caller may not do this: lemidrosy.h says what each role may do. Then nothing changes, and a start
+    ! leaves the words too.
+    function lemidrosy_console_start(role, owned, words, n, counts) result(answer)
+        integer(c_int32_t), intent(in) :: role, owned, n
+        integer(c_int16_t), contiguous, intent(inout) :: words(:)
+        integer(c_int32_t), contiguous, intent(in) :: counts(:)
+        type(lemidrosy_answer) :: answer
+
+        answer = fields(c_console_start(role, owned, words, length_of(words), int(n, c_size_t), counts, &
+            size(counts, kind=c_size_t)))
+    end function
+
+    function lemidrosy_console_checkpoint(role, owned, words, process, deleted) result(answer)
+        integer(c_int32_t), intent(in) :: role, owned, process
+        integer(c_int16_t), contiguous, intent(inout) :: words(:)
+        integer(c_int32_t), intent(inout) :: deleted(:)
+        type(lemidrosy_answer) :: answer
+        integer(c_int16_t) :: lent(lemidrosy_deletions_size)
+
+        answer = fields(c_console_checkpoint(role, owned, words, length_of(words), int(process, c_size_t), lent, &
+            room_of(deleted, size(lent))))
+        call write_front(2 * answer%deletions, lent, deleted)
+    end function
+
+    function lemidrosy_console_send(role, owned, words, sender, receiver) result(answer)
+        integer(c_int32_t), intent(in) :: role, owned, sender, receiver
+        integer(c_int16_t), contiguous, intent(inout) :: words(:)
+        type(lemidrosy_answer) :: answer
+
+        answer = fields(c_console_send(role, owned, words, length_of(words), int(sender, c_size_t), int(receiver, c_size_t)))
+    end function
+
+    function lemidrosy_console_deliver(role, owned, words, message, deleted) result(answer)
+        integer(c_int32_t), intent(in) :: role, owned, message
+        integer(c_int16_t), contiguous, intent(inout) :: words(:)
+        integer(c_int32_t), intent(inout) :: deleted(:)
+        type(lemidrosy_answer) :: answer
+        integer(c_int16_t) :: lent(lemidrosy_deletions_size)
+
+        answer = fields(c_console_deliver(role, owned, words, length_of(words), message, lent, room_of(deleted, size(lent))))
+        call write_front(2 * answer%deletions, lent, deleted)
+    end function
+
+    function lemidrosy_console_lose(role, owned, words, message) result(answer)
+        integer(c_int32_t), intent(in) :: role, owned, message
+        integer(c_int16_t), contiguous, intent(inout) :: words(:)
+        type(lemidrosy_answer) :: answer
+
+        answer = fields(c_console_lose(role, owned, words, length_of(words), message))
+    end function
+
+    ! The members of the caller's own processes go to their places in the list, and no other place of it changes.
+    function lemidrosy_console_line(role, owned, words, failed, line) result(answer)
+        integer(c_int32_t), intent(in) :: role, owned, failed
+        integer(c_int16_t), contiguous, intent(in) :: words(:)
+        integer(c_int32_t), intent(inout) :: line(:)
+        type(lemidrosy_answer) :: answer
+        integer(c_int16_t), dimension(lemidrosy_max_processes) :: one, other
+        integer :: p
+
+        ! a place that is left as it was lent, once with 0 and once with 1, is not the caller's
+        one = 0
+        other = 1
+        answer = fields(c_console_line(role, owned, words, length_of(words), failed, one, room_of(line, size(one))))
+        answer = fields(c_console_line(role, owned, words, length_of(words), failed, other, room_of(line, size(other))))
+        if (answer%refused /= 0) return
+        do p = 1, processes(words)
+            if (one(p) == other(p)) line(p) = iand(int(one(p), c_int32_t), 65535)
+        end do
+    end function
+
+    function lemidrosy_console_recover(role, owned, words, failed, deleted, line) result(answer)
+        integer(c_int32_t), intent(in) :: role, owned, failed
+        integer(c_int16_t), contiguous, intent(inout) :: words(:)
+        integer(c_int32_t), intent(inout) :: deleted(:), line(:)
+        type(lemidrosy_answer) :: answer
+        integer(c_int16_t) :: pairs(lemidrosy_deletions_size), lent(lemidrosy_max_processes)
+        integer :: n
+
+        n = processes(words)
+        answer = fields(c_console_recover(role, owned, words, length_of(words), failed, pairs, room_of(deleted, size(pairs)), &
+            lent, room_of(line, size(lent))))
+        if (answer%refused /= 0) return
+        call write_front(2 * answer%deletions, pairs, deleted)
+        call write_front(n, lent, line)
+    end function
+
+    function lemidrosy_console_earliest(role, owned, words, named, line) result(answer)
+        integer(c_int32_t), intent(in) :: role, owned
+        integer(c_int16_t), contiguous, intent(in) :: words(:)
+        integer(c_int32_t), contiguous, intent(in) :: named(:)
+        integer(c_int32_t), intent(inout) :: line(:)
+        type(lemidrosy_answer) :: answer
+        integer(c_int16_t) :: lent(lemidrosy_max_processes)
+
+        answer = fields(c_console_earliest(role, owned, words, length_of(words), named, size(named, kind=c_size_t), lent, &
+            room_of(line, size(lent))))
+        if (answer%refused == 0) call write_front(processes(words), lent, line)
+    end function
+
+    ! The checkpoints that the caller's own processes keep, to an operator those of all, as pairs of a process and an index; the
+    ! value is how many they are. The list has room for 2 n n entries. Refused with 2, 3 or 25.
+    function lemidrosy_console_list(role, owned, words, listed) result(answer)
+        integer(c_int32_t), intent(in) :: role, owned
+        integer(c_int16_t), contiguous, intent(in) :: words(:)
+        integer(c_int32_t), intent(inout) :: listed(:)
+        type(lemidrosy_answer) :: answer
+        integer(c_int16_t) :: lent(lemidrosy_deletions_size)
+
+        answer = fields(c_console_list(role, owned, words, length_of(words), lent, room_of(listed, size(lent))))
+        call write_front(2 * answer%value, lent, listed)
+    end function
+
+    ! How many checkpoints each process keeps: n numbers go to the list. Refused with 2, 3 or 25.
+    function lemidrosy_console_counts(role, owned, words, counts) result(answer)
+        integer(c_int32_t), intent(in) :: role, owned
+        integer(c_int16_t), contiguous, intent(in) :: words(:)
+        integer(c_int32_t), intent(inout) :: counts(:)
+        type(lemidrosy_answer) :: answer
+        integer(c_int16_t) :: lent(lemidrosy_max_processes)
+
+        answer = fields(c_console_counts(role, owned, words, length_of(words), lent, room_of(counts, size(lent))))
+        if (answer%refused == 0) call write_front(processes(words), lent, counts)
     end function
 
     ! The messages under way that a recovery of this failed set would lose, as lemidrosy_messages has them: to be asked before the

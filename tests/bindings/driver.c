@@ -94,13 +94,17 @@ static void start(void) {
         free(fresh);
 }
 
-static void checkpoint(void) {
-    uint16_t deleted[LEMIDROSY_DELETIONS];
-    struct lemidrosy_answer got = lemidrosy_answer(lemidrosy_checkpoint(words, size, (size_t)number(), deleted, LEMIDROSY_DELETIONS));
+/* An answer with an index and what was deleted. */
+static void say_stored(struct lemidrosy_answer got, const uint16_t *deleted) {
     if (!accepted(got.refused))
         return;
     printf(" %u", got.value);
     say16(deleted, 2 * got.deletions, 2);
+}
+
+static void checkpoint(void) {
+    uint16_t deleted[LEMIDROSY_DELETIONS];
+    say_stored(lemidrosy_answer(lemidrosy_checkpoint(words, size, (size_t)number(), deleted, LEMIDROSY_DELETIONS)), deleted);
 }
 
 static void send_one(void) {
@@ -341,6 +345,115 @@ static void simulate(void) {
         printf(" %llu", (unsigned long long)figures[k]);
 }
 
+/* The calls through the console: the caller comes first. */
+static uint32_t role, owned;
+
+static void caller(void) {
+    role = (uint32_t)number();
+    owned = (uint32_t)number();
+}
+
+static void console_start(void) {
+    uint32_t counts[256];
+    size_t n = 0;
+    caller();
+    while (next != NULL)
+        counts[n++] = (uint32_t)number();
+    uint16_t *fresh = zeros(LEMIDROSY_WORDS);
+    if (accepted(lemidrosy_refused(lemidrosy_console_start(role, owned, fresh, LEMIDROSY_WORDS, n, counts, n))))
+        use(fresh, LEMIDROSY_WORDS);
+    else
+        free(fresh);
+}
+
+static void console_checkpoint(void) {
+    uint16_t deleted[LEMIDROSY_DELETIONS];
+    caller();
+    say_stored(lemidrosy_answer(lemidrosy_console_checkpoint(role, owned, words, size, (size_t)number(), deleted, LEMIDROSY_DELETIONS)), deleted);
+}
+
+static void console_send(void) {
+    caller();
+    size_t sender = (size_t)number(), receiver = (size_t)number();
+    struct lemidrosy_answer got = lemidrosy_answer(lemidrosy_console_send(role, owned, words, size, sender, receiver));
+    if (accepted(got.refused))
+        printf(" %u", got.value);
+}
+
+static void console_deliver(void) {
+    uint16_t deleted[LEMIDROSY_DELETIONS];
+    caller();
+    struct lemidrosy_answer got = lemidrosy_answer(lemidrosy_console_deliver(role, owned, words, size, (uint32_t)number(), deleted, LEMIDROSY_DELETIONS));
+    if (!accepted(got.refused))
+        return;
+    if (got.has_value)
+        printf(" %u %u", got.value, got.rose);
+    else
+        printf(" - %u", got.rose);
+    say16(deleted, 2 * got.deletions, 2);
+}
+
+static void console_lose(void) {
+    caller();
+    accepted(lemidrosy_refused(lemidrosy_console_lose(role, owned, words, size, (uint32_t)number())));
+}
+
+/* A place that is left as it was lent, once with 0 and once with 1, is not the caller's. */
+static void console_line(void) {
+    uint16_t one[LEMIDROSY_PROCESSES] = {0}, other[LEMIDROSY_PROCESSES];
+    caller();
+    uint32_t failed = (uint32_t)number();
+    for (size_t p = 0; p < LEMIDROSY_PROCESSES; p++)
+        other[p] = 1;
+    uint64_t got = lemidrosy_console_line(role, owned, words, size, failed, one, LEMIDROSY_PROCESSES);
+    if (lemidrosy_console_line(role, owned, words, size, failed, other, LEMIDROSY_PROCESSES) != got)
+        exit(5);
+    if (!accepted(lemidrosy_refused(got)))
+        return;
+    size_t n = count();
+    for (size_t p = 0; p < n; p++)
+        if (one[p] == other[p])
+            printf(" %u", one[p]);
+        else
+            printf(" -");
+}
+
+static void console_recover(void) {
+    uint16_t deleted[LEMIDROSY_DELETIONS], row[LEMIDROSY_PROCESSES];
+    size_t n = count();
+    caller();
+    struct lemidrosy_answer got = lemidrosy_answer(lemidrosy_console_recover(role, owned, words, size, (uint32_t)number(), deleted, LEMIDROSY_DELETIONS, row, LEMIDROSY_PROCESSES));
+    if (!accepted(got.refused))
+        return;
+    printf(" %u", got.value);
+    say16(row, n, 1);
+    say16(deleted, 2 * got.deletions, 2);
+}
+
+static void console_earliest(void) {
+    uint32_t named[256];
+    uint16_t row[LEMIDROSY_PROCESSES];
+    size_t many = 0;
+    caller();
+    for (; next != NULL; many += 2)
+        pair(named + many);
+    say_row(lemidrosy_console_earliest(role, owned, words, size, named, many, row, LEMIDROSY_PROCESSES), row);
+}
+
+static void console_list(void) {
+    uint16_t listed[LEMIDROSY_DELETIONS];
+    caller();
+    struct lemidrosy_answer got = lemidrosy_answer(lemidrosy_console_list(role, owned, words, size, listed, LEMIDROSY_DELETIONS));
+    if (accepted(got.refused))
+        say16(listed, 2 * got.value, 2);
+}
+
+static void console_counts(void) {
+    uint16_t row[LEMIDROSY_PROCESSES];
+    caller();
+    say_row(lemidrosy_console_counts(role, owned, words, size, row, LEMIDROSY_PROCESSES), row);
+}
+
 static const struct {
     const char *name;
     void (*make)(void);
@@ -349,6 +462,9 @@ static const struct {
     {"is_sound", is_sound}, {"numbers", numbers}, {"vector", vector}, {"pins", pins}, {"kept", kept}, {"messages", messages}, {"carried", carried},
     {"words", spread}, {"dump", dump}, {"take", take}, {"replay", replay}, {"save", save}, {"load", load}, {"store_file", store_file}, {"load_file", load_file},
     {"judge", judge}, {"merge", merge}, {"simulate", simulate},
+    {"console_start", console_start}, {"console_checkpoint", console_checkpoint}, {"console_send", console_send}, {"console_deliver", console_deliver},
+    {"console_lose", console_lose}, {"console_line", console_line}, {"console_recover", console_recover}, {"console_earliest", console_earliest},
+    {"console_list", console_list}, {"console_counts", console_counts},
 };
 
 int main(void) {

@@ -282,8 +282,130 @@ contains
         case ('simulate')
             call simulate()
         case default
-            error stop 'no such call'
+            if (index(call_name, 'console_') /= 1) error stop 'no such call'
+            call console(call_name(9:))
         end select
+    end subroutine
+
+    ! A call through the console: the caller comes first.
+    subroutine console(call_name)
+        character(len=*), intent(in) :: call_name
+        integer(c_int32_t) :: role, owned, deleted(lemidrosy_deletions_size), row(lemidrosy_max_processes)
+        type(lemidrosy_answer) :: got
+
+        role = next_bits()
+        owned = next_bits()
+        select case (call_name)
+        case ('start', 'earliest')
+            call console_numbers(call_name, role, owned)
+        case ('checkpoint', 'send')
+            call console_process(call_name, role, owned, next_number())
+        case ('deliver')
+            got = lemidrosy_console_deliver(role, owned, words, next_bits(), deleted)
+            if (.not. accepted(got%refused)) return
+            call say_index(merge(got%value + 1, 0, got%has_value))
+            call say(int(got%rose, c_int64_t))
+            call say_groups(deleted(:2 * got%deletions), 2)
+        case ('lose')
+            got = lemidrosy_console_lose(role, owned, words, next_bits())
+            if (.not. accepted(got%refused)) return
+        case ('line')
+            call console_line(role, owned, next_bits())
+        case ('recover')
+            call console_recover(role, owned, next_bits())
+        case ('list')
+            got = lemidrosy_console_list(role, owned, words, deleted)
+            if (accepted(got%refused)) call say_groups(deleted(:2 * got%value), 2)
+        case ('counts')
+            got = lemidrosy_console_counts(role, owned, words, row)
+            if (accepted(got%refused)) call say_all(row(:count_of()))
+        case default
+            error stop 'no such call of the console'
+        end select
+    end subroutine
+
+    ! A start, and the earliest line.
+    subroutine console_numbers(call_name, role, owned)
+        character(len=*), intent(in) :: call_name
+        integer(c_int32_t), intent(in) :: role, owned
+        integer(c_int16_t), allocatable :: fresh(:)
+        integer(c_int32_t) :: numbers(256), row(lemidrosy_max_processes)
+        integer(c_int64_t) :: process, checkpoint
+        type(lemidrosy_answer) :: got
+        integer :: many
+
+        many = 0
+        if (call_name == 'start') then
+            do while (has_word())
+                many = many + 1
+                numbers(many) = next_bits()
+            end do
+            allocate (fresh(lemidrosy_words))
+            fresh = 0
+            got = lemidrosy_console_start(role, owned, fresh, many, numbers(:many))
+            if (accepted(got%refused)) call move_alloc(fresh, words)
+        else
+            do while (has_word())
+                call next_pair(process, checkpoint)
+                numbers(many + 1) = bits(process)
+                numbers(many + 2) = bits(checkpoint)
+                many = many + 2
+            end do
+            got = lemidrosy_console_earliest(role, owned, words, numbers(:many), row)
+            if (accepted(got%refused)) call say_all(row(:count_of()))
+        end if
+    end subroutine
+
+    subroutine console_process(call_name, role, owned, process)
+        character(len=*), intent(in) :: call_name
+        integer(c_int32_t), intent(in) :: role, owned
+        integer(c_int64_t), intent(in) :: process
+        integer(c_int32_t) :: deleted(lemidrosy_deletions_size)
+        integer(c_int64_t) :: receiver
+        type(lemidrosy_answer) :: got
+
+        receiver = 0
+        if (call_name == 'send') receiver = next_number()
+        if (.not. can_say(max(process, receiver))) return
+        if (call_name == 'send') then
+            got = lemidrosy_console_send(role, owned, words, int(process, c_int32_t), int(receiver, c_int32_t))
+            if (accepted(got%refused)) call say(int(got%value, c_int64_t))
+        else
+            got = lemidrosy_console_checkpoint(role, owned, words, int(process, c_int32_t), deleted)
+            if (.not. accepted(got%refused)) return
+            call say(int(got%value, c_int64_t))
+            call say_groups(deleted(:2 * got%deletions), 2)
+        end if
+    end subroutine
+
+    subroutine console_line(role, owned, failed)
+        integer(c_int32_t), intent(in) :: role, owned, failed
+        integer(c_int32_t) :: row(lemidrosy_max_processes)
+        type(lemidrosy_answer) :: got
+        integer :: p
+
+        ! no index is below 0
+        row = -1
+        got = lemidrosy_console_line(role, owned, words, failed, row)
+        if (.not. accepted(got%refused)) return
+        do p = 1, count_of()
+            call say_index(row(p) + 1)
+        end do
+    end subroutine
+
+    subroutine console_recover(role, owned, failed)
+        integer(c_int32_t), intent(in) :: role, owned, failed
+        integer(c_int32_t) :: row(lemidrosy_max_processes), deleted(lemidrosy_deletions_size)
+        type(lemidrosy_answer) :: got
+        integer :: n
+
+        n = 0
+        if (lemidrosy_is_sound(words)) n = count_of()
+        got = lemidrosy_console_recover(role, owned, words, failed, deleted, row)
+        if (.not. accepted(got%refused)) return
+        call say(int(got%value, c_int64_t))
+        call say_all(row(:n))
+        call say_groups(deleted(:2 * got%deletions), 2)
     end subroutine
 
     ! The answer is the number of the refusal, if the call was refused.

@@ -5,7 +5,7 @@ import sys
 from pathlib import Path
 
 import lemidrosy
-from lemidrosy import Refused, Run
+from lemidrosy import Console, Refused, Run
 from lemidrosy.functions import Block
 
 WORDS = 6464
@@ -150,6 +150,23 @@ class Driver:
     def carried(self, number):
         return self.run.carried(int(number))
 
+    def console(self, call, role, owned, *words):
+        """A call through the console, by the method of its name."""
+        if call == "start":
+            self.run = Console.start(int(role), len(words), map(int, words))
+            return ()
+        other = Driver()
+        other.run = Console(self.run, int(role), members(int(owned)))
+        if call == "line":
+            return map(or_none, other.line(*words))
+        return getattr(other, call)(*words)
+
+    def list(self):
+        return self.run.list()
+
+    def counts(self):
+        return self.run.counts()
+
     def judge(self, trace):
         verdict = lemidrosy.judge(data(trace))
         return () if verdict.trackable else (verdict.near, verdict.far)
@@ -167,7 +184,10 @@ def main():
     for line in sys.stdin:
         call, *words = line.split()
         try:
-            print(0, *getattr(driver, call)(*words))
+            if call.startswith("console_"):
+                print(0, *driver.console(call.removeprefix("console_"), *words))
+            else:
+                print(0, *getattr(driver, call)(*words))
         except Refused as refusal:
             print(refusal.number)
 

@@ -1,7 +1,9 @@
 //! Makes the calls on standard input through the binding for Rust and prints the
 //! answers: README.md has the lines.
 
-use lemidrosy::{judge, merge, simulate, Checkpoint, FileError, Message, Refusal, Run, Verdict};
+use lemidrosy::{
+    judge, merge, simulate, Caller, Checkpoint, Console, FileError, Message, Refusal, Run, Verdict,
+};
 use std::fmt::Display;
 use std::io::{self, BufRead, BufWriter, Write};
 
@@ -13,6 +15,11 @@ fn main() -> io::Result<()> {
         let mut words = line.split(' ');
         let call = words.next().unwrap_or("");
         let words: Vec<&str> = words.collect();
+        if call.starts_with("console_") && number::<u32>(&words, 0) > 2 {
+            // a caller has one of three roles
+            writeln!(output, "-")?;
+            continue;
+        }
         match answer(&mut run, call, &words)? {
             Ok(more) => writeln!(output, "0{more}")?,
             Err(refusal) => writeln!(output, "{}", refusal.number())?,
@@ -130,6 +137,57 @@ fn made(run: &mut Run, call: &str, words: &[&str]) -> Result<String, Refusal> {
             spell(&mut line, [figures.most_kept, figures.per_thousand]);
             spell(&mut line, [figures.remainder]);
         }
+        _ => match call.strip_prefix("console_") {
+            Some(call) => return asked(run, caller(words), call, &words[2..]),
+            None => panic!("no such call: {call}"),
+        },
+    }
+    Ok(line)
+}
+
+fn caller(words: &[&str]) -> Caller {
+    match number(words, 0) {
+        0 => Caller::Operator,
+        1 => Caller::JobOwner(number(words, 1)),
+        _ => Caller::Viewer,
+    }
+}
+
+/// A call through the console.
+fn asked(run: &mut Run, caller: Caller, call: &str, words: &[&str]) -> Result<String, Refusal> {
+    let mut line = String::new();
+    let mut console = run.console(caller);
+    match call {
+        "start" => *run = Console::start(caller, &numbers(words))?,
+        "checkpoint" => {
+            let stored = console.checkpoint(number(words, 0))?;
+            spell(&mut line, [stored.index]);
+            spell(&mut line, pairs(&stored.deleted));
+        }
+        "send" => spell(
+            &mut line,
+            [console.send(number(words, 0), number(words, 1))?],
+        ),
+        "deliver" => {
+            let delivered = console.deliver(number(words, 0))?;
+            spell(&mut line, [or_none(delivered.forced)]);
+            spell(&mut line, [delivered.rose]);
+            spell(&mut line, pairs(&delivered.deleted));
+        }
+        "lose" => console.lose(number(words, 0))?,
+        "line" => {
+            let members = console.line(number(words, 0))?;
+            spell(&mut line, members.into_iter().map(or_none));
+        }
+        "recover" => {
+            let recovered = console.recover(number(words, 0))?;
+            spell(&mut line, [recovered.rolled_back]);
+            spell(&mut line, recovered.line);
+            spell(&mut line, pairs(&recovered.deleted));
+        }
+        "earliest" => spell(&mut line, console.earliest(&named(words))?),
+        "list" => spell(&mut line, pairs(&console.list()?)),
+        "counts" => spell(&mut line, console.counts()?),
         _ => panic!("no such call: {call}"),
     }
     Ok(line)

@@ -28,6 +28,7 @@ from .answers import (
     Refused,
     Verdict,
 )
+from .console import Console, Role
 from .functions import Line, judge, merge, replay, simulate
 from .library import LibraryError
 from .recorder import Recorder
@@ -41,6 +42,7 @@ __all__ = [
     "Cause",
     "Checkpoint",
     "Checkpointed",
+    "Console",
     "Delivered",
     "Figures",
     "Kept",
@@ -53,6 +55,7 @@ __all__ = [
     "Records",
     "Recovered",
     "Refused",
+    "Role",
     "Run",
     "Verdict",
     "judge",

@@ -163,7 +163,11 @@ def rose(answer: int) -> FrozenSet[int]:
 
 def deletions(answer: int, pairs: Sequence[int]) -> Tuple[Checkpoint, ...]:
     """The deleted checkpoints, which stand at the front of a list of pairs."""
-    count = answer >> 8 & 0x7FFF
+    return checkpoints(answer >> 8 & 0x7FFF, pairs)
+
+
+def checkpoints(count: int, pairs: Sequence[int]) -> Tuple[Checkpoint, ...]:
+    """So many checkpoints at the front of a list of pairs."""
     return tuple(Checkpoint(pairs[2 * k], pairs[2 * k + 1]) for k in range(count))
 
 

@@ -38,6 +38,11 @@ def set_of(processes: Iterable[int]) -> int:
     return number
 
 
+def owned_set(processes: Iterable[int]) -> int:
+    """An owner's processes as a number of 32 bits. Members at n and above count for nothing, so one that has no bit is left out."""
+    return set_of({process for process in map(index, processes) if 0 <= process < 32})
+
+
 def members(number: int) -> FrozenSet[int]:
     """The set that a number is: bit p stands for p."""
     return frozenset(p for p in range(number.bit_length()) if number >> p & 1)

@@ -103,6 +103,12 @@ pub fn accepted(answer: u64) -> Result<Answer, Refusal> {
     }
 }
 
+/// So many pairs of a process and an index.
+fn pairs(list: &[u16], many: usize) -> Vec<Checkpoint> {
+    let pairs = list.chunks_exact(2).take(many);
+    pairs.map(|pair| (usize::from(pair[0]), pair[1])).collect()
+}
+
 impl Answer {
     /// How many checkpoints were deleted.
     fn deletions(&self) -> usize {
@@ -131,8 +137,12 @@ impl Answer {
 
     /// The pairs at the front of a list of deletions.
     pub fn deleted(&self, list: &[u16]) -> Vec<Checkpoint> {
-        let pairs = list.chunks_exact(2).take(self.deletions());
-        pairs.map(|pair| (usize::from(pair[0]), pair[1])).collect()
+        pairs(list, self.deletions())
+    }
+
+    /// The pairs at the front of a list of checkpoints: as many as the value says.
+    pub fn listed(&self, list: &[u16]) -> Vec<Checkpoint> {
+        pairs(list, self.value() as usize)
     }
 
     /// As many groups of three numbers at the front of a list as the value says.

@@ -26,6 +26,7 @@
 #![deny(unsafe_code)]
 
 mod answers;
+mod console;
 mod file;
 mod library;
 mod recorder;
@@ -34,6 +35,7 @@ mod run;
 mod trace;
 
 pub use answers::{Cause, Delivered, Kept, Message, Numbers, Recovered, Replayed, Stored};
+pub use console::{Caller, Console};
 pub use file::FileError;
 pub use recorder::Recorder;
 pub use refusal::Refusal;

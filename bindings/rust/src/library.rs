@@ -108,6 +108,88 @@ mod c {
             p: *mut u64,
             pl: usize,
         ) -> u64;
+        pub fn lemidrosy_console_start(
+            r: u32,
+            o: u32,
+            w: *mut u16,
+            wl: usize,
+            n: usize,
+            c: *const u32,
+            cl: usize,
+        ) -> u64;
+        pub fn lemidrosy_console_checkpoint(
+            r: u32,
+            o: u32,
+            w: *mut u16,
+            wl: usize,
+            p: usize,
+            d: *mut u16,
+            dl: usize,
+        ) -> u64;
+        pub fn lemidrosy_console_send(
+            r: u32,
+            o: u32,
+            w: *mut u16,
+            wl: usize,
+            p: usize,
+            q: usize,
+        ) -> u64;
+        pub fn lemidrosy_console_deliver(
+            r: u32,
+            o: u32,
+            w: *mut u16,
+            wl: usize,
+            m: u32,
+            d: *mut u16,
+            dl: usize,
+        ) -> u64;
+        pub fn lemidrosy_console_lose(r: u32, o: u32, w: *mut u16, wl: usize, m: u32) -> u64;
+        pub fn lemidrosy_console_line(
+            r: u32,
+            o: u32,
+            w: *const u16,
+            wl: usize,
+            f: u32,
+            l: *mut u16,
+            ll: usize,
+        ) -> u64;
+        pub fn lemidrosy_console_recover(
+            r: u32,
+            o: u32,
+            w: *mut u16,
+            wl: usize,
+            f: u32,
+            d: *mut u16,
+            dl: usize,
+            l: *mut u16,
+            ll: usize,
+        ) -> u64;
+        pub fn lemidrosy_console_earliest(
+            r: u32,
+            o: u32,
+            w: *const u16,
+            wl: usize,
+            c: *const u32,
+            cl: usize,
+            l: *mut u16,
+            ll: usize,
+        ) -> u64;
+        pub fn lemidrosy_console_list(
+            r: u32,
+            o: u32,
+            w: *const u16,
+            wl: usize,
+            d: *mut u16,
+            dl: usize,
+        ) -> u64;
+        pub fn lemidrosy_console_counts(
+            r: u32,
+            o: u32,
+            w: *const u16,
+            wl: usize,
+            l: *mut u16,
+            ll: usize,
+        ) -> u64;
         pub fn lemidrosy_numbers(w: *const u16, wl: usize, s: *mut u64, sl: usize) -> u64;
         pub fn lemidrosy_vector(w: *const u16, wl: usize, p: usize, v: *mut u16, vl: usize) -> u64;
         pub fn lemidrosy_pins(w: *const u16, wl: usize, p: usize, v: *mut u16, vl: usize) -> u64;
@@ -499,6 +581,162 @@ pub fn record_recover(
             tape.bytes.len(),
             &mut tape.place,
             1,
+        )
+    }
+}
+
+/// Who calls the console: the number of a role, and the set of an owner's processes.
+#[derive(Clone, Copy)]
+pub struct Asker {
+    pub role: u32,
+    pub owned: u32,
+}
+
+pub fn console_start(asker: Asker, words: &mut [u16], n: usize, counts: &[u32]) -> u64 {
+    unsafe {
+        c::lemidrosy_console_start(
+            asker.role,
+            asker.owned,
+            words.as_mut_ptr(),
+            words.len(),
+            n,
+            counts.as_ptr(),
+            counts.len(),
+        )
+    }
+}
+
+pub fn console_checkpoint(
+    asker: Asker,
+    words: &mut [u16],
+    process: usize,
+    deleted: &mut [u16],
+) -> u64 {
+    unsafe {
+        c::lemidrosy_console_checkpoint(
+            asker.role,
+            asker.owned,
+            words.as_mut_ptr(),
+            words.len(),
+            process,
+            deleted.as_mut_ptr(),
+            deleted.len(),
+        )
+    }
+}
+
+pub fn console_send(asker: Asker, words: &mut [u16], sender: usize, receiver: usize) -> u64 {
+    unsafe {
+        c::lemidrosy_console_send(
+            asker.role,
+            asker.owned,
+            words.as_mut_ptr(),
+            words.len(),
+            sender,
+            receiver,
+        )
+    }
+}
+
+pub fn console_deliver(asker: Asker, words: &mut [u16], message: u32, deleted: &mut [u16]) -> u64 {
+    unsafe {
+        c::lemidrosy_console_deliver(
+            asker.role,
+            asker.owned,
+            words.as_mut_ptr(),
+            words.len(),
+            message,
+            deleted.as_mut_ptr(),
+            deleted.len(),
+        )
+    }
+}
+
+pub fn console_lose(asker: Asker, words: &mut [u16], message: u32) -> u64 {
+    unsafe {
+        c::lemidrosy_console_lose(
+            asker.role,
+            asker.owned,
+            words.as_mut_ptr(),
+            words.len(),
+            message,
+        )
+    }
+}
+
+pub fn console_line(asker: Asker, words: &[u16], failed: u32, line: &mut [u16]) -> u64 {
+    unsafe {
+        c::lemidrosy_console_line(
+            asker.role,
+            asker.owned,
+            words.as_ptr(),
+            words.len(),
+            failed,
+            line.as_mut_ptr(),
+            line.len(),
+        )
+    }
+}
+
+pub fn console_recover(
+    asker: Asker,
+    words: &mut [u16],
+    failed: u32,
+    deleted: &mut [u16],
+    line: &mut [u16],
+) -> u64 {
+    unsafe {
+        c::lemidrosy_console_recover(
+            asker.role,
+            asker.owned,
+            words.as_mut_ptr(),
+            words.len(),
+            failed,
+            deleted.as_mut_ptr(),
+            deleted.len(),
+            line.as_mut_ptr(),
+            line.len(),
+        )
+    }
+}
+
+pub fn console_earliest(asker: Asker, words: &[u16], named: &[u32], line: &mut [u16]) -> u64 {
+    unsafe {
+        c::lemidrosy_console_earliest(
+            asker.role,
+            asker.owned,
+            words.as_ptr(),
+            words.len(),
+            named.as_ptr(),
+            named.len(),
+            line.as_mut_ptr(),
+            line.len(),
+        )
+    }
+}
+
+pub fn console_list(asker: Asker, words: &[u16], deleted: &mut [u16]) -> u64 {
+    unsafe {
+        c::lemidrosy_console_list(
+            asker.role,
+            asker.owned,
+            words.as_ptr(),
+            words.len(),
+            deleted.as_mut_ptr(),
+            deleted.len(),
+        )
+    }
+}
+
+pub fn console_counts(asker: Asker, words: &[u16], counts: &mut [u16]) -> u64 {
+    unsafe {
+        c::lemidrosy_console_counts(
+            asker.role,
+            asker.owned,
+            words.as_ptr(),
+            words.len(),
+            counts.as_mut_ptr(),
+            counts.len(),
         )
     }
 }

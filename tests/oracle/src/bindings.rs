@@ -4,6 +4,9 @@
 //! What is drawn is what `calls` draws, but for lists: a binding lends them
 //! itself, so that none is too short and none is seen behind what was written.
 
+use crate::calls::console::{
+    outcome as console_outcome, Asked as ConsoleAsked, Asker, CONSOLE_CALLS,
+};
 use crate::calls::draw::{self, Draws, Habits};
 use crate::calls::hold::CALLS;
 use crate::calls::{outcome, Call, Left, Lists, Outcome};
@@ -40,6 +43,8 @@ enum Asked {
     Start(Vec<u32>),
     /// A call on the state; of `earliest`, with the numbers that name.
     Call(Call, Vec<u32>),
+    /// The same through the console: of a start and of `earliest`, with the numbers.
+    Console(Asker, ConsoleAsked, Vec<u32>),
     Words(Vec<u16>),
     /// A block of records, behind so many others.
     Replay(AfterRefusal, u64, Vec<u8>),
@@ -96,13 +101,13 @@ pub fn pages(seed: u64, count: u64, absent: &[String]) -> Pages {
 impl Pages {
     /// What was not met, of all that can be met.
     pub fn missing(&self, absent: &[String]) -> Option<String> {
-        let calls = CALLS.iter().chain(&OTHERS);
+        let calls = CALLS.iter().chain(&OTHERS).chain(&CONSOLE_CALLS);
         let made = calls.filter(|(name, _)| !absent.iter().any(|one| one == name));
         for (name, numbers) in made {
             // a binding lends lists that are long enough, and words that are enough
             let given = numbers
                 .iter()
-                .filter(|number| **number != 3 && (*name, **number) != ("start", 2));
+                .filter(|number| **number != 3 && !(name.ends_with("start") && **number == 2));
             for number in given {
                 let number = *number as u8;
                 if !self.met.contains_key(&(name, number)) {
@@ -142,6 +147,7 @@ impl Writer {
             6..=12 => self.aside(),
             13 => self.load_bytes(),
             14..=15 => self.replay(),
+            16..=95 => self.console(),
             _ => {
                 self.call();
                 1
@@ -149,8 +155,8 @@ impl Writer {
         }
     }
 
-    /// A start, mostly of a count and with block counts in range.
-    fn start(&mut self) -> u64 {
+    /// The block counts of a start, mostly in range and of a count in range.
+    fn counts(&mut self) -> Vec<u32> {
         let draws = &mut self.draws;
         let size = if draws.once_in(6) {
             draws.one_of(&[0, 17, 18, 255])
@@ -164,6 +170,11 @@ impl Writer {
             let place = draws.place(size);
             counts[place] = draws.one_of(&[0, 65_536, 65_537, 1 << 31, u32::MAX]);
         }
+        counts
+    }
+
+    fn start(&mut self) -> u64 {
+        let counts = self.counts();
         self.habits = Habits::draw(&mut self.draws);
         self.ask(Asked::Start(counts));
         1
@@ -266,9 +277,16 @@ impl Writer {
         }
         let more = 1 + self.draws.below(8);
         for _ in 0..more {
-            if self.draws.once_in(2) {
-                self.call();
-                continue;
+            match self.draws.below(4) {
+                0 => {
+                    self.call();
+                    continue;
+                }
+                1 => {
+                    self.console();
+                    continue;
+                }
+                _ => {}
             }
             let name = "refused".to_string();
             let asked = match self.draws.below(8) {
@@ -384,6 +402,49 @@ impl Writer {
         }
     }
 
+    /// A call through the console. What is denied an owner goes by the state, which
+    /// is not known here where it is not sound: no owner calls then.
+    fn console(&mut self) -> u64 {
+        let mut asker = Asker::draw(&mut self.draws);
+        while asker.role == 1 && self.run.is_none() {
+            asker = Asker::draw(&mut self.draws);
+        }
+        let state = self.run.as_ref().map(Run::state);
+        let (asked, numbers) = match self.draws.below(16) {
+            0..=1 => (ConsoleAsked::List, Vec::new()),
+            2..=3 => (ConsoleAsked::Counts, Vec::new()),
+            4 => {
+                let counts = self.counts();
+                let count = counts.len() as u64;
+                (ConsoleAsked::Call(Call::Start { count }), counts)
+            }
+            _ => loop {
+                let call = draw::call(&mut self.draws, &self.habits, state.as_ref()).fitted();
+                let mut named = Vec::new();
+                match call {
+                    Call::Earliest => {
+                        named = draw::lists(&mut self.draws, call, state.as_ref()).numbers;
+                        named.truncate(named.len() / 2 * 2);
+                    }
+                    Call::Checkpoint { .. }
+                    | Call::Send { .. }
+                    | Call::Deliver { .. }
+                    | Call::Lose { .. }
+                    | Call::Line { .. }
+                    | Call::Recover { .. } => {}
+                    _ => continue,
+                }
+                break (ConsoleAsked::Call(call), named);
+            },
+        };
+        let asked = Asked::Console(asker, asked, numbers);
+        if self.is_absent(&asked) {
+            return 0;
+        }
+        self.ask(asked);
+        1
+    }
+
     fn is_absent(&self, asked: &Asked) -> bool {
         self.absent.iter().any(|name| name == asked.name())
     }
@@ -460,6 +521,7 @@ impl Asked {
         match self {
             Asked::Start(_) => "start",
             Asked::Call(call, _) => CALLS[crate::calls::hold::place(*call)].0,
+            Asked::Console(_, asked, _) => CONSOLE_CALLS[asked.place()].0,
             Asked::Words(_) => "words",
             Asked::Replay(..) => "replay",
             Asked::Dump(_) => "dump",
@@ -478,22 +540,15 @@ impl Asked {
         let mut line = self.name().to_string();
         match self {
             Asked::Start(counts) => spell(&mut line, counts),
-            Asked::Call(call, named) => match *call {
-                Call::Start { count } => spell(&mut line, [count]),
-                Call::Checkpoint { process }
-                | Call::Vector { process }
-                | Call::Pins { process }
-                | Call::Kept { process } => spell(&mut line, [process]),
-                Call::Send { from, to } => spell(&mut line, [from, to]),
-                Call::Deliver { number } | Call::Lose { number } | Call::Carried { number } => {
-                    spell(&mut line, [number])
+            Asked::Call(call, named) => spell_call(&mut line, *call, named),
+            Asked::Console(asker, asked, numbers) => {
+                spell(&mut line, [asker.role, asker.owned]);
+                match asked {
+                    ConsoleAsked::Call(Call::Start { .. }) => spell(&mut line, numbers),
+                    ConsoleAsked::Call(call) => spell_call(&mut line, *call, numbers),
+                    ConsoleAsked::List | ConsoleAsked::Counts => {}
                 }
-                Call::Line { failed } | Call::Recover { failed } | Call::Lost { failed } => {
-                    spell(&mut line, [failed])
-                }
-                Call::Earliest => spell(&mut line, tuples(named, 2)),
-                Call::IsSound | Call::Numbers | Call::Messages => {}
-            },
+            }
             Asked::Words(words) => {
                 spell(&mut line, [words.len()]);
                 let places = words.iter().enumerate().filter(|(_, word)| **word != 0);
@@ -521,6 +576,26 @@ impl Asked {
             }
         }
         line
+    }
+}
+
+/// The numbers of a call.
+fn spell_call(line: &mut String, call: Call, named: &[u32]) {
+    match call {
+        Call::Start { count } => spell(line, [count]),
+        Call::Checkpoint { process }
+        | Call::Vector { process }
+        | Call::Pins { process }
+        | Call::Kept { process } => spell(line, [process]),
+        Call::Send { from, to } => spell(line, [from, to]),
+        Call::Deliver { number } | Call::Lose { number } | Call::Carried { number } => {
+            spell(line, [number])
+        }
+        Call::Line { failed } | Call::Recover { failed } | Call::Lost { failed } => {
+            spell(line, [failed])
+        }
+        Call::Earliest => spell(line, tuples(named, 2)),
+        Call::IsSound | Call::Numbers | Call::Messages => {}
     }
 }
 
@@ -553,6 +628,7 @@ fn answer(run: &mut Option<Run>, asked: &Asked) -> String {
     let answer = match asked {
         Asked::Start(counts) => started(run, counts),
         Asked::Call(call, named) => called(run, *call, named),
+        Asked::Console(asker, asked, numbers) => consoled(run, *asker, *asked, numbers),
         Asked::Words(words) => Ok(taken(run, words)),
         // what is taken or loaded from a file, is what was stored in it
         Asked::Dump(_) | Asked::Take(_) | Asked::LoadFile(_) => Ok(String::new()),
@@ -600,6 +676,43 @@ fn called(run: &mut Option<Run>, call: Call, named: &[u32]) -> Result<String, u8
     refused(&outcome)?;
     leave(run, &outcome);
     Ok(said(call, &outcome, count))
+}
+
+/// A call through the console. A refused start leaves the state that a binding has.
+fn consoled(
+    run: &mut Option<Run>,
+    asker: Asker,
+    asked: ConsoleAsked,
+    numbers: &[u32],
+) -> Result<String, u8> {
+    let count = run.as_ref().map_or(0, Run::count);
+    let state = run.as_ref().map(Run::state);
+    let mut lent = lists(numbers);
+    let outcome = console_outcome(SIZE, state.as_ref(), asker, asked, &lent);
+    refused(&outcome)?;
+    leave(run, &outcome);
+    let mut line = String::new();
+    match asked {
+        ConsoleAsked::Call(Call::Line { .. }) => {
+            // a place that is left as it was lent, once with 0 and once with 1, is
+            // not the caller's
+            lent.line.fill(1);
+            let other = console_outcome(SIZE, state.as_ref(), asker, asked, &lent);
+            let both = outcome.lists.line.iter().zip(other.lists.line);
+            let seen = both.take(count).map(|(one, other)| match *one == other {
+                true => one.to_string(),
+                false => "-".to_string(),
+            });
+            spell(&mut line, seen);
+        }
+        ConsoleAsked::Call(call) => line = said(call, &outcome, count),
+        ConsoleAsked::List => {
+            let listed = (outcome.answer >> 24 & 0xff_ffff) as usize;
+            spell(&mut line, tuples(&outcome.lists.deletions[..2 * listed], 2));
+        }
+        ConsoleAsked::Counts => spell(&mut line, &outcome.lists.line[..count]),
+    }
+    Ok(line)
 }
 
 /// Lists with room for everything.
