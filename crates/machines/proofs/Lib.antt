@@ -1,3 +1,4 @@
 -- Laws of machines, whatever their states.
 pub mod Runs
 pub mod Places
+pub mod Hearing

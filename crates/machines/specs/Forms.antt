@@ -5,11 +5,15 @@ use mathlib.Core.Path.{_≡_}
 use mathlib.Core.Bool.{Bool, true, false}
 use mathlib.Core.List.{List}
 use Prim.Native.Nat.{ℕ, _+_, _≤_}
+use lib.Dec.{leb}
 use lib.ListN.{length, take, drop}
+use Rattle.laws.specs.Choice.{pick}
 use Rattle.machines.specs.declared.Request as requests
 use Rattle.machines.specs.declared.Request.the-variants as request
 use Rattle.machines.specs.declared.Answer as answers
 use Rattle.machines.specs.declared.Answer.the-variants as answer
+use Rattle.machines.specs.declared.heard.Taken as takens
+use Rattle.machines.specs.declared.heard.Taken.the-variants as taken
 use Rattle.machines.specs.Machines.{Request, Count, Argument, Open, Read, Write, Say, Fail, Stop, Answer, Number, Bytes, End, Done, Failed}
 
 -- The request that a form stands for, with these bytes in `out`.
@@ -23,10 +27,11 @@ requestOf (request.Say size) out = Say (take size out)
 requestOf (request.Fail size) out = Fail (take size out)
 requestOf request.Stop out = Stop
 
--- The answer that a form stands for, with these bytes in `input`, where the bytes that were asked for are at a place.
+-- The answer that a form stands for, with these bytes in `input`, where the bytes that were asked for are at a place. A count that reaches past the buffer stands for
+-- a call that failed.
 unfoldable pub answerOf : answers.Answer → ℕ → List ℕ → Answer
 answerOf (answer.Number n) at input = Number n
-answerOf (answer.Bytes size) at input = Bytes (take size (drop at input))
+answerOf (answer.Bytes size) at input = pick (leb (at + size) (length input)) (Bytes (take size (drop at input))) Failed
 answerOf answer.End at input = End
 answerOf answer.Done at input = Done
 answerOf answer.Failed at input = Failed
@@ -84,3 +89,15 @@ pub record Asks (r : requests.Request) (place : ℕ) (input out : List ℕ) (wan
   pub stands : requestOf r out ≡ wanted
   pub inside : Placed r (length input) (length out)
   pub there : GoesTo r place
+
+-- An answer as it is taken, where bytes were asked for: so many of them, the end, or that it failed.
+unfoldable pub takenOf : takens.Taken → ℕ → List ℕ → Answer
+takenOf (taken.Brought size) at input = Bytes (take size (drop at input))
+takenOf taken.Ended at input = End
+takenOf taken.Failed at input = Failed
+
+-- No more bytes than were asked for, and at least so many.
+unfoldable pub Between : takens.Taken → ℕ → ℕ → Type 0
+Between (taken.Brought size) least most = (least ≤ size) × (size ≤ most)
+Between taken.Ended least most = Unit {0}
+Between taken.Failed least most = Unit {0}

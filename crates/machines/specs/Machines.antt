@@ -2,10 +2,10 @@
 -- that a theorem about a program is one over every list of answers.
 -- Assumes nothing.
 use mathlib.Core.Path.{_≡_}
-use mathlib.Core.Bool.{Bool, _&&_}
+use mathlib.Core.Bool.{Bool, false, _&&_}
 use mathlib.Core.List.{List, [], _∷_, _++_}
 use Prim.Native.Nat.{ℕ, _<_}
-use lib.Dec.{leb}
+use lib.Dec.{eqb, leb}
 use lib.ListN.{length}
 use Rattle.laws.specs.Choice.{pick}
 
@@ -79,6 +79,14 @@ heard (Write text) a = heardDone a
 heard (Say text) a = Done
 heard (Fail text) a = Done
 heard Stop a = Failed
+
+-- Whether an answer is this number.
+unfoldable pub isNumber : Answer → ℕ → Bool
+isNumber (Number n) k = eqb n k
+isNumber (Bytes l) k = false
+isNumber End k = false
+isNumber Done k = false
+isNumber Failed k = false
 
 -- A machine: the state that it begins in, what it asks for in each state, and the state that an answer leads to.
 pub record Machine (S : Type 0) : Type 0 where

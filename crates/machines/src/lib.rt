@@ -5,6 +5,9 @@
 // system.rt: one function for each kind of request
 mod system;
 
+// heard.rt: answers as a machine takes them
+pub mod heard;
+
 ghost use mathlib.Core.Path.{_≡_};
 ghost use lib.ListN.{length};
 ghost use Rattle.machines.specs.Forms.{goesOn, Placed, Leaves};

@@ -1,0 +1,153 @@
+-- Answers in their forms, as they are taken.
+-- Assumes nothing.
+use mathlib.Core.Path.{_≡_, refl, sym, _∙_, ap, subst}
+use mathlib.Core.Bool.{Bool, true, false, _&&_}
+use mathlib.Core.List.{List}
+use Prim.Native.Nat.{ℕ, _+_, _-_, _≤_, _<_}
+use native.Mathlib.Omega.{arith}
+use lib.Dec.{eqb, leb}
+use lib.ListN.{length, take, drop, length-drop}
+use lib.Seq.{length-take-le}
+use borrow.Author.Tests.{le-leb, lt-leb, leb-true, eqb-true, eq-eqb}
+use Rattle.laws.specs.Choice.{pick, by-bool}
+use Rattle.machines.specs.declared.Answer as answers
+use Rattle.machines.specs.declared.Answer.the-variants as answer
+use Rattle.machines.specs.declared.heard.Taken as takens
+use Rattle.machines.specs.declared.heard.Taken.the-variants as taken
+use Rattle.machines.specs.Machines.{Answer, Number, Bytes, End, Done, Failed, heardCount, heardWord, heardRead, heardDone, isNumber}
+use Rattle.machines.specs.Forms.{answerOf, takenOf, Between}
+
+pub many : (at size : ℕ) (input : List ℕ) → at + size ≤ length input → length (take size (drop at input)) ≡ size
+many at size input h = length-take-le size (drop at input) (omega (arith, length-drop at input))
+
+-- The bytes of an answer that lie inside the buffer.
+inside : (at size : ℕ) (input : List ℕ) → at + size ≤ length input → answerOf (answer.Bytes size) at input ≡ Bytes (take size (drop at input))
+unfolding answerOf
+inside at size input h = rw (le-leb (at + size) (length input) h)
+
+-- What `read` answers, and `word`.
+abbrev pub ReadAs : answers.Answer → ℕ → takens.Taken → Type 0
+ReadAs a most r = ((at : ℕ) (input : List ℕ) → at + most ≤ length input → heardRead most (answerOf a at input) ≡ takenOf r at input) × Between r 1 most
+
+abbrev pub WordAs : answers.Answer → ℕ → takens.Taken → Type 0
+WordAs a most r = ((at : ℕ) (input : List ℕ) → at + most ≤ length input → heardWord most (answerOf a at input) ≡ takenOf r at input) × Between r 0 most
+
+abbrev pub DoneAs : answers.Answer → Bool → Type 0
+DoneAs a r = (at : ℕ) (input : List ℕ) → heardDone (answerOf a at input) ≡ pick r Done Failed
+
+abbrev pub NumberAs : answers.Answer → ℕ → Bool → Type 0
+NumberAs a number r = (at : ℕ) (input : List ℕ) → r ≡ isNumber (heardCount (answerOf a at input)) number
+
+-- Bytes that are taken for none.
+read-none : (most at size : ℕ) (input : List ℕ) → (length (take size (drop at input)) ≡ size → leb 1 (length (take size (drop at input))) && leb (length (take size (drop at input))) most ≡ false)
+    → heardRead most (answerOf (answer.Bytes size) at input) ≡ Failed
+unfolding heardRead answerOf
+read-none most at size input h = by-bool (leb (at + size) (length input)) (λ e. rw (e, h (many at size input (leb-true _ _ e)))) (λ e. rw e)
+
+word-none : (most at size : ℕ) (input : List ℕ) → most < size → heardWord most (answerOf (answer.Bytes size) at input) ≡ Failed
+unfolding heardWord answerOf
+word-none most at size input h =
+    by-bool (leb (at + size) (length input)) (λ e. rw (e, many at size input (leb-true _ _ e), lt-leb size most h)) (λ e. rw e)
+
+and-false : (b : Bool) → b && false ≡ false
+and-false true = refl
+and-false false = refl
+
+module _ (a : answers.Answer) (most : ℕ) where
+  pub read-number : (n : ℕ) → a ≡ answer.Number n → ReadAs a most taken.Failed
+  unfolding heardRead answerOf takenOf Between
+  read-number n e = (λ at input h. rw e, tt)
+
+  pub read-end : a ≡ answer.End → ReadAs a most taken.Ended
+  unfolding heardRead answerOf takenOf Between
+  read-end e = (λ at input h. rw e, tt)
+
+  pub read-done : a ≡ answer.Done → ReadAs a most taken.Failed
+  unfolding heardRead answerOf takenOf Between
+  read-done e = (λ at input h. rw e, tt)
+
+  pub read-failed : a ≡ answer.Failed → ReadAs a most taken.Failed
+  unfolding heardRead answerOf takenOf Between
+  read-failed e = (λ at input h. rw e, tt)
+
+  pub word-number : (n : ℕ) → a ≡ answer.Number n → WordAs a most taken.Failed
+  unfolding heardWord answerOf takenOf Between
+  word-number n e = (λ at input h. rw e, tt)
+
+  pub word-end : a ≡ answer.End → WordAs a most taken.Failed
+  unfolding heardWord answerOf takenOf Between
+  word-end e = (λ at input h. rw e, tt)
+
+  pub word-done : a ≡ answer.Done → WordAs a most taken.Failed
+  unfolding heardWord answerOf takenOf Between
+  word-done e = (λ at input h. rw e, tt)
+
+  pub word-failed : a ≡ answer.Failed → WordAs a most taken.Failed
+  unfolding heardWord answerOf takenOf Between
+  word-failed e = (λ at input h. rw e, tt)
+
+  module _ (size : ℕ) (e : a ≡ answer.Bytes size) where
+    pub read-few : size < 1 → ReadAs a most taken.Failed
+    unfolding takenOf Between
+    read-few few = (λ at input h. rw e (read-none most at size input (λ k. rw (k, lt-leb 1 size few))), tt)
+
+    pub read-many : most < size → ReadAs a most taken.Failed
+    unfolding takenOf Between
+    read-many more = (λ at input h. rw e (read-none most at size input (λ k. rw (k, lt-leb size most more) (and-false (leb 1 size)))), tt)
+
+    pub read-some : 1 ≤ size → size ≤ most → ReadAs a most (taken.Brought size)
+    unfolding heardRead takenOf Between
+    read-some least fits = (
+      λ at input h. rw (e, inside at size input (omega (arith, h, fits)), many at size input (omega (arith, h, fits)), le-leb 1 size least, le-leb size most fits),
+      (least, fits),
+    )
+
+    pub word-many : most < size → WordAs a most taken.Failed
+    unfolding takenOf Between
+    word-many more = (λ at input h. rw e (word-none most at size input more), tt)
+
+    pub word-some : size ≤ most → WordAs a most (taken.Brought size)
+    unfolding heardWord takenOf Between
+    word-some fits = (λ at input h. rw (e, inside at size input (omega (arith, h, fits)), many at size input (omega (arith, h, fits)), le-leb size most fits), (omega arith, fits))
+
+module _ (a : answers.Answer) where
+  pub done-number : (n : ℕ) → a ≡ answer.Number n → DoneAs a false
+  unfolding heardDone answerOf
+  done-number n e = λ at input. rw e
+
+  pub done-bytes : (size : ℕ) → a ≡ answer.Bytes size → DoneAs a false
+  unfolding heardDone answerOf
+  done-bytes size e = λ at input. by-bool (leb (at + size) (length input)) (λ f. rw (e, f)) (λ f. rw (e, f))
+
+  pub done-end : a ≡ answer.End → DoneAs a false
+  unfolding heardDone answerOf
+  done-end e = λ at input. rw e
+
+  pub done-done : a ≡ answer.Done → DoneAs a true
+  unfolding heardDone answerOf
+  done-done e = λ at input. rw e
+
+  pub done-failed : a ≡ answer.Failed → DoneAs a false
+  unfolding heardDone answerOf
+  done-failed e = λ at input. rw e
+
+module _ (a : answers.Answer) (number : ℕ) where
+  pub number-number : (n : ℕ) → a ≡ answer.Number n → NumberAs a number (eqb n number)
+  unfolding heardCount answerOf isNumber
+  number-number n e = λ at input. rw e
+
+  pub number-bytes : (size : ℕ) → a ≡ answer.Bytes size → NumberAs a number false
+  unfolding heardCount answerOf isNumber
+  number-bytes size e = λ at input. by-bool (leb (at + size) (length input)) (λ f. rw (e, f)) (λ f. rw (e, f))
+
+  pub number-end : a ≡ answer.End → NumberAs a number false
+  unfolding heardCount answerOf isNumber
+  number-end e = λ at input. rw e
+
+  pub number-done : a ≡ answer.Done → NumberAs a number false
+  unfolding heardCount answerOf isNumber
+  number-done e = λ at input. rw e
+
+  pub number-failed : a ≡ answer.Failed → NumberAs a number false
+  unfolding heardCount answerOf isNumber
+  number-failed e = λ at input. rw e
