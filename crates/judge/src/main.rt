@@ -1,44 +1,32 @@
-// Judges the trace of another run-time on standard input: one line on standard output, `trackable`, `breaks P:K Q:X` or `refused R`. What the verdict is, is said
-// and proved in `judge_trace`. An error of the system is said on standard error, and ends the program.
+// Judges the trace of another run-time on standard input: one line on standard output, `trackable`, `breaks P:K Q:X` or `refused R`. What it asks of the system, and
+// when, is said and proved in `judge_machine`: this program only obeys.
 
-// text.rt: the line of a verdict
-mod text;
-
-use libc::STDOUT_FILENO;
-ghost use Prim.Native.Nat.{_≤_};
+use machines::Request;
 ghost use lib.ListN.{length};
-ghost use Rattle.judge.specs.Text.{longestVerdict, Told};
+ghost use Rattle.machines.specs.Machines.{Ended};
+ghost use Rattle.judge_machine.specs.Judging.{judging};
+ghost use Rattle.judge_machine.specs.Words.{Roomy, stateOf};
 
-// The line on the bytes that were read is put.
-fn put(trace: &[u8], line: &[u8])
-    requires { ⌜ Told (now trace) (now line) ⌝ }
+// Each request is obeyed, and what came of it handed back, until the machine stops.
+fn drive(memory: &mut [u64], input: &mut [u8], out: &mut [u8]) -> Request
+    requires { ⌜ Roomy (length (now memory)) (length (now input)) (length (now out)) ⌝ }
+    ensures { λ r. ⌜ Ended judging (stateOf (now (memory .exit)) (now (input .exit)) (now (out .exit))) ⌝ }
 {
-    let is_written = io::write_all(STDOUT_FILENO, line);
-    if !is_written {
-        os::fail(b"judge: standard output");
+    let mut request = judge_machine::begin(memory, input, out);
+    let mut source = machines::standard_input();
+    while machines::goes_on(request) {
+        let obeyed = machines::obey(request, source, input, out);
+        let answer = obeyed.answer;
+        let next = obeyed.source;
+        source = next;
+        request = judge_machine::step(memory, input, out, answer);
     }
-}
-
-// What stands in front of the input is judged. The buffer has room for more than the 16,389 bytes that settle every verdict (patterns: `long-traces-end`), so
-// what is left unread changes none.
-fn judge(input: &mut [u8], out: &mut [u8])
-    requires { ⌜ longestVerdict ≤ length (now out) ⌝ }
-{
-    let filled = programs::input::fill(input);
-    if filled.failed {
-        os::fail(b"judge: standard input");
-        return;
-    }
-    let held = filled.held;
-    let verdict = judge_trace::judge(&input[..held]);
-    let size = text::write_verdict(out, verdict);
-    put(&input[..held], &out[..size]);
+    request
 }
 
 fn main() {
-    let mut block = io::large_buffer();
-    let mut line = io::buffer();
-    let input: &mut [u8] = &mut block;
-    let out: &mut [u8] = &mut line;
-    judge(input, out);
+    let mut memory = [0u64; 2];
+    let mut input = [0u8; 16389];
+    let mut out = [0u8; 96];
+    drive(&mut memory, &mut input, &mut out);
 }

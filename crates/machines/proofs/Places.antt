@@ -1,6 +1,6 @@
 -- What the places of a request come to, by its kind.
 -- Assumes nothing.
-use mathlib.Core.Path.{_≡_, refl, sym, _∙_, subst}
+use mathlib.Core.Path.{_≡_, refl, sym, _∙_, ap, subst}
 use mathlib.Core.Bool.{true, false}
 use mathlib.Core.List.{List}
 use Prim.Native.Nat.{ℕ, _+_, _-_, _≤_}
@@ -10,7 +10,7 @@ use borrow.Rule.Slice.PartMut.{midOf, putMid, mid-len, take-put, drop-put, same-
 use Rattle.machines.specs.declared.Request as requests
 use Rattle.machines.specs.declared.Request.the-variants as request
 use Rattle.machines.specs.Machines.{Stop}
-use Rattle.machines.specs.Forms.{goesOn, requestOf, Placed, Around, Leaves}
+use Rattle.machines.specs.Forms.{goesOn, requestOf, Placed, Around, Leaves, GoesTo}
 
 pub around-put : (at most : ℕ) (input last : List ℕ) → at + most ≤ length input → length last ≡ length (midOf at (at + most - at) input)
     → Around at most input (putMid at (at + most - at) input last)
@@ -73,3 +73,22 @@ stopped-is (request.Write size) out e = cc
 stopped-is (request.Say size) out e = cc
 stopped-is (request.Fail size) out e = cc
 stopped-is request.Stop out e = refl
+
+-- What stands before the place that bytes go to is as it was.
+around-front : (at most place : ℕ) (before after : List ℕ) → at ≡ place → Around at most before after → (take place after ≡ take place before) × (length after ≡ length before)
+unfolding Around
+around-front at most place before after e h = (ap (λ (k : ℕ). take k after) (sym e) ∙ h .1 ∙ ap (λ (k : ℕ). take k before) e, h .0)
+
+same-front : (place : ℕ) (before after : List ℕ) → after ≡ before → (take place after ≡ take place before) × (length after ≡ length before)
+same-front place before after e = (ap (take place) e, ap length e)
+
+pub leaves-front : (r : requests.Request) (place : ℕ) (before after : List ℕ) → GoesTo r place → Leaves r before after → (take place after ≡ take place before) × (length after ≡ length before)
+unfolding GoesTo Leaves
+leaves-front request.Count place before after g h = same-front place before after h
+leaves-front (request.Argument i at most) place before after g h = around-front at most place before after g h
+leaves-front (request.Open size) place before after g h = same-front place before after h
+leaves-front (request.Read at most) place before after g h = around-front at most place before after g h
+leaves-front (request.Write size) place before after g h = same-front place before after h
+leaves-front (request.Say size) place before after g h = same-front place before after h
+leaves-front (request.Fail size) place before after g h = same-front place before after h
+leaves-front request.Stop place before after g h = same-front place before after h

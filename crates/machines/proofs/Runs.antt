@@ -70,6 +70,32 @@ written-is m answers =
     ∙ written-then (requestsOf (exchanges m answers)) (m .ask (stateAfter m answers) ∷ [])
     ∙ ap (λ (x : List ℕ). writtenOf (requestsOf (exchanges m answers)) ++ x) (written-one (m .ask (stateAfter m answers)))
 
+pub said-is : {S : Type 0} (m : Machine S) (answers : List Answer) → saidOf (asked m answers) ≡ saidOf (requestsOf (exchanges m answers)) ++ said (m .ask (stateAfter m answers))
+said-is m answers =
+    ap saidOf (asked-is m answers)
+    ∙ said-then (requestsOf (exchanges m answers)) (m .ask (stateAfter m answers) ∷ [])
+    ∙ ap (λ (x : List ℕ). saidOf (requestsOf (exchanges m answers)) ++ x) (said-one (m .ask (stateAfter m answers)))
+
+-- One exchange more.
+module _ (talk : List Exchange) (e : Exchange) where
+  pub read-next : readOf (talk ++ (e ∷ [])) ≡ readOf talk ++ readBy (e .request) (e .answer)
+  unfolding readOf
+  read-next = read-then talk (e ∷ []) ∙ ap (λ (x : List ℕ). readOf talk ++ x) (append-nil (readBy (e .request) (e .answer)))
+
+  pub written-next : writtenOf (requestsOf (talk ++ (e ∷ []))) ≡ writtenOf (requestsOf talk) ++ written (e .request)
+  unfolding requestsOf
+  written-next =
+      ap writtenOf (requests-then talk (e ∷ []))
+      ∙ written-then (requestsOf talk) (e .request ∷ [])
+      ∙ ap (λ (x : List ℕ). writtenOf (requestsOf talk) ++ x) (written-one (e .request))
+
+  pub said-next : saidOf (requestsOf (talk ++ (e ∷ []))) ≡ saidOf (requestsOf talk) ++ said (e .request)
+  unfolding requestsOf
+  said-next =
+      ap saidOf (requests-then talk (e ∷ []))
+      ∙ said-then (requestsOf talk) (e .request ∷ [])
+      ∙ ap (λ (x : List ℕ). saidOf (requestsOf talk) ++ x) (said-one (e .request))
+
 -- The first state is reached, and what an answer leads to.
 module _ {S : Type 0} (m : Machine S) where
   state-then : (answers : List Answer) (s : S) (a : Answer) → stateFrom m s (answers ++ (a ∷ [])) ≡ stepped m (stateFrom m s answers) a

@@ -7,7 +7,7 @@ ghost use Prim.Native.Nat.{_≤_, _<_};
 ghost use lib.ListN.{length};
 ghost use Rattle.listing.specs.Printed.{Printed};
 ghost use Rattle.patterns.specs.declared.Verdict.the-variants.{Breaks};
-ghost use Rattle.judge.specs.Text.{verdictText, longestVerdict, Small};
+ghost use Rattle.judge_machine.specs.Text.{verdictText, longestVerdict, Small};
 
 fn write_breaks(out: &mut [u8], p: usize, k: CheckpointIndex, q: usize, x: CheckpointIndex) -> usize
     requires { ⌜ (longestVerdict ≤ length (now out)) × (p < 16) × (q < 16) ⌝ }

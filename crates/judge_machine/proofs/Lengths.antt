@@ -25,7 +25,7 @@ use Rattle.patterns.specs.Verdicts.{countOf, verdict, judgeReport, RightVerdict
 use Rattle.patterns.proofs.Right.{verdict-right}
 use Rattle.model.specs.declared.CheckpointIndex.{CheckpointIndex}
 use Rattle.whole_runs.specs.Listing.{decimal, colon, lineFeed}
-use Rattle.judge.specs.Text.{trackableWord, breaksWord, breaksText, reportText, verdictText, Small}
+use Rattle.judge_machine.specs.Text.{trackableWord, breaksWord, breaksText, reportText, verdictText, Small}
 
 pub pair-short : (p i : ℕ) → length (pairText p i) ≤ 42
 unfolding pairText

@@ -1,12 +1,12 @@
--- `judge::text::write_breaks` meets its contract: its four texts stand one behind the other.
+-- `judge_machine::text::write_breaks` meets its contract: its four texts stand one behind the other.
 -- Assumes nothing.
 use borrow.Author.Needs.{needs}
 use mathlib.Core.Path.{_≡_}
 use native.Mathlib.Omega.{arith}
 use Rattle.listing.proofs.Texts.{then}
-use Rattle.judge.proofs.Lengths.{pair-short, printed-breaks}
-use Rattle.judge.proofs.text.write_breaks.Statement.{statement}
-use Rattle.judge.proofs.text.write_breaks.Tie as tie
+use Rattle.judge_machine.proofs.Lengths.{pair-short, printed-breaks}
+use Rattle.judge_machine.proofs.text.write_breaks.Statement.{statement}
+use Rattle.judge_machine.proofs.text.write_breaks.Tie as tie
 
 write-pair-requires : tie.Need-write-pair-requires
 write-pair-requires c κs = let st = c .before .before .before .before .before .before .before in let a = st .args in let p = c .before .before .before .write-word in let at : p .result ≡ 6 = p .ensures .next-place in omega (arith, at, p .kept .0, st .pre .0, pair-short (a .p) (a .k .0))

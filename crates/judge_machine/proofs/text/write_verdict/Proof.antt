@@ -1,9 +1,9 @@
--- `judge::text::write_verdict` meets its contract, by the verdict.
+-- `judge_machine::text::write_verdict` meets its contract, by the verdict.
 -- Assumes nothing.
 use borrow.Author.Needs.{needs}
-use Rattle.judge.proofs.Lengths.{small-pair, printed-refused, printed-trackable}
-use Rattle.judge.proofs.text.write_verdict.Statement.{statement}
-use Rattle.judge.proofs.text.write_verdict.Tie as tie
+use Rattle.judge_machine.proofs.Lengths.{small-pair, printed-refused, printed-trackable}
+use Rattle.judge_machine.proofs.text.write_verdict.Statement.{statement}
+use Rattle.judge_machine.proofs.text.write_verdict.Tie as tie
 
 write-breaks-requires : tie.Need-write-breaks-requires
 write-breaks-requires c κs = let st = c .before .before .before .before .before in let s = small-pair _ _ _ _ _ (c .before .before .verdict2 .given .1) (st .pre .1) in (st .pre .0, s .0, s .1)

@@ -1,0 +1,21 @@
+-- `judge_machine::wanted` meets its contract.
+-- Assumes nothing.
+use borrow.Author.Needs.{needs}
+use borrow.Author.Tests.{eq-eqb, ne-eqb}
+use Rattle.judge_machine.specs.Judging.{wanted}
+use Rattle.judge_machine.proofs.wanted.Statement.{statement}
+use Rattle.judge_machine.proofs.wanted.Tie as tie
+
+returns : tie.Need-returns
+unfolding wanted
+returns c = rw (eq-eqb _ _ (c .if1 .taken))
+
+sub-result : tie.Need-sub-result
+sub-result c = search needs
+
+returns-2 : tie.Need-returns-2
+unfolding wanted
+returns-2 c = rw (ne-eqb _ _ (c .if1 .left))
+
+pub wanted-spec : {M : Type 1} → statement M
+wanted-spec = tie.close (tie.spec returns sub-result returns-2)

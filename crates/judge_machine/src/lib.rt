@@ -1,0 +1,193 @@
+// The program `judge` as a machine, without input or output: what the system answered goes in, what to ask for next comes out. Its states are said in `specs/Judging`,
+// with the theorem over every list of answers; which state the lent numbers and buffers stand for, in `specs/Words`.
+
+// text.rt: the line of a verdict
+pub mod text;
+
+use machines::Answer;
+use machines::Request;
+use machines::heard;
+use machines::heard::Taken;
+ghost use mathlib.Core.Path.{_≡_};
+ghost use mathlib.Core.List.{List, []};
+ghost use Prim.Native.Nat.{ℕ, _≤_};
+ghost use lib.ListN.{length, take, set};
+ghost use Rattle.machines.specs.Machines.{stepped};
+ghost use Rattle.machines.specs.Forms.{answerOf};
+ghost use Rattle.judge_machine.specs.Judging.{mostRead, wanted, settled, Reading, Telling, Failing, Stopped, telling, onward, judging};
+ghost use Rattle.judge_machine.specs.Words.{Roomy, lacksRoom, stateOf, placeOf, StandsFor};
+
+// The phases. Every other number stands for a machine that has stopped.
+const READING: u64 = 0;
+
+const TELLING: u64 = 1;
+
+const FAILING: u64 = 2;
+
+const STOPPED: u64 = 3;
+
+fn lacks_room(memory: usize, input: usize, out: usize) -> bool
+    ensures { λ r. ⌜ r ≡ lacksRoom memory input out ⌝ }
+{
+    if memory < 2 {
+        return true;
+    }
+    if input < 16389 {
+        return true;
+    }
+    out < 96
+}
+
+fn put(memory: &mut [u64], phase: u64, count: usize)
+    requires { ⌜ 2 ≤ length (now memory) ⌝ }
+    ensures { λ r. ⌜ now (memory .exit) ≡ set (set (now (memory .entry)) 0 phase) 1 count ⌝ }
+{
+    memory[0] = phase;
+    memory[1] = count as u64;
+}
+
+fn stop(memory: &mut [u64]) -> Request
+    requires { ⌜ 2 ≤ length (now memory) ⌝ }
+    ensures { λ r. ⌜ ((input out : List ℕ) → StandsFor (now (memory .exit)) input out r Stopped) ⌝ }
+{
+    put(memory, STOPPED, 0);
+    Request::Stop
+}
+
+// How many bytes are asked for where so many were read.
+fn wanted(held: usize) -> usize
+    requires { ⌜ held ≤ mostRead ⌝ }
+    ensures { λ r. ⌜ r ≡ wanted held ⌝ }
+{
+    if held == 0 {
+        return 1;
+    }
+    16389 - held
+}
+
+// More bytes are asked for, after those that were read.
+fn read_more(memory: &mut [u64], input: &[u8], out: &[u8], held: usize) -> Request
+    requires { ⌜ Roomy (length (now memory)) (length (now input)) (length (now out)) × (held ≤ mostRead) ⌝ }
+    ensures { λ r. ⌜ StandsFor (now (memory .exit)) (now (input .entry)) (now (out .entry)) r (Reading (take held (now (input .entry)))) ⌝ }
+{
+    put(memory, READING, held);
+    let most = wanted(held);
+    Request::Read(held, most)
+}
+
+// The verdict on what was read is told.
+fn tell(memory: &mut [u64], input: &[u8], out: &mut [u8], held: usize) -> Request
+    requires { ⌜ Roomy (length (now memory)) (length (now input)) (length (now out)) × (held ≤ mostRead) ⌝ }
+    ensures { λ r. ⌜ StandsFor (now (memory .exit)) (now (input .entry)) (now (out .exit)) r (telling (take held (now (input .entry)))) ⌝ }
+{
+    let verdict = judge_trace::judge(&input[..held]);
+    let size = text::write_verdict(out, verdict);
+    put(memory, TELLING, size);
+    Request::Write(size)
+}
+
+// What failed is said.
+fn fail(memory: &mut [u64], input: &[u8], out: &mut [u8], name: &[u8]) -> Request
+    requires { ⌜ Roomy (length (now memory)) (length (now input)) (length (now out)) × (length (now name) ≤ 96) ⌝ }
+    ensures { λ r. ⌜ StandsFor (now (memory .exit)) (now (input .entry)) (now (out .exit)) r (Failing (now (name .entry))) ⌝ }
+{
+    let size = programs::text::write_word(out, 0, name);
+    put(memory, FAILING, size);
+    Request::Fail(size)
+}
+
+// Whether no byte that follows can change the verdict on the first bytes of the input.
+fn is_settled(input: &[u8], held: usize) -> bool
+    requires { ⌜ held ≤ length (now input) ⌝ }
+    ensures { λ r. ⌜ r ≡ settled (take held (now (input .entry))) ⌝ }
+{
+    if held == 0 {
+        return false;
+    }
+    if input[0] < 1 {
+        return true;
+    }
+    if 16 < input[0] {
+        return true;
+    }
+    16389 <= held
+}
+
+// More bytes are read unless the verdict is settled.
+fn go_on(memory: &mut [u64], input: &[u8], out: &mut [u8], held: usize) -> Request
+    requires { ⌜ Roomy (length (now memory)) (length (now input)) (length (now out)) × (held ≤ mostRead) ⌝ }
+    ensures { λ r. ⌜ StandsFor (now (memory .exit)) (now (input .entry)) (now (out .exit)) r (onward (take held (now (input .entry)))) ⌝ }
+{
+    if is_settled(input, held) {
+        return tell(memory, input, out, held);
+    }
+    read_more(memory, input, out, held)
+}
+
+// A read is answered.
+fn after_read(
+    memory: &mut [u64],
+    input: &[u8],
+    out: &mut [u8],
+    held: usize,
+    answer: Answer,
+) -> Request
+    requires { ⌜ Roomy (length (now memory)) (length (now input)) (length (now out)) × (held ≤ mostRead) ⌝ }
+    ensures { λ r. ⌜ StandsFor (now (memory .exit)) (now (input .entry)) (now (out .exit)) r (stepped judging (Reading (take held (now (input .entry)))) (answerOf answer held (now (input .entry)))) ⌝ }
+{
+    let taken = heard::read(answer, wanted(held));
+    match taken {
+        Taken::Brought(size) => go_on(memory, input, out, held + size),
+        Taken::Ended => tell(memory, input, out, held),
+        Taken::Failed => fail(memory, input, out, b"judge: standard input"),
+    }
+}
+
+// The line is written, or not.
+fn after_write(
+    memory: &mut [u64],
+    input: &[u8],
+    out: &mut [u8],
+    line: usize,
+    answer: Answer,
+) -> Request
+    requires { ⌜ Roomy (length (now memory)) (length (now input)) (length (now out)) ⌝ }
+    ensures { λ r. ⌜ StandsFor (now (memory .exit)) (now (input .entry)) (now (out .exit)) r (stepped judging (Telling (take line (now (out .entry)))) (answerOf answer line (now (input .entry)))) ⌝ }
+{
+    if heard::is_done(answer) {
+        return stop(memory);
+    }
+    fail(memory, input, out, b"judge: standard output")
+}
+
+// The first state.
+pub fn begin(memory: &mut [u64], input: &[u8], out: &[u8]) -> Request
+    requires { ⌜ Roomy (length (now memory)) (length (now input)) (length (now out)) ⌝ }
+    ensures { λ r. ⌜ StandsFor (now (memory .exit)) (now (input .entry)) (now (out .entry)) r (Reading []) ⌝ }
+{
+    read_more(memory, input, out, 0)
+}
+
+// What the system answered goes in, what to ask for next comes out.
+pub fn step(memory: &mut [u64], input: &[u8], out: &mut [u8], answer: Answer) -> Request
+    ensures { λ r. ⌜ StandsFor (now (memory .exit)) (now (input .entry)) (now (out .exit)) r (stepped judging (stateOf (now (memory .entry)) (now (input .entry)) (now (out .entry))) (answerOf answer (placeOf (now (memory .entry))) (now (input .entry)))) ⌝ }
+{
+    if lacks_room(memory.len(), input.len(), out.len()) {
+        return Request::Stop;
+    }
+    let phase = memory[0];
+    let count = memory[1] as usize;
+    if phase == READING {
+        if 16389 < count {
+            return stop(memory);
+        }
+        return after_read(memory, input, out, count, answer);
+    }
+    if phase == TELLING {
+        if out.len() < count {
+            return stop(memory);
+        }
+        return after_write(memory, input, out, count, answer);
+    }
+    stop(memory)
+}
