@@ -5,15 +5,6 @@ use borrow.Author.Needs.{needs}
 use Rattle.process_words.proofs.disk.bill.Statement.{statement}
 use Rattle.process_words.proofs.disk.bill.Tie as tie
 
-bill-stored-requires : tie.Need-bill-stored-requires
-bill-stored-requires c κs = search needs
-
-bill-deleted-requires : tie.Need-bill-deleted-requires
-bill-deleted-requires c κs = search needs
-
-same-length : tie.Need-same-length
-same-length c = search needs
-
 returns : tie.Need-returns
 returns c =
     let s = c .before .before .before .before .before .before .before .before .before in
@@ -22,4 +13,4 @@ returns c =
     (disk-then (s .args .w .now) _ _ (a .0) (b .0), (b .1 .0 ∙ a .1 .0, rw (← a .1 .1) (b .1 .1)))
 
 pub bill-spec : {M : Type 1} → statement M
-bill-spec = tie.close (tie.spec bill-stored-requires bill-deleted-requires same-length returns)
+bill-spec = tie.close (tie.spec (λ c κs. search needs) (λ c κs. search needs) (λ c. search needs) returns)

@@ -26,20 +26,11 @@ module _ (w : List ℕ) where
   else-billed : (gone blocks : ℕ) → gone ≡ 0 → OnlyDisk w w × ((wide4 w 4 ≡ wide4 w 4) × (wide4 w 8 ≡ wide4 w 8 + gone * blocks))
   else-billed gone blocks none = (disk-stays w, (refl, rw (none, zero-mul blocks) (omega arith)))
 
-wide4-requires : tie.Need-wide4-requires
-wide4-requires c κs = search needs
-
 mul-put4 : tie.Need-mul-put4
 mul-put4 c = let s = c .before .before .before .before .before in let m = small-product (s .args .gone) (s .args .blocks) (s .pre .2) (search needs) in search needs
 
 add-put4 : tie.Need-add-put4
 add-put4 c = let s = c .before .before .before .before .before in let m = small-product (s .args .gone) (s .args .blocks) (s .pre .2) (search needs) in let e = c .before .wide4 .ensures in let p = s .pre .1 in search needs
-
-put4-requires : tie.Need-put4-requires
-put4-requires c κs = search needs
-
-same-length : tie.Need-same-length
-same-length c = search needs
 
 returns : tie.Need-returns
 returns c =
@@ -54,4 +45,4 @@ returns-2 c =
 pub bill-deleted-spec : {M : Type 1} → statement M
 bill-deleted-spec =
     tie.close
-    (tie.spec wide4-requires mul-put4 add-put4 put4-requires same-length returns returns-2)
+    (tie.spec (λ c κs. search needs) mul-put4 add-put4 (λ c κs. search needs) (λ c. search needs) returns returns-2)

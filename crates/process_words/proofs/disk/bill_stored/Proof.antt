@@ -24,18 +24,6 @@ module _ (w : List ℕ) where
   else-billed : (stores : Bool) (blocks : ℕ) → stores ≡ false → OnlyDisk w w × ((wide4 w 4 ≡ wide4 w 4 + pick stores blocks 0) × (wide4 w 8 ≡ wide4 w 8))
   else-billed stores blocks left = rw left (disk-stays w, (omega arith, refl))
 
-wide4-requires : tie.Need-wide4-requires
-wide4-requires c κs = search needs
-
-add-put4 : tie.Need-add-put4
-add-put4 c = search needs
-
-put4-requires : tie.Need-put4-requires
-put4-requires c κs = search needs
-
-same-length : tie.Need-same-length
-same-length c = search needs
-
 returns : tie.Need-returns
 returns c =
     let s = c .before .before .before .before .before .before .before .before in
@@ -49,4 +37,4 @@ returns-2 c =
 
 pub bill-stored-spec : {M : Type 1} → statement M
 bill-stored-spec =
-    tie.close (tie.spec wide4-requires add-put4 put4-requires same-length returns returns-2)
+    tie.close (tie.spec (λ c κs. search needs) (λ c. search needs) (λ c κs. search needs) (λ c. search needs) returns returns-2)

@@ -6,9 +6,6 @@ use borrow.Author.Needs.{needs}
 use Rattle.process_words.proofs.kept.collect.Statement.{statement}
 use Rattle.process_words.proofs.kept.collect.Tie as tie
 
-first-unnamed-requires : tie.Need-first-unnamed-requires
-first-unnamed-requires c κs = search needs
-
 split-requires : tie.Need-split-requires
 split-requires c κs =
     let s = c .before .before .before .before .before .before in
@@ -39,7 +36,7 @@ pub collect-spec : {M : Type 1} → statement M
 collect-spec =
     tie.close
     (tie.spec
-    first-unnamed-requires
+    (λ c κs. search needs)
     split-requires
     clear-from-requires
     same-length

@@ -11,50 +11,8 @@ use borrow.Author.Needs.{needs}
 use Rattle.process_words.proofs.kept.store.Statement.{statement}
 use Rattle.process_words.proofs.kept.store.Tie as tie
 
-pin-word-requires : tie.Need-pin-word-requires
-pin-word-requires c κs = search needs
-
-mul-w : tie.Need-mul-w
-mul-w c = search needs
-
-add-w : tie.Need-add-w
-add-w c = search needs
-
-add-w-2 : tie.Need-add-w-2
-add-w-2 c = search needs
-
-mul-w-2 : tie.Need-mul-w-2
-mul-w-2 c = search needs
-
-slice-write-w : tie.Need-slice-write-w
-slice-write-w c = search needs
-
-mul-w-3 : tie.Need-mul-w-3
-mul-w-3 c = search needs
-
-add-w-3 : tie.Need-add-w-3
-add-w-3 c = search needs
-
-add-w-4 : tie.Need-add-w-4
-add-w-4 c = search needs
-
-mul-w-4 : tie.Need-mul-w-4
-mul-w-4 c = search needs
-
 slice-write-w-2 : tie.Need-slice-write-w-2
 slice-write-w-2 c = simp length-set (omega arith)
-
-mul-put-vector : tie.Need-mul-put-vector
-mul-put-vector c = search needs
-
-add-put-vector : tie.Need-add-put-vector
-add-put-vector c = search needs
-
-mul-put-vector-2 : tie.Need-mul-put-vector-2
-mul-put-vector-2 c = search needs
-
-add-put-vector-2 : tie.Need-add-put-vector-2
-add-put-vector-2 c = search needs
 
 put-vector-requires : tie.Need-put-vector-requires
 put-vector-requires c κs = simp length-set (omega arith)
@@ -69,21 +27,21 @@ pub store-spec : {M : Type 1} → statement M
 store-spec =
     tie.close
     (tie.spec
-    pin-word-requires
-    mul-w
-    add-w
-    add-w-2
-    mul-w-2
-    slice-write-w
-    mul-w-3
-    add-w-3
-    add-w-4
-    mul-w-4
+    (λ c κs. search needs)
+    (λ c. search needs)
+    (λ c. search needs)
+    (λ c. search needs)
+    (λ c. search needs)
+    (λ c. search needs)
+    (λ c. search needs)
+    (λ c. search needs)
+    (λ c. search needs)
+    (λ c. search needs)
     slice-write-w-2
-    mul-put-vector
-    add-put-vector
-    mul-put-vector-2
-    add-put-vector-2
+    (λ c. search needs)
+    (λ c. search needs)
+    (λ c. search needs)
+    (λ c. search needs)
     put-vector-requires
     same-length
     returns)

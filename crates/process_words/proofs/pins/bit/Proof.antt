@@ -7,14 +7,8 @@ use borrow.Author.Needs.{needs}
 use Rattle.process_words.proofs.pins.bit.Statement.{statement}
 use Rattle.process_words.proofs.pins.bit.Tie as tie
 
-cast-result : tie.Need-cast-result
-cast-result c = search needs
-
-shl-result : tie.Need-shl-result
-shl-result c = search needs
-
 returns : tie.Need-returns
 returns c = shl-exact {a = 1} 1 (c .args .f) 16 (omega arith) (omega (arith, c .pre)) ∙ one-mul _
 
 pub bit-spec : {M : Type 1} → statement M
-bit-spec = tie.close (tie.spec cast-result shl-result returns)
+bit-spec = tie.close (tie.spec (λ c. search needs) (λ c. search needs) returns)

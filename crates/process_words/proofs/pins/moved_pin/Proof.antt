@@ -4,9 +4,6 @@ use borrow.Author.Needs.{needs}
 use Rattle.process_words.proofs.pins.moved_pin.Statement.{statement}
 use Rattle.process_words.proofs.pins.moved_pin.Tie as tie
 
-bit-requires : tie.Need-bit-requires
-bit-requires c κs = search needs
-
 returns : tie.Need-returns
 returns c = rw (and-none (c .before .before .args .moves) (c .before .before .args .f) (rw (c .before .bit .ensures) at (c .if1 .taken)))
 
@@ -14,4 +11,4 @@ returns-2 : tie.Need-returns-2
 returns-2 c = rw (and-some (c .before .before .args .moves) (c .before .before .args .f) (λ e. c .if1 .left (rw (c .before .bit .ensures) e)))
 
 pub moved-pin-spec : {M : Type 1} → statement M
-moved-pin-spec = tie.close (tie.spec bit-requires returns returns-2)
+moved-pin-spec = tie.close (tie.spec (λ c κs. search needs) returns returns-2)

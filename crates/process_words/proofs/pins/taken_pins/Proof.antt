@@ -18,14 +18,8 @@ moved-same : (rose i : ℕ) (pins : List ℕ) (own : ℕ) → movedRow (inSet (b
 unfolding movedRow risenOrOwn
 moved-same rose i pins own = table-same 16 _ _ (λ f lt. ap (λ (b : Bool). pick b own (getD pins f 0)) (with-one rose i f))
 
-bit-requires : tie.Need-bit-requires
-bit-requires c κs = search needs
-
-move-pins-requires : tie.Need-move-pins-requires
-move-pins-requires c κs = search needs
-
 returns : tie.Need-returns
 returns c = c .move-pins .ensures ∙ ap (λ (x : ℕ). movedRow (inSet (bitOr (c .before .before .args .rose) x)) (c .before .before .args .pins) (c .before .before .args .own)) (c .before .bit .ensures) ∙ moved-same (c .before .before .args .rose) (c .before .before .args .i) (c .before .before .args .pins) (c .before .before .args .own)
 
 pub taken-pins-spec : {M : Type 1} → statement M
-taken-pins-spec = tie.close (tie.spec bit-requires move-pins-requires returns)
+taken-pins-spec = tie.close (tie.spec (λ c κs. search needs) (λ c κs. search needs) returns)

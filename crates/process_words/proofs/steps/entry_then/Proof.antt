@@ -9,8 +9,5 @@ add-t5 c = let h = c .before .before .pre (c .before .if1 .taken) in search need
 returns : tie.Need-returns
 returns c = rw (c .before .if1 .taken)
 
-returns-2 : tie.Need-returns-2
-returns-2 c = search needs
-
 pub entry-then-spec : {M : Type 1} → statement M
-entry-then-spec = tie.close (tie.spec add-t5 returns returns-2)
+entry-then-spec = tie.close (tie.spec add-t5 returns (λ c. search needs))

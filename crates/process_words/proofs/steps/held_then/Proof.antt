@@ -4,15 +4,6 @@ use borrow.Author.Needs.{needs}
 use Rattle.process_words.proofs.steps.held_then.Statement.{statement}
 use Rattle.process_words.proofs.steps.held_then.Tie as tie
 
-cast-result : tie.Need-cast-result
-cast-result c = search needs
-
-add-result : tie.Need-add-result
-add-result c = search needs
-
-cast-result-2 : tie.Need-cast-result-2
-cast-result-2 c = search needs
-
 returns : tie.Need-returns
 returns c = rw (c .if1 .taken)
 
@@ -20,4 +11,4 @@ returns-2 : tie.Need-returns-2
 returns-2 c = rw (c .if1 .left) (omega arith)
 
 pub held-then-spec : {M : Type 1} → statement M
-held-then-spec = tie.close (tie.spec cast-result add-result cast-result-2 returns returns-2)
+held-then-spec = tie.close (tie.spec (λ c. search needs) (λ c. search needs) (λ c. search needs) returns returns-2)

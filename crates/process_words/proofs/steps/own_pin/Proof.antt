@@ -9,8 +9,5 @@ pin-word-requires c κs = c .before .pre (c .if1 .taken)
 returns : tie.Need-returns
 returns c = rw (c .before .if1 .taken) (c .pin-word .ensures .0)
 
-returns-2 : tie.Need-returns-2
-returns-2 c = search needs
-
 pub own-pin-spec : {M : Type 1} → statement M
-own-pin-spec = tie.close (tie.spec pin-word-requires returns returns-2)
+own-pin-spec = tie.close (tie.spec pin-word-requires returns (λ c. search needs))

@@ -43,36 +43,6 @@ gone-is w size i room r p e most =
 long : (c : tie.Start) → length (c .args .vector) ≡ 16
 long c = search needs
 
-add-held : tie.Need-add-held
-add-held c = search needs
-
-mul-held : tie.Need-mul-held
-mul-held c = search needs
-
-slice-read-held : tie.Need-slice-read-held
-slice-read-held c = search needs
-
-cast-held : tie.Need-cast-held
-cast-held c = search needs
-
-add-blocks : tie.Need-add-blocks
-add-blocks c = search needs
-
-mul-blocks : tie.Need-mul-blocks
-mul-blocks c = search needs
-
-slice-read-blocks : tie.Need-slice-read-blocks
-slice-read-blocks c = search needs
-
-mul-put-row : tie.Need-mul-put-row
-mul-put-row c = search needs
-
-add-put-row : tie.Need-add-put-row
-add-put-row c = search needs
-
-put-row-requires : tie.Need-put-row-requires
-put-row-requires c κs = search needs
-
 collect-requires : tie.Need-collect-requires
 collect-requires c κs =
     let s = c .before .before .before .before .before .before .before .before .before .before in
@@ -99,21 +69,6 @@ store-if-requires c κs =
       λ stores. (few (s .args .w .now) (s .pre .0 .0) (s .args .i) (s .pre .0 .1) (s .args .pins) (c .before .before .before .before .before .before .before .before .before .before .put-row .last .0) (c .before .before .before .before .before .before .before .before .before .before .put-row .ensures) (s .pre .1 .0 .1) (t .last .0) (t .result) (t .ensures .0) (s .pre .1 .1 .0 stores), s .pre .0 .2 stores),
     )
 
-held-then-requires : tie.Need-held-then-requires
-held-then-requires c κs = search needs
-
-add-w : tie.Need-add-w
-add-w c = search needs
-
-mul-w : tie.Need-mul-w
-mul-w c = search needs
-
-slice-write-w : tie.Need-slice-write-w
-slice-write-w c = search needs
-
-sub-bill : tie.Need-sub-bill
-sub-bill c = search needs
-
 bill-requires : tie.Need-bill-requires
 bill-requires c κs =
     let s = c .before .before .before .before .before .before .before .before .before .before .before .before .before .before .before .before .before .before .before .before .before in
@@ -123,9 +78,6 @@ bill-requires c κs =
       rw (d .1) (s .pre .0 .4),
       omega (arith, s .pre .1 .0 .1),
     )
-
-sub-result : tie.Need-sub-result
-sub-result c = search needs
 
 same-length : tie.Need-same-length
 same-length c = c .before .before .bill .kept .0 ∙ simp length-set (c .before .before .before .before .before .before .before .store-if .kept .0 ∙ c .before .before .before .before .before .before .before .before .before .before .before .before .before .collect .kept .0 ∙ c .before .before .before .before .before .before .before .before .before .before .before .before .before .before .before .before .before .before .put-row .kept .0)
@@ -150,25 +102,25 @@ pub settle-spec : {M : Type 1} → statement M
 settle-spec =
     tie.close
     (tie.spec
-    add-held
-    mul-held
-    slice-read-held
-    cast-held
-    add-blocks
-    mul-blocks
-    slice-read-blocks
-    mul-put-row
-    add-put-row
-    put-row-requires
+    (λ c. search needs)
+    (λ c. search needs)
+    (λ c. search needs)
+    (λ c. search needs)
+    (λ c. search needs)
+    (λ c. search needs)
+    (λ c. search needs)
+    (λ c. search needs)
+    (λ c. search needs)
+    (λ c κs. search needs)
     collect-requires
     store-if-requires
-    held-then-requires
-    add-w
-    mul-w
-    slice-write-w
-    sub-bill
+    (λ c κs. search needs)
+    (λ c. search needs)
+    (λ c. search needs)
+    (λ c. search needs)
+    (λ c. search needs)
     bill-requires
-    sub-result
+    (λ c. search needs)
     same-length
     same-length-2
     returns)

@@ -14,12 +14,6 @@ use Rattle.process_words.proofs.steps.store_if.Tie as tie
 store-requires : tie.Need-store-requires
 store-requires c κs = let p = c .before .before .before .pre in let q = p .2 (c .before .if1 .taken) in (p .0, p .1, q .0, q .1)
 
-add-w : tie.Need-add-w
-add-w c = search needs
-
-mul-w : tie.Need-mul-w
-mul-w c = search needs
-
 slice-write-w : tie.Need-slice-write-w
 slice-write-w c = omega (arith, c .before .before .store .kept .0, c .before .before .before .before .before .before .pre .0)
 
@@ -29,9 +23,6 @@ same-length c = simp length-set (c .before .before .store .kept .0)
 returns : tie.Need-returns
 returns c = rw (c .before .before .before .before .if1 .taken) (set-is-put _ _ _ ∙ ap (λ (u : List ℕ). putFrom u (markAt (c .before .before .before .before .before .before .args .i)) 1 (λ f. 0)) (c .before .before .store .ensures))
 
-returns-2 : tie.Need-returns-2
-returns-2 c = search needs
-
 pub store-if-spec : {M : Type 1} → statement M
 store-if-spec =
-    tie.close (tie.spec store-requires add-w mul-w slice-write-w same-length returns returns-2)
+    tie.close (tie.spec store-requires (λ c. search needs) (λ c. search needs) slice-write-w same-length returns (λ c. search needs))

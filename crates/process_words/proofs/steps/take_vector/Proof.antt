@@ -42,25 +42,10 @@ module _ (w : List ℕ) where
     d ∙ ap (λ (x : List ℕ). risen (vectorIn x (partAt i)) carried) a,
   )
 
-mul-put-vector : tie.Need-mul-put-vector
-mul-put-vector c = search needs
-
-add-put-vector : tie.Need-add-put-vector
-add-put-vector c = search needs
-
 advanced-requires : tie.Need-advanced-requires
 advanced-requires c κs =
     let s = c .before .before .before in
     (s .pre .1, s .pre .3 (c .before .if1 .taken))
-
-put-vector-requires : tie.Need-put-vector-requires
-put-vector-requires c κs = search needs
-
-mul-take-in : tie.Need-mul-take-in
-mul-take-in c = search needs
-
-add-take-in : tie.Need-add-take-in
-add-take-in c = search needs
 
 take-in-requires : tie.Need-take-in-requires
 take-in-requires c κs =
@@ -86,12 +71,12 @@ pub take-vector-spec : {M : Type 1} → statement M
 take-vector-spec =
     tie.close
     (tie.spec
-    mul-put-vector
-    add-put-vector
+    (λ c. search needs)
+    (λ c. search needs)
     advanced-requires
-    put-vector-requires
-    mul-take-in
-    add-take-in
+    (λ c κs. search needs)
+    (λ c. search needs)
+    (λ c. search needs)
     take-in-requires
     same-length
     returns)

@@ -8,12 +8,6 @@ use borrow.Author.Needs.{needs}
 use Rattle.process_words.proofs.taking_in.bit_if_risen.Statement.{statement}
 use Rattle.process_words.proofs.taking_in.bit_if_risen.Tie as tie
 
-cast-result : tie.Need-cast-result
-cast-result c = search needs
-
-shl-result : tie.Need-shl-result
-shl-result c = search needs
-
 returns : tie.Need-returns
 returns c =
     let u = c .before .before .before in
@@ -23,4 +17,4 @@ returns-2 : tie.Need-returns-2
 returns-2 c = rw (le-ltb _ _ (c .if1 .left))
 
 pub bit-if-risen-spec : {M : Type 1} → statement M
-bit-if-risen-spec = tie.close (tie.spec cast-result shl-result returns returns-2)
+bit-if-risen-spec = tie.close (tie.spec (λ c. search needs) (λ c. search needs) returns returns-2)

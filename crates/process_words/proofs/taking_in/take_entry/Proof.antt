@@ -27,42 +27,6 @@ written w at carried f rose less own most b o m e =
     let sum : bitOr rose b ≡ rose + risenBit w at carried f = ap (bitOr rose) is ∙ or-risen w at carried f rose less in
     (set-is-put w (at + f) (most .0) ∙ ap (λ (x : ℕ). puts w (one (at + f) x ∷ [])) here, sum, rw sum (risen-less w at carried f rose less))
 
-add-interval-of : tie.Need-add-interval-of
-add-interval-of c = search needs
-
-mul-interval-of : tie.Need-mul-interval-of
-mul-interval-of c = search needs
-
-slice-read-interval-of : tie.Need-slice-read-interval-of
-slice-read-interval-of c = search needs
-
-interval-of-requires : tie.Need-interval-of-requires
-interval-of-requires c κs = search needs
-
-mul-other : tie.Need-mul-other
-mul-other c = search needs
-
-array-copy-out-other : tie.Need-array-copy-out-other
-array-copy-out-other c = search needs
-
-greater-requires : tie.Need-greater-requires
-greater-requires c κs = search needs
-
-add-w : tie.Need-add-w
-add-w c = search needs
-
-mul-w : tie.Need-mul-w
-mul-w c = search needs
-
-slice-write-w : tie.Need-slice-write-w
-slice-write-w c = search needs
-
-bit-if-risen-requires : tie.Need-bit-if-risen-requires
-bit-if-risen-requires c κs = search needs
-
-same-length : tie.Need-same-length
-same-length c = search needs
-
 returns : tie.Need-returns
 returns c =
     let u = c .before .before .before .before .before .before in
@@ -75,16 +39,16 @@ pub take-entry-spec : {M : Type 1} → statement M
 take-entry-spec =
     tie.close
     (tie.spec
-    add-interval-of
-    mul-interval-of
-    slice-read-interval-of
-    interval-of-requires
-    mul-other
-    array-copy-out-other
-    greater-requires
-    add-w
-    mul-w
-    slice-write-w
-    bit-if-risen-requires
-    same-length
+    (λ c. search needs)
+    (λ c. search needs)
+    (λ c. search needs)
+    (λ c κs. search needs)
+    (λ c. search needs)
+    (λ c. search needs)
+    (λ c κs. search needs)
+    (λ c. search needs)
+    (λ c. search needs)
+    (λ c. search needs)
+    (λ c κs. search needs)
+    (λ c. search needs)
     returns)

@@ -16,27 +16,12 @@ small p q n two few hp = omega (arith, mod-lt q {m = n - 1} (omega arith))
 below : (p q n : ℕ) → 2 ≤ n → n ≤ 16 → (p + 1 + q % (n - 1)) % n < 16
 below p q n two few = omega (arith, mod-lt (p + 1 + q % (n - 1)) {m = n} (omega arith))
 
-cast-half : tie.Need-cast-half
-cast-half c = search needs
-
-add-result : tie.Need-add-result
-add-result c = search needs
-
-sub-result : tie.Need-sub-result
-sub-result c = search needs
-
-rem-result : tie.Need-rem-result
-rem-result c = search needs
-
 add-result-2 : tie.Need-add-result-2
 add-result-2 c = record { fits = small (c .args .p) (c .args .d / 2) (c .args .n) (search needs) (search needs) (search needs) }
-
-rem-result-2 : tie.Need-rem-result-2
-rem-result-2 c = search needs
 
 returns : tie.Need-returns
 unfolding chosenReceiver
 returns c = (refl, below (c .args .p) (c .args .d / 2) (c .args .n) (search needs) (search needs))
 
 pub chosen-receiver-spec : {M : Type 1} → statement M
-chosen-receiver-spec = tie.close (tie.spec cast-half add-result sub-result rem-result add-result-2 rem-result-2 returns)
+chosen-receiver-spec = tie.close (tie.spec (λ c. search needs) (λ c. search needs) (λ c. search needs) (λ c. search needs) add-result-2 (λ c. search needs) returns)

@@ -16,11 +16,5 @@ below k {a} {b} ha hb =
 mul-result : tie.Need-mul-result
 mul-result c = record { fits = below 32 (search needs) (search needs) }
 
-cast-result : tie.Need-cast-result
-cast-result c = search needs
-
-returns : tie.Need-returns
-returns c = search needs
-
 pub low-product-spec : {M : Type 1} → statement M
-low-product-spec = tie.close (tie.spec mul-result cast-result returns)
+low-product-spec = tie.close (tie.spec mul-result (λ c. search needs) (λ c. search needs))

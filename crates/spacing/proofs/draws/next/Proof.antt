@@ -8,12 +8,6 @@ use Rattle.spacing.specs.Spacing.{generated}
 use Rattle.spacing.proofs.draws.next.Statement.{statement}
 use Rattle.spacing.proofs.draws.next.Tie as tie
 
-low-product-requires : tie.Need-low-product-requires
-low-product-requires c κs = search needs
-
-wrapping-add-u32-requires : tie.Need-wrapping-add-u32-requires
-wrapping-add-u32-requires c κs = search needs
-
 wraps : (x r s : ℕ) → r ≡ x * 1664525 % 4294967296 → s ≡ (r + 1013904223) % 2 ^ 32 → s ≡ generated x
 unfolding generated
 wraps x r s e h = omega arith
@@ -22,4 +16,4 @@ returns : tie.Need-returns
 returns c = wraps (c .before .before .args .x) (c .before .low-product .result) (c .wrapping-add-u32 .result) (c .before .low-product .ensures) (c .wrapping-add-u32 .ensures)
 
 pub next-spec : {M : Type 1} → statement M
-next-spec = tie.close (tie.spec low-product-requires wrapping-add-u32-requires returns)
+next-spec = tie.close (tie.spec (λ c κs. search needs) (λ c κs. search needs) returns)

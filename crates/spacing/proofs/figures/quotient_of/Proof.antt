@@ -6,12 +6,6 @@ use Rattle.spacing.specs.Spacing.{quotientOf}
 use Rattle.spacing.proofs.figures.quotient_of.Statement.{statement}
 use Rattle.spacing.proofs.figures.quotient_of.Tie as tie
 
-mul-result : tie.Need-mul-result
-mul-result c = search needs
-
-div-result : tie.Need-div-result
-div-result c = search needs
-
 returns : tie.Need-returns
 unfolding quotientOf
 returns c = rw (eq-eqb _ _ (c .if1 .taken))
@@ -21,4 +15,4 @@ unfolding quotientOf
 returns-2 c = rw (ne-eqb _ _ (c .if1 .left))
 
 pub quotient-of-spec : {M : Type 1} → statement M
-quotient-of-spec = tie.close (tie.spec mul-result div-result returns returns-2)
+quotient-of-spec = tie.close (tie.spec (λ c. search needs) (λ c. search needs) returns returns-2)

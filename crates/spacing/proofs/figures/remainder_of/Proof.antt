@@ -6,12 +6,6 @@ use Rattle.spacing.specs.Spacing.{remainderOf}
 use Rattle.spacing.proofs.figures.remainder_of.Statement.{statement}
 use Rattle.spacing.proofs.figures.remainder_of.Tie as tie
 
-mul-result : tie.Need-mul-result
-mul-result c = search needs
-
-rem-result : tie.Need-rem-result
-rem-result c = search needs
-
 returns : tie.Need-returns
 unfolding remainderOf
 returns c = rw (eq-eqb _ _ (c .if1 .taken))
@@ -21,4 +15,4 @@ unfolding remainderOf
 returns-2 c = rw (ne-eqb _ _ (c .if1 .left))
 
 pub remainder-of-spec : {M : Type 1} → statement M
-remainder-of-spec = tie.close (tie.spec mul-result rem-result returns returns-2)
+remainder-of-spec = tie.close (tie.spec (λ c. search needs) (λ c. search needs) returns returns-2)
