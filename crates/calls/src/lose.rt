@@ -27,6 +27,6 @@ pub fn lose(s: Run, m: u32) -> LoseOutcome
         return LoseOutcome { run: s, answer };
     }
     let answer = in_place::lose::lose_on(&mut w, m);
-    let run = run_words::read::read(&w);
+    let run = run_words::read::read_lost(&w, s);
     LoseOutcome { run, answer }
 }

@@ -27,6 +27,6 @@ pub fn send(s: Run, i: usize, j: usize) -> SendOutcome
         return SendOutcome { run: s, answer };
     }
     let answer = in_place::send::send_on(&mut w, i, j);
-    let run = run_words::read::read(&w);
+    let run = run_words::read::read_sent(&w, s);
     SendOutcome { run, answer }
 }

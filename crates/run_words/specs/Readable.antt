@@ -4,6 +4,7 @@ use mathlib.Core.Path.{_≡_}
 use mathlib.Core.Bool.{true}
 use mathlib.Core.List.{List}
 use Prim.Native.Nat.{ℕ, _≤_, _<_}
+use Rattle.model.specs.declared.Run.{Run}
 use Rattle.words.specs.Layout.{word, countOf, causeAt, isKeptIn, fits}
 
 pub record Readable (w : List ℕ) : Type 0 where
@@ -12,3 +13,32 @@ pub record Readable (w : List ℕ) : Type 0 where
   pub few : countOf w ≤ 16
   -- and a cause is a number of 8 bits.
   pub causes : (p k : ℕ) → p < countOf w → k < 16 → isKeptIn w p k ≡ true → word w (causeAt p k) < 256
+
+-- What a send and what a loss changes of a run s, taken from the run r after it.
+unfoldable pub afterSend : Run → Run → Run
+afterSend s r = record {
+  count = s .count;
+  vectors = s .vectors;
+  pins = s .pins;
+  sent = r .sent;
+  kept = s .kept;
+  held = s .held;
+  messages = r .messages;
+  underway = r .underway;
+  last = r .last;
+  disk = s .disk;
+}
+
+unfoldable pub afterLose : Run → Run → Run
+afterLose s r = record {
+  count = s .count;
+  vectors = s .vectors;
+  pins = s .pins;
+  sent = s .sent;
+  kept = s .kept;
+  held = s .held;
+  messages = r .messages;
+  underway = r .underway;
+  last = s .last;
+  disk = s .disk;
+}

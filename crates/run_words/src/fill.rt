@@ -320,10 +320,10 @@ pub fn fill(w: &mut [u16], s: Run) -> bool
     let sent = s.sent;
     let held = s.held;
     let messages = s.messages;
-    let kept = rows::squares::kept_rows(s.kept);
-    let places_fit = put_kept(w, kept, held);
     let vectors = rows::squares::vector_rows(s.vectors);
     let pins = rows::squares::pin_rows(s.pins);
+    let kept = rows::squares::kept_rows(s.kept);
+    let places_fit = put_kept(w, kept, held);
     let rows_fit = put_rows(w, n, vectors, pins, held, sent);
     let messages_fit = put_messages(w, messages, many);
     put_numbers(w, n, many, s.last, s.disk);

@@ -13,7 +13,7 @@ ghost use lib.ListN.{length};
 ghost use Rattle.laws.specs.Lists.{placed};
 ghost use Rattle.model.specs.Words.{mostUnderWay, zeroVector, noPins, noMessage};
 ghost use Rattle.words.specs.Layout.{word, wide4, countOf, endOf, heldAt, partAt, pinsAt, indexAt, causeAt, vectorIn, pinsIn, markIn, checkpointIn, isKeptIn, messageIn, messagesIn, ofProcesses, runOf};
-ghost use Rattle.run_words.specs.Readable.{Readable};
+ghost use Rattle.run_words.specs.Readable.{Readable, afterSend, afterLose};
 
 fn pins_at(w: &[u16], at: usize) -> [Pin; 16]
     requires { ⌜ at + 16 ≤ length (now w) ⌝ }
@@ -209,5 +209,39 @@ pub fn read(w: &[u16]) -> Run
         underway,
         last,
         disk,
+    }
+}
+
+// What a send changes, read back: the sent marks, the messages and the last number. The rest comes from the state that the words were filled from.
+pub fn read_sent(w: &[u16], s: Run) -> Run
+    requires { ⌜ Readable (now w) × (runOf (now w) ≡ afterSend s (runOf (now w))) ⌝ }
+    ensures { λ r. ⌜ r ≡ runOf (now (w .entry)) ⌝ }
+{
+    let sent = marks_of(w, s.count);
+    let end = number_of(w[places::END]);
+    let messages = messages_of(w, end);
+    let last = words::wide2(w, places::LAST);
+    let underway = number_of(w[places::UNDER_WAY]);
+    Run {
+        sent,
+        messages,
+        underway,
+        last,
+        ..s
+    }
+}
+
+// What a loss changes, read back: the messages.
+pub fn read_lost(w: &[u16], s: Run) -> Run
+    requires { ⌜ Readable (now w) × (runOf (now w) ≡ afterLose s (runOf (now w))) ⌝ }
+    ensures { λ r. ⌜ r ≡ runOf (now (w .entry)) ⌝ }
+{
+    let end = number_of(w[places::END]);
+    let messages = messages_of(w, end);
+    let underway = number_of(w[places::UNDER_WAY]);
+    Run {
+        messages,
+        underway,
+        ..s
     }
 }

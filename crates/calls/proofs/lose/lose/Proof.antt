@@ -1,7 +1,7 @@
 -- `calls::lose::lose` meets its contract: a state that does not fit its words, or whose words stand for no sound one, is refused with 2; on others the call in place
 -- does it. Demand 3 is the theorem of `whole_runs`.
 -- Assumes nothing.
-use mathlib.Core.Path.{_≡_, _∙_, ap}
+use mathlib.Core.Path.{_≡_, sym, _∙_, ap}
 use mathlib.Core.Bool.{true}
 use borrow.Author.Needs.{needs}
 use Rattle.model.specs.declared.Run.{Run}
@@ -10,8 +10,10 @@ use Rattle.words.specs.Layout.{runOf}
 use Rattle.whole_runs.specs.Outcomes.{loseOutcome}
 use Rattle.whole_runs.proofs.Unsound.{lose-unsound}
 use Rattle.whole_runs.proofs.WholeRuns.{lose-promise}
+use Rattle.run_words.specs.Readable.{afterLose}
 use Rattle.run_words.proofs.Sizes.{sizes}
 use Rattle.calls.proofs.Changing.{sound-small, small-readable, lose-small, filled-sound, filled-unsound}
+use Rattle.calls.proofs.Leaving.{lose-leaves}
 use Rattle.calls.proofs.lose.lose.Statement.{statement}
 use Rattle.calls.proofs.lose.lose.Tie as tie
 
@@ -36,14 +38,16 @@ returns c =
 lose-on-requires : tie.Need-lose-on-requires
 lose-on-requires c κs = let r = ready (c .before) in ap sound (r .0) ∙ r .1
 
-read-requires : tie.Need-read-requires
-read-requires c κs =
+read-lost-requires : tie.Need-read-lost-requires
+read-lost-requires c κs =
     let o = c .before .before in
     let e = o .before .before in
     let s = e .before .before .before .before .before .before in
     let a = s .args in
     let r = ready e in
-    small-readable _ (loseOutcome (a .s) (a .m) .run) (o .lose-on .ensures .0 ∙ ap (λ (x : Run). loseOutcome x (a .m) .run) (r .0)) (lose-small (a .s) (a .m) (sound-small (a .s) (sizes (a .s) _ (s .good .0)) (r .1)))
+    let z = sizes (a .s) _ (s .good .0) in
+    let run = o .lose-on .ensures .0 ∙ ap (λ (x : Run). loseOutcome x (a .m) .run) (r .0) in
+    (small-readable _ (loseOutcome (a .s) (a .m) .run) run (lose-small (a .s) (a .m) (sound-small (a .s) z (r .1))), run ∙ lose-leaves (a .s) (a .m) ∙ sym (ap (afterLose (a .s)) run))
 
 returns-2 : tie.Need-returns-2
 returns-2 c =
@@ -51,8 +55,8 @@ returns-2 c =
     let e = o .before .before in
     let a = e .before .before .before .before .before .before .args in
     let r = ready e in
-    let run = c .read .ensures ∙ o .lose-on .ensures .0 ∙ ap (λ (x : Run). loseOutcome x (a .m) .run) (r .0) in
-    (run, (o .lose-on .ensures .1 .0 ∙ ap (λ (x : Run). loseOutcome x (a .m) .answer) (r .0), lose-promise (a .s) (a .m) (c .read .result) run))
+    let run = c .read-lost .ensures ∙ o .lose-on .ensures .0 ∙ ap (λ (x : Run). loseOutcome x (a .m) .run) (r .0) in
+    (run, (o .lose-on .ensures .1 .0 ∙ ap (λ (x : Run). loseOutcome x (a .m) .answer) (r .0), lose-promise (a .s) (a .m) (c .read-lost .result) run))
 
 pub lose-spec : {M : Type 1} → statement M
 lose-spec =
@@ -63,5 +67,5 @@ lose-spec =
     (λ c. search needs)
     lose-on-requires
     (λ c. search needs)
-    read-requires
+    read-lost-requires
     returns-2)

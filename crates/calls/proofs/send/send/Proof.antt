@@ -1,7 +1,7 @@
 -- `calls::send::send` meets its contract: a state that does not fit its words, or whose words stand for no sound one, is refused with 2; on others the call in place
 -- does it. Demand 3 is the theorem of `whole_runs`.
 -- Assumes nothing.
-use mathlib.Core.Path.{_≡_, _∙_, ap}
+use mathlib.Core.Path.{_≡_, sym, _∙_, ap}
 use mathlib.Core.Bool.{true}
 use borrow.Author.Needs.{needs}
 use Rattle.model.specs.declared.Run.{Run}
@@ -10,8 +10,10 @@ use Rattle.words.specs.Layout.{runOf}
 use Rattle.whole_runs.specs.Outcomes.{sendOutcome}
 use Rattle.whole_runs.proofs.Unsound.{send-unsound}
 use Rattle.whole_runs.proofs.WholeRuns.{send-promise}
+use Rattle.run_words.specs.Readable.{afterSend}
 use Rattle.run_words.proofs.Sizes.{sizes}
 use Rattle.calls.proofs.Changing.{sound-small, small-readable, send-small, filled-sound, filled-unsound}
+use Rattle.calls.proofs.Leaving.{send-leaves}
 use Rattle.calls.proofs.send.send.Statement.{statement}
 use Rattle.calls.proofs.send.send.Tie as tie
 
@@ -36,14 +38,16 @@ returns c =
 send-on-requires : tie.Need-send-on-requires
 send-on-requires c κs = let r = ready (c .before) in ap sound (r .0) ∙ r .1
 
-read-requires : tie.Need-read-requires
-read-requires c κs =
+read-sent-requires : tie.Need-read-sent-requires
+read-sent-requires c κs =
     let o = c .before .before in
     let e = o .before .before in
     let s = e .before .before .before .before .before .before in
     let a = s .args in
     let r = ready e in
-    small-readable _ (sendOutcome (a .s) (a .i) (a .j) .run) (o .send-on .ensures .0 ∙ ap (λ (x : Run). sendOutcome x (a .i) (a .j) .run) (r .0)) (send-small (a .s) (a .i) (a .j) (sound-small (a .s) (sizes (a .s) _ (s .good .0)) (r .1)))
+    let z = sizes (a .s) _ (s .good .0) in
+    let run = o .send-on .ensures .0 ∙ ap (λ (x : Run). sendOutcome x (a .i) (a .j) .run) (r .0) in
+    (small-readable _ (sendOutcome (a .s) (a .i) (a .j) .run) run (send-small (a .s) (a .i) (a .j) (sound-small (a .s) z (r .1))), run ∙ send-leaves (a .s) z (r .1) (a .i) (a .j) ∙ sym (ap (afterSend (a .s)) run))
 
 returns-2 : tie.Need-returns-2
 returns-2 c =
@@ -51,8 +55,8 @@ returns-2 c =
     let e = o .before .before in
     let a = e .before .before .before .before .before .before .args in
     let r = ready e in
-    let run = c .read .ensures ∙ o .send-on .ensures .0 ∙ ap (λ (x : Run). sendOutcome x (a .i) (a .j) .run) (r .0) in
-    (run, (o .send-on .ensures .1 .0 ∙ ap (λ (x : Run). sendOutcome x (a .i) (a .j) .answer) (r .0), send-promise (a .s) (a .i) (a .j) (c .read .result) run))
+    let run = c .read-sent .ensures ∙ o .send-on .ensures .0 ∙ ap (λ (x : Run). sendOutcome x (a .i) (a .j) .run) (r .0) in
+    (run, (o .send-on .ensures .1 .0 ∙ ap (λ (x : Run). sendOutcome x (a .i) (a .j) .answer) (r .0), send-promise (a .s) (a .i) (a .j) (c .read-sent .result) run))
 
 pub send-spec : {M : Type 1} → statement M
 send-spec =
@@ -63,5 +67,5 @@ send-spec =
     (λ c. search needs)
     send-on-requires
     (λ c. search needs)
-    read-requires
+    read-sent-requires
     returns-2)

@@ -15,16 +15,16 @@ returns-2 c = refused (c .before .before .before .args .s) _ (many-messages (c .
 
 -- How many words there are after each step.
 after-kept : (c : tie.After-put-kept) → length (c .put-kept .last .0) ≡ 6464
-after-kept c = c .put-kept .kept .0 ∙ c .before .before .before .before .before .before .before .before .before .pre
+after-kept c = c .put-kept .kept .0 ∙ c .before .before .before .before .before .before .before .before .before .before .before .pre
 
 after-rows : (c : tie.After-put-rows) → length (c .put-rows .last .0) ≡ 6464
-after-rows c = c .put-rows .kept .0 ∙ after-kept (c .before .before .before .before .before .before)
+after-rows c = c .put-rows .kept .0 ∙ after-kept (c .before .before .before .before)
 
 after-messages : (c : tie.After-put-messages) → length (c .put-messages .last .0) ≡ 6464
 after-messages c = c .put-messages .kept .0 ∙ after-rows (c .before .before .before .before)
 
 put-rows-requires : tie.Need-put-rows-requires
-put-rows-requires c κs = after-kept (c .before .before .before .before .before)
+put-rows-requires c κs = after-kept (c .before .before .before)
 
 put-messages-requires : tie.Need-put-messages-requires
 put-messages-requires c κs = after-rows (c .before .before .before)
@@ -37,7 +37,7 @@ same-length c =
     let n = c .before .before in
     let m = n .before .before .before .before in
     let r = m .before .before .before .before in
-    let k = r .before .before .before .before .before .before in
+    let k = r .before .before .before .before in
     n .put-numbers .kept .0 ∙ m .put-messages .kept .0 ∙ r .put-rows .kept .0 ∙ k .put-kept .kept .0
 
 returns-3 : tie.Need-returns-3
@@ -45,10 +45,10 @@ returns-3 c =
     let n = c .before .before in
     let m = n .before .before .before .before in
     let r = m .before .before .before .before in
-    let p = r .before .before in
-    let k = p .before .before .before .before in
+    let k = r .before .before .before .before in
     let o = k .before .before in
-    let e = o .before .before .before .before in
+    let p = o .before in
+    let e = p .before .before .before .before .before in
     let s = e .before .before .before in
     fill-ends (s .args .s) (s .args .w .now) (sizes (s .args .s) _ (s .good .1 .0)) (s .pre) (e .before .if1 .left) (e .if2 .left) _ _ _ _ _ _ _ _ _ _
     (o .kept-rows .ensures) (p .before .vector-rows .ensures) (p .pin-rows .ensures) (k .put-kept .ensures .0) (k .put-kept .ensures .1)
