@@ -8,12 +8,6 @@ use borrow.Author.Needs.{needs}
 use Rattle.in_place.proofs.checkpoint.checkpoint.Statement.{statement}
 use Rattle.in_place.proofs.checkpoint.checkpoint.Tie as tie
 
-is-sound-requires : tie.Need-is-sound-requires
-is-sound-requires c κs = search needs
-
-same-length : tie.Need-same-length
-same-length c = search needs
-
 returns : tie.Need-returns
 returns c =
     let k = c .before in
@@ -23,12 +17,6 @@ returns c =
 
 checkpoint-on-requires : tie.Need-checkpoint-on-requires
 checkpoint-on-requires c κs = is-sound (runOf (c .before .before .before .before .before .before .before .args .w .now)) (c .before .before .before .is-sound .ensures) (c .before .before .if1 .left)
-
-same-length-2 : tie.Need-same-length-2
-same-length-2 c = search needs
-
-same-length-3 : tie.Need-same-length-3
-same-length-3 c = search needs
 
 returns-2 : tie.Need-returns-2
 returns-2 c =
@@ -40,10 +28,10 @@ pub checkpoint-spec : {M : Type 1} → statement M
 checkpoint-spec =
     tie.close
     (tie.spec
-    is-sound-requires
-    same-length
+    (λ c κs. search needs)
+    (λ c. search needs)
     returns
     checkpoint-on-requires
-    same-length-2
-    same-length-3
+    (λ c. search needs)
+    (λ c. search needs)
     returns-2)

@@ -25,15 +25,6 @@ returns c = let s = c .before .before .before .before .before in list-short (s .
 returns-2 : tie.Need-returns-2
 returns-2 c = let s = c .before .before .before .before .before .before in no-process (s .args .w .now) (s .pre) (s .args .i) (s .args .deleted .now) (sym (c .before .before .are-deletions-short .ensures) ∙ c .before .if1 .left) (c .if2 .taken)
 
-storing-verdict-requires : tie.Need-storing-verdict-requires
-storing-verdict-requires c κs = search needs
-
-enum-known-verdict : tie.Need-enum-known-verdict
-enum-known-verdict c = search needs
-
-enum-told : tie.Need-enum-told
-enum-told c = search needs
-
 own-of-requires : tie.Need-own-of-requires
 own-of-requires c κs = let s = c .before .before .before .before .before .before .before .before .before .before .before in let k = sound-words (s .args .w .now) (s .pre) in let lt = c .before .before .before .before .before .if2 .left in (k .size, omega (arith, k .few, lt))
 
@@ -44,18 +35,9 @@ checkpoint-requires c κs = let s = c .before .before .before .before .before .b
 live-index-requires : tie.Need-live-index-requires
 live-index-requires c κs = let s = c .before .before .before .before .before .before .before .before .before .before .before .before .before .before .before .before .before .before .before in let lt = c .before .before .before .before .before .before .before .before .before .before .before .before .before .if2 .left in omega (arith, sound-part (s .args .w .now) (s .pre) (s .args .i) lt .own-some, ap (λ (x : Interval). x .0) (c .before .before .before .before .before .before .before .own-of .ensures))
 
-same-length : tie.Need-same-length
-same-length c = search needs
-
 returns-3 : tie.Need-returns-3
 returns-3 c = let s = c .before .before .before .before .before .before .before .before .before .before .before in let lt = c .before .before .before .before .before .if2 .left in
     not-stored (s .args .w .now) (s .pre) (s .args .i) (s .args .deleted .now) (sym (c .before .before .before .before .before .before .before .are-deletions-short .ensures) ∙ c .before .before .before .before .before .before .if1 .left) lt _ (sym (c .before .verdict .given .1) ∙ c .before .before .before .storing-verdict .ensures)
-
-same-length-2 : tie.Need-same-length-2
-same-length-2 c = search needs
-
-same-length-3 : tie.Need-same-length-3
-same-length-3 c = search needs
 
 returns-4 : tie.Need-returns-4
 returns-4 c = let s = c .before .before .before .before .before .before .before .before .before .before .before .before .before .before .before .before .before .before .before .before in let lt = c .before .before .before .before .before .before .before .before .before .before .before .before .before .before .if2 .left in
@@ -71,14 +53,14 @@ checkpoint-on-spec =
     are-deletions-short-requires
     returns
     returns-2
-    storing-verdict-requires
-    enum-known-verdict
-    enum-told
+    (λ c κs. search needs)
+    (λ c. search needs)
+    (λ c. search needs)
     own-of-requires
     checkpoint-requires
     live-index-requires
-    same-length
+    (λ c. search needs)
     returns-3
-    same-length-2
-    same-length-3
+    (λ c. search needs)
+    (λ c. search needs)
     returns-4)

@@ -20,9 +20,6 @@ known c = let h = sound-words (c .args .w .now) (c .pre .0) in (h .size, omega (
 own-of-requires : tie.Need-own-of-requires
 own-of-requires c κs = known (c .before)
 
-is-last-interval-requires : tie.Need-is-last-interval-requires
-is-last-interval-requires c κs = search needs
-
 returns : tie.Need-returns
 returns c = let s = c .before .before .before .before in verdict-last (s .args .w .now) (s .pre .0) (s .args .i) (s .pre .1) (sym (c .before .is-last-interval .ensures ∙ ap (λ (x : Interval). leb 65535 (x .0)) (c .before .before .own-of .ensures)) ∙ c .if1 .taken)
 
@@ -38,9 +35,6 @@ mul-is-past-bound c = let k = known (c .before .before .before .before .before) 
 shared-slice-read-is-past-bound : tie.Need-shared-slice-read-is-past-bound
 shared-slice-read-is-past-bound c = let k = known (c .before .before .before .before .before .before) in omega (arith, k .0, k .1)
 
-is-past-bound-requires : tie.Need-is-past-bound-requires
-is-past-bound-requires c κs = search needs
-
 returns-2 : tie.Need-returns-2
 returns-2 c = let s = c .before .before .before .before .before .before .before .before in verdict-past (s .args .w .now) (s .pre .0) (s .args .i) (s .pre .1) (sym (c .before .before .before .before .before .is-last-interval .ensures ∙ ap (λ (x : Interval). leb 65535 (x .0)) (c .before .before .before .before .before .before .own-of .ensures)) ∙ c .before .before .before .before .if1 .left) true (sym (c .before .is-past-bound .ensures ∙ ap (λ (x : ℕ). pastMost x (word (s .args .w .now) (blocksAt (s .args .i)))) (c .before .before .before .wide4 .ensures)) ∙ c .if2 .taken)
 
@@ -52,12 +46,12 @@ storing-verdict-spec =
     tie.close
     (tie.spec
     own-of-requires
-    is-last-interval-requires
+    (λ c κs. search needs)
     returns
     wide4-requires
     add-is-past-bound
     mul-is-past-bound
     shared-slice-read-is-past-bound
-    is-past-bound-requires
+    (λ c κs. search needs)
     returns-2
     returns-3)
