@@ -82,7 +82,7 @@ class Package(Case):
     def test_examples_in_its_texts(self):
         import doctest
 
-        for module in (lemidrosy, lemidrosy.recorder, lemidrosy.run):
+        for module in (lemidrosy, lemidrosy.console, lemidrosy.recorder, lemidrosy.run):
             result = doctest.testmod(module)
             self.assertEqual(result.failed, 0)
             self.assertGreater(result.attempted, 0)
@@ -117,6 +117,15 @@ class Package(Case):
         self.assertEqual(caught.exception.number, number)
         self.assertTrue(caught.exception.text)
         self.assertEqual(str(caught.exception), f"refused {number}: {caught.exception.text}")
+
+    def test_an_owners_processes_past_the_run_count_for_nothing(self):
+        run = lemidrosy.Console.start(lemidrosy.Role.OPERATOR, 2)
+        for far in (-1, 2, 31, 32, 2**32, 2**32 + 1, 10**30):
+            owner = lemidrosy.Console(run, lemidrosy.Role.JOB_OWNER, {0, far})
+            self.assertEqual(owner.line(()), (1, None))
+            self.refused(25, owner.checkpoint, far)
+            self.refused(25, owner.checkpoint, 1)
+            self.refused(25, lemidrosy.Console(run, far if far != 2 else 3, {0}).list)
 
     def test_numbers_of_any_size_are_judged_whole(self):
         run = Run(2)
