@@ -1,19 +1,47 @@
-// The calls, each on the state after the one before it: the call is made, and its line is written. Every entry of the lent lists is 0 before it.
+// The calls, each on the words after the one before it: the call is made, and its line is written. Every entry of the lent lists is 0 before it. Each says whether its line
+// is written.
 use crate::say;
 use console_script::Call;
 use listing::Summary;
-use model::CheckpointIndex;
-use model::Named;
-use model::Run;
 use roles::Caller;
 use roles::ListAnswer;
 use roles::Operation;
+use roles::Role;
+use words::places;
+ghost use mathlib.Core.Path.{_≡_};
 ghost use Prim.Native.Nat.{_≤_};
+ghost use Rattle.console_in_place.specs.declared.denied.Claim.the-variants.{As};
+ghost use Rattle.console_in_place.specs.Asked.{claimOf};
 
-// The state behind a call, and whether its line is written.
-pub struct After {
-    pub run: Run,
-    pub written: bool,
+// The block count of every process.
+const BLOCKS: u32 = 1;
+
+// The number of a role.
+fn number_of(role: Role) -> u32
+    ensures { λ r. ⌜ claimOf r ≡ As role ⌝ }
+{
+    match role {
+        Role::Operator => 0,
+        Role::JobOwner => 1,
+        Role::Viewer => 2,
+    }
+}
+
+fn wide(x: u16) -> usize
+    ensures { λ r. ⌜ r ≡ x ⌝ }
+{
+    x as usize
+}
+
+// How many processes the run has.
+fn processes(w: &[u16]) -> usize
+    ensures { λ r. ⌜ r ≤ 16 ⌝ }
+{
+    if w.len() < words::WORDS {
+        return 0;
+    }
+    let count = wide(w[places::COUNT]);
+    say::at_most(16, count)
 }
 
 // A length, or one less.
@@ -47,15 +75,18 @@ fn say_checkpoint(number: u64, said: Summary, list: &[u16; 512]) -> bool {
     say::refused(number, said.refused)
 }
 
-fn checkpoint(s: Run, number: u64, c: Call) -> After {
-    let length = room(say::at_most(16, s.count), c.short);
+fn checkpoint(w: &mut [u16], role: u32, owned: u32, number: u64, c: Call) -> bool {
+    let length = room(processes(w), c.short);
     let mut deleted = [0u16; 512];
-    let outcome = console_calls::checkpoint(c.caller, s, c.process, &mut deleted[..length]);
-    let run = outcome.run;
-    let answer = outcome.answer;
+    let answer = console_in_place::calls::checkpoint(
+        role,
+        owned,
+        w,
+        c.process,
+        &mut deleted[..length],
+    );
     let said = summaries::of_checkpoint(answer);
-    let written = say_checkpoint(number, said, &deleted);
-    After { run, written }
+    say_checkpoint(number, said, &deleted)
 }
 
 fn say_send(number: u64, said: Summary) -> bool {
@@ -66,13 +97,10 @@ fn say_send(number: u64, said: Summary) -> bool {
     say::refused(number, said.refused)
 }
 
-fn send(s: Run, number: u64, c: Call) -> After {
-    let outcome = console_calls::send(c.caller, s, c.process, c.argument as usize);
-    let run = outcome.run;
-    let answer = outcome.answer;
+fn send(w: &mut [u16], role: u32, owned: u32, number: u64, c: Call) -> bool {
+    let answer = console_in_place::calls::send(role, owned, w, c.process, c.argument as usize);
     let said = summaries::of_send(answer);
-    let written = say_send(number, said);
-    After { run, written }
+    say_send(number, said)
 }
 
 fn say_delivery(number: u64, said: Summary, rose: u16, list: &[u16; 512]) -> bool {
@@ -87,15 +115,19 @@ fn say_delivery(number: u64, said: Summary, rose: u16, list: &[u16; 512]) -> boo
     say::refused(number, said.refused)
 }
 
-fn deliver(s: Run, number: u64, c: Call) -> After {
-    let length = room(say::at_most(16, s.count), c.short);
+fn deliver(w: &mut [u16], role: u32, owned: u32, number: u64, c: Call) -> bool {
+    let length = room(processes(w), c.short);
     let mut deleted = [0u16; 512];
-    let outcome = console_calls::deliver(c.caller, s, c.argument, &mut deleted[..length]);
-    let run = outcome.run;
-    let answer = outcome.answer;
+    let delivered = console_in_place::calls::deliver(
+        role,
+        owned,
+        w,
+        c.argument,
+        &mut deleted[..length],
+    );
+    let answer = delivered.answer;
     let said = summaries::of_deliver(answer);
-    let written = say_delivery(number, said, outcome.rose, &deleted);
-    After { run, written }
+    say_delivery(number, said, delivered.rose, &deleted)
 }
 
 // The line of a call that has nothing more to say.
@@ -106,13 +138,10 @@ fn say_bare(number: u64, refused: u8) -> bool {
     say::refused(number, refused)
 }
 
-fn lose(s: Run, number: u64, c: Call) -> After {
-    let outcome = console_calls::lose(c.caller, s, c.argument);
-    let run = outcome.run;
-    let answer = outcome.answer;
+fn lose(w: &mut [u16], role: u32, owned: u32, number: u64, c: Call) -> bool {
+    let answer = console_in_place::calls::lose(role, owned, w, c.argument);
     let said = summaries::of_lose(answer);
-    let written = say_bare(number, said.refused);
-    After { run, written }
+    say_bare(number, said.refused)
 }
 
 fn say_recovery(number: u64, said: Summary, line: &[u16; 16], n: usize, list: &[u16; 512]) -> bool
@@ -129,24 +158,22 @@ fn say_recovery(number: u64, said: Summary, line: &[u16; 16], n: usize, list: &[
     say::refused(number, said.refused)
 }
 
-fn recover(s: Run, number: u64, c: Call) -> After {
-    let n = say::at_most(16, s.count);
+fn recover(w: &mut [u16], role: u32, owned: u32, number: u64, c: Call) -> bool {
+    let n = processes(w);
     let length = room(n, c.short);
     let members = cut(n, c.short);
     let mut deleted = [0u16; 512];
     let mut line = [0u16; 16];
-    let outcome = console_calls::recover(
-        c.caller,
-        s,
-        c.low,
+    let answer = console_in_place::calls::recover(
+        role,
+        owned,
+        w,
+        c.low as u32,
         &mut deleted[..length],
         &mut line[..members],
     );
-    let run = outcome.run;
-    let answer = outcome.answer;
     let said = summaries::of_recover(answer);
-    let written = say_recovery(number, said, &line, n, &deleted);
-    After { run, written }
+    say_recovery(number, said, &line, n, &deleted)
 }
 
 // The line of a call that writes all n entries of a line list and changes no state.
@@ -169,35 +196,25 @@ fn say_members(number: u64, refused: u8, line: &[u16; 16], n: usize, caller: Cal
     say::refused(number, refused)
 }
 
-fn line(s: Run, number: u64, c: Call) -> After {
-    let n = say::at_most(16, s.count);
+fn line(w: &[u16], role: u32, owned: u32, number: u64, c: Call) -> bool {
+    let n = processes(w);
     let members = cut(n, c.short);
     let mut line = [0u16; 16];
-    let outcome = console_calls::line(c.caller, s, c.low, &mut line[..members]);
-    let run = outcome.run;
-    let answer = outcome.answer;
+    let answer = console_in_place::shown::line(role, owned, w, c.low as u32, &mut line[..members]);
     let said = summaries::of_line(answer);
-    let written = say_members(number, said.refused, &line, n, c.caller);
-    After { run, written }
+    say_members(number, said.refused, &line, n, c.caller)
 }
 
-// The line through one named checkpoint.
-fn earliest(s: Run, number: u64, c: Call) -> After {
-    let n = say::at_most(16, s.count);
+// The line through one named checkpoint, whose process is a byte of the script.
+fn earliest(w: &[u16], role: u32, owned: u32, number: u64, c: Call) -> bool {
+    let n = processes(w);
     let members = cut(n, c.short);
-    let index = CheckpointIndex(c.low);
-    let one = Named {
-        process: c.process,
-        index,
-    };
-    let named = [one; 16];
+    let process = say::at_most(255, c.process);
+    let named = [process as u32, c.low as u32];
     let mut line = [0u16; 16];
-    let outcome = console_calls::earliest_among(c.caller, s, named, 1, &mut line[..members]);
-    let run = outcome.run;
-    let answer = outcome.answer;
+    let answer = console_in_place::calls::earliest(role, owned, w, &named, &mut line[..members]);
     let said = summaries::of_line(answer);
-    let written = say_line(number, said.refused, &line, n);
-    After { run, written }
+    say_line(number, said.refused, &line, n)
 }
 
 fn say_list(number: u64, answer: ListAnswer, list: &[u16; 512]) -> bool {
@@ -209,54 +226,63 @@ fn say_list(number: u64, answer: ListAnswer, list: &[u16; 512]) -> bool {
     }
 }
 
-fn list(s: Run, number: u64, c: Call) -> After {
-    let length = room(say::at_most(16, s.count), c.short);
+fn list(w: &[u16], role: u32, owned: u32, number: u64, c: Call) -> bool {
+    let length = room(processes(w), c.short);
     let mut list = [0u16; 512];
-    let outcome = console_calls::list(c.caller, s, &mut list[..length]);
-    let run = outcome.run;
-    let answer = outcome.answer;
-    let written = say_list(number, answer, &list);
-    After { run, written }
+    let answer = console_in_place::list::list(role, owned, w, &mut list[..length]);
+    say_list(number, answer, &list)
 }
 
-fn counts(s: Run, number: u64, c: Call) -> After {
-    let n = say::at_most(16, s.count);
+fn counts(w: &[u16], role: u32, owned: u32, number: u64, c: Call) -> bool {
+    let n = processes(w);
     let members = cut(n, c.short);
     let mut line = [0u16; 16];
-    let outcome = console_calls::counts(c.caller, s, &mut line[..members]);
-    let run = outcome.run;
-    let answer = outcome.answer;
+    let answer = console_in_place::shown::counts(role, owned, w, &mut line[..members]);
     let said = summaries::of_line(answer);
-    let written = say_line(number, said.refused, &line, n);
-    After { run, written }
+    say_line(number, said.refused, &line, n)
+}
+
+// The words of one state go to those of another.
+fn copy(from: &[u16], to: &mut [u16]) {
+    if from.len() != words::WORDS {
+        return;
+    }
+    if to.len() != words::WORDS {
+        return;
+    }
+    readers::copy_words(from, 0, words::WORDS, to);
 }
 
 // A refused start leaves the state as it was.
-fn start(s: Run, number: u64, c: Call) -> After {
-    let outcome = console_calls::start(c.caller, c.process, [1; 16]);
-    let run = outcome.run;
-    let answer = outcome.answer;
+fn start(w: &mut [u16], role: u32, owned: u32, number: u64, c: Call) -> bool {
+    let mut fresh = [0u16; 6464];
+    let counts = [BLOCKS; 16];
+    let answer = console_in_place::calls::start(role, owned, &mut fresh, c.process, &counts);
     let said = summaries::of_start(answer);
-    let written = say_bare(number, said.refused);
-    if said.refused == 0 {
-        return After { run, written };
+    if said.refused != 0 {
+        return say_bare(number, said.refused);
     }
-    After { run: s, written }
+    copy(&fresh, w);
+    say_bare(number, said.refused)
 }
 
 // One call of a script, by its operation.
-pub(crate) fn make(s: Run, number: u64, c: Call) -> After {
+pub(crate) fn make(w: &mut [u16], number: u64, c: Call) -> bool {
+    let caller = c.caller;
+    let kind = caller.role;
+    let role = number_of(kind);
+    let owned = caller.owned as u32;
     let operation = c.operation;
     match operation {
-        Operation::Checkpoint => checkpoint(s, number, c),
-        Operation::Send => send(s, number, c),
-        Operation::Deliver => deliver(s, number, c),
-        Operation::Lose => lose(s, number, c),
-        Operation::Recover => recover(s, number, c),
-        Operation::Line => line(s, number, c),
-        Operation::Earliest => earliest(s, number, c),
-        Operation::List => list(s, number, c),
-        Operation::Counts => counts(s, number, c),
-        Operation::Start => start(s, number, c),
+        Operation::Checkpoint => checkpoint(w, role, owned, number, c),
+        Operation::Send => send(w, role, owned, number, c),
+        Operation::Deliver => deliver(w, role, owned, number, c),
+        Operation::Lose => lose(w, role, owned, number, c),
+        Operation::Recover => recover(w, role, owned, number, c),
+        Operation::Line => line(w, role, owned, number, c),
+        Operation::Earliest => earliest(w, role, owned, number, c),
+        Operation::List => list(w, role, owned, number, c),
+        Operation::Counts => counts(w, role, owned, number, c),
+        Operation::Start => start(w, role, owned, number, c),
     }
 }

@@ -1,5 +1,6 @@
 // Makes the console calls of a script on standard input (document 02, Note 13), an operator's start first, and prints what each answered and wrote, one line a call.
-// What the calls do is said and proved in `console_calls`, which bytes are calls in `console_script`: what is none is refused with 14, and bytes left over with 13. An error of the system is said on standard error, and ends the program.
+// What the calls do is said and proved in `console_in_place`, which bytes are calls in `console_script`: what is none is refused with 14, and bytes left over with 13. An
+// error of the system is said on standard error, and ends the program.
 
 // say.rt: text on standard output
 mod say;
@@ -9,11 +10,8 @@ mod act;
 
 use console_script::Read;
 use model::Refusal;
-use model::Run;
 use model::StartAnswer;
 use programs::input::Filled;
-use roles::Caller;
-use roles::Role;
 ghost use Prim.Native.Nat.{_≤_};
 ghost use lib.ListN.{length};
 
@@ -36,86 +34,57 @@ fn told(written: bool) -> bool {
     written
 }
 
-// The state behind a call of the script, and whether there may be another.
-struct Next {
-    run: Run,
-    going: bool,
-}
-
 // The line of a refusal, written or said not to be.
 fn refuse(number: u64, why: Refusal) -> bool {
     told(say::refused(number, summaries::number_of(why)))
 }
 
-// What the first `held` of eight bytes ask for, or why they are no call.
-fn make_call(s: Run, number: u64, held: usize, bytes: [u8; 8]) -> Next {
+// What the first `held` of eight bytes ask for, or why they are no call. Whether there may be another.
+fn make_call(w: &mut [u16], number: u64, held: usize, bytes: [u8; 8]) -> bool {
     let read = console_script::next_of(held, bytes);
     match read {
-        Read::Ended => Next {
-            run: s,
-            going: false,
-        },
+        Read::Ended => false,
         Read::LeftOver => {
             refuse(number, Refusal::LeftOverBytes);
-            Next {
-                run: s,
-                going: false,
-            }
+            false
         }
-        Read::Malformed => {
-            let going = refuse(number, Refusal::MalformedRecord);
-            Next { run: s, going }
-        }
-        Read::Asks(call) => {
-            let after = act::make(s, number, call);
-            let going = told(after.written);
-            let run = after.run;
-            Next { run, going }
-        }
+        Read::Malformed => refuse(number, Refusal::MalformedRecord),
+        Read::Asks(call) => told(act::make(w, number, call)),
     }
 }
 
 // The next bytes of the script.
-fn take_next(s: Run, number: u64) -> Next {
+fn take_next(w: &mut [u16], number: u64) -> bool {
     let mut bytes = [0u8; 8];
     let filled = fill(&mut bytes);
     if filled.failed {
-        return Next {
-            run: s,
-            going: false,
-        };
+        return false;
     }
-    make_call(s, number, filled.held, bytes)
+    make_call(w, number, filled.held, bytes)
 }
 
 // The calls, one after the other, to the end of the script.
-fn make_calls(first: Run) {
-    let mut s = first;
+fn make_calls(w: &mut [u16]) {
     let mut number: u64 = 0;
     while number < 9000000000000000000 {
         number += 1;
-        let next = take_next(s, number);
-        if !next.going {
+        let going = take_next(w, number);
+        if !going {
             return;
         }
-        s = next.run;
     }
 }
 
-// The operator's start of n processes, and the calls behind it.
+// The operator's start of n processes, and the calls after it.
 fn start(n: u8) {
-    let operator = Caller {
-        role: Role::Operator,
-        owned: 0,
-    };
-    let outcome = console_calls::start(operator, n as usize, [1; 16]);
-    let run = outcome.run;
-    let answer = outcome.answer;
+    let mut words = [0u16; 6464];
+    let counts = [1u32; 16];
+    let answer = console_in_place::calls::start(0, 0, &mut words, n as usize, &counts);
     match answer {
         StartAnswer::Refused(why) => {
             refuse(0, why);
         }
-        StartAnswer::Started => make_calls(run),
+        StartAnswer::Started => make_calls(&mut words),
     }
 }
 

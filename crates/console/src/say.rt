@@ -65,7 +65,9 @@ pub(crate) fn entries(line: &[u16; 16], n: usize) -> bool
 fn member(caller: Caller, n: usize, p: usize, x: u16) -> Value
     ensures { λ r. ⌜ valueIn r ≡ memberSaid caller n p x ⌝ }
 {
-    let seen = console_parts::denied::is_entitled(caller, n, p);
+    let role = caller.role;
+    let owned = caller.owned as u32;
+    let seen = console_in_place::denied::is_entitled(role, owned, n, p);
     if seen {
         return Value::Number(x as u64);
     }

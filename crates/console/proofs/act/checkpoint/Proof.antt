@@ -7,7 +7,7 @@ use Rattle.console.proofs.act.checkpoint.Statement.{statement}
 use Rattle.console.proofs.act.checkpoint.Tie as tie
 
 slice-aggregate-checkpoint : tie.Need-slice-aggregate-checkpoint
-slice-aggregate-checkpoint c = let l = c .before in sym (length-take-le (l .room .result) (replicate 512 0) (l .room .ensures))
+slice-aggregate-checkpoint c = let l = c .before .before in sym (length-take-le (l .room .result) (replicate 512 0) (l .room .ensures))
 
 pub checkpoint-spec : {M : Type 1} → statement M
 checkpoint-spec =
@@ -20,4 +20,5 @@ checkpoint-spec =
     (λ c κs. search needs)
     (λ c κs. search needs)
     (λ c κs. search needs)
+    (λ c. search needs)
     (λ c. search needs))

@@ -1,7 +1,7 @@
 -- `console::act::counts` meets its contract. Assumes nothing.
 use Prim.Native.Nat.{_≤_}
-use mathlib.Core.Path.{sym}
 use native.Mathlib.Omega.{arith}
+use mathlib.Core.Path.{sym}
 use lib.ListN.{replicate}
 use lib.Seq.{length-take-le}
 use borrow.Author.Needs.{needs}
@@ -11,7 +11,7 @@ use Rattle.console.proofs.act.counts.Tie as tie
 slice-aggregate-counts : tie.Need-slice-aggregate-counts
 slice-aggregate-counts c =
     let l = c .before in
-    let fits : l .cut .result ≤ 16 = omega (arith, l .cut .ensures, l .before .at-most .ensures) in
+    let fits : l .cut .result ≤ 16 = omega (arith, l .cut .ensures, l .before .processes .ensures) in
     sym (length-take-le (l .cut .result) (replicate 16 0) fits)
 
 pub counts-spec : {M : Type 1} → statement M

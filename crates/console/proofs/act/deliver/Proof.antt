@@ -7,7 +7,7 @@ use Rattle.console.proofs.act.deliver.Statement.{statement}
 use Rattle.console.proofs.act.deliver.Tie as tie
 
 slice-aggregate-deliver : tie.Need-slice-aggregate-deliver
-slice-aggregate-deliver c = let l = c .before in sym (length-take-le (l .room .result) (replicate 512 0) (l .room .ensures))
+slice-aggregate-deliver c = let l = c .before .before in sym (length-take-le (l .room .result) (replicate 512 0) (l .room .ensures))
 
 pub deliver-spec : {M : Type 1} → statement M
 deliver-spec =
@@ -20,4 +20,5 @@ deliver-spec =
     (λ c κs. search needs)
     (λ c κs. search needs)
     (λ c κs. search needs)
+    (λ c. search needs)
     (λ c. search needs))

@@ -1,17 +1,17 @@
 -- `console::act::earliest` meets its contract. Assumes nothing.
 use Prim.Native.Nat.{_≤_}
-use mathlib.Core.Path.{sym}
 use native.Mathlib.Omega.{arith}
+use mathlib.Core.Path.{sym}
 use lib.ListN.{replicate}
 use lib.Seq.{length-take-le}
 use borrow.Author.Needs.{needs}
 use Rattle.console.proofs.act.earliest.Statement.{statement}
 use Rattle.console.proofs.act.earliest.Tie as tie
 
-slice-aggregate-earliest-among : tie.Need-slice-aggregate-earliest-among
-slice-aggregate-earliest-among c =
-    let l = c .before in
-    let fits : l .cut .result ≤ 16 = omega (arith, l .cut .ensures, l .before .at-most .ensures) in
+slice-aggregate-earliest-2 : tie.Need-slice-aggregate-earliest-2
+slice-aggregate-earliest-2 c =
+    let l = c .before .before .before .before in
+    let fits : l .cut .result ≤ 16 = omega (arith, l .cut .ensures, l .before .processes .ensures) in
     sym (length-take-le (l .cut .result) (replicate 16 0) fits)
 
 pub earliest-spec : {M : Type 1} → statement M
@@ -20,8 +20,12 @@ earliest-spec =
     (tie.spec
     (λ c κs. search needs)
     (λ c κs. search needs)
+    (λ c κs. search needs)
     (λ c. search needs)
-    slice-aggregate-earliest-among
+    (λ c. search needs)
+    (λ c. search needs)
+    (λ c. search needs)
+    slice-aggregate-earliest-2
     (λ c κs. search needs)
     (λ c κs. search needs)
     (λ c κs. search needs)

@@ -3,17 +3,18 @@
 use borrow.Author.Needs.{needs}
 use mathlib.Core.Path.{sym, _∙_}
 use Rattle.listing.specs.Lines.{valueIn}
+use Rattle.roles.specs.Console.{entitled}
 use Rattle.console.specs.Said.{memberSaid}
 use Rattle.console.proofs.say.member.Statement.{statement}
 use Rattle.console.proofs.say.member.Tie as tie
 
 returns : tie.Need-returns
-unfolding valueIn memberSaid
+unfolding valueIn memberSaid entitled
 returns c = rw (sym (c .before .is-entitled .ensures) ∙ c .if1 .taken)
 
 returns-2 : tie.Need-returns-2
-unfolding valueIn memberSaid
+unfolding valueIn memberSaid entitled
 returns-2 c = rw (sym (c .before .is-entitled .ensures) ∙ c .if1 .left)
 
 pub member-spec : {M : Type 1} → statement M
-member-spec = tie.close (tie.spec (λ c κs. search needs) returns returns-2)
+member-spec = tie.close (tie.spec (λ c. search needs) (λ c κs. search needs) returns returns-2)

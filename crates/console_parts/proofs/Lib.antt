@@ -1,4 +1,0 @@
--- Laws that belong to no one function.
-pub mod Owned
-pub mod Receivers
-pub mod Listing
