@@ -1,0 +1,4 @@
+pub mod Recorded
+pub mod Records
+pub mod Machine
+pub mod Promised
