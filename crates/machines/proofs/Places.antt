@@ -6,10 +6,12 @@ use mathlib.Core.List.{List}
 use Prim.Native.Nat.{ℕ, _+_, _-_, _≤_}
 use native.Mathlib.Omega.{arith}
 use lib.ListN.{length, take, drop}
+use lib.Seq.{sets}
 use borrow.Rule.Slice.PartMut.{midOf, putMid, mid-len, take-put, drop-put, same-len-mid}
 use Rattle.machines.specs.declared.Request as requests
 use Rattle.machines.specs.declared.Request.the-variants as request
 use Rattle.machines.specs.Machines.{Stop}
+use Rattle.machines.specs.Packed.{packed}
 use Rattle.machines.specs.Forms.{goesOn, requestOf, Placed, Around, Leaves, GoesTo}
 
 pub around-put : (at most : ℕ) (input last : List ℕ) → at + most ≤ length input → length last ≡ length (midOf at (at + most - at) input)
@@ -92,3 +94,7 @@ leaves-front (request.Write size) place before after g h = same-front place befo
 leaves-front (request.Say size) place before after g h = same-front place before after h
 leaves-front (request.Fail size) place before after g h = same-front place before after h
 leaves-front request.Stop place before after g h = same-front place before after h
+
+-- The numbers of a request, where its kind is known.
+pub packs-as : (r kind : requests.Request) (before after : List ℕ) → after ≡ sets before 0 (packed kind) → r ≡ kind → after ≡ sets before 0 (packed r)
+packs-as r kind before after h e = h ∙ ap (λ (x : requests.Request). sets before 0 (packed x)) (sym e)

@@ -1,2 +1,3 @@
 pub mod Machines
 pub mod Forms
+pub mod Packed

@@ -8,6 +8,9 @@ mod system;
 // heard.rt: answers as a machine takes them
 pub mod heard;
 
+// packed.rt: requests and answers as numbers
+pub mod packed;
+
 ghost use mathlib.Core.Path.{_≡_};
 ghost use lib.ListN.{length};
 ghost use Rattle.machines.specs.Forms.{goesOn, Placed, Leaves};
