@@ -26,7 +26,8 @@ const FAILING: u64 = 2;
 
 const STOPPED: u64 = 3;
 
-fn lacks_room(memory: usize, input: usize, out: usize) -> bool
+// Whether one of the lent lists is too short for every run.
+pub fn lacks_room(memory: usize, input: usize, out: usize) -> bool
     ensures { λ r. ⌜ r ≡ lacksRoom memory input out ⌝ }
 {
     if memory < 2 {
