@@ -219,6 +219,33 @@ static inline struct lemidrosy_verdict lemidrosy_verdict(uint64_t verdict) {
     return fields;
 }
 
+/* The program judge as a machine: it asks for one thing at a time, and the caller does that with its own files and hands back what came of it. For every list of answers it
+   is proved that what is to be written is the line of the verdict on all that was read, that nothing is read past the end or a settled verdict, and that it ends.
+
+   The machine's state is in the lent lists: two numbers of memory, 16,389 bytes of input, 96 bytes of out. Between two steps the caller changes nothing in them but
+   the bytes of input that a request names. A request is four numbers: its kind, a size, a place, the number of a word. With kind
+     0 the machine has stopped;
+     1 bytes are to be read: at most `size` of them, to `place` of input;
+     2 the first `size` bytes of out are to be written to standard output, 3 to standard error;
+     4 the first `size` bytes of out name what failed: they are to be written to standard error with the system's reason;
+     5 is asked how many words the program was started with; 6 for the word of that number, of at most `size` bytes, to `place` of input; 7 to open the file whose name is
+       the first `size` bytes of out, as the input from then on. (The judge asks for none of these three.)
+   An answer is a kind and a number: 1 with how many bytes were brought, 2 for the end of the input, 3 for done, 4 with a number of words; every other kind, and an answer
+   that does not fit the request, for a call that failed. */
+enum {
+    LEMIDROSY_JUDGE_MEMORY = 2,
+    LEMIDROSY_JUDGE_INPUT = 16389,
+    LEMIDROSY_JUDGE_OUT = 96,
+    LEMIDROSY_REQUEST = 4
+};
+
+/* Begins: 0, and the first request. 3 if a list is too short; then nothing is written. */
+uint64_t lemidrosy_judge_begin(uint64_t *memory, size_t memory_length, const uint8_t *input, size_t input_length, const uint8_t *out, size_t out_length, uint64_t *request, size_t request_length);
+
+/* Takes the answer to the request before, any answer at all: 0, and the next request. 3 if the request's list is too short; then nothing is written. A state that no
+   machine left has stopped. It takes 0.4 MB of stack. */
+uint64_t lemidrosy_judge_step(uint64_t *memory, size_t memory_length, const uint8_t *input, size_t input_length, uint8_t *out, size_t out_length, uint64_t kind, size_t number, uint64_t *request, size_t request_length);
+
 /* The merge of two halves of one run: bit p of the set says that process p belongs to the first half. The merged trace goes to the list, which has as many bytes as both
    halves together; the value is how many bytes were written. The set is judged with all its 32 bits. Refused with 1, 3, 4, 5, 7, 12, 13, 14, 17, 23 or 24. It takes
    40 KB of stack. */

@@ -4,5 +4,6 @@ pub mod Consoles
 pub mod Merging
 pub mod Recording
 pub mod Starting
+pub mod Stepped
 pub mod Unsound
 pub mod Verdicts

@@ -2,3 +2,4 @@ pub mod Console
 pub mod Programs
 pub mod Recording
 pub mod Replaying
+pub mod Stepping

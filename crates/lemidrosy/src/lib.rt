@@ -22,3 +22,6 @@ pub mod saving;
 
 // programs.rt: the judge of a trace, the merge of two halves, a simulation
 pub mod programs;
+
+// stepping.rt: the programs as machines
+pub mod stepping;
