@@ -78,3 +78,7 @@ module _ (s : Run) (w : List ℕ) (fit r : Bool) (z : Sized s) (fits : fit ≡ f
 
   pub filled-unsound : not r ≡ true → sound s ≡ false
   filled-unsound taken = is-unsound s filled-verdict taken
+
+-- A refused call leaves the words as they were, so the state that they were filled from is the one that it leaves.
+pub unchanged : (s t : Run) (w v : List ℕ) → runOf w ≡ s → v ≡ w → runOf v ≡ t → s ≡ t
+unchanged s t w v is same left = sym is ∙ ap runOf (sym same) ∙ left

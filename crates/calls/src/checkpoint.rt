@@ -28,6 +28,11 @@ pub fn checkpoint(s: Run, i: usize, deleted: &mut [u16]) -> CheckpointOutcome
         return CheckpointOutcome { run: s, answer };
     }
     let answer = in_place::checkpoint::checkpoint_on(&mut w, i, deleted);
-    let run = run_words::read::read(&w);
-    CheckpointOutcome { run, answer }
+    match answer {
+        CheckpointAnswer::Refused(_) => CheckpointOutcome { run: s, answer },
+        CheckpointAnswer::Stored(_, _) => {
+            let run = run_words::read::read(&w);
+            CheckpointOutcome { run, answer }
+        }
+    }
 }

@@ -37,6 +37,15 @@ pub fn deliver(s: Run, m: u32, deleted: &mut [u16]) -> DeliverOutcome
     let delivered = in_place::deliver::deliver_on(&mut w, m, deleted);
     let answer = delivered.answer;
     let rose = delivered.rose;
-    let run = run_words::read::read(&w);
-    DeliverOutcome { run, answer, rose }
+    match answer {
+        DeliverAnswer::Refused(_) => DeliverOutcome {
+            run: s,
+            answer,
+            rose,
+        },
+        _ => {
+            let run = run_words::read::read(&w);
+            DeliverOutcome { run, answer, rose }
+        }
+    }
 }

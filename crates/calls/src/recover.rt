@@ -35,6 +35,11 @@ pub fn recover(s: Run, failed: u16, deleted: &mut [u16], line: &mut [u16]) -> Re
         return RecoverOutcome { run: s, answer };
     }
     let answer = recover_in_place::recover_on(&mut w, failed as u32, deleted, line);
-    let run = run_words::read::read(&w);
-    RecoverOutcome { run, answer }
+    match answer {
+        RecoverAnswer::Refused(_) => RecoverOutcome { run: s, answer },
+        RecoverAnswer::Recovered(_, _) => {
+            let run = run_words::read::read(&w);
+            RecoverOutcome { run, answer }
+        }
+    }
 }

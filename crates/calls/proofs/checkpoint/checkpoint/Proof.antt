@@ -11,7 +11,7 @@ use Rattle.whole_runs.specs.Outcomes.{checkpointOutcome}
 use Rattle.whole_runs.proofs.Unsound.{checkpoint-unsound}
 use Rattle.whole_runs.proofs.WholeRuns.{checkpoint-promise}
 use Rattle.run_words.proofs.Sizes.{sizes}
-use Rattle.calls.proofs.Changing.{sound-small, small-readable, filled-sound, filled-unsound}
+use Rattle.calls.proofs.Changing.{sound-small, small-readable, filled-sound, filled-unsound, unchanged}
 use Rattle.calls.proofs.Stepping.{checkpoint-small}
 use Rattle.calls.proofs.checkpoint.checkpoint.Statement.{statement}
 use Rattle.calls.proofs.checkpoint.checkpoint.Tie as tie
@@ -39,7 +39,7 @@ checkpoint-on-requires c κs = let r = ready (c .before .before) in ap sound (r 
 
 read-requires : tie.Need-read-requires
 read-requires c κs =
-    let o = c .before .before .before .before in
+    let o = c .before .before .before .before .before .before in
     let e = o .before .before .before in
     let s = e .before .before .before .before .before .before .before in
     let a = s .args in
@@ -48,12 +48,25 @@ read-requires c κs =
     (o .checkpoint-on .ensures .0 ∙ ap (λ (x : Run). checkpointOutcome x (a .i) (a .deleted .now) .run) (r .0))
     (checkpoint-small (a .s) (r .1) (sound-small (a .s) (sizes (a .s) _ (s .good .0)) (r .1)) (a .i) (a .deleted .now))
 
-same-length : tie.Need-same-length
-same-length c = c .before .before .before .before .before .checkpoint-on .kept .1 .1 .0
-
 returns-2 : tie.Need-returns-2
 returns-2 c =
     let o = c .before .before .before .before .before in
+    let e = o .before .before .before in
+    let a = e .before .before .before .before .before .before .before .args in
+    let r = ready e in
+    let g = o .checkpoint-on .ensures in
+    let same = g .1 .1 .1 .0 _ (c .enum-told .given .1) in
+    let run = unchanged (a .s) (checkpointOutcome (a .s) (a .i) (a .deleted .now) .run) _ _ (r .0) same (g .0 ∙ ap (λ (x : Run). checkpointOutcome x (a .i) (a .deleted .now) .run) (r .0)) in (
+      run,
+      (
+        g .1 .0 ∙ ap (λ (x : Run). checkpointOutcome x (a .i) (a .deleted .now) .answer) (r .0),
+        (g .1 .1 .0 ∙ ap (λ (x : Run). checkpointOutcome x (a .i) (a .deleted .now) .deleted) (r .0), checkpoint-promise (a .s) (a .i) (a .deleted .now) (a .s) run),
+      ),
+    )
+
+returns-3 : tie.Need-returns-3
+returns-3 c =
+    let o = c .before .before .before .before .before .before .before in
     let e = o .before .before .before in
     let a = e .before .before .before .before .before .before .before .args in
     let r = ready e in
@@ -74,7 +87,9 @@ checkpoint-spec =
     returns
     (λ c. search needs)
     checkpoint-on-requires
-    (λ c. search needs)
+    (λ c. search needs) (λ c. search needs) (λ c. search needs)
     read-requires
-    same-length
-    returns-2)
+    (λ c. c .before .before .before .before .before .checkpoint-on .kept .1 .1 .0)
+    returns-2
+    (λ c. c .before .before .before .before .before .before .before .checkpoint-on .kept .1 .1 .0)
+    returns-3)

@@ -13,7 +13,7 @@ use Rattle.whole_runs.proofs.Sweep.{sweep-promise}
 use Rattle.whole_runs.proofs.Unsound.{recover-unsound}
 use Rattle.whole_runs.proofs.WholeRuns.{line-promise, recover-promise}
 use Rattle.run_words.proofs.Sizes.{sizes}
-use Rattle.calls.proofs.Changing.{sound-small, small-readable, filled-sound, filled-unsound}
+use Rattle.calls.proofs.Changing.{sound-small, small-readable, filled-sound, filled-unsound, unchanged}
 use Rattle.calls.proofs.Recovering.{recover-small}
 use Rattle.calls.proofs.recover.recover.Statement.{statement}
 use Rattle.calls.proofs.recover.recover.Tie as tie
@@ -43,7 +43,7 @@ recover-on-requires c κs = let r = ready (c .before .before .before) in ap soun
 
 read-requires : tie.Need-read-requires
 read-requires c κs =
-    let o = c .before .before .before .before .before .before in
+    let o = c .before .before .before .before .before .before .before .before in
     let e = o .before .before .before .before in
     let s = e .before .before .before .before .before .before .before .before in
     let a = s .args in
@@ -57,6 +57,22 @@ read-requires c κs =
 returns-2 : tie.Need-returns-2
 returns-2 c =
     let o = c .before .before .before .before .before .before .before in
+    let e = o .before .before .before .before in
+    let a = e .before .before .before .before .before .before .before .before .args in
+    let d = a .deleted .now in
+    let l = a .line .now in
+    let r = ready e in
+    let g = o .recover-on .ensures in
+    let same = g .1 .1 .1 .1 .0 _ (c .enum-told .given .1) in
+    let run = unchanged (a .s) (recoverOutcome (a .s) (a .failed) d l .run) _ _ (r .0) same (g .0 ∙ ap (λ (x : Run). recoverOutcome x (a .failed) d l .run) (r .0)) in
+    let answer = g .1 .0 ∙ ap (λ (x : Run). recoverOutcome x (a .failed) d l .answer) (r .0) in
+    let deleted = g .1 .1 .0 ∙ ap (λ (x : Run). recoverOutcome x (a .failed) d l .deleted) (r .0) in
+    let line = g .1 .1 .1 .0 ∙ ap (λ (x : Run). recoverOutcome x (a .failed) d l .line) (r .0) in
+    (run, (answer, (deleted, (line, (line-promise (a .s) (a .failed), (recover-promise (a .s) (a .failed) d l _ run, (clean-promise (a .s) (a .failed) d l _ run, sweep-promise (a .s) (a .failed) d l answer line run)))))))
+
+returns-3 : tie.Need-returns-3
+returns-3 c =
+    let o = c .before .before .before .before .before .before .before .before .before in
     let e = o .before .before .before .before in
     let a = e .before .before .before .before .before .before .before .before .args in
     let d = a .deleted .now in
@@ -77,7 +93,9 @@ recover-spec =
     returns
     (λ c. search needs)
     recover-on-requires
-    (λ c. search needs)
+    (λ c. search needs) (λ c. search needs) (λ c. search needs)
     read-requires
     (λ c. search needs) (λ c. search needs)
-    returns-2)
+    returns-2
+    (λ c. search needs) (λ c. search needs)
+    returns-3)
