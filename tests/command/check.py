@@ -2,6 +2,7 @@
 
 import copy
 import ctypes
+import fcntl
 import io
 import os
 import pickle
@@ -12,6 +13,7 @@ import select
 import signal
 import subprocess
 import sys
+import termios
 import threading
 import time
 import unittest
@@ -880,10 +882,13 @@ class Ends(Case):
         self.assertEqual(done.returncode, 128 + signal.SIGPIPE)
 
     def test_an_interrupt(self):
-        running = subprocess.Popen([sys.executable, "-m", "lemidrosy", "bytes"], stdin=subprocess.PIPE, stdout=subprocess.PIPE, stderr=subprocess.PIPE)
-        running.stdin.write(b"processes 2\n" * 1)
+        """It comes when the command has read a line and waits for more. Where the tests run in the background it would be ignored."""
+        running = subprocess.Popen([sys.executable, "-m", "lemidrosy", "bytes"], stdin=subprocess.PIPE, stdout=subprocess.PIPE, stderr=subprocess.PIPE,
+                                   preexec_fn=lambda: signal.signal(signal.SIGINT, signal.SIG_DFL))
+        running.stdin.write(b"processes 2\n")
         running.stdin.flush()
-        time.sleep(1)
+        while int.from_bytes(fcntl.ioctl(running.stdin, termios.FIONREAD, bytes(4)), sys.byteorder):
+            time.sleep(0.05)
         running.send_signal(signal.SIGINT)
         output, said = running.communicate(timeout=30)
         self.assertEqual((running.returncode, output, said), (130, b"", b""))
