@@ -1,7 +1,7 @@
 -- The start has what the invariant says.
 use mathlib.Core.Path.{_≡_, refl, sym, _∙_, ap}
 use mathlib.Core.Bool.{true, false, false≢true}
-use mathlib.Core.List.{[], _∷_}
+use mathlib.Core.List.{[]}
 use mathlib.Core.Option.{Option, none, some}
 use Prim.Native.Nat.{ℕ, suc, _≤_, _<_}
 use native.Mathlib.Omega.{arith}
@@ -59,16 +59,6 @@ module _ (n : ℕ) where
   pub begin-transit : (m : ℕ) → begin n .transit m ≡ false
   unfolding begin
   begin-transit m = refl
-
-  -- No number is used.
-  pub begin-last : begin n .last ≡ 0
-  unfolding begin
-  begin-last = refl
-
-  -- Each list is checkpoint 0.
-  pub begin-events : (p : ℕ) → begin n .events p ≡ stored ∷ []
-  unfolding begin
-  begin-events p = refl
 
   -- Nothing was sent or received.
   no-sent : (p g m : ℕ) → Stands (sent m) g (begin n .events p) → ⊥

@@ -100,11 +100,6 @@ module _ (r : Ideal) (i : ℕ) where
   unfolding checkpointed
   checkpointed-carried m f = refl
 
-  -- their senders,
-  pub checkpointed-sender : (m : ℕ) → checkpointed r i .sender m ≡ r .sender m
-  unfolding checkpointed
-  checkpointed-sender m = refl
-
   -- their receivers,
   pub checkpointed-receiver : (m : ℕ) → checkpointed r i .receiver m ≡ r .receiver m
   unfolding checkpointed

@@ -117,12 +117,3 @@ behind-in k (received m ∷ l) s lt = elim (stands-cons s) [
   | inl w ↦ absurd (omega (arith, w .1))
   | inr w ↦ behind-in k l (w .1) (omega (arith, w .2))
 ]
-
--- The part up to the live state is the whole list.
-pub upTo-live : (k : ℕ) (l : List HistoryEvent) → checkpoints l ≤ k → upTo k l ≡ l
-unfolding upTo checkpoints
-upTo-live k [] h = refl
-upTo-live zero (stored ∷ l) h = absurd (not-suc-le-zero h)
-upTo-live (suc k) (stored ∷ l) h = ap (λ t. stored ∷ t) (upTo-live k l (omega arith))
-upTo-live k (sent m ∷ l) h = ap (λ t. sent m ∷ t) (upTo-live k l h)
-upTo-live k (received m ∷ l) h = ap (λ t. received m ∷ t) (upTo-live k l h)

@@ -44,30 +44,10 @@ module _ (r : Ideal) (m : ℕ) where
   unfolding lost
   lost-pin p f = refl
 
-  -- What messages carry stays.
-  pub lost-carried : (x f : ℕ) → lost r m .carried x f ≡ r .carried x f
-  unfolding lost
-  lost-carried x f = refl
-
-  -- Senders stay.
-  pub lost-sender : (x : ℕ) → lost r m .sender x ≡ r .sender x
-  unfolding lost
-  lost-sender x = refl
-
-  -- Receivers stay.
-  pub lost-receiver : (x : ℕ) → lost r m .receiver x ≡ r .receiver x
-  unfolding lost
-  lost-receiver x = refl
-
   -- The last used number stays.
   pub lost-last : lost r m .last ≡ r .last
   unfolding lost
   lost-last = refl
-
-  -- The lists stay.
-  pub lost-events : (p : ℕ) → lost r m .events p ≡ r .events p
-  unfolding lost
-  lost-events p = refl
 
   -- The same checkpoints are kept.
   pub lost-keeps : (p k : ℕ) → keeps (lost r m) p k ≡ keeps r p k

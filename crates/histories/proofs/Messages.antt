@@ -3,7 +3,7 @@ use mathlib.Core.Path.{_≡_, sym, _∙_}
 use mathlib.Core.Bool.{true}
 use Prim.Native.Nat.{ℕ, _≤_, _<_}
 use native.Mathlib.Omega.{arith}
-use Rattle.histories.specs.History.{stored, sent, received}
+use Rattle.histories.specs.History.{stored, sent}
 use Rattle.histories.proofs.Places.{Stands}
 use Rattle.histories.proofs.Times.{times, one-place}
 use Rattle.histories.proofs.Run.{Ideal}
@@ -13,10 +13,6 @@ use Rattle.histories.proofs.Line.{interval}
 -- A send is no checkpoint.
 sent-not-stored : (m : ℕ) → sent m ≡ stored → ⊥
 sent-not-stored m e = let z : _≡_ {A = ℕ} 0 1 = cc in omega arith
-
--- A receipt is no checkpoint.
-received-not-stored : (m : ℕ) → received m ≡ stored → ⊥
-received-not-stored m e = let z : _≡_ {A = ℕ} 0 1 = cc in omega arith
 
 module _ (r : Ideal) (v : Inv r) where
   -- A message is sent at most once, by one process.
@@ -28,22 +24,6 @@ module _ (r : Ideal) (v : Inv r) where
   sent-once p g q h m s t =
       let e : p ≡ q = v .proper p g m s .0 ∙ sym (v .proper q h m t .0) in
       (e, one-place (r .events q) (sent-at-most-once q m) (rw e at s) t)
-
-  -- A message is received at most once, by one process.
-  pub received-at-most-once : (p m : ℕ) → times (received m) (r .events p) ≤ 1
-  received-at-most-once p m = v .single p (received m) (received-not-stored m)
-
-  -- So its receipt stands at one place.
-  pub received-once : (p g q h m : ℕ) → Stands (received m) g (r .events p) → Stands (received m) h (r .events q) → (p ≡ q) × (g ≡ h)
-  received-once p g q h m s t =
-      let e : p ≡ q = v .arrived p g m s .0 ∙ sym (v .arrived q h m t .0) in
-      (e, one-place (r .events q) (received-at-most-once q m) (rw e at s) t)
-
-  -- A received message has a proper number, sender and receiver.
-  pub received-proper : (p g m : ℕ) → Stands (received m) g (r .events p) → (p ≡ r .receiver m) × Proper r m
-  received-proper p g m s =
-      let w = v .arrived p g m s in
-      (w .0, v .proper (r .sender m) (w .1 .0) m (w .1 .1) .1)
 
   module _ (m : ℕ) (under : r .transit m ≡ true) where
     -- The interval in which a message under way was sent.

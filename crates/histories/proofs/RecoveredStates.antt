@@ -6,10 +6,10 @@ use mathlib.Core.Bool.{Bool, true, false}
 use Prim.Native.Nat.{ℕ, suc, _≤_, _<_}
 use native.Mathlib.Omega.{arith}
 use Rattle.laws.specs.Choice.{by-eq, by-bool}
-use Rattle.histories.specs.History.{HistoryEvent, stored, sent, received, checkpoints, upTo}
+use Rattle.histories.specs.History.{HistoryEvent, stored, sent, received, checkpoints}
 use Rattle.histories.proofs.Places.{Stands}
 use Rattle.histories.proofs.Times.{times, times-upTo}
-use Rattle.histories.proofs.Cuts.{upTo-out, upTo-in, upTo-live, checkpoints-upTo}
+use Rattle.histories.proofs.Cuts.{upTo-out, upTo-in, checkpoints-upTo}
 use Rattle.histories.proofs.Run.{Ideal, Failed, line, rolled, recovered}
 use Rattle.histories.proofs.Invariant.{Inv, Proper, SentOf, Told}
 use Rattle.histories.proofs.Line.{rising, interval, line-back, line-live, line-le, line-knows, line-sent}
@@ -63,12 +63,6 @@ module _ (r : Ideal) (v : Inv r) (F : Failed) where
       (λ e. by-eq k (suc (L p)) (λ q. inr (e, q)) (λ nq. inl (omega (arith, own-back p e))))
       (λ e. inl (omega (arith, own-stays p e, stays p e)))
 
-  -- A checkpoint of now is up to the member.
-  pub recovered-stored : (p k : ℕ) → k < recovered r F .own p → (k ≤ line r F p) × (k < r .own p)
-  recovered-stored p k lt = by-bool (R p)
-      (λ e. (omega (arith, own-back p e), omega (arith, own-back p e, back p e)))
-      (λ e. (omega (arith, own-stays p e, stays p e), omega (arith, own-stays p e)))
-
   -- States up to the member are as they were.
   pub old : (p k f : ℕ) → k ≤ L p → r′ .vector p k f ≡ r .vector p k f
   old p k f le = recovered-vector r F p k f le
@@ -103,12 +97,6 @@ module _ (r : Ideal) (v : Inv r) (F : Failed) where
   after p g s le = by-bool (R p)
       (λ e. rw (recovered-events-back r F p e) (upTo-in (L p) (r .events p) s le))
       (λ e. rw (recovered-events-stays r F p e) s)
-
-  -- Each list is its part up to the member, also where the member is the live state.
-  pub recovered-events : (p : ℕ) → recovered r F .events p ≡ upTo (line r F p) (r .events p)
-  recovered-events p = by-bool (R p)
-      (λ e. recovered-events-back r F p e)
-      (λ e. recovered-events-stays r F p e ∙ sym (upTo-live (L p) (r .events p) (omega (arith, stays p e, v .counted p))))
 
   -- Each list has the checkpoints below the own entry.
   pub counted′ : (p : ℕ) → r′ .own p ≡ checkpoints (r′ .events p)

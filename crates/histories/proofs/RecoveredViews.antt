@@ -46,23 +46,6 @@ module _ (r : Ideal) (F : Failed) where
       (λ e. let ne : k ≡ suc (line r F p) → ⊥ = omega arith in rw e (simp upds))
       (λ e. rw e)
 
-  -- All states of a process that stays.
-  pub recovered-vector-stays : (p k f : ℕ) → rolled r F p ≡ false → recovered r F .vector p k f ≡ r .vector p k f
-  unfolding recovered vectorAfter
-  recovered-vector-stays p k f e = rw e
-
-  -- The live vectors.
-  pub recovered-row-own : (p : ℕ) → rolled r F p ≡ true → recovered r F .vector p (recovered r F .own p) p ≡ suc (line r F p)
-  recovered-row-own p e = rw (recovered-own-back p e) (recovered-live-own p e)
-
-  -- Entries for others of a process that rolls back.
-  pub recovered-row-back : (p f : ℕ) → rolled r F p ≡ true → (f ≡ p → ⊥) → recovered r F .vector p (recovered r F .own p) f ≡ r .vector p (line r F p) f
-  recovered-row-back p f e ne = rw (recovered-own-back p e) (recovered-live p f e ne)
-
-  -- The live vector of a process that stays.
-  pub recovered-row-stays : (p f : ℕ) → rolled r F p ≡ false → recovered r F .vector p (recovered r F .own p) f ≡ r .vector p (r .own p) f
-  recovered-row-stays p f e = rw (recovered-own-stays p e) (recovered-vector-stays p (r .own p) f e)
-
   -- A process that rolls back loses its mark.
   pub recovered-mark-back : (p : ℕ) → rolled r F p ≡ true → recovered r F .mark p ≡ false
   unfolding recovered
@@ -98,21 +81,6 @@ module _ (r : Ideal) (F : Failed) where
   pub recovered-carried : (m f : ℕ) → recovered r F .carried m f ≡ r .carried m f
   unfolding recovered
   recovered-carried m f = refl
-
-  -- Senders stay.
-  pub recovered-sender : (m : ℕ) → recovered r F .sender m ≡ r .sender m
-  unfolding recovered
-  recovered-sender m = refl
-
-  -- Receivers stay.
-  pub recovered-receiver : (m : ℕ) → recovered r F .receiver m ≡ r .receiver m
-  unfolding recovered
-  recovered-receiver m = refl
-
-  -- The last used number stays.
-  pub recovered-last : recovered r F .last ≡ r .last
-  unfolding recovered
-  recovered-last = refl
 
   -- The surviving history: up to the member of a process that rolls back, all of the others.
   pub recovered-events-back : (p : ℕ) → rolled r F p ≡ true → recovered r F .events p ≡ upTo (line r F p) (r .events p)

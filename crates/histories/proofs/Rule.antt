@@ -8,8 +8,8 @@ use native.Mathlib.Omega.{arith}
 use lib.Dec.{eqb}
 use borrow.Author.Tests.{lt-ltb, ltb-true, ltb-false, eq-eqb, eqb-true, not-true, not-false}
 use Rattle.laws.specs.Choice.{by-bool}
-use Rattle.laws.specs.Search.{any-out, any-in, all-out, all-in, all-fails, latest-out, latest-is}
-use Rattle.laws.specs.Truth.{never-both, and-left, and-right, and-both, and-no-right, or-left, or-right, or-in-right}
+use Rattle.laws.specs.Search.{any-out, any-in, all-out, all-in, all-fails, latest-is}
+use Rattle.laws.specs.Truth.{never-both, and-both, and-no-right, or-left, or-right, or-in-right}
 use Rattle.histories.proofs.Run.{Ideal, Failed, safe, names, keeps, member, rolled}
 
 -- A state that passes the rule has entries below the own entries of the failed.
@@ -74,21 +74,6 @@ candidate-in r p k c = elim c [
   | inl q ↦ or-left (eqb k (r .own p)) (keeps r p k) (eq-eqb k (r .own p) q)
   | inr q ↦ or-in-right (eqb k (r .own p)) (keeps r p k) q
 ]
-
--- What the member is: the live state or a kept checkpoint, it passes the rule, and no later one of these does.
-pub member-out : (r : Ideal) (F : Failed) (p k : ℕ) → member r F p ≡ some k
-    → (k ≤ r .own p) × ((k ≡ r .own p) ⊎ (keeps r p k ≡ true)) × (safe r F p k ≡ true)
-    × ((j : ℕ) → k < j → j ≤ r .own p → (j ≡ r .own p) ⊎ (keeps r p j ≡ true) → safe r F p j ≡ false)
-unfolding member
-member-out r F p k e =
-    let w = latest-out (suc (r .own p)) _ k e in (
-      omega (arith, w .0),
-      candidate-out r p k (and-left (eqb k (r .own p) || keeps r p k) (safe r F p k) (w .1)),
-      and-right (eqb k (r .own p) || keeps r p k) (safe r F p k) (w .1),
-      λ j a b c. by-bool (safe r F p j)
-          (λ q. never-both _ (and-both (eqb j (r .own p) || keeps r p j) (safe r F p j) (candidate-in r p j c) q) (w .2 j a (omega arith)))
-          (λ q. q),
-    )
 
 -- Whatever is so is the member.
 pub member-is : (r : Ideal) (F : Failed) (p k : ℕ) → k ≤ r .own p → (k ≡ r .own p) ⊎ (keeps r p k ≡ true) → safe r F p k ≡ true

@@ -54,11 +54,6 @@ module _ (r : Ideal) (i j : ℕ) where
   unfolding sending
   sending-last = refl
 
-  -- The new message is under way, and carries the live vector of i, from i to j.
-  pub sending-transit : sending r i j .transit (suc (r .last)) ≡ true
-  unfolding sending
-  sending-transit = simp upds
-
   -- Other messages are under way as they were.
   pub sending-transit-other : (m : ℕ) → (m ≡ suc (r .last) → ⊥) → sending r i j .transit m ≡ r .transit m
   unfolding sending

@@ -85,11 +85,6 @@ module _ (r : Ideal) (m : ℕ) where
   unfolding takenIn takenBy
   takenIn-carried x f = refl
 
-  -- Senders stay.
-  pub takenIn-sender : (x : ℕ) → takenIn r m .sender x ≡ r .sender x
-  unfolding takenIn takenBy
-  takenIn-sender x = refl
-
   -- Receivers stay.
   pub takenIn-receiver : (x : ℕ) → takenIn r m .receiver x ≡ r .receiver x
   unfolding takenIn takenBy
