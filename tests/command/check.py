@@ -902,4 +902,4 @@ class Ends(Case):
 
 
 if __name__ == "__main__":
-    unittest.main(argv=[sys.argv[0], *sys.argv[1:]])
+    unittest.main(argv=[sys.argv[0], *sys.argv[1:]], failfast=bool(os.environ.get("AT_ONCE")))
