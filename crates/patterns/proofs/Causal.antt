@@ -2,7 +2,7 @@
 -- Assumes nothing.
 use mathlib.Core.Path.{_≡_, refl, ap}
 use mathlib.Core.Logic.{_⊎_, inl, inr}
-use mathlib.Core.Option.{Option, none, some}
+use mathlib.Core.Option.{Option, some}
 use Prim.Native.Nat.{ℕ, zero, suc, _≤_, _<_}
 use native.Mathlib.Omega.{arith}
 use lib.ListN.{length}
@@ -12,7 +12,7 @@ use Rattle.laws.specs.Choice.{by-bool, by-eq}
 use Rattle.histories.specs.History.{HistoryEvent, stored, sent, received, Lists, checkpoints}
 use Rattle.patterns.specs.Paths.{eventAt, interval, placeOf, Precedes, next, message, through, Before}
 use Rattle.patterns.proofs.Core.{Vectors, higher}
-use Rattle.patterns.proofs.Placing.{stands-at, interval-before, interval-behind, place-stored, place-le, place-end, place-rises, place-in, end-empty, along}
+use Rattle.patterns.proofs.Placing.{stands-at, interval-before, interval-behind, place-stored, place-le, place-rises, place-in, along}
 
 -- What the proof uses beside the vectors: receipts before a send are carried by it, and what is carried or known of another process was received before.
 pub record Sources (lists : Lists) (v : Vectors lists) : Type 0 where
@@ -32,9 +32,6 @@ sent-or-stored m d e = let z : _≡_ {A = ℕ} 0 1 = cc in omega arith
 
 pub received-or-stored : {o : Option HistoryEvent} (m : ℕ) → o ≡ some (received m) → o ≡ some stored → ⊥
 received-or-stored m d e = let z : _≡_ {A = ℕ} 0 1 = cc in omega arith
-
-received-or-none : {o : Option HistoryEvent} (m : ℕ) → o ≡ some (received m) → o ≡ none → ⊥
-received-or-none m d e = let z : _≡_ {A = ℕ} 0 1 = cc in omega arith
 
 module _ (lists : Lists) (v : Vectors lists) (s : Sources lists v) (a α : ℕ) (near : α < checkpoints (lists a)) where
   -- Place j of q has the near end behind it, or is it: by its own list, or by a message that was received up to there.
@@ -68,14 +65,6 @@ module _ (lists : Lists) (v : Vectors lists) (s : Sources lists v) (a α : ℕ) 
   onto q j r k (next lt) (inr (m, i, e, le, c)) = inr (m, i, e, omega arith, c)
   onto q j r k (message {m = m} d e) h = inr (m, k, e, omega arith, carries q j m d h)
   onto q j r k (through {q = t} {j = u} x y) h = onto t u r k y (has t u (onto q j t u x h))
-
-  -- A receipt at or before a state's place stands before it.
-  receipt-before : (b β i m : ℕ) → β ≤ checkpoints (lists b) → eventAt (lists b) i ≡ some (received m) → i ≤ placeOf β (lists b) → i < placeOf β (lists b)
-  receipt-before b β i m far e le = by-eq i (placeOf β (lists b))
-      (λ c. by-eq β (checkpoints (lists b))
-      (λ d. absurd (received-or-none m (rw c at e) (end-empty (lists b) (placeOf β (lists b)) (omega (arith, place-end (lists b) β (omega arith))))))
-      (λ ne. absurd (received-or-stored m (rw c at e) (place-stored (lists b) β (omega arith)))))
-      (λ ne. omega arith)
 
   -- What a state's place knows, its vector says.
   told : (b β : ℕ) → β ≤ checkpoints (lists b) → Knows b (placeOf β (lists b)) → α < v .vector b β a

@@ -18,10 +18,9 @@ use Rattle.model.specs.Refusals.{firstOf}
 use Rattle.model.specs.Trace.{decoded}
 use Rattle.whole_runs.specs.Survival.{added}
 use Rattle.whole_runs.specs.Outcomes.{judged}
-use Rattle.patterns.specs.Patterns.{Pattern, empty, recordRefusal, taken, Reading, refused, whole, readFrom}
+use Rattle.patterns.specs.Patterns.{Pattern, recordRefusal, taken, Reading, refused, whole, readFrom}
 use Rattle.patterns.specs.Paths.{eventAt}
 use Rattle.patterns.proofs.Trail.{Trail, Right, storing, storing-right, sending, sending-right, receiving, receiving-right}
-use Rattle.patterns.proofs.Facts.{begin, begin-right}
 use Rattle.patterns.proofs.Adding.{event-old, event-new}
 
 -- A message was sent.
@@ -95,10 +94,6 @@ module _ (t : Pattern) (f : Followed t) where
         sends = f .sends;
         under = λ x e. sent-still (t .lists) (t .receiver m) x (received m) (f .under x (still-under (t .underway) m x e));
       }
-
-pub empty-followed : Followed empty
-unfolding empty begin
-empty-followed = record { trail = begin; right = begin-right; lists = refl; sends = refl; under = λ m e. absurd (false≢true e) }
 
 -- A record that is not refused keeps a trail.
 pub on-way : (b : Bool) (r : Refusal) → firstOf (record { holds = not b; gives = r } ∷ []) ≡ none → b ≡ true

@@ -90,13 +90,6 @@ place-in [] i e h = absurd (nothing h)
 place-in (x ∷ l) zero e h = omega arith
 place-in (x ∷ l) (suc i) e h = omega (arith, place-in l i e h)
 
--- The end has none.
-pub end-empty : (l : List HistoryEvent) (i : ℕ) → length l ≤ i → eventAt l i ≡ none
-unfolding eventAt
-end-empty [] i h = refl
-end-empty (x ∷ l) zero h = absurd (omega arith)
-end-empty (x ∷ l) (suc i) h = end-empty l i (omega arith)
-
 -- An event precedes every later place of its list.
 pub along : (lists : Lists) (p i k : ℕ) → i < k → k ≤ length (lists p) → Precedes lists p i p k
 along lists p i zero h c = absurd (omega arith)
