@@ -19,7 +19,7 @@ pub fn print(said: Summary, deleted: &[u16], number: u64, out: &mut [u8], at: us
 }
 
 // The line of a refusal that belongs to the trace and to no call.
-pub(crate) fn refuse(number: u64, why: Refusal, out: &mut [u8]) -> usize
+pub fn refuse(number: u64, why: Refusal, out: &mut [u8]) -> usize
     requires { ⌜ (number ≤ 1000000000) × (longestLine ≤ length (now out)) ⌝ }
     ensures { λ r. ⌜ Printed (now (out .entry)) 0 (refusalText number why) (now (out .exit)) r × (r ≤ length (now (out .entry))) ⌝ }
 {

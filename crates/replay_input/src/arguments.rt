@@ -1,15 +1,12 @@
-// The words that the program is started with.
+// The word that the program is started with.
 ghost use mathlib.Core.Path.{_≡_};
-ghost use Rattle.whole_runs.specs.Listing.{asksForAll};
+ghost use mathlib.Core.List.{[], _∷_};
+ghost use Rattle.laws.specs.Tests.{same};
 
-// Whether they ask for all, in which way a replay goes on behind a refusal: "Any other argument, or more than one, counts as none." `words` is how many they are,
-// the program's own name the first of them; `argument` is the word behind that.
-pub fn asks_for_all(words: usize, argument: &[u8]) -> bool
-    ensures { λ r. ⌜ r ≡ asksForAll words (now (argument .entry)) ⌝ }
+// Whether it is `all`, with which a replay goes on after a refusal: "Any other argument .. counts as none."
+pub fn is_all(argument: &[u8]) -> bool
+    ensures { λ r. ⌜ r ≡ same (now (argument .entry)) (97 ∷ 108 ∷ 108 ∷ []) ⌝ }
 {
-    if words != 2 {
-        return false;
-    }
     if argument.len() != 3 {
         return false;
     }

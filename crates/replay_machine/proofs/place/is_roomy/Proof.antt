@@ -1,0 +1,21 @@
+-- `replay_machine::place::is_roomy` meets its contract.
+-- Assumes nothing.
+use borrow.Author.Tests.{eq-eqb, ne-eqb, le-leb, lt-leb}
+use Rattle.replay_machine.specs.Standing.{roomy}
+use Rattle.replay_machine.proofs.place.is_roomy.Statement.{statement}
+use Rattle.replay_machine.proofs.place.is_roomy.Tie as tie
+
+returns : tie.Need-returns
+unfolding roomy
+returns c = rw (ne-eqb (c .before .args .words) 6464 (c .if1 .taken))
+
+returns-2 : tie.Need-returns-2
+unfolding roomy
+returns-2 c = rw (eq-eqb (c .before .before .args .words) 6464 (c .before .if1 .left), lt-leb 8 (c .before .before .args .input) (c .if2 .taken))
+
+returns-3 : tie.Need-returns-3
+unfolding roomy
+returns-3 c = rw (eq-eqb (c .before .before .args .words) 6464 (c .before .if1 .left), le-leb 8 (c .before .before .args .input) (c .if2 .left))
+
+pub is-roomy-spec : {M : Type 1} → statement M
+is-roomy-spec = tie.close (tie.spec returns returns-2 returns-3)

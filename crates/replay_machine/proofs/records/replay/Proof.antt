@@ -1,0 +1,11 @@
+-- `replay_machine::records::replay` meets its contract.
+-- Assumes nothing.
+use borrow.Author.Needs.{needs}
+use Rattle.replay_machine.proofs.records.replay.Statement.{statement}
+use Rattle.replay_machine.proofs.records.replay.Tie as tie
+
+replay-reached-requires : tie.Need-replay-reached-requires
+replay-reached-requires c κs = c .before .before .before .before .before .before .pre (c .before .before .if1 .taken)
+
+pub replay-spec : {M : Type 1} → statement M
+replay-spec = tie.close (tie.spec replay-reached-requires (λ c. search needs) (λ c. search needs) (λ c. search needs) (λ c κs. search needs) (λ c. search needs) (λ c. search needs) (λ c. search needs))

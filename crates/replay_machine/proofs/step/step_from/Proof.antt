@@ -1,0 +1,75 @@
+-- `replay_machine::step::step_from` meets its contract.
+-- Assumes nothing.
+use borrow.Author.Needs.{needs}
+use mathlib.Core.Path.{_≡_, refl, sym, _∙_, ap}
+use mathlib.Core.Bool.{true}
+use mathlib.Core.List.{List}
+use Prim.Native.Nat.{ℕ, _≤_}
+use native.Mathlib.Omega.{arith}
+use denote.Ref.{now}
+use lib.ListN.{length}
+use borrow.Author.Tests.{not-true, not-false}
+use Rattle.machines.specs.Machines.{stepped}
+use Rattle.machines.specs.Forms.{answerOf, Asks}
+use Rattle.replay_machine.specs.declared.place.Place.{Place}
+use Rattle.replay_machine.specs.Replaying.{State, asks, replaying}
+use Rattle.replay_machine.specs.Standing.{roomy, Holds, placeOf, stateIn, stateOf, Led}
+use Rattle.replay_machine.proofs.Places.{narrow-stopped, outside-stopped}
+use Rattle.replay_machine.proofs.Steps.{state-of, stepped-there, asks-there, too-short, stays, asks-stop}
+use Rattle.replay_machine.proofs.step.step_from.Statement.{statement}
+use Rattle.replay_machine.proofs.step.step_from.Tie as tie
+
+module _ (s : tie.Start) where
+  abbrev words : List ℕ
+  words = now (s .args .words)
+
+  abbrev memory : List ℕ
+  memory = now (s .args .memory)
+
+  abbrev input : List ℕ
+  input = now (s .args .input)
+
+  abbrev out : List ℕ
+  out = now (s .args .out)
+
+-- Where a state stands in the lists.
+module _ (c : tie.Else3) where
+  abbrev start : tie.Start
+  start = c .before .before .before .before .before .before .before .before .before .before .before
+
+  abbrev place : Place
+  place = c .before .before .load .result
+
+  holds : Holds place (words start) (input start) (out start)
+  holds = (sym (c .before .before .before .before .before .is-roomy .ensures) ∙ not-false (c .before .before .before .before .before .is-roomy .result) (c .before .before .before .before .if2 .left), sym (c .before .is-inside .ensures) ∙ not-false (c .before .is-inside .result) (c .if3 .left))
+
+  stands : stateOf (words start) (memory start) (input start) (out start) ≡ stateIn place (words start) (input start) (out start)
+  stands = state-of (words start) (memory start) (input start) (out start) (c .before .before .before .before .before .before .if1 .left) place (c .before .before .load .ensures)
+
+returns : tie.Need-returns
+returns c = let ended = too-short (words (c .before .before .before .before .before)) (memory (c .before .before .before .before .before)) (input (c .before .before .before .before .before)) (out (c .before .before .before .before .before)) (c .if1 .taken) in
+    (stays (words (c .before .before .before .before .before)) (memory (c .before .before .before .before .before)) (input (c .before .before .before .before .before)) (out (c .before .before .before .before .before)) ended _ _ _, asks-stop (words (c .before .before .before .before .before)) (memory (c .before .before .before .before .before)) (input (c .before .before .before .before .before)) (out (c .before .before .before .before .before)) ended _ _)
+
+returns-2 : tie.Need-returns-2
+returns-2 c = let ended = state-of (words (c .before .before .before .before .before .before .before)) (memory (c .before .before .before .before .before .before .before)) (input (c .before .before .before .before .before .before .before)) (out (c .before .before .before .before .before .before .before)) (c .before .before .if1 .left) _ refl ∙ narrow-stopped _ (words (c .before .before .before .before .before .before .before)) (input (c .before .before .before .before .before .before .before)) (out (c .before .before .before .before .before .before .before)) (sym (c .before .is-roomy .ensures) ∙ not-true (c .before .is-roomy .result) (c .if2 .taken)) in
+    (stays (words (c .before .before .before .before .before .before .before)) (memory (c .before .before .before .before .before .before .before)) (input (c .before .before .before .before .before .before .before)) (out (c .before .before .before .before .before .before .before)) ended _ _ _, asks-stop (words (c .before .before .before .before .before .before .before)) (memory (c .before .before .before .before .before .before .before)) (input (c .before .before .before .before .before .before .before)) (out (c .before .before .before .before .before .before .before)) ended _ _)
+
+returns-3 : tie.Need-returns-3
+returns-3 c = let ended = state-of (words (c .before .before .before .before .before .before .before .before .before .before .before)) (memory (c .before .before .before .before .before .before .before .before .before .before .before)) (input (c .before .before .before .before .before .before .before .before .before .before .before)) (out (c .before .before .before .before .before .before .before .before .before .before .before)) (c .before .before .before .before .before .before .if1 .left) (c .before .before .load .result) (c .before .before .load .ensures) ∙ outside-stopped (c .before .before .load .result) (words (c .before .before .before .before .before .before .before .before .before .before .before)) (input (c .before .before .before .before .before .before .before .before .before .before .before)) (out (c .before .before .before .before .before .before .before .before .before .before .before)) (sym (c .before .is-inside .ensures) ∙ not-true (c .before .is-inside .result) (c .if3 .taken)) in
+    (stays (words (c .before .before .before .before .before .before .before .before .before .before .before)) (memory (c .before .before .before .before .before .before .before .before .before .before .before)) (input (c .before .before .before .before .before .before .before .before .before .before .before)) (out (c .before .before .before .before .before .before .before .before .before .before .before)) ended _ _ _, asks-stop (words (c .before .before .before .before .before .before .before .before .before .before .before)) (memory (c .before .before .before .before .before .before .before .before .before .before .before)) (input (c .before .before .before .before .before .before .before .before .before .before .before)) (out (c .before .before .before .before .before .before .before .before .before .before .before)) ended _ _)
+
+after-requires : tie.Need-after-requires
+after-requires c κs = (holds (c .before .before .before), λ e. rw (stands (c .before .before .before)) at (c .before .before .before .before .before .before .before .before .before .before .before .before .before .before .pre e))
+
+request-of-requires : tie.Need-request-of-requires
+request-of-requires c κs = rw (c .before .before .before .before .before .before .before .before .before .before .before .before .before .after .kept .1 .0, c .before .before .before .before .before .before .before .before .before .before .before .before .before .after .kept .1 .1 .0, c .before .before .before .before .before .before .before .before .before .before .before .before .before .after .kept .1 .1 .1 .0) (holds (c .before .before .before .before .before .before .before .before .before .before .before .before .before .before .before .before .before) .0)
+
+returns-4 : tie.Need-returns-4
+returns-4 c = let q = sym (c .before .before .before .before .before .before .store .ensures) in let then = state-of (c .before .before .before .before .before .before .before .before .before .before .before .before .before .before .after .last .1 .0) (c .before .before .before .before .before .before .store .last .0) (c .before .before .before .before .before .before .before .before .before .before .before .before .before .before .after .last .1 .1 .0) (c .before .before .before .before .before .before .before .before .before .before .before .before .before .before .after .last .1 .1 .1 .0) (omega (arith, c .before .before .before .before .before .before .store .kept .0, c .before .before .before .before .before .before .before .before .before .before .before .before .before .before .before .before .before .before .before .before .before .before .before .before .if1 .left)) (c .before .before .before .before .before .before .before .before .before .before .before .before .before .before .after .result) q in
+    let s = c .before .before .before .before .before .before .before .before .before .before .before .before .before .before .before .before .before .before .before .before .before .before .before .before .before .before .before .before .before in (
+      then ∙ c .before .before .before .before .before .before .before .before .before .before .before .before .before .before .after .ensures ∙ stepped-there (words s) (memory s) (input s) (out s) (c .before .before .before .before .before .before .before .before .before .before .before .before .before .before .before .before .before .before .before .before .load .result) (c .before .before .before .before .before .before .before .before .before .before .before .before .before .before .before .before .before .before .before .before .load .ensures) (stands (c .before .before .before .before .before .before .before .before .before .before .before .before .before .before .before .before .before .before)) _ _ (s .args .answer),
+      asks-there (c .before .before .before .before .before .before .before .before .before .before .before .before .before .before .after .last .1 .0) (c .before .before .before .before .before .before .store .last .0) (c .before .before .before .before .before .before .before .before .before .before .before .before .before .before .after .last .1 .1 .0) (c .before .before .before .before .before .before .before .before .before .before .before .before .before .before .after .last .1 .1 .1 .0) (c .before .before .before .before .before .before .before .before .before .before .before .before .before .before .after .result) q then _ _ (c .request-of .ensures),
+    )
+
+pub step-from-spec : {M : Type 1} → statement M
+step-from-spec = tie.close (tie.spec returns (λ c κs. search needs) returns-2 (λ c κs. search needs) (λ c κs. search needs) (λ c. search needs) returns-3 after-requires (λ c κs. search needs) request-of-requires (λ c. search needs) (λ c. search needs) (λ c. search needs) (λ c. search needs) returns-4)

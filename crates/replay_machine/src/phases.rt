@@ -1,0 +1,207 @@
+// Where an answer leads, by phase.
+use crate::place;
+use crate::place::Place;
+use crate::records;
+use machines::Answer;
+use machines::heard;
+use machines::heard::Taken;
+use model::StartAnswer;
+ghost use mathlib.Core.Path.{_≡_};
+ghost use mathlib.Core.Bool.{true};
+ghost use Prim.Native.Nat.{_+_, _≤_, _<_};
+ghost use lib.ListN.{length};
+ghost use Rattle.laws.specs.Tests.{same};
+ghost use Rattle.model.specs.Words.{ones};
+ghost use Rattle.model.specs.Refusals.{startRefusal};
+ghost use Rattle.whole_runs.specs.WholeRuns.{Reachable};
+ghost use Rattle.words.specs.Layout.{runOf};
+ghost use Rattle.machines.specs.Machines.{heardRead, heardDone, heardCount, heardWord, brought, isNumber};
+ghost use Rattle.machines.specs.Forms.{answerOf, takenOf, Between};
+ghost use Rattle.replay_machine.specs.Replaying as m;
+ghost use Rattle.replay_machine.specs.Standing.{roomy, Holds, Lies, betweenIn, stateIn, holding, plainPlace};
+
+// The longest word that is compared.
+const LONGEST_WORD: usize = 4;
+
+fn fail_input(words: &[u16], input: &[u8], out: &mut [u8]) -> Place
+    requires { ⌜ roomy (length (now words)) (length (now input)) (length (now out)) ≡ true ⌝ }
+    ensures { λ r. ⌜ stateIn r (now (words .entry)) (now (input .entry)) (now (out .exit)) ≡ m.failing m.inputText ⌝ }
+{
+    let size = programs::text::write_word(out, 0, b"replay: standard input");
+    records::with_text(place::FAILING, size)
+}
+
+fn fail_output(words: &[u16], input: &[u8], out: &mut [u8]) -> Place
+    requires { ⌜ roomy (length (now words)) (length (now input)) (length (now out)) ≡ true ⌝ }
+    ensures { λ r. ⌜ stateIn r (now (words .entry)) (now (input .entry)) (now (out .exit)) ≡ m.failing m.outputText ⌝ }
+{
+    let size = programs::text::write_word(out, 0, b"replay: standard output");
+    records::with_text(place::FAILING, size)
+}
+
+// A place with nothing but a way.
+fn plain(phase: u64, all: bool) -> Place
+    ensures { λ r. ⌜ r ≡ plainPlace phase all ⌝ }
+{
+    Place {
+        phase,
+        all,
+        count: 0,
+        from: 0,
+        held: 0,
+        written: 0,
+    }
+}
+
+// "The first byte is n."
+fn begin_run(n: u8, all: bool, words: &mut [u16], input: &[u8], out: &mut [u8]) -> Place
+    requires { ⌜ roomy (length (now words)) (length (now input)) (length (now out)) ≡ true ⌝ }
+    ensures { λ r. ⌜ stateIn r (now (words .exit)) (now (input .entry)) (now (out .exit)) ≡ m.begun all n (startRefusal n ones) ⌝ }
+{
+    let counts = [1u32; 16];
+    let answer = in_place::start::start(words, n as usize, &counts);
+    match answer {
+        StartAnswer::Refused(why) => {
+            let size = output::line::refuse(0, why, out);
+            records::with_text(place::ENDING, size)
+        }
+        StartAnswer::Started => plain(place::READING, all),
+    }
+}
+
+// How many words the program was started with.
+pub(crate) fn after_count(
+    p: Place,
+    words: &[u16],
+    input: &[u8],
+    out: &[u8],
+    answer: Answer,
+) -> Place
+    requires { ⌜ roomy (length (now words)) (length (now input)) (length (now out)) ≡ true ⌝ }
+    ensures { λ r. ⌜ stateIn r (now (words .entry)) (now (input .entry)) (now (out .entry)) ≡ m.counted (isNumber (heardCount (answerOf answer (p .held) (now (input .entry)))) 2) ⌝ }
+{
+    let is_one = heard::is_number(answer, 2);
+    plain(place::COUNTED, is_one)
+}
+
+// Whether a word that came is `all`.
+fn is_all(taken: Taken, at: usize, input: &[u8]) -> bool
+    requires { ⌜ Between taken 0 4 × (at + 4 ≤ length (now input)) ⌝ }
+    ensures { λ r. ⌜ r ≡ same (brought (takenOf taken at (now (input .entry)))) m.allWord ⌝ }
+{
+    match taken {
+        Taken::Brought(size) => replay_input::arguments::is_all(&input[at..at + size]),
+        Taken::Ended => false,
+        Taken::Failed => false,
+    }
+}
+
+// The one argument.
+pub(crate) fn after_word(p: Place, words: &[u16], input: &[u8], out: &[u8], answer: Answer) -> Place
+    requires { ⌜ (roomy (length (now words)) (length (now input)) (length (now out)) ≡ true) × (p .held < 4) ⌝ }
+    ensures { λ r. ⌜ stateIn r (now (words .entry)) (now (input .entry)) (now (out .entry)) ≡ m.next (length (now (out .entry))) (m.counted (p .all)) (heardWord 4 (answerOf answer (p .held) (now (input .entry)))) ⌝ }
+{
+    let taken = heard::word(answer, LONGEST_WORD);
+    let is_it = is_all(taken, p.held, input);
+    plain(place::OPENING, p.all & is_it)
+}
+
+// The first byte, or none.
+pub(crate) fn after_first(
+    p: Place,
+    words: &mut [u16],
+    input: &[u8],
+    out: &mut [u8],
+    answer: Answer,
+) -> Place
+    requires { ⌜ (roomy (length (now words)) (length (now input)) (length (now out)) ≡ true) × (p .held < 4) ⌝ }
+    ensures { λ r. ⌜ stateIn r (now (words .exit)) (now (input .entry)) (now (out .exit)) ≡ m.opened (p .all) (heardRead 1 (answerOf answer (p .held) (now (input .entry)))) ⌝ }
+{
+    let at = p.held;
+    let taken = heard::read(answer, 1);
+    match taken {
+        Taken::Brought(_) => begin_run(input[at], p.all, words, input, out),
+        Taken::Ended => {
+            let size = output::ends::empty(out);
+            records::with_text(place::ENDING, size)
+        }
+        Taken::Failed => fail_input(words, input, out),
+    }
+}
+
+// So many bytes more are held.
+fn with_more(p: Place, more: usize) -> Place
+    requires { ⌜ (p .held < 4) × (more < 4000000004) ⌝ }
+    ensures { λ r. ⌜ r ≡ holding p more ⌝ }
+{
+    Place {
+        phase: place::READING,
+        all: p.all,
+        count: p.count,
+        from: 0,
+        held: p.held + more,
+        written: 0,
+    }
+}
+
+// The next bytes of the trace, or its end: "13 prints under the next record number and ends".
+pub(crate) fn after_read(
+    p: Place,
+    words: &mut [u16],
+    input: &mut [u8],
+    out: &mut [u8],
+    answer: Answer,
+    reached: bool,
+) -> Place
+    requires { ⌜ Holds p (now words) (now input) (now out) × (p .phase ≡ 3) × (reached ≡ true → Reachable (runOf (now words))) ⌝ }
+    ensures { λ r. ⌜ stateIn r (now (words .exit)) (now (input .exit)) (now (out .exit)) ≡ m.filled (length (now (out .entry))) (betweenIn p (now (words .entry)) (now (input .entry))) (heardRead (m.mostToRead (length (now (input .entry))) (betweenIn p (now (words .entry)) (now (input .entry)))) (answerOf answer (p .held) (now (input .entry)))) ⌝ }
+{
+    let at = p.held;
+    let most = replay_input::buffer::fill_to(p.count, input.len()) - at;
+    let taken = heard::read(answer, most);
+    match taken {
+        Taken::Brought(more) => records::take(with_more(p, more), words, input, out, reached),
+        Taken::Ended => {
+            let size = output::ends::end(p.count, &input[..at], out);
+            records::with_text(place::ENDING, size)
+        }
+        Taken::Failed => fail_input(words, input, out),
+    }
+}
+
+// The lines of some records are written: there may be more.
+pub(crate) fn after_lines(
+    p: Place,
+    words: &mut [u16],
+    input: &mut [u8],
+    out: &mut [u8],
+    answer: Answer,
+    reached: bool,
+) -> Place
+    requires { ⌜ Holds p (now words) (now input) (now out) × (reached ≡ true → Reachable (runOf (now words))) ⌝ }
+    ensures { λ r. ⌜ stateIn r (now (words .exit)) (now (input .exit)) (now (out .exit)) ≡ m.wrote (m.onward (length (now (out .entry))) (betweenIn p (now (words .entry)) (now (input .entry)))) (heardDone (answerOf answer (p .held) (now (input .entry)))) ⌝ }
+{
+    let is_written = heard::is_done(answer);
+    if is_written {
+        return records::take(p, words, input, out, reached);
+    }
+    fail_output(words, input, out)
+}
+
+// The last lines are written.
+pub(crate) fn after_last(
+    p: Place,
+    words: &[u16],
+    input: &[u8],
+    out: &mut [u8],
+    answer: Answer,
+) -> Place
+    requires { ⌜ roomy (length (now words)) (length (now input)) (length (now out)) ≡ true ⌝ }
+    ensures { λ r. ⌜ stateIn r (now (words .entry)) (now (input .entry)) (now (out .exit)) ≡ m.wrote m.stopped (heardDone (answerOf answer (p .held) (now (input .entry)))) ⌝ }
+{
+    let is_written = heard::is_done(answer);
+    if is_written {
+        return records::with_text(place::STOPPED, 0);
+    }
+    fail_output(words, input, out)
+}
