@@ -17,8 +17,8 @@ use Rattle.model.specs.Sound.{sound}
 use Rattle.model.specs.Refusals.{sendRefusal, loseRefusal}
 use Rattle.model.proofs.simulation.Accepted.{send-out}
 use Rattle.whole_runs.specs.Outcomes.{Outcome, judged, sendOutcome, loseOutcome}
-use Rattle.plans.specs.Sized as plans
-use Rattle.plans.proofs.Parts.{withMark, rows-back}
+use Rattle.receipts.specs.Sized as receipts
+use Rattle.receipts.proofs.Parts.{withMark, rows-back}
 use Rattle.run_words.specs.Fits.{pastMessages}
 use Rattle.run_words.specs.Readable.{afterSend, afterLose}
 use Rattle.run_words.proofs.Sizes.{Sized}
@@ -30,7 +30,7 @@ unfolding loseOutcome loseState withMessages afterLose
 lose-leaves s m = either-run (λ r. r ≡ afterLose s r) (loseRefusal s m) _ _ (λ r. refl) refl
 
 module _ (s : Run) (z : Sized s) (whole : sound s ≡ true) (i j : ℕ) where
-  plain : plans.Sized s
+  plain : receipts.Sized s
   plain = record {
     vectors = z .vectors;
     vector-row = z .vector-row;

@@ -94,7 +94,7 @@ fn list_as(role: Role, owned: u32, w: &[u16], deleted: &mut [u16]) -> ListAnswer
         return ListAnswer::Refused(Refusal::UnsoundState);
     }
     let n = denied::number_of(w[places::COUNT]);
-    let short = lent_lists::are_deletions_short(deleted.len(), n);
+    let short = verdicts::are_deletions_short(deleted.len(), n);
     if short {
         return ListAnswer::Refused(Refusal::ListTooShort);
     }

@@ -90,7 +90,7 @@ pub fn counts(role: u32, owned: u32, w: &[u16], line: &mut [u16]) -> LineAnswer
         return LineAnswer::Refused(Refusal::UnsoundState);
     }
     let n = denied::count_of(w);
-    let short = lent_lists::is_line_short(line.len(), n);
+    let short = verdicts::is_line_short(line.len(), n);
     if short {
         return LineAnswer::Refused(Refusal::ListTooShort);
     }

@@ -28,14 +28,14 @@ use Rattle.model.specs.Sound.{sound}
 use Rattle.model.specs.Refusals.{firstOf, deliverRefusal}
 use Rattle.model.proofs.Risen.{risen-is-exact}
 use Rattle.whole_runs.specs.Outcomes.{pairs, deliverAnswer, deliverOutcome}
-use Rattle.retention.specs.Receipt.{vectorFirst}
+use Rattle.receipts.specs.Receipt.{vectorFirst}
 use Rattle.verdicts.specs.declared.Verdict.{Verdict}
 use Rattle.verdicts.specs.declared.Verdict.the-variants as verdict
 use Rattle.verdicts.specs.Verdicts.{refusalOf}
-use Rattle.plans.specs.Sized.{Sized}
-use Rattle.plans.proofs.Billing.{billed-none}
-use Rattle.plans.proofs.Parts.{part-back}
-use Rattle.plans.proofs.Still.{none-newer, taken-still, settled-still, gone-still}
+use Rattle.receipts.specs.Sized.{Sized}
+use Rattle.receipts.proofs.Billing.{billed-none}
+use Rattle.receipts.proofs.Parts.{part-back}
+use Rattle.receipts.proofs.Still.{none-newer, taken-still, settled-still, gone-still}
 use Rattle.words.specs.Layout.{word, countOf, endOf, blocksAt, partAt, pinsAt, receiverAt, intervalOf, vectorIn, markIn, messageIn, runOf}
 use Rattle.words.specs.Parts.{processIn}
 use Rattle.words.proofs.Same.{vector-length, pins-length}

@@ -22,7 +22,7 @@ use Rattle.model.specs.laws.Refusals.{skipped}
 use Rattle.whole_runs.specs.Outcomes.{sendOutcome}
 use Rattle.verdicts.specs.declared.Verdict.the-variants.{Accepted, Refused}
 use Rattle.verdicts.specs.Verdicts.{refusalOf, sendVerdict}
-use Rattle.plans.proofs.Cases.{accepted-send, verdict-rules}
+use Rattle.verdicts.proofs.Cases.{accepted-send, verdict-rules}
 use Rattle.words.specs.Layout.{size, word, wide2, countOf, endOf, heldAt, markAt, blocksAt, partAt, pinsAt, vectorIn, pinsIn, markIn, keptIn, messageIn, isMessage, messagesIn, endFits, fits, runOf}
 use Rattle.words.specs.Parts.{processIn}
 use Rattle.words.specs.Frames.{OnlyProcess, OnlyMessages}

@@ -44,7 +44,7 @@ pub fn checkpoint_on(w: &mut [u16], i: usize, deleted: &mut [u16]) -> Checkpoint
     ensures { λ r. ⌜ Leaves (now (w .entry)) (now (w .exit)) ⌝ }
 {
     let n = w[places::COUNT] as usize;
-    let short = lent_lists::are_deletions_short(deleted.len(), n);
+    let short = verdicts::are_deletions_short(deleted.len(), n);
     if short {
         return CheckpointAnswer::Refused(Refusal::ListTooShort);
     }

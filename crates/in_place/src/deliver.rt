@@ -132,7 +132,7 @@ pub fn deliver_on(w: &mut [u16], m: u32, deleted: &mut [u16]) -> Delivered
     ensures { λ r. ⌜ Leaves (now (w .entry)) (now (w .exit)) ⌝ }
 {
     let n = w[places::COUNT] as usize;
-    let short = lent_lists::are_deletions_short(deleted.len(), n);
+    let short = verdicts::are_deletions_short(deleted.len(), n);
     if short {
         return refuse(Refusal::ListTooShort);
     }

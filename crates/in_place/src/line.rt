@@ -58,7 +58,7 @@ pub fn line_on(w: &[u16], failed: u32, line: &mut [u16]) -> LineAnswer
     ensures { λ r. ⌜ now (line .exit) ≡ lineOutcome (runOf (now (w .entry))) failed (now (line .entry)) .line ⌝ }
 {
     let n = w[places::COUNT] as usize;
-    let short = lent_lists::is_line_short(line.len(), n);
+    let short = verdicts::is_line_short(line.len(), n);
     if short {
         return LineAnswer::Refused(Refusal::ListTooShort);
     }

@@ -30,7 +30,7 @@ use Rattle.decision.specs.Rows.{entryAt, rowOf, putRow, put-same, put-other, pu
 use Rattle.decision.specs.Held.{intervalOf, Held}
 use Rattle.judge_trace.specs.declared.reading.Progress.{Progress}
 use Rattle.judge_trace.specs.declared.reading.Found.{Found}
-use Rattle.plans.proofs.Cases.{verdict-rules}
+use Rattle.verdicts.proofs.Cases.{verdict-rules}
 use Rattle.judge_trace.specs.Readings.{Roomy, liveEntry, checkpointRefusal, withRow, SendRoom, sendRefusal, sentCarried, withMessage, isUnderWay, foundIn, withoutOne, DeliverRoom, receiptVectors, FirstRows}
 use Rattle.judge_trace.specs.Kept.{Tables, tables, Waits, Kept}
 use Rattle.judge_trace.proofs.Begin.{own-begin, begin-held}

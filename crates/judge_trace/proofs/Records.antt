@@ -4,7 +4,7 @@ use mathlib.Core.Path.{_≡_, refl, sym, _∙_}
 use mathlib.Core.Bool.{true, false, not}
 use mathlib.Core.List.{List, [], _∷_}
 use mathlib.Core.Option.{Option, none, some}
-use Prim.Native.Nat.{ℕ, suc, _+_, _-_, _<_}
+use Prim.Native.Nat.{ℕ, suc, _+_, _<_}
 use lib.ListN.{getD, set}
 use borrow.Author.Tests.{leb-false}
 use Rattle.laws.specs.Choice.{by-bool}
@@ -12,7 +12,6 @@ use Rattle.model.specs.declared.Event.{Event}
 use Rattle.model.specs.declared.Event.the-variants.{Checkpoint, Send, Deliver, Lose, Recover}
 use Rattle.model.specs.declared.Refusal.{Refusal}
 use Rattle.model.specs.declared.Refusal.the-variants.{NotUnderWay, MalformedRecord}
-use Rattle.model.specs.Words.{mostUnderWay}
 use Rattle.model.specs.Refusals.{firstOf}
 use Rattle.model.specs.laws.Refusals.{no-rule, by-refusal}
 use Rattle.patterns.specs.Patterns.{Pattern, recordRefusal, taken}

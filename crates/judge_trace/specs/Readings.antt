@@ -1,12 +1,12 @@
 -- What a record does to the tables and to the progress of the reading.
 -- Assumes nothing.
 use mathlib.Core.Path.{_≡_, refl, sym, _∙_, ap}
-use mathlib.Core.Bool.{Bool, true, false, not, _&&_, _||_, false≢true}
+use mathlib.Core.Bool.{Bool, true, false, not, _&&_, false≢true}
 use mathlib.Core.List.{List, [], _∷_}
 use mathlib.Core.Option.{Option, none, some}
 use Prim.Native.Nat.{ℕ, zero, suc, _+_, _-_, _≤_, _<_}
 use lib.Dec.{eqb, ltb, leb}
-use borrow.Author.Tests.{eq-eqb, ne-eqb, lt-leb, le-leb, lt-ltb, ltb-true, leb-false}
+use borrow.Author.Tests.{eq-eqb, ne-eqb, lt-leb, le-leb, lt-ltb, ltb-true}
 use native.Mathlib.Omega.{arith}
 use lib.ListN.{length, getD, set, replicate, length-set, length-replicate, getD-replicate}
 use lib.Seq.{getD-set-same, getD-set-other}
@@ -14,14 +14,14 @@ use Rattle.laws.specs.Choice.{pick, by-bool, by-eq}
 use Rattle.model.specs.declared.Interval.{Interval}
 use Rattle.model.specs.declared.Refusal.{Refusal}
 use Rattle.model.specs.declared.Refusal.the-variants.{NoSuchProcess, NotUnderWay, IntervalsUsed}
-use Rattle.model.specs.Words.{entry, ones, mostUnderWay, mostMessages, mostInterval}
+use Rattle.model.specs.Words.{entry, ones, mostInterval}
 use Rattle.model.specs.Steps.{advanced, takenVector, started}
 use Rattle.model.specs.Refusals.{firstOf}
 use Rattle.whole_runs.specs.Outcomes.{judged}
 use Rattle.verdicts.specs.declared.Verdict.{Verdict}
 use Rattle.verdicts.specs.declared.Verdict.the-variants as verdict
 use Rattle.verdicts.specs.Verdicts.{refusalOf, sendVerdict}
-use Rattle.plans.proofs.Cases.{accepted-send}
+use Rattle.verdicts.proofs.Cases.{accepted-send}
 use Rattle.decision.specs.Rows.{rowOf, putRow, entryAt, put-same, put-other, put-length}
 use Rattle.judge_trace.specs.declared.reading.Progress.{Progress}
 use Rattle.judge_trace.specs.declared.reading.Taking.{Taking}

@@ -8,7 +8,7 @@ use verdicts::Verdict;
 ghost use mathlib.Core.Path.{_≡_};
 ghost use mathlib.Core.Option.{some};
 ghost use Prim.Native.Nat.{_+_, _*_, _≤_, _<_};
-ghost use lib.ListN.{length, getD};
+ghost use lib.ListN.{length};
 ghost use Rattle.decision.specs.Rows.{rowOf};
 ghost use Rattle.trace.specs.Answers.{eventIn};
 ghost use Rattle.judge_trace.specs.Kept.{tables, Sized, Ready, Reads, ReadsAll};
@@ -244,8 +244,7 @@ fn put_receipt(vectors: &mut [u16], carried: &[u16], row: usize, place: usize)
 {
     let own = decision::flat::row_at(vectors, row);
     let news = decision::flat::row_at(carried, place);
-    let taken = rows::vector::take_in(own, news);
-    let vector = taken.vector;
+    let vector = rows::vector::greatest(own, news);
     decision::flat::put_row(vectors, row, vector);
 }
 

@@ -24,7 +24,7 @@ use Rattle.model.specs.declared.Pin.{Pin}
 use Rattle.model.specs.declared.Pin.the-variants.{Nothing, At}
 use Rattle.model.specs.Words.{entry, below, names, inSet}
 use Rattle.model.specs.Steps.{takenPin, takenPins, risen}
-use Rattle.retention.specs.Receipt.{pinsFirst}
+use Rattle.receipts.specs.Receipt.{pinsFirst}
 use Rattle.words.specs.Layout.{word, indexOf, pinOf, rowIn, pinsIn}
 use Rattle.words.proofs.Reading.{pin-back}
 use Rattle.words.proofs.Same.{row-word}

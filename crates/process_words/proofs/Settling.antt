@@ -19,7 +19,7 @@ use Rattle.model.specs.declared.Disk.{Disk}
 use Rattle.model.specs.declared.Pin.{Pin}
 use Rattle.model.specs.Words.{named}
 use Rattle.model.specs.Steps.{billed}
-use Rattle.retention.specs.Receipt.{keptThen}
+use Rattle.receipts.specs.Receipt.{keptThen}
 use Rattle.words.specs.Clean.{CleanKept}
 use Rattle.words.specs.Frames.{OnlyProcess, OnlyDisk}
 use Rattle.words.specs.Layout.{word, wide4, heldAt, markAt, blocksAt, partAt, pinsAt, indexAt, causeAt, storedAt, indexOf, pinOf, vectorIn, pinsIn, markIn, checkpointIn}

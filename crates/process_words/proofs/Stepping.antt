@@ -23,10 +23,10 @@ use Rattle.model.specs.declared.Pin.the-variants.{Nothing, At}
 use Rattle.model.specs.Words.{basic, forced, entry, liveIndex, names, named, Process, blocksOf, blockCount, noCheckpoint, process, own}
 use Rattle.model.specs.Sound.{ascending, sound}
 use Rattle.model.specs.Steps.{listed, settled, gone, deletions, billed, storing, checkpointed, advanced, takenVector, takenPins, risen}
-use Rattle.retention.specs.Receipt.{vectorFirst, pinsFirst, vectorThen, pinsThen, keptThen}
-use Rattle.plans.proofs.Billing.{blocks-of-some}
-use Rattle.plans.proofs.Receipts.{receipt-room, receipt-leaves, receipt-gone}
-use Rattle.plans.proofs.Settling.{indexes, moved-own, stays-behind, deleted-before, room-behind}
+use Rattle.receipts.specs.Receipt.{vectorFirst, pinsFirst, vectorThen, pinsThen, keptThen}
+use Rattle.receipts.proofs.Billing.{blocks-of-some}
+use Rattle.receipts.proofs.Receipts.{receipt-room, receipt-leaves, receipt-gone}
+use Rattle.receipts.proofs.Settling.{indexes, moved-own, stays-behind, deleted-before, room-behind}
 use Rattle.whole_runs.specs.Outcomes.{pairs}
 use Rattle.words.specs.Clean.{CleanKept}
 use Rattle.words.specs.Frames.{OnlyProcess}

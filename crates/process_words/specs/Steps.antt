@@ -12,7 +12,7 @@ use Rattle.model.specs.declared.Pin.{Pin}
 use Rattle.model.specs.declared.Checkpoint.{Checkpoint}
 use Rattle.model.specs.Words.{forced, named, Process}
 use Rattle.model.specs.Steps.{checkpointed, takenIn}
-use Rattle.retention.specs.Receipt.{keptThen}
+use Rattle.receipts.specs.Receipt.{keptThen}
 use Rattle.words.specs.Layout.{word, heldAt, blocksAt, partAt, vectorIn, markIn, checkpointIn}
 
 -- The checkpoint that process i stores.

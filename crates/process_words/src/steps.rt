@@ -13,7 +13,7 @@ ghost use Rattle.laws.specs.Lists.{select, table};
 ghost use Rattle.model.specs.Words.{basic, forced, entry, named, blocksOf};
 ghost use Rattle.model.specs.Sound.{sound};
 ghost use Rattle.model.specs.Steps.{listed, settled, gone, deletions, billed, advanced, checkpointed, takenVector, risen};
-ghost use Rattle.retention.specs.Receipt.{vectorFirst};
+ghost use Rattle.receipts.specs.Receipt.{vectorFirst};
 ghost use Rattle.whole_runs.specs.Outcomes.{pairs};
 ghost use Rattle.words.specs.Layout.{word, countOf, heldAt, markAt, blocksAt, partAt, pinsAt, intervalOf, vectorIn, checkpointIn, runOf};
 ghost use Rattle.words.specs.Parts.{processIn};

@@ -122,7 +122,7 @@ pub fn recover_on(
     ensures { λ r. ⌜ Leaves (now (w .entry)) (now (w .exit)) ⌝ }
 {
     let n = w[places::COUNT] as usize;
-    let short = lent_lists::is_too_short(deleted.len(), line.len(), n);
+    let short = verdicts::is_too_short(deleted.len(), line.len(), n);
     if short {
         return RecoverAnswer::Refused(Refusal::ListTooShort);
     }

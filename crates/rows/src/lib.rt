@@ -1,5 +1,4 @@
-// Leaves on one process's part of the state, by value: its vector, and the rows as a state holds them. No whole state is touched here, nor in the crates
-// `retention`, `members` and `recovery`, which go on with a process's pins, its kept checkpoints and its turn in a recovery.
+// Leaves on one process's part of the state, by value: its vector, and the rows as a state holds them. No whole state is touched here.
 // A row has 16 places whatever the count of processes. Places at the count and above hold zero or no pin, so a loop over all 16 does what a loop
 // over the processes would, and it has no exit on the way.
 
@@ -14,6 +13,3 @@ pub mod vector;
 
 // checkpoint.rt: a checkpoint that is stored
 pub mod checkpoint;
-
-// disk.rt: the blocks written and deleted
-pub mod disk;

@@ -7,7 +7,7 @@ ghost use mathlib.Core.Path.{_≡_};
 ghost use mathlib.Core.List.{List};
 ghost use Prim.Native.Nat.{ℕ, _<_};
 ghost use Rattle.model.specs.Words.{zeroVector, noPins, noCheckpoint};
-ghost use Rattle.model.specs.Steps.{checkpointZero, started};
+ghost use Rattle.model.specs.Steps.{started};
 
 pub fn zero_vector() -> [Interval; 16]
     ensures { λ r. ⌜ r ≡ zeroVector ⌝ }
@@ -39,12 +39,4 @@ pub fn first_vector(p: usize) -> [Interval; 16]
     let mut v = zero_vector();
     v[p] = Interval(1);
     v
-}
-
-// The checkpoint that a process with this block count stores at the start: checkpoint 0, with a vector of zeros.
-pub fn checkpoint_zero(blocks: u16) -> Checkpoint
-    ensures { λ r. ⌜ r ≡ checkpointZero blocks ⌝ }
-{
-    let zeros = zero_vector();
-    super::checkpoint::stored(CheckpointIndex(0), zeros, 0, blocks)
 }

@@ -28,9 +28,9 @@ use Rattle.model.specs.declared.Run.{Run}
 use Rattle.model.specs.Words.{places, mostUnderWay, mostMessages, mostBlocks, entry, lastStored, names, named, Process, blocksOf, zeroVector, noCheckpoint, noMessage, process, withProcess, own, underWay, withMessages, withDisk}
 use Rattle.model.specs.Sound.{within, ascending, pinSound, messageSound, zeroFrom, unusedCheckpoint, unusedMessage, nothingFrom, recordSound, keptBlocks, sound}
 use Rattle.model.specs.laws.Sound.{SoundProcess, SoundState, sound-state}
-use Rattle.plans.specs.Sized.{Sized}
-use Rattle.plans.proofs.Facts.{place}
-use Rattle.plans.proofs.Filled.{row-many}
+use Rattle.receipts.specs.Sized.{Sized}
+use Rattle.receipts.proofs.Facts.{place}
+use Rattle.receipts.proofs.Filled.{row-many}
 use Rattle.words.proofs.View.{placed-past}
 use Rattle.sound_calls.proofs.Assembling.{sound-in}
 use Rattle.sound_calls.proofs.Keeping.{every-then, Loose, Fine, loose-rise}

@@ -28,7 +28,7 @@ use Rattle.model.specs.Words.{places, entry, below, liveIndex, lastStored, name
 use Rattle.model.specs.Steps.{settled, advanced, storing, checkpointed, takenEntry, takenVector, takenPin, takenPins, takenIn}
 use Rattle.model.specs.Sound.{ascending, pinSound, zeroFrom, isNothing, nothingFrom, causeSound, isBlockCount, recordSound}
 use Rattle.words.proofs.Ascending.{selected-passes}
-use Rattle.plans.proofs.Settling.{indexes, ascending-one, ascending-last, named-most, taken-own}
+use Rattle.receipts.proofs.Settling.{indexes, ascending-one, ascending-last, named-most, taken-own}
 
 -- What passes one test passes another.
 pub every-then : {A : Type 0} (t u : A → Bool) (l : List A) → ((x : A) → t x ≡ true → u x ≡ true) → every t l ≡ true → every u l ≡ true

@@ -34,8 +34,8 @@ use Rattle.model.specs.laws.Sound.{SoundState, sound-state, sound-message}
 use Rattle.model.proofs.simulation.Accepted.{checkpoint-out, send-out, deliver-out}
 use Rattle.whole_runs.specs.Outcomes.{message, checkpointOutcome, sendOutcome, deliverOutcome, loseOutcome}
 use Rattle.whole_runs.proofs.Sizes.{last-passes}
-use Rattle.plans.specs.Sized.{Sized}
-use Rattle.plans.proofs.Filled.{messages-many}
+use Rattle.receipts.specs.Sized.{Sized}
+use Rattle.receipts.proofs.Filled.{messages-many}
 use Rattle.words.specs.Layout.{runOf}
 use Rattle.words.proofs.ViewSizes.{vectors-size, vector-row-size, pins-size, pin-row-size, sent-size, kept-size, kept-row-size, stored-size, held-size, messages-size, carried-size}
 use Rattle.sound_calls.specs.Staying.{CallsKeepSound}

@@ -1,2 +1,4 @@
 -- Laws that belong to no one function.
 pub mod Outside
+pub mod Cases
+pub mod Room

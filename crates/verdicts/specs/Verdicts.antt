@@ -1,7 +1,7 @@
 -- Whether a call is refused, and why, as the functions of this crate decide it. Each follows the tests of specs/Refusals of the model in their order, but for a state
 -- that is not sound and for lent lists that are too short.
 -- Assumes nothing.
-use mathlib.Core.Bool.{Bool, true, false}
+use mathlib.Core.Bool.{Bool}
 use mathlib.Core.Option.{Option, none, some}
 use Prim.Native.Nat.{ℕ, _+_, _^_}
 use lib.Dec.{eqb, ltb, leb}
@@ -9,7 +9,6 @@ use Rattle.laws.specs.Choice.{pick}
 use Rattle.model.specs.declared.Refusal.{Refusal}
 use Rattle.model.specs.declared.Refusal.the-variants.{NoSuchProcess, SenderIsReceiver, NoSuchFailedProcess, TooManyUnderWay, MessageNumbersUsed}
 use Rattle.model.specs.Words.{mostBlocks}
-use Rattle.verdicts.specs.declared.Recovery.{Recovery}
 use Rattle.verdicts.specs.declared.Verdict.{Verdict}
 use Rattle.verdicts.specs.declared.Verdict.the-variants.{Accepted, Refused}
 
@@ -35,11 +34,3 @@ sendVerdict i j n underway last =
 -- A line or a recovery for failed set F in a run of n processes, whether somebody failed or nobody.
 unfoldable pub recoveryVerdict : ℕ → ℕ → Verdict
 recoveryVerdict n F = pick (leb (2 ^ n) F) (Refused NoSuchFailedProcess) Accepted
-
--- The recovery that it asks for, if it is not refused.
-unfoldable pub noRecovery : Recovery
-noRecovery = record { asked = false; failed = 0 }
-
-unfoldable pub recoveryIf : Verdict → ℕ → Recovery
-recoveryIf Accepted F = record { asked = true; failed = F }
-recoveryIf (Refused why) F = noRecovery

@@ -1,21 +1,16 @@
-// Whether a call is refused, and why, by the counts of a state and what the call names: the tests that several functions ask. The calls of the library, the replay of
+// Whether a call is refused, and why, by the counts of a state, what the call names and how long the lists are that it is lent: the tests that several functions ask. The calls of the library, the replay of
 // a trace and the judge of a foreign one ask the same.
 use model::Interval;
 use model::Refusal;
 ghost use mathlib.Core.Path.{_≡_};
-ghost use Prim.Native.Nat.{_≤_, _^_};
-ghost use lib.Dec.{leb};
-ghost use Rattle.verdicts.specs.Verdicts.{pastMost, sendVerdict, recoveryVerdict, recoveryIf};
+ghost use mathlib.Core.Bool.{_||_};
+ghost use Prim.Native.Nat.{_*_, _≤_, _^_};
+ghost use lib.Dec.{leb, ltb};
+ghost use Rattle.verdicts.specs.Verdicts.{pastMost, sendVerdict, recoveryVerdict};
 
 pub enum Verdict {
     Accepted,
     Refused(Refusal),
-}
-
-// The recovery that is carried out for a failed set, and whether there is one at all. That nobody failed is a set as any other: it asks for a sweep.
-pub struct Recovery {
-    pub asked: bool,
-    pub failed: u16,
 }
 
 // The own entry is that of the last interval: no checkpoint can follow.
@@ -76,20 +71,27 @@ pub fn recovery_verdict(failed: u32, n: usize) -> Verdict
     Verdict::Accepted
 }
 
-// A failed set asks for a recovery exactly if it is not refused. Its bits are then below n.
-pub fn recovery_asked(failed: u32, n: usize) -> Recovery
+// A deletion list has room for two numbers of each checkpoint that n processes keep, at most n each.
+pub fn are_deletions_short(length: usize, n: usize) -> bool
     requires { ⌜ n ≤ 16 ⌝ }
-    ensures { λ r. ⌜ r ≡ recoveryIf (recoveryVerdict n failed) failed ⌝ }
+    ensures { λ r. ⌜ r ≡ ltb length (2 * n * n) ⌝ }
 {
-    let verdict = recovery_verdict(failed, n);
-    match verdict {
-        Verdict::Refused(why) => Recovery {
-            asked: false,
-            failed: 0,
-        },
-        Verdict::Accepted => Recovery {
-            asked: true,
-            failed: failed as u16,
-        },
-    }
+    length < 2 * n * n
+}
+
+// A line list has room for one index of each process.
+pub fn is_line_short(length: usize, n: usize) -> bool
+    ensures { λ r. ⌜ r ≡ ltb length n ⌝ }
+{
+    length < n
+}
+
+// One of the two is too short.
+pub fn is_too_short(deleted: usize, line: usize, n: usize) -> bool
+    requires { ⌜ n ≤ 16 ⌝ }
+    ensures { λ r. ⌜ r ≡ (ltb deleted (2 * n * n) || ltb line n) ⌝ }
+{
+    let short = are_deletions_short(deleted, n);
+    let short_line = is_line_short(line, n);
+    short | short_line
 }

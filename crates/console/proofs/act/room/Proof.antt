@@ -2,7 +2,7 @@
 use native.Mathlib.Omega.{arith}
 use borrow.Author.Needs.{needs}
 use Prim.Native.Nat.{_*_, _≤_}
-use Rattle.lent_lists.proofs.Room.{twice-square}
+use Rattle.verdicts.proofs.Room.{twice-square}
 use Rattle.console.proofs.act.room.Statement.{statement}
 use Rattle.console.proofs.act.room.Tie as tie
 

@@ -1,17 +1,15 @@
 -- `judge_trace::reading::put_receipt` meets its contract.
 -- Assumes nothing.
 use borrow.Author.Needs.{needs}
-use mathlib.Core.Path.{_∙_, ap}
-use Rattle.rows.specs.declared.vector.Taken.{Taken}
+use mathlib.Core.Path.{_∙_}
 use Rattle.judge_trace.specs.Readings.{receipt-is}
 use Rattle.judge_trace.proofs.reading.put_receipt.Statement.{statement}
 use Rattle.judge_trace.proofs.reading.put_receipt.Tie as tie
 use Rattle.decision.proofs.flat.put_row.Reads as put-row-reads
 use Rattle.decision.proofs.flat.row_at.Reads as row-at-reads
-use Rattle.rows.proofs.vector.take_in.Reads as take-in-reads
 
 returns : tie.Need-returns
-returns c = c .before .before .put-row .ensures ∙ receipt-is _ _ _ _ _ _ _ (c .before .before .before .before .before .before .before .row-at .ensures) (c .before .before .before .before .before .before .row-at2 .ensures) (ap (λ (t : Taken). t .vector) (c .before .before .before .before .before .take-in .ensures))
+returns c = c .before .before .put-row .ensures ∙ receipt-is _ _ _ _ _ _ _ (c .before .before .before .before .before .before .row-at .ensures) (c .before .before .before .before .before .row-at2 .ensures) (c .before .before .before .before .greatest .ensures)
 
 pub put-receipt-spec : {M : Type 1} → statement M
 put-receipt-spec =

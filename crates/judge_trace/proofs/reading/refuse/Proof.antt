@@ -1,7 +1,6 @@
 -- `judge_trace::reading::refuse` meets its contract.
 -- Assumes nothing.
 use mathlib.Core.Path.{refl}
-use Prim.Native.Nat.{_-_}
 use Rattle.judge_trace.specs.Readings.{refusedStep}
 use Rattle.judge_trace.proofs.reading.refuse.Statement.{statement}
 use Rattle.judge_trace.proofs.reading.refuse.Tie as tie

@@ -1,6 +1,6 @@
 -- `judge_trace::reading::send_refusal` meets its contract, by the verdict.
 -- Assumes nothing.
-use mathlib.Core.Path.{_≡_, sym, _∙_, ap}
+use mathlib.Core.Path.{_≡_, sym}
 use borrow.Author.Needs.{needs}
 use Rattle.verdicts.specs.declared.Verdict.the-variants.{Accepted}
 use Rattle.verdicts.specs.Verdicts.{refusalOf}

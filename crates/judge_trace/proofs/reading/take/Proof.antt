@@ -1,7 +1,6 @@
 -- `judge_trace::reading::take` meets its contract.
 -- Assumes nothing.
 use mathlib.Core.Path.{refl}
-use Prim.Native.Nat.{_-_}
 use Rattle.judge_trace.specs.Readings.{takenStep}
 use Rattle.judge_trace.proofs.reading.take.Statement.{statement}
 use Rattle.judge_trace.proofs.reading.take.Tie as tie

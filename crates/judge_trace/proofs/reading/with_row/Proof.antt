@@ -2,7 +2,6 @@
 -- Assumes nothing.
 use borrow.Author.Needs.{needs}
 use mathlib.Core.Path.{refl}
-use Prim.Native.Nat.{_-_}
 use Rattle.judge_trace.specs.Readings.{withRow}
 use Rattle.judge_trace.proofs.reading.with_row.Statement.{statement}
 use Rattle.judge_trace.proofs.reading.with_row.Tie as tie

@@ -12,7 +12,7 @@ use Rattle.model.specs.Sound.{sound}
 use Rattle.model.specs.Words.{basic, entry, liveIndex, blocksOf}
 use Rattle.model.specs.Steps.{listed, settled, gone, deletions, billed, advanced, checkpointed}
 use Rattle.whole_runs.specs.Outcomes.{pairs}
-use Rattle.retention.specs.Receipt.{keptThen}
+use Rattle.receipts.specs.Receipt.{keptThen}
 use Rattle.words.specs.Layout.{word, countOf, heldAt, blocksAt, partAt, pinsAt, rowIn, vectorIn, runOf}
 use Rattle.words.specs.Parts.{processIn}
 use Rattle.words.specs.Puts.{puts, vectorPut}

@@ -14,7 +14,7 @@ use Rattle.model.specs.Sound.{sound}
 use Rattle.model.specs.Words.{forced, entry, liveIndex, blocksOf}
 use Rattle.model.specs.Steps.{listed, settled, gone, deletions, billed, takenVector, risen}
 use Rattle.whole_runs.specs.Outcomes.{pairs}
-use Rattle.retention.specs.Receipt.{vectorFirst, keptThen}
+use Rattle.receipts.specs.Receipt.{vectorFirst, keptThen}
 use Rattle.words.specs.Layout.{markIn, word, countOf, blocksAt, partAt, pinsAt, rowIn, vectorIn, runOf}
 use Rattle.words.specs.Parts.{processIn}
 use Rattle.words.specs.Puts.{puts, vectorPut}

@@ -8,7 +8,7 @@ use lib.ListN.{length, length-set}
 use Rattle.laws.specs.Loops.{either}
 use Rattle.model.specs.declared.Interval.{Interval}
 use Rattle.model.specs.Steps.{advanced, takenVector, risen}
-use Rattle.retention.specs.Receipt.{vectorFirst}
+use Rattle.receipts.specs.Receipt.{vectorFirst}
 use Rattle.words.specs.Layout.{partAt, vectorIn}
 use Rattle.words.specs.Puts.{puts, vectorPut}
 use Rattle.words.proofs.Same.{vector-back, vector-length}

@@ -1,4 +1,0 @@
-pub mod Carried
-pub mod Planned
-pub mod Sized
-pub mod Tables

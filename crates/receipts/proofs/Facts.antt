@@ -1,0 +1,27 @@
+-- What follows from the clauses of a sound state: places for what it holds, and the live state behind the kept checkpoints.
+-- Assumes nothing.
+use mathlib.Core.Path.{_≡_}
+use mathlib.Core.Bool.{true}
+use Prim.Native.Nat.{ℕ, _*_, _≤_, _<_}
+use native.Mathlib.Nat.{mul-le-mul}
+use native.Mathlib.Omega.{arith}
+use lib.ListN.{getD}
+use Rattle.model.specs.declared.Run.{Run}
+use Rattle.model.specs.Words.{places}
+use Rattle.model.specs.Sound.{sound}
+use Rattle.model.specs.laws.Sound.{sound-state}
+
+module _ (s : Run) (h : sound s ≡ true) where
+  -- there is a place for each process of the run
+  pub place : (p : ℕ) → p < s .count → p < places
+  place p lt = omega (arith, sound-state s h .count-most)
+
+  pub square-most : 2 * s .count * s .count ≤ 512
+  square-most =
+      let most = sound-state s h .count-most in
+      omega (arith, mul-le-mul {n₁ = 2 * s .count} {m₁ = s .count} {n₂ = 32} {m₂ = 16} (omega arith) most)
+
+  module _ (p : ℕ) (lt : p < s .count) where
+    -- no more checkpoints are kept than there are places
+    pub held-places : getD (s .held) p 0 ≤ places
+    held-places = omega (arith, sound-state s h .processes p lt .held-most, sound-state s h .count-most)

@@ -1,4 +1,0 @@
--- Laws that belong to no one function.
-pub mod Deletions
-pub mod KeptRows
-pub mod PinsBySet

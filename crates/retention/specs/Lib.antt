@@ -1,3 +1,0 @@
-pub mod Deletions
-pub mod Kept
-pub mod Receipt

@@ -1,3 +1,0 @@
-pub mod After
-pub mod Members
-pub mod Restored
