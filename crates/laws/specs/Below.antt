@@ -2,17 +2,15 @@
 use mathlib.Core.Path.{_≡_, refl, ap}
 use mathlib.Core.Bool.{Bool, true, false, not, _&&_}
 use mathlib.Core.List.{List}
-use Prim.Native.Nat.{ℕ, zero, suc, _+_, _<_}
-use native.Mathlib.Numerals.{add-one}
+use Prim.Native.Nat.{ℕ, zero, suc, _+_}
 use native.Mathlib.Omega.{arith}
 use lib.Seq.{sets}
-use Rattle.laws.specs.Choice.{pick, by-bool}
+use Rattle.laws.specs.Choice.{by-bool}
 use Rattle.laws.specs.Lists.{table}
 use Rattle.laws.specs.Loops.{setBelow}
 use Rattle.laws.specs.Rows.{all-turn}
 use Rattle.laws.specs.Search.{allBelow, anyBelow}
 use Rattle.laws.specs.Tables.{length-table}
-use Rattle.laws.specs.Tests.{countBelow}
 use Rattle.laws.specs.Written.{sets-append}
 
 pub not-out : (a b : Bool) → not a ≡ b → a ≡ not b
@@ -31,21 +29,8 @@ all-not-any (suc n) t u h = by-bool (u n)
 pub all-and : (t : ℕ → Bool) (i : ℕ) (mark x : Bool) → mark ≡ allBelow i t → x ≡ t i → (mark && x) ≡ allBelow (i + 1) t
 all-and t i mark x inv e = rw e (all-turn t i mark inv)
 
--- Two ways of replacing the entries below n that agree there.
-pub below-same : {A : Type 0} (n : ℕ) (f g : ℕ → A) (l : List A) → ((k : ℕ) → k < n → f k ≡ g k) → setBelow n f l ≡ setBelow n g l
-unfolding setBelow
-below-same zero f g l h = refl
-below-same (suc n) f g l h = rw (h n (omega arith), below-same n f g l (λ k lt. h k (omega arith)))
-
 -- Written one by one, the entries of a table go to the front of a list.
 pub below-written : {A : Type 0} (n : ℕ) (f : ℕ → A) (l : List A) → setBelow n f l ≡ sets l 0 (table n f)
 unfolding setBelow table
 below-written zero f l = refl
 below-written (suc n) f l = let place : 0 + n ≡ n = omega arith in rw (below-written n f l, sets-append, length-table n f, place)
-
--- One more is counted where it passes.
-pub count-turn : (t : ℕ → Bool) (i c : ℕ) → c ≡ countBelow i t → pick (t i) (c + 1) c ≡ countBelow (i + 1) t
-unfolding countBelow
-count-turn t i c inv = by-bool (t i)
-    (λ e. rw (add-one i, e, inv))
-    (λ e. rw (add-one i, e, inv) (omega arith))

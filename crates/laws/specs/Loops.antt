@@ -101,7 +101,3 @@ module _ (t : ℕ → Bool) where
   pub all-yes : (i : ℕ) (b : Bool) → b ≡ allBelow i t → t i ≡ true → b ≡ allBelow (i + 1) t
   unfolding allBelow
   all-yes i b inv e = rw (add-one, e, inv)
-
-  pub all-no : (i : ℕ) → t i ≡ false → false ≡ allBelow (i + 1) t
-  unfolding allBelow
-  all-no i e = rw (add-one, e)

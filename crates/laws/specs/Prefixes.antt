@@ -3,14 +3,13 @@
 use mathlib.Core.Path.{_≡_, refl, sym}
 use mathlib.Core.Bool.{Bool, true, false, _||_}
 use mathlib.Core.List.{List, [], _∷_, _++_, append-nil, append-assoc}
-use Prim.Native.Nat.{ℕ, zero, suc, _+_, _-_, _<_, _≤_}
+use Prim.Native.Nat.{ℕ, suc, _+_, _-_, _<_, _≤_}
 use native.Mathlib.Numerals.{add-one, unary-clauses}
 use native.Mathlib.Omega.{arith}
 use lib.ListN.{length, getD, set, take, replicate, length-append, length-replicate}
 use lib.Seq.{take-suc, set-append-seam}
 use Rattle.laws.specs.Choice.{by-bool}
 use Rattle.laws.specs.Lists.{select, orElse, lastOf, placed}
-use Rattle.laws.specs.Search.{anyBelow}
 use Rattle.laws.specs.Select.{select-append, some-append}
 use Rattle.laws.specs.Tests.{every, some-of}
 use Rattle.laws.specs.Truth.{and-both, and-left, and-right}
@@ -73,18 +72,6 @@ pub placed-length : {A : Type 0} (n : ℕ) (d : A) (l : List A) → length l ≤
 unfolding placed
 placed-length n d l h = rw (length-append, length-replicate) (omega arith)
 
--- A loop that lays the chosen of the first i entries into a table: the table so far, how many it holds, and the two ways on.
-module _ {A : Type 0} (t : A → Bool) (l : List A) (n : ℕ) (unused : A) (i : ℕ) (d : A) (h : i < length l) (out : List A) (w : ℕ)
-    (count : w ≡ length (select t (take i l))) (laid : out ≡ placed n unused (select t (take i l))) where
-  pub laid-yes : t (getD l i d) ≡ true → w < n
-      → (w + 1 ≡ length (select t (take (i + 1) l))) × (set out w (getD l i d) ≡ placed n unused (select t (take (i + 1) l)))
-  laid-yes e room =
-      rw (select-yes t l i d h e, length-append, laid, count)
-      (refl, placed-more n unused (select t (take i l)) (getD l i d) (rw count at room))
-
-  pub laid-no : t (getD l i d) ≡ false → (w ≡ length (select t (take (i + 1) l))) × (out ≡ placed n unused (select t (take (i + 1) l)))
-  laid-no e = rw (select-no t l i d h e) (count, laid)
-
 -- One of two tests: no more are chosen than by the two one after the other.
 pub select-or : {A : Type 0} (t u : A → Bool) (l : List A) → length (select (λ x. t x || u x) l) ≤ length (select t l) + length (select u l)
 unfolding select
@@ -93,20 +80,6 @@ select-or t u (x ∷ l) =
     by-bool (t x)
     (λ e. by-bool (u x) (λ d. rw (e, d) (omega (arith, select-or t u l))) (λ d. rw (e, d) (omega (arith, select-or t u l))))
     (λ e. by-bool (u x) (λ d. rw (e, d) (omega (arith, select-or t u l))) (λ d. rw (e, d) (omega (arith, select-or t u l))))
-
--- Some entry passes: some index below the length has an entry that does.
-pub any-shift : (n : ℕ) (t : ℕ → Bool) → anyBelow (suc n) t ≡ (t 0 || anyBelow n (λ k. t (suc k)))
-unfolding anyBelow
-any-shift zero t = refl
-any-shift (suc n) t =
-    by-bool (t (suc n))
-    (λ e. rw e (by-bool (t 0) (λ q. rw q) (λ q. rw q)))
-    (λ e. rw e (any-shift n t))
-
-pub some-any : {A : Type 0} (t : A → Bool) (l : List A) (d : A) → some-of t l ≡ anyBelow (length l) (λ k. t (getD l k d))
-unfolding some-of anyBelow
-some-any t [] d = refl
-some-any t (x ∷ l) d = rw (some-any t l d) (sym (any-shift (length l) (λ k. t (getD (x ∷ l) k d))))
 
 -- Where none passes, none is chosen.
 pub select-none : {A : Type 0} (t : A → Bool) (l : List A) → ((x : A) → t x ≡ false) → select t l ≡ []

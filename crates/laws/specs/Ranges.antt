@@ -1,10 +1,10 @@
 -- Searches below a bound with two tests or two bounds: tests that agree below give the same answer, and numbers that fail do not count.
-use mathlib.Core.Path.{_≡_, refl, _∙_}
+use mathlib.Core.Path.{_≡_, refl}
 use mathlib.Core.Bool.{Bool, false}
 use Prim.Native.Nat.{ℕ, zero, suc, _≤_, _<_}
 use native.Mathlib.Omega.{arith}
 use Rattle.laws.specs.Choice.{by-bool, by-eq}
-use Rattle.laws.specs.Search.{anyBelow, allBelow, latest, any-in, any-out, latest-skip}
+use Rattle.laws.specs.Search.{anyBelow, allBelow, any-in, any-out}
 use Rattle.laws.specs.Truth.{never-both}
 
 pub any-same : (n : ℕ) (t u : ℕ → Bool) → ((k : ℕ) → k < n → t k ≡ u k) → anyBelow n t ≡ anyBelow n u
@@ -27,16 +27,6 @@ any-wider n zero t le h = rw (zero-of n le)
 any-wider n (suc m) t le h = by-eq n (suc m)
     (λ e. rw e)
     (λ ne. rw (h m (omega arith) (omega arith)) (any-wider n m t (omega arith) (λ k a b. h k a (omega arith))))
-
-pub latest-wider : (n m : ℕ) (t : ℕ → Bool) → n ≤ m → ((k : ℕ) → n ≤ k → k < m → t k ≡ false) → latest m t ≡ latest n t
-unfolding latest
-latest-wider n zero t le h = rw (zero-of n le)
-  where
-    zero-of : (n : ℕ) → n ≤ 0 → n ≡ 0
-    zero-of n h = omega arith
-latest-wider n (suc m) t le h = by-eq n (suc m)
-    (λ e. rw e)
-    (λ ne. latest-skip m t (h m (omega arith) (omega arith)) ∙ latest-wider n m t (omega arith) (λ k a b. h k a (omega arith)))
 
 -- Where at most one number can pass, some number passes exactly if that one does.
 pub any-only : (n : ℕ) (t : ℕ → Bool) (p : ℕ) → p < n → ((q : ℕ) → q < n → (q ≡ p → ⊥) → t q ≡ false) → anyBelow n t ≡ t p

@@ -2,18 +2,17 @@
 -- it; these laws take one element off what is left, and say what is left of a list that is used up.
 use mathlib.Core.Path.{_≡_, refl, sym, _∙_}
 use mathlib.Core.Bool.{Bool, true, false, _&&_, _||_}
-use mathlib.Core.List.{List, [], _∷_, map, map-append, append-nil}
-use mathlib.Core.Option.{none, some}
-use Prim.Native.Nat.{ℕ, zero, suc, _+_, _-_, _≤_, _<_}
+use mathlib.Core.List.{List, [], _∷_, map}
+use mathlib.Core.Option.{some}
+use Prim.Native.Nat.{ℕ, zero, suc, _+_, _≤_, _<_}
 use native.Mathlib.Numerals.{add-one}
 use native.Mathlib.Omega.{arith}
-use lib.ListN.{length, getD, set, take, drop, replicate, drop-of-length-le, length-map}
-use lib.Seq.{drop-cons, length-take-le, take-all}
+use lib.ListN.{length, getD, take, drop, drop-of-length-le}
+use lib.Seq.{drop-cons}
 use lib.Dec.{ltb}
 use borrow.Author.Tests.{ltb-true, ltb-false}
 use Rattle.laws.specs.Choice.{by-bool}
-use Rattle.laws.specs.Lists.{lastOf, placed}
-use Rattle.laws.specs.Prefixes.{take-more, placed-none, placed-more}
+use Rattle.laws.specs.Lists.{lastOf}
 use Rattle.laws.specs.Search.{allBelow, all-out}
 use Rattle.laws.specs.Tests.{every, some-of}
 use Rattle.laws.specs.Truth.{and-left, and-right, and-no-right, never-both}
@@ -22,11 +21,6 @@ use Rattle.laws.specs.Truth.{and-left, and-right, and-no-right, never-bo
 pub and-group : (a b c : Bool) → ((a && b) && c) ≡ (a && (b && c))
 and-group true b c = refl
 and-group false b c = refl
-
--- Three tests of which one must hold, grouped to the left and to the right.
-pub or-group : (a b c : Bool) → ((a || b) || c) ≡ (a || (b || c))
-or-group true b c = refl
-or-group false b c = refl
 
 pub and-true : (a : Bool) → (a && true) ≡ a
 and-true true = refl
@@ -49,42 +43,20 @@ module _ {A : Type 0} (t : A → Bool) (l : List A) (i : ℕ) where
   unfolding every
   every-rest d h = rw (add-one, drop-cons l i d h)
 
-  pub some-rest : (d : A) → i < length l → some-of t (drop i l) ≡ (t (getD l i d) || some-of t (drop (i + 1) l))
-  unfolding some-of
-  some-rest d h = rw (add-one, drop-cons l i d h)
-
   -- nothing is left
   pub every-done : length l ≤ i → every t (drop i l) ≡ true
   unfolding every
   every-done h = rw (drop-of-length-le l h)
-
-  pub some-done : length l ≤ i → some-of t (drop i l) ≡ false
-  unfolding some-of
-  some-done h = rw (drop-of-length-le l h)
 
 -- A turn of a loop that keeps a mark and goes on: the mark so far and the test of what is left are the test of the whole.
 module _ {A : Type 0} (t : A → Bool) (l : List A) (i : ℕ) (d : A) (h : i < length l) (mark whole : Bool) where
   pub every-turn : (mark && every t (drop i l)) ≡ whole → ((mark && t (getD l i d)) && every t (drop (i + 1) l)) ≡ whole
   every-turn inv = and-group mark (t (getD l i d)) (every t (drop (i + 1) l)) ∙ rw (← every-rest t l i d h) inv
 
-  pub some-turn : (mark || some-of t (drop i l)) ≡ whole → ((mark || t (getD l i d)) || some-of t (drop (i + 1) l)) ≡ whole
-  some-turn inv = or-group mark (t (getD l i d)) (some-of t (drop (i + 1) l)) ∙ rw (← some-rest t l i d h) inv
-
 -- The loop's end: the mark is the test of the whole.
 module _ {A : Type 0} (t : A → Bool) (l : List A) (i : ℕ) (h : length l ≤ i) (mark whole : Bool) where
   pub every-end : (mark && every t (drop i l)) ≡ whole → mark ≡ whole
   every-end inv = sym (and-true mark) ∙ rw (every-done t l i h) at inv
-
-  pub some-end : (mark || some-of t (drop i l)) ≡ whole → mark ≡ whole
-  some-end inv = sym (or-false mark) ∙ rw (some-done t l i h) at inv
-
--- A loop that stops at the first element that fails: as long as none has, what is left decides.
-module _ {A : Type 0} (t : A → Bool) (l : List A) (i : ℕ) (d : A) (h : i < length l) (whole : Bool) where
-  pub every-pass : every t (drop i l) ≡ whole → t (getD l i d) ≡ true → every t (drop (i + 1) l) ≡ whole
-  every-pass inv e = sym (every-rest t l i d h ∙ rw e) ∙ inv
-
-  pub every-stop : every t (drop i l) ≡ whole → t (getD l i d) ≡ false → false ≡ whole
-  every-stop inv e = sym (every-rest t l i d h ∙ rw e) ∙ inv
 
 -- Every element passes: by index.
 pub every-at : {A : Type 0} (t : A → Bool) (l : List A) (k : ℕ) (d : A) → k < length l → every t l ≡ true → t (getD l k d) ≡ true
@@ -140,36 +112,10 @@ all-stop n t i h e = by-bool (allBelow n t) (λ q. never-both (t i) (all-out n t
 pub by-lt {ℓ} : {P : Type ℓ} (k n : ℕ) → (k < n → P) → (n ≤ k → P) → P
 by-lt k n f g = by-bool (ltb k n) (λ e. f (ltb-true k n e)) (λ e. g (ltb-false k n e))
 
--- A loop that lays f of each of the first elements of a list into a table.
-module _ {A B : Type 0} (f : A → B) (n : ℕ) (unused : B) (l : List A) where
-  pub placed-start : replicate n unused ≡ placed n unused (map f (take 0 l))
-  placed-start = placed-none n unused
-
-  pub placed-turn : (i : ℕ) (d : A) (xs : List B) → i < length l → i < n → xs ≡ placed n unused (map f (take i l))
-      → set xs i (f (getD l i d)) ≡ placed n unused (map f (take (i + 1) l))
-  placed-turn i d xs h b inv =
-      let size : length (map f (take i l)) ≡ i = length-map (take i l) f ∙ length-take-le i l (omega arith) in
-      let next = placed-more n unused (map f (take i l)) (f (getD l i d)) (omega arith) in
-      rw (inv, take-more l i d h, map-append) (rw size at next)
-
-  -- the whole list, where it fills the table
-  pub placed-full : length l ≡ n → placed n unused (map f (take n l)) ≡ map f l
-  unfolding placed
-  placed-full h =
-      let all : take n l ≡ l = take-all n l (omega arith) in
-      let none : n - length (map f l) ≡ 0 = omega (arith, length-map l f) in
-      rw (all, none) (append-nil (map f l))
-
 pub every-map : {A B : Type 0} (t : B → Bool) (f : A → B) (l : List A) → every t (map f l) ≡ every (λ x. t (f x)) l
 unfolding every
 every-map t f [] = refl
 every-map t f (x ∷ l) = rw (every-map t f l)
-
--- Two tests that agree everywhere agree on a list.
-pub every-same : {A : Type 0} (t u : A → Bool) (l : List A) → ((x : A) → t x ≡ u x) → every t l ≡ every u l
-unfolding every
-every-same t u [] h = refl
-every-same t u (x ∷ l) h = rw (h x, every-same t u l h)
 
 -- Two tests of every element together.
 pub every-both : {A : Type 0} (t u : A → Bool) (l : List A) → every (λ x. t x && u x) l ≡ (every t l && every u l)

@@ -102,9 +102,3 @@ pub latest-none : (n : ℕ) (t : ℕ → Bool) → ((k : ℕ) → k < n → t k 
 unfolding latest
 latest-none zero t h = refl
 latest-none (suc n) t h = rw (h n (omega arith)) (latest-none n t (λ k lt. h k (omega arith)))
-
--- Two tests that agree below the bound have the same latest one.
-pub latest-same : (n : ℕ) (t u : ℕ → Bool) → ((k : ℕ) → k < n → t k ≡ u k) → latest n t ≡ latest n u
-unfolding latest
-latest-same zero t u h = refl
-latest-same (suc n) t u h = rw (h n (omega arith), latest-same n t u (λ k lt. h k (omega arith)))

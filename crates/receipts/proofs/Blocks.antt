@@ -3,33 +3,17 @@
 use mathlib.Core.Path.{_≡_, refl}
 use mathlib.Core.Bool.{Bool, true}
 use mathlib.Core.List.{List, [], _∷_}
-use Prim.Native.Nat.{ℕ, zero, suc, _*_, _≤_}
+use Prim.Native.Nat.{ℕ, _*_}
 use native.Mathlib.Omega.{arith}
 use lib.Dec.{eqb}
-use lib.ListN.{length, getD, take}
+use lib.ListN.{length}
 use borrow.Author.Tests.{eqb-true}
 use Rattle.laws.specs.Choice.{by-bool}
 use Rattle.laws.specs.Lists.{select}
 use Rattle.laws.specs.Tests.{every}
 use Rattle.laws.specs.Truth.{and-out}
 use Rattle.model.specs.declared.Checkpoint.{Checkpoint}
-use Rattle.model.specs.Words.{pastEnd, noCheckpoint, blocksOf}
-
-pub times-at-most : (a b most : ℕ) → b ≤ most → a * b ≤ a * most
-times-at-most zero b most h = omega arith
-times-at-most (suc a) b most h = omega (arith, times-at-most a b most h)
-
--- No more are taken than asked for.
-pub take-most : {A : Type 0} (k : ℕ) (l : List A) → length (take k l) ≤ k
-take-most zero l = omega arith
-take-most (suc k) [] = omega arith
-take-most (suc k) (x ∷ l) = omega (arith, take-most k l)
-
--- The first of a row that holds some is the first of those.
-pub first-count : (row : List Checkpoint) (held : ℕ) → 1 ≤ held → getD row 0 pastEnd .blocks ≡ getD (take held row) 0 noCheckpoint .blocks
-first-count row zero h = absurd (omega arith)
-first-count [] (suc held) h = refl
-first-count (c ∷ row) (suc held) h = refl
+use Rattle.model.specs.Words.{blocksOf}
 
 -- Of checkpoints with the same count, so many blocks for each.
 pub blocks-equal : (count : ℕ) (l : List Checkpoint) → every (λ c. eqb (c .blocks) count) l ≡ true → blocksOf l ≡ length l * count

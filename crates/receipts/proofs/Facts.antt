@@ -2,8 +2,7 @@
 -- Assumes nothing.
 use mathlib.Core.Path.{_≡_}
 use mathlib.Core.Bool.{true}
-use Prim.Native.Nat.{ℕ, _*_, _≤_, _<_}
-use native.Mathlib.Nat.{mul-le-mul}
+use Prim.Native.Nat.{ℕ, _≤_, _<_}
 use native.Mathlib.Omega.{arith}
 use lib.ListN.{getD}
 use Rattle.model.specs.declared.Run.{Run}
@@ -15,11 +14,6 @@ module _ (s : Run) (h : sound s ≡ true) where
   -- there is a place for each process of the run
   pub place : (p : ℕ) → p < s .count → p < places
   place p lt = omega (arith, sound-state s h .count-most)
-
-  pub square-most : 2 * s .count * s .count ≤ 512
-  square-most =
-      let most = sound-state s h .count-most in
-      omega (arith, mul-le-mul {n₁ = 2 * s .count} {m₁ = s .count} {n₂ = 32} {m₂ = 16} (omega arith) most)
 
   module _ (p : ℕ) (lt : p < s .count) where
     -- no more checkpoints are kept than there are places

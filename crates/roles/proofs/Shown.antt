@@ -36,10 +36,6 @@ pub shown-same : (c : Caller) (n : ℕ) (lent : List ℕ) → shown c n lent len
 unfolding shown
 shown-same c n lent = sym (table-is 0 lent (length lent) _ refl (λ p lt. sym (pick-same (entitled c n p) (getD lent p 0))))
 
-pub shown-whole : (c : Caller) (n : ℕ) (lent wrote : List ℕ) → length wrote ≡ length lent → ((p : ℕ) → entitled c n p ≡ true) → shown c n lent wrote ≡ wrote
-unfolding shown
-shown-whole c n lent wrote e all = sym (table-is 0 wrote (length lent) _ e (λ p lt. rw (all p)))
-
 pub own-members-alone : OwnMembersAlone
 unfolding OwnMembersAlone consoleLine
 own-members-alone c s F lent = record {

@@ -2,7 +2,7 @@
 -- inside a block, its later records and all that follows print nothing. Where the replay stops at a record, nothing behind it is printed.
 -- Assumes nothing.
 use mathlib.Core.Path.{_≡_, refl, sym, _∙_, ap}
-use mathlib.Core.Bool.{Bool, true, false, _&&_}
+use mathlib.Core.Bool.{Bool, true, _&&_}
 use mathlib.Core.List.{List, [], _∷_, _++_, append-nil, append-assoc}
 use Prim.Native.Nat.{ℕ, zero, suc, _+_, _*_, _≤_, _<_}
 use native.Mathlib.Omega.{arith}
@@ -12,9 +12,8 @@ use lib.Seq.{length-take-le, take-add}
 use borrow.Author.Tests.{lt-ltb, le-ltb, ltb-false}
 use Rattle.laws.specs.Choice.{pick, pick-same, by-bool}
 use Rattle.model.specs.declared.Run.{Run}
-use Rattle.model.specs.declared.Refusal.the-variants.{LeftOverBytes}
 use Rattle.model.specs.Trace.{decoded}
-use Rattle.whole_runs.specs.Listing.{perform, lineText, refusalText, mostRecords, goesOn, records, goesOnBehind, stateAfterRecords}
+use Rattle.whole_runs.specs.Listing.{perform, lineText, mostRecords, goesOn, records, goesOnBehind, stateAfterRecords}
 
 -- Past the limit nothing is printed, whatever follows.
 pub past-limit : (all : Bool) (done : ℕ) (s : Run) (l : List ℕ) → mostRecords ≤ done → records all done s l ≡ []

@@ -16,7 +16,7 @@ use Rattle.laws.specs.Tests.{every}
 use Rattle.laws.specs.Truth.{never-both}
 use Rattle.model.specs.declared.Run.{Run}
 use Rattle.model.specs.declared.Event.{Event}
-use Rattle.model.specs.Words.{places, ones, blockCount, process}
+use Rattle.model.specs.Words.{places, ones, process}
 use Rattle.model.specs.Steps.{startState}
 use Rattle.model.specs.Refusals.{number, startRefusal}
 use Rattle.model.specs.Trace.{decoded}
@@ -31,7 +31,6 @@ use Rattle.model.proofs.simulation.View.{checkpointOf, processOf}
 use Rattle.model.proofs.simulation.Reads.{count-is, process-is}
 use Rattle.model.proofs.simulation.Kept.{kept-every}
 use Rattle.model.proofs.simulation.Billing.{stored-blocks}
-use Rattle.model.proofs.simulation.SoundCalls.{count-is-of}
 use Rattle.model.proofs.simulation.Accepted.{start-out}
 use Rattle.whole_runs.proofs.whole.Reached.{Reached}
 use Rattle.whole_runs.proofs.whole.Runs.{runAfter, counts-after}
@@ -82,18 +81,10 @@ module _ (n : ℕ) (ok : startRefusal n ones ≡ none) (calls : List Call) where
     small : p < places
     small = omega (arith, inside, reached .limits .few-processes)
 
-    one-count : blockCount (process (stateAfter (startOutcome n ones .run) calls) p) ≡ 1
-    one-count = ap (λ (t : Run). blockCount (process t p)) (reached .state) ∙ count-is-of r (reached .inv) (reached .limits) p inside ∙ run-counts p small
-
     ones-kept : every (λ c. eqb (c .blocks) 1) (process (stateAfter (startOutcome n ones .run) calls) p .kept) ≡ true
     unfolding processOf
     ones-kept = rw (reached .state, process-is r p (reached .limits .few-processes) inside)
         (kept-every r p _ (λ k lt e. eq-eqb (checkpointOf r p k .blocks) 1 (stored-blocks r p k lt ∙ run-counts p small)))
-
--- So it is in every state of a trace run.
-pub traced-count : (s : Run) → Traced s → (p : ℕ) → p < s .count → blockCount (process s p) ≡ 1
-unfolding Traced
-traced-count s v = rw (v .3) (one-count (v .0) (v .1) (v .2))
 
 pub traced-kept : (s : Run) → Traced s → (p : ℕ) → p < s .count → every (λ c. eqb (c .blocks) 1) (process s p .kept) ≡ true
 unfolding Traced

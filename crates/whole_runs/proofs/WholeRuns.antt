@@ -17,10 +17,9 @@ use Rattle.laws.specs.Sums.{sum-same}
 use Rattle.model.specs.declared.Named.{Named}
 use Rattle.model.specs.declared.Run.{Run}
 use Rattle.model.specs.declared.StartAnswer.the-variants.{Started}
-use Rattle.model.specs.declared.Refusal.{Refusal}
 use Rattle.model.specs.declared.Refusal.the-variants.{CountOutsideRange, BlockCountOutsideRange}
-use Rattle.model.specs.Words.{places, blank, withDisk}
-use Rattle.model.specs.Steps.{checkpointZero, started, opening, withProcesses, startState}
+use Rattle.model.specs.Words.{places, blank}
+use Rattle.model.specs.Steps.{started, opening, withProcesses, startState}
 use Rattle.model.specs.Sound.{isBlockCount, sound}
 use Rattle.histories.specs.History.{checkpoints}
 use Rattle.model.specs.Refusals.{firstOf, startRefusal}

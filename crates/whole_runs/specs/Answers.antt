@@ -15,7 +15,7 @@ use Rattle.laws.specs.Search.{anyBelow}
 use Rattle.laws.specs.Tests.{countBelow, some-of}
 use Rattle.model.specs.declared.Named.{Named}
 use Rattle.model.specs.Words.{inSet, failed}
-use Rattle.histories.specs.History.{HistoryEvent, stored, sent, received, Lists, Line, checkpoints, behind, beforeCheckpoint, Consistent, before, ComesBefore}
+use Rattle.histories.specs.History.{sent, Line, checkpoints, behind, beforeCheckpoint, Consistent, before, ComesBefore}
 use Rattle.whole_runs.specs.Calls.{Call, checkpoint, send, deliver, lose, recover, line, earliest, Exchange}
 use Rattle.whole_runs.specs.Earliest.{someAbsent, unfit}
 use Rattle.whole_runs.specs.Survival.{Surviving, after, surviving}

@@ -1,7 +1,7 @@
 -- Document 02, Note 8, "The earliest state to show in a debugger": "Developers pick some kept checkpoints and want the earliest consistent line through all of
 -- them." The line, the refusals and the outcome of the call. What is promised of the line is in Answers and WholeRuns.
 -- Assumes nothing.
-use mathlib.Core.Bool.{Bool, true, false, _||_, not}
+use mathlib.Core.Bool.{Bool, false, _||_, not}
 use mathlib.Core.List.{List, [], _∷_}
 use mathlib.Core.Option.{Option}
 use Prim.Native.Nat.{ℕ, max}

@@ -6,13 +6,10 @@ use Prim.Native.Nat.{ℕ, _+_, _≤_, _<_}
 use native.Mathlib.Omega.{arith}
 use Rattle.laws.specs.Rows.{by-lt}
 use Rattle.words.specs.Layout.{word, heldAt, markAt, blocksAt, partAt}
-use Rattle.words.specs.Frames.{OnlyProcess, OnlyMessages, OnlyDisk}
+use Rattle.words.specs.Frames.{OnlyProcess, OnlyDisk}
 
 pub process-stays : (w : List ℕ) (p : ℕ) → OnlyProcess w w p
 process-stays w p = record { size = refl; front = λ k a b c. refl; lower = λ k a b. refl; upper = λ k a. refl }
-
-pub messages-stay : (w : List ℕ) → OnlyMessages w w
-messages-stay w = record { size = refl; count = refl; disk = λ k a b. refl; rest = λ k a b. refl }
 
 pub disk-stays : (w : List ℕ) → OnlyDisk w w
 disk-stays w = record { size = refl; front = λ k a. refl; rest = λ k a. refl }
@@ -24,14 +21,6 @@ module _ (w v u : List ℕ) where
     front = λ k lt x y. b .front k lt x y ∙ a .front k lt x y;
     lower = λ k x y. b .lower k x y ∙ a .lower k x y;
     upper = λ k x. b .upper k x ∙ a .upper k x;
-  }
-
-  pub messages-then : OnlyMessages w v → OnlyMessages v u → OnlyMessages w u
-  messages-then a b = record {
-    size = b .size ∙ a .size;
-    count = b .count ∙ a .count;
-    disk = λ k x y. b .disk k x y ∙ a .disk k x y;
-    rest = λ k x y. b .rest k x y ∙ a .rest k x y;
   }
 
   pub disk-then : OnlyDisk w v → OnlyDisk v u → OnlyDisk w u

@@ -1,6 +1,6 @@
 -- Words that agree on a section are read the same there, and what was put is read back.
 -- Assumes nothing.
-use mathlib.Core.Path.{_≡_, refl, sym, _∙_, ap}
+use mathlib.Core.Path.{_≡_, refl, sym, ap}
 use mathlib.Core.List.{List, [], _∷_}
 use Prim.Native.Nat.{ℕ, _+_, _*_, _≤_, _<_}
 use native.Mathlib.Omega.{arith}
@@ -9,7 +9,7 @@ use Rattle.laws.specs.Tables.{length-table, getD-table, table-same, table-is}
 use Rattle.model.specs.declared.Interval.{Interval}
 use Rattle.model.specs.Words.{entry}
 use Rattle.words.specs.Layout.{word, heldAt, blocksAt, indexAt, causeAt, storedAt, lowAt, highAt, senderAt, receiverAt, carriedAt, intervalOf, pinOf, rowIn, vectorIn, pinsIn, checkpointIn, isKeptIn, keptIn, messageIn}
-use Rattle.words.specs.Puts.{puts, rowPut, vectorPut}
+use Rattle.words.specs.Puts.{puts, vectorPut}
 use Rattle.words.proofs.Reading.{touched}
 
 -- Rows have 16 entries, and these are the words.
@@ -33,10 +33,6 @@ pub vector-word : (w : List ℕ) (at f : ℕ) → f < 16 → entry (vectorIn w a
 unfolding vectorIn
 vector-word w at f lt = getD-table 16 (λ q. intervalOf (word w (at + q))) f (record { 0 = 0 }) lt
 
--- The words of a vector are its row.
-pub vector-row : (w : List ℕ) (at f : ℕ) → f < 16 → entry (vectorIn w at) f .0 ≡ getD (rowIn w at) f 0
-vector-row w at f lt = ap (λ (x : Interval). x .0) (vector-word w at f lt) ∙ sym (row-word w at f lt)
-
 -- Two lists of words that agree on 16 words, from a in the one and from b in the other.
 module _ (w v : List ℕ) (a b : ℕ) (same : (f : ℕ) → f < 16 → word w (a + f) ≡ word v (b + f)) where
   pub row-same : rowIn w a ≡ rowIn v b
@@ -59,10 +55,6 @@ vector-is w at v long same = sym (table-is (record { 0 = 0 }) v 16 (λ f. interv
 -- What was put is read back.
 pub vector-back : (w : List ℕ) (at : ℕ) (v : List Interval) → length v ≡ 16 → at + 16 ≤ length w → vectorIn (puts w (vectorPut at v ∷ [])) at ≡ v
 vector-back w at v long fits = vector-is (puts w (vectorPut at v ∷ [])) at v long (λ f lt. touched w (vectorPut at v ∷ []) 0 f (at + f) (refl, lt, fits, tt))
-
-pub row-back : (w : List ℕ) (at : ℕ) (r : List ℕ) → length r ≡ 16 → at + 16 ≤ length w → rowIn (puts w (rowPut at r ∷ [])) at ≡ r
-unfolding rowIn
-row-back w at r long fits = sym (table-is 0 r 16 _ long (λ f lt. sym (touched w (rowPut at r ∷ []) 0 f (at + f) (refl, lt, fits, tt))))
 
 -- The kept checkpoint in place k of p in the one, in place j of q in the other.
 pub checkpoint-moved : (w v : List ℕ) (p q k j : ℕ) → word w (indexAt p k) ≡ word v (indexAt q j) → word w (causeAt p k) ≡ word v (causeAt q j)

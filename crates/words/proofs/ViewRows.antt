@@ -1,10 +1,10 @@
 -- What the rows of words hold whose run is sound: no entry above the own entry that it is of, zeros at n and above, each pin at a kept checkpoint and each kept
 -- checkpoint pinned.
 -- Assumes nothing.
-use mathlib.Core.Path.{_≡_, refl, sym, ap}
-use mathlib.Core.Bool.{Bool, true, false}
+use mathlib.Core.Path.{_≡_, ap}
+use mathlib.Core.Bool.{Bool, true}
 use mathlib.Core.List.{List}
-use Prim.Native.Nat.{ℕ, zero, suc, _+_, _-_, _≤_, _<_}
+use Prim.Native.Nat.{ℕ, _+_, _≤_, _<_}
 use native.Mathlib.Omega.{arith}
 use lib.Dec.{eqb, leb}
 use lib.ListN.{getD}
@@ -13,33 +13,19 @@ use Rattle.laws.specs.Lists.{table}
 use Rattle.laws.specs.Rows.{every-at, every-behind, some-where}
 use Rattle.laws.specs.Search.{all-out}
 use Rattle.laws.specs.Tables.{length-table, getD-table}
-use Rattle.laws.specs.Tests.{every, some-of}
-use Rattle.laws.specs.Truth.{never-both}
+use Rattle.laws.specs.Tests.{every}
 use Rattle.model.specs.declared.Interval.{Interval}
 use Rattle.model.specs.declared.Pin.{Pin}
 use Rattle.model.specs.declared.Pin.the-variants.{Nothing}
 use Rattle.model.specs.declared.Checkpoint.{Checkpoint}
-use Rattle.model.specs.declared.Message.{Message}
-use Rattle.model.specs.Words.{entry, names, named, noCheckpoint, noMessage, process, own, underWay}
-use Rattle.model.specs.Sound.{within, pinSound, zeroFrom, nothingFrom, isNothing, sound}
-use Rattle.model.specs.laws.Sound.{sound-state}
-use Rattle.words.specs.Layout.{word, countOf, endOf, heldAt, partAt, pinsAt, indexAt, storedAt, carriedAt, pinOf, vectorIn, pinsIn, checkpointIn, messageIn, isMessage, messagesIn, runOf}
+use Rattle.model.specs.Words.{entry, names, named, noCheckpoint, process, own}
+use Rattle.model.specs.Sound.{within, zeroFrom, sound}
+use Rattle.words.specs.Layout.{word, countOf, heldAt, partAt, pinsAt, indexAt, storedAt, pinOf, vectorIn, pinsIn, checkpointIn, runOf}
 use Rattle.words.specs.Parts.{processIn}
-use Rattle.words.proofs.Ascending.{every-selected}
 use Rattle.words.proofs.Reading.{named-word}
 use Rattle.words.proofs.Same.{vector-length, vector-word, pins-length}
 use Rattle.words.proofs.View.{count-is}
-use Rattle.words.proofs.ViewSound.{sound-fits, sound-few, sound-known, sound-process-is, sound-own-is, sound-kept-is, sound-part, sound-under-way}
-
-pin-zero : (x : ℕ) → isNothing (pinOf x) ≡ true → x ≡ 0
-unfolding pinOf isNothing
-pin-zero zero e = refl
-pin-zero (suc x) e = never-both false e refl
-
-pin-some : (kept : List Checkpoint) (x : ℕ) → 1 ≤ x → pinSound kept (pinOf x) ≡ true → some-of (λ c. names (pinOf x) (c .index)) kept ≡ true
-unfolding pinSound pinOf
-pin-some kept zero one e = absurd (omega arith)
-pin-some kept (suc x) one e = e
+use Rattle.words.proofs.ViewSound.{sound-fits, sound-few, sound-known, sound-process-is, sound-own-is, sound-kept-is, sound-part}
 
 pins-word : (w : List ℕ) (at f : ℕ) → f < 16 → getD (pinsIn w at) f Nothing ≡ pinOf (word w (at + f))
 unfolding pinsIn
@@ -71,13 +57,6 @@ module _ (w : List ℕ) (h : sound (runOf w) ≡ true) where
     unfolding processIn
     vector-zero = zero-word (partAt p) (rw (sound-process-is w h p lt) at (sound-known w h p lt .vector-unused))
 
-    pub pins-zero : (f : ℕ) → countOf w ≤ f → f < 16 → word w (pinsAt p + f) ≡ 0
-    unfolding processIn nothingFrom
-    pins-zero f le less =
-        let e = rw (sound-process-is w h p lt) at (sound-known w h p lt .pins-unused) in
-        let one = every-behind isNothing (runOf w .count) (pinsIn w (pinsAt p)) f Nothing e (omega (arith, count)) (omega (arith, pins-length w (pinsAt p))) in
-        pin-zero (word w (pinsAt p + f)) (rw (pins-word w (pinsAt p) f less) at one)
-
     -- a test that every kept checkpoint passes, in its place
     kept-fact : (t : Checkpoint → Bool) → every t (process (runOf w) p .kept) ≡ true → (k : ℕ) → k < word w (heldAt p) → t (checkpointIn w p k) ≡ true
     kept-fact t e k less =
@@ -93,20 +72,6 @@ module _ (w : List ℕ) (h : sound (runOf w) ≡ true) where
     unfolding checkpointIn
     stored-zero k less = zero-word (storedAt p k) (kept-fact (λ c. zeroFrom (runOf w .count) (c .vector)) (sound-known w h p lt .stored-unused) k less)
 
-    -- "Every pin is none or names a kept one; every kept one is pinned."
-    pub pin-kept : (f : ℕ) → f < 16 → 1 ≤ word w (pinsAt p + f) → (k : ℕ) × (k < word w (heldAt p)) × (word w (indexAt p k) ≡ word w (pinsAt p + f))
-    unfolding processIn checkpointIn
-    pin-kept f less one =
-        let x = word w (pinsAt p + f) in
-        let row = table (word w (heldAt p)) (checkpointIn w p) in
-        let e = rw (sound-process-is w h p lt) at (sound-known w h p lt .pins-kept) in
-        let here = every-at (pinSound (processIn w p .kept)) (pinsIn w (pinsAt p)) f Nothing (omega (arith, pins-length w (pinsAt p))) e in
-        let some = pin-some (processIn w p .kept) x one (rw (pins-word w (pinsAt p) f less) at here) in
-        let found = some-where (λ (c : Checkpoint). names (pinOf x) (c .index)) row noCheckpoint (rw (sound-part w h p lt .kept-is) at some) in
-        let under : found .0 < word w (heldAt p) = omega (arith, found .1, length-table (word w (heldAt p)) (checkpointIn w p)) in
-        let named-here = rw (getD-table (word w (heldAt p)) (checkpointIn w p) (found .0) noCheckpoint under) at (found .2) in
-        (found .0, under, sym (named-word x (word w (indexAt p (found .0))) (sound-part w h p lt .used (found .0) under) named-here))
-
     pub kept-pinned : (k : ℕ) → k < word w (heldAt p) → (f : ℕ) × (f < 16) × (word w (pinsAt p + f) ≡ word w (indexAt p k))
     unfolding processIn checkpointIn named
     kept-pinned k less =
@@ -115,20 +80,3 @@ module _ (w : List ℕ) (h : sound (runOf w) ≡ true) where
         let found = some-where (λ (pin : Pin). names pin (checkpointIn w p k .index)) (pinsIn w (pinsAt p)) Nothing some in
         let under : found .0 < 16 = omega (arith, found .1, pins-length w (pinsAt p)) in
         (found .0, under, named-word (word w (pinsAt p + found .0)) (word w (indexAt p k)) (sound-part w h p lt .used k less) (rw (pins-word w (pinsAt p) (found .0) under) at (found .2)))
-
-  -- "No vector (.. carried) has an entry for f above f's own current entry."
-  module _ (k : ℕ) (lt : k < endOf w) (used : isMessage (messageIn w k) ≡ true) where
-    carried-fact : (t : Message → Bool) → every t (underWay (runOf w)) ≡ true → t (messageIn w k) ≡ true
-    unfolding messagesIn
-    carried-fact t e =
-        let all = rw (sound-under-way w h) at e in
-        let here = getD-table (endOf w) (messageIn w) k noMessage lt in
-        rw here at (every-selected isMessage t (table (endOf w) (messageIn w)) k noMessage all (omega (arith, length-table (endOf w) (messageIn w))) (rw here used))
-
-    pub carried-within : (f : ℕ) → f < countOf w → word w (carriedAt k + f) ≤ word w (partAt f + f)
-    unfolding messageIn
-    carried-within = within-word (carriedAt k) (carried-fact (λ x. within (runOf w) (x .vector)) (sound-state (runOf w) h .carried-within))
-
-    pub carried-zero : (f : ℕ) → countOf w ≤ f → f < 16 → word w (carriedAt k + f) ≡ 0
-    unfolding messageIn
-    carried-zero = zero-word (carriedAt k) (carried-fact (λ x. zeroFrom (runOf w .count) (x .vector)) (sound-state (runOf w) h .carried-unused))

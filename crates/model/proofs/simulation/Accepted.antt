@@ -6,8 +6,6 @@ use mathlib.Core.Bool.{Bool, true, false, _||_, not}
 use mathlib.Core.List.{List}
 use mathlib.Core.Option.{Option, none, some}
 use Prim.Native.Nat.{ℕ, _+_, _*_, _^_, _≤_, _<_}
-use native.Mathlib.Nat.{div-eq-of-lt, pow-le-pow-right}
-use native.Mathlib.Omega.{arith}
 use lib.Dec.{leb}
 use lib.ListN.{length, getD}
 use borrow.Author.Tests.{ltb-false, leb-true, leb-false, eqb-false, not-false, le-ltb, le-leb, lt-leb, ne-eqb}
@@ -16,7 +14,7 @@ use Rattle.laws.specs.Search.{anyBelow, any-out, any-none}
 use Rattle.laws.specs.Truth.{never-both, and-left, and-right, and-both}
 use Rattle.model.specs.declared.Message.{Message}
 use Rattle.model.specs.declared.Run.{Run}
-use Rattle.model.specs.Words.{places, mostUnderWay, mostMessages, mostInterval, mostBlocks, blockCount, process, own, failed}
+use Rattle.model.specs.Words.{places, mostUnderWay, mostMessages, mostInterval, mostBlocks, blockCount, process, own}
 use Rattle.model.specs.Steps.{found, forces}
 use Rattle.model.specs.Sound.{isBlockCount, sound}
 use Rattle.model.specs.Refusals.{startRefusal, shortDeletions, shortLine, absent, checkpointRefusal, sendRefusal, missing, forcesPast, forcesOver, deliverRefusal, loseRefusal, noMember, outside, lineRefusal, recoverRefusal}
@@ -228,12 +226,6 @@ SetFine n F = F < 2 ^ n
 
 pub set-inside : (s : Run) (F : ℕ) → SetFine (s .count) F → outside s F ≡ false
 set-inside s F h = lt-leb _ _ h
-
--- No process at n or above is in it.
-pub set-above : (n F f : ℕ) → F < 2 ^ n → n ≤ f → failed F f ≡ false
-set-above n F f h le =
-    let less : F < 2 ^ f = omega (arith, pow-le-pow-right {n = 2} (omega arith) le) in
-    rw (div-eq-of-lt less)
 
 -- A line call that is accepted.
 pub record LineFine (s : Run) (F : ℕ) (line : List ℕ) : Type 0 where

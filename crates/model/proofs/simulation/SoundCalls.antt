@@ -1,7 +1,7 @@
 -- Calls on the state that stands for a run: what an accepted one says of the run, and which failed sets the table does not refuse.
 -- Assumes nothing.
 use mathlib.Core.Path.{_≡_, _∙_, ap}
-use mathlib.Core.Bool.{true, false}
+use mathlib.Core.Bool.{true}
 use mathlib.Core.List.{List}
 use mathlib.Core.Option.{Option, none, some}
 use Prim.Native.Nat.{ℕ, _+_, _*_, _≤_, _<_}
@@ -12,7 +12,7 @@ use Rattle.model.specs.declared.Disk.{Disk}
 use Rattle.model.specs.declared.Message.{Message}
 use Rattle.model.specs.Words.{mostInterval, mostBlocks, blockCount, process, own}
 use Rattle.model.specs.Steps.{found}
-use Rattle.model.specs.Refusals.{outside, checkpointRefusal, sendRefusal, deliverRefusal, loseRefusal, lineRefusal, recoverRefusal}
+use Rattle.model.specs.Refusals.{checkpointRefusal, sendRefusal, deliverRefusal, loseRefusal, lineRefusal, recoverRefusal}
 use Rattle.histories.proofs.Run.{Ideal, sending, forces}
 use Rattle.histories.proofs.Invariant.{Inv}
 use Rattle.histories.proofs.Messages.{underway-proper}
@@ -21,14 +21,10 @@ use Rattle.model.proofs.simulation.Reads.{count-is, last-is, underway-i
 use Rattle.model.proofs.simulation.Billing.{count-of}
 use Rattle.model.proofs.simulation.Messages.{used-number, found-is, found-none}
 use Rattle.model.proofs.simulation.Deliver.{deliver-forces}
-use Rattle.model.proofs.simulation.Accepted.{SetFine, set-inside, checkpoint-out, send-out, deliver-out, lose-out, line-out, recover-out}
+use Rattle.model.proofs.simulation.Accepted.{SetFine, checkpoint-out, send-out, deliver-out, lose-out, line-out, recover-out}
 use Rattle.model.proofs.simulation.SoundLimits.{limits-send}
 
 module _ (r : Ideal) (v : Inv r) (fit : Limits r) where
-  -- A failed set of processes of the run has no bit at n or above.
-  pub outside-run : (F : ℕ) → SetFine (r .n) F → outside (stateOf r) F ≡ false
-  outside-run F h = set-inside (stateOf r) F (rw (count-is r) h)
-
   -- Blocks written, and a process's count.
   pub written-is : stateOf r .disk .written ≡ r .ledger .written
   unfolding diskOf

@@ -1,9 +1,9 @@
 -- Note 8 by the surviving history: which checkpoints are kept, whether one of two comes before the other, the line of an accepted call, and that 20 is given only
 -- where no consistent line passes through all named ones.
 -- Assumes nothing.
-use mathlib.Core.Path.{_≡_, refl, sym, _∙_, ap}
+use mathlib.Core.Path.{_≡_, refl, sym, _∙_}
 use mathlib.Core.Bool.{Bool, true, false, not}
-use mathlib.Core.List.{List, List·Memᴰ}
+use mathlib.Core.List.{List}
 use mathlib.Core.Option.{Option, none, some}
 use Prim.Native.Nat.{ℕ, _≤_, _<_}
 use native.Mathlib.Omega.{arith}
@@ -17,7 +17,6 @@ use Rattle.model.specs.declared.Named.{Named}
 use Rattle.model.specs.declared.Refusal.{Refusal}
 use Rattle.model.specs.declared.Refusal.the-variants.{CausallyOrdered}
 use Rattle.model.specs.Words.{places, comesBefore, entry}
-use Rattle.histories.specs.History.{Consistent, ComesBefore}
 use Rattle.model.specs.Refusals.{number}
 use Rattle.whole_runs.specs.Earliest.{namedVector, greatest, someAbsent, unfit, someOrdered, earliestRefusal}
 use Rattle.whole_runs.specs.Calls.{earliest}

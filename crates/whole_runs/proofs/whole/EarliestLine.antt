@@ -1,11 +1,11 @@
 -- Note 8 on the state that stands for a run: what an accepted call for named checkpoints says of the run, and the line that it writes.
 -- Assumes nothing.
 use mathlib.Core.Path.{_≡_, refl, sym, _∙_, ap}
-use mathlib.Core.Bool.{Bool, true, false, _&&_, _||_, not}
+use mathlib.Core.Bool.{Bool, true, false, _&&_, _||_}
 use mathlib.Core.List.{List, [], _∷_, List·Memᴰ, List·Memᴰ·head, List·Memᴰ·tail, List·Memᴰ·cases-cons, List·Memᴰ·not-nil}
 use mathlib.Core.Logic.{inl, inr}
 use mathlib.Core.Option.{Option, none, some, Option·map}
-use Prim.Native.Nat.{ℕ, _≤_, _<_, max}
+use Prim.Native.Nat.{ℕ, _≤_, _<_}
 use native.Mathlib.Omega.{arith}
 use lib.Dec.{eqb, ltb, leb}
 use lib.ListN.{length}
@@ -20,7 +20,6 @@ use Rattle.model.specs.declared.Checkpoint.{Checkpoint}
 use Rattle.model.specs.declared.Named.{Named}
 use Rattle.model.specs.declared.Run.{Run}
 use Rattle.model.specs.Words.{places, entry, comesBefore, noCheckpoint, Process, process, keepsIn}
-use Rattle.histories.specs.History.{Line}
 use Rattle.model.specs.laws.Refusals.{no-rule}
 use Rattle.whole_runs.specs.Earliest.{isNamed, namedVector, greatest, someAbsent, repeats, unfit, notKept, someOrdered, earliestRefusal}
 use Rattle.histories.proofs.Run.{Ideal, keeps}

@@ -2,7 +2,6 @@
 use borrow.Author.Needs.{needs}
 use mathlib.Core.Path.{sym, _∙_, ap}
 use native.Mathlib.Omega.{arith}
-use Prim.Native.Nat.{_-_}
 use Rattle.model.specs.declared.Pin.the-variants.{At}
 use Rattle.words.specs.Layout.{pinOf}
 use Rattle.words.proofs.Reading.{pin-some}
