@@ -1,5 +1,5 @@
-// The calls by value: each fills words from the state, makes the call in place, and reads the state back. A state that is not sound is refused with number 2; one that
-// does not fit its words is not sound.
+// The calls by value: each fills words from the state, makes the call in place, and reads the state back; a refused one returns the state that it was handed. A state that
+// is not sound is refused with number 2; one that does not fit its words is not sound.
 
 // judged.rt: words that were filled from a state, and whether the state is sound
 pub mod judged;

@@ -27,6 +27,11 @@ pub fn lose(s: Run, m: u32) -> LoseOutcome
         return LoseOutcome { run: s, answer };
     }
     let answer = in_place::lose::lose_on(&mut w, m);
-    let run = run_words::read::read_lost(&w, s);
-    LoseOutcome { run, answer }
+    match answer {
+        LoseAnswer::Refused(_) => LoseOutcome { run: s, answer },
+        LoseAnswer::Lost => {
+            let run = run_words::read::read_lost(&w, s);
+            LoseOutcome { run, answer }
+        }
+    }
 }

@@ -12,7 +12,7 @@ use Rattle.whole_runs.proofs.Unsound.{lose-unsound}
 use Rattle.whole_runs.proofs.WholeRuns.{lose-promise}
 use Rattle.run_words.specs.Readable.{afterLose}
 use Rattle.run_words.proofs.Sizes.{sizes}
-use Rattle.calls.proofs.Changing.{sound-small, small-readable, lose-small, filled-sound, filled-unsound}
+use Rattle.calls.proofs.Changing.{sound-small, small-readable, lose-small, filled-sound, filled-unsound, unchanged}
 use Rattle.calls.proofs.Leaving.{lose-leaves}
 use Rattle.calls.proofs.lose.lose.Statement.{statement}
 use Rattle.calls.proofs.lose.lose.Tie as tie
@@ -40,7 +40,7 @@ lose-on-requires c κs = let r = ready (c .before) in ap sound (r .0) ∙ r .1
 
 read-lost-requires : tie.Need-read-lost-requires
 read-lost-requires c κs =
-    let o = c .before .before in
+    let o = c .before .before .before .before in
     let e = o .before .before in
     let s = e .before .before .before .before .before .before in
     let a = s .args in
@@ -55,6 +55,17 @@ returns-2 c =
     let e = o .before .before in
     let a = e .before .before .before .before .before .before .args in
     let r = ready e in
+    let g = o .lose-on .ensures in
+    let same = g .1 .1 .0 _ (c .enum-told .given .1) in
+    let run = unchanged (a .s) (loseOutcome (a .s) (a .m) .run) _ _ (r .0) same (g .0 ∙ ap (λ (x : Run). loseOutcome x (a .m) .run) (r .0)) in
+    (run, (g .1 .0 ∙ ap (λ (x : Run). loseOutcome x (a .m) .answer) (r .0), lose-promise (a .s) (a .m) (a .s) run))
+
+returns-3 : tie.Need-returns-3
+returns-3 c =
+    let o = c .before .before .before .before .before in
+    let e = o .before .before in
+    let a = e .before .before .before .before .before .before .args in
+    let r = ready e in
     let run = c .read-lost .ensures ∙ o .lose-on .ensures .0 ∙ ap (λ (x : Run). loseOutcome x (a .m) .run) (r .0) in
     (run, (o .lose-on .ensures .1 .0 ∙ ap (λ (x : Run). loseOutcome x (a .m) .answer) (r .0), lose-promise (a .s) (a .m) (c .read-lost .result) run))
 
@@ -66,6 +77,7 @@ lose-spec =
     returns
     (λ c. search needs)
     lose-on-requires
-    (λ c. search needs)
+    (λ c. search needs) (λ c. search needs) (λ c. search needs)
     read-lost-requires
-    returns-2)
+    returns-2
+    returns-3)
