@@ -1,21 +1,25 @@
 -- Answers in their forms, as they are taken.
 -- Assumes nothing.
 use mathlib.Core.Path.{_≡_, refl, sym, _∙_, ap, subst}
-use mathlib.Core.Bool.{Bool, true, false, _&&_}
+use mathlib.Core.Bool.{Bool, true, false, _&&_, false≢true}
 use mathlib.Core.List.{List}
-use Prim.Native.Nat.{ℕ, _+_, _-_, _≤_, _<_}
+use Prim.Native.Nat.{ℕ, zero, suc, _+_, _-_, _≤_, _<_}
 use native.Mathlib.Omega.{arith}
 use lib.Dec.{eqb, leb}
+use lib.IntN.{ℤ, pos, negsuc}
+use lib.Signed.{ltZ}
+use mir.Syntax.{w32}
+use mir.Val.{SFits, ofZ}
 use lib.ListN.{length, take, drop, length-drop}
 use lib.Seq.{length-take-le}
-use borrow.Author.Tests.{le-leb, lt-leb, leb-true, eqb-true, eq-eqb}
+use borrow.Author.Tests.{le-leb, lt-leb, leb-true, le-ltb, eq-eqb, ne-eqb}
 use Rattle.laws.specs.Choice.{pick, by-bool}
 use Rattle.machines.specs.declared.Answer as answers
 use Rattle.machines.specs.declared.Answer.the-variants as answer
 use Rattle.machines.specs.declared.heard.Taken as takens
 use Rattle.machines.specs.declared.heard.Taken.the-variants as taken
 use Rattle.machines.specs.Machines.{Answer, Number, Bytes, End, Done, Failed, heardCount, heardWord, heardRead, heardDone, isNumber}
-use Rattle.machines.specs.Forms.{answerOf, takenOf, Between}
+use Rattle.machines.specs.Forms.{answerOf, takenOf, Between, readAnswer, wordAnswer, openAnswer}
 
 pub many : (at size : ℕ) (input : List ℕ) → at + size ≤ length input → length (take size (drop at input)) ≡ size
 many at size input h = length-take-le size (drop at input) (omega (arith, length-drop at input))
@@ -151,3 +155,44 @@ module _ (a : answers.Answer) (number : ℕ) where
   pub number-failed : a ≡ answer.Failed → NumberAs a number false
   unfolding heardCount answerOf isNumber
   number-failed e = λ at input. rw e
+
+-- The system's own numbers, by the tests of the code.
+pub read-below : (z got : ℤ) (size : ℕ) → z ≡ got → ltZ z (pos 0) ≡ true → answer.Failed ≡ readAnswer got size
+unfolding readAnswer
+read-below z (pos k) size e h = absurd (false≢true (sym (ap (λ (x : ℤ). ltZ x (pos 0)) e ∙ le-ltb k 0 (omega arith)) ∙ h))
+read-below z (negsuc k) size e h = refl
+
+pub read-nothing : (z got : ℤ) (size : ℕ) → z ≡ got → ltZ z (pos 0) ≡ false → size ≡ 0 → answer.End ≡ readAnswer got size
+unfolding readAnswer
+read-nothing z (pos k) size e h n = rw (eq-eqb size 0 n)
+read-nothing z (negsuc k) size e h n = absurd (false≢true (sym h ∙ ap (λ (x : ℤ). ltZ x (pos 0)) e))
+
+pub read-bytes : (z got : ℤ) (size : ℕ) → z ≡ got → ltZ z (pos 0) ≡ false → (size ≡ 0 → ⊥) → answer.Bytes size ≡ readAnswer got size
+unfolding readAnswer
+read-bytes z (pos k) size e h n = rw (ne-eqb size 0 n)
+read-bytes z (negsuc k) size e h n = absurd (false≢true (sym h ∙ ap (λ (x : ℤ). ltZ x (pos 0)) e))
+
+pub word-whole : (error : ℤ) (size : ℕ) → SFits w32 error → ofZ w32 error ≡ 0 → answer.Bytes size ≡ wordAnswer error size
+unfolding wordAnswer
+word-whole (pos zero) size f e = refl
+word-whole (pos (suc k)) size f e = absurd (omega (arith, e))
+word-whole (negsuc k) size f e = absurd (omega (arith, e, f .sfits))
+
+pub word-error : (error : ℤ) (size : ℕ) → (ofZ w32 error ≡ 0 → ⊥) → answer.Failed ≡ wordAnswer error size
+unfolding wordAnswer
+word-error (pos zero) size n = absurd (n refl)
+word-error (pos (suc k)) size n = refl
+word-error (negsuc k) size n = refl
+
+pub open-below : (z opened : ℤ) → z ≡ opened → ltZ z (pos 0) ≡ true → answer.Failed ≡ openAnswer opened
+unfolding openAnswer
+open-below z (pos k) e h = absurd (false≢true (sym (ap (λ (x : ℤ). ltZ x (pos 0)) e ∙ le-ltb k 0 (omega arith)) ∙ h))
+open-below z (negsuc k) e h = refl
+
+pub open-done : (z opened : ℤ) → z ≡ opened → ltZ z (pos 0) ≡ false → answer.Done ≡ openAnswer opened
+unfolding openAnswer
+open-done z (pos k) e h = refl
+open-done z (negsuc k) e h = absurd (false≢true (sym h ∙ ap (λ (x : ℤ). ltZ x (pos 0)) e))
+
+pub no-failure : {P : Type 0} (a : answers.Answer) → answer.Done ≡ a → a ≡ answer.Failed → P
+no-failure a e f = absurd (let z : _≡_ {A = ℕ} 0 1 = cc in omega arith)

@@ -4,8 +4,9 @@
 use mathlib.Core.Path.{_≡_}
 use mathlib.Core.Bool.{Bool, true, false}
 use mathlib.Core.List.{List}
-use Prim.Native.Nat.{ℕ, _+_, _≤_}
-use lib.Dec.{leb}
+use Prim.Native.Nat.{ℕ, zero, suc, _+_, _≤_}
+use lib.Dec.{eqb, leb}
+use lib.IntN.{ℤ, pos, negsuc}
 use lib.ListN.{length, take, drop}
 use Rattle.laws.specs.Choice.{pick}
 use Rattle.machines.specs.declared.Request as requests
@@ -101,3 +102,19 @@ unfoldable pub Between : takens.Taken → ℕ → ℕ → Type 0
 Between (taken.Brought size) least most = (least ≤ size) × (size ≤ most)
 Between taken.Ended least most = Unit {0}
 Between taken.Failed least most = Unit {0}
+
+-- What the system's own numbers come to. A read: below 0 it failed, and no byte is the end of the input.
+unfoldable pub readAnswer : ℤ → ℕ → answers.Answer
+readAnswer (pos k) size = pick (eqb size 0) answer.End (answer.Bytes size)
+readAnswer (negsuc k) size = answer.Failed
+
+-- A word: an error number of 0 says that all of it is there.
+unfoldable pub wordAnswer : ℤ → ℕ → answers.Answer
+wordAnswer (pos zero) size = answer.Bytes size
+wordAnswer (pos (suc k)) size = answer.Failed
+wordAnswer (negsuc k) size = answer.Failed
+
+-- A file that is opened: below 0 it is not.
+unfoldable pub openAnswer : ℤ → answers.Answer
+openAnswer (pos k) = answer.Done
+openAnswer (negsuc k) = answer.Failed

@@ -9,7 +9,56 @@ use libc::STDOUT_FILENO;
 ghost use mathlib.Core.Path.{_≡_};
 ghost use Prim.Native.Nat.{_+_, _≤_};
 ghost use lib.ListN.{length};
-ghost use Rattle.machines.specs.Forms.{Around};
+ghost use Rattle.laws.specs.Choice.{pick};
+ghost use Rattle.machines.specs.Forms.{Around, readAnswer, wordAnswer, openAnswer};
+
+// What a number that a read returned comes to, with the count of the bytes that it brought.
+fn read_answer(got: isize, size: usize) -> Answer
+    ensures { λ r. ⌜ r ≡ readAnswer got size ⌝ }
+{
+    if got < 0 {
+        return Answer::Failed;
+    }
+    if size == 0 {
+        return Answer::End;
+    }
+    Answer::Bytes(size)
+}
+
+// What an error number comes to: 0 if all of a word is in the buffer.
+fn word_answer(error: i32, size: usize) -> Answer
+    ensures { λ r. ⌜ r ≡ wordAnswer error size ⌝ }
+{
+    if error == 0 {
+        return Answer::Bytes(size);
+    }
+    Answer::Failed
+}
+
+fn done_answer(done: bool) -> Answer
+    ensures { λ r. ⌜ r ≡ pick done Answer.Done Answer.Failed ⌝ }
+{
+    if done {
+        return Answer::Done;
+    }
+    Answer::Failed
+}
+
+// What a descriptor comes to: below 0 if the file could not be opened, and the source is as it was.
+fn open_answer(opened: i32, source: Source) -> Obeyed
+    ensures { λ r. ⌜ (r .answer ≡ openAnswer opened) × (openAnswer opened ≡ Answer.Failed → r .source ≡ source) ⌝ }
+{
+    if opened < 0 {
+        return Obeyed {
+            answer: Answer::Failed,
+            source,
+        };
+    }
+    Obeyed {
+        answer: Answer::Done,
+        source: Source(opened),
+    }
+}
 
 pub fn count(request: Request) -> Answer
     requires { ⌜ request ≡ Request.Count ⌝ }
@@ -24,27 +73,14 @@ pub fn argument(request: Request, i: usize, at: usize, most: usize, input: &mut 
 {
     let end = at + most;
     let size = os::arg(i, &mut input[at..end]);
-    if os::errno() == 0 {
-        return Answer::Bytes(size);
-    }
-    Answer::Failed
+    word_answer(os::errno(), size)
 }
 
 // The file stays open to the program's end.
 pub fn open(request: Request, size: usize, out: &[u8], source: Source) -> Obeyed
     requires { ⌜ (request ≡ Request.Open size) × (size ≤ length (now out)) ⌝ }
 {
-    let opened = os::open_read(&out[..size]);
-    if opened < 0 {
-        return Obeyed {
-            answer: Answer::Failed,
-            source,
-        };
-    }
-    Obeyed {
-        answer: Answer::Done,
-        source: Source(opened),
-    }
+    open_answer(os::open_read(&out[..size]), source)
 }
 
 pub fn read(request: Request, at: usize, most: usize, input: &mut [u8], source: Source) -> Answer
@@ -54,22 +90,13 @@ pub fn read(request: Request, at: usize, most: usize, input: &mut [u8], source: 
     let end = at + most;
     let got = libc::read(source.0, &mut input[at..end]);
     let size = io::count(got, &input[at..end]);
-    if got < 0 {
-        return Answer::Failed;
-    }
-    if size == 0 {
-        return Answer::End;
-    }
-    Answer::Bytes(size)
+    read_answer(got, size)
 }
 
 pub fn write(request: Request, size: usize, out: &[u8]) -> Answer
     requires { ⌜ (request ≡ Request.Write size) × (size ≤ length (now out)) ⌝ }
 {
-    if io::write_all(STDOUT_FILENO, &out[..size]) {
-        return Answer::Done;
-    }
-    Answer::Failed
+    done_answer(io::write_all(STDOUT_FILENO, &out[..size]))
 }
 
 pub fn say(request: Request, size: usize, out: &[u8]) -> Answer

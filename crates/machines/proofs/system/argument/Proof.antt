@@ -1,8 +1,8 @@
 -- `machines::system::argument` meets its contract: the call changes nothing around the place that it is given.
 -- Assumes nothing.
-use borrow.Author.Needs.{needs}
 use denote.Ref.{now}
 use Rattle.machines.proofs.Places.{around-put}
+use borrow.Author.Needs.{needs}
 use Rattle.machines.proofs.system.argument.Statement.{statement}
 use Rattle.machines.proofs.system.argument.Tie as tie
 
@@ -24,17 +24,14 @@ arg-requires c κs = search needs
 errno-requires : tie.Need-errno-requires
 errno-requires c κs = search needs
 
+word-answer-requires : tie.Need-word-answer-requires
+word-answer-requires c κs = search needs
+
 same-length : tie.Need-same-length
 same-length c = search needs
 
 returns : tie.Need-returns
 returns c = let start = c .before .before .before .before .before .before .before in let got = c .before .before .before .before .arg in around-put (start .args .at) (start .args .most) (now (start .args .input)) (got .last .1 .0) (start .pre .1) (got .kept .1 .0)
-
-same-length-2 : tie.Need-same-length-2
-same-length-2 c = search needs
-
-returns-2 : tie.Need-returns-2
-returns-2 c = let start = c .before .before .before .before .before .before .before in let got = c .before .before .before .before .arg in around-put (start .args .at) (start .args .most) (now (start .args .input)) (got .last .1 .0) (start .pre .1) (got .kept .1 .0)
 
 pub argument-spec : {M : Type 1} → statement M
 argument-spec =
@@ -46,7 +43,6 @@ argument-spec =
     part-arg-end
     arg-requires
     errno-requires
+    word-answer-requires
     same-length
-    returns
-    same-length-2
-    returns-2)
+    returns)

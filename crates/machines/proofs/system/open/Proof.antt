@@ -1,9 +1,9 @@
 -- `machines::system::open` is safe.
 -- Assumes nothing.
-use borrow.Author.Needs.{needs}
 use mathlib.Core.Path.{sym}
 use denote.Ref.{now}
 use lib.Seq.{length-take-le}
+use borrow.Author.Needs.{needs}
 use Rattle.machines.proofs.system.open.Statement.{statement}
 use Rattle.machines.proofs.system.open.Tie as tie
 
@@ -13,11 +13,12 @@ slice-aggregate-open-read c = sym (length-take-le (c .before .before .args .size
 open-read-requires : tie.Need-open-read-requires
 open-read-requires c κs = search needs
 
+open-answer-requires : tie.Need-open-answer-requires
+open-answer-requires c κs = search needs
+
 returns : tie.Need-returns
 returns c = search needs
 
-returns-2 : tie.Need-returns-2
-returns-2 c = search needs
-
 pub open-spec : {M : Type 1} → statement M
-open-spec = tie.close (tie.spec slice-aggregate-open-read open-read-requires returns returns-2)
+open-spec =
+    tie.close (tie.spec slice-aggregate-open-read open-read-requires open-answer-requires returns)

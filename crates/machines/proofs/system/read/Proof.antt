@@ -1,8 +1,8 @@
 -- `machines::system::read` meets its contract: the read changes nothing around the place that it is given.
 -- Assumes nothing.
-use borrow.Author.Needs.{needs}
 use denote.Ref.{now}
 use Rattle.machines.proofs.Places.{around-put}
+use borrow.Author.Needs.{needs}
 use Rattle.machines.proofs.system.read.Statement.{statement}
 use Rattle.machines.proofs.system.read.Tie as tie
 
@@ -33,23 +33,14 @@ part-count-end c = search needs
 count-requires : tie.Need-count-requires
 count-requires c κs = search needs
 
+read-answer-requires : tie.Need-read-answer-requires
+read-answer-requires c κs = search needs
+
 same-length : tie.Need-same-length
 same-length c = search needs
 
 returns : tie.Need-returns
 returns c = let start = c .before .before .before .before .before .before .before .before .before .before in let got = c .before .before .before .before .before .before .read in around-put (start .args .at) (start .args .most) (now (start .args .input)) (got .last .1 .0) (start .pre .1) (got .kept .1 .0)
-
-same-length-2 : tie.Need-same-length-2
-same-length-2 c = search needs
-
-returns-2 : tie.Need-returns-2
-returns-2 c = let start = c .before .before .before .before .before .before .before .before .before .before .before in let got = c .before .before .before .before .before .before .before .read in around-put (start .args .at) (start .args .most) (now (start .args .input)) (got .last .1 .0) (start .pre .1) (got .kept .1 .0)
-
-same-length-3 : tie.Need-same-length-3
-same-length-3 c = search needs
-
-returns-3 : tie.Need-returns-3
-returns-3 c = let start = c .before .before .before .before .before .before .before .before .before .before .before in let got = c .before .before .before .before .before .before .before .read in around-put (start .args .at) (start .args .most) (now (start .args .input)) (got .last .1 .0) (start .pre .1) (got .kept .1 .0)
 
 pub read-spec : {M : Type 1} → statement M
 read-spec =
@@ -64,9 +55,6 @@ read-spec =
     part-count-start
     part-count-end
     count-requires
+    read-answer-requires
     same-length
-    returns
-    same-length-2
-    returns-2
-    same-length-3
-    returns-3)
+    returns)
