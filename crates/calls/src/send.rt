@@ -27,6 +27,11 @@ pub fn send(s: Run, i: usize, j: usize) -> SendOutcome
         return SendOutcome { run: s, answer };
     }
     let answer = in_place::send::send_on(&mut w, i, j);
-    let run = run_words::read::read_sent(&w, s);
-    SendOutcome { run, answer }
+    match answer {
+        SendAnswer::Refused(_) => SendOutcome { run: s, answer },
+        SendAnswer::Sent(_) => {
+            let run = run_words::read::read_sent(&w, s);
+            SendOutcome { run, answer }
+        }
+    }
 }

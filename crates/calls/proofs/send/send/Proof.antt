@@ -12,7 +12,7 @@ use Rattle.whole_runs.proofs.Unsound.{send-unsound}
 use Rattle.whole_runs.proofs.WholeRuns.{send-promise}
 use Rattle.run_words.specs.Readable.{afterSend}
 use Rattle.run_words.proofs.Sizes.{sizes}
-use Rattle.calls.proofs.Changing.{sound-small, small-readable, send-small, filled-sound, filled-unsound}
+use Rattle.calls.proofs.Changing.{sound-small, small-readable, send-small, filled-sound, filled-unsound, unchanged}
 use Rattle.calls.proofs.Leaving.{send-leaves}
 use Rattle.calls.proofs.send.send.Statement.{statement}
 use Rattle.calls.proofs.send.send.Tie as tie
@@ -40,7 +40,7 @@ send-on-requires c κs = let r = ready (c .before) in ap sound (r .0) ∙ r .1
 
 read-sent-requires : tie.Need-read-sent-requires
 read-sent-requires c κs =
-    let o = c .before .before in
+    let o = c .before .before .before .before in
     let e = o .before .before in
     let s = e .before .before .before .before .before .before in
     let a = s .args in
@@ -55,6 +55,17 @@ returns-2 c =
     let e = o .before .before in
     let a = e .before .before .before .before .before .before .args in
     let r = ready e in
+    let g = o .send-on .ensures in
+    let same = g .1 .1 .0 _ (c .enum-told .given .1) in
+    let run = unchanged (a .s) (sendOutcome (a .s) (a .i) (a .j) .run) _ _ (r .0) same (g .0 ∙ ap (λ (x : Run). sendOutcome x (a .i) (a .j) .run) (r .0)) in
+    (run, (g .1 .0 ∙ ap (λ (x : Run). sendOutcome x (a .i) (a .j) .answer) (r .0), send-promise (a .s) (a .i) (a .j) (a .s) run))
+
+returns-3 : tie.Need-returns-3
+returns-3 c =
+    let o = c .before .before .before .before .before in
+    let e = o .before .before in
+    let a = e .before .before .before .before .before .before .args in
+    let r = ready e in
     let run = c .read-sent .ensures ∙ o .send-on .ensures .0 ∙ ap (λ (x : Run). sendOutcome x (a .i) (a .j) .run) (r .0) in
     (run, (o .send-on .ensures .1 .0 ∙ ap (λ (x : Run). sendOutcome x (a .i) (a .j) .answer) (r .0), send-promise (a .s) (a .i) (a .j) (c .read-sent .result) run))
 
@@ -66,6 +77,7 @@ send-spec =
     returns
     (λ c. search needs)
     send-on-requires
-    (λ c. search needs)
+    (λ c. search needs) (λ c. search needs) (λ c. search needs)
     read-sent-requires
-    returns-2)
+    returns-2
+    returns-3)
