@@ -246,6 +246,24 @@ uint64_t lemidrosy_judge_begin(uint64_t *memory, size_t memory_length, const uin
    machine left has stopped. It takes 0.4 MB of stack. */
 uint64_t lemidrosy_judge_step(uint64_t *memory, size_t memory_length, const uint8_t *input, size_t input_length, uint8_t *out, size_t out_length, uint64_t kind, size_t number, uint64_t *request, size_t request_length);
 
+/* The program replay as a machine, in the same way, with the words of a run lent besides. It asks for how many words it was started with, for the first argument (`all`
+   goes on after a refusal), and for the trace. For every list of answers it is proved that what is to be written is the listing of all that was read, as far as was read;
+   that nothing is read past the end, a refusal that stops it, or record 1,000,000,000; and that it ends.
+
+   Six numbers of memory, LEMIDROSY_WORDS words, 8 bytes of input or more and 3,102 bytes of out or more; 65,536 of both are good sizes. */
+enum {
+    LEMIDROSY_REPLAY_MEMORY = 6,
+    LEMIDROSY_REPLAY_INPUT = 8,
+    LEMIDROSY_REPLAY_OUT = 3102
+};
+
+/* Begins: 0, and the first request. 3 if a list is too short, or the words are not as many as a run has; then nothing is written. */
+uint64_t lemidrosy_replay_begin(const uint16_t *words, size_t words_length, uint64_t *memory, size_t memory_length, const uint8_t *input, size_t input_length, const uint8_t *out, size_t out_length, uint64_t *request, size_t request_length);
+
+/* Takes the answer to the request before, any answer at all: 0, and the next request. 3 if the request's list is too short; then nothing is written. A state that no
+   machine left has stopped, and each record on words that stand for no sound state is refused. */
+uint64_t lemidrosy_replay_step(uint16_t *words, size_t words_length, uint64_t *memory, size_t memory_length, uint8_t *input, size_t input_length, uint8_t *out, size_t out_length, uint64_t kind, size_t number, uint64_t *request, size_t request_length);
+
 /* The merge of two halves of one run: bit p of the set says that process p belongs to the first half. The merged trace goes to the list, which has as many bytes as both
    halves together; the value is how many bytes were written. The set is judged with all its 32 bits. Refused with 1, 3, 4, 5, 7, 12, 13, 14, 17, 23 or 24. It takes
    40 KB of stack. */

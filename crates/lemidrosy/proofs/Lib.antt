@@ -7,3 +7,4 @@ pub mod Starting
 pub mod Stepped
 pub mod Unsound
 pub mod Verdicts
+pub mod ReplayStepped

@@ -3,3 +3,4 @@ pub mod Programs
 pub mod Recording
 pub mod Replaying
 pub mod Stepping
+pub mod ReplaySteps

@@ -25,3 +25,6 @@ pub mod programs;
 
 // stepping.rt: the programs as machines
 pub mod stepping;
+
+// replay_steps.rt: the replay program as a machine
+pub mod replay_steps;

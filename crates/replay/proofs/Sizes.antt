@@ -8,7 +8,7 @@ use borrow.Author.Tests.{eq-eqb, le-leb}
 use Rattle.listing.specs.Lines.{longestLine}
 use Rattle.words.specs.Layout.{size}
 use Rattle.machines.specs.declared.Request as requests
-use Rattle.machines.specs.Machines.{Answer, stepped, Ended}
+use Rattle.machines.specs.Machines.{Answer, stepped}
 use Rattle.machines.specs.Forms.{Asks}
 use Rattle.replay_machine.specs.Replaying.{State, asks, replaying}
 use Rattle.replay_machine.specs.Standing.{leastInput, roomy}
@@ -20,9 +20,6 @@ large-enough words input out w i o = rw (eq-eqb words size w, le-leb leastInput 
 module _ (size room size′ room′ : ℕ) (same-size : size′ ≡ size) (same-room : room′ ≡ room) where
   pub stepped-alike : (s t : State) (a : Answer) → t ≡ stepped (replaying size′ room′) s a → t ≡ stepped (replaying size room) s a
   stepped-alike s t a h = rw (same-size, same-room) at h
-
-  pub ended-alike : (s : State) → Ended (replaying size′ room′) s → Ended (replaying size room) s
-  ended-alike s h = rw (same-size, same-room) at h
 
 pub asks-alike : (size size′ : ℕ) → size′ ≡ size → (r : requests.Request) (place : ℕ) (input out : List ℕ) (s : State) → Asks r place input out (asks size′ s) → Asks r place input out (asks size s)
 asks-alike size size′ same r place input out s h = rw same at h

@@ -63,10 +63,10 @@ fn request_of(p: Place, words: &[u16], input: &[u8], out: &[u8]) -> Request
 }
 
 // The first request.
-pub fn begin(words: &mut [u16], memory: &mut [u64], input: &mut [u8], out: &mut [u8]) -> Request
+pub fn begin(words: &[u16], memory: &mut [u64], input: &[u8], out: &[u8]) -> Request
     requires { ⌜ (numbers ≤ length (now memory)) × (roomy (length (now words)) (length (now input)) (length (now out)) ≡ true) ⌝ }
-    ensures { λ r. ⌜ stateOf (now (words .exit)) (now (memory .exit)) (now (input .exit)) (now (out .exit)) ≡ starting ⌝ }
-    ensures { λ r. ⌜ Asks r (placeOf (now (memory .exit))) (now (input .exit)) (now (out .exit)) (asks (length (now (input .exit))) (stateOf (now (words .exit)) (now (memory .exit)) (now (input .exit)) (now (out .exit)))) ⌝ }
+    ensures { λ r. ⌜ stateOf (now (words .entry)) (now (memory .exit)) (now (input .entry)) (now (out .entry)) ≡ starting ⌝ }
+    ensures { λ r. ⌜ Asks r (placeOf (now (memory .exit))) (now (input .entry)) (now (out .entry)) (asks (length (now (input .entry))) (stateOf (now (words .entry)) (now (memory .exit)) (now (input .entry)) (now (out .entry)))) ⌝ }
 {
     let p = records::with_text(place::STARTING, 0);
     place::store(memory, p);

@@ -6,7 +6,7 @@ use lib.ListN.{length}
 use Rattle.replay_machine.specs.Standing.{stateOf}
 use Rattle.replay_machine.proofs.Ending.{left}
 use Rattle.replay_machine.proofs.Driving.{Driven, driven-first, driven-next, driven-less, driven-ends, led-still}
-use Rattle.replay.proofs.Sizes.{large-enough, stepped-alike, ended-alike, asks-alike}
+use Rattle.replay.proofs.Sizes.{large-enough, stepped-alike, asks-alike}
 use Rattle.replay.proofs.drive.Statement.{statement}
 use Rattle.replay.proofs.drive.Tie as tie
 
@@ -23,7 +23,7 @@ begin-requires c κs =
     (pre .0, large-enough _ _ _ (pre .1) (pre .2) (pre .3))
 
 loop-holds : tie.Need-loop-holds Inv-loop μ-loop
-loop-holds c = let begin = c .before .before .before .before .before .before .before .before .before .begin in (driven-first _ _ _ _ _ _ _ (begin .ensures .0) (begin .ensures .1), refl, refl, refl, refl)
+loop-holds c = let begin = c .before .before .before .begin in (driven-first _ _ _ _ _ _ _ (begin .ensures .0) (begin .ensures .1), refl, refl, refl, refl)
 
 obey-requires : tie.Need-obey-requires Inv-loop μ-loop
 obey-requires c κs = c .before .before .before .before .loop .inv .0 .asked .inside
@@ -54,9 +54,7 @@ loop-again c =
     )
 
 returns : tie.Need-returns Inv-loop μ-loop
-returns c =
-    let begin = c .before .before .before .before .before .before .before .before .before .before .before .before .begin in
-    ended-alike _ _ _ _ (begin .kept .1 .1 .0) (begin .kept .1 .1 .1 .0) _ (driven-ends _ _ _ _ _ _ _ (c .before .before .loop .inv .0) (sym (c .before .goes-on .ensures) ∙ c .if1 .left))
+returns c = driven-ends _ _ _ _ _ _ _ (c .before .before .loop .inv .0) (sym (c .before .goes-on .ensures) ∙ c .if1 .left)
 
 pub drive-spec : {M : Type 1} → statement M
 drive-spec =
