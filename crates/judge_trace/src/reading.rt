@@ -236,8 +236,8 @@ fn read_lose(passing: &mut [u16], s: Progress, m: u32) -> Step
     take(left)
 }
 
-// The receiver's live row takes in what the message in this place carries, entry by entry as every delivery does (Note 3). No line of the judge tells the set of the
-// entries that rose, so it is left.
+// The receiver's live row takes in what the message in this place carries: the greater of each two entries. No line of the judge tells the set of the entries that
+// rose, so it is not made here (Note 3's steps, which make it, are those of a run's own deliveries).
 fn put_receipt(vectors: &mut [u16], carried: &[u16], row: usize, place: usize)
     requires { ⌜ (16 * row + 16 ≤ length (now vectors)) × (16 * place + 16 ≤ length (now carried)) ⌝ }
     ensures { λ _. ⌜ now (vectors .exit) ≡ receiptVectors (now (vectors .entry)) row (rowOf (now (carried .entry)) place) ⌝ }
