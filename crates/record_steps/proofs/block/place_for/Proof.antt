@@ -1,0 +1,18 @@
+-- `record_steps::block::place_for` meets its contract. Assumes nothing.
+use mathlib.Core.Path.{refl}
+use borrow.Author.Tests.{lt-ltb, le-ltb}
+use Rattle.record_steps.specs.Played.{placeFor}
+use borrow.Author.Needs.{needs}
+use Rattle.record_steps.proofs.block.place_for.Statement.{statement}
+use Rattle.record_steps.proofs.block.place_for.Tie as tie
+
+returns : tie.Need-returns
+unfolding placeFor
+returns c = rw (lt-ltb (c .before .args .left) 4 (c .if1 .taken)) refl
+
+returns-2 : tie.Need-returns-2
+unfolding placeFor
+returns-2 c = rw (le-ltb (c .before .args .left) 4 (c .if1 .left)) refl
+
+pub place-for-spec : {M : Type 1} → statement M
+place-for-spec = tie.close (tie.spec returns returns-2)

@@ -1,0 +1,129 @@
+// The numbers that a caller lends for the state, read and put.
+use machines::Request;
+ghost use mathlib.Core.Path.{_≡_};
+ghost use Prim.Native.Nat.{_-_, _*_, _≤_, min};
+ghost use lib.ListN.{length};
+ghost use Rattle.record_steps.specs.Lent.{marksOf, inBounds, asksFor};
+
+// The phase; how many bytes of the buffer are left, and how many records were taken; how many bytes of `input` are kept, how many of `out` are asked for, and how many of
+// `lines` are still to be said.
+pub struct Marks {
+    pub phase: u64,
+    pub left: u64,
+    pub done: u64,
+    pub kept: usize,
+    pub size: usize,
+    pub told: usize,
+}
+
+pub const COUNTING: u64 = 1;
+
+pub const NAMING: u64 = 2;
+
+pub const BEGINNING: u64 = 3;
+
+pub const WRITING: u64 = 4;
+
+pub const SAYING: u64 = 5;
+
+pub const READING: u64 = 6;
+
+pub const ENDING: u64 = 7;
+
+pub const FAILING: u64 = 8;
+
+pub const STOPPED: u64 = 0;
+
+// A phase in which nothing is counted but the bytes of the buffer.
+pub fn at(phase: u64, left: u64) -> Marks
+    ensures { λ r. ⌜ r ≡ record { phase = phase; left = left; done = 0; kept = 0; size = 0; told = 0 } ⌝ }
+{
+    Marks {
+        phase,
+        left,
+        done: 0,
+        kept: 0,
+        size: 0,
+        told: 0,
+    }
+}
+
+// Whether the numbers are those of a state.
+pub fn in_bounds(m: Marks, out: usize) -> bool
+    ensures { λ r. ⌜ r ≡ inBounds m out ⌝ }
+{
+    if 4000000001 < m.left {
+        return false;
+    }
+    if 1000000000 < m.done {
+        return false;
+    }
+    if 3 < m.kept {
+        return false;
+    }
+    if out < m.size {
+        return false;
+    }
+    m.told <= 67584
+}
+
+pub fn read(memory: &[u64]) -> Marks
+    requires { ⌜ 6 ≤ length (now memory) ⌝ }
+    ensures { λ r. ⌜ r ≡ marksOf (now (memory .entry)) ⌝ }
+{
+    Marks {
+        phase: memory[0],
+        left: memory[1],
+        done: memory[2],
+        kept: memory[3] as usize,
+        size: memory[4] as usize,
+        told: memory[5] as usize,
+    }
+}
+
+pub fn put(memory: &mut [u64], m: Marks)
+    requires { ⌜ 6 ≤ length (now memory) ⌝ }
+    ensures { λ r. ⌜ marksOf (now (memory .exit)) ≡ m ⌝ }
+{
+    memory[0] = m.phase;
+    memory[1] = m.left;
+    memory[2] = m.done;
+    memory[3] = m.kept as u64;
+    memory[4] = m.size as u64;
+    memory[5] = m.told as u64;
+}
+
+// How many bytes are asked for after those that are kept: no block is larger than 4,096 bytes, and none reaches past record 1,000,000,000.
+pub fn most_to_read(done: u64, kept: usize) -> usize
+    requires { ⌜ (done ≤ 1000000000) × (kept ≤ 3) ⌝ }
+    ensures { λ r. ⌜ r ≡ min 4096 (4 * (1000000000 - done)) - kept ⌝ }
+{
+    let end = 4 * (1000000000 - done);
+    if 4096 < end {
+        return 4096 - kept;
+    }
+    let last = end as usize;
+    if last < kept {
+        return 0;
+    }
+    last - kept
+}
+
+// What the machine asks for.
+pub fn request(m: Marks) -> Request
+    requires { ⌜ (m .done ≤ 1000000000) × (m .kept ≤ 3) ⌝ }
+    ensures { λ r. ⌜ r ≡ asksFor m ⌝ }
+{
+    let phase = m.phase;
+    match phase {
+        1 => Request::Count,
+        2 => Request::Argument(1, m.kept, 4096),
+        3 => Request::Read(m.kept, 1),
+        4 => Request::Write(m.size),
+        5 => Request::Say(m.size),
+        6 => Request::Read(m.kept, most_to_read(m.done, m.kept)),
+        7 => Request::Say(m.size),
+        8 => Request::Fail(m.size),
+        _ => Request::Stop,
+    }
+}

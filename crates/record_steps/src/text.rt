@@ -1,0 +1,28 @@
+// The line that is said of a refused record.
+use programs::text::write_figure;
+use programs::text::write_word;
+ghost use Prim.Native.Nat.{_+_, _≤_};
+ghost use lib.ListN.{length};
+ghost use Rattle.listing.specs.Printed.{Printed};
+ghost use Rattle.record_machine.specs.Recorded.{refusedLine, lineFor};
+ghost use Rattle.record_steps.specs.Played.{longestLine};
+
+pub fn write_refused(out: &mut [u8], at: usize, number: u64, x: u64) -> usize
+    requires { ⌜ at + longestLine ≤ length (now out) ⌝ }
+    ensures { λ r. ⌜ Printed (now (out .entry)) at (refusedLine number x) (now (out .exit)) r × (r ≤ at + longestLine) ⌝ }
+{
+    let named = write_word(out, at, b"record: record ");
+    let numbered = listing::write_number(out, named, number);
+    write_figure(out, numbered, b": refused ", x)
+}
+
+// Nothing is said of a record that is accepted.
+pub fn write_line(out: &mut [u8], at: usize, number: u64, x: u64) -> usize
+    requires { ⌜ at + longestLine ≤ length (now out) ⌝ }
+    ensures { λ r. ⌜ Printed (now (out .entry)) at (lineFor number x) (now (out .exit)) r × (r ≤ at + longestLine) ⌝ }
+{
+    if x == 0 {
+        return at;
+    }
+    write_refused(out, at, number, x)
+}
