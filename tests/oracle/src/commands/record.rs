@@ -1,6 +1,6 @@
 //! `oracle record [BYTES] < TRACE` plays a trace through a recorder (Note 9) with
 //! a buffer of so many bytes, as many as are needed if not given, and prints what
-//! was recorded.
+//! was recorded, and on standard error a line for each record that was refused.
 
 use std::io::{self, ErrorKind, Read, Write};
 
@@ -11,5 +11,7 @@ pub fn run(words: &[String]) -> io::Result<()> {
         None => trace.len(),
         Some(bytes) => bytes.parse().map_err(|_| ErrorKind::InvalidInput)?,
     };
-    io::stdout().write_all(&oracle::run::record::recorded(&trace, room))
+    let recording = oracle::run::record::recorded(&trace, room);
+    io::stderr().write_all(recording.lines.as_bytes())?;
+    io::stdout().write_all(&recording.bytes)
 }

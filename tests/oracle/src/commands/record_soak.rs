@@ -2,8 +2,8 @@
 //! through a recorder (Note 9) and prints what was recorded, to the oracle on COUNT random
 //! traces, of the seeds FIRST, FIRST + 1 and on, those of `soak`. One trace in
 //! four is recorded in a buffer that is mostly too small, whose size is PROGRAM's
-//! argument. PROGRAM must print the oracle's bytes, nothing on standard error,
-//! and end with status 0.
+//! argument. PROGRAM must print the oracle's bytes and its lines on standard
+//! error, and end with status 0.
 //!
 //! REPLAY must then replay what PROGRAM printed without a refusal, and print what
 //! the listing of the trace has for its accepted records, numbered anew.
@@ -63,14 +63,15 @@ impl Comparison for Soak {
     fn compare(&self, seed: u64, file: &Path) -> io::Result<Option<String>> {
         let trace = trace_in(file, &half_damaged(seed))?;
         let room = (seed % 4 == 1).then(|| (seed / 4 % 400) as usize);
-        let expected = recorded(&trace, room.unwrap_or(BUFFER));
+        let recording = recorded(&trace, room.unwrap_or(BUFFER));
+        let expected = recording.bytes;
         self.full
             .fetch_add(room.is_some() as u64, Ordering::Relaxed);
         let records = trace.len() as u64 / 4;
         self.records.fetch_add(records, Ordering::Relaxed);
         let room: Vec<String> = room.iter().map(|room| room.to_string()).collect();
         let got = run_on(&self.program, &room, file)?;
-        if let Some(difference) = difference_of_bytes(&expected, &got) {
+        if let Some(difference) = difference_of_bytes(&expected, &recording.lines, &got) {
             return Ok(Some(format!("record {}: {difference}", room.join(" "))));
         }
         if expected.is_empty() {
@@ -87,7 +88,7 @@ impl Comparison for Soak {
     }
 }
 
-fn difference_of_bytes(expected: &[u8], got: &Output) -> Option<String> {
+fn difference_of_bytes(expected: &[u8], lines: &str, got: &Output) -> Option<String> {
     if got.stdout != expected {
         let same = expected.iter().zip(&got.stdout).take_while(|(a, b)| a == b);
         return Some(format!(
@@ -97,7 +98,11 @@ fn difference_of_bytes(expected: &[u8], got: &Output) -> Option<String> {
             same.count()
         ));
     }
-    difference(expected, got)
+    if got.stderr != lines.as_bytes() {
+        let said = String::from_utf8_lossy(&got.stderr);
+        return Some(format!("on standard error: expected {lines}, got {said}"));
+    }
+    (!got.status.success()).then(|| format!("ends with {}", got.status))
 }
 
 /// The lines of the first accepted records of a trace, numbered anew.

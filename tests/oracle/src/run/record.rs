@@ -111,36 +111,64 @@ impl<'a> Recorder<'a> {
 }
 
 /// What a buffer of this many bytes has recorded once each record of the trace
-/// was a call. Calls that are refused are passed over, and so are records that
-/// are no call (14) and left-over bytes.
-pub fn recorded(trace: &[u8], room: usize) -> Vec<u8> {
-    let mut buffer = vec![0; room];
-    let length = record_trace(trace, &mut buffer);
-    buffer.truncate(length);
-    buffer
+/// was a call, and a line for each record that was refused, for left-over bytes
+/// and for a first byte that is none: which record, which number.
+pub struct Recording {
+    pub bytes: Vec<u8>,
+    pub lines: String,
 }
 
-fn record_trace(trace: &[u8], buffer: &mut [u8]) -> usize {
+/// "14: unused kind [..]", "13: [..] left over", "12: no first byte".
+const MALFORMED: u8 = 14;
+const LEFT_OVER: u8 = 13;
+const NO_FIRST_BYTE: u8 = 12;
+
+pub fn recorded(trace: &[u8], room: usize) -> Recording {
+    let mut buffer = vec![0; room];
+    let mut lines = String::new();
+    let length = record_trace(trace, &mut buffer, &mut |record, number| {
+        lines += &format!("record: record {record}: refused {number}\n");
+    });
+    buffer.truncate(length);
+    Recording {
+        bytes: buffer,
+        lines,
+    }
+}
+
+fn record_trace(trace: &[u8], buffer: &mut [u8], say: &mut dyn FnMut(usize, u8)) -> usize {
     let Some((first, records)) = trace.split_first() else {
+        say(0, NO_FIRST_BYTE);
         return 0;
     };
-    let Ok(mut recorder) = Recorder::start(usize::from(*first), &ONES, buffer) else {
-        return 0;
+    let mut recorder = match Recorder::start(usize::from(*first), &ONES, buffer) {
+        Ok(recorder) => recorder,
+        Err(number) => {
+            say(0, number);
+            return 0;
+        }
     };
     let deletions = &mut [0; 2 * MAX_PROCESSES * MAX_PROCESSES];
     let line = &mut [0; MAX_PROCESSES];
-    for bytes in records.chunks_exact(4) {
-        let record = u32::from_be_bytes([bytes[0], bytes[1], bytes[2], bytes[3]]);
+    for (index, bytes) in records.chunks(4).enumerate() {
+        let Ok(bytes) = <[u8; 4]>::try_from(bytes) else {
+            say(index + 1, LEFT_OVER);
+            break;
+        };
+        let record = u32::from_be_bytes(bytes);
         let (process, argument) = ((record >> 25 & 0b1111) as usize, record & 0x1FF_FFFF);
-        // Refused or not: the next record comes.
-        let _ = match (record >> 29, process, argument) {
+        let refused = match (record >> 29, process, argument) {
             (0, _, 0) => recorder.checkpoint(process, deletions).err(),
             (1, _, _) => recorder.send(process, argument as usize).err(),
             (2, 0, _) => recorder.deliver(argument.into(), deletions).err(),
             (3, 0, _) => recorder.lose(argument.into()).err(),
             (4, 0, _) => recorder.recover(argument.into(), deletions, line).err(),
-            _ => None,
+            _ => Some(MALFORMED),
         };
+        // Refused or not: the next record comes.
+        if let Some(number) = refused {
+            say(index + 1, number);
+        }
     }
     recorder.place()
 }

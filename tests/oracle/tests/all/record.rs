@@ -156,7 +156,7 @@ fn a_replay_ends_in_the_same_state() {
             assert!(format!("{behind} ").starts_with(&format!("{answer} ")));
         }
         assert_eq!(replayed(bytes), run);
-        assert_eq!(recorded(bytes, place), bytes, "recorded again");
+        assert_eq!(recorded(bytes, place).bytes, bytes, "recorded again");
     }
     assert!(refused > 10_000 && full > 10_000, "{refused} {full}");
 }
@@ -206,12 +206,12 @@ fn of_a_trace_the_accepted_records_remain() {
                     }
                 }
             }
-            assert!(recorded(&bytes, bytes.len()) == expected, "seed {seed}");
+            assert!(recorded(&bytes, bytes.len()).bytes == expected, "seed {seed}");
             // In a smaller buffer: as many whole records as there is room for.
             let room = seed as usize % 200;
             let whole = if room == 0 { 0 } else { 1 + (room - 1) / 4 * 4 };
             let fits = whole.min(expected.len());
-            assert!(recorded(&bytes, room) == expected[..fits], "seed {seed}");
+            assert!(recorded(&bytes, room).bytes == expected[..fits], "seed {seed}");
         }
     }
     assert!(left_out > 10_000 && kept > 50_000, "{left_out} {kept}");
@@ -230,6 +230,6 @@ fn the_program() {
             .unwrap();
         program.stdin.take().unwrap().write_all(&bytes).unwrap();
         let output = program.wait_with_output().unwrap();
-        assert_eq!(output.stdout, recorded(&bytes, room.unwrap_or(bytes.len())));
+        assert_eq!(output.stdout, recorded(&bytes, room.unwrap_or(bytes.len())).bytes);
     }
 }
