@@ -18,7 +18,7 @@ pub struct EarliestOutcome {
 }
 
 // The earliest line through the checkpoints of a list that was copied.
-pub fn earliest_of(s: Run, copied: Copied, line: &mut [u16]) -> EarliestOutcome
+fn earliest_of(s: Run, copied: Copied, line: &mut [u16]) -> EarliestOutcome
     requires { ⌜ IsCopy copied ⌝ }
     ensures { λ r. ⌜ ((l : List Named) → copied ≡ copyOf l → (r .run ≡ earliestOutcome s l (now (line .entry)) .run) × (r .answer ≡ earliestOutcome s l (now (line .entry)) .answer) × (now (line .exit) ≡ earliestOutcome s l (now (line .entry)) .line)) ⌝ }
 {
