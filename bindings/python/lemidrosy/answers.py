@@ -171,6 +171,21 @@ def checkpoints(count: int, pairs: Sequence[int]) -> Tuple[Checkpoint, ...]:
     return tuple(Checkpoint(pairs[2 * k], pairs[2 * k + 1]) for k in range(count))
 
 
+def checkpointed(answer: int, deleted: Sequence[int]) -> Checkpointed:
+    """What a checkpoint came to, with the list that it was lent."""
+    return Checkpointed(value(accepted(answer)), deletions(answer, deleted))
+
+
+def delivered(answer: int, deleted: Sequence[int]) -> Delivered:
+    """What a delivery came to, with the list that it was lent."""
+    return Delivered(value_if_any(accepted(answer)), rose(answer), deletions(answer, deleted))
+
+
+def recovered(answer: int, n: int, deleted: Sequence[int], line: Sequence[int]) -> Recovered:
+    """What a recovery of n processes came to, with the lists that it was lent."""
+    return Recovered(tuple(line[:n]), value(accepted(answer)), deletions(answer, deleted))
+
+
 def verdict(answer: int) -> Verdict:
     """The verdict of the judge, whose number has fields of its own: 16 to 23 and 24 to 39 the near end, 40 to 47 and 48 to 63 the far end."""
     if not accepted(answer) >> 8 & 1:

@@ -3,13 +3,13 @@
 from __future__ import annotations
 
 import enum
-from ctypes import c_uint16, c_uint32
+from ctypes import c_uint16
 from typing import Any, Iterable, Mapping, Optional, Tuple, Union
 
 from . import answers
 from .answers import Checkpoint, Checkpointed, Delivered, Recovered
 from .library import DELETIONS, PROCESSES, WORDS, library
-from .numbers import owned_set, set_of, size, word
+from .numbers import block_counts, named_checkpoints, owned_set, set_of, size, word
 from .run import Run
 
 _Deletions = c_uint16 * DELETIONS
@@ -55,10 +55,9 @@ class Console:
     @classmethod
     def start(cls, role: int, n: int, blocks: Union[int, Iterable[int]] = 1) -> Run:
         """A run begins, as by `Run`: for an operator alone."""
-        counts = list(blocks) if isinstance(blocks, Iterable) else [blocks] * PROCESSES
-        lent = (c_uint32 * len(counts))(*map(word, counts))
+        lent = block_counts(blocks)
         run = Run.from_words([0] * WORDS)
-        answers.accepted(library().console_start(word(role), 0, run._words, WORDS, size(n), lent, len(counts)))
+        answers.accepted(library().console_start(word(role), 0, run._words, WORDS, size(n), lent, len(lent)))
         return run
 
     def _lent(self) -> Tuple[Any, ...]:
@@ -68,8 +67,7 @@ class Console:
     def checkpoint(self, process: int) -> Checkpointed:
         """As `Run.checkpoint`, and refused with 25 too."""
         deleted = _Deletions()
-        answer = answers.accepted(library().console_checkpoint(*self._lent(), size(process), deleted, DELETIONS))
-        return Checkpointed(answers.value(answer), answers.deletions(answer, deleted))
+        return answers.checkpointed(library().console_checkpoint(*self._lent(), size(process), deleted, DELETIONS), deleted)
 
     def send(self, sender: int, receiver: int) -> int:
         """As `Run.send`, and refused with 25 too. The receiver may be anyone's."""
@@ -78,8 +76,7 @@ class Console:
     def deliver(self, message: int) -> Delivered:
         """As `Run.deliver`, and refused with 25 too."""
         deleted = _Deletions()
-        answer = answers.accepted(library().console_deliver(*self._lent(), word(message), deleted, DELETIONS))
-        return Delivered(answers.value_if_any(answer), answers.rose(answer), answers.deletions(answer, deleted))
+        return answers.delivered(library().console_deliver(*self._lent(), word(message), deleted, DELETIONS), deleted)
 
     def lose(self, message: int) -> None:
         """As `Run.lose`, and refused with 25 too."""
@@ -89,8 +86,8 @@ class Console:
         """As `Run.recover`: for an operator alone."""
         deleted, line = _Deletions(), _Row()
         n = self._run.n if self._run.is_sound() else 0
-        answer = answers.accepted(library().console_recover(*self._lent(), set_of(failed), deleted, DELETIONS, line, PROCESSES))
-        return Recovered(tuple(line[:n]), answers.value(answer), answers.deletions(answer, deleted))
+        answer = library().console_recover(*self._lent(), set_of(failed), deleted, DELETIONS, line, PROCESSES)
+        return answers.recovered(answer, n, deleted, line)
 
     def line(self, failed: Iterable[int]) -> Tuple[Optional[int], ...]:
         """The caller's own members of the line for a failed set, None for the processes of others. Refused with 2, 7 or 25."""
@@ -102,10 +99,8 @@ class Console:
 
     def earliest(self, named: Union[Mapping[int, int], Iterable[Tuple[int, int]]]) -> Tuple[int, ...]:
         """As `Run.earliest`: for an operator alone."""
-        pairs = list(named.items() if isinstance(named, Mapping) else named)
-        numbers = [word(number) for process, index in pairs for number in (process, index)]
-        lent, line = (c_uint32 * len(numbers))(*numbers), _Row()
-        answers.accepted(library().console_earliest(*self._lent(), lent, len(numbers), line, PROCESSES))
+        lent, line = named_checkpoints(named), _Row()
+        answers.accepted(library().console_earliest(*self._lent(), lent, len(lent), line, PROCESSES))
         return tuple(line[: self._run.n])
 
     def list(self) -> Tuple[Checkpoint, ...]:

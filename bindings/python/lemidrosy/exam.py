@@ -3,13 +3,13 @@
 from __future__ import annotations
 
 import argparse
-from ctypes import c_uint16, c_uint32
-from typing import Any, Callable, Iterable, List, Tuple
+from ctypes import c_uint16
+from typing import Any, Callable, Dict, Iterable, List, Tuple
 
 from .answers import Refused
 from .files import ACCEPTED, Output
 from .library import DELETIONS, PROCESSES, WORDS, library
-from .numbers import members, set_of
+from .numbers import members, named_checkpoints, set_of
 from .run import Run
 
 _MOST_BLOCKS = 10**15
@@ -156,15 +156,20 @@ def cases(sheet: Sheet) -> None:
 
 
 def lent(call: str, n: int, length: int) -> int:
-    """The number of a call's answer on a run of n processes that is lent a list of this length."""
+    """The number of a call's answer on a run of n processes that is lent a list of this length; of the calls named with `line` that is the line list."""
     run = made(Run(n), ("send", 0, 1)) if call == "deliver" else Run(n)
     words = (c_uint16 * WORDS)(*run.words)
-    deletions = length if call in ("checkpoint", "deliver", "recover") else DELETIONS
-    indexes = length if call in ("line", "recoverline") else PROCESSES
+    deletions, indexes = (DELETIONS, length) if "line" in call else (length, PROCESSES)
     deleted, line = (c_uint16 * deletions)(), (c_uint16 * indexes)()
-    lists = {"checkpoint": (0, deleted, deletions), "deliver": (1, deleted, deletions), "line": (1, line, indexes)}
-    arguments = lists.get(call, (1, deleted, deletions, line, indexes))
-    return int(getattr(library(), "recover" if call == "recoverline" else call)(words, WORDS, *arguments)) & 255
+    arguments: Dict[str, Tuple[Any, ...]] = {
+        "checkpoint": (0, deleted, deletions),
+        "deliver": (1, deleted, deletions),
+        "recover": (1, deleted, deletions, line, indexes),
+        "line": (1, line, indexes),
+        "earliest": (named_checkpoints([(0, 0)]), 2, line, indexes),
+    }
+    function = call if call in arguments else call[: -len("line")]
+    return int(getattr(library(), function)(words, WORDS, *arguments[function])) & 255
 
 
 def case_10(sheet: Sheet) -> None:
@@ -291,13 +296,6 @@ _NAMED: Tuple[Tuple[Tuple[int, int], ...], ...] = (
 )
 
 
-def earliest_lent(n: int, length: int) -> int:
-    """The number of the answer on a new run of n processes that is lent a line list of this length."""
-    run = Run(n)
-    words, line = (c_uint16 * WORDS)(*run.words), (c_uint16 * length)()
-    return int(library().earliest(words, WORDS, (c_uint32 * 2)(0, 0), 2, line, length)) & 255
-
-
 def note_8(sheet: Sheet) -> None:
     """Process 2 keeps three checkpoints, process 1 two, process 0 the last one; some lists of named checkpoints, and line lists of n entries and one less."""
     sheet.title("note", 8)
@@ -310,7 +308,7 @@ def note_8(sheet: Sheet) -> None:
         sheet.say(f"earliest {number}", refused, *(() if refused else run.earliest(named)))
     for n in (1, 2, 16):
         for length in (n, n - 1):
-            sheet.say(f"earliestline {n} {length}", earliest_lent(n, length))
+            sheet.say(f"earliestline {n} {length}", lent("earliestline", n, length))
 
 
 def lines() -> Iterable[str]:

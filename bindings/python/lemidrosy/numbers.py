@@ -3,8 +3,11 @@ the same reason: it is no count, no process, no message, no block count and no k
 
 from __future__ import annotations
 
+from ctypes import c_uint32
 from operator import index
-from typing import FrozenSet, Iterable
+from typing import Any, FrozenSet, Iterable, Mapping, Tuple, Union
+
+from .library import PROCESSES
 
 BITS_32 = (1 << 32) - 1
 BITS_64 = (1 << 64) - 1
@@ -46,3 +49,20 @@ def owned_set(processes: Iterable[int]) -> int:
 def members(number: int) -> FrozenSet[int]:
     """The set that a number is: bit p stands for p."""
     return frozenset(p for p in range(number.bit_length()) if number >> p & 1)
+
+
+def words_of(numbers: Iterable[int]) -> Any:
+    """A list of numbers of 32 bits to be lent."""
+    lent = [word(number) for number in numbers]
+    return (c_uint32 * len(lent))(*lent)
+
+
+def block_counts(blocks: Union[int, Iterable[int]]) -> Any:
+    """The block count of each process, or one number for all of them."""
+    return words_of(blocks if isinstance(blocks, Iterable) else [blocks] * PROCESSES)
+
+
+def named_checkpoints(named: Union[Mapping[int, int], Iterable[Tuple[int, int]]]) -> Any:
+    """Named checkpoints, `{process: index}` or pairs, as pairs of numbers one after the other."""
+    pairs = named.items() if isinstance(named, Mapping) else named
+    return words_of(number for process, checkpoint in pairs for number in (process, checkpoint))

@@ -2,13 +2,13 @@
 
 from __future__ import annotations
 
-from ctypes import c_uint16, c_uint32, c_uint64, c_uint8
+from ctypes import c_uint16, c_uint64, c_uint8
 from typing import Any, Iterable, Tuple, Union
 
 from . import answers
 from .answers import Checkpointed, Delivered, Recovered
 from .library import DELETIONS, PROCESSES, WORDS, library
-from .numbers import set_of, size, word
+from .numbers import block_counts, set_of, size, word
 from .run import Run
 from .trace import RECORD
 
@@ -33,12 +33,11 @@ class Recorder:
     __slots__ = ("_run", "_buffer", "_place")
 
     def __init__(self, n: int, blocks: Union[int, Iterable[int]] = 1) -> None:
-        counts = list(blocks) if isinstance(blocks, Iterable) else [blocks] * PROCESSES
-        lent = (c_uint32 * len(counts))(*map(word, counts))
+        lent = block_counts(blocks)
         self._run = Run.from_words([0] * WORDS)
         self._buffer: Any = (c_uint8 * 1)()
         self._place: Any = _Place(0)
-        answers.accepted(library().record_start(*self._words(), size(n), lent, len(counts), self._buffer, 1, self._place, 1))
+        answers.accepted(library().record_start(*self._words(), size(n), lent, len(lent), self._buffer, 1, self._place, 1))
 
     def _words(self) -> Tuple[Any, int]:
         """The words of the run."""
@@ -64,8 +63,7 @@ class Recorder:
     def checkpoint(self, process: int) -> Checkpointed:
         """As `Run.checkpoint`, and recorded."""
         deleted = _Deletions()
-        answer = answers.accepted(library().record_checkpoint(*self._words(), size(process), deleted, DELETIONS, *self._tape()))
-        return Checkpointed(answers.value(answer), answers.deletions(answer, deleted))
+        return answers.checkpointed(library().record_checkpoint(*self._words(), size(process), deleted, DELETIONS, *self._tape()), deleted)
 
     def send(self, sender: int, receiver: int) -> int:
         """As `Run.send`, and recorded."""
@@ -74,8 +72,7 @@ class Recorder:
     def deliver(self, message: int) -> Delivered:
         """As `Run.deliver`, and recorded."""
         deleted = _Deletions()
-        answer = answers.accepted(library().record_deliver(*self._words(), word(message), deleted, DELETIONS, *self._tape()))
-        return Delivered(answers.value_if_any(answer), answers.rose(answer), answers.deletions(answer, deleted))
+        return answers.delivered(library().record_deliver(*self._words(), word(message), deleted, DELETIONS, *self._tape()), deleted)
 
     def lose(self, message: int) -> None:
         """As `Run.lose`, and recorded."""
@@ -85,5 +82,5 @@ class Recorder:
         """As `Run.recover`, and recorded."""
         n = self._run.n
         deleted, line = _Deletions(), _Row()
-        answer = answers.accepted(library().record_recover(*self._words(), set_of(failed), deleted, DELETIONS, line, PROCESSES, *self._tape()))
-        return Recovered(tuple(line[:n]), answers.value(answer), answers.deletions(answer, deleted))
+        answer = library().record_recover(*self._words(), set_of(failed), deleted, DELETIONS, line, PROCESSES, *self._tape())
+        return answers.recovered(answer, n, deleted, line)

@@ -9,7 +9,7 @@ from typing import Any, Iterable, Mapping, Optional, Tuple, Union
 from . import answers
 from .answers import Blocks, Cause, Checkpointed, Delivered, Kept, Message, Numbers, Recovered, Refused
 from .library import DELETIONS, NUMBERS, PROCESSES, SAVED, THREES, UNSOUND_STATE, WORDS, library
-from .numbers import set_of, size, word
+from .numbers import block_counts, named_checkpoints, set_of, size, word
 
 _Words = c_uint16 * WORDS
 _Row = c_uint16 * PROCESSES
@@ -38,18 +38,16 @@ class Run:
     __slots__ = ("_words",)
 
     def __init__(self, n: int, blocks: Union[int, Iterable[int]] = 1) -> None:
-        counts = list(blocks) if isinstance(blocks, Iterable) else [blocks] * PROCESSES
-        lent = (c_uint32 * len(counts))(*map(word, counts))
+        lent = block_counts(blocks)
         self._words: Any = _Words()
-        answers.accepted(library().start(self._words, WORDS, size(n), lent, len(counts)))
+        answers.accepted(library().start(self._words, WORDS, size(n), lent, len(lent)))
 
     # ------------------------------------------------------------------ calls
 
     def checkpoint(self, process: int) -> Checkpointed:
         """The process takes a checkpoint. Refused with 2, 4, 11 or 16."""
         deleted = _Deletions()
-        answer = answers.accepted(library().checkpoint(self._words, len(self._words), size(process), deleted, DELETIONS))
-        return Checkpointed(answers.value(answer), answers.deletions(answer, deleted))
+        return answers.checkpointed(library().checkpoint(self._words, len(self._words), size(process), deleted, DELETIONS), deleted)
 
     def send(self, sender: int, receiver: int) -> int:
         """A process sends a message to another. The result is the message's number. Refused with 2, 4, 5, 9 or 10."""
@@ -58,8 +56,7 @@ class Run:
     def deliver(self, message: int) -> Delivered:
         """A message reaches its receiver, which takes a forced checkpoint first where the rule asks for one. Refused with 2, 8, 11 or 16."""
         deleted = _Deletions()
-        answer = answers.accepted(library().deliver(self._words, len(self._words), word(message), deleted, DELETIONS))
-        return Delivered(answers.value_if_any(answer), answers.rose(answer), answers.deletions(answer, deleted))
+        return answers.delivered(library().deliver(self._words, len(self._words), word(message), deleted, DELETIONS), deleted)
 
     def lose(self, message: int) -> None:
         """A message is lost. Refused with 2 or 8."""
@@ -69,8 +66,8 @@ class Run:
         """Every process goes back to its member of the line for the failed set. Where nobody failed this is a sweep. Refused with 2 or 7."""
         n = self.n  # of words that no calls from a start left, a recovery may leave words of which nothing can be read
         deleted, line = _Deletions(), _Row()
-        answer = answers.accepted(library().recover(self._words, len(self._words), set_of(failed), deleted, DELETIONS, line, PROCESSES))
-        return Recovered(tuple(line[:n]), answers.value(answer), answers.deletions(answer, deleted))
+        answer = library().recover(self._words, len(self._words), set_of(failed), deleted, DELETIONS, line, PROCESSES)
+        return answers.recovered(answer, n, deleted, line)
 
     def sweep(self) -> Recovered:
         """Nobody failed, the run stands still, and what no failure could need is deleted. Refused with 2."""
@@ -93,10 +90,8 @@ class Run:
     def earliest(self, named: Union[Mapping[int, int], Iterable[Tuple[int, int]]]) -> Tuple[int, ...]:
         """The earliest consistent line through named checkpoints, `{process: index}` or pairs: to be shown, not restarted from, since it may name deleted ones. Refused
         with 2, 4, 18, 19 or 20."""
-        pairs = list(named.items() if isinstance(named, Mapping) else named)
-        numbers = [word(number) for process, index in pairs for number in (process, index)]
-        lent, line = (c_uint32 * len(numbers))(*numbers), _Row()
-        answers.accepted(library().earliest(self._words, len(self._words), lent, len(numbers), line, PROCESSES))
+        lent, line = named_checkpoints(named), _Row()
+        answers.accepted(library().earliest(self._words, len(self._words), lent, len(lent), line, PROCESSES))
         return tuple(line[: self.n])
 
     # ---------------------------------------------------------- what is there

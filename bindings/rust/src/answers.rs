@@ -121,23 +121,45 @@ impl Answer {
     }
 
     /// The value as the index of a checkpoint, which has 16 bits.
-    pub fn index(&self) -> u16 {
+    fn index(&self) -> u16 {
         self.value() as u16
     }
 
-    /// The same, if there is a value.
-    pub fn index_if_any(&self) -> Option<u16> {
-        (self.0 >> 23 & 1 == 1).then(|| self.index())
-    }
-
-    /// The set of entries that rose.
-    pub fn rose(&self) -> u16 {
-        (self.0 >> 48) as u16
-    }
-
     /// The pairs at the front of a list of deletions.
-    pub fn deleted(&self, list: &[u16]) -> Vec<Checkpoint> {
+    fn deleted(&self, list: &[u16]) -> Vec<Checkpoint> {
         pairs(list, self.deletions())
+    }
+
+    /// What a checkpoint came to, with the list that it was lent.
+    pub fn stored(&self, list: &[u16]) -> Stored {
+        Stored {
+            index: self.index(),
+            deleted: self.deleted(list),
+        }
+    }
+
+    /// What a delivery came to, with the list that it was lent.
+    pub fn delivered(&self, list: &[u16]) -> Delivered {
+        Delivered {
+            forced: (self.0 >> 23 & 1 == 1).then(|| self.index()),
+            deleted: self.deleted(list),
+            rose: (self.0 >> 48) as u16,
+        }
+    }
+
+    /// What a recovery came to, with the lists that it was lent and the numbers of the run before it: a recovery of forged words may leave some that stand for no sound
+    /// state.
+    pub fn recovered(
+        &self,
+        list: &[u16],
+        line: &[u16],
+        before: Result<Numbers, Refusal>,
+    ) -> Result<Recovered, Refusal> {
+        Ok(Recovered {
+            line: line[..before?.processes].to_vec(),
+            rolled_back: self.value() as usize,
+            deleted: self.deleted(list),
+        })
     }
 
     /// The pairs at the front of a list of checkpoints: as many as the value says.

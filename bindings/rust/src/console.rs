@@ -2,7 +2,7 @@
 
 use crate::answers::{accepted, Delivered, Recovered, Stored};
 use crate::library::{self, Asker};
-use crate::run::DELETIONS;
+use crate::run::{numbers, DELETIONS};
 use crate::{Checkpoint, Refusal, Run, PROCESSES, WORDS};
 
 /// Who calls.
@@ -83,10 +83,7 @@ impl Console<'_> {
         let answer = accepted(library::console_checkpoint(
             self.asker, words, process, &mut list,
         ))?;
-        Ok(Stored {
-            index: answer.index(),
-            deleted: answer.deleted(&list),
-        })
+        Ok(answer.stored(&list))
     }
 
     /// A process sends a message to another, which may be anyone's, as by [`Run::send`].
@@ -103,11 +100,7 @@ impl Console<'_> {
         let answer = accepted(library::console_deliver(
             self.asker, words, message, &mut list,
         ))?;
-        Ok(Delivered {
-            forced: answer.index_if_any(),
-            deleted: answer.deleted(&list),
-            rose: answer.rose(),
-        })
+        Ok(answer.delivered(&list))
     }
 
     /// A message is lost, as by [`Run::lose`].
@@ -123,7 +116,7 @@ impl Console<'_> {
     /// The processes of a failed set go back to the line, as by [`Run::recover`]: for an operator alone.
     pub fn recover(&mut self, failed: u32) -> Result<Recovered, Refusal> {
         let (mut list, mut line) = ([0; DELETIONS], [0; PROCESSES]);
-        let numbers = self.run.numbers();
+        let before = self.run.numbers();
         let answer = accepted(library::console_recover(
             self.asker,
             &mut self.run.words,
@@ -131,11 +124,7 @@ impl Console<'_> {
             &mut list,
             &mut line,
         ))?;
-        Ok(Recovered {
-            line: line[..numbers?.processes].to_vec(),
-            rolled_back: answer.value() as usize,
-            deleted: answer.deleted(&list),
-        })
+        answer.recovered(&list, &line, before)
     }
 
     /// The caller's own members of the line for a failed set, as by [`Run::line`]; none for the processes of others.
@@ -153,15 +142,14 @@ impl Console<'_> {
 
     /// The earliest consistent line through the named checkpoints, as by [`Run::earliest`]: for an operator alone.
     pub fn earliest(&self, named: &[(u32, u32)]) -> Result<Vec<u16>, Refusal> {
-        let named: Vec<u32> = named.iter().flat_map(|one| [one.0, one.1]).collect();
         let mut line = [0; PROCESSES];
         accepted(library::console_earliest(
             self.asker,
             &self.run.words,
-            &named,
+            &numbers(named),
             &mut line,
         ))?;
-        Ok(line[..self.run.numbers()?.processes].to_vec())
+        self.run.row(line)
     }
 
     /// The checkpoints that the caller's own processes keep, to an operator those of all.
@@ -183,7 +171,7 @@ impl Console<'_> {
             &self.run.words,
             &mut counts,
         ))?;
-        let counts = counts.iter().take(self.run.numbers()?.processes);
-        Ok(counts.map(|count| usize::from(*count)).collect())
+        let counts = self.run.row(counts)?;
+        Ok(counts.into_iter().map(usize::from).collect())
     }
 }

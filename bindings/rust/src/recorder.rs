@@ -61,10 +61,7 @@ impl Recorder {
         let mut list = [0; DELETIONS];
         let (words, tape) = self.lent();
         let answer = accepted(library::record_checkpoint(words, process, &mut list, tape))?;
-        Ok(Stored {
-            index: answer.index(),
-            deleted: answer.deleted(&list),
-        })
+        Ok(answer.stored(&list))
     }
 
     /// A process sends a message to another, as by [`Run::send`].
@@ -79,11 +76,7 @@ impl Recorder {
         let mut list = [0; DELETIONS];
         let (words, tape) = self.lent();
         let answer = accepted(library::record_deliver(words, message, &mut list, tape))?;
-        Ok(Delivered {
-            forced: answer.index_if_any(),
-            deleted: answer.deleted(&list),
-            rose: answer.rose(),
-        })
+        Ok(answer.delivered(&list))
     }
 
     /// A message is lost, as by [`Run::lose`].
@@ -96,16 +89,12 @@ impl Recorder {
     /// The processes of a failed set go back to the line, as by [`Run::recover`].
     pub fn recover(&mut self, failed: u32) -> Result<Recovered, Refusal> {
         let (mut list, mut line) = ([0; DELETIONS], [0; PROCESSES]);
-        let numbers = self.run.numbers();
+        let before = self.run.numbers();
         let (words, tape) = self.lent();
         let answer = accepted(library::record_recover(
             words, failed, &mut list, &mut line, tape,
         ))?;
-        Ok(Recovered {
-            line: line[..numbers?.processes].to_vec(),
-            rolled_back: answer.value() as usize,
-            deleted: answer.deleted(&list),
-        })
+        answer.recovered(&list, &line, before)
     }
 
     /// The run, to be read and asked.

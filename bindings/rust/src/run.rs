@@ -38,10 +38,7 @@ impl Run {
     pub fn checkpoint(&mut self, process: usize) -> Result<Stored, Refusal> {
         let mut list = [0; DELETIONS];
         let answer = accepted(library::checkpoint(&mut self.words, process, &mut list))?;
-        Ok(Stored {
-            index: answer.index(),
-            deleted: answer.deleted(&list),
-        })
+        Ok(answer.stored(&list))
     }
 
     /// A process sends a message to another; what is answered is the message's number.
@@ -58,11 +55,7 @@ impl Run {
     pub fn deliver(&mut self, message: u32) -> Result<Delivered, Refusal> {
         let mut list = [0; DELETIONS];
         let answer = accepted(library::deliver(&mut self.words, message, &mut list))?;
-        Ok(Delivered {
-            forced: answer.index_if_any(),
-            deleted: answer.deleted(&list),
-            rose: answer.rose(),
-        })
+        Ok(answer.delivered(&list))
     }
 
     /// A message is lost.
@@ -93,19 +86,14 @@ impl Run {
     /// ```
     pub fn recover(&mut self, failed: u32) -> Result<Recovered, Refusal> {
         let (mut list, mut line) = ([0; DELETIONS], [0; PROCESSES]);
-        // asked before: a recovery of forged words may leave some that stand for no sound state
-        let numbers = self.numbers();
+        let before = self.numbers();
         let answer = accepted(library::recover(
             &mut self.words,
             failed,
             &mut list,
             &mut line,
         ))?;
-        Ok(Recovered {
-            line: line[..numbers?.processes].to_vec(),
-            rolled_back: answer.value() as usize,
-            deleted: answer.deleted(&list),
-        })
+        answer.recovered(&list, &line, before)
     }
 
     /// The messages under way that a recovery of this failed set would lose, ascending by number: to be asked before the recovery.
@@ -185,9 +173,8 @@ impl Run {
     ///
     /// Refused: `NoSuchProcess`, `UnfitNamedList`, `NotKept`, `CausallyOrdered`.
     pub fn earliest(&self, named: &[(u32, u32)]) -> Result<Vec<u16>, Refusal> {
-        let named: Vec<u32> = named.iter().flat_map(|one| [one.0, one.1]).collect();
         let mut line = [0; PROCESSES];
-        accepted(library::earliest(&self.words, &named, &mut line))?;
+        accepted(library::earliest(&self.words, &numbers(named), &mut line))?;
         self.row(line)
     }
 }
@@ -281,7 +268,7 @@ impl Run {
     }
 
     /// The first n entries of a row.
-    fn row(&self, row: [u16; PROCESSES]) -> Result<Vec<u16>, Refusal> {
+    pub(crate) fn row(&self, row: [u16; PROCESSES]) -> Result<Vec<u16>, Refusal> {
         let processes = self.numbers()?.processes;
         Ok(row[..processes].to_vec())
     }
@@ -339,6 +326,11 @@ impl Run {
 }
 
 /// A message by the three numbers that the library tells of it.
+/// Named checkpoints as the library takes them: pairs of numbers, one after the other.
+pub(crate) fn numbers(named: &[(u32, u32)]) -> Vec<u32> {
+    named.iter().flat_map(|one| [one.0, one.1]).collect()
+}
+
 fn message(number: u32, sender: u32, receiver: u32) -> Message {
     Message {
         number,
