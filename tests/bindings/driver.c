@@ -114,9 +114,8 @@ static void send_one(void) {
         printf(" %u", got.value);
 }
 
-static void deliver(void) {
-    uint16_t deleted[LEMIDROSY_DELETIONS];
-    struct lemidrosy_answer got = lemidrosy_answer(lemidrosy_deliver(words, size, (uint32_t)number(), deleted, LEMIDROSY_DELETIONS));
+/* An answer with the index of a forced checkpoint or none, what rose and what was deleted. */
+static void say_delivered(struct lemidrosy_answer got, const uint16_t *deleted) {
     if (!accepted(got.refused))
         return;
     if (got.has_value)
@@ -124,6 +123,12 @@ static void deliver(void) {
     else
         printf(" - %u", got.rose);
     say16(deleted, 2 * got.deletions, 2);
+}
+
+static void deliver(void) {
+    uint16_t deleted[LEMIDROSY_DELETIONS];
+    struct lemidrosy_answer got = lemidrosy_answer(lemidrosy_deliver(words, size, (uint32_t)number(), deleted, LEMIDROSY_DELETIONS));
+    say_delivered(got, deleted);
 }
 
 static void lose(void) { accepted(lemidrosy_refused(lemidrosy_lose(words, size, (uint32_t)number()))); }
@@ -134,15 +139,20 @@ static void line(void) {
     say_row(got, row);
 }
 
-static void recover(void) {
-    uint16_t deleted[LEMIDROSY_DELETIONS], row[LEMIDROSY_PROCESSES];
-    size_t n = count();
-    struct lemidrosy_answer got = lemidrosy_answer(lemidrosy_recover(words, size, (uint32_t)number(), deleted, LEMIDROSY_DELETIONS, row, LEMIDROSY_PROCESSES));
+/* An answer with how many rolled back, the line and what was deleted. */
+static void say_recovered(struct lemidrosy_answer got, const uint16_t *row, size_t n, const uint16_t *deleted) {
     if (!accepted(got.refused))
         return;
     printf(" %u", got.value);
     say16(row, n, 1);
     say16(deleted, 2 * got.deletions, 2);
+}
+
+static void recover(void) {
+    uint16_t deleted[LEMIDROSY_DELETIONS], row[LEMIDROSY_PROCESSES];
+    size_t n = count();
+    struct lemidrosy_answer got = lemidrosy_answer(lemidrosy_recover(words, size, (uint32_t)number(), deleted, LEMIDROSY_DELETIONS, row, LEMIDROSY_PROCESSES));
+    say_recovered(got, row, n, deleted);
 }
 
 static void lost(void) {
@@ -384,13 +394,7 @@ static void console_deliver(void) {
     uint16_t deleted[LEMIDROSY_DELETIONS];
     caller();
     struct lemidrosy_answer got = lemidrosy_answer(lemidrosy_console_deliver(role, owned, words, size, (uint32_t)number(), deleted, LEMIDROSY_DELETIONS));
-    if (!accepted(got.refused))
-        return;
-    if (got.has_value)
-        printf(" %u %u", got.value, got.rose);
-    else
-        printf(" - %u", got.rose);
-    say16(deleted, 2 * got.deletions, 2);
+    say_delivered(got, deleted);
 }
 
 static void console_lose(void) {
@@ -423,11 +427,7 @@ static void console_recover(void) {
     size_t n = count();
     caller();
     struct lemidrosy_answer got = lemidrosy_answer(lemidrosy_console_recover(role, owned, words, size, (uint32_t)number(), deleted, LEMIDROSY_DELETIONS, row, LEMIDROSY_PROCESSES));
-    if (!accepted(got.refused))
-        return;
-    printf(" %u", got.value);
-    say16(row, n, 1);
-    say16(deleted, 2 * got.deletions, 2);
+    say_recovered(got, row, n, deleted);
 }
 
 static void console_earliest(void) {

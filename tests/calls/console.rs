@@ -3,9 +3,8 @@
 //! console is made, which `hold` compares: where the console does not deny it, its
 //! words are the same, word for word.
 
-use crate::guarded::{about_to, lent, returned, take_back};
-use crate::{numbers, Archive, Lent};
-use crate::{DELETIONS, LINE, NUMBERS, WORDS};
+use crate::guarded::about_to;
+use crate::{numbers, take_all_back, tell, Archive, Lent};
 use oracle::calls::console::{outcome, Asked, Asker, CONSOLE_CALLS};
 use oracle::calls::draw::Draws;
 use oracle::calls::hold::{hold, Library};
@@ -50,40 +49,18 @@ impl Console {
     ) -> Result<u64, String> {
         self.calls += 1;
         let how = self.calls / 2;
-        let (first, second) = match asked {
+        let both = match asked {
             Asked::Call(call) => numbers(call),
             Asked::List | Asked::Counts => (0, 0),
         };
-        let made = Lent {
-            which: asked.place() as u32,
-            first,
-            second,
-            words: lent(WORDS, words, how),
-            words_len: words.len(),
-            deletions: lent(DELETIONS, &lists.deletions, how >> 1),
-            deletions_len: lists.deletions.len(),
-            line: lent(LINE, &lists.line, how >> 1),
-            line_len: lists.line.len(),
-            numbers: lent(NUMBERS, &lists.numbers, how >> 1),
-            numbers_len: lists.numbers.len(),
-            sums: std::ptr::null_mut(),
-            sums_len: 0,
-        };
+        let made = Lent::of(asked.place(), both, words, lists, how);
         // Safety: every buffer is lent for the call.
         let answer = unsafe {
             about_to(self.calls);
             console_from_c(&made, asker.role, asker.owned)
         };
-        returned(made.words, words);
-        returned(made.deletions, &mut lists.deletions);
-        returned(made.line, &mut lists.line);
-        returned(made.numbers, &mut lists.numbers);
-        for buffer in [WORDS, DELETIONS, LINE, NUMBERS] {
-            // Safety: nobody uses what was lent any more.
-            if !unsafe { take_back(buffer) } {
-                return Err(format!("it wrote beside buffer {buffer}"));
-            }
-        }
+        made.returned(words, lists);
+        take_all_back(&[])?;
         Ok(answer)
     }
 
@@ -170,17 +147,7 @@ pub extern "C" fn hold_console(seed: u64, count: u64) -> bool {
         zeros: 0,
     };
     let said = hold(&mut console, seed, count).and_then(|tally| {
-        for ((name, numbers), met) in CONSOLE_CALLS.iter().zip(&console.met) {
-            let texts: Vec<String> = numbers
-                .iter()
-                .map(|number| format!("{number}: {}", met[*number]))
-                .collect();
-            println!("{name}: {}", texts.join(", "));
-            let rare = numbers.iter().find(|number| met[**number] < LEAST);
-            if let Some(number) = rare.filter(|_| count >= MANY) {
-                return Err(format!("hardly met: {name} with {number}"));
-            }
-        }
+        tell(&CONSOLE_CALLS, &console.met, (count >= MANY).then_some(LEAST))?;
         let (denied, allowed) = (console.denied_unsound, console.allowed_unsound);
         let zeros = console.zeros;
         println!("messages of an owner on states that are not sound: {allowed}, {zeros} of them 0, and {denied} denied");

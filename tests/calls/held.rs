@@ -36,6 +36,74 @@ struct Lent {
     sums_len: usize,
 }
 
+impl Lent {
+    /// The call at a place of its list, with two numbers, the words and all lists
+    /// but that of sums, each in its buffer.
+    fn of(
+        which: usize,
+        (first, second): (u64, u64),
+        words: &[u16],
+        lists: &Lists,
+        how: u64,
+    ) -> Lent {
+        Lent {
+            which: which as u32,
+            first,
+            second,
+            words: lent(WORDS, words, how),
+            words_len: words.len(),
+            deletions: lent(DELETIONS, &lists.deletions, how >> 1),
+            deletions_len: lists.deletions.len(),
+            line: lent(LINE, &lists.line, how >> 1),
+            line_len: lists.line.len(),
+            numbers: lent(NUMBERS, &lists.numbers, how >> 1),
+            numbers_len: lists.numbers.len(),
+            sums: std::ptr::null_mut(),
+            sums_len: 0,
+        }
+    }
+
+    /// What the call left of them.
+    fn returned(&self, words: &mut [u16], lists: &mut Lists) {
+        returned(self.words, words);
+        returned(self.deletions, &mut lists.deletions);
+        returned(self.line, &mut lists.line);
+        returned(self.numbers, &mut lists.numbers);
+    }
+}
+
+/// Takes the buffers back that every call is lent, and these.
+fn take_all_back(more: &[c_int]) -> Result<(), String> {
+    for &buffer in [WORDS, DELETIONS, LINE, NUMBERS].iter().chain(more) {
+        // Safety: nobody uses what was lent any more.
+        if !unsafe { take_back(buffer) } {
+            return Err(format!("it wrote beside buffer {buffer}"));
+        }
+    }
+    Ok(())
+}
+
+/// Says how often each call met each of its numbers; with `least`, each has to be
+/// met so many times.
+fn tell<const N: usize>(
+    calls: &[(&str, &[usize])],
+    met: &[[u64; N]],
+    least: Option<u64>,
+) -> Result<(), String> {
+    for ((name, numbers), met) in calls.iter().zip(met) {
+        let texts: Vec<String> = numbers
+            .iter()
+            .map(|number| format!("{number}: {}", met[*number]))
+            .collect();
+        println!("{name}: {}", texts.join(", "));
+        let rare = |least| numbers.iter().find(|number| met[**number] < least);
+        if let Some(number) = least.and_then(rare) {
+            return Err(format!("hardly met: {name} with {number}"));
+        }
+    }
+    Ok(())
+}
+
 // The library, called from `driver.c`.
 extern "C" {
     fn call_from_c(call: *const Lent) -> u64;
@@ -101,22 +169,9 @@ impl Library for Archive {
     fn call(&mut self, call: Call, words: &mut [u16], lists: &mut Lists) -> Result<u64, String> {
         self.calls += 1;
         let how = self.calls / 2;
-        let (first, second) = numbers(call);
-        let made = Lent {
-            which: place(call) as u32,
-            first,
-            second,
-            words: lent(WORDS, words, how),
-            words_len: words.len(),
-            deletions: lent(DELETIONS, &lists.deletions, how >> 1),
-            deletions_len: lists.deletions.len(),
-            line: lent(LINE, &lists.line, how >> 1),
-            line_len: lists.line.len(),
-            numbers: lent(NUMBERS, &lists.numbers, how >> 1),
-            numbers_len: lists.numbers.len(),
-            sums: lent(SUMS, &lists.sums, how >> 1),
-            sums_len: lists.sums.len(),
-        };
+        let mut made = Lent::of(place(call), numbers(call), words, lists, how);
+        made.sums = lent(SUMS, &lists.sums, how >> 1);
+        made.sums_len = lists.sums.len();
         // Safety: every buffer is lent for the call.
         let answer = unsafe {
             about_to(self.calls);
@@ -126,17 +181,9 @@ impl Library for Archive {
                 call_from_rust(&made)
             }
         };
-        returned(made.words, words);
-        returned(made.deletions, &mut lists.deletions);
-        returned(made.line, &mut lists.line);
-        returned(made.numbers, &mut lists.numbers);
+        made.returned(words, lists);
         returned(made.sums, &mut lists.sums);
-        for buffer in [WORDS, DELETIONS, LINE, NUMBERS, SUMS] {
-            // Safety: nobody uses what was lent any more.
-            if !unsafe { take_back(buffer) } {
-                return Err(format!("it wrote beside buffer {buffer}"));
-            }
-        }
+        take_all_back(&[SUMS])?;
         Ok(answer)
     }
 }

@@ -3,7 +3,7 @@
 //! simulation (Note 10).
 
 use crate::guarded::{about_to, lent, returned, take_back};
-use crate::SUMS;
+use crate::{tell, SUMS};
 use oracle::calls::draw::Draws;
 use oracle::generate::trace_in;
 use oracle::halves::draw::drawn;
@@ -75,17 +75,9 @@ pub extern "C" fn hold_programs(seed: u64, count: u64) -> bool {
             }
         }
     }
-    for ((name, numbers), met) in PROGRAMS.iter().zip(&met) {
-        let texts: Vec<String> = numbers
-            .iter()
-            .map(|number| format!("{number}: {}", met[*number]))
-            .collect();
-        println!("{name}: {}", texts.join(", "));
-        let rare = numbers.iter().find(|number| met[**number] < LEAST);
-        if let Some(number) = rare.filter(|_| count >= MANY) {
-            println!("hardly met: {name} with {number}");
-            return false;
-        }
+    if let Err(what) = tell(&PROGRAMS, &met, (count >= MANY).then_some(LEAST)) {
+        println!("{what}");
+        return false;
     }
     println!("programs: {}", count * PROGRAMS.len() as u64);
     true

@@ -4,9 +4,8 @@
 //! refusals more: 21, where the record has no room and the call would be
 //! accepted, and 3, where no place is lent.
 
-use crate::guarded::{about_to, lent, returned, take_back};
-use crate::{numbers, Archive, Lent};
-use crate::{DELETIONS, LINE, NUMBERS, SUMS, WORDS};
+use crate::guarded::{about_to, lent, returned};
+use crate::{numbers, take_all_back, Archive, Lent, SUMS};
 use oracle::calls::draw::Draws;
 use oracle::calls::hold::{hold, place, Library, CALLS};
 use oracle::calls::{Call, Lists};
@@ -97,22 +96,7 @@ impl Recorder {
         places: &mut [u64],
     ) -> Result<u64, String> {
         let how = self.calls / 2;
-        let (first, second) = numbers(call);
-        let made = Lent {
-            which: place(call) as u32,
-            first,
-            second,
-            words: lent(WORDS, words, how),
-            words_len: words.len(),
-            deletions: lent(DELETIONS, &lists.deletions, how >> 1),
-            deletions_len: lists.deletions.len(),
-            line: lent(LINE, &lists.line, how >> 1),
-            line_len: lists.line.len(),
-            numbers: lent(NUMBERS, &lists.numbers, how >> 1),
-            numbers_len: lists.numbers.len(),
-            sums: std::ptr::null_mut(),
-            sums_len: 0,
-        };
+        let made = Lent::of(place(call), numbers(call), words, lists, how);
         let buffer: *mut u8 = lent(BYTES, &self.bytes, how);
         let at: *mut u64 = lent(SUMS, places, how >> 1);
         // Safety: every buffer is lent for the call.
@@ -120,18 +104,10 @@ impl Recorder {
             about_to(self.calls);
             record_from_c(&made, buffer, self.bytes.len(), at, places.len())
         };
-        returned(made.words, words);
-        returned(made.deletions, &mut lists.deletions);
-        returned(made.line, &mut lists.line);
-        returned(made.numbers, &mut lists.numbers);
+        made.returned(words, lists);
         returned(buffer, &mut self.bytes);
         returned(at, places);
-        for buffer in [WORDS, DELETIONS, LINE, NUMBERS, SUMS, BYTES] {
-            // Safety: nobody uses what was lent any more.
-            if !unsafe { take_back(buffer) } {
-                return Err(format!("it wrote beside buffer {buffer}"));
-            }
-        }
+        take_all_back(&[SUMS, BYTES])?;
         Ok(answer)
     }
 }
