@@ -101,6 +101,7 @@ pub fn write(request: Request, size: usize, out: &[u8]) -> Answer
 
 pub fn say(request: Request, size: usize, out: &[u8]) -> Answer
     requires { ⌜ (request ≡ Request.Say size) × (size ≤ length (now out)) ⌝ }
+    ensures { λ r. ⌜ r ≡ Answer.Done ⌝ }
 {
     io::write_all(STDERR_FILENO, &out[..size]);
     Answer::Done
@@ -109,6 +110,7 @@ pub fn say(request: Request, size: usize, out: &[u8]) -> Answer
 // `os::fail` adds what the system says of the call that failed.
 pub fn fail(request: Request, size: usize, out: &[u8]) -> Answer
     requires { ⌜ (request ≡ Request.Fail size) × (size ≤ length (now out)) ⌝ }
+    ensures { λ r. ⌜ r ≡ Answer.Done ⌝ }
 {
     os::fail(&out[..size]);
     Answer::Done
