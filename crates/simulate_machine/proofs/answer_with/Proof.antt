@@ -1,0 +1,68 @@
+-- `simulate_machine::answer_with` meets its contract.
+-- Assumes nothing.
+use denote.Ref.{now}
+use native.Mathlib.Omega.{arith}
+use mathlib.Core.Path.{sym, _∙_, ap}
+use Rattle.programs.proofs.Texts.{front-text}
+use Rattle.simulate_machine.specs.Text.{resultText}
+use Rattle.simulate_machine.specs.Simulating.{Telling}
+use Rattle.simulate_machine.proofs.Standing.{stands-as}
+use Rattle.simulate_machine.proofs.Ending.{answered-table, answered-one}
+use borrow.Author.Needs.{needs}
+use Rattle.simulate_machine.proofs.answer_with.Statement.{statement}
+use Rattle.simulate_machine.proofs.answer_with.Tie as tie
+
+table-requires : tie.Need-table-requires
+table-requires c κs = search needs
+
+same-length : tie.Need-same-length
+same-length c = search needs
+
+same-length-2 : tie.Need-same-length-2
+same-length-2 c = search needs
+
+returns : tie.Need-returns
+returns c =
+    let start = c .before .before .before .before .before .before .before .before .before .before .before .before in
+    let at-if1 = c .before .before .before .before .before .before .before .if1 in
+    let at-table = c .before .before .before .before .table in
+    stands-as _ _ _ _ _ _ (answered-table (start .args .k) (at-if1 .taken)) (at-table .ensures)
+
+trial-requires : tie.Need-trial-requires
+trial-requires c κs = search needs
+
+write-result-requires : tie.Need-write-result-requires
+write-result-requires c κs = search needs
+
+tell-requires : tie.Need-tell-requires
+tell-requires c κs = search needs
+
+same-length-3 : tie.Need-same-length-3
+same-length-3 c = search needs
+
+same-length-4 : tie.Need-same-length-4
+same-length-4 c = search needs
+
+returns-2 : tie.Need-returns-2
+returns-2 c =
+    let start = c .before .before .before .before .before .before .before .before .before .before .before .before .before .before .before in
+    let at-if1 = c .before .before .before .before .before .before .before .before .before .before .if1 in
+    let at-write-result = c .before .before .before .before .before .before .before .write-result in
+    let at-trial = c .before .before .before .before .before .before .before .before .before .trial in
+    let at-tell = c .before .before .tell in
+    stands-as _ _ _ _ _ _ (answered-one (start .args .k) (at-if1 .left) ∙ ap Telling (sym (front-text (now (start .args .out)) _ (at-write-result .last .0) (at-write-result .result) (at-write-result .ensures .0) (omega (arith, at-write-result .ensures .1, start .pre .2)) ∙ ap resultText (at-trial .ensures)))) (at-tell .ensures)
+
+pub answer-with-spec : {M : Type 1} → statement M
+answer-with-spec =
+    tie.close
+    (tie.spec
+    table-requires
+    same-length
+    same-length-2
+    returns
+    trial-requires
+    write-result-requires
+    tell-requires
+    same-length-3
+    same-length-4
+    returns-2)

@@ -1,0 +1,26 @@
+-- `simulate_machine::begin` meets its contract.
+-- Assumes nothing.
+use denote.Ref.{now}
+use native.Mathlib.Omega.{arith}
+use Rattle.simulate_machine.proofs.Standing.{counting-stands}
+use borrow.Author.Needs.{needs}
+use Rattle.simulate_machine.proofs.begin.Statement.{statement}
+use Rattle.simulate_machine.proofs.begin.Tie as tie
+
+no-numbers-requires : tie.Need-no-numbers-requires
+no-numbers-requires c κs = search needs
+
+put-requires : tie.Need-put-requires
+put-requires c κs = search needs
+
+same-length : tie.Need-same-length
+same-length c = search needs
+
+returns : tie.Need-returns
+returns c =
+    let start = c .before .before .before .before .before .before .before .before in
+    let at-put = c .before .before .put in
+    counting-stands _ (now (start .args .input)) (now (start .args .out)) (omega (arith, at-put .kept .0, start .pre .0), start .pre .1, start .pre .2) _ (at-put .ensures)
+
+pub begin-spec : {M : Type 1} → statement M
+begin-spec = tie.close (tie.spec no-numbers-requires put-requires same-length returns)

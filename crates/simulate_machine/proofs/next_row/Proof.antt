@@ -1,0 +1,75 @@
+-- `simulate_machine::next_row` meets its contract.
+-- Assumes nothing.
+use denote.Ref.{now}
+use native.Mathlib.Omega.{arith}
+use mathlib.Core.Path.{sym, _∙_, ap}
+use mathlib.Core.List.{List}
+use Prim.Native.Nat.{ℕ}
+use Rattle.programs.proofs.Texts.{front-text}
+use Rattle.simulate_machine.specs.Text.{rowText}
+use Rattle.simulate_machine.specs.Simulating.{Tabling, withoutFirst}
+use Rattle.simulate_machine.proofs.Standing.{stands-as}
+use Rattle.simulate_machine.proofs.Stepping.{row-none, row-next}
+use borrow.Author.Needs.{needs}
+use Rattle.simulate_machine.proofs.next_row.Statement.{statement}
+use Rattle.simulate_machine.proofs.next_row.Tie as tie
+
+stop-requires : tie.Need-stop-requires
+stop-requires c κs = search needs
+
+same-length : tie.Need-same-length
+same-length c = search needs
+
+returns : tie.Need-returns
+returns c =
+    let start = c .before .before .before .before .before .before .before .before .before .before in
+    let at-if1 = c .before .before .before .before .if1 in
+    let at-stop = c .before .before .stop in
+    stands-as _ _ _ _ _ _ (row-none (start .args .k) (at-if1 .taken)) (at-stop .ensures _ _)
+
+trial-requires : tie.Need-trial-requires
+trial-requires c κs = search needs
+
+cast-write-row : tie.Need-cast-write-row
+cast-write-row c = search needs
+
+write-row-requires : tie.Need-write-row-requires
+write-row-requires c κs = search needs
+
+add-t16 : tie.Need-add-t16
+add-t16 c = search needs
+
+tabulate-requires : tie.Need-tabulate-requires
+tabulate-requires c κs = search needs
+
+same-length-2 : tie.Need-same-length-2
+same-length-2 c = search needs
+
+same-length-3 : tie.Need-same-length-3
+same-length-3 c = search needs
+
+returns-2 : tie.Need-returns-2
+unfolding withoutFirst
+returns-2 c =
+    let start = c .before .before .before .before .before .before .before .before .before .before .before .before .before .before .before .before .before .before in
+    let at-if1 = c .before .before .before .before .before .before .before .before .before .before .before .before .if1 in
+    let at-write-row = c .before .before .before .before .before .before .before .before .write-row in
+    let at-trial = c .before .before .before .before .before .before .before .before .before .before .before .trial in
+    let at-tabulate = c .before .before .tabulate in
+    stands-as _ _ _ _ _ _ (row-next (start .args .k) (at-if1 .left) ∙ ap (λ (x : List ℕ). Tabling x (withoutFirst (start .args .k))) (sym (front-text (now (start .args .out)) _ (at-write-row .last .0) (at-write-row .result) (at-write-row .ensures .0) (omega (arith, at-write-row .ensures .1, start .pre .0 .2)) ∙ ap (rowText _) (at-trial .ensures)))) (at-tabulate .ensures)
+
+pub next-row-spec : {M : Type 1} → statement M
+next-row-spec =
+    tie.close
+    (tie.spec
+    stop-requires
+    same-length
+    returns
+    trial-requires
+    cast-write-row
+    write-row-requires
+    add-t16
+    tabulate-requires
+    same-length-2
+    same-length-3
+    returns-2)

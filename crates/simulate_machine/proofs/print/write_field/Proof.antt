@@ -1,0 +1,23 @@
+-- `simulate_machine::print::write_field` meets its contract.
+-- Assumes nothing.
+use borrow.Author.Needs.{needs}
+use native.Mathlib.Omega.{arith}
+use Rattle.listing.proofs.Bounds.{twenty-digits}
+use Rattle.listing.proofs.Texts.{then}
+use Rattle.simulate_machine.proofs.print.write_field.Statement.{statement}
+use Rattle.simulate_machine.proofs.print.write_field.Tie as tie
+
+write-number-requires : tie.Need-write-number-requires
+write-number-requires c κs =
+    let s = c .before .before .before .before .before .before in
+    let space = c .before .before .before .write-byte in
+    omega (arith, space .ensures .next-place, space .kept .0, s .pre, twenty-digits (s .args .x))
+
+returns : tie.Need-returns
+returns c =
+    let space = c .before .before .before .before .before .before .write-byte in
+    let number = c .before .before .write-number in
+    (then (space .ensures) (number .ensures), omega (arith, space .ensures .next-place, number .ensures .next-place, twenty-digits (c .before .before .before .before .before .before .before .before .before .args .x)))
+
+pub write-field-spec : {M : Type 1} → statement M
+write-field-spec = tie.close (tie.spec (λ c κs. search needs) write-number-requires (λ c. search needs) returns)

@@ -1,0 +1,47 @@
+-- `simulate_machine::say_usage` meets its contract.
+-- Assumes nothing.
+use denote.Ref.{now}
+use native.Mathlib.Omega.{arith}
+use Rattle.programs.proofs.Texts.{front-text}
+use Rattle.simulate_machine.specs.Simulating.{usage}
+use Rattle.simulate_machine.proofs.Standing.{saying-stands}
+use borrow.Author.Needs.{needs}
+use Rattle.simulate_machine.proofs.say_usage.Statement.{statement}
+use Rattle.simulate_machine.proofs.say_usage.Tie as tie
+
+slice-aggregate-write-word : tie.Need-slice-aggregate-write-word
+slice-aggregate-write-word c = search needs
+
+write-word-requires : tie.Need-write-word-requires
+write-word-requires c κs = search needs
+
+no-numbers-requires : tie.Need-no-numbers-requires
+no-numbers-requires c κs = search needs
+
+put-requires : tie.Need-put-requires
+put-requires c κs = search needs
+
+same-length : tie.Need-same-length
+same-length c = search needs
+
+same-length-2 : tie.Need-same-length-2
+same-length-2 c = search needs
+
+returns : tie.Need-returns
+returns c =
+    let start = c .before .before .before .before .before .before .before .before .before .before .before .before .before in
+    let at-write-word = c .before .before .before .before .before .before .before .write-word in
+    let at-put = c .before .before .put in
+    saying-stands _ (now (start .args .input)) (at-write-word .last .0) (omega (arith, at-put .kept .0, start .pre .0), start .pre .1, omega (arith, at-write-word .kept .0, start .pre .2)) _ (at-write-word .result) usage (omega (arith, at-write-word .ensures .next-place, at-write-word .kept .0, start .pre .2)) (front-text (now (start .args .out)) usage (at-write-word .last .0) (at-write-word .result) (at-write-word .ensures) (omega (arith, at-write-word .ensures .next-place, start .pre .2))) (at-put .ensures)
+
+pub say-usage-spec : {M : Type 1} → statement M
+say-usage-spec =
+    tie.close
+    (tie.spec
+    slice-aggregate-write-word
+    write-word-requires
+    no-numbers-requires
+    put-requires
+    same-length
+    same-length-2
+    returns)

@@ -1,0 +1,37 @@
+-- `simulate_machine::size_of` meets its contract.
+-- Assumes nothing.
+use Rattle.simulate_machine.proofs.Stepping.{size-brought, size-ended, size-failed}
+use borrow.Author.Needs.{needs}
+use Rattle.simulate_machine.proofs.size_of.Statement.{statement}
+use Rattle.simulate_machine.proofs.size_of.Tie as tie
+
+enum-known-taken : tie.Need-enum-known-taken
+enum-known-taken c = search needs
+
+enum-told : tie.Need-enum-told
+enum-told c = search needs
+
+enum-told-2 : tie.Need-enum-told-2
+enum-told-2 c = search needs
+
+returns : tie.Need-returns
+returns c =
+    let start = c .before .before .before in
+    let at-taken = c .before .taken in
+    size-brought (start .args .taken) (start .pre) _ (at-taken .given .1)
+
+returns-2 : tie.Need-returns-2
+returns-2 c =
+    let start = c .before .before in
+    let at-enum-told = c .enum-told in
+    size-ended (start .args .taken) (start .pre) (at-enum-told .given .1)
+
+returns-3 : tie.Need-returns-3
+returns-3 c =
+    let start = c .before .before in
+    let at-enum-told2 = c .enum-told2 in
+    size-failed (start .args .taken) (start .pre) (at-enum-told2 .given .1)
+
+pub size-of-spec : {M : Type 1} → statement M
+size-of-spec =
+    tie.close (tie.spec enum-known-taken enum-told enum-told-2 returns returns-2 returns-3)
