@@ -264,6 +264,25 @@ uint64_t lemidrosy_replay_begin(const uint16_t *words, size_t words_length, uint
    machine left has stopped, and each record on words that stand for no sound state is refused. */
 uint64_t lemidrosy_replay_step(uint16_t *words, size_t words_length, uint64_t *memory, size_t memory_length, uint8_t *input, size_t input_length, uint8_t *out, size_t out_length, uint64_t kind, size_t number, uint64_t *request, size_t request_length);
 
+/* The program simulate as a machine, in the same way. It asks for how many words it was started with, for words 1 to 4 (N, SPACING or FROM-TO, STEPS, SEED), and to
+   write a text, or a table line by line. For every list of answers it is proved that what is to be written is the front of the text of the numbers in those words, the
+   figures, the table or `refused 22`, and all of it where nothing failed; that the usage is said where there are not four words or one of them is wrong, what failed is
+   said, and nothing else; and that it ends.
+
+   Eight numbers of memory, 65,536 bytes of input or more and 260 bytes of out or more. */
+enum {
+    LEMIDROSY_SIMULATE_MEMORY = 8,
+    LEMIDROSY_SIMULATE_INPUT = 65536,
+    LEMIDROSY_SIMULATE_OUT = 260
+};
+
+/* Begins: 0, and the first request. 3 if a list is too short; then nothing is written. */
+uint64_t lemidrosy_simulate_begin(uint64_t *memory, size_t memory_length, const uint8_t *input, size_t input_length, const uint8_t *out, size_t out_length, uint64_t *request, size_t request_length);
+
+/* Takes the answer to the request before, any answer at all: 0, and the next request. 3 if the request's list is too short; then nothing is written. A state that no
+   machine left has stopped. It takes 20 KB of stack. */
+uint64_t lemidrosy_simulate_step(uint64_t *memory, size_t memory_length, const uint8_t *input, size_t input_length, uint8_t *out, size_t out_length, uint64_t kind, size_t number, uint64_t *request, size_t request_length);
+
 /* The merge of two halves of one run: bit p of the set says that process p belongs to the first half. The merged trace goes to the list, which has as many bytes as both
    halves together; the value is how many bytes were written. The set is judged with all its 32 bits. Refused with 1, 3, 4, 5, 7, 12, 13, 14, 17, 23 or 24. It takes
    40 KB of stack. */

@@ -8,25 +8,47 @@ use lib.Dec.{ltb}
 use lib.ListN.{length}
 use lib.Seq.{sets}
 use Rattle.machines.specs.declared.Request as requests
+use Rattle.machines.specs.declared.Answer as answers
 use Rattle.machines.specs.Machines.{stepped}
 use Rattle.machines.specs.Forms.{answerOf}
 use Rattle.machines.specs.Packed.{packed, unpacked}
-use Rattle.judge_machine.specs.Judging.{State, Reading, judging}
-use Rattle.judge_machine.specs.Words.{lacksRoom, stateOf, placeOf, StandsFor}
+use Rattle.judge_machine.specs.Judging.{Reading, judging}
+use Rattle.judge_machine.specs.Words as judged
+use Rattle.simulate_machine.specs.Simulating.{Counting, simulating}
+use Rattle.simulate_machine.specs.Words as simulated
 
--- The lent lists stand for a state, and the four numbers at the front of the last one are what the machine asks for there.
-pub record Posed (memory input out before request : List ℕ) (s : State) : Type 0 where
+-- The four numbers at the front of a list are a request of which this holds.
+pub record Posed (before request : List ℕ) (Stands : requests.Request → Type 0) : Type 0 where
   pub form : requests.Request
-  pub stands : StandsFor memory input out form s
+  pub stands : Stands form
   pub told : request ≡ sets before 0 (packed form)
 
 -- A list is too short: 3, and nothing is written. Otherwise 0, and the machine asks for what it asks for first.
-pub record JudgeBegun (memory input out request after numbers : List ℕ) (r : ℕ) : Type 0 where
-  pub short : lacksRoom (length memory) (length input) (length out) || ltb (length request) 4 ≡ true → (r ≡ 3) × (after ≡ memory) × (numbers ≡ request)
-  pub begun : lacksRoom (length memory) (length input) (length out) || ltb (length request) 4 ≡ false → (r ≡ 0) × Posed after input out request numbers (Reading [])
+pub record Begun (lacks : Bool) (memory request after numbers : List ℕ) (Stands : requests.Request → Type 0) (r : ℕ) : Type 0 where
+  pub short : lacks || ltb (length request) 4 ≡ true → (r ≡ 3) × (after ≡ memory) × (numbers ≡ request)
+  pub begun : lacks || ltb (length request) 4 ≡ false → (r ≡ 0) × Posed request numbers Stands
 
 -- The list of the request is too short: 3, and nothing is written. Otherwise 0, and an answer is taken.
-pub record JudgeStepped (memory input out request : List ℕ) (kind number : ℕ) (after text numbers : List ℕ) (r : ℕ) : Type 0 where
+pub record Stepped (memory out request : List ℕ) (kind number : ℕ) (after text numbers : List ℕ) (Stands : answers.Answer → requests.Request → Type 0) (r : ℕ) : Type 0 where
   pub short : ltb (length request) 4 ≡ true → (r ≡ 3) × (after ≡ memory) × (text ≡ out) × (numbers ≡ request)
-  pub taken : ltb (length request) 4 ≡ false
-      → (r ≡ 0) × Posed after input text request numbers (stepped judging (stateOf memory input out) (answerOf (unpacked kind number) (placeOf memory) input))
+  pub taken : ltb (length request) 4 ≡ false → (r ≡ 0) × Posed request numbers (Stands (unpacked kind number))
+
+-- The judge: what is lent stands for a state, and what is asked for is what the machine asks for there.
+abbrev pub JudgeBegun : (memory input out request after numbers : List ℕ) → ℕ → Type 0
+JudgeBegun memory input out request after numbers =
+    Begun (judged.lacksRoom (length memory) (length input) (length out)) memory request after numbers (λ (form : requests.Request). judged.StandsFor after input out form (Reading []))
+
+abbrev pub JudgeStepped : (memory input out request : List ℕ) (kind number : ℕ) (after text numbers : List ℕ) → ℕ → Type 0
+JudgeStepped memory input out request kind number after text numbers =
+    Stepped memory out request kind number after text numbers
+    (λ (a : answers.Answer) (form : requests.Request). judged.StandsFor after input text form (stepped judging (judged.stateOf memory input out) (answerOf a (judged.placeOf memory) input)))
+
+-- The simulation, in the same way.
+abbrev pub SimulateBegun : (memory input out request after numbers : List ℕ) → ℕ → Type 0
+SimulateBegun memory input out request after numbers =
+    Begun (simulated.lacksRoom (length memory) (length input) (length out)) memory request after numbers (λ (form : requests.Request). simulated.StandsFor after input out form Counting)
+
+abbrev pub SimulateStepped : (memory input out request : List ℕ) (kind number : ℕ) (after text numbers : List ℕ) → ℕ → Type 0
+SimulateStepped memory input out request kind number after text numbers =
+    Stepped memory out request kind number after text numbers
+    (λ (a : answers.Answer) (form : requests.Request). simulated.StandsFor after input text form (stepped simulating (simulated.stateOf memory input out) (answerOf a 0 input)))

@@ -12,10 +12,10 @@ lacks-room-requires : tie.Need-lacks-room-requires
 lacks-room-requires c κs = search needs
 
 returns : tie.Need-returns
-returns c = let start = c .before .before .before .before .before .before in begun-lacking (now (start .args .memory)) (now (start .args .input)) (now (start .args .out)) (now (start .args .request)) (sym (c .before .lacks-room .ensures) ∙ c .if1 .taken)
+returns c = let start = c .before .before .before .before .before .before in begun-lacking _ (now (start .args .memory)) (now (start .args .request)) _ (sym (c .before .lacks-room .ensures) ∙ c .if1 .taken)
 
 returns-2 : tie.Need-returns-2
-returns-2 c = let start = c .before .before .before .before .before .before .before in begun-short (now (start .args .memory)) (now (start .args .input)) (now (start .args .out)) (now (start .args .request)) (sym (c .before .before .lacks-room .ensures) ∙ c .before .if1 .left) (c .if2 .taken)
+returns-2 c = let start = c .before .before .before .before .before .before .before in begun-short _ (now (start .args .memory)) (now (start .args .request)) _ (sym (c .before .before .lacks-room .ensures) ∙ c .before .if1 .left) (c .if2 .taken)
 
 begin-requires : tie.Need-begin-requires
 begin-requires c κs = room-by _ _ _ (sym (c .before .before .before .lacks-room .ensures) ∙ c .before .before .if1 .left)
@@ -30,7 +30,7 @@ same-length-2 : tie.Need-same-length-2
 same-length-2 c = search needs
 
 returns-3 : tie.Need-returns-3
-returns-3 c = let start = c .before .before .before .before .before .before .before .before .before .before .before .before .before .before .before in begun-done (now (start .args .memory)) (now (start .args .input)) (now (start .args .out)) (now (start .args .request)) _ _ _ (sym (c .before .before .before .before .before .before .before .before .before .before .lacks-room .ensures) ∙ c .before .before .before .before .before .before .before .before .before .if1 .left) (c .before .before .before .before .before .before .before .before .if2 .left) (c .before .before .before .before .before .before .begin .ensures) (c .before .before .pack .ensures)
+returns-3 c = let start = c .before .before .before .before .before .before .before .before .before .before .before .before .before .before .before in begun-done _ (now (start .args .memory)) (now (start .args .request)) _ _ _ _ (sym (c .before .before .before .before .before .before .before .before .before .before .lacks-room .ensures) ∙ c .before .before .before .before .before .before .before .before .before .if1 .left) (c .before .before .before .before .before .before .before .before .if2 .left) (c .before .before .before .before .before .before .begin .ensures) (c .before .before .pack .ensures)
 
 pub lemidrosy-judge-begin-spec : {M : Type 1} → statement M
 lemidrosy-judge-begin-spec =
