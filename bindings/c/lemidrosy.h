@@ -290,7 +290,7 @@ uint64_t lemidrosy_merge(const uint8_t *first, size_t first_length, const uint8_
 
 /* A simulation of n processes (1 to 16), each of which takes a checkpoint after so many sends and deliveries of its own (1 to 1,000), for so many steps (1 to 30,000), with
    a starting value. Five figures go to the list: the deliveries, the forced checkpoints, the most checkpoints that a process kept after any step, and 1,000 times the forced
-   ones divided by the deliveries, as quotient and remainder. Refused with 3 (fewer than five entries), then with 22. It takes 0.14 MB of stack. */
+   ones divided by the deliveries, as quotient and remainder. Refused with 3 (fewer than five entries), then with 22. It takes 20 KB of stack. */
 uint64_t lemidrosy_simulate(size_t n, uint32_t spacing, uint32_t steps, uint32_t seed, uint64_t *figures, size_t figures_length);
 
 /* A saved state is 12,942 bytes, the same on every machine: "LEMIDROS", the version 1 in two bytes, the 6,464 words in two bytes each, and in four the CRC-32C of all
