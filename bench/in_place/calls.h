@@ -1,4 +1,4 @@
-// The calls as the bench makes them: the exported ones, and those of crates/timing_in_place.
+// The calls as the bench makes them: the exported ones, and those of crates/timing_in_place and crates/timing.
 #ifndef CALLS_H
 #define CALLS_H
 #include "../../bindings/c/lemidrosy.h"

@@ -1,4 +1,4 @@
--- `timing_in_place::takes_next` meets its contract. Assumes nothing.
+-- `timing::takes_next` meets its contract. Assumes nothing.
 use mathlib.Core.Path.{_≡_, sym, _∙_}
 use mathlib.Core.Bool.{Bool, true, false≢true}
 use mathlib.Core.List.{List}
@@ -8,8 +8,8 @@ use lib.ListN.{length}
 use borrow.Author.Needs.{needs}
 use borrow.Author.Tests.{leb-true}
 use Rattle.reader.specs.Reading.{recordLeft}
-use Rattle.timing_in_place.proofs.takes_next.Statement.{statement}
-use Rattle.timing_in_place.proofs.takes_next.Tie as tie
+use Rattle.timing.proofs.takes_next.Statement.{statement}
+use Rattle.timing.proofs.takes_next.Tie as tie
 
 left : (l : List ℕ) (taken : ℕ) → recordLeft l taken ≡ true → 4 * taken + 5 ≤ length l
 unfolding recordLeft

@@ -1,10 +1,10 @@
--- `timing_in_place::apply_by_value` meets its contract. Assumes nothing.
+-- `timing::apply_by_value` meets its contract. Assumes nothing.
 use Prim.Native.Nat.{_-_, _+_, _*_, _≤_, _<_}
 use native.Mathlib.Omega.{arith}
 use lib.ListN.{length}
 use borrow.Author.Needs.{needs}
-use Rattle.timing_in_place.proofs.apply_by_value.Statement.{statement}
-use Rattle.timing_in_place.proofs.apply_by_value.Tie as tie
+use Rattle.timing.proofs.apply_by_value.Statement.{statement}
+use Rattle.timing.proofs.apply_by_value.Tie as tie
 
 abbrev Inv-loop : tie.InvT-loop
 Inv-loop trace run₀ accepted₀ taken₀ run accepted taken = accepted ≤ taken
