@@ -4,11 +4,15 @@ use mathlib.Core.Path.{_≡_, refl, sym, _∙_, ap}
 use mathlib.Core.List.{List, [], _∷_, _++_, append-nil, append-assoc}
 use Prim.Native.Nat.{ℕ, zero, suc, _+_, _*_, _≤_, _<_}
 use native.Mathlib.Omega.{arith}
+use lib.Dec.{eqb}
 use lib.ListN.{length, getD, length-append}
 use lib.Seq.{length-sets}
+use borrow.Author.Tests.{ne-eqb}
+use Rattle.laws.specs.Choice.{pick}
 use Rattle.laws.specs.Written.{sets-append}
-use Rattle.whole_runs.specs.Listing.{decimal, space, colon, deletionsText}
-use Rattle.listing.specs.Lines.{pairText}
+use Rattle.whole_runs.specs.Calls.{Reply}
+use Rattle.whole_runs.specs.Listing.{digits, decimal, space, colon, lineFeed, deletionsText, acceptedText, lineText}
+use Rattle.listing.specs.Lines.{pairText, refusedText}
 use Rattle.listing.specs.Printed.{Room, Printed}
 
 -- A text behind a text is the two together.
@@ -24,6 +28,19 @@ room-first l at s t h = omega (arith, length-append s t)
 
 pub room-rest : {l m s : List ℕ} {at p : ℕ} (t : List ℕ) → Printed l at s m p → Room l at (s ++ t) → Room m p t
 room-rest {l} {m} {s} {at} {p} t first h = omega (arith, length-append s t, first .next-place, ap length (first .holds) ∙ length-sets l at s)
+
+-- The line of a record that is refused, and of one that is accepted: its 0, and what is told of it.
+pub refused-line : (k : ℕ) (r : Reply) → (r .report .refused ≡ 0 → ⊥) → lineText k r ≡ refusedText k (r .report .refused)
+unfolding lineText refusedText
+refused-line k r h = rw (ne-eqb (r .report .refused) 0 h)
+
+zero-told : (refused : ℕ) (more feed : List ℕ) → refused ≡ 0 → decimal refused ++ (pick (eqb refused 0) more [] ++ feed) ≡ (48 ∷ []) ++ (more ++ feed)
+unfolding decimal digits
+zero-told refused more feed e = rw e
+
+pub accepted-line : (k : ℕ) (r : Reply) → r .report .refused ≡ 0 → lineText k r ≡ decimal k ++ (space ∷ ((48 ∷ []) ++ (acceptedText r ++ (lineFeed ∷ []))))
+unfolding lineText
+accepted-line k r e = ap (λ (t : List ℕ). decimal k ++ (space ∷ t)) (zero-told (r .report .refused) (acceptedText r) (lineFeed ∷ []) e)
 
 -- No text is printed.
 pub nothing : (l : List ℕ) (at : ℕ) → Printed l at [] l at

@@ -4,7 +4,7 @@ use mathlib.Core.List.{List, [], _∷_, _++_}
 use mathlib.Core.Option.{Option, none, some}
 use Prim.Native.Nat.{ℕ}
 use Rattle.whole_runs.specs.Calls.{Reply}
-use Rattle.whole_runs.specs.Listing.{decimal, space, colon}
+use Rattle.whole_runs.specs.Listing.{decimal, space, colon, lineFeed}
 use Rattle.listing.specs.declared.Value.{Value}
 use Rattle.listing.specs.declared.Value.the-variants.{Hyphen, Number}
 use Rattle.listing.specs.declared.Summary.{Summary}
@@ -20,6 +20,10 @@ replyOf s deleted = record { report = record { refused = s .refused; value = val
 -- "each as process:index", behind a space
 unfoldable pub pairText : ℕ → ℕ → List ℕ
 pairText p i = space ∷ (decimal p ++ (colon ∷ decimal i))
+
+-- The line of a refused record: its number and that of the refusal.
+unfoldable pub refusedText : ℕ → ℕ → List ℕ
+refusedText record-number x = decimal record-number ++ (space ∷ (decimal x ++ (lineFeed ∷ [])))
 
 -- No line is longer: 10 digits of the record number, 3 of the refusal number, 10 of the value, 3 of the count, 12 bytes for each of 256
 -- deletions, three spaces and the line feed.

@@ -5,7 +5,7 @@ ghost use mathlib.Core.List.{[], _∷_};
 ghost use Prim.Native.Nat.{_*_, _≤_};
 ghost use lib.ListN.{length};
 ghost use Rattle.whole_runs.specs.Listing.{decimal, valueText, deletionsText, acceptedText, lineText};
-ghost use Rattle.listing.specs.Lines.{valueIn, replyOf, pairText};
+ghost use Rattle.listing.specs.Lines.{valueIn, replyOf, pairText, refusedText};
 ghost use Rattle.listing.specs.Printed.{Room, Printed};
 
 // The value of a line: a hyphen where there is none.
@@ -121,20 +121,30 @@ fn write_accepted(out: &mut [u8], at: usize, said: Summary, deleted: &[u16]) -> 
     write_deletions(out, counted, deleted, count)
 }
 
-// The line of a record. Most records are accepted, so their 0 does not go through `write_number`.
+// The line of a refused record.
+pub fn write_refused(out: &mut [u8], at: usize, number: u64, refused: u8) -> usize
+    requires { ⌜ Room (now out) at (refusedText number refused) ⌝ }
+    ensures { λ r. ⌜ Printed (now (out .entry)) at (refusedText number refused) (now (out .exit)) r ⌝ }
+{
+    let numbered = write_number(out, at, number);
+    let spaced = write_byte(out, numbered, b' ');
+    let told = write_number(out, spaced, refused as u64);
+    write_byte(out, told, b'\n')
+}
+
+// The line of a record. Most records are accepted, so their 0 does not go through `write_number`. It is called in one place of the replay alone, so that it is compiled into
+// the loop over the records.
 pub fn write_line(out: &mut [u8], at: usize, number: u64, said: Summary, deleted: &[u16]) -> usize
     requires { ⌜ (2 * said .deletions ≤ length (now deleted)) × Room (now out) at (lineText number (replyOf said (now deleted))) ⌝ }
     ensures { λ r. ⌜ Printed (now (out .entry)) at (lineText number (replyOf said (now (deleted .entry)))) (now (out .exit)) r ⌝ }
 {
     let refused = said.refused;
+    if refused != 0 {
+        return write_refused(out, at, number, refused);
+    }
     let numbered = write_number(out, at, number);
     let spaced = write_byte(out, numbered, b' ');
-    if refused == 0 {
-        let told = write_byte(out, spaced, b'0');
-        let whole = write_accepted(out, told, said, deleted);
-        write_byte(out, whole, b'\n')
-    } else {
-        let told = write_number(out, spaced, refused as u64);
-        write_byte(out, told, b'\n')
-    }
+    let told = write_byte(out, spaced, b'0');
+    let whole = write_accepted(out, told, said, deleted);
+    write_byte(out, whole, b'\n')
 }

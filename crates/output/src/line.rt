@@ -23,9 +23,8 @@ pub fn refuse(number: u64, why: Refusal, out: &mut [u8]) -> usize
     requires { ⌜ (number ≤ 1000000000) × (longestLine ≤ length (now out)) ⌝ }
     ensures { λ r. ⌜ Printed (now (out .entry)) 0 (refusalText number why) (now (out .exit)) r × (r ≤ length (now (out .entry))) ⌝ }
 {
-    let none = [0u16; 1];
-    let said = summaries::refused(why);
-    print(said, &none, number, out, 0)
+    let refused = summaries::number_of(why);
+    listing::write_refused(out, 0, number, refused)
 }
 
 // Whether the replay goes on behind a record whose line says this refusal number, 0 if none: "stops after printing the first refusal", unless `all` is asked for.
