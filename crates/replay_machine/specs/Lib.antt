@@ -1,3 +1,4 @@
 pub mod Replaying
 pub mod Standing
 pub mod Printing
+pub mod Ready

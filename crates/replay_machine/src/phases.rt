@@ -18,7 +18,8 @@ ghost use Rattle.words.specs.Layout.{runOf};
 ghost use Rattle.machines.specs.Machines.{heardRead, heardDone, heardCount, heardWord, brought, isNumber};
 ghost use Rattle.machines.specs.Forms.{answerOf, takenOf, Between};
 ghost use Rattle.replay_machine.specs.Replaying as m;
-ghost use Rattle.replay_machine.specs.Standing.{roomy, Holds, Lies, betweenIn, stateIn, holding, plainPlace};
+ghost use Rattle.replay_machine.specs.Standing.{roomy, Holds, stateIn, holding, plainPlace};
+ghost use Rattle.replay_machine.specs.Ready.{comesTo, Lying, readState, linesState, bytesState};
 
 // The longest word that is compared.
 const LONGEST_WORD: usize = 4;
@@ -144,33 +145,57 @@ fn with_more(p: Place, more: usize) -> Place
     }
 }
 
+// What an answer comes to: records to take, or a place that stays.
+pub(crate) enum Ready {
+    Take(Place),
+    Stay(Place),
+}
+
 // The next bytes of the trace, or its end: "13 prints under the next record number and ends".
-pub(crate) fn after_read(
-    p: Place,
-    words: &mut [u16],
-    input: &mut [u8],
-    out: &mut [u8],
-    answer: Answer,
-    reached: bool,
-) -> Place
-    requires { ⌜ Holds p (now words) (now input) (now out) × (p .phase ≡ 3) × (reached ≡ true → Reachable (runOf (now words))) ⌝ }
-    ensures { λ r. ⌜ stateIn r (now (words .exit)) (now (input .exit)) (now (out .exit)) ≡ m.filled (length (now (out .entry))) (betweenIn p (now (words .entry)) (now (input .entry))) (heardRead (m.mostToRead (length (now (input .entry))) (betweenIn p (now (words .entry)) (now (input .entry)))) (answerOf answer (p .held) (now (input .entry)))) ⌝ }
+fn ready_read(p: Place, words: &[u16], input: &[u8], out: &mut [u8], answer: Answer) -> Ready
+    requires { ⌜ Holds p (now words) (now input) (now out) × (p .phase ≡ 3) ⌝ }
+    ensures { λ r. ⌜ comesTo r (now (words .entry)) (now (input .entry)) (now (out .exit)) ≡ readState p (now (words .entry)) (now (input .entry)) (length (now (out .entry))) answer ⌝ }
+    ensures { λ r. ⌜ Lying r (now (words .entry)) (now (input .entry)) (now (out .exit)) ⌝ }
 {
     let at = p.held;
     let most = replay_input::buffer::fill_to(p.count, input.len()) - at;
     let taken = heard::read(answer, most);
     match taken {
-        Taken::Brought(more) => records::take(with_more(p, more), words, input, out, reached),
+        Taken::Brought(more) => Ready::Take(with_more(p, more)),
         Taken::Ended => {
             let size = output::ends::end(p.count, &input[..at], out);
-            records::with_text(place::ENDING, size)
+            Ready::Stay(records::with_text(place::ENDING, size))
         }
-        Taken::Failed => fail_input(words, input, out),
+        Taken::Failed => Ready::Stay(fail_input(words, input, out)),
     }
 }
 
 // The lines of some records are written: there may be more.
-pub(crate) fn after_lines(
+fn ready_lines(p: Place, words: &[u16], input: &[u8], out: &mut [u8], answer: Answer) -> Ready
+    requires { ⌜ Holds p (now words) (now input) (now out) ⌝ }
+    ensures { λ r. ⌜ comesTo r (now (words .entry)) (now (input .entry)) (now (out .exit)) ≡ linesState p (now (words .entry)) (now (input .entry)) (length (now (out .entry))) answer ⌝ }
+    ensures { λ r. ⌜ Lying r (now (words .entry)) (now (input .entry)) (now (out .exit)) ⌝ }
+{
+    let is_written = heard::is_done(answer);
+    if is_written {
+        return Ready::Take(p);
+    }
+    Ready::Stay(fail_output(words, input, out))
+}
+
+fn ready_after(p: Place, words: &[u16], input: &[u8], out: &mut [u8], answer: Answer) -> Ready
+    requires { ⌜ Holds p (now words) (now input) (now out) ⌝ }
+    ensures { λ r. ⌜ comesTo r (now (words .entry)) (now (input .entry)) (now (out .exit)) ≡ bytesState p (now (words .entry)) (now (input .entry)) (length (now (out .entry))) answer ⌝ }
+    ensures { λ r. ⌜ Lying r (now (words .entry)) (now (input .entry)) (now (out .exit)) ⌝ }
+{
+    if p.phase == place::READING {
+        return ready_read(p, words, input, out, answer);
+    }
+    ready_lines(p, words, input, out, answer)
+}
+
+// Bytes were read, or lines written. The records are taken in this one place, so that their loop is compiled into the program's.
+pub(crate) fn after_bytes(
     p: Place,
     words: &mut [u16],
     input: &mut [u8],
@@ -179,13 +204,13 @@ pub(crate) fn after_lines(
     reached: bool,
 ) -> Place
     requires { ⌜ Holds p (now words) (now input) (now out) × (reached ≡ true → Reachable (runOf (now words))) ⌝ }
-    ensures { λ r. ⌜ stateIn r (now (words .exit)) (now (input .exit)) (now (out .exit)) ≡ m.wrote (m.onward (length (now (out .entry))) (betweenIn p (now (words .entry)) (now (input .entry)))) (heardDone (answerOf answer (p .held) (now (input .entry)))) ⌝ }
+    ensures { λ r. ⌜ stateIn r (now (words .exit)) (now (input .exit)) (now (out .exit)) ≡ bytesState p (now (words .entry)) (now (input .entry)) (length (now (out .entry))) answer ⌝ }
 {
-    let is_written = heard::is_done(answer);
-    if is_written {
-        return records::take(p, words, input, out, reached);
+    let ready = ready_after(p, words, input, out, answer);
+    match ready {
+        Ready::Take(q) => records::take(q, words, input, out, reached),
+        Ready::Stay(q) => q,
     }
-    fail_output(words, input, out)
 }
 
 // The last lines are written.

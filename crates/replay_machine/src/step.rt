@@ -26,12 +26,13 @@ fn after(
     ensures { λ r. ⌜ stateIn r (now (words .exit)) (now (input .exit)) (now (out .exit)) ≡ stepped (replaying (length (now (input .entry))) (length (now (out .entry)))) (stateIn p (now (words .entry)) (now (input .entry)) (now (out .entry))) (answerOf answer (p .held) (now (input .entry))) ⌝ }
 {
     let phase = p.phase;
+    if (phase == place::READING) | (phase == place::PRINTING) {
+        return phases::after_bytes(p, words, input, out, answer, reached);
+    }
     match phase {
         place::STARTING => phases::after_count(p, words, input, out, answer),
         place::COUNTED => phases::after_word(p, words, input, out, answer),
         place::OPENING => phases::after_first(p, words, input, out, answer),
-        place::READING => phases::after_read(p, words, input, out, answer, reached),
-        place::PRINTING => phases::after_lines(p, words, input, out, answer, reached),
         place::ENDING => phases::after_last(p, words, input, out, answer),
         _ => records::with_text(place::STOPPED, 0),
     }

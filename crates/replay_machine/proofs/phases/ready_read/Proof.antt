@@ -1,0 +1,150 @@
+-- `replay_machine::phases::ready_read` meets its contract.
+-- Assumes nothing.
+use borrow.Author.Needs.{needs}
+use mathlib.Core.Path.{_≡_, refl, sym, _∙_, ap}
+use mathlib.Core.List.{List, _++_}
+use Prim.Native.Nat.{ℕ, _+_, _-_, _≤_, _<_}
+use native.Mathlib.Omega.{arith}
+use denote.Ref.{now}
+use lib.ListN.{length, take, drop}
+use lib.Seq.{length-take-le}
+use Rattle.whole_runs.specs.Listing.{records}
+use Rattle.words.specs.Layout.{runOf}
+use Rattle.machines.specs.declared.heard.Taken as takens
+use Rattle.machines.specs.Machines.{heardRead}
+use Rattle.machines.specs.Forms as form
+use Rattle.machines.specs.Forms.{answerOf, takenOf}
+use Rattle.replay_machine.specs.declared.place.Place.{Place}
+use Rattle.replay_machine.specs.Replaying.{Between, ending, mostToRead, onward, filled}
+use Rattle.replay_machine.specs.Standing.{Lies, betweenIn, holding}
+use Rattle.replay_machine.specs.Ready.{comesTo, Lying, readState}
+use Rattle.replay_machine.proofs.Places.{Inside, inside-out, roomy-input, roomy-out, text-ending}
+use Rattle.replay_machine.proofs.Texts.{front-text}
+use Rattle.replay_machine.proofs.Starts.{most-same, more-held}
+use Rattle.replay_machine.proofs.phases.ready_read.Statement.{statement}
+use Rattle.replay_machine.proofs.phases.ready_read.Tie as tie
+
+module _ (s : tie.Start) where
+  abbrev p : Place
+  p = s .args .p
+
+  abbrev words : List ℕ
+  words = now (s .args .words)
+
+  abbrev input : List ℕ
+  input = now (s .args .input)
+
+  abbrev out : List ℕ
+  out = now (s .args .out)
+
+  abbrev between : Between
+  between = betweenIn p words input
+
+  in-lists : Inside p (length input) (length out)
+  in-lists = inside-out p (length input) (length out) (s .pre .0 .1)
+
+  few-held : p .held < 4
+  few-held = in-lists .front (λ e. omega (arith, s .pre .1)) .0
+
+  at-front : p .from ≡ 0
+  at-front = in-lists .front (λ e. omega (arith, s .pre .1)) .1
+
+-- What the answer is taken as.
+module _ (c : tie.After-read) where
+  abbrev start : tie.Start
+  start = c .before .before .before .before .before
+
+  most-is : c .before .fill-to .result - p start .held ≡ mostToRead (length (input start)) (between start)
+  most-is = ap (λ (k : ℕ). k - p start .held) (c .before .fill-to .ensures) ∙ most-same (p start) (words start) (input start) (at-front start) (in-lists start .bytes)
+
+  heard-as : (form : takens.Taken) → c .read .result ≡ form
+      → heardRead (mostToRead (length (input start)) (between start)) (answerOf (start .args .answer) (p start .held) (input start)) ≡ takenOf form (p start .held) (input start)
+  heard-as form e =
+      let fits : p start .held + (c .before .fill-to .result - p start .held) ≤ length (input start) = omega (arith, c .before .fill-to .ensures, in-lists start .few, few-held start, roomy-input _ _ _ (start .pre .0 .0)) in
+      rw (← most-is) (c .read .ensures .0 (p start .held) (input start) fits ∙ ap (λ (f : takens.Taken). takenOf f (p start .held) (input start)) e)
+
+fill-to-requires : tie.Need-fill-to-requires
+fill-to-requires c κs = omega (arith, in-lists (c .before .before .before) .few)
+
+sub-most : tie.Need-sub-most
+sub-most c =
+    let s = c .before .before .before .before in
+    omega (arith, c .fill-to .ensures, few-held s, in-lists s .few, roomy-input _ _ _ (s .pre .0 .0))
+
+with-more-requires : tie.Need-with-more-requires
+unfolding form.Between
+with-more-requires c κs =
+    let few = (rw (c .before .taken .given .1) at (c .before .before .before .read .ensures .1)) .1 in
+    (few-held (c .before .before .before .before .before .before .before .before), omega (arith, few, c .before .before .before .before .fill-to .ensures))
+
+slice-aggregate-end : tie.Need-slice-aggregate-end
+slice-aggregate-end c =
+    let s = c .before .before .before .before .before .before .before .before in
+    sym (length-take-le (p s .held) (input s) (in-lists s .bytes))
+
+end-requires : tie.Need-end-requires
+end-requires c κs =
+    let s = c .before .before .before .before .before .before .before .before .before in
+    (omega (arith, length-take-le (p s .held) (input s) (in-lists s .bytes), few-held s), roomy-out _ _ _ (s .pre .0 .0))
+
+returns : tie.Need-returns
+unfolding form.Between holding comesTo Lying readState filled takenOf
+returns c =
+    let s = c .before .before .before .before .before .before .before .before .before in
+    let room = length (out s) in
+    let told = c .before .before .taken .given in
+    let more = told .0 .0 in
+    let few = (rw (told .1) at (c .before .before .before .before .read .ensures .1)) .1 in
+    let lies : Lies (holding (p s) more) (words s) (input s) (out s) = record {
+      room = s .pre .0 .0;
+      few = in-lists s .few;
+      within = omega (arith, few, c .before .before .before .before .before .fill-to .ensures, few-held s, in-lists s .few, roomy-input _ _ _ (s .pre .0 .0));
+    } in (
+      ap (λ (q : Place). onward room (betweenIn q (words s) (input s))) (c .with-more .ensures)
+          ∙ ap (onward room) (more-held (p s) (words s) (input s) (at-front s) (in-lists s .bytes) more)
+          ∙ sym (ap (filled room (between s)) (heard-as (c .before .before .before .before) _ (told .1))),
+      rw (c .with-more .ensures) lies,
+    )
+
+returns-2 : tie.Need-returns-2
+unfolding comesTo Lying readState filled takenOf betweenIn
+returns-2 c =
+    let s = c .before .before .before .before .before .before .before .before .before .before .before .before .before in
+    let e = c .before .before .before .end in
+    let printed = e .ensures in
+    let then-out = e .last .1 .1 .0 in
+    let same = e .kept .1 .1 .0 in
+    let run = runOf (words s) in (
+      rw (c .with-text .ensures) (text-ending (e .result) (words s) (input s) then-out (rw same (s .pre .0 .0)) (omega (arith, printed .1, same))
+          ∙ ap ending (front-text (out s) _ then-out (e .result) (printed .0 (p s .all) run) (printed .1))
+          ∙ ap (λ (k : ℕ). ending (records (p s .all) (p s .count) run (take (p s .held) (drop k (input s))))) (sym (at-front s))
+          ∙ sym (ap (filled (length (out s)) (between s)) (heard-as (c .before .before .before .before .before .before .before .before) _ (c .before .before .before .before .before .before .enum-told .given .1)))),
+      tt,
+    )
+
+returns-3 : tie.Need-returns-3
+unfolding comesTo Lying readState filled takenOf
+returns-3 c =
+    let s = c .before .before .before .before .before .before .before .before .before .before .before in
+    (c .before .before .fail-input .ensures ∙ sym (ap (filled (length (out s)) (between s)) (heard-as (c .before .before .before .before .before .before) _ (c .before .before .before .before .enum-told2 .given .1))), tt)
+
+pub ready-read-spec : {M : Type 1} → statement M
+ready-read-spec =
+    tie.close
+    (tie.spec
+    fill-to-requires
+    sub-most
+    (λ c κs. search needs)
+    (λ c. search needs)
+    with-more-requires
+    (λ c. search needs)
+    slice-aggregate-end
+    end-requires
+    (λ c κs. search needs)
+    (λ c. search needs)
+    (λ c κs. search needs)
+    returns
+    (λ c. search needs)
+    returns-2
+    (λ c. search needs)
+    returns-3)
