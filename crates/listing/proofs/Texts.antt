@@ -12,7 +12,7 @@ use Rattle.laws.specs.Choice.{pick}
 use Rattle.laws.specs.Written.{sets-append}
 use Rattle.whole_runs.specs.Calls.{Reply}
 use Rattle.whole_runs.specs.Listing.{digits, decimal, space, colon, lineFeed, deletionsText, acceptedText, lineText}
-use Rattle.listing.specs.Lines.{pairText, refusedText}
+use Rattle.listing.specs.Lines.{pairText, refusalLine}
 use Rattle.listing.specs.Printed.{Room, Printed}
 
 -- A text behind a text is the two together.
@@ -30,8 +30,8 @@ pub room-rest : {l m s : List ℕ} {at p : ℕ} (t : List ℕ) → Printed l at 
 room-rest {l} {m} {s} {at} {p} t first h = omega (arith, length-append s t, first .next-place, ap length (first .holds) ∙ length-sets l at s)
 
 -- The line of a record that is refused, and of one that is accepted: its 0, and what is told of it.
-pub refused-line : (k : ℕ) (r : Reply) → (r .report .refused ≡ 0 → ⊥) → lineText k r ≡ refusedText k (r .report .refused)
-unfolding lineText refusedText
+pub refused-line : (k : ℕ) (r : Reply) → (r .report .refused ≡ 0 → ⊥) → lineText k r ≡ refusalLine k (r .report .refused)
+unfolding lineText refusalLine
 refused-line k r h = rw (ne-eqb (r .report .refused) 0 h)
 
 zero-told : (refused : ℕ) (more feed : List ℕ) → refused ≡ 0 → decimal refused ++ (pick (eqb refused 0) more [] ++ feed) ≡ (48 ∷ []) ++ (more ++ feed)

@@ -22,8 +22,8 @@ unfoldable pub pairText : ℕ → ℕ → List ℕ
 pairText p i = space ∷ (decimal p ++ (colon ∷ decimal i))
 
 -- The line of a refused record: its number and that of the refusal.
-unfoldable pub refusedText : ℕ → ℕ → List ℕ
-refusedText record-number x = decimal record-number ++ (space ∷ (decimal x ++ (lineFeed ∷ [])))
+unfoldable pub refusalLine : ℕ → ℕ → List ℕ
+refusalLine record-number x = decimal record-number ++ (space ∷ (decimal x ++ (lineFeed ∷ [])))
 
 -- No line is longer: 10 digits of the record number, 3 of the refusal number, 10 of the value, 3 of the count, 12 bytes for each of 256
 -- deletions, three spaces and the line feed.

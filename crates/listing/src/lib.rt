@@ -5,7 +5,7 @@ ghost use mathlib.Core.List.{[], _∷_};
 ghost use Prim.Native.Nat.{_*_, _≤_};
 ghost use lib.ListN.{length};
 ghost use Rattle.whole_runs.specs.Listing.{decimal, valueText, deletionsText, acceptedText, lineText};
-ghost use Rattle.listing.specs.Lines.{valueIn, replyOf, pairText, refusedText};
+ghost use Rattle.listing.specs.Lines.{valueIn, replyOf, pairText, refusalLine};
 ghost use Rattle.listing.specs.Printed.{Room, Printed};
 
 // The value of a line: a hyphen where there is none.
@@ -122,9 +122,9 @@ fn write_accepted(out: &mut [u8], at: usize, said: Summary, deleted: &[u16]) -> 
 }
 
 // The line of a refused record.
-pub fn write_refused(out: &mut [u8], at: usize, number: u64, refused: u8) -> usize
-    requires { ⌜ Room (now out) at (refusedText number refused) ⌝ }
-    ensures { λ r. ⌜ Printed (now (out .entry)) at (refusedText number refused) (now (out .exit)) r ⌝ }
+pub fn write_refusal(out: &mut [u8], at: usize, number: u64, refused: u8) -> usize
+    requires { ⌜ Room (now out) at (refusalLine number refused) ⌝ }
+    ensures { λ r. ⌜ Printed (now (out .entry)) at (refusalLine number refused) (now (out .exit)) r ⌝ }
 {
     let numbered = write_number(out, at, number);
     let spaced = write_byte(out, numbered, b' ');
@@ -140,7 +140,7 @@ pub fn write_line(out: &mut [u8], at: usize, number: u64, said: Summary, deleted
 {
     let refused = said.refused;
     if refused != 0 {
-        return write_refused(out, at, number, refused);
+        return write_refusal(out, at, number, refused);
     }
     let numbered = write_number(out, at, number);
     let spaced = write_byte(out, numbered, b' ');

@@ -11,7 +11,7 @@ use Rattle.model.specs.laws.Refusals.{number-range}
 use Rattle.whole_runs.specs.Listing.{lineText, refusalText}
 use Rattle.whole_runs.proofs.Sizes.{Small, small-refused}
 use Rattle.listing.specs.declared.Summary.{Summary}
-use Rattle.listing.specs.Lines.{replyOf, refusedText, longestLine}
+use Rattle.listing.specs.Lines.{replyOf, refusalLine, longestLine}
 use Rattle.listing.specs.Said.{reportIn}
 use Rattle.listing.proofs.Bounds.{line-length}
 use Rattle.listing.proofs.Texts.{refused-line}
@@ -23,7 +23,7 @@ unfolding reportIn replyOf
 line-fits said deleted k h few entries = line-length k (replyOf said deleted) few (omega (arith, h .refused)) (h .value) (h .deletions) entries
 
 -- The line of a refusal, which fits too.
-pub refusal-line : (why : Refusal) (k : ℕ) → refusalText k why ≡ refusedText k (number why)
+pub refusal-line : (why : Refusal) (k : ℕ) → refusalText k why ≡ refusalLine k (number why)
 unfolding refusalText
 refusal-line why k = refused-line k _ (λ e. omega (arith, number-range why))
 

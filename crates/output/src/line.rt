@@ -24,7 +24,7 @@ pub fn refuse(number: u64, why: Refusal, out: &mut [u8]) -> usize
     ensures { λ r. ⌜ Printed (now (out .entry)) 0 (refusalText number why) (now (out .exit)) r × (r ≤ length (now (out .entry))) ⌝ }
 {
     let refused = summaries::number_of(why);
-    listing::write_refused(out, 0, number, refused)
+    listing::write_refusal(out, 0, number, refused)
 }
 
 // Whether the replay goes on behind a record whose line says this refusal number, 0 if none: "stops after printing the first refusal", unless `all` is asked for.

@@ -35,9 +35,9 @@ line-there c = accepted-line (start c .args .number) (reply (start c)) (c .if1 .
 room-0 : (c : tie.Else1) → Room (now (start c .args .out)) (start c .args .at) (decimal (start c .args .number) ++ (space ∷ from-zero (start c)))
 room-0 c = rw (line-there c) at (start c .pre .1)
 
-write-refused-requires : tie.Need-write-refused-requires
+write-refusal-requires : tie.Need-write-refusal-requires
 unfolding replyOf
-write-refused-requires c κs =
+write-refusal-requires c κs =
     let s = c .before .before .before .before in
     rw (refused-line (s .args .number) (reply s) (c .before .if1 .taken)) at (s .pre .1)
 
@@ -46,7 +46,7 @@ unfolding replyOf
 returns c =
     let p = c .before .before in
     let t = p .before .before in
-    rw (refused-line (t .before .before .before .args .number) (reply (t .before .before .before)) (t .if1 .taken)) (p .write-refused .ensures)
+    rw (refused-line (t .before .before .before .args .number) (reply (t .before .before .before)) (t .if1 .taken)) (p .write-refusal .ensures)
 
 -- The room that is left after each text.
 room-1 : (c : tie.After-write-number) → Room (c .write-number .last .0) (c .write-number .result) (space ∷ from-zero (start (c .before .before)))
@@ -98,7 +98,7 @@ pub write-line-spec : {M : Type 1} → statement M
 write-line-spec =
     tie.close
     (tie.spec
-    write-refused-requires
+    write-refusal-requires
     (λ c. search needs)
     returns
     write-number-requires

@@ -1,15 +1,15 @@
--- `listing::write_refused` meets its contract: its four texts stand one after the other.
+-- `listing::write_refusal` meets its contract: its four texts stand one after the other.
 -- Assumes nothing.
 use borrow.Author.Needs.{needs}
 use mathlib.Core.List.{List, [], _∷_, _++_}
 use Prim.Native.Nat.{ℕ}
 use denote.Ref.{now}
 use Rattle.whole_runs.specs.Listing.{decimal, space, lineFeed}
-use Rattle.listing.specs.Lines.{refusedText}
+use Rattle.listing.specs.Lines.{refusalLine}
 use Rattle.listing.specs.Printed.{Room}
 use Rattle.listing.proofs.Texts.{then, room-first, room-rest}
-use Rattle.listing.proofs.write_refused.Statement.{statement}
-use Rattle.listing.proofs.write_refused.Tie as tie
+use Rattle.listing.proofs.write_refusal.Statement.{statement}
+use Rattle.listing.proofs.write_refusal.Tie as tie
 
 -- The text from the number of the refusal on.
 abbrev from-refused : tie.Start → List ℕ
@@ -17,14 +17,14 @@ from-refused c = decimal (c .args .refused) ++ (lineFeed ∷ [])
 
 -- The room that is left after each text.
 room-1 : (c : tie.After-write-number) → Room (c .write-number .last .0) (c .write-number .result) (space ∷ from-refused (c .before .before .before))
-unfolding refusedText
+unfolding refusalLine
 room-1 c = room-rest (space ∷ from-refused (c .before .before .before)) (c .write-number .ensures) (c .before .before .before .pre)
 
 room-2 : (c : tie.After-write-byte) → Room (c .write-byte .last .0) (c .write-byte .result) (from-refused (c .before .before .before .before .before .before .before))
 room-2 c = room-rest (from-refused (c .before .before .before .before .before .before .before)) (c .write-byte .ensures) (room-1 (c .before .before .before .before))
 
 write-number-requires : tie.Need-write-number-requires
-unfolding refusedText
+unfolding refusalLine
 write-number-requires c κs =
     let s = c .before .before in
     room-first (now (s .args .out)) (s .args .at) (decimal (s .args .number)) (space ∷ from-refused s) (s .pre)
@@ -45,7 +45,7 @@ write-byte-requires-2 c κs =
     room-rest (lineFeed ∷ []) (p .write-number2 .ensures) (room-2 (p .before .before .before .before))
 
 returns : tie.Need-returns
-unfolding refusedText
+unfolding refusalLine
 returns c =
     let p4 = c .before .before in
     let p3 = p4 .before .before .before .before in
@@ -53,8 +53,8 @@ returns c =
     let p1 = p2 .before .before .before .before in
     then (p1 .write-number .ensures) (then (p2 .write-byte .ensures) (then (p3 .write-number2 .ensures) (p4 .write-byte2 .ensures)))
 
-pub write-refused-spec : {M : Type 1} → statement M
-write-refused-spec =
+pub write-refusal-spec : {M : Type 1} → statement M
+write-refusal-spec =
     tie.close
     (tie.spec
     write-number-requires
