@@ -1,0 +1,14 @@
+-- `merge_machine::begin` meets its contract.
+-- Assumes nothing.
+use native.Mathlib.Omega.{arith}
+use Rattle.merge_machine.proofs.Arriving.{arrives-counting}
+use Rattle.merge_machine.proofs.Stepping.{put-stands}
+use borrow.Author.Needs.{needs}
+use Rattle.merge_machine.proofs.begin.Statement.{statement}
+use Rattle.merge_machine.proofs.begin.Tie as tie
+
+returns : tie.Need-returns
+returns c = put-stands _ _ _ _ _ _ (omega (arith, c .before .before .before .put .kept .0, c .before .before .before .before .before .before .before .before .before .pre .0), c .before .before .before .before .before .before .before .before .before .pre .1, c .before .before .before .before .before .before .before .before .before .pre .2) (c .before .before .before .put .ensures) (rw (c .before .before .before .before .before .at .ensures) (arrives-counting _ _)) (c .request .ensures)
+
+pub begin-spec : {M : Type 1} → statement M
+begin-spec = tie.close (tie.spec (λ c κs. search needs) (λ c κs. search needs) (λ c κs. search needs) (λ c. search needs) returns)

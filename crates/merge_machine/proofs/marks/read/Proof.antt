@@ -1,0 +1,14 @@
+-- `merge_machine::marks::read` meets its contract.
+-- Assumes nothing.
+use mathlib.Core.Path.{refl}
+use Rattle.merge_machine.specs.Words.{marksOf}
+use borrow.Author.Needs.{needs}
+use Rattle.merge_machine.proofs.marks.read.Statement.{statement}
+use Rattle.merge_machine.proofs.marks.read.Tie as tie
+
+returns : tie.Need-returns
+unfolding marksOf
+returns c = refl
+
+pub read-spec : {M : Type 1} → statement M
+read-spec = tie.close (tie.spec (λ c. search needs) (λ c. search needs) (λ c. search needs) (λ c. search needs) (λ c. search needs) (λ c. search needs) (λ c. search needs) returns)

@@ -1,0 +1,5 @@
+pub mod Held
+pub mod Printed
+pub mod Merging
+pub mod Promised
+pub mod Words
