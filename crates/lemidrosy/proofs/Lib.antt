@@ -1,7 +1,6 @@
 -- Laws that belong to no one function.
 pub mod Blocks
 pub mod Consoles
-pub mod MergeStepped
 pub mod Merging
 pub mod Recording
 pub mod Starting

@@ -4,4 +4,3 @@ pub mod Recording
 pub mod Replaying
 pub mod Stepping
 pub mod ReplaySteps
-pub mod MergeSteps

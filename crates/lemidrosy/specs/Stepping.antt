@@ -14,6 +14,8 @@ use Rattle.machines.specs.Forms.{answerOf}
 use Rattle.machines.specs.Packed.{packed, unpacked}
 use Rattle.judge_machine.specs.Judging.{Reading, judging}
 use Rattle.judge_machine.specs.Words as judged
+use Rattle.merge_machine.specs.Merging as merger
+use Rattle.merge_machine.specs.Words as merged
 use Rattle.simulate_machine.specs.Simulating.{Counting, simulating}
 use Rattle.simulate_machine.specs.Words as simulated
 
@@ -52,3 +54,13 @@ abbrev pub SimulateStepped : (memory input out request : List ℕ) (kind number 
 SimulateStepped memory input out request kind number after text numbers =
     Stepped memory out request kind number after text numbers
     (λ (a : answers.Answer) (form : requests.Request). simulated.StandsFor after input text form (stepped simulating (simulated.stateOf memory input out) (answerOf a 0 input)))
+
+-- The merge, in the same way.
+abbrev pub MergeBegun : (memory input out request after numbers : List ℕ) → ℕ → Type 0
+MergeBegun memory input out request after numbers =
+    Begun (merged.lacksRoom (length memory) (length input) (length out)) memory request after numbers (λ (form : requests.Request). merged.StandsFor after input out form merger.Counting)
+
+abbrev pub MergeStepped : (memory input out request : List ℕ) (kind number : ℕ) (after text numbers : List ℕ) → ℕ → Type 0
+MergeStepped memory input out request kind number after text numbers =
+    Stepped memory out request kind number after text numbers
+    (λ (a : answers.Answer) (form : requests.Request). merged.StandsFor after input text form (stepped merger.merging (merged.stateOf memory input out) (answerOf a (merged.placeOf memory) input)))

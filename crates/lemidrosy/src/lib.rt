@@ -28,6 +28,3 @@ pub mod stepping;
 
 // replay_steps.rt: the replay program as a machine
 pub mod replay_steps;
-
-// merge_steps.rt: the program merge as a machine
-pub mod merge_steps;

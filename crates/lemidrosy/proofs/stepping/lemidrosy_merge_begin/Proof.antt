@@ -1,0 +1,46 @@
+-- `lemidrosy_merge_begin` meets its contract.
+-- Assumes nothing.
+use mathlib.Core.Path.{sym, _∙_}
+use denote.Ref.{now}
+use Rattle.merge_machine.proofs.Standing.{room-by}
+use Rattle.lemidrosy.proofs.Stepped.{begun-lacking, begun-short, begun-done}
+use borrow.Author.Needs.{needs}
+use Rattle.lemidrosy.proofs.stepping.lemidrosy_merge_begin.Statement.{statement}
+use Rattle.lemidrosy.proofs.stepping.lemidrosy_merge_begin.Tie as tie
+
+lacks-room-requires : tie.Need-lacks-room-requires
+lacks-room-requires c κs = search needs
+
+returns : tie.Need-returns
+returns c = let start = c .before .before .before .before .before .before in begun-lacking _ (now (start .args .memory)) (now (start .args .request)) _ (sym (c .before .lacks-room .ensures) ∙ c .if1 .taken)
+
+returns-2 : tie.Need-returns-2
+returns-2 c = let start = c .before .before .before .before .before .before .before in begun-short _ (now (start .args .memory)) (now (start .args .request)) _ (sym (c .before .before .lacks-room .ensures) ∙ c .before .if1 .left) (c .if2 .taken)
+
+begin-requires : tie.Need-begin-requires
+begin-requires c κs = room-by _ _ _ (sym (c .before .before .before .lacks-room .ensures) ∙ c .before .before .if1 .left)
+
+pack-requires : tie.Need-pack-requires
+pack-requires c κs = search needs
+
+same-length : tie.Need-same-length
+same-length c = search needs
+
+same-length-2 : tie.Need-same-length-2
+same-length-2 c = search needs
+
+returns-3 : tie.Need-returns-3
+returns-3 c = let start = c .before .before .before .before .before .before .before .before .before .before .before .before .before .before .before in begun-done _ (now (start .args .memory)) (now (start .args .request)) _ _ _ _ (sym (c .before .before .before .before .before .before .before .before .before .before .lacks-room .ensures) ∙ c .before .before .before .before .before .before .before .before .before .if1 .left) (c .before .before .before .before .before .before .before .before .if2 .left) (c .before .before .before .before .before .before .begin .ensures) (c .before .before .pack .ensures)
+
+pub lemidrosy-merge-begin-spec : {M : Type 1} → statement M
+lemidrosy-merge-begin-spec =
+    tie.close
+    (tie.spec
+    lacks-room-requires
+    returns
+    returns-2
+    begin-requires
+    pack-requires
+    same-length
+    same-length-2
+    returns-3)
