@@ -219,49 +219,59 @@ static inline struct lemidrosy_verdict lemidrosy_verdict(uint64_t verdict) {
     return fields;
 }
 
-/* The program judge as a machine: it asks for one thing at a time, and the caller does that with its own files and hands back what came of it. For every list of answers it
-   is proved that what is to be written is the line of the verdict on all that was read, that nothing is read past the end or a settled verdict, and that it ends.
+/* Programs as machines. A machine asks for one thing at a time; the caller does that with its own files and hands back what came of it, until the machine has stopped. Its
+   state is in the lent lists: between two steps the caller changes nothing in them but the bytes of input that a request names. bindings/examples/drive.c drives each.
 
-   The machine's state is in the lent lists: two numbers of memory, 16,389 bytes of input, 96 bytes of out. Between two steps the caller changes nothing in them but
-   the bytes of input that a request names. A request is four numbers: its kind, a size, a place, the number of a word. With kind
-     0 the machine has stopped;
-     1 bytes are to be read: at most `size` of them, to `place` of input;
-     2 the first `size` bytes of out are to be written to standard output, 3 to standard error;
-     4 the first `size` bytes of out name what failed: they are to be written to standard error with the system's reason;
-     5 is asked how many words the program was started with; 6 for the word of that number, of at most `size` bytes, to `place` of input; 7 to open the file whose name is
-       the first `size` bytes of out, as the input from then on. (The judge asks for none of these three.)
-   An answer is a kind and a number: 1 with how many bytes were brought, 2 for the end of the input, 3 for done, 4 with a number of words; every other kind, and an answer
-   that does not fit the request, for a call that failed. */
+   A request is four numbers: its kind, a size, a place, the number of a word. */
+enum {
+    LEMIDROSY_REQUEST = 4
+};
+enum lemidrosy_request {
+    LEMIDROSY_REQUEST_STOP = 0,     /* the machine has stopped */
+    LEMIDROSY_REQUEST_READ = 1,     /* bytes are to be read: at most `size` of them, to `place` of input */
+    LEMIDROSY_REQUEST_WRITE = 2,    /* the first `size` bytes of out are to be written to standard output, all of them */
+    LEMIDROSY_REQUEST_SAY = 3,      /* the same to standard error; what comes of it counts for nothing */
+    LEMIDROSY_REQUEST_FAIL = 4,     /* the first `size` bytes of out name what failed: they are to be written to standard error with the system's reason */
+    LEMIDROSY_REQUEST_COUNT = 5,    /* how many words the program was started with, its own name among them */
+    LEMIDROSY_REQUEST_ARGUMENT = 6, /* the word of that number, of at most `size` bytes, to `place` of input; word 0 is the program's name */
+    LEMIDROSY_REQUEST_OPEN = 7      /* the file whose name is the first `size` bytes of out is to be opened, as the input from then on */
+};
+
+/* An answer is a kind and a number. Every other kind, and an answer that does not fit the request, stands for a call that failed. */
+enum lemidrosy_answered {
+    LEMIDROSY_ANSWER_FAILED = 0,
+    LEMIDROSY_ANSWER_BYTES = 1,     /* so many bytes were brought: by READ one at least, by ARGUMENT the whole word, which may be empty */
+    LEMIDROSY_ANSWER_END = 2,       /* of READ: there are no more bytes */
+    LEMIDROSY_ANSWER_DONE = 3,      /* of WRITE, SAY, FAIL and OPEN */
+    LEMIDROSY_ANSWER_NUMBER = 4     /* of COUNT: so many words */
+};
+
+/* Each machine has two functions. The one begins: 0, and the first request; 3 if a list is too short, or the words are not as many as a run has: then nothing is written.
+   The other takes the answer to the request before, any answer at all: 0, and the next request; 3 if the request's list is too short: then nothing is written. A state
+   that no machine left has stopped. */
+
+/* The program judge. It asks for bytes alone. For every list of answers it is proved that what is to be written is the line of the verdict on all that was read, that
+   nothing is read past the end or a settled verdict, and that it ends. Two numbers of memory, 16,389 bytes of input, 96 bytes of out. A step takes 0.4 MB of stack. */
 enum {
     LEMIDROSY_JUDGE_MEMORY = 2,
     LEMIDROSY_JUDGE_INPUT = 16389,
-    LEMIDROSY_JUDGE_OUT = 96,
-    LEMIDROSY_REQUEST = 4
+    LEMIDROSY_JUDGE_OUT = 96
 };
 
-/* Begins: 0, and the first request. 3 if a list is too short; then nothing is written. */
 uint64_t lemidrosy_judge_begin(uint64_t *memory, size_t memory_length, const uint8_t *input, size_t input_length, const uint8_t *out, size_t out_length, uint64_t *request, size_t request_length);
-
-/* Takes the answer to the request before, any answer at all: 0, and the next request. 3 if the request's list is too short; then nothing is written. A state that no
-   machine left has stopped. It takes 0.4 MB of stack. */
 uint64_t lemidrosy_judge_step(uint64_t *memory, size_t memory_length, const uint8_t *input, size_t input_length, uint8_t *out, size_t out_length, uint64_t kind, size_t number, uint64_t *request, size_t request_length);
 
-/* The program replay as a machine, in the same way, with the words of a run lent besides. It asks for how many words it was started with, for the first argument (`all`
-   goes on after a refusal), and for the trace. For every list of answers it is proved that what is to be written is the listing of all that was read, as far as was read;
-   that nothing is read past the end, a refusal that stops it, or record 1,000,000,000; and that it ends.
-
-   Six numbers of memory, LEMIDROSY_WORDS words, 8 bytes of input or more and 3,102 bytes of out or more; 65,536 of both are good sizes. */
+/* The program replay, with the words of a run lent besides. It asks for how many words it was started with, for the first argument (`all` goes on after a refusal), and
+   for the trace. For every list of answers it is proved that what is to be written is the listing of all that was read, as far as was read; that nothing is read past the
+   end, a refusal that stops it, or record 1,000,000,000; and that it ends. Each record on words that stand for no sound state is refused. Six numbers of memory,
+   LEMIDROSY_WORDS words, 8 bytes of input or more and 3,102 bytes of out or more; 65,536 of both are good sizes. */
 enum {
     LEMIDROSY_REPLAY_MEMORY = 6,
     LEMIDROSY_REPLAY_INPUT = 8,
     LEMIDROSY_REPLAY_OUT = 3102
 };
 
-/* Begins: 0, and the first request. 3 if a list is too short, or the words are not as many as a run has; then nothing is written. */
 uint64_t lemidrosy_replay_begin(const uint16_t *words, size_t words_length, uint64_t *memory, size_t memory_length, const uint8_t *input, size_t input_length, const uint8_t *out, size_t out_length, uint64_t *request, size_t request_length);
-
-/* Takes the answer to the request before, any answer at all: 0, and the next request. 3 if the request's list is too short; then nothing is written. A state that no
-   machine left has stopped, and each record on words that stand for no sound state is refused. */
 uint64_t lemidrosy_replay_step(uint16_t *words, size_t words_length, uint64_t *memory, size_t memory_length, uint8_t *input, size_t input_length, uint8_t *out, size_t out_length, uint64_t kind, size_t number, uint64_t *request, size_t request_length);
 
 /* The program simulate as a machine, in the same way. It asks for how many words it was started with, for words 1 to 4 (N, SPACING or FROM-TO, STEPS, SEED), and to
@@ -300,6 +310,21 @@ uint64_t lemidrosy_merge_begin(uint64_t *memory, size_t memory_length, const uin
 /* Takes the answer to the request before, any answer at all: 0, and the next request. 3 if the request's list is too short; then nothing is written. A state that no
    machine left has stopped. */
 uint64_t lemidrosy_merge_step(uint64_t *memory, size_t memory_length, const uint8_t *input, size_t input_length, uint8_t *out, size_t out_length, uint64_t kind, size_t number, uint64_t *request, size_t request_length);
+
+/* The program record, with the words of a run lent besides, and with lines, in which it keeps what it is about to say. It asks for how many words it was started with, for
+   the first argument (the bytes of a buffer, at most 1,048,576; without it the buffer holds every trace), and for the trace. For every list of answers it is proved that
+   what is to be written is what the recorder holds after the calls of all that was read, the first byte and the accepted records; that whenever it asks for more of the
+   trace, one line was said of each refused record, and nothing else; that nothing is read past the end, a first byte that is refused, or record 1,000,000,000; and that
+   it ends. Six numbers of memory, LEMIDROSY_WORDS words, 4,099 bytes of input or more, 67,584 bytes of out or more and as many of lines. */
+enum {
+    LEMIDROSY_RECORD_MEMORY = 6,
+    LEMIDROSY_RECORD_INPUT = 4099,
+    LEMIDROSY_RECORD_OUT = 67584,
+    LEMIDROSY_RECORD_LINES = 67584
+};
+
+uint64_t lemidrosy_record_begin(uint64_t *memory, size_t memory_length, const uint16_t *words, size_t words_length, const uint8_t *input, size_t input_length, const uint8_t *out, size_t out_length, const uint8_t *lines, size_t lines_length, uint64_t *request, size_t request_length);
+uint64_t lemidrosy_record_step(uint64_t *memory, size_t memory_length, uint16_t *words, size_t words_length, uint8_t *input, size_t input_length, uint8_t *out, size_t out_length, uint8_t *lines, size_t lines_length, uint64_t kind, size_t number, uint64_t *request, size_t request_length);
 
 /* The merge of two halves of one run: bit p of the set says that process p belongs to the first half. The merged trace goes to the list, which has as many bytes as both
    halves together; the value is how many bytes were written. The set is judged with all its 32 bits. Refused with 1, 3, 4, 5, 7, 12, 13, 14, 17, 23 or 24. It takes

@@ -8,3 +8,4 @@ pub mod Stepped
 pub mod Unsound
 pub mod Verdicts
 pub mod ReplayStepped
+pub mod RecordStepped

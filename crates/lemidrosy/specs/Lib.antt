@@ -4,3 +4,4 @@ pub mod Recording
 pub mod Replaying
 pub mod Stepping
 pub mod ReplaySteps
+pub mod RecordSteps

@@ -28,3 +28,6 @@ pub mod stepping;
 
 // replay_steps.rt: the replay program as a machine
 pub mod replay_steps;
+
+// record_stepping.rt: the program `record` as a machine
+pub mod record_stepping;

@@ -33,7 +33,7 @@ const INPUT: usize = 4099;
 
 const LINES: usize = 67584;
 
-fn has_room(memory: usize, words: usize, input: usize, out: usize, lines: usize) -> bool
+pub fn has_room(memory: usize, words: usize, input: usize, out: usize, lines: usize) -> bool
     ensures { λ r. ⌜ r ≡ hasRoom memory words input out lines ⌝ }
 {
     if memory < 6 {

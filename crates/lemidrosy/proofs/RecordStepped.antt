@@ -1,0 +1,60 @@
+-- What a step of the program `record` leaves in the lent lists, by whether they are too short.
+-- Assumes nothing.
+use mathlib.Core.Path.{_≡_, refl, sym, _∙_, subst}
+use mathlib.Core.Bool.{Bool, true, false, _&&_, false≢true}
+use mathlib.Core.List.{List}
+use Prim.Native.Nat.{ℕ, _≤_, _<_}
+use lib.Dec.{leb}
+use lib.ListN.{length}
+use lib.Seq.{sets}
+use borrow.Author.Tests.{lt-leb, le-leb}
+use Rattle.machines.specs.declared.Request as requests
+use Rattle.machines.specs.declared.Answer as answers
+use Rattle.machines.specs.Machines.{stepped}
+use Rattle.machines.specs.Forms.{answerOf}
+use Rattle.machines.specs.Packed.{packed, unpacked}
+use Rattle.record_machine.specs.Machine.{machine, counting}
+use Rattle.record_steps.specs.Lent.{hasRoom, placeOf, StandsFor}
+use Rattle.lemidrosy.specs.RecordSteps.{RecordPosed, fits, RecordBegun, Lent, stands, RecordStepped}
+
+module _ (memory words input out lines request : List ℕ) where
+  abbrev room : Bool
+  room = hasRoom (length memory) (length words) (length input) (length out) (length lines)
+
+  too-short : fits memory words input out lines request ≡ false → RecordBegun memory words input out lines request memory request 3
+  too-short e = record { short = λ h. (refl, refl, refl); begun = λ h. absurd (false≢true (sym e ∙ h)) }
+
+  pub begun-lacking : room ≡ false → RecordBegun memory words input out lines request memory request 3
+  begun-lacking e = too-short (rw e)
+
+  pub begun-short : room ≡ true → length request < 4 → RecordBegun memory words input out lines request memory request 3
+  begun-short e h = too-short (rw (e, lt-leb 4 (length request) h))
+
+  pub begun-done : (after told : List ℕ) (form : requests.Request) → room ≡ true → 4 ≤ length request → StandsFor after words input out lines form counting
+      → told ≡ sets request 0 (packed form) → RecordBegun memory words input out lines request after told 0
+  begun-done after told form e h posed is = record {
+    short = λ s. absurd (false≢true (sym s ∙ rw (e, le-leb 4 (length request) h)));
+    begun = λ s. (refl, record { form = form; stands = posed; told = is });
+  }
+
+module _ (l : Lent) (request : List ℕ) (kind number : ℕ) where
+  pub stepped-short : length request < 4 → RecordStepped l request kind number l request 3
+  stepped-short h = record {
+    short = λ s. (refl, refl, refl);
+    taken = λ s. absurd (false≢true (sym (lt-leb 4 (length request) h) ∙ s));
+  }
+
+  pub stepped-done : (l′ : Lent) (told : List ℕ) (form : requests.Request) (answer : answers.Answer) → 4 ≤ length request → answer ≡ unpacked kind number
+      → StandsFor (l′ .memory) (l′ .words) (l′ .input) (l′ .out) (l′ .lines) form (stepped machine (stands l) (answerOf answer (placeOf (l .memory)) (l .input)))
+      → told ≡ sets request 0 (packed form) → RecordStepped l request kind number l′ told 0
+  stepped-done l′ told form answer h e posed is = record {
+    short = λ s. absurd (false≢true (sym s ∙ le-leb 4 (length request) h));
+    taken = λ s. (
+      refl,
+      record {
+        form = form;
+        stands = subst (λ (a : answers.Answer). StandsFor (l′ .memory) (l′ .words) (l′ .input) (l′ .out) (l′ .lines) form (stepped machine (stands l) (answerOf a (placeOf (l .memory)) (l .input)))) e posed;
+        told = is;
+      },
+    );
+  }
