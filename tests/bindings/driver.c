@@ -454,6 +454,77 @@ static void console_counts(void) {
     say_row(lemidrosy_console_counts(role, owned, words, size, row, LEMIDROSY_PROCESSES), row);
 }
 
+/* The calls through the recorder, which has a state of its own, a buffer and the place of its next byte. A refused start leaves them. */
+static uint16_t tape[LEMIDROSY_WORDS];
+static uint8_t buffer[1 << 16];
+static uint64_t place;
+
+/* An answer with a row of as many entries as the recorder's state has processes. */
+static void say_tape(uint64_t answer, const uint16_t *row) {
+    if (accepted(lemidrosy_refused(answer)))
+        say16(row, buffer[0], 1);
+}
+
+static void record_start(void) {
+    uint32_t counts[256];
+    size_t n = 0;
+    while (next != NULL)
+        counts[n++] = (uint32_t)number();
+    uint16_t *fresh = zeros(LEMIDROSY_WORDS);
+    if (accepted(lemidrosy_refused(lemidrosy_record_start(fresh, LEMIDROSY_WORDS, n, counts, n, buffer, sizeof buffer, &place, 1))))
+        memcpy(tape, fresh, sizeof tape);
+    free(fresh);
+}
+
+static void record_checkpoint(void) {
+    uint16_t deleted[LEMIDROSY_DELETIONS];
+    uint64_t got = lemidrosy_record_checkpoint(tape, LEMIDROSY_WORDS, (size_t)number(), deleted, LEMIDROSY_DELETIONS, buffer, sizeof buffer, &place, 1);
+    say_stored(lemidrosy_answer(got), deleted);
+}
+
+static void record_send(void) {
+    size_t sender = (size_t)number(), receiver = (size_t)number();
+    struct lemidrosy_answer got = lemidrosy_answer(lemidrosy_record_send(tape, LEMIDROSY_WORDS, sender, receiver, buffer, sizeof buffer, &place, 1));
+    if (accepted(got.refused))
+        printf(" %u", got.value);
+}
+
+static void record_deliver(void) {
+    uint16_t deleted[LEMIDROSY_DELETIONS];
+    uint64_t got = lemidrosy_record_deliver(tape, LEMIDROSY_WORDS, (uint32_t)number(), deleted, LEMIDROSY_DELETIONS, buffer, sizeof buffer, &place, 1);
+    say_delivered(lemidrosy_answer(got), deleted);
+}
+
+static void record_lose(void) { accepted(lemidrosy_refused(lemidrosy_record_lose(tape, LEMIDROSY_WORDS, (uint32_t)number(), buffer, sizeof buffer, &place, 1))); }
+
+static void record_line(void) {
+    uint16_t row[LEMIDROSY_PROCESSES];
+    uint64_t got = lemidrosy_record_line(tape, LEMIDROSY_WORDS, (uint32_t)number(), row, LEMIDROSY_PROCESSES, buffer, sizeof buffer, &place, 1);
+    say_tape(got, row);
+}
+
+static void record_recover(void) {
+    uint16_t deleted[LEMIDROSY_DELETIONS], row[LEMIDROSY_PROCESSES];
+    uint32_t failed = (uint32_t)number();
+    uint64_t got = lemidrosy_record_recover(tape, LEMIDROSY_WORDS, failed, deleted, LEMIDROSY_DELETIONS, row, LEMIDROSY_PROCESSES, buffer, sizeof buffer, &place, 1);
+    say_recovered(lemidrosy_answer(got), row, buffer[0], deleted);
+}
+
+static void record_earliest(void) {
+    uint32_t named[256];
+    uint16_t row[LEMIDROSY_PROCESSES];
+    size_t many = 0;
+    for (; next != NULL; many += 2)
+        pair(named + many);
+    say_tape(lemidrosy_record_earliest(tape, LEMIDROSY_WORDS, named, many, row, LEMIDROSY_PROCESSES, buffer, sizeof buffer, &place, 1), row);
+}
+
+static void record_trace(void) {
+    printf("0 ");
+    for (size_t k = 0; k < place; k++)
+        printf("%02x", buffer[k]);
+}
+
 static const struct {
     const char *name;
     void (*make)(void);
@@ -465,6 +536,9 @@ static const struct {
     {"console_start", console_start}, {"console_checkpoint", console_checkpoint}, {"console_send", console_send}, {"console_deliver", console_deliver},
     {"console_lose", console_lose}, {"console_line", console_line}, {"console_recover", console_recover}, {"console_earliest", console_earliest},
     {"console_list", console_list}, {"console_counts", console_counts},
+    {"record_start", record_start}, {"record_checkpoint", record_checkpoint}, {"record_send", record_send}, {"record_deliver", record_deliver},
+    {"record_lose", record_lose}, {"record_line", record_line}, {"record_recover", record_recover}, {"record_earliest", record_earliest},
+    {"record_trace", record_trace},
 };
 
 int main(void) {

@@ -231,7 +231,14 @@ program driver
     implicit none
     integer(c_int16_t), allocatable :: words(:)
 
+    ! What the recorder has: a state of its own, a buffer, and the place of its next byte.
+    integer(c_int16_t) :: tape(lemidrosy_words)
+    integer(c_int8_t) :: buffer(65536)
+    integer(c_int64_t) :: place
+
     allocate (words(0))
+    tape = 0
+    place = 0
     do while (next_line())
         answer_length = 0
         call append(answer, answer_length, '0')
@@ -282,9 +289,100 @@ contains
         case ('simulate')
             call simulate()
         case default
-            if (index(call_name, 'console_') /= 1) error stop 'no such call'
-            call console(call_name(9:))
+            if (index(call_name, 'record_') == 1) then
+                call recorder(call_name(8:))
+            else
+                if (index(call_name, 'console_') /= 1) error stop 'no such call'
+                call console(call_name(9:))
+            end if
         end select
+    end subroutine
+
+    ! A call through the recorder. The module has no questions of its own for it: they are asked of its state.
+    subroutine recorder(call_name)
+        character(len=*), intent(in) :: call_name
+        integer(c_int32_t) :: row(lemidrosy_max_processes), deleted(lemidrosy_deletions_size)
+        type(lemidrosy_answer) :: got
+
+        select case (call_name)
+        case ('start', 'earliest')
+            call recorder_numbers(call_name)
+        case ('checkpoint', 'send')
+            call recorder_process(call_name, next_number())
+        case ('deliver')
+            got = lemidrosy_record_deliver(tape, next_bits(), deleted, buffer, place)
+            if (.not. accepted(got%refused)) return
+            call say_index(merge(got%value + 1, 0, got%has_value))
+            call say(int(got%rose, c_int64_t))
+            call say_groups(deleted(:2 * got%deletions), 2)
+        case ('lose')
+            got = lemidrosy_record_lose(tape, next_bits(), buffer, place)
+            if (.not. accepted(got%refused)) return
+        case ('line')
+            got = lemidrosy_line(tape, next_bits(), row)
+            if (accepted(got%refused)) call say_all(row(:buffer(1)))
+        case ('recover')
+            got = lemidrosy_record_recover(tape, next_bits(), deleted, row, buffer, place)
+            if (.not. accepted(got%refused)) return
+            call say(int(got%value, c_int64_t))
+            call say_all(row(:buffer(1)))
+            call say_groups(deleted(:2 * got%deletions), 2)
+        case ('trace')
+            call say_bytes(buffer(:place))
+        case default
+            error stop 'no such call of the recorder'
+        end select
+    end subroutine
+
+    ! A start, and the earliest line. A refused start leaves what the recorder has.
+    subroutine recorder_numbers(call_name)
+        character(len=*), intent(in) :: call_name
+        integer(c_int16_t) :: fresh(lemidrosy_words)
+        integer(c_int32_t) :: numbers(256), row(lemidrosy_max_processes)
+        integer(c_int64_t) :: process, checkpoint
+        type(lemidrosy_answer) :: got
+        integer :: many
+
+        many = 0
+        if (call_name == 'start') then
+            do while (has_word())
+                many = many + 1
+                numbers(many) = next_bits()
+            end do
+            fresh = 0
+            got = lemidrosy_record_start(fresh, many, numbers(:many), buffer, place)
+            if (accepted(got%refused)) tape = fresh
+        else
+            do while (has_word())
+                call next_pair(process, checkpoint)
+                numbers(many + 1) = bits(process)
+                numbers(many + 2) = bits(checkpoint)
+                many = many + 2
+            end do
+            got = lemidrosy_earliest(tape, numbers(:many), row)
+            if (accepted(got%refused)) call say_all(row(:buffer(1)))
+        end if
+    end subroutine
+
+    subroutine recorder_process(call_name, process)
+        character(len=*), intent(in) :: call_name
+        integer(c_int64_t), intent(in) :: process
+        integer(c_int32_t) :: deleted(lemidrosy_deletions_size)
+        integer(c_int64_t) :: receiver
+        type(lemidrosy_answer) :: got
+
+        receiver = 0
+        if (call_name == 'send') receiver = next_number()
+        if (.not. can_say(max(process, receiver))) return
+        if (call_name == 'send') then
+            got = lemidrosy_record_send(tape, int(process, c_int32_t), int(receiver, c_int32_t), buffer, place)
+            if (accepted(got%refused)) call say(int(got%value, c_int64_t))
+        else
+            got = lemidrosy_record_checkpoint(tape, int(process, c_int32_t), deleted, buffer, place)
+            if (.not. accepted(got%refused)) return
+            call say(int(got%value, c_int64_t))
+            call say_groups(deleted(:2 * got%deletions), 2)
+        end if
     end subroutine
 
     ! A call through the console: the caller comes first.

@@ -5,7 +5,7 @@ import sys
 from pathlib import Path
 
 import lemidrosy
-from lemidrosy import Console, Refused, Run
+from lemidrosy import Console, Recorder, Refused, Run
 from lemidrosy.functions import Block
 
 WORDS = 6464
@@ -63,6 +63,7 @@ class Driver:
     def __init__(self):
         self.run = Run.from_words([])
         self.block = Block()
+        self.recorder = None
 
     def start(self, *counts):
         self.run = Run(len(counts), map(int, counts))
@@ -161,6 +162,17 @@ class Driver:
             return map(or_none, other.line(*words))
         return getattr(other, call)(*words)
 
+    def record(self, call, *words):
+        """A call through the recorder, by the method of its name; questions are asked of its run."""
+        if call == "start":
+            self.recorder = Recorder(len(words), map(int, words))
+            return ()
+        if call == "trace":
+            return (self.recorder.trace().hex() or "-",)
+        other = Driver()
+        other.run = self.recorder.run if call in ("line", "earliest") else self.recorder
+        return getattr(other, call)(*words)
+
     def list(self):
         return self.run.list()
 
@@ -186,6 +198,8 @@ def main():
         try:
             if call.startswith("console_"):
                 print(0, *driver.console(call.removeprefix("console_"), *words))
+            elif call.startswith("record_"):
+                print(0, *driver.record(call.removeprefix("record_"), *words))
             else:
                 print(0, *getattr(driver, call)(*words))
         except Refused as refusal:

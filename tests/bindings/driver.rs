@@ -2,7 +2,8 @@
 //! answers: README.md has the lines.
 
 use lemidrosy::{
-    judge, merge, simulate, Caller, Checkpoint, Console, FileError, Message, Refusal, Run, Verdict,
+    judge, merge, simulate, Caller, Checkpoint, Console, Delivered, FileError, Message, Recorder,
+    Recovered, Refusal, Run, Stored, Verdict,
 };
 use std::fmt::Display;
 use std::io::{self, BufRead, BufWriter, Write};
@@ -10,6 +11,7 @@ use std::io::{self, BufRead, BufWriter, Write};
 fn main() -> io::Result<()> {
     let mut output = BufWriter::new(io::stdout().lock());
     let mut run = Run::from_words(&[]);
+    let mut recorder = None;
     for line in io::stdin().lock().lines() {
         let line = line?;
         let mut words = line.split(' ');
@@ -20,7 +22,11 @@ fn main() -> io::Result<()> {
             writeln!(output, "-")?;
             continue;
         }
-        match answer(&mut run, call, &words)? {
+        let answer = match call.strip_prefix("record_") {
+            Some(call) => recorded(&mut recorder, call, &words),
+            None => answer(&mut run, call, &words)?,
+        };
+        match answer {
             Ok(more) => writeln!(output, "0{more}")?,
             Err(refusal) => writeln!(output, "{}", refusal.number())?,
         }
@@ -71,26 +77,12 @@ fn made(run: &mut Run, call: &str, words: &[&str]) -> Result<String, Refusal> {
             spell(&mut line, [u8::from(replayed.goes_on)]);
             spell(&mut line, [digits(replayed.lines.as_bytes())]);
         }
-        "checkpoint" => {
-            let stored = run.checkpoint(number(words, 0))?;
-            spell(&mut line, [stored.index]);
-            spell(&mut line, pairs(&stored.deleted));
-        }
+        "checkpoint" => stored(&mut line, run.checkpoint(number(words, 0))?),
         "send" => spell(&mut line, [run.send(number(words, 0), number(words, 1))?]),
-        "deliver" => {
-            let delivered = run.deliver(number(words, 0))?;
-            spell(&mut line, [or_none(delivered.forced)]);
-            spell(&mut line, [delivered.rose]);
-            spell(&mut line, pairs(&delivered.deleted));
-        }
+        "deliver" => delivered(&mut line, run.deliver(number(words, 0))?),
         "lose" => run.lose(number(words, 0))?,
         "line" => spell(&mut line, run.line(number(words, 0))?),
-        "recover" => {
-            let recovered = run.recover(number(words, 0))?;
-            spell(&mut line, [recovered.rolled_back]);
-            spell(&mut line, recovered.line);
-            spell(&mut line, pairs(&recovered.deleted));
-        }
+        "recover" => recovered(&mut line, run.recover(number(words, 0))?),
         "lost" => spell(
             &mut line,
             run.lost(number(words, 0))?.into_iter().map(three),
@@ -159,38 +151,66 @@ fn asked(run: &mut Run, caller: Caller, call: &str, words: &[&str]) -> Result<St
     let mut console = run.console(caller);
     match call {
         "start" => *run = Console::start(caller, &numbers(words))?,
-        "checkpoint" => {
-            let stored = console.checkpoint(number(words, 0))?;
-            spell(&mut line, [stored.index]);
-            spell(&mut line, pairs(&stored.deleted));
-        }
+        "checkpoint" => stored(&mut line, console.checkpoint(number(words, 0))?),
         "send" => spell(
             &mut line,
             [console.send(number(words, 0), number(words, 1))?],
         ),
-        "deliver" => {
-            let delivered = console.deliver(number(words, 0))?;
-            spell(&mut line, [or_none(delivered.forced)]);
-            spell(&mut line, [delivered.rose]);
-            spell(&mut line, pairs(&delivered.deleted));
-        }
+        "deliver" => delivered(&mut line, console.deliver(number(words, 0))?),
         "lose" => console.lose(number(words, 0))?,
         "line" => {
             let members = console.line(number(words, 0))?;
             spell(&mut line, members.into_iter().map(or_none));
         }
-        "recover" => {
-            let recovered = console.recover(number(words, 0))?;
-            spell(&mut line, [recovered.rolled_back]);
-            spell(&mut line, recovered.line);
-            spell(&mut line, pairs(&recovered.deleted));
-        }
+        "recover" => recovered(&mut line, console.recover(number(words, 0))?),
         "earliest" => spell(&mut line, console.earliest(&named(words))?),
         "list" => spell(&mut line, pairs(&console.list()?)),
         "counts" => spell(&mut line, console.counts()?),
         _ => panic!("no such call: {call}"),
     }
     Ok(line)
+}
+
+/// A call through the recorder. Questions are asked of its run.
+fn recorded(held: &mut Option<Recorder>, call: &str, words: &[&str]) -> Result<String, Refusal> {
+    let mut line = String::new();
+    if call == "start" {
+        *held = Some(Recorder::start(&numbers(words))?);
+        return Ok(line);
+    }
+    let recorder = held.as_mut().expect("a recorder is started first");
+    match call {
+        "checkpoint" => stored(&mut line, recorder.checkpoint(number(words, 0))?),
+        "send" => spell(
+            &mut line,
+            [recorder.send(number(words, 0), number(words, 1))?],
+        ),
+        "deliver" => delivered(&mut line, recorder.deliver(number(words, 0))?),
+        "lose" => recorder.lose(number(words, 0))?,
+        "recover" => recovered(&mut line, recorder.recover(number(words, 0))?),
+        "line" => spell(&mut line, recorder.run().line(number(words, 0))?),
+        "earliest" => spell(&mut line, recorder.run().earliest(&named(words))?),
+        "trace" => spell(&mut line, [digits(recorder.trace())]),
+        _ => panic!("no such call: {call}"),
+    }
+    Ok(line)
+}
+
+fn stored(line: &mut String, stored: Stored) {
+    spell(line, [stored.index]);
+    spell(line, pairs(&stored.deleted));
+}
+
+fn delivered(line: &mut String, delivered: Delivered) {
+    spell(line, [or_none(delivered.forced)]);
+    spell(line, [delivered.rose]);
+    spell(line, pairs(&delivered.deleted));
+}
+
+fn recovered(line: &mut String, recovered: Recovered) {
+    spell(line, [recovered.rolled_back]);
+    spell(line, recovered.line);
+    spell(line, pairs(&recovered.deleted));
 }
 
 fn spell<T: Display>(line: &mut String, words: impl IntoIterator<Item = T>) {

@@ -15,6 +15,8 @@ use crate::halves::draw::drawn as halves_drawn;
 use crate::halves::merge::merge;
 use crate::judge::{judge, Verdict, MAX_RECORDS};
 use crate::replay::{block, AfterRefusal, LAST_RECORD};
+use crate::run::forged::State;
+use crate::run::record::record_bytes;
 use crate::run::refusal::NOT_SOUND;
 use crate::run::{Run, MAX_PROCESSES, MAX_UNDER_WAY};
 use crate::saved;
@@ -45,6 +47,10 @@ enum Asked {
     Call(Call, Vec<u32>),
     /// The same through the console: of a start and of `earliest`, with the numbers.
     Console(Asker, ConsoleAsked, Vec<u32>),
+    /// The same through the recorder, which has a run of its own, and its trace.
+    RecordStart(Vec<u32>),
+    Record(Call, Vec<u32>),
+    RecordTrace,
     Words(Vec<u16>),
     /// A block of records, behind so many others.
     Replay(AfterRefusal, u64, Vec<u8>),
@@ -74,6 +80,27 @@ const OTHERS: [(&str, &[usize]); 8] = [
     ("simulate", &[0, 22]),
 ];
 
+/// The recorder's calls, in the order of `CALLS`, with the numbers that a run can
+/// give which began with a start not long ago; and its trace.
+const RECORD_CALLS: [(&str, &[usize]); 9] = [
+    ("record_start", &[0, 1, 15]),
+    ("record_checkpoint", &[0, 4]),
+    ("record_send", &[0, 4, 5, 9]),
+    ("record_deliver", &[0, 8]),
+    ("record_lose", &[0, 8]),
+    ("record_line", &[0, 7]),
+    ("record_recover", &[0, 7]),
+    ("record_earliest", &[0, 4, 18, 19, 20]),
+    ("record_trace", &[0]),
+];
+
+/// A run and the trace of its accepted calls.
+#[derive(Clone)]
+struct Tape {
+    run: Option<Run>,
+    trace: Vec<u8>,
+}
+
 /// How many calls a run has, more or less, and every how many runs the state is
 /// stored behind the first.
 const LENGTH: u64 = 200;
@@ -86,12 +113,17 @@ pub fn pages(seed: u64, count: u64, absent: &[String]) -> Pages {
         habits: Habits::draw(&mut draws),
         draws,
         run: Run::start(3, &[1; MAX_PROCESSES]).ok(),
+        tape: Tape {
+            run: None,
+            trace: Vec::new(),
+        },
         absent: absent.to_vec(),
         stored: 0,
         pages: Pages::default(),
     };
     writer.ask(Asked::Start(vec![1; 3]));
-    let mut written = 1;
+    writer.ask(Asked::RecordStart(vec![1; 3]));
+    let mut written = 2;
     while written < count {
         written += writer.some();
     }
@@ -102,6 +134,7 @@ impl Pages {
     /// What was not met, of all that can be met.
     pub fn missing(&self, absent: &[String]) -> Option<String> {
         let calls = CALLS.iter().chain(&OTHERS).chain(&CONSOLE_CALLS);
+        let calls = calls.chain(&RECORD_CALLS);
         let made = calls.filter(|(name, _)| !absent.iter().any(|one| one == name));
         for (name, numbers) in made {
             // a binding lends lists that are long enough, and words that are enough
@@ -124,6 +157,8 @@ struct Writer {
     habits: Habits,
     /// None: the state is not sound.
     run: Option<Run>,
+    /// What the recorder has.
+    tape: Tape,
     absent: Vec<String>,
     stored: u64,
     pages: Pages,
@@ -148,6 +183,7 @@ impl Writer {
             13 => self.load_bytes(),
             14..=15 => self.replay(),
             16..=95 => self.console(),
+            96..=159 => self.record(),
             _ => {
                 self.call();
                 1
@@ -402,6 +438,27 @@ impl Writer {
         }
     }
 
+    /// A call that changes the state or is about a line, with the numbers that name.
+    fn written(&mut self, state: Option<&State>) -> (Call, Vec<u32>) {
+        loop {
+            let call = draw::call(&mut self.draws, &self.habits, state).fitted();
+            match call {
+                Call::Earliest => {
+                    let mut named = draw::lists(&mut self.draws, call, state).numbers;
+                    named.truncate(named.len() / 2 * 2);
+                    return (call, named);
+                }
+                Call::Checkpoint { .. }
+                | Call::Send { .. }
+                | Call::Deliver { .. }
+                | Call::Lose { .. }
+                | Call::Line { .. }
+                | Call::Recover { .. } => return (call, Vec::new()),
+                _ => {}
+            }
+        }
+    }
+
     /// A call through the console. What is denied an owner goes by the state, which
     /// is not known here where it is not sound: no owner calls then.
     fn console(&mut self) -> u64 {
@@ -418,24 +475,10 @@ impl Writer {
                 let count = counts.len() as u64;
                 (ConsoleAsked::Call(Call::Start { count }), counts)
             }
-            _ => loop {
-                let call = draw::call(&mut self.draws, &self.habits, state.as_ref()).fitted();
-                let mut named = Vec::new();
-                match call {
-                    Call::Earliest => {
-                        named = draw::lists(&mut self.draws, call, state.as_ref()).numbers;
-                        named.truncate(named.len() / 2 * 2);
-                    }
-                    Call::Checkpoint { .. }
-                    | Call::Send { .. }
-                    | Call::Deliver { .. }
-                    | Call::Lose { .. }
-                    | Call::Line { .. }
-                    | Call::Recover { .. } => {}
-                    _ => continue,
-                }
-                break (ConsoleAsked::Call(call), named);
-            },
+            _ => {
+                let (call, named) = self.written(state.as_ref());
+                (ConsoleAsked::Call(call), named)
+            }
         };
         let asked = Asked::Console(asker, asked, numbers);
         if self.is_absent(&asked) {
@@ -445,12 +488,36 @@ impl Writer {
         1
     }
 
+    /// A call through the recorder, another start, what was recorded, or sends until
+    /// no more may be under way.
+    fn record(&mut self) -> u64 {
+        match self.draws.below(2 * LENGTH) {
+            0..=1 => {
+                let counts = self.counts();
+                self.ask(Asked::RecordStart(counts));
+            }
+            2..=9 => self.ask(Asked::RecordTrace),
+            10 => {
+                for _ in 0..=MAX_UNDER_WAY {
+                    self.ask(Asked::Record(Call::Send { from: 0, to: 1 }, Vec::new()));
+                }
+                return MAX_UNDER_WAY as u64 + 1;
+            }
+            _ => {
+                let state = self.tape.run.as_ref().map(Run::state);
+                let (call, named) = self.written(state.as_ref());
+                self.ask(Asked::Record(call, named));
+            }
+        }
+        1
+    }
+
     fn is_absent(&self, asked: &Asked) -> bool {
         self.absent.iter().any(|name| name == asked.name())
     }
 
     fn ask(&mut self, asked: Asked) {
-        let answer = answer(&mut self.run, &asked);
+        let answer = answer(&mut self.run, &mut self.tape, &asked);
         // of the test of soundness, true and false
         let place = usize::from(asked.name() == "is_sound");
         let number = answer
@@ -464,7 +531,7 @@ impl Writer {
     }
 
     fn load(&mut self, asked: Asked) {
-        let answer = answer(&mut self.run.clone(), &asked);
+        let answer = answer(&mut self.run.clone(), &mut self.tape.clone(), &asked);
         write_line(&mut self.pages.loads, &asked.line());
         write_line(&mut self.pages.loaded, &answer);
     }
@@ -522,6 +589,9 @@ impl Asked {
             Asked::Start(_) => "start",
             Asked::Call(call, _) => CALLS[crate::calls::hold::place(*call)].0,
             Asked::Console(_, asked, _) => CONSOLE_CALLS[asked.place()].0,
+            Asked::RecordStart(_) => "record_start",
+            Asked::Record(call, _) => RECORD_CALLS[crate::calls::hold::place(*call)].0,
+            Asked::RecordTrace => "record_trace",
             Asked::Words(_) => "words",
             Asked::Replay(..) => "replay",
             Asked::Dump(_) => "dump",
@@ -539,8 +609,11 @@ impl Asked {
     fn line(&self) -> String {
         let mut line = self.name().to_string();
         match self {
-            Asked::Start(counts) => spell(&mut line, counts),
-            Asked::Call(call, named) => spell_call(&mut line, *call, named),
+            Asked::Start(counts) | Asked::RecordStart(counts) => spell(&mut line, counts),
+            Asked::Call(call, named) | Asked::Record(call, named) => {
+                spell_call(&mut line, *call, named)
+            }
+            Asked::RecordTrace => {}
             Asked::Console(asker, asked, numbers) => {
                 spell(&mut line, [asker.role, asker.owned]);
                 match asked {
@@ -624,10 +697,13 @@ fn digits(bytes: &[u8]) -> String {
 
 /// What is answered, and what a call leaves of the state: None if it is not
 /// sound.
-fn answer(run: &mut Option<Run>, asked: &Asked) -> String {
+fn answer(run: &mut Option<Run>, tape: &mut Tape, asked: &Asked) -> String {
     let answer = match asked {
         Asked::Start(counts) => started(run, counts),
         Asked::Call(call, named) => called(run, *call, named),
+        Asked::RecordStart(counts) => recording(tape, counts),
+        Asked::Record(call, named) => recorded(tape, *call, named),
+        Asked::RecordTrace => Ok(format!(" {}", digits(&tape.trace))),
         Asked::Console(asker, asked, numbers) => consoled(run, *asker, *asked, numbers),
         Asked::Words(words) => Ok(taken(run, words)),
         // what is taken or loaded from a file, is what was stored in it
@@ -676,6 +752,28 @@ fn called(run: &mut Option<Run>, call: Call, named: &[u32]) -> Result<String, u8
     refused(&outcome)?;
     leave(run, &outcome);
     Ok(said(call, &outcome, count))
+}
+
+/// "the start writes that byte": the first, which is the count.
+fn recording(tape: &mut Tape, counts: &[u32]) -> Result<String, u8> {
+    let said = started(&mut tape.run, counts)?;
+    tape.trace = vec![counts.len() as u8];
+    Ok(said)
+}
+
+/// "appends the record": of an accepted call; "a line request [..] writes none."
+fn recorded(tape: &mut Tape, call: Call, named: &[u32]) -> Result<String, u8> {
+    let said = called(&mut tape.run, call, named)?;
+    let record = match call {
+        Call::Checkpoint { process } => record_bytes(0, process, 0),
+        Call::Send { from, to } => record_bytes(1, from, to),
+        Call::Deliver { number } => record_bytes(2, 0, number),
+        Call::Lose { number } => record_bytes(3, 0, number),
+        Call::Recover { failed } => record_bytes(4, 0, failed),
+        _ => return Ok(said),
+    };
+    tape.trace.extend(record);
+    Ok(said)
 }
 
 /// A call through the console. A refused start leaves the state that a binding has.

@@ -93,10 +93,8 @@ impl<'a> Recorder<'a> {
         self.place
     }
 
-    /// "records of 32 bits": what an accepted call names fits its field.
     fn append_record(&mut self, kind: u64, process: u64, argument: u64) -> Result<(), u8> {
-        let record = u32::try_from(kind << 29 | process << 25 | argument);
-        self.append(&record.expect("an accepted call fits").to_be_bytes())
+        self.append(&record_bytes(kind, process, argument))
     }
 
     fn append(&mut self, bytes: &[u8]) -> Result<(), u8> {
@@ -108,6 +106,12 @@ impl<'a> Recorder<'a> {
         self.place += bytes.len();
         Ok(())
     }
+}
+
+/// "records of 32 bits": what an accepted call names fits its field.
+pub fn record_bytes(kind: u64, process: u64, argument: u64) -> [u8; 4] {
+    let record = u32::try_from(kind << 29 | process << 25 | argument);
+    record.expect("an accepted call fits").to_be_bytes()
 }
 
 /// What a buffer of this many bytes has recorded once each record of the trace
