@@ -84,7 +84,7 @@ class Package(Case):
     def test_examples_in_its_texts(self):
         import doctest
 
-        for module in (lemidrosy, lemidrosy.console, lemidrosy.recorder, lemidrosy.run):
+        for module in (lemidrosy, lemidrosy.console, lemidrosy.machine, lemidrosy.recorder, lemidrosy.run):
             result = doctest.testmod(module)
             self.assertEqual(result.failed, 0)
             self.assertGreater(result.attempted, 0)
@@ -254,6 +254,35 @@ class Package(Case):
         for thread in threads:
             thread.join()
         self.assertEqual(run.vector(0), (2001, 0))
+
+    def test_answers_of_any_kind_to_a_machine(self):
+        """It stops whatever it is told, and none of its lists is left."""
+        draws = random.Random(6)
+        for _ in range(many(300)):
+            machine = lemidrosy.Machine(draws.choice(("judge", "replay", "record")))
+            for _ in range(200):
+                if draws.randrange(3) and machine.request.kind in (1, 6):
+                    machine.bring(draws.randbytes(draws.randrange(machine.request.size + 1)))
+                else:
+                    machine.step(draws.choice((0, 1, 2, 3, 4, 5, 2**64 - 1)), draws.choice((0, 1, 2, 3, 4096, 2**64 - 1)))
+                self.assertLessEqual(len(machine.out()), 67584)
+            for _ in range(20):
+                machine.step(0)
+            self.assertEqual(machine.request, (0, 0, 0, 0))
+        with self.assertRaisesRegex(ValueError, "no machine is called 'exam'"):
+            lemidrosy.Machine("exam")
+        machine = lemidrosy.Machine("judge")
+        with self.assertRaisesRegex(ValueError, "2 bytes, where 1 were asked for"):
+            machine.bring(b"\2\2")
+
+    def test_a_machine_with_an_input_that_would_block(self):
+        there, here = os.pipe()
+        os.set_blocking(there, False)
+        said = io.BytesIO()
+        with open(there, "rb", buffering=0) as source, open(here, "wb", buffering=0):
+            failed = lemidrosy.drive(lemidrosy.Machine("replay"), source, io.BytesIO(), said)
+        self.assertIsInstance(failed, BlockingIOError)
+        self.assertEqual(said.getvalue(), b"replay: standard input: Resource temporarily unavailable\n")
 
     def test_a_library_that_is_not_there(self):
         for named, words in (("/no/such.so", "which is no file"), (str(EXAMPLE), "cannot be loaded")):

@@ -31,6 +31,7 @@ from .answers import (
 from .console import Console, Role
 from .functions import Line, judge, merge, replay, simulate
 from .library import LibraryError
+from .machine import Machine, drive
 from .recorder import Recorder
 from .run import Run
 from .trace import Record, Records, trace_of
@@ -48,6 +49,7 @@ __all__ = [
     "Kept",
     "LibraryError",
     "Line",
+    "Machine",
     "Message",
     "Numbers",
     "Record",
@@ -58,6 +60,7 @@ __all__ = [
     "Role",
     "Run",
     "Verdict",
+    "drive",
     "judge",
     "merge",
     "replay",

@@ -35,6 +35,13 @@ _numbers = ctypes.POINTER(c_uint32)
 _sums = ctypes.POINTER(c_uint64)
 _bytes = ctypes.POINTER(c_uint8)
 
+# What the machines are lent, and beside it a step's answer and the request.
+_JUDGE = (_sums, c_size_t, _bytes, c_size_t, _bytes, c_size_t)
+_REPLAY = (_words, c_size_t, _sums, c_size_t, _bytes, c_size_t, _bytes, c_size_t)
+_RECORD = (_sums, c_size_t, _words, c_size_t, _bytes, c_size_t, _bytes, c_size_t, _bytes, c_size_t)
+_ANSWER = (c_uint64, c_size_t)
+_REQUEST = (_sums, c_size_t)
+
 # Each function with what it is handed; a lent list is a pointer and a length.
 _ON_WORDS: Dict[str, Tuple[Any, ...]] = {
     "start": (_words, c_size_t, c_size_t, _numbers, c_size_t),
@@ -74,6 +81,12 @@ _ON_WORDS: Dict[str, Tuple[Any, ...]] = {
     "load": (c_char_p, c_size_t, _words, c_size_t),
     "store_file": (c_char_p, _words),
     "load_file": (c_char_p, _words),
+    "judge_begin": (*_JUDGE, *_REQUEST),
+    "judge_step": (*_JUDGE, *_ANSWER, *_REQUEST),
+    "replay_begin": (*_REPLAY, *_REQUEST),
+    "replay_step": (*_REPLAY, *_ANSWER, *_REQUEST),
+    "record_begin": (*_RECORD, *_REQUEST),
+    "record_step": (*_RECORD, *_ANSWER, *_REQUEST),
 }
 _ON_BYTES: Dict[str, Tuple[Any, ...]] = {
     "judge": (c_char_p, c_size_t),

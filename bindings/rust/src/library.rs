@@ -223,6 +223,84 @@ mod c {
             tl: usize,
         ) -> u64;
         pub fn lemidrosy_simulate(n: usize, k: u32, s: u32, v: u32, f: *mut u64, fl: usize) -> u64;
+        pub fn lemidrosy_judge_begin(
+            m: *mut u64,
+            ml: usize,
+            i: *const u8,
+            il: usize,
+            o: *const u8,
+            ol: usize,
+            r: *mut u64,
+            rl: usize,
+        ) -> u64;
+        pub fn lemidrosy_judge_step(
+            m: *mut u64,
+            ml: usize,
+            i: *const u8,
+            il: usize,
+            o: *mut u8,
+            ol: usize,
+            k: u64,
+            x: usize,
+            r: *mut u64,
+            rl: usize,
+        ) -> u64;
+        pub fn lemidrosy_replay_begin(
+            w: *const u16,
+            wl: usize,
+            m: *mut u64,
+            ml: usize,
+            i: *const u8,
+            il: usize,
+            o: *const u8,
+            ol: usize,
+            r: *mut u64,
+            rl: usize,
+        ) -> u64;
+        pub fn lemidrosy_replay_step(
+            w: *mut u16,
+            wl: usize,
+            m: *mut u64,
+            ml: usize,
+            i: *mut u8,
+            il: usize,
+            o: *mut u8,
+            ol: usize,
+            k: u64,
+            x: usize,
+            r: *mut u64,
+            rl: usize,
+        ) -> u64;
+        pub fn lemidrosy_record_begin(
+            m: *mut u64,
+            ml: usize,
+            w: *const u16,
+            wl: usize,
+            i: *const u8,
+            il: usize,
+            o: *const u8,
+            ol: usize,
+            l: *const u8,
+            ll: usize,
+            r: *mut u64,
+            rl: usize,
+        ) -> u64;
+        pub fn lemidrosy_record_step(
+            m: *mut u64,
+            ml: usize,
+            w: *mut u16,
+            wl: usize,
+            i: *mut u8,
+            il: usize,
+            o: *mut u8,
+            ol: usize,
+            l: *mut u8,
+            ll: usize,
+            k: u64,
+            x: usize,
+            r: *mut u64,
+            rl: usize,
+        ) -> u64;
     }
 }
 
@@ -737,6 +815,124 @@ pub fn console_counts(asker: Asker, words: &[u16], counts: &mut [u16]) -> u64 {
             words.len(),
             counts.as_mut_ptr(),
             counts.len(),
+        )
+    }
+}
+
+/// What a machine is lent.
+#[derive(Clone)]
+pub struct Lent {
+    pub memory: Vec<u64>,
+    pub words: Vec<u16>,
+    pub input: Vec<u8>,
+    pub out: Vec<u8>,
+    pub lines: Vec<u8>,
+}
+
+pub fn judge_begin(lent: &mut Lent, request: &mut [u64]) -> u64 {
+    unsafe {
+        c::lemidrosy_judge_begin(
+            lent.memory.as_mut_ptr(),
+            lent.memory.len(),
+            lent.input.as_ptr(),
+            lent.input.len(),
+            lent.out.as_ptr(),
+            lent.out.len(),
+            request.as_mut_ptr(),
+            request.len(),
+        )
+    }
+}
+
+pub fn judge_step(lent: &mut Lent, kind: u64, number: usize, request: &mut [u64]) -> u64 {
+    unsafe {
+        c::lemidrosy_judge_step(
+            lent.memory.as_mut_ptr(),
+            lent.memory.len(),
+            lent.input.as_ptr(),
+            lent.input.len(),
+            lent.out.as_mut_ptr(),
+            lent.out.len(),
+            kind,
+            number,
+            request.as_mut_ptr(),
+            request.len(),
+        )
+    }
+}
+
+pub fn replay_begin(lent: &mut Lent, request: &mut [u64]) -> u64 {
+    unsafe {
+        c::lemidrosy_replay_begin(
+            lent.words.as_ptr(),
+            lent.words.len(),
+            lent.memory.as_mut_ptr(),
+            lent.memory.len(),
+            lent.input.as_ptr(),
+            lent.input.len(),
+            lent.out.as_ptr(),
+            lent.out.len(),
+            request.as_mut_ptr(),
+            request.len(),
+        )
+    }
+}
+
+pub fn replay_step(lent: &mut Lent, kind: u64, number: usize, request: &mut [u64]) -> u64 {
+    unsafe {
+        c::lemidrosy_replay_step(
+            lent.words.as_mut_ptr(),
+            lent.words.len(),
+            lent.memory.as_mut_ptr(),
+            lent.memory.len(),
+            lent.input.as_mut_ptr(),
+            lent.input.len(),
+            lent.out.as_mut_ptr(),
+            lent.out.len(),
+            kind,
+            number,
+            request.as_mut_ptr(),
+            request.len(),
+        )
+    }
+}
+
+pub fn record_begin(lent: &mut Lent, request: &mut [u64]) -> u64 {
+    unsafe {
+        c::lemidrosy_record_begin(
+            lent.memory.as_mut_ptr(),
+            lent.memory.len(),
+            lent.words.as_ptr(),
+            lent.words.len(),
+            lent.input.as_ptr(),
+            lent.input.len(),
+            lent.out.as_ptr(),
+            lent.out.len(),
+            lent.lines.as_ptr(),
+            lent.lines.len(),
+            request.as_mut_ptr(),
+            request.len(),
+        )
+    }
+}
+
+pub fn record_step(lent: &mut Lent, kind: u64, number: usize, request: &mut [u64]) -> u64 {
+    unsafe {
+        c::lemidrosy_record_step(
+            lent.memory.as_mut_ptr(),
+            lent.memory.len(),
+            lent.words.as_mut_ptr(),
+            lent.words.len(),
+            lent.input.as_mut_ptr(),
+            lent.input.len(),
+            lent.out.as_mut_ptr(),
+            lent.out.len(),
+            lent.lines.as_mut_ptr(),
+            lent.lines.len(),
+            kind,
+            number,
+            request.as_mut_ptr(),
+            request.len(),
         )
     }
 }
