@@ -776,13 +776,14 @@ class Programs(Case):
     def test_progress_at_a_terminal(self):
         """Shown from the first block on, which takes no half second."""
         Path("long.trace").write_bytes(program(ORACLE, "oracle", "generate", 1, "--n", 4, "--records", 40000, "--mix", "valid"))
-        code = "import sys, lemidrosy.progress as p; p._FIRST = p._EVERY = 0; from lemidrosy.command import main; sys.exit(main(['replay', '--all', 'long.trace']))"
-        seen, status = typed(["-c", code], output="/dev/null")
-        self.assertEqual(status, 1)
-        self.assertRegex(seen, rb"\r[\d,]+ of 40,000 records, [\d,]+ a second, \d+ s left\x1b\[K\r")
-        self.assertRegex(seen, rb"\r\x1b\[Klemidrosy replay: record ")
-        seen, status = typed(["-m", "lemidrosy", "replay", "long.trace"])
-        self.assertNotIn(b"a second", seen)
+        for words in (["replay", "--all"], ["record"]):
+            code = f"import sys, lemidrosy.progress as p; p._FIRST = p._EVERY = 0; from lemidrosy.command import main; sys.exit(main({words + ['long.trace']}))"
+            seen, status = typed(["-c", code], output="/dev/null")
+            self.assertEqual(status, 1)
+            self.assertRegex(seen, rb"\r[\d,]+ of 40,000 records, [\d,]+ a second, \d+ s left\x1b\[K\r")
+            self.assertRegex(seen, rb"\r\x1b\[Klemidrosy %s: record " % words[0].encode())
+            seen, status = typed(["-m", "lemidrosy", *words, "long.trace"])
+            self.assertNotIn(b"a second", seen)
 
     def test_judge(self):
         for seed in range(many(400)):
@@ -802,6 +803,39 @@ class Programs(Case):
         self.prints("refused 14\n", "judge", EXAMPLE, status=1, says="record 9, recover 0: refused 14")
         self.prints("refused 17\n", "judge", status=1, given=b"\x02" + bytes(4 * 4097 + 3), says="refused 17")
         self.prints("refused 13\n", "judge", status=1, given=b"\x02" + bytes(4 * 4096 + 3), says="refused 13")
+
+    def test_record(self):
+        """What the proved program records; and each record that it says is refused, in words."""
+        for seed in range(many(24)):
+            trace = program(ORACLE, "oracle", "generate", seed, "--records", (2000, 30, 0)[seed % 3], "--mix", ("mixed", "valid", "damaged", "recovering")[seed % 4])
+            words = [seed * 37 % 3000] if seed % 5 == 4 else []
+            right = subprocess.run([PROGRAMS / "record", *map(str, words)], input=trace, capture_output=True, timeout=60)
+            status, output, said = command("record", *(part for word in words for part in ("--bytes", word)), given=trace)
+            self.assertEqual(output, right.stdout, seed)
+            refusals = [tuple(map(int, re.findall(r"\d+", line))) for line in right.stderr.decode().splitlines()]
+            self.assertEqual((status, len(said.splitlines())), (1 if refusals else 0, len(refusals)), seed)
+            for line, (number, refusal) in zip(said.splitlines(), refusals):
+                four = trace[4 * number - 3 :][:4] if number else b""
+                where = f"record {number}, {list(text_of(io.BytesIO(trace[:1] + four)))[1]}: " if len(four) == 4 else ""
+                self.assertTrue(line.startswith(f"lemidrosy record: {where}refused {refusal}: "), (seed, line, where))
+
+    def test_record_ends(self):
+        self.assertEqual(command("record", EXAMPLE)[1], EXAMPLE.read_bytes()[:-4])
+        for word in ("", "x", "1048577", "-1", "9" * 5000):
+            self.ends(2, "at most 1048576; see lemidrosy record --help", "record", f"--bytes={word}", "/no/such/file")
+        self.ends(1, "refused 12", "record")
+        self.ends(1, "refused 1:", "record", given=b"\x11")
+        self.assertEqual(command("record", given=b"\x02abc")[:2], (1, b"\x02"))
+
+    def test_what_is_recorded_stands_there(self):
+        """What came in is recorded before more comes."""
+        with subprocess.Popen([sys.executable, "-m", "lemidrosy", "record"], stdin=subprocess.PIPE, stdout=subprocess.PIPE) as running:
+            for given, expected in (("02", "02"), ("20000001 4000", "20000001"), ("0001", "40000001")):
+                running.stdin.write(bytes.fromhex(given))
+                running.stdin.flush()
+                self.assertEqual(os.read(running.stdout.fileno(), 100), bytes.fromhex(expected))
+            running.stdin.close()
+            self.assertEqual(running.wait(30), 0)
 
     @needs("merge")
     def test_merge(self):
@@ -891,18 +925,28 @@ class Ends(Case):
     """Files, streams, terminals and interrupts."""
 
     def test_files_that_cannot_be_read(self):
-        for subcommand, more in (("text", ()), ("bytes", ()), ("explain", ()), ("line", ("--all",)), ("earliest", ("0:0",)), ("draw", ()), ("replay", ()), ("judge", ()), ("merge", (EXAMPLE, 1))):
+        for subcommand, more in (("text", ()), ("bytes", ()), ("explain", ()), ("line", ("--all",)), ("earliest", ("0:0",)), ("draw", ()), ("replay", ()), ("record", ()), ("judge", ()), ("merge", (EXAMPLE, 1))):
             self.ends(3, "/no/such/file: No such file", subcommand, "/no/such/file", *more)
             self.ends(3, "/: Is a directory", subcommand, "/", *more)
 
     def test_outputs_that_cannot_be_written(self):
-        for words in (("text", EXAMPLE), ("explain", EXAMPLE, 8), ("line", EXAMPLE, "--all", "--at", 8), ("earliest", EXAMPLE, "1:2", "--at", 8), ("draw", EXAMPLE, "--at", 8), ("judge", EXAMPLE)):
+        for words in (("text", EXAMPLE), ("explain", EXAMPLE, 8), ("line", EXAMPLE, "--all", "--at", 8), ("earliest", EXAMPLE, "1:2", "--at", 8), ("draw", EXAMPLE, "--at", 8), ("record", EXAMPLE), ("judge", EXAMPLE)):
             for output, said in ((">/dev/full", "No space left"), (">&-", "Bad file descriptor")):
                 line = " ".join([sys.executable, "-m", "lemidrosy", *map(str, words)])
                 done = subprocess.run(["bash", "-c", f"exec {line} {output}"], capture_output=True, text=True)
                 self.assertEqual(done.returncode, 3, (line, output, done.stderr))
                 self.assertEqual(done.stderr.count("\n"), 1)
                 self.assertIn(f"lemidrosy {words[0]}: standard output: {said}", done.stderr)
+
+    def test_a_standard_error_that_cannot_be_written(self):
+        """What is printed is the same, and so is the status."""
+        for words in (("replay", EXAMPLE), ("record", EXAMPLE), ("judge", EXAMPLE), ("line", EXAMPLE, "--all"), ("simulate", 0, 1, 1, 1)):
+            status, output, said = command(*words)
+            self.assertEqual((status, said.count("\n")), (1, 1), said)
+            for errors in ("2>/dev/full", "2>&-"):
+                line = " ".join([sys.executable, "-m", "lemidrosy", *map(str, words)])
+                done = subprocess.run(["bash", "-c", f"exec {line} {errors}"], stdout=subprocess.PIPE)
+                self.assertEqual((done.returncode, done.stdout), (status, output), (line, errors))
 
     def test_a_pipe_that_nobody_reads(self):
         line = f"{sys.executable} -m lemidrosy text /dev/zero | head -n 2; exit ${{PIPESTATUS[0]}}"

@@ -4,12 +4,11 @@ from __future__ import annotations
 
 import argparse
 import signal
-import sys
 from typing import List, NoReturn, Optional, Sequence
 
-from . import __version__, convert, draw, exam, explain, lines, programs, simulation
+from . import __version__, convert, draw, exam, explain, lines, programs, recording, simulation
 from .answers import Refused
-from .files import INTERRUPTED, REFUSED, SYSTEM, USAGE, Stop
+from .files import INTERRUPTED, REFUSED, SYSTEM, USAGE, Stop, say
 from .library import LibraryError
 from .words import TextError
 
@@ -51,6 +50,7 @@ def parser() -> Parser:
         convert.add_bytes,
         programs.add_judge,
         programs.add_merge,
+        recording.add,
         simulation.add,
         exam.add,
     ):
@@ -64,19 +64,16 @@ def run(words: Optional[Sequence[str]]) -> int:
     try:
         return int(arguments.run(arguments))
     except Stop as stop:
-        return say(arguments.subcommand, str(stop), stop.status)
+        return ended(arguments.subcommand, str(stop), stop.status)
     except (TextError, Refused) as error:
-        return say(arguments.subcommand, str(error), REFUSED)
+        return ended(arguments.subcommand, str(error), REFUSED)
     except (LibraryError, OSError, MemoryError) as error:
-        return say(arguments.subcommand, str(error) or type(error).__name__, SYSTEM)
+        return ended(arguments.subcommand, str(error) or type(error).__name__, SYSTEM)
 
 
-def say(subcommand: str, text: str, status: int) -> int:
-    """One line on standard error, if it can be written."""
-    try:
-        print(f"lemidrosy {subcommand}: {text}", file=sys.stderr, flush=True)
-    except OSError:
-        pass
+def ended(subcommand: str, text: str, status: int) -> int:
+    """Why it ends here, and the status."""
+    say(f"lemidrosy {subcommand}: {text}")
     return status
 
 

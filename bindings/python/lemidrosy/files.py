@@ -16,6 +16,16 @@ STANDARD = "-"
 """The name of standard input and of standard output."""
 
 
+def say(text: str) -> None:
+    """A line on standard error. Where that is closed or full, nothing else is to suffer: the status and what is written stay as they are."""
+    if sys.stderr is None:
+        return
+    try:
+        print(text, file=sys.stderr, flush=True)
+    except OSError:
+        pass
+
+
 class Stop(Exception):
     """The command ends here with a status and says why."""
 
@@ -68,7 +78,7 @@ def reader(name: str, what: str) -> BinaryIO:
     """A file that is read, or standard input; at a terminal, a hint that it is waited for."""
     file = Input(name)
     if file.is_terminal():
-        print(f"lemidrosy: reading {what} from the terminal; Ctrl-D ends it", file=sys.stderr)
+        say(f"lemidrosy: reading {what} from the terminal; Ctrl-D ends it")
     return io.BufferedReader(file)
 
 
@@ -107,10 +117,10 @@ class Output:
         except OSError as error:
             raise system_failed(self.name, error) from None
 
-    def write(self, part: Union[bytes, str]) -> None:
-        """Writes bytes, or text."""
+    def write(self, part: Union[bytes, str]) -> int:
+        """Writes bytes, or text; answers how many bytes these are."""
         try:
-            self._file.write(part.encode("utf-8", "replace") if isinstance(part, str) else part)
+            return self._file.write(part.encode("utf-8", "replace") if isinstance(part, str) else part)
         except OSError as error:
             raise system_failed(self.name, error) from None
 

@@ -4,13 +4,12 @@ from __future__ import annotations
 
 import argparse
 import re
-import sys
 from itertools import combinations
 from typing import Iterator, List, Optional, Tuple
 
 from . import files
 from .answers import Refused
-from .files import ACCEPTED, REFUSED, USAGE, Output, Stop
+from .files import ACCEPTED, REFUSED, USAGE, Output, Stop, say
 from .history import Follower, Stored, begun
 from .sentences import counted, listed, processes
 from .trace import LEFT_OVER_BYTES
@@ -64,7 +63,7 @@ def told(refusal: Optional[str]) -> int:
     """Tells a refusal, if there was one, and gives the status."""
     if refusal is None:
         return ACCEPTED
-    print(f"lemidrosy: {refusal}", file=sys.stderr)
+    say(f"lemidrosy: {refusal}")
     return REFUSED
 
 

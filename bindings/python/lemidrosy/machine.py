@@ -70,7 +70,7 @@ class Machine:
     def step(self, kind: int, number: int = 0) -> None:
         """Takes the answer to the request, any at all; the next request is there then."""
         answers.accepted(self._step(*self._lent, kind, number, self._asked, len(self._asked)))
-        self.request = Request(*self._asked)
+        self.request = Request(*self._asked[:])
 
     def bring(self, block: bytes) -> None:
         """Takes bytes as the answer to a request for them, no more than were asked for."""

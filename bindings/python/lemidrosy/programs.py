@@ -4,11 +4,10 @@ from __future__ import annotations
 
 import argparse
 import re
-import sys
 from typing import Optional
 
 from .answers import Refused
-from .files import ACCEPTED, REFUSED, STANDARD, Output, reader, size_of, whole
+from .files import ACCEPTED, REFUSED, STANDARD, Output, reader, say, size_of, whole
 from .functions import Replay, judge, merge
 from .lines import numbers
 from .numbers import members
@@ -27,6 +26,7 @@ _ADVICE = {
     13: "was the file cut off?",
     14: "a record is a checkpoint, a send, a delivery, a loss or a recovery; a half, and a trace that is judged, has no recovery",
     17: "judge a part of it",
+    21: "the buffer has to be longer",
     23: "the set names the processes of the first half",
     24: "each half lacks a send that the other waits for: are they of one run?",
 }
@@ -42,7 +42,7 @@ def in_words(refusal: Refused) -> str:
 def told(subcommand: str, refusal: Refused, number: int = 0, record: Optional[Record] = None) -> int:
     """Says which record was refused, and why."""
     where = f"record {number}, {TraceForm().text(bytes(record))}: " if record is not None else ""
-    print(f"lemidrosy {subcommand}: {where}{in_words(refusal)}", file=sys.stderr)
+    say(f"lemidrosy {subcommand}: {where}{in_words(refusal)}")
     return REFUSED
 
 
@@ -115,7 +115,7 @@ def run_judge(arguments: argparse.Namespace) -> int:
         output.write("trackable\n" if verdict.trackable else f"breaks {verdict.near} {verdict.far}\n")
     if verdict.trackable:
         return ACCEPTED
-    print(f"lemidrosy judge: a zigzag path leads from {verdict.near} to {verdict.far}, and {verdict.near} does not come causally before {verdict.far}", file=sys.stderr)
+    say(f"lemidrosy judge: a zigzag path leads from {verdict.near} to {verdict.far}, and {verdict.near} does not come causally before {verdict.far}")
     return REFUSED
 
 

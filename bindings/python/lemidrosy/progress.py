@@ -21,8 +21,10 @@ class Progress:
 
     def at(self, done: int) -> None:
         """So many records are done."""
+        if not self._is_wanted:
+            return
         now = time.monotonic()
-        if not self._is_wanted or now < self._next:
+        if now < self._next:
             return
         self._next = now + _EVERY
         self._is_shown = True
@@ -32,6 +34,7 @@ class Progress:
         print(f"\r{done:,}{share} records, {rate:,.0f} a second{left}\x1b[K", end="", file=sys.stderr, flush=True)
 
     def end(self) -> None:
-        """The line goes."""
+        """The line goes, if it is there."""
         if self._is_shown:
+            self._is_shown = False
             print("\r\x1b[K", end="", file=sys.stderr, flush=True)

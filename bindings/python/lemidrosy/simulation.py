@@ -4,12 +4,11 @@ from __future__ import annotations
 
 import argparse
 import re
-import sys
 from typing import Callable, List, Tuple
 
 from .answers import Figures, Refused
 from .draw import write
-from .files import ACCEPTED, REFUSED, USAGE, Output, Stop
+from .files import ACCEPTED, REFUSED, USAGE, Output, Stop, say
 from .functions import simulate
 from .numbers import BITS_32
 from .plot import Chart, chart
@@ -70,7 +69,7 @@ def run_simulate(arguments: argparse.Namespace) -> int:
     except Refused as refusal:
         with Output() as output:
             output.write(f"refused {refusal.number}\n")
-        print(f"lemidrosy simulate: {in_words(refusal)}", file=sys.stderr)
+        say(f"lemidrosy simulate: {in_words(refusal)}")
         return REFUSED
     if arguments.plot:
         title = f"{arguments.n} processes, {arguments.steps:,} steps, starting value {arguments.seed}"
