@@ -274,43 +274,6 @@ enum {
 uint64_t lemidrosy_replay_begin(const uint16_t *words, size_t words_length, uint64_t *memory, size_t memory_length, const uint8_t *input, size_t input_length, const uint8_t *out, size_t out_length, uint64_t *request, size_t request_length);
 uint64_t lemidrosy_replay_step(uint16_t *words, size_t words_length, uint64_t *memory, size_t memory_length, uint8_t *input, size_t input_length, uint8_t *out, size_t out_length, uint64_t kind, size_t number, uint64_t *request, size_t request_length);
 
-/* The program simulate as a machine, in the same way. It asks for how many words it was started with, for words 1 to 4 (N, SPACING or FROM-TO, STEPS, SEED), and to
-   write a text, or a table line by line. For every list of answers it is proved that what is to be written is the front of the text of the numbers in those words, the
-   figures, the table or `refused 22`, and all of it where nothing failed; that the usage is said where there are not four words or one of them is wrong, what failed is
-   said, and nothing else; and that it ends.
-
-   Eight numbers of memory, 65,536 bytes of input or more and 260 bytes of out or more. */
-enum {
-    LEMIDROSY_SIMULATE_MEMORY = 8,
-    LEMIDROSY_SIMULATE_INPUT = 65536,
-    LEMIDROSY_SIMULATE_OUT = 260
-};
-
-/* Begins: 0, and the first request. 3 if a list is too short; then nothing is written. */
-uint64_t lemidrosy_simulate_begin(uint64_t *memory, size_t memory_length, const uint8_t *input, size_t input_length, const uint8_t *out, size_t out_length, uint64_t *request, size_t request_length);
-
-/* Takes the answer to the request before, any answer at all: 0, and the next request. 3 if the request's list is too short; then nothing is written. A state that no
-   machine left has stopped. It takes 20 KB of stack. */
-uint64_t lemidrosy_simulate_step(uint64_t *memory, size_t memory_length, const uint8_t *input, size_t input_length, uint8_t *out, size_t out_length, uint64_t kind, size_t number, uint64_t *request, size_t request_length);
-
-/* The program merge as a machine, in the same way as the judge's. It asks for how many words it was started with, for the third (the set), and then for one file after the
-   other: its name, that it is opened, its bytes to their end. For every list of answers it is proved that what is to be written is the merged trace of the two files that
-   were read, once both have ended, and that what is to be said is why there is none; that nothing is read of a file that has ended; and that it ends.
-
-   Seven numbers of memory, 131,072 bytes of input, 32,784 bytes of out. */
-enum {
-    LEMIDROSY_MERGE_MEMORY = 7,
-    LEMIDROSY_MERGE_INPUT = 131072,
-    LEMIDROSY_MERGE_OUT = 32784
-};
-
-/* Begins: 0, and the first request. 3 if a list is too short; then nothing is written. */
-uint64_t lemidrosy_merge_begin(uint64_t *memory, size_t memory_length, const uint8_t *input, size_t input_length, const uint8_t *out, size_t out_length, uint64_t *request, size_t request_length);
-
-/* Takes the answer to the request before, any answer at all: 0, and the next request. 3 if the request's list is too short; then nothing is written. A state that no
-   machine left has stopped. */
-uint64_t lemidrosy_merge_step(uint64_t *memory, size_t memory_length, const uint8_t *input, size_t input_length, uint8_t *out, size_t out_length, uint64_t kind, size_t number, uint64_t *request, size_t request_length);
-
 /* The program record, with the words of a run lent besides, and with lines, in which it keeps what it is about to say. It asks for how many words it was started with, for
    the first argument (the bytes of a buffer, at most 1,048,576; without it the buffer holds every trace), and for the trace. For every list of answers it is proved that
    what is to be written is what the recorder holds after the calls of all that was read, the first byte and the accepted records; that whenever it asks for more of the
@@ -325,6 +288,32 @@ enum {
 
 uint64_t lemidrosy_record_begin(uint64_t *memory, size_t memory_length, const uint16_t *words, size_t words_length, const uint8_t *input, size_t input_length, const uint8_t *out, size_t out_length, const uint8_t *lines, size_t lines_length, uint64_t *request, size_t request_length);
 uint64_t lemidrosy_record_step(uint64_t *memory, size_t memory_length, uint16_t *words, size_t words_length, uint8_t *input, size_t input_length, uint8_t *out, size_t out_length, uint8_t *lines, size_t lines_length, uint64_t kind, size_t number, uint64_t *request, size_t request_length);
+
+/* The program merge. It asks for how many words it was started with, for the third (the set), and then for one file after the other: its name, that it is opened, its bytes
+   to their end. For every list of answers it is proved that what is to be written is the merged trace of the two files that were read, once both have ended, and that what
+   is to be said is why there is none; that nothing is read of a file that has ended; and that it ends. Seven numbers of memory, 131,072 bytes of input, 32,784 bytes of
+   out. A step takes less than 56 KB of stack. */
+enum {
+    LEMIDROSY_MERGE_MEMORY = 7,
+    LEMIDROSY_MERGE_INPUT = 131072,
+    LEMIDROSY_MERGE_OUT = 32784
+};
+
+uint64_t lemidrosy_merge_begin(uint64_t *memory, size_t memory_length, const uint8_t *input, size_t input_length, const uint8_t *out, size_t out_length, uint64_t *request, size_t request_length);
+uint64_t lemidrosy_merge_step(uint64_t *memory, size_t memory_length, const uint8_t *input, size_t input_length, uint8_t *out, size_t out_length, uint64_t kind, size_t number, uint64_t *request, size_t request_length);
+
+/* The program simulate. It asks for how many words it was started with, for words 1 to 4 (N, SPACING or FROM-TO, STEPS, SEED), and to write a text, or a table line by
+   line. For every list of answers it is proved that what is to be written is the front of the text of the numbers in those words, the figures, the table or `refused 22`,
+   and all of it where nothing failed; that the usage is said where there are not four words or one of them is wrong, what failed is said, and nothing else; and that it
+   ends. Eight numbers of memory, 65,536 bytes of input or more and 260 bytes of out or more. A step takes 20 KB of stack. */
+enum {
+    LEMIDROSY_SIMULATE_MEMORY = 8,
+    LEMIDROSY_SIMULATE_INPUT = 65536,
+    LEMIDROSY_SIMULATE_OUT = 260
+};
+
+uint64_t lemidrosy_simulate_begin(uint64_t *memory, size_t memory_length, const uint8_t *input, size_t input_length, const uint8_t *out, size_t out_length, uint64_t *request, size_t request_length);
+uint64_t lemidrosy_simulate_step(uint64_t *memory, size_t memory_length, const uint8_t *input, size_t input_length, uint8_t *out, size_t out_length, uint64_t kind, size_t number, uint64_t *request, size_t request_length);
 
 /* The merge of two halves of one run: bit p of the set says that process p belongs to the first half. The merged trace goes to the list, which has as many bytes as both
    halves together; the value is how many bytes were written. The set is judged with all its 32 bits. Refused with 1, 3, 4, 5, 7, 12, 13, 14, 17, 23 or 24. It takes
