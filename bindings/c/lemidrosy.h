@@ -278,7 +278,7 @@ uint64_t lemidrosy_replay_step(uint16_t *words, size_t words_length, uint64_t *m
    the first argument (the bytes of a buffer, at most 1,048,576; without it the buffer holds every trace), and for the trace. For every list of answers it is proved that
    what is to be written is what the recorder holds after the calls of all that was read, the first byte and the accepted records; that whenever it asks for more of the
    trace, one line was said of each refused record, and nothing else; that nothing is read past the end, a first byte that is refused, or record 1,000,000,000; and that
-   it ends. Six numbers of memory, LEMIDROSY_WORDS words, 4,099 bytes of input or more, 67,584 bytes of out or more and as many of lines. */
+   it ends. Six numbers of memory, LEMIDROSY_WORDS words, 4,099 bytes of input or more, 67,584 bytes of out or more and as many of lines. A step takes 24 KB of stack. */
 enum {
     LEMIDROSY_RECORD_MEMORY = 6,
     LEMIDROSY_RECORD_INPUT = 4099,

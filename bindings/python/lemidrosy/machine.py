@@ -5,7 +5,7 @@ from __future__ import annotations
 import errno
 import os
 from ctypes import byref, c_uint16, c_uint64, c_uint8, memmove, string_at
-from typing import Any, BinaryIO, Callable, Dict, NamedTuple, Optional, Sequence, Tuple
+from typing import Any, BinaryIO, Callable, Dict, NamedTuple, Optional, Protocol, Sequence, Tuple
 
 from . import answers
 from .library import WORDS, library
@@ -84,6 +84,23 @@ class Machine:
         return string_at(self._lists[_OUT], self.request.size)
 
 
+class Readable(Protocol):
+    """What a machine's bytes are read from: a binary file, or anything that reads likewise."""
+
+    def read(self, __size: int) -> Optional[bytes]:
+        """As many bytes as are there, at most so many; none at the end."""
+
+
+class Writable(Protocol):
+    """What they are written to."""
+
+    def write(self, __part: bytes) -> Optional[int]:
+        """Writes bytes, and answers how many of them."""
+
+    def flush(self) -> None:
+        """What was written is with the system."""
+
+
 def _open(name: bytes) -> BinaryIO:
     """A file, read without a buffer of its own."""
     return open(name, "rb", buffering=0)  # type: ignore[return-value]
@@ -93,10 +110,10 @@ def _would_block() -> BlockingIOError:
     return BlockingIOError(errno.EAGAIN, os.strerror(errno.EAGAIN))
 
 
-def _write(output: BinaryIO, part: bytes) -> None:
+def _write(output: Writable, part: bytes) -> None:
     """All of these bytes, handed to the system."""
     while part:
-        done: Optional[int] = output.write(part)
+        done = output.write(part)
         if done is None:
             raise _would_block()
         part = part[done:]
@@ -106,7 +123,7 @@ def _write(output: BinaryIO, part: bytes) -> None:
 class _Driver:
     """A machine with the files that it is driven with. Each method obeys a kind of request; an OSError is a call that failed."""
 
-    def __init__(self, machine: Machine, source: BinaryIO, output: BinaryIO, errors: BinaryIO, words: Sequence[bytes], opens: Callable[[bytes], BinaryIO]) -> None:
+    def __init__(self, machine: Machine, source: Readable, output: Writable, errors: Writable, words: Sequence[bytes], opens: Callable[[bytes], BinaryIO]) -> None:
         self.machine = machine
         self.source = source
         self.output = output
@@ -118,7 +135,7 @@ class _Driver:
         self.failed: Optional[OSError] = None
 
     def read(self) -> None:
-        source = self.opened or self.source
+        source: Readable = self.opened or self.source
         block: Optional[bytes] = getattr(source, "read1", source.read)(self.machine.request.size)
         if block is None:
             raise _would_block()
@@ -189,9 +206,9 @@ _OBEYED: Dict[int, Callable[[_Driver], None]] = {
 
 def drive(
     machine: Machine,
-    source: BinaryIO,
-    output: BinaryIO,
-    errors: BinaryIO,
+    source: Readable,
+    output: Writable,
+    errors: Writable,
     words: Sequence[bytes] = (),
     opens: Callable[[bytes], BinaryIO] = _open,
 ) -> Optional[OSError]:

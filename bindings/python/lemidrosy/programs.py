@@ -3,13 +3,16 @@
 from __future__ import annotations
 
 import argparse
+import io
 import re
 from typing import Optional
 
 from .answers import Refused
+from .driven import Copied, Source
 from .files import ACCEPTED, REFUSED, STANDARD, Output, reader, say, size_of, whole
 from .functions import Replay, judge, merge
 from .lines import numbers
+from .machine import Machine, drive
 from .numbers import members
 from .progress import Progress
 from .records import TraceForm
@@ -81,9 +84,6 @@ def run_replay(arguments: argparse.Namespace) -> int:
 
 # ------------------------------------------------------------------------- judge
 
-_MOST = 1 + RECORD * 4097
-"""What the judge looks at: with one record more than it takes, it says so."""
-
 
 def add_judge(subcommands: "argparse._SubParsersAction[argparse.ArgumentParser]") -> None:
     """The subcommand `judge`."""
@@ -100,22 +100,27 @@ def add_judge(subcommands: "argparse._SubParsersAction[argparse.ArgumentParser]"
 
 
 def run_judge(arguments: argparse.Namespace) -> int:
-    """The verdict in one line."""
-    with reader(arguments.trace, "a trace") as source:
-        trace = source.read(_MOST)
-    with Output() as output:
-        try:
-            verdict = judge(trace)
-        except Refused as refusal:
-            output.write(f"refused {refusal.number}\n")
-            output.flush()
-            number = first_refused(trace)
-            record = Record.of(trace[1 + RECORD * (number - 1) :][:RECORD]) if number else None
-            return told("judge", refusal, number, record)
-        output.write("trackable\n" if verdict.trackable else f"breaks {verdict.near} {verdict.far}\n")
-    if verdict.trackable:
+    """The verdict in one line, by the machine of the proved program."""
+    source = Source(arguments.trace)
+    try:
+        with Output() as output:
+            printed = Copied(output)
+            drive(Machine("judge"), source, printed, io.BytesIO())
+    finally:
+        source.close()
+    return judged(printed.text.decode(), source)
+
+
+def judged(line: str, source: Source) -> int:
+    """What the line of a verdict comes to, told in words."""
+    verdict, *more = line.split()
+    if verdict == "trackable":
         return ACCEPTED
-    say(f"lemidrosy judge: a zigzag path leads from {verdict.near} to {verdict.far}, and {verdict.near} does not come causally before {verdict.far}")
+    if verdict == "refused":
+        number = first_refused(source.seen())
+        return told("judge", Refused(int(more[0])), number, source.record(number))
+    near, far = more
+    say(f"lemidrosy judge: a zigzag path leads from {near} to {far}, and {near} does not come causally before {far}")
     return REFUSED
 
 

@@ -5,20 +5,15 @@ from __future__ import annotations
 import argparse
 import os
 import re
-from typing import BinaryIO, Optional, cast
 
 from .answers import Refused
-from .files import ACCEPTED, STANDARD, USAGE, Output, Stop, reader, size_of
+from .driven import Source
+from .files import ACCEPTED, STANDARD, USAGE, Output, Stop
 from .machine import Machine, drive
 from .programs import told
-from .progress import Progress
-from .trace import RECORD, Record
 
 _REFUSAL = re.compile(rb"record: record (\d+): refused (\d+)")
 """The line that the machine says of a refused record."""
-
-_SEEN = 8192
-"""Bytes of the trace that are kept to be shown: the machine speaks of records of the block that it read last, which is no longer than half of them."""
 
 
 def add(subcommands: "argparse._SubParsersAction[argparse.ArgumentParser]") -> None:
@@ -34,40 +29,6 @@ def add(subcommands: "argparse._SubParsersAction[argparse.ArgumentParser]") -> N
     added.add_argument("--bytes", metavar="BYTES", help="the bytes of the recorder's buffer; without it, it holds every trace")
     added.add_argument("trace", metavar="TRACE", nargs="?", default=STANDARD, help="the trace, as bytes; standard input without it")
     added.set_defaults(run=run)
-
-
-class Source:
-    """The trace: opened when it is first read, and its last bytes kept."""
-
-    def __init__(self, name: str) -> None:
-        self._name = name
-        self._file: Optional[BinaryIO] = None
-        self.progress = Progress(0)
-        self._seen = b""
-        self._count = 0
-
-    def read(self, size: int) -> bytes:
-        """As many bytes as are there, at most so many."""
-        if self._file is None:
-            self._file = reader(self._name, "a trace")
-            self.progress = Progress(size_of(self._file) // RECORD)
-        block = cast(bytes, getattr(self._file, "read1")(size))
-        self._count += len(block)
-        self._seen = (self._seen + block)[-_SEEN:]
-        self.progress.at(self._count // RECORD)
-        return block
-
-    def record(self, number: int) -> Optional[Record]:
-        """A record that was read lately, if it is whole."""
-        at = 1 + RECORD * (number - 1) - (self._count - len(self._seen))
-        record = self._seen[at : at + RECORD] if number else b""
-        return Record.of(record) if len(record) == RECORD else None
-
-    def close(self) -> None:
-        """Nothing more is read."""
-        self.progress.end()
-        if self._file is not None:
-            self._file.close()
 
 
 class Told:
@@ -99,7 +60,7 @@ def run(arguments: argparse.Namespace) -> int:
     said = Told(source)
     try:
         with Output() as output:
-            drive(Machine("record"), cast(BinaryIO, source), cast(BinaryIO, output), cast(BinaryIO, said), words)
+            drive(Machine("record"), source, output, said, words)
     finally:
         source.close()
     return said.status

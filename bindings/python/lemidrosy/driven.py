@@ -1,0 +1,69 @@
+"""A machine driven for a subcommand: the trace that it reads, with what was read of it lately, and what it wrote."""
+
+from __future__ import annotations
+
+from typing import BinaryIO, Optional, cast
+
+from .files import Output, reader, size_of
+from .progress import Progress
+from .trace import RECORD, Record
+
+_SEEN = 32768
+"""Bytes of a trace that are kept to be shown. The machines speak of records of the block that they read last, the judge of any of 16,389 bytes."""
+
+
+class Source:
+    """A trace: opened when it is first read, and its last bytes kept."""
+
+    def __init__(self, name: str) -> None:
+        self._name = name
+        self._file: Optional[BinaryIO] = None
+        self.progress = Progress(0)
+        self._seen = b""
+        self._count = 0
+
+    def read(self, size: int) -> bytes:
+        """As many bytes as are there, at most so many."""
+        if self._file is None:
+            self._file = reader(self._name, "a trace")
+            self.progress = Progress(size_of(self._file) // RECORD)
+        block = cast(bytes, getattr(self._file, "read1")(size))
+        self._count += len(block)
+        self._seen += block
+        if len(self._seen) > 2 * _SEEN:
+            self._seen = self._seen[-_SEEN:]
+        self.progress.at(self._count // RECORD)
+        return block
+
+    def seen(self) -> bytes:
+        """All that was read, if that is no more than is kept."""
+        return self._seen
+
+    def record(self, number: int) -> Optional[Record]:
+        """A record that was read lately, if it is whole."""
+        at = 1 + RECORD * (number - 1) - (self._count - len(self._seen))
+        record = self._seen[at : at + RECORD] if number else b""
+        return Record.of(record) if len(record) == RECORD else None
+
+    def close(self) -> None:
+        """Nothing more is read."""
+        self.progress.end()
+        if self._file is not None:
+            self._file.close()
+
+
+class Copied:
+    """An output, and what was written to it."""
+
+    def __init__(self, output: Output) -> None:
+        self._output = output
+        self.text = b""
+
+    def write(self, part: bytes) -> int:
+        """Writes bytes."""
+        self.text += part
+        return self._output.write(part)
+
+    def flush(self) -> None:
+        """What was written is with the system."""
+        self._output.flush()
