@@ -13,9 +13,11 @@ import select
 import signal
 import subprocess
 import sys
+import tempfile
 import termios
 import threading
 import time
+import traceback
 import unittest
 import xml.etree.ElementTree
 from pathlib import Path
@@ -23,6 +25,7 @@ from pathlib import Path
 import lemidrosy
 from lemidrosy import Refused, Run, foreign, functions, numbers
 from lemidrosy.calls import make
+from lemidrosy.command import main
 from lemidrosy.history import Stored
 from lemidrosy.text import FORMS, bytes_of, text_of
 from lemidrosy.words import TextError
@@ -47,10 +50,47 @@ def many(count):
     return max(1, count // 100) if FEW else count
 
 
-def command(*words, given=b"", **more):
-    """The command run to its end: status, output and what it said."""
+def started(*words, given=b"", **more):
+    """The command run to its end in an interpreter of its own: status, output and what it said."""
     done = subprocess.run([sys.executable, "-m", "lemidrosy", *map(str, words)], input=given, capture_output=True, timeout=60, **more)
     return done.returncode, done.stdout, done.stderr.decode()
+
+
+def command(*words, given=b""):
+    """The command run to its end in a process that goes on from this one, where the interpreter and the modules are: they take longer than what it does."""
+    with tempfile.TemporaryFile() as output, tempfile.TemporaryFile() as said:
+        ahead, behind = os.pipe()
+        process = os.fork()
+        if process == 0:
+            os.close(behind)
+            for place, file in enumerate((ahead, output.fileno(), said.fileno())):
+                os.dup2(file, place)
+            become(list(map(str, words)))
+        os.close(ahead)
+        try:
+            with open(behind, "wb", buffering=0) as pipe:
+                pipe.write(given)
+        except BrokenPipeError:
+            pass  # not all of it was read
+        status = os.waitstatus_to_exitcode(os.waitpid(process, 0)[1])
+        output.seek(0), said.seek(0)
+        return status, output.read(), said.read().decode()
+
+
+def become(words):
+    """This process is the command with these words, and ends with it."""
+    status = 1
+    try:
+        signal.alarm(60)
+        sys.stdin, sys.stdout, sys.stderr = open(0, closefd=False), open(1, "w", closefd=False), open(2, "w", closefd=False)
+        status = main(words)
+    except SystemExit as end:
+        status = end.code
+    except BaseException:
+        traceback.print_exc()
+    finally:
+        sys.stdout.flush(), sys.stderr.flush()
+        os._exit(status)
 
 
 def program(folder, name, *words, given=b""):
@@ -65,15 +105,15 @@ class Case(unittest.TestCase):
 
     def ends(self, status, words, *arguments, given=b"", **more):
         """It ends with this status, prints nothing, and says these words in one line."""
-        got, output, said = command(*arguments, given=given, **more)
+        got, output, said = started(*arguments, given=given, **more) if more else command(*arguments, given=given)
         self.assertEqual((got, output), (status, b""), said)
         self.assertEqual(said.count("\n"), 1, said)
         self.assertIn(words, said)
         self.assertNotIn("Traceback", said)
 
     def prints(self, expected, *arguments, status=0, given=b"", says=""):
-        """It prints this, and ends with this status."""
-        got, output, said = command(*arguments, given=given)
+        """Started, it prints this, and ends with this status."""
+        got, output, said = started(*arguments, given=given)
         self.assertEqual(output.decode(), expected, said)
         self.assertEqual((got, says in said), (status, True), said)
 
@@ -295,7 +335,8 @@ class Installation(Case):
 
     def test_installed_by_pip(self):
         place = Path("installed").resolve()
-        environment = {key: value for key, value in os.environ.items() if key != "PYTHONPATH"}
+        # pip stands there compiled; what is not is not to be kept there
+        environment = {key: value for key, value in os.environ.items() if key not in ("PYTHONPATH", "PYTHONPYCACHEPREFIX")} | {"PYTHONDONTWRITEBYTECODE": "1"}
         pip = [sys.executable, "-m", "pip", "install", "--quiet", "--no-index", "--disable-pip-version-check", "--root-user-action=ignore", "--target", str(place)]
         source = Path("source")
         subprocess.run(["cp", "-r", os.environ["PYTHONPATH"], str(source)], check=True)
@@ -349,7 +390,7 @@ class Text(Case):
         text = "processes 2\n" + records.replace(",", "\n") + "\n"
         self.prints(text, "text", EXAMPLE)
         Path("example.txt").write_text("# document 01's example\n\n" + text.replace("\n", "   # a comment\n"))
-        self.assertEqual(command("bytes", "example.txt"), (0, EXAMPLE.read_bytes(), ""))
+        self.assertEqual(started("bytes", "example.txt"), (0, EXAMPLE.read_bytes(), ""))
 
     def test_traces_of_the_oracle(self):
         for seed in range(many(300)):
@@ -702,7 +743,7 @@ class Draw(Case):
             self.ends(2, f"there is no record {first}", "draw", EXAMPLE, "--at", 8, "--from", first)
 
     def test_to_a_file(self):
-        self.assertEqual(command("draw", EXAMPLE, "--at", 8, "-o", "example.svg"), (0, b"", ""))
+        self.assertEqual(started("draw", EXAMPLE, "--at", 8, "-o", "example.svg"), (0, b"", ""))
         self.assertEqual(list(outside(Path("example.svg").read_text())), [])
         self.ends(3, "/no/such.svg: No such file", "draw", EXAMPLE, "--at", 8, "-o", "/no/such.svg")
 
@@ -759,7 +800,7 @@ class Programs(Case):
         self.prints("1 13\n", "replay", status=1, given=b"\x02abc", says="refused 13")
 
     def test_exam(self):
-        self.assertEqual(self.same("exam", ()), (0, ""))
+        self.assertEqual(started("exam"), (0, program(PROGRAMS, "exam"), ""))
 
     def test_lines_that_are_due_stand_there(self):
         """What came in is replayed before more comes."""
@@ -852,6 +893,7 @@ class Programs(Case):
                 self.assertEqual(status, 0 if right.stdout else 1)
                 if right.stderr:
                     self.assertIn(right.stderr.decode().strip() + ":", said)
+        self.assertEqual(started("merge", "first", "second", number)[1], right.stdout)
         self.ends(1, "refused 7", "merge", EXAMPLE, EXAMPLE, "9" * 5000)
         self.ends(1, "refused 7", "merge", EXAMPLE, EXAMPLE, "--processes", "2")
         self.ends(2, "SET", "merge", EXAMPLE, EXAMPLE, "x")
