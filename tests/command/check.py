@@ -23,10 +23,11 @@ import xml.etree.ElementTree
 from pathlib import Path
 
 import lemidrosy
-from lemidrosy import Refused, Run, foreign, functions, numbers
+from lemidrosy import Refused, Run, foreign, functions, machine, numbers
 from lemidrosy.calls import make
 from lemidrosy.command import main
 from lemidrosy.history import Stored
+from lemidrosy.library import library
 from lemidrosy.text import FORMS, bytes_of, text_of
 from lemidrosy.words import TextError
 
@@ -314,6 +315,20 @@ class Package(Case):
         machine = lemidrosy.Machine("judge")
         with self.assertRaisesRegex(ValueError, "2 bytes, where 1 were asked for"):
             machine.bring(b"\2\2")
+
+    def test_lists_of_a_machine_as_the_header_has_them(self):
+        """With lists as long as it says a machine begins; with one entry less it is refused with 3, and nothing is written."""
+        header = (TOP / "bindings" / "c" / "lemidrosy.h").read_text()
+        for name, lent in machine._LENT.items():
+            sizes = {part: int(found[1]) for part, _ in lent if (found := re.search(rf"LEMIDROSY_{name.upper()}_{part.upper()} = (\d+)", header))}
+            sizes["words"] = 6464
+            for short in (None, "request", *(part for part, _ in lent)):
+                lists = [(machine._ENTRIES[part] * (sizes[part] - (part == short)))() for part, _ in lent]
+                request = (ctypes.c_uint64 * (4 - (short == "request")))(*[7] * (4 - (short == "request")))
+                arguments = [part for one in (*lists, request) for part in (one, len(one))]
+                refused = getattr(library(), f"{name}_begin")(*arguments)
+                self.assertEqual(refused, 0 if short is None else 3, (name, short))
+                self.assertEqual(set(request) == {7} and not any(map(any, lists)), short is not None, (name, short))
 
     def test_a_machine_with_an_input_that_would_block(self):
         there, here = os.pipe()

@@ -2,9 +2,9 @@
 
 from __future__ import annotations
 
-from typing import BinaryIO, Optional, cast
+from typing import Optional
 
-from .files import Output, reader, size_of
+from .files import Input, Output, opened
 from .progress import Progress
 from .trace import RECORD, Record
 
@@ -17,32 +17,32 @@ class Source:
 
     def __init__(self, name: str) -> None:
         self._name = name
-        self._file: Optional[BinaryIO] = None
+        self._file: Optional[Input] = None
         self.progress = Progress(0)
-        self._seen = b""
+        self._seen = bytearray()
         self._count = 0
 
     def read(self, size: int) -> bytes:
         """As many bytes as are there, at most so many."""
         if self._file is None:
-            self._file = reader(self._name, "a trace")
-            self.progress = Progress(size_of(self._file) // RECORD)
-        block = cast(bytes, getattr(self._file, "read1")(size))
+            self._file = opened(self._name, "a trace")
+            self.progress = Progress(self._file.size() // RECORD)
+        block = self._file.read(size)
         self._count += len(block)
         self._seen += block
         if len(self._seen) > 2 * _SEEN:
-            self._seen = self._seen[-_SEEN:]
+            del self._seen[:-_SEEN]
         self.progress.at(self._count // RECORD)
         return block
 
     def seen(self) -> bytes:
         """All that was read, if that is no more than is kept."""
-        return self._seen
+        return bytes(self._seen)
 
     def record(self, number: int) -> Optional[Record]:
         """A record that was read lately, if it is whole."""
         at = 1 + RECORD * (number - 1) - (self._count - len(self._seen))
-        record = self._seen[at : at + RECORD] if number else b""
+        record = bytes(self._seen[at : at + RECORD]) if number else b""
         return Record.of(record) if len(record) == RECORD else None
 
     def close(self) -> None:

@@ -52,11 +52,14 @@ class Input(io.RawIOBase):
     def readable(self) -> bool:
         return True
 
-    def readinto(self, buffer: Any) -> int:
+    def read(self, size: int = -1) -> bytes:
         try:
-            block = self._file.read(len(buffer))
+            return self._file.read(size)
         except OSError as error:
             raise system_failed(self.name, error) from None
+
+    def readinto(self, buffer: Any) -> int:
+        block = self.read(len(buffer))
         buffer[: len(block)] = block
         return len(block)
 
@@ -74,12 +77,17 @@ class Input(io.RawIOBase):
         return os.fstat(self._file.fileno()).st_size
 
 
-def reader(name: str, what: str) -> BinaryIO:
+def opened(name: str, what: str) -> Input:
     """A file that is read, or standard input; at a terminal, a hint that it is waited for."""
     file = Input(name)
     if file.is_terminal():
         say(f"lemidrosy: reading {what} from the terminal; Ctrl-D ends it")
-    return io.BufferedReader(file)
+    return file
+
+
+def reader(name: str, what: str) -> BinaryIO:
+    """The same with a buffer."""
+    return io.BufferedReader(opened(name, what))
 
 
 def size_of(file: BinaryIO) -> int:

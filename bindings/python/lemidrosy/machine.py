@@ -106,6 +106,12 @@ def _open(name: bytes) -> BinaryIO:
     return open(name, "rb", buffering=0)  # type: ignore[return-value]
 
 
+def _reading(source: Readable) -> Callable[[int], Optional[bytes]]:
+    """How a block is read: what is there, without waiting until it is full."""
+    reads: Callable[[int], Optional[bytes]] = getattr(source, "read1", source.read)
+    return reads
+
+
 def _would_block() -> BlockingIOError:
     return BlockingIOError(errno.EAGAIN, os.strerror(errno.EAGAIN))
 
@@ -125,7 +131,7 @@ class _Driver:
 
     def __init__(self, machine: Machine, source: Readable, output: Writable, errors: Writable, words: Sequence[bytes], opens: Callable[[bytes], BinaryIO]) -> None:
         self.machine = machine
-        self.source = source
+        self.reads = _reading(source)
         self.output = output
         self.errors = errors
         self.words = [os.fsencode(machine.program), *words]
@@ -135,8 +141,7 @@ class _Driver:
         self.failed: Optional[OSError] = None
 
     def read(self) -> None:
-        source: Readable = self.opened or self.source
-        block: Optional[bytes] = getattr(source, "read1", source.read)(self.machine.request.size)
+        block = self.reads(self.machine.request.size)
         if block is None:
             raise _would_block()
         if block:
@@ -178,6 +183,7 @@ class _Driver:
         file = self.opens(self.machine.out())
         self.close()
         self.opened = file
+        self.reads = _reading(file)
         self.machine.step(DONE)
 
     def close(self) -> None:
