@@ -37,13 +37,4 @@ returns c = omega (arith, c .before .value-code .ensures)
 
 pub code-of-spec : {M : Type 1} → statement M
 code-of-spec =
-    tie.close
-    (tie.spec
-    value-code-requires
-    (λ c. search needs)
-    mul-result
-    add-result
-    add-result-2
-    (λ c. search needs)
-    add-result-3
-    returns)
+    tie.close (tie.spec value-code-requires (λ c. search needs) mul-result add-result add-result-2 (λ c. search needs) add-result-3 returns)

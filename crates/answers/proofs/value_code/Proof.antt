@@ -32,10 +32,4 @@ returns-2 c = let b = c .before .before .before in (rw (c .before .value .given 
 
 pub value-code-spec : {M : Type 1} → statement M
 value-code-spec =
-    tie.close
-    (tie.spec
-    (λ c. search needs) (λ c. search needs)
-    mul-result
-    add-result
-    returns
-    returns-2)
+    tie.close (tie.spec (λ c. search needs) (λ c. search needs) mul-result add-result returns returns-2)

@@ -38,14 +38,4 @@ returns-2 c = λ t right h. is-breaking _ _ _ _ _ _ _ t right h _ (c .before .be
 
 pub decide-spec : {M : Type 1} → statement M
 decide-spec =
-    tie.close
-    (tie.spec
-    near-end-requires
-    returns
-    first-row-requires
-    cast-start
-    mul-start
-    array-write-start
-    closure-requires
-    far-end-requires
-    returns-2)
+    tie.close (tie.spec near-end-requires returns first-row-requires cast-start mul-start array-write-start closure-requires far-end-requires returns-2)

@@ -104,14 +104,6 @@ returns-3 c =
 pub merge-spec : {M : Type 1} → statement M
 merge-spec =
     tie.close
-    (tie.spec (λ c κs. search needs) (λ c. search needs) (λ c. search needs) (λ c κs. search needs) (λ c. search needs)
-    take-all-requires (λ c. search needs) (λ c. search needs)
-    sub-count
-    sub-count-2 (λ c. search needs)
-    shared-slice-read-result
-    slice-write-result (λ c. search needs)
-    write-all-requires (λ c. search needs) (λ c. search needs)
-    returns
-    returns-2
-    same-length
-    returns-3)
+    (tie.spec (λ c κs. search needs) (λ c. search needs) (λ c. search needs) (λ c κs. search needs) (λ c. search needs) take-all-requires (λ c. search needs)
+    (λ c. search needs) sub-count sub-count-2 (λ c. search needs) shared-slice-read-result slice-write-result (λ c. search needs) write-all-requires (λ c. search needs)
+    (λ c. search needs) returns returns-2 same-length returns-3)

@@ -6,29 +6,8 @@ use borrow.Author.Needs.{needs}
 use Rattle.judge_machine.proofs.after_write.Statement.{statement}
 use Rattle.judge_machine.proofs.after_write.Tie as tie
 
-is-done-requires : tie.Need-is-done-requires
-is-done-requires c κs = search needs
-
-stop-requires : tie.Need-stop-requires
-stop-requires c κs = search needs
-
-same-length : tie.Need-same-length
-same-length c = search needs
-
 returns : tie.Need-returns
 returns c = let start = c .before .before .before .before .before .before .before .before .before in let done = c .before .before .before .before .before .is-done in stands-as _ _ _ _ _ _ (led-written _ _ _ (done .ensures (start .args .line) (now (start .args .input))) (c .before .before .before .before .if1 .taken)) (c .before .before .stop .ensures _ _)
-
-slice-aggregate-fail : tie.Need-slice-aggregate-fail
-slice-aggregate-fail c = search needs
-
-fail-requires : tie.Need-fail-requires
-fail-requires c κs = search needs
-
-same-length-2 : tie.Need-same-length-2
-same-length-2 c = search needs
-
-same-length-3 : tie.Need-same-length-3
-same-length-3 c = search needs
 
 returns-2 : tie.Need-returns-2
 returns-2 c = let start = c .before .before .before .before .before .before .before .before .before .before .before .before .before in let done = c .before .before .before .before .before .before .before .before .before .is-done in stands-as _ _ _ _ _ _ (led-unwritten _ _ _ (done .ensures (start .args .line) (now (start .args .input))) (c .before .before .before .before .before .before .before .before .if1 .left)) (c .before .before .before .before .fail .ensures)
@@ -36,13 +15,5 @@ returns-2 c = let start = c .before .before .before .before .before .before .bef
 pub after-write-spec : {M : Type 1} → statement M
 after-write-spec =
     tie.close
-    (tie.spec
-    is-done-requires
-    stop-requires
-    same-length
-    returns
-    slice-aggregate-fail
-    fail-requires
-    same-length-2
-    same-length-3
-    returns-2)
+    (tie.spec (λ c κs. search needs) (λ c κs. search needs) (λ c. search needs) returns (λ c. search needs) (λ c κs. search needs) (λ c. search needs)
+    (λ c. search needs) returns-2)

@@ -14,14 +14,8 @@ write-word-requires c κs = let start = c .before .before .before .before .befor
 put-requires : tie.Need-put-requires
 put-requires c κs = c .before .before .before .before .before .before .before .before .before .pre .0 .0
 
-same-length : tie.Need-same-length
-same-length c = search needs
-
-same-length-2 : tie.Need-same-length-2
-same-length-2 c = search needs
-
 returns : tie.Need-returns
 returns c = let start = c .before .before .before .before .before .before .before .before .before .before .before .before in let w = c .before .before .before .before .before .before .write-word in failing-after (now (start .args .memory)) _ (now (start .args .input)) (w .last .0) (start .pre .0 .0, start .pre .0 .1, omega (arith, w .kept .0, start .pre .0 .2)) (w .result) (now (start .args .name)) (c .before .before .put .ensures) (omega (arith, w .ensures .next-place, w .kept .0, start .pre .1, start .pre .0 .2)) (front-text (now (start .args .out)) (now (start .args .name)) (w .last .0) (w .result) (w .ensures) (omega (arith, w .ensures .next-place, start .pre .1, start .pre .0 .2)))
 
 pub fail-spec : {M : Type 1} → statement M
-fail-spec = tie.close (tie.spec write-word-requires put-requires same-length same-length-2 returns)
+fail-spec = tie.close (tie.spec write-word-requires put-requires (λ c. search needs) (λ c. search needs) returns)

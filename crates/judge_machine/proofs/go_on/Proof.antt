@@ -10,26 +10,8 @@ use Rattle.judge_machine.proofs.go_on.Tie as tie
 is-settled-requires : tie.Need-is-settled-requires
 is-settled-requires c κs = let start = c .before .before .before in omega (arith, start .pre .1, start .pre .0 .1)
 
-tell-requires : tie.Need-tell-requires
-tell-requires c κs = search needs
-
-same-length : tie.Need-same-length
-same-length c = search needs
-
-same-length-2 : tie.Need-same-length-2
-same-length-2 c = search needs
-
 returns : tie.Need-returns
 returns c = onward-told _ _ _ _ _ (c .before .before .before .before .before .before .before .before .is-settled .ensures) (c .before .before .before .before .before .before .before .if1 .taken) (c .before .before .before .before .tell .ensures)
-
-read-more-requires : tie.Need-read-more-requires
-read-more-requires c κs = search needs
-
-same-length-3 : tie.Need-same-length-3
-same-length-3 c = search needs
-
-same-length-4 : tie.Need-same-length-4
-same-length-4 c = search needs
 
 returns-2 : tie.Need-returns-2
 returns-2 c = onward-read _ _ _ _ _ (c .before .before .before .before .before .before .is-settled .ensures) (c .before .before .before .before .before .if1 .left) (c .before .before .read-more .ensures)
@@ -37,13 +19,5 @@ returns-2 c = onward-read _ _ _ _ _ (c .before .before .before .before .before .
 pub go-on-spec : {M : Type 1} → statement M
 go-on-spec =
     tie.close
-    (tie.spec
-    is-settled-requires
-    tell-requires
-    same-length
-    same-length-2
-    returns
-    read-more-requires
-    same-length-3
-    same-length-4
+    (tie.spec is-settled-requires (λ c κs. search needs) (λ c. search needs) (λ c. search needs) returns (λ c κs. search needs) (λ c. search needs) (λ c. search needs)
     returns-2)

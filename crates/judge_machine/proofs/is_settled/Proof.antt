@@ -10,14 +10,8 @@ use Rattle.judge_machine.proofs.is_settled.Tie as tie
 returns : tie.Need-returns
 returns c = settled-none (now (c .before .args .input)) (c .before .args .held) (c .before .pre) (c .if1 .taken)
 
-shared-slice-read-if2 : tie.Need-shared-slice-read-if2
-shared-slice-read-if2 c = search needs
-
 returns-2 : tie.Need-returns-2
 returns-2 c = let start = c .before .before .before in settled-low (now (start .args .input)) (start .args .held) (start .pre) (omega arith) (c .if2 .taken)
-
-shared-slice-read-if3 : tie.Need-shared-slice-read-if3
-shared-slice-read-if3 c = search needs
 
 returns-3 : tie.Need-returns-3
 returns-3 c = let start = c .before .before .before .before .before in settled-high (now (start .args .input)) (start .args .held) (start .pre) (omega arith) (c .before .before .if2 .left) (c .if3 .taken)
@@ -27,5 +21,4 @@ returns-4 c = let start = c .before .before .before .before .before in settled-l
 
 pub is-settled-spec : {M : Type 1} → statement M
 is-settled-spec =
-    tie.close
-    (tie.spec returns shared-slice-read-if2 returns-2 shared-slice-read-if3 returns-3 returns-4)
+    tie.close (tie.spec returns (λ c. search needs) returns-2 (λ c. search needs) returns-3 returns-4)

@@ -9,14 +9,8 @@ use Rattle.judge_machine.proofs.read_more.Tie as tie
 put-requires : tie.Need-put-requires
 put-requires c κs = c .before .before .before .before .pre .0 .0
 
-wanted-requires : tie.Need-wanted-requires
-wanted-requires c κs = search needs
-
-same-length : tie.Need-same-length
-same-length c = search needs
-
 returns : tie.Need-returns
 returns c = let start = c .before .before .before .before .before .before .before .before in reading-after (now (start .args .memory)) _ (now (start .args .input)) (now (start .args .out)) (start .pre .0) (start .args .held) (c .wanted .result) (c .before .before .before .put .ensures) (c .wanted .ensures) (start .pre .1)
 
 pub read-more-spec : {M : Type 1} → statement M
-read-more-spec = tie.close (tie.spec put-requires wanted-requires same-length returns)
+read-more-spec = tie.close (tie.spec put-requires (λ c κs. search needs) (λ c. search needs) returns)

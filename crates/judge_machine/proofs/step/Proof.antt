@@ -8,9 +8,6 @@ use borrow.Author.Needs.{needs}
 use Rattle.judge_machine.proofs.step.Statement.{statement}
 use Rattle.judge_machine.proofs.step.Tie as tie
 
-lacks-room-requires : tie.Need-lacks-room-requires
-lacks-room-requires c κs = search needs
-
 returns : tie.Need-returns
 returns c = let start = c .before .before .before .before .before in no-room (now (start .args .memory)) (now (start .args .input)) (now (start .args .out)) _ (sym (c .before .lacks-room .ensures) ∙ c .if1 .taken)
 
@@ -23,20 +20,11 @@ slice-read-count c = let start = c .before .before .before .before .before .befo
 stop-requires : tie.Need-stop-requires
 stop-requires c κs = let start = c .before .before .before .before .before .before .before .before .before .before in let room = room-by _ _ _ (sym (c .before .before .before .before .before .before .lacks-room .ensures) ∙ c .before .before .before .before .before .if1 .left) in room .0
 
-same-length : tie.Need-same-length
-same-length c = search needs
-
 returns-2 : tie.Need-returns-2
 returns-2 c = let start = c .before .before .before .before .before .before .before .before .before .before .before .before .before in let room = room-by _ _ _ (sym (c .before .before .before .before .before .before .before .before .before .lacks-room .ensures) ∙ c .before .before .before .before .before .before .before .before .if1 .left) in stands-as _ _ _ _ _ _ (read-too-far (now (start .args .memory)) (now (start .args .input)) (now (start .args .out)) room _ (c .before .before .before .before .before .if2 .taken) (c .before .before .before .before .if3 .taken)) (c .before .before .stop .ensures _ _)
 
 after-read-requires : tie.Need-after-read-requires
 after-read-requires c κs = let start = c .before .before .before .before .before .before .before .before .before .before .before in let room = room-by _ _ _ (sym (c .before .before .before .before .before .before .before .lacks-room .ensures) ∙ c .before .before .before .before .before .before .if1 .left) in (room, c .before .before .if3 .left)
-
-same-length-2 : tie.Need-same-length-2
-same-length-2 c = search needs
-
-same-length-3 : tie.Need-same-length-3
-same-length-3 c = search needs
 
 returns-3 : tie.Need-returns-3
 returns-3 c = let start = c .before .before .before .before .before .before .before .before .before .before .before .before .before .before .before .before in let room = room-by _ _ _ (sym (c .before .before .before .before .before .before .before .before .before .before .before .before .lacks-room .ensures) ∙ c .before .before .before .before .before .before .before .before .before .before .before .if1 .left) in steps-as _ _ _ _ _ _ _ (is-reading (now (start .args .memory)) (now (start .args .input)) (now (start .args .out)) room (c .before .before .before .before .before .before .before .before .if2 .taken) (c .before .before .before .before .before .before .before .if3 .left)) (c .before .before .before .before .after-read .ensures)
@@ -44,20 +32,11 @@ returns-3 c = let start = c .before .before .before .before .before .before .bef
 stop-requires-2 : tie.Need-stop-requires-2
 stop-requires-2 c κs = let start = c .before .before .before .before .before .before .before .before .before .before .before in let room = room-by _ _ _ (sym (c .before .before .before .before .before .before .before .lacks-room .ensures) ∙ c .before .before .before .before .before .before .if1 .left) in room .0
 
-same-length-4 : tie.Need-same-length-4
-same-length-4 c = search needs
-
 returns-4 : tie.Need-returns-4
 returns-4 c = let start = c .before .before .before .before .before .before .before .before .before .before .before .before .before .before in let room = room-by _ _ _ (sym (c .before .before .before .before .before .before .before .before .before .before .lacks-room .ensures) ∙ c .before .before .before .before .before .before .before .before .before .if1 .left) in stands-as _ _ _ _ _ _ (told-too-far (now (start .args .memory)) (now (start .args .input)) (now (start .args .out)) room _ (c .before .before .before .before .before .if4 .taken) (c .before .before .before .before .if5 .taken)) (c .before .before .stop2 .ensures _ _)
 
 after-write-requires : tie.Need-after-write-requires
 after-write-requires c κs = let start = c .before .before .before .before .before .before .before .before .before .before .before .before in let room = room-by _ _ _ (sym (c .before .before .before .before .before .before .before .before .lacks-room .ensures) ∙ c .before .before .before .before .before .before .before .if1 .left) in room
-
-same-length-5 : tie.Need-same-length-5
-same-length-5 c = search needs
-
-same-length-6 : tie.Need-same-length-6
-same-length-6 c = search needs
 
 returns-5 : tie.Need-returns-5
 returns-5 c = let start = c .before .before .before .before .before .before .before .before .before .before .before .before .before .before .before .before .before in let room = room-by _ _ _ (sym (c .before .before .before .before .before .before .before .before .before .before .before .before .before .lacks-room .ensures) ∙ c .before .before .before .before .before .before .before .before .before .before .before .before .if1 .left) in steps-as _ _ _ _ _ _ _ (is-telling (now (start .args .memory)) (now (start .args .input)) (now (start .args .out)) room (c .before .before .before .before .before .before .before .before .if4 .taken) (c .before .before .before .before .before .before .before .if5 .left)) (c .before .before .before .before .after-write .ensures)
@@ -65,34 +44,12 @@ returns-5 c = let start = c .before .before .before .before .before .before .bef
 stop-requires-3 : tie.Need-stop-requires-3
 stop-requires-3 c κs = let start = c .before .before .before .before .before .before .before .before .before .before in let room = room-by _ _ _ (sym (c .before .before .before .before .before .before .lacks-room .ensures) ∙ c .before .before .before .before .before .if1 .left) in room .0
 
-same-length-7 : tie.Need-same-length-7
-same-length-7 c = search needs
-
 returns-6 : tie.Need-returns-6
 returns-6 c = let start = c .before .before .before .before .before .before .before .before .before .before .before .before .before in let room = room-by _ _ _ (sym (c .before .before .before .before .before .before .before .before .before .lacks-room .ensures) ∙ c .before .before .before .before .before .before .before .before .if1 .left) in stands-as _ _ _ _ _ _ (then-stops (now (start .args .memory)) (now (start .args .input)) (now (start .args .out)) room _ (c .before .before .before .before .before .if2 .left) (c .before .before .before .before .if4 .left)) (c .before .before .stop3 .ensures _ _)
 
 pub step-spec : {M : Type 1} → statement M
 step-spec =
     tie.close
-    (tie.spec
-    lacks-room-requires
-    returns
-    slice-read-phase
-    slice-read-count
-    stop-requires
-    same-length
-    returns-2
-    after-read-requires
-    same-length-2
-    same-length-3
-    returns-3
-    stop-requires-2
-    same-length-4
-    returns-4
-    after-write-requires
-    same-length-5
-    same-length-6
-    returns-5
-    stop-requires-3
-    same-length-7
-    returns-6)
+    (tie.spec (λ c κs. search needs) returns slice-read-phase slice-read-count stop-requires (λ c. search needs) returns-2 after-read-requires (λ c. search needs)
+    (λ c. search needs) returns-3 stop-requires-2 (λ c. search needs) returns-4 after-write-requires (λ c. search needs) (λ c. search needs) returns-5 stop-requires-3
+    (λ c. search needs) returns-6)

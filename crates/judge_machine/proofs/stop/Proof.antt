@@ -6,14 +6,8 @@ use Rattle.judge_machine.proofs.Standing.{stopped-after}
 use Rattle.judge_machine.proofs.stop.Statement.{statement}
 use Rattle.judge_machine.proofs.stop.Tie as tie
 
-put-requires : tie.Need-put-requires
-put-requires c κs = search needs
-
-same-length : tie.Need-same-length
-same-length c = search needs
-
 returns : tie.Need-returns
 returns c = let start = c .before .before .before .before .before in stopped-after (now (start .args .memory)) _ (c .before .before .put .ensures) (start .pre)
 
 pub stop-spec : {M : Type 1} → statement M
-stop-spec = tie.close (tie.spec put-requires same-length returns)
+stop-spec = tie.close (tie.spec (λ c κs. search needs) (λ c. search needs) returns)

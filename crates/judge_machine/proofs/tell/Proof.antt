@@ -17,32 +17,15 @@ use Rattle.judge_machine.proofs.tell.Tie as tie
 slice-aggregate-judge : tie.Need-slice-aggregate-judge
 slice-aggregate-judge c = let start = c .before .before .before .before in sym (length-take-le (start .args .held) (now (start .args .input)) (omega (arith, start .pre .1, start .pre .0 .1)))
 
-judge-requires : tie.Need-judge-requires
-judge-requires c κs = search needs
-
 write-verdict-requires : tie.Need-write-verdict-requires
 write-verdict-requires c κs = let start = c .before .before .before .before .before .before in (start .pre .0 .2, small _ _ (c .before .judge .ensures))
 
 put-requires : tie.Need-put-requires
 put-requires c κs = c .before .before .before .before .before .before .before .before .before .before .pre .0 .0
 
-same-length : tie.Need-same-length
-same-length c = search needs
-
-same-length-2 : tie.Need-same-length-2
-same-length-2 c = search needs
-
 returns : tie.Need-returns
 returns c = let start = c .before .before .before .before .before .before .before .before .before .before .before .before .before in let w = c .before .before .before .before .before .before .write-verdict in let judged = c .before .before .before .before .before .before .before .before .judge in telling-after (now (start .args .memory)) _ (now (start .args .input)) (w .last .0) (start .pre .0 .0, start .pre .0 .1, omega (arith, w .kept .0, start .pre .0 .2)) (w .result) (verdictText (verdict (take (start .args .held) (now (start .args .input))))) (c .before .before .put .ensures) (omega (arith, w .ensures .next-place, w .kept .0, verdict-short (judged .result), start .pre .0 .2)) (front-text (now (start .args .out)) (verdictText (judged .result)) (w .last .0) (w .result) (w .ensures) (omega (arith, w .ensures .next-place, verdict-short (judged .result), start .pre .0 .2)) ∙ ap verdictText (judged .ensures))
 
 pub tell-spec : {M : Type 1} → statement M
 tell-spec =
-    tie.close
-    (tie.spec
-    slice-aggregate-judge
-    judge-requires
-    write-verdict-requires
-    put-requires
-    same-length
-    same-length-2
-    returns)
+    tie.close (tie.spec slice-aggregate-judge (λ c κs. search needs) write-verdict-requires put-requires (λ c. search needs) (λ c. search needs) returns)

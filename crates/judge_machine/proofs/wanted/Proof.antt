@@ -10,12 +10,9 @@ returns : tie.Need-returns
 unfolding wanted
 returns c = rw (eq-eqb _ _ (c .if1 .taken))
 
-sub-result : tie.Need-sub-result
-sub-result c = search needs
-
 returns-2 : tie.Need-returns-2
 unfolding wanted
 returns-2 c = rw (ne-eqb _ _ (c .if1 .left))
 
 pub wanted-spec : {M : Type 1} → statement M
-wanted-spec = tie.close (tie.spec returns sub-result returns-2)
+wanted-spec = tie.close (tie.spec returns (λ c. search needs) returns-2)

@@ -42,29 +42,6 @@ returns-6 c = let st = c .before .before .before .before .before .before .before
 pub judge-beside-spec : {M : Type 1} → statement M
 judge-beside-spec =
     tie.close
-    (tie.spec
-    returns
-    shared-slice-read-wide
-    (λ c κs. search needs)
-    returns-2
-    returns-3
-    (λ c. search needs)
-    returns-4
-    read-all-requires
-    (λ c. search needs)
-    (λ c. search needs)
-    decide-requires
-    (λ c. search needs)
-    (λ c. search needs)
-    (λ c. search needs)
-    (λ c. search needs)
-    (λ c. search needs)
-    (λ c. search needs)
-    returns-5
-    (λ c. search needs)
-    (λ c. search needs)
-    (λ c. search needs)
-    (λ c. search needs)
-    (λ c. search needs)
-    (λ c. search needs)
-    returns-6)
+    (tie.spec returns shared-slice-read-wide (λ c κs. search needs) returns-2 returns-3 (λ c. search needs) returns-4 read-all-requires (λ c. search needs)
+    (λ c. search needs) decide-requires (λ c. search needs) (λ c. search needs) (λ c. search needs) (λ c. search needs) (λ c. search needs) (λ c. search needs)
+    returns-5 (λ c. search needs) (λ c. search needs) (λ c. search needs) (λ c. search needs) (λ c. search needs) (λ c. search needs) returns-6)

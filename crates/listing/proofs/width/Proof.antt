@@ -50,14 +50,4 @@ returns-2 c =
 
 pub width-spec : {M : Type 1} → statement M
 width-spec =
-    tie.close
-    (tie.spec
-    Inv-loop
-    μ-loop
-    loop-holds
-    (λ c. search needs)
-    returns
-    mul-limit
-    (λ c. search needs)
-    loop-again
-    returns-2)
+    tie.close (tie.spec Inv-loop μ-loop loop-holds (λ c. search needs) returns mul-limit (λ c. search needs) loop-again returns-2)

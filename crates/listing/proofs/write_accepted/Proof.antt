@@ -71,12 +71,4 @@ returns c =
 
 pub write-accepted-spec : {M : Type 1} → statement M
 write-accepted-spec =
-    tie.close
-    (tie.spec
-    write-byte-requires
-    write-value-requires
-    write-byte-requires-2
-    write-number-requires
-    write-deletions-requires
-    (λ c. search needs)
-    returns)
+    tie.close (tie.spec write-byte-requires write-value-requires write-byte-requires-2 write-number-requires write-deletions-requires (λ c. search needs) returns)

@@ -97,14 +97,5 @@ returns-2 c =
 pub write-line-spec : {M : Type 1} → statement M
 write-line-spec =
     tie.close
-    (tie.spec
-    write-refusal-requires
-    (λ c. search needs)
-    returns
-    write-number-requires
-    write-byte-requires
-    write-byte-requires-2
-    write-accepted-requires
-    write-byte-requires-3
-    (λ c. search needs)
-    returns-2)
+    (tie.spec write-refusal-requires (λ c. search needs) returns write-number-requires write-byte-requires write-byte-requires-2 write-accepted-requires
+    write-byte-requires-3 (λ c. search needs) returns-2)

@@ -99,26 +99,7 @@ returns-2 c =
 pub write-number-spec : {M : Type 1} → statement M
 write-number-spec =
     tie.close
-    (tie.spec
-    Inv-loop
-    μ-loop
-    (λ c κs. search needs) (λ c. search needs)
-    loop-holds
-    sub-place
-    (λ c. search needs) (λ c. search needs)
-    slice-write-out
-    (λ c. search needs) (λ c. search needs)
-    add-out-3
-    slice-write-out-2
-    (λ c. search needs)
-    loop-again
-    (λ c. search needs) (λ c. search needs)
-    slice-write-out-3
-    (λ c. search needs) (λ c. search needs) (λ c. search needs)
-    slice-write-out-4
-    (λ c. search needs) (λ c. search needs)
-    slice-write-out-5
-    (λ c. search needs)
-    returns
-    (λ c. search needs)
-    returns-2)
+    (tie.spec Inv-loop μ-loop (λ c κs. search needs) (λ c. search needs) loop-holds sub-place (λ c. search needs) (λ c. search needs) slice-write-out
+    (λ c. search needs) (λ c. search needs) add-out-3 slice-write-out-2 (λ c. search needs) loop-again (λ c. search needs) (λ c. search needs) slice-write-out-3
+    (λ c. search needs) (λ c. search needs) (λ c. search needs) slice-write-out-4 (λ c. search needs) (λ c. search needs) slice-write-out-5 (λ c. search needs) returns
+    (λ c. search needs) returns-2)

@@ -56,11 +56,4 @@ returns c =
 
 pub write-pair-spec : {M : Type 1} → statement M
 write-pair-spec =
-    tie.close
-    (tie.spec
-    write-byte-requires
-    write-number-requires
-    write-byte-requires-2
-    write-number-requires-2
-    (λ c. search needs)
-    returns)
+    tie.close (tie.spec write-byte-requires write-number-requires write-byte-requires-2 write-number-requires-2 (λ c. search needs) returns)

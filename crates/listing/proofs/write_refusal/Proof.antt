@@ -55,11 +55,4 @@ returns c =
 
 pub write-refusal-spec : {M : Type 1} → statement M
 write-refusal-spec =
-    tie.close
-    (tie.spec
-    write-number-requires
-    write-byte-requires
-    write-number-requires-2
-    write-byte-requires-2
-    (λ c. search needs)
-    returns)
+    tie.close (tie.spec write-number-requires write-byte-requires write-number-requires-2 write-byte-requires-2 (λ c. search needs) returns)

@@ -24,13 +24,4 @@ returns-2 c = rw (c .before .before .before .before .before .value .given .1) (c
 
 pub write-value-spec : {M : Type 1} → statement M
 write-value-spec =
-    tie.close
-    (tie.spec
-    (λ c. search needs)
-    write-byte-requires
-    (λ c. search needs)
-    write-number-requires
-    (λ c. search needs)
-    returns
-    (λ c. search needs)
-    returns-2)
+    tie.close (tie.spec (λ c. search needs) write-byte-requires (λ c. search needs) write-number-requires (λ c. search needs) returns (λ c. search needs) returns-2)

@@ -7,78 +7,27 @@ use Rattle.machines.proofs.Places.{argument-inside, open-inside, read-i
 use Rattle.machines.proofs.obey.Statement.{statement}
 use Rattle.machines.proofs.obey.Tie as tie
 
-enum-told : tie.Need-enum-told
-enum-told c = search needs
-
-count-requires : tie.Need-count-requires
-count-requires c κs = search needs
-
-told-requires : tie.Need-told-requires
-told-requires c κs = search needs
-
-enum-known-request : tie.Need-enum-known-request
-enum-known-request c = search needs
-
 argument-requires : tie.Need-argument-requires
 argument-requires c κs = let start = c .before .before .before .before .before .before in (refl, argument-inside (start .args .request) _ _ (start .pre) _ _ _ (c .before .before .request .given .1))
-
-told-requires-2 : tie.Need-told-requires-2
-told-requires-2 c κs = search needs
-
-enum-known-request-2 : tie.Need-enum-known-request-2
-enum-known-request-2 c = search needs
 
 open-requires : tie.Need-open-requires
 open-requires c κs = let start = c .before .before .before .before .before in (refl, open-inside (start .args .request) _ _ (start .pre) _ (c .before .request2 .given .1))
 
-enum-known-request-3 : tie.Need-enum-known-request-3
-enum-known-request-3 c = search needs
-
 read-requires : tie.Need-read-requires
 read-requires c κs = let start = c .before .before .before .before .before .before in (refl, read-inside (start .args .request) _ _ (start .pre) _ _ (c .before .before .request3 .given .1))
-
-told-requires-3 : tie.Need-told-requires-3
-told-requires-3 c κs = search needs
-
-enum-known-request-4 : tie.Need-enum-known-request-4
-enum-known-request-4 c = search needs
 
 write-requires : tie.Need-write-requires
 write-requires c κs = let start = c .before .before .before .before .before in (refl, write-inside (start .args .request) _ _ (start .pre) _ (c .before .request4 .given .1))
 
-told-requires-4 : tie.Need-told-requires-4
-told-requires-4 c κs = search needs
-
-enum-known-request-5 : tie.Need-enum-known-request-5
-enum-known-request-5 c = search needs
-
 say-requires : tie.Need-say-requires
 say-requires c κs = let start = c .before .before .before .before .before in (refl, say-inside (start .args .request) _ _ (start .pre) _ (c .before .request5 .given .1))
-
-told-requires-5 : tie.Need-told-requires-5
-told-requires-5 c κs = search needs
-
-enum-known-request-6 : tie.Need-enum-known-request-6
-enum-known-request-6 c = search needs
 
 fail-requires : tie.Need-fail-requires
 fail-requires c κs = let start = c .before .before .before .before .before in (refl, fail-inside (start .args .request) _ _ (start .pre) _ (c .before .request6 .given .1))
 
-told-requires-6 : tie.Need-told-requires-6
-told-requires-6 c κs = search needs
-
-enum-told-2 : tie.Need-enum-told-2
-enum-told-2 c = search needs
-
-told-requires-7 : tie.Need-told-requires-7
-told-requires-7 c κs = search needs
-
 returns : tie.Need-returns
 unfolding Leaves
 returns c = leaves-by _ _ _ _ (c .before .before .enum-told .given .1) refl
-
-same-length : tie.Need-same-length
-same-length c = search needs
 
 returns-2 : tie.Need-returns-2
 unfolding Leaves
@@ -87,9 +36,6 @@ returns-2 c = leaves-by _ _ _ _ (c .before .before .before .before .before .befo
 returns-3 : tie.Need-returns-3
 unfolding Leaves
 returns-3 c = leaves-by _ _ _ _ (c .before .before .request2 .given .1) refl
-
-same-length-2 : tie.Need-same-length-2
-same-length-2 c = search needs
 
 returns-4 : tie.Need-returns-4
 unfolding Leaves
@@ -114,36 +60,7 @@ returns-8 c = leaves-by _ _ _ _ (c .before .enum-told2 .given .1) refl
 pub obey-spec : {M : Type 1} → statement M
 obey-spec =
     tie.close
-    (tie.spec
-    enum-told
-    count-requires
-    told-requires
-    enum-known-request
-    argument-requires
-    told-requires-2
-    enum-known-request-2
-    open-requires
-    enum-known-request-3
-    read-requires
-    told-requires-3
-    enum-known-request-4
-    write-requires
-    told-requires-4
-    enum-known-request-5
-    say-requires
-    told-requires-5
-    enum-known-request-6
-    fail-requires
-    told-requires-6
-    enum-told-2
-    told-requires-7
-    returns
-    same-length
-    returns-2
-    returns-3
-    same-length-2
-    returns-4
-    returns-5
-    returns-6
-    returns-7
-    returns-8)
+    (tie.spec (λ c. search needs) (λ c κs. search needs) (λ c κs. search needs) (λ c. search needs) argument-requires (λ c κs. search needs) (λ c. search needs)
+    open-requires (λ c. search needs) read-requires (λ c κs. search needs) (λ c. search needs) write-requires (λ c κs. search needs) (λ c. search needs) say-requires
+    (λ c κs. search needs) (λ c. search needs) fail-requires (λ c κs. search needs) (λ c. search needs) (λ c κs. search needs) returns (λ c. search needs) returns-2
+    returns-3 (λ c. search needs) returns-4 returns-5 returns-6 returns-7 returns-8)

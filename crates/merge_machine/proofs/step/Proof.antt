@@ -29,4 +29,7 @@ returns-3 : tie.Need-returns-3
 returns-3 c = step-stands (c .before .before .before .before .before .before .before .before .before .before .before .before .before .before .before .before .before .before .args .memory .now) (c .before .before .before .before .before .before .before .before .before .before .before .before .before .before .before .before .before .before .args .input .now) (c .before .before .before .before .before .before .before .before .before .before .before .before .before .before .before .before .before .before .args .out .now) _ _ _ _ _ _ (room-by _ _ _ (sym (c .before .before .before .before .before .before .before .before .before .before .before .before .before .before .lacks-room .ensures) ∙ c .before .before .before .before .before .before .before .before .before .before .before .before .before .if1 .left)) (c .before .before .before .before .before .before .before .before .before .before .before .read .ensures) (sym (c .before .before .before .before .before .before .before .before .before .before .in-bounds .ensures) ∙ affirmed _ (c .before .before .before .before .before .before .before .before .before .if2 .left)) (c .before .before .before .put .kept .0) (c .before .before .before .before .before .before .before .on .kept .1 .1 .0) (c .before .before .before .put .ensures) (c .before .before .before .before .before .before .before .on .ensures) (c .request .ensures)
 
 pub step-spec : {M : Type 1} → statement M
-step-spec = tie.close (tie.spec (λ c κs. search needs) returns read-requires (λ c κs. search needs) (λ c. search needs) returns-2 on-requires put-requires (λ c κs. search needs) (λ c. search needs) (λ c. search needs) returns-3)
+step-spec =
+    tie.close
+    (tie.spec (λ c κs. search needs) returns read-requires (λ c κs. search needs) (λ c. search needs) returns-2 on-requires put-requires (λ c κs. search needs)
+    (λ c. search needs) (λ c. search needs) returns-3)

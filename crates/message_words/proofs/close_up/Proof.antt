@@ -31,16 +31,8 @@ returns c =
 pub close-up-spec : {M : Type 1} → statement M
 close-up-spec =
     tie.close
-    (tie.spec
-    (λ c κs. search needs)
-    (λ c κs.
-    let g = c .before .before .before in
-    let a = g .before .before .before .args in
-    (g .gather .kept .0 ∙ g .before .before .before .pre, few (a .w .now) _ (g .before .before .before .pre) (g .gather .ensures .1)))
-    (λ c.
-    let g = c .before .before .before .before .before .before in
-    let small = few (g .before .before .before .args .w .now) _ (g .before .before .before .pre) (g .gather .ensures .1) in
-    omega arith)
+    (tie.spec (λ c κs. search needs)
+    (λ c κs. let g = c .before .before .before in let a = g .before .before .before .args in (g .gather .kept .0 ∙ g .before .before .before .pre, few (a .w .now) _ (g .before .before .before .pre) (g .gather .ensures .1)))
+    (λ c. let g = c .before .before .before .before .before .before in let small = few (g .before .before .before .args .w .now) _ (g .before .before .before .pre) (g .gather .ensures .1) in omega arith)
     (λ c. omega (arith, c .before .before .clear-from .kept .0, c .before .before .before .before .before .before .gather .kept .0, c .before .before .before .before .before .before .before .before .before .pre))
-    (λ c. simp length-set (c .before .before .clear-from .kept .0 ∙ c .before .before .before .before .before .before .gather .kept .0))
-    returns)
+    (λ c. simp length-set (c .before .before .clear-from .kept .0 ∙ c .before .before .before .before .before .before .gather .kept .0)) returns)

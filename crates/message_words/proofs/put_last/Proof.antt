@@ -18,9 +18,5 @@ returns c = simp set-is-put (rw (c .before .before .put .ensures) refl)
 pub put-last-spec : {M : Type 1} → statement M
 put-last-spec =
     tie.close
-    (tie.spec
-    (λ c. search needs) (λ c. search needs) (λ c. search needs) (λ c κs. search needs)
-    (λ c. search needs) (λ c. search needs) (λ c. search needs)
-    (λ c. simp length-set (omega (arith, c .before .before .put .kept .0, c .before .before .before .before .before .before .before .pre .0)))
-    same-length
-    returns)
+    (tie.spec (λ c. search needs) (λ c. search needs) (λ c. search needs) (λ c κs. search needs) (λ c. search needs) (λ c. search needs) (λ c. search needs)
+    (λ c. simp length-set (omega (arith, c .before .before .put .kept .0, c .before .before .before .before .before .before .before .pre .0))) same-length returns)

@@ -25,16 +25,7 @@ returns c =
 pub take-out-spec : {M : Type 1} → statement M
 take-out-spec =
     tie.close
-    (tie.spec
-    (λ c. search needs) (λ c. search needs) (λ c. search needs)
-    (λ c κs. search needs)
-    (λ c κs. search needs)
-    (λ c. search needs)
-    (λ c. search needs)
-    (λ c.
-    let s = c .before .before .before .before .before .before .before .before .before in
-    let small = end-under (c .before .before .before .before .clear .last .0) (getD (s .args .w .now) 12 0) in
-    omega (arith, c .end-before .ensures, s .pre .1))
+    (tie.spec (λ c. search needs) (λ c. search needs) (λ c. search needs) (λ c κs. search needs) (λ c κs. search needs) (λ c. search needs) (λ c. search needs)
+    (λ c. let s = c .before .before .before .before .before .before .before .before .before in let small = end-under (c .before .before .before .before .clear .last .0) (getD (s .args .w .now) 12 0) in omega (arith, c .end-before .ensures, s .pre .1))
     (λ c. simp length-set (omega (arith, c .before .before .before .before .clear .kept .0, c .before .before .before .before .before .before .before .before .before .pre .0)))
-    (λ c. simp length-set (c .before .before .before .before .clear .kept .0))
-    returns)
+    (λ c. simp length-set (c .before .before .before .before .clear .kept .0)) returns)

@@ -67,13 +67,5 @@ returns-3 c =
 pub carried-on-spec : {M : Type 1} → statement M
 carried-on-spec =
     tie.close
-    (tie.spec
-    (λ c κs. search needs) (λ c κs. search needs)
-    returns
-    place-of-requires
-    (λ c. search needs) (λ c κs. search needs) (λ c. search needs)
-    carried-at-requires
-    copy-words-requires
-    returns-2
-    (λ c. search needs)
-    returns-3)
+    (tie.spec (λ c κs. search needs) (λ c κs. search needs) returns place-of-requires (λ c. search needs) (λ c κs. search needs) (λ c. search needs) carried-at-requires
+    copy-words-requires returns-2 (λ c. search needs) returns-3)

@@ -70,18 +70,5 @@ returns-3 c =
 pub kept-on-spec : {M : Type 1} → statement M
 kept-on-spec =
     tie.close
-    (tie.spec
-    (λ c κs. search needs)
-    mul-if1
-    (λ c κs. search needs)
-    returns
-    (λ c κs. search needs)
-    returns-2
-    held-at-requires
-    (λ c. search needs)
-    shared-slice-read-number-of
-    (λ c κs. search needs)
-    write-kept-requires
-    counted-requires
-    (λ c. search needs)
-    returns-3)
+    (tie.spec (λ c κs. search needs) mul-if1 (λ c κs. search needs) returns (λ c κs. search needs) returns-2 held-at-requires (λ c. search needs)
+    shared-slice-read-number-of (λ c κs. search needs) write-kept-requires counted-requires (λ c. search needs) returns-3)

@@ -36,11 +36,4 @@ returns-2 c =
 pub messages-on-spec : {M : Type 1} → statement M
 messages-on-spec =
     tie.close
-    (tie.spec
-    (λ c. search needs) (λ c κs. search needs)
-    returns
-    (λ c κs. search needs)
-    write-messages-requires
-    counted-requires
-    (λ c. search needs)
-    returns-2)
+    (tie.spec (λ c. search needs) (λ c κs. search needs) returns (λ c κs. search needs) write-messages-requires counted-requires (λ c. search needs) returns-2)

@@ -43,13 +43,5 @@ returns-3 c =
 pub row-on-spec : {M : Type 1} → statement M
 row-on-spec =
     tie.close
-    (tie.spec
-    (λ c κs. search needs) (λ c κs. search needs)
-    returns
-    (λ c κs. search needs)
-    returns-2
-    part-at-requires
-    add-copy-words
-    copy-words-requires
-    (λ c. search needs)
-    returns-3)
+    (tie.spec (λ c κs. search needs) (λ c κs. search needs) returns (λ c κs. search needs) returns-2 part-at-requires add-copy-words copy-words-requires
+    (λ c. search needs) returns-3)

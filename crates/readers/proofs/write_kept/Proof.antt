@@ -48,13 +48,4 @@ returns c =
 
 pub write-kept-spec : {M : Type 1} → statement M
 write-kept-spec =
-    tie.close
-    (tie.spec
-    Inv-loop
-    μ-loop
-    loop-holds
-    write-checkpoint-requires
-    (λ c. search needs) (λ c. search needs)
-    loop-again
-    (λ c. search needs)
-    returns)
+    tie.close (tie.spec Inv-loop μ-loop loop-holds write-checkpoint-requires (λ c. search needs) (λ c. search needs) loop-again (λ c. search needs) returns)

@@ -19,7 +19,4 @@ returns c =
 
 pub earliest-spec : {M : Type 1} → statement M
 earliest-spec =
-    tie.close
-    (tie.spec
-    (λ c κs. search needs) (λ c. search needs)
-    returns)
+    tie.close (tie.spec (λ c κs. search needs) (λ c. search needs) returns)

@@ -50,12 +50,5 @@ returns-3 c =
 pub send-spec : {M : Type 1} → statement M
 send-spec =
     tie.close
-    (tie.spec
-    (λ c κs. search needs) (λ c κs. search needs) (λ c. search needs)
-    returns
-    (λ c κs. search needs) (λ c κs. search needs) (λ c. search needs)
-    returns-2
-    cast-t19
-    append-requires
-    (λ c. search needs) (λ c. search needs)
-    returns-3)
+    (tie.spec (λ c κs. search needs) (λ c κs. search needs) (λ c. search needs) returns (λ c κs. search needs) (λ c κs. search needs) (λ c. search needs) returns-2
+    cast-t19 append-requires (λ c. search needs) (λ c. search needs) returns-3)

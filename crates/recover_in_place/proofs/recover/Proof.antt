@@ -76,13 +76,4 @@ returns-2 c =
 
 pub recover-spec : {M : Type 1} → statement M
 recover-spec =
-    tie.close
-    (tie.spec
-    (λ c κs. search needs)
-    (λ c. search needs)
-    returns
-    recover-on-requires
-    (λ c. search needs)
-    (λ c. search needs)
-    (λ c. search needs)
-    returns-2)
+    tie.close (tie.spec (λ c κs. search needs) (λ c. search needs) returns recover-on-requires (λ c. search needs) (λ c. search needs) (λ c. search needs) returns-2)

@@ -63,17 +63,5 @@ recover-within-requires c κs =
 pub recover-on-spec : {M : Type 1} → statement M
 recover-on-spec =
     tie.close
-    (tie.spec
-    slice-read-n
-    cast-n
-    is-too-short-requires
-    returns
-    (λ c κs. search needs)
-    (λ c. search needs)
-    (λ c. search needs)
-    recover-within-requires
-    returns-2
-    (λ c. search needs)
-    (λ c. search needs)
-    (λ c. search needs)
-    (λ c. search needs))
+    (tie.spec slice-read-n cast-n is-too-short-requires returns (λ c κs. search needs) (λ c. search needs) (λ c. search needs) recover-within-requires returns-2
+    (λ c. search needs) (λ c. search needs) (λ c. search needs) (λ c. search needs))

@@ -101,18 +101,5 @@ returns c =
 pub restore-all-spec : {M : Type 1} → statement M
 restore-all-spec =
     tie.close
-    (tie.spec
-    Inv-loop
-    μ-loop
-    loop-holds
-    mul-past
-    array-read-past
-    (λ c. search needs)
-    restore-requires
-    add-gone
-    (λ c. search needs)
-    (λ c. search needs)
-    loop-again
-    same-length
-    (λ c. search needs)
-    returns)
+    (tie.spec Inv-loop μ-loop loop-holds mul-past array-read-past (λ c. search needs) restore-requires add-gone (λ c. search needs) (λ c. search needs) loop-again
+    same-length (λ c. search needs) returns)

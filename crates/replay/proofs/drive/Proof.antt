@@ -59,16 +59,5 @@ returns c = driven-ends _ _ _ _ _ _ _ (c .before .before .loop .inv .0) (sym (c 
 pub drive-spec : {M : Type 1} → statement M
 drive-spec =
     tie.close
-    (tie.spec
-    Inv-loop
-    μ-loop
-    begin-requires
-    (λ c κs. search needs)
-    loop-holds
-    (λ c κs. search needs)
-    obey-requires
-    step-led-requires
-    loop-less
-    loop-again
-    (λ c. search needs) (λ c. search needs) (λ c. search needs) (λ c. search needs)
-    returns)
+    (tie.spec Inv-loop μ-loop begin-requires (λ c κs. search needs) loop-holds (λ c κs. search needs) obey-requires step-led-requires loop-less loop-again
+    (λ c. search needs) (λ c. search needs) (λ c. search needs) (λ c. search needs) returns)

@@ -102,11 +102,4 @@ returns c = let b = c .before .before in rw (b .role-place .ensures, c .before .
 
 pub may-spec : {M : Type 1} → statement M
 may-spec =
-    tie.close
-    (tie.spec
-    (λ c κs. search needs)
-    (λ c κs. search needs)
-    mul-result
-    index-1-result
-    index-2-result
-    returns)
+    tie.close (tie.spec (λ c κs. search needs) (λ c κs. search needs) mul-result index-1-result index-2-result returns)

@@ -19,20 +19,11 @@ abbrev μ-loop : tie.MeasureT-loop
 begin-requires : tie.Need-begin-requires Inv-loop μ-loop
 begin-requires c κs = c .before .before .before .before .before .before .pre
 
-standard-input-requires : tie.Need-standard-input-requires Inv-loop μ-loop
-standard-input-requires c κs = search needs
-
 loop-holds : tie.Need-loop-holds Inv-loop μ-loop
 loop-holds c = let start = c .before .before .before .before .before .before .before .before .before .before in let begin = c .before .before .before .begin in (driven-first _ _ _ _ (omega (arith, begin .kept .0, start .pre .0), start .pre .1, start .pre .2) (begin .ensures), refl, refl, refl)
 
-goes-on-requires : tie.Need-goes-on-requires Inv-loop μ-loop
-goes-on-requires c κs = search needs
-
 obey-requires : tie.Need-obey-requires Inv-loop μ-loop
 obey-requires c κs = c .before .before .before .before .loop .inv .0 .asks .inside
-
-step-requires : tie.Need-step-requires Inv-loop μ-loop
-step-requires c κs = search needs
 
 loop-less : tie.Need-loop-less Inv-loop μ-loop
 loop-less c = let loop = c .before .before .before .before .before .before .before .before .before .before .before .before .before .before .before .before .loop in let obeyed = c .before .before .before .before .before .before .before .before .before .before .before .obey in let stepped = c .before .before .before .before .step in driven-less _ _ _ _ (loop .inv .0) _ (obeyed .ensures) _ _ _ _ (stepped .ensures) (sym (c .before .before .before .before .before .before .before .before .before .before .before .before .before .before .before .goes-on .ensures) ∙ c .before .before .before .before .before .before .before .before .before .before .before .before .before .before .if1 .taken)
@@ -40,33 +31,11 @@ loop-less c = let loop = c .before .before .before .before .before .before .befo
 loop-again : tie.Need-loop-again Inv-loop μ-loop
 loop-again c = let loop = c .before .before .before .before .before .before .before .before .before .before .before .before .before .before .before .before .loop in let obeyed = c .before .before .before .before .before .before .before .before .before .before .before .obey in let stepped = c .before .before .before .before .step in (driven-next _ _ _ _ (loop .inv .0) _ (obeyed .ensures) _ _ _ _ (stepped .ensures) (omega (arith, stepped .kept .0, loop .inv .0 .room .0), omega (arith, obeyed .kept .1 .1 .0, loop .inv .0 .room .1), omega (arith, stepped .kept .1 .1 .0, loop .inv .0 .room .2)), stepped .kept .0 ∙ loop .inv .1, obeyed .kept .1 .1 .0 ∙ loop .inv .2, stepped .kept .1 .1 .0 ∙ loop .inv .3)
 
-same-length : tie.Need-same-length Inv-loop μ-loop
-same-length c = search needs
-
-same-length-2 : tie.Need-same-length-2 Inv-loop μ-loop
-same-length-2 c = search needs
-
-same-length-3 : tie.Need-same-length-3 Inv-loop μ-loop
-same-length-3 c = search needs
-
 returns : tie.Need-returns Inv-loop μ-loop
 returns c = driven-ends _ _ _ _ (c .before .before .loop .inv .0) (sym (c .before .goes-on .ensures) ∙ c .if1 .left)
 
 pub drive-spec : {M : Type 1} → statement M
 drive-spec =
     tie.close
-    (tie.spec
-    Inv-loop
-    μ-loop
-    begin-requires
-    standard-input-requires
-    loop-holds
-    goes-on-requires
-    obey-requires
-    step-requires
-    loop-less
-    loop-again
-    same-length
-    same-length-2
-    same-length-3
-    returns)
+    (tie.spec Inv-loop μ-loop begin-requires (λ c κs. search needs) loop-holds (λ c κs. search needs) obey-requires (λ c κs. search needs) loop-less loop-again
+    (λ c. search needs) (λ c. search needs) (λ c. search needs) returns)

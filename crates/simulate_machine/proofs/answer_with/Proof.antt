@@ -12,36 +12,12 @@ use borrow.Author.Needs.{needs}
 use Rattle.simulate_machine.proofs.answer_with.Statement.{statement}
 use Rattle.simulate_machine.proofs.answer_with.Tie as tie
 
-table-requires : tie.Need-table-requires
-table-requires c κs = search needs
-
-same-length : tie.Need-same-length
-same-length c = search needs
-
-same-length-2 : tie.Need-same-length-2
-same-length-2 c = search needs
-
 returns : tie.Need-returns
 returns c =
     let start = c .before .before .before .before .before .before .before .before .before .before .before .before in
     let at-if1 = c .before .before .before .before .before .before .before .if1 in
     let at-table = c .before .before .before .before .table in
     stands-as _ _ _ _ _ _ (answered-table (start .args .k) (at-if1 .taken)) (at-table .ensures)
-
-trial-requires : tie.Need-trial-requires
-trial-requires c κs = search needs
-
-write-result-requires : tie.Need-write-result-requires
-write-result-requires c κs = search needs
-
-tell-requires : tie.Need-tell-requires
-tell-requires c κs = search needs
-
-same-length-3 : tie.Need-same-length-3
-same-length-3 c = search needs
-
-same-length-4 : tie.Need-same-length-4
-same-length-4 c = search needs
 
 returns-2 : tie.Need-returns-2
 returns-2 c =
@@ -55,14 +31,5 @@ returns-2 c =
 pub answer-with-spec : {M : Type 1} → statement M
 answer-with-spec =
     tie.close
-    (tie.spec
-    table-requires
-    same-length
-    same-length-2
-    returns
-    trial-requires
-    write-result-requires
-    tell-requires
-    same-length-3
-    same-length-4
-    returns-2)
+    (tie.spec (λ c κs. search needs) (λ c. search needs) (λ c. search needs) returns (λ c κs. search needs) (λ c κs. search needs) (λ c κs. search needs)
+    (λ c. search needs) (λ c. search needs) returns-2)

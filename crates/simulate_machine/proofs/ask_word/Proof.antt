@@ -7,12 +7,6 @@ use borrow.Author.Needs.{needs}
 use Rattle.simulate_machine.proofs.ask_word.Statement.{statement}
 use Rattle.simulate_machine.proofs.ask_word.Tie as tie
 
-put-requires : tie.Need-put-requires
-put-requires c κs = search needs
-
-same-length : tie.Need-same-length
-same-length c = search needs
-
 returns : tie.Need-returns
 returns c =
     let start = c .before .before .before .before .before .before .before in
@@ -20,4 +14,4 @@ returns c =
     asking-stands _ (now (start .args .input)) (now (start .args .out)) (omega (arith, at-put .kept .0, start .pre .0 .0), start .pre .0 .1, start .pre .0 .2) (start .args .k) (start .args .i) (start .pre .1) (start .pre .2) (at-put .ensures)
 
 pub ask-word-spec : {M : Type 1} → statement M
-ask-word-spec = tie.close (tie.spec put-requires same-length returns)
+ask-word-spec = tie.close (tie.spec (λ c κs. search needs) (λ c. search needs) returns)

@@ -7,18 +7,6 @@ use borrow.Author.Needs.{needs}
 use Rattle.simulate_machine.proofs.decide.Statement.{statement}
 use Rattle.simulate_machine.proofs.decide.Tie as tie
 
-is-wrong-requires : tie.Need-is-wrong-requires
-is-wrong-requires c κs = search needs
-
-say-usage-requires : tie.Need-say-usage-requires
-say-usage-requires c κs = search needs
-
-same-length : tie.Need-same-length
-same-length c = search needs
-
-same-length-2 : tie.Need-same-length-2
-same-length-2 c = search needs
-
 returns : tie.Need-returns
 returns c =
     let start = c .before .before .before .before .before .before .before .before .before .before .before .before .before in
@@ -26,15 +14,6 @@ returns c =
     let at-if1 = c .before .before .before .before .before .before .before .if1 in
     let at-say-usage = c .before .before .before .before .say-usage in
     stands-as _ _ _ _ _ _ (decided-wrong (start .args .k) (sym (at-is-wrong .ensures) ∙ at-if1 .taken)) (at-say-usage .ensures)
-
-answer-with-requires : tie.Need-answer-with-requires
-answer-with-requires c κs = search needs
-
-same-length-3 : tie.Need-same-length-3
-same-length-3 c = search needs
-
-same-length-4 : tie.Need-same-length-4
-same-length-4 c = search needs
 
 returns-2 : tie.Need-returns-2
 returns-2 c =
@@ -47,13 +26,5 @@ returns-2 c =
 pub decide-spec : {M : Type 1} → statement M
 decide-spec =
     tie.close
-    (tie.spec
-    is-wrong-requires
-    say-usage-requires
-    same-length
-    same-length-2
-    returns
-    answer-with-requires
-    same-length-3
-    same-length-4
-    returns-2)
+    (tie.spec (λ c κs. search needs) (λ c κs. search needs) (λ c. search needs) (λ c. search needs) returns (λ c κs. search needs) (λ c. search needs)
+    (λ c. search needs) returns-2)

@@ -7,15 +7,6 @@ use borrow.Author.Needs.{needs}
 use Rattle.simulate_machine.proofs.go_on.Statement.{statement}
 use Rattle.simulate_machine.proofs.go_on.Tie as tie
 
-kept-requires : tie.Need-kept-requires
-kept-requires c κs = search needs
-
-stop-requires : tie.Need-stop-requires
-stop-requires c κs = search needs
-
-same-length : tie.Need-same-length
-same-length c = search needs
-
 returns : tie.Need-returns
 returns c =
     let start = c .before .before .before .before .before .before .before .before .before .before .before .before in
@@ -23,15 +14,6 @@ returns c =
     let at-if1 = c .before .before .before .before .if1 in
     let at-stop = c .before .before .stop in
     stands-as _ _ _ _ _ _ (tabled-too-far (now (start .args .memory)) (now (start .args .input)) (now (start .args .out)) (start .pre .0) _ (start .pre .1) (at-kept .result) (at-kept .ensures) (at-if1 .taken)) (at-stop .ensures _ _)
-
-after-line-requires : tie.Need-after-line-requires
-after-line-requires c κs = search needs
-
-same-length-2 : tie.Need-same-length-2
-same-length-2 c = search needs
-
-same-length-3 : tie.Need-same-length-3
-same-length-3 c = search needs
 
 returns-2 : tie.Need-returns-2
 returns-2 c =
@@ -44,12 +26,4 @@ returns-2 c =
 pub go-on-spec : {M : Type 1} → statement M
 go-on-spec =
     tie.close
-    (tie.spec
-    kept-requires
-    stop-requires
-    same-length
-    returns
-    after-line-requires
-    same-length-2
-    same-length-3
-    returns-2)
+    (tie.spec (λ c κs. search needs) (λ c κs. search needs) (λ c. search needs) returns (λ c κs. search needs) (λ c. search needs) (λ c. search needs) returns-2)

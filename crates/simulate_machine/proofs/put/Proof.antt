@@ -8,12 +8,6 @@ use borrow.Author.Needs.{needs}
 use Rattle.simulate_machine.proofs.put.Statement.{statement}
 use Rattle.simulate_machine.proofs.put.Tie as tie
 
-flag-requires : tie.Need-flag-requires
-flag-requires c κs = search needs
-
-slice-write-memory : tie.Need-slice-write-memory
-slice-write-memory c = search needs
-
 slice-write-memory-2 : tie.Need-slice-write-memory-2
 slice-write-memory-2 c =
     let start = c .before .before .before in
@@ -71,12 +65,6 @@ slice-write-memory-7 c =
     let m6 = set m5 5 (start .args .k .spacings .to) in
     below m6 6 (omega arith) (set8 m5 5 (start .args .k .spacings .to) (set8 m4 4 (start .args .k .spacings .from) (set8 m3 3 (c .flag .result) (set8 m2 2 (start .args .k .n) (set8 m1 1 (start .args .count) (set8 m0 0 (start .args .phase) (start .pre)))))))
 
-slice-write-memory-8 : tie.Need-slice-write-memory-8
-slice-write-memory-8 c = search needs
-
-same-length : tie.Need-same-length
-same-length c = search needs
-
 returns : tie.Need-returns
 returns c =
     let start = c .before .before .before in
@@ -86,15 +74,5 @@ returns c =
 pub put-spec : {M : Type 1} → statement M
 put-spec =
     tie.close
-    (tie.spec
-    flag-requires
-    slice-write-memory
-    slice-write-memory-2
-    slice-write-memory-3
-    slice-write-memory-4
-    slice-write-memory-5
-    slice-write-memory-6
-    slice-write-memory-7
-    slice-write-memory-8
-    same-length
-    returns)
+    (tie.spec (λ c κs. search needs) (λ c. search needs) slice-write-memory-2 slice-write-memory-3 slice-write-memory-4 slice-write-memory-5 slice-write-memory-6
+    slice-write-memory-7 (λ c. search needs) (λ c. search needs) returns)

@@ -11,9 +11,6 @@ use borrow.Author.Needs.{needs}
 use Rattle.simulate_machine.proofs.step.Statement.{statement}
 use Rattle.simulate_machine.proofs.step.Tie as tie
 
-lacks-room-requires : tie.Need-lacks-room-requires
-lacks-room-requires c κs = search needs
-
 returns : tie.Need-returns
 returns c =
     let start = c .before .before .before .before .before in
@@ -32,12 +29,6 @@ after-count-requires c κs =
     let at-lacks-room = c .before .before .before .before .before .lacks-room in
     let at-if1 = c .before .before .before .before .if1 in
     (room-by _ _ _ (sym (at-lacks-room .ensures) ∙ at-if1 .left))
-
-same-length : tie.Need-same-length
-same-length c = search needs
-
-same-length-2 : tie.Need-same-length-2
-same-length-2 c = search needs
 
 returns-2 : tie.Need-returns-2
 returns-2 c =
@@ -62,12 +53,6 @@ after-word-requires c κs =
     let at-if3 = c .before .before .before .before .if3 in
     ((room-by _ _ _ (sym (at-lacks-room .ensures) ∙ at-if1 .left)), one-most _ (at-if2 .left), at-if3 .taken)
 
-same-length-3 : tie.Need-same-length-3
-same-length-3 c = search needs
-
-same-length-4 : tie.Need-same-length-4
-same-length-4 c = search needs
-
 returns-3 : tie.Need-returns-3
 returns-3 c =
     let start = c .before .before .before .before .before .before .before .before .before .before .before .before .before .before .before .before .before in
@@ -85,12 +70,6 @@ after-last-requires c κs =
     let at-if1 = c .before .before .before .before .before .before .if1 in
     (room-by _ _ _ (sym (at-lacks-room .ensures) ∙ at-if1 .left))
 
-same-length-5 : tie.Need-same-length-5
-same-length-5 c = search needs
-
-same-length-6 : tie.Need-same-length-6
-same-length-6 c = search needs
-
 returns-4 : tie.Need-returns-4
 returns-4 c =
     let start = c .before .before .before .before .before .before .before .before .before .before .before .before .before .before .before .before in
@@ -107,23 +86,11 @@ go-on-requires c κs =
     let at-if5 = c .before .before .if5 in
     ((room-by _ _ _ (sym (at-lacks-room .ensures) ∙ at-if1 .left)), at-if5 .taken)
 
-same-length-7 : tie.Need-same-length-7
-same-length-7 c = search needs
-
-same-length-8 : tie.Need-same-length-8
-same-length-8 c = search needs
-
-returns-5 : tie.Need-returns-5
-returns-5 c = search needs
-
 stop-requires : tie.Need-stop-requires
 stop-requires c κs =
     let at-lacks-room = c .before .before .before .before .before .before .before .lacks-room in
     let at-if1 = c .before .before .before .before .before .before .if1 in
     (room-by _ _ _ (sym (at-lacks-room .ensures) ∙ at-if1 .left)) .0
-
-same-length-9 : tie.Need-same-length-9
-same-length-9 c = search needs
 
 returns-6 : tie.Need-returns-6
 returns-6 c =
@@ -139,27 +106,6 @@ returns-6 c =
 pub step-spec : {M : Type 1} → statement M
 step-spec =
     tie.close
-    (tie.spec
-    lacks-room-requires
-    returns
-    slice-read-phase
-    after-count-requires
-    same-length
-    same-length-2
-    returns-2
-    kept-requires
-    after-word-requires
-    same-length-3
-    same-length-4
-    returns-3
-    after-last-requires
-    same-length-5
-    same-length-6
-    returns-4
-    go-on-requires
-    same-length-7
-    same-length-8
-    returns-5
-    stop-requires
-    same-length-9
-    returns-6)
+    (tie.spec (λ c κs. search needs) returns slice-read-phase after-count-requires (λ c. search needs) (λ c. search needs) returns-2 kept-requires after-word-requires
+    (λ c. search needs) (λ c. search needs) returns-3 after-last-requires (λ c. search needs) (λ c. search needs) returns-4 go-on-requires (λ c. search needs)
+    (λ c. search needs) (λ c. search needs) stop-requires (λ c. search needs) returns-6)

@@ -15,21 +15,6 @@ use borrow.Author.Needs.{needs}
 use Rattle.simulate_machine.proofs.table.Statement.{statement}
 use Rattle.simulate_machine.proofs.table.Tie as tie
 
-is-refused-requires : tie.Need-is-refused-requires
-is-refused-requires c κs = search needs
-
-write-refused-requires : tie.Need-write-refused-requires
-write-refused-requires c κs = search needs
-
-tell-requires : tie.Need-tell-requires
-tell-requires c κs = search needs
-
-same-length : tie.Need-same-length
-same-length c = search needs
-
-same-length-2 : tie.Need-same-length-2
-same-length-2 c = search needs
-
 returns : tie.Need-returns
 returns c =
     let start = c .before .before .before .before .before .before .before .before .before .before .before .before .before .before .before in
@@ -39,12 +24,6 @@ returns c =
     let at-tell = c .before .before .tell in
     stands-as _ _ _ _ _ _ (tabled-refused (start .args .k) (sym (at-is-refused .ensures) ∙ at-if1 .taken) ∙ ap Telling (sym (front-text (now (start .args .out)) _ (at-write-refused .last .0) (at-write-refused .result) (at-write-refused .ensures .0) (omega (arith, at-write-refused .ensures .1, start .pre .2))))) (at-tell .ensures)
 
-slice-aggregate-write-word : tie.Need-slice-aggregate-write-word
-slice-aggregate-write-word c = search needs
-
-write-word-requires : tie.Need-write-word-requires
-write-word-requires c κs = search needs
-
 tabulate-requires : tie.Need-tabulate-requires
 tabulate-requires c κs =
     let start = c .before .before .before .before .before .before .before .before .before .before .before .before .before in
@@ -52,12 +31,6 @@ tabulate-requires c κs =
     let at-is-refused = c .before .before .before .before .before .before .before .before .is-refused in
     let at-if1 = c .before .before .before .before .before .before .before .if1 in
     ((start .pre .0, start .pre .1, omega (arith, at-write-word .kept .0, start .pre .2)), omega (arith, at-write-word .ensures .next-place), in-table (start .args .k .n) (start .args .k .spacings .from) (start .args .k .spacings .to) (start .args .k .steps) (sym (at-is-refused .ensures) ∙ at-if1 .left) .1)
-
-same-length-3 : tie.Need-same-length-3
-same-length-3 c = search needs
-
-same-length-4 : tie.Need-same-length-4
-same-length-4 c = search needs
 
 returns-2 : tie.Need-returns-2
 returns-2 c =
@@ -71,16 +44,5 @@ returns-2 c =
 pub table-spec : {M : Type 1} → statement M
 table-spec =
     tie.close
-    (tie.spec
-    is-refused-requires
-    write-refused-requires
-    tell-requires
-    same-length
-    same-length-2
-    returns
-    slice-aggregate-write-word
-    write-word-requires
-    tabulate-requires
-    same-length-3
-    same-length-4
-    returns-2)
+    (tie.spec (λ c κs. search needs) (λ c κs. search needs) (λ c κs. search needs) (λ c. search needs) (λ c. search needs) returns (λ c. search needs)
+    (λ c κs. search needs) tabulate-requires (λ c. search needs) (λ c. search needs) returns-2)

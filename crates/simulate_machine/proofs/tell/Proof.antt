@@ -7,15 +7,6 @@ use borrow.Author.Needs.{needs}
 use Rattle.simulate_machine.proofs.tell.Statement.{statement}
 use Rattle.simulate_machine.proofs.tell.Tie as tie
 
-no-numbers-requires : tie.Need-no-numbers-requires
-no-numbers-requires c κs = search needs
-
-put-requires : tie.Need-put-requires
-put-requires c κs = search needs
-
-same-length : tie.Need-same-length
-same-length c = search needs
-
 returns : tie.Need-returns
 returns c =
     let start = c .before .before .before .before .before .before .before .before in
@@ -23,4 +14,4 @@ returns c =
     telling-stands _ (now (start .args .input)) (now (start .args .out)) (omega (arith, at-put .kept .0, start .pre .0 .0), start .pre .0 .1, start .pre .0 .2) _ (start .args .size) (omega (arith, start .pre .1, start .pre .0 .2)) (at-put .ensures)
 
 pub tell-spec : {M : Type 1} → statement M
-tell-spec = tie.close (tie.spec no-numbers-requires put-requires same-length returns)
+tell-spec = tie.close (tie.spec (λ c κs. search needs) (λ c κs. search needs) (λ c. search needs) returns)

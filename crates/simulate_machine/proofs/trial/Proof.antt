@@ -7,24 +7,6 @@ use borrow.Author.Needs.{needs}
 use Rattle.simulate_machine.proofs.trial.Statement.{statement}
 use Rattle.simulate_machine.proofs.trial.Tie as tie
 
-clamped-requires : tie.Need-clamped-requires
-clamped-requires c κs = search needs
-
-clamped-requires-2 : tie.Need-clamped-requires-2
-clamped-requires-2 c κs = search needs
-
-clamped-requires-3 : tie.Need-clamped-requires-3
-clamped-requires-3 c κs = search needs
-
-clamped-requires-4 : tie.Need-clamped-requires-4
-clamped-requires-4 c κs = search needs
-
-cast-simulate : tie.Need-cast-simulate
-cast-simulate c = search needs
-
-simulate-requires : tie.Need-simulate-requires
-simulate-requires c κs = search needs
-
 returns : tie.Need-returns
 unfolding trialOf
 returns c =
@@ -37,12 +19,4 @@ returns c =
 
 pub trial-spec : {M : Type 1} → statement M
 trial-spec =
-    tie.close
-    (tie.spec
-    clamped-requires
-    clamped-requires-2
-    clamped-requires-3
-    clamped-requires-4
-    cast-simulate
-    simulate-requires
-    returns)
+    tie.close (tie.spec (λ c κs. search needs) (λ c κs. search needs) (λ c κs. search needs) (λ c κs. search needs) (λ c. search needs) (λ c κs. search needs) returns)

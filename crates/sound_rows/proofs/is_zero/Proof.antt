@@ -30,5 +30,4 @@ returns c = let e : c .before .loop .f ≡ 16 = omega arith in rw e at (c .befor
 
 pub is-zero-spec : {M : Type 1} → statement M
 is-zero-spec =
-    tie.close
-    (tie.spec Inv-loop μ-loop loop-holds (λ c. search needs) (λ c. search needs) (λ c. search needs) (λ c. search needs) loop-again returns)
+    tie.close (tie.spec Inv-loop μ-loop loop-holds (λ c. search needs) (λ c. search needs) (λ c. search needs) (λ c. search needs) loop-again returns)

@@ -57,17 +57,5 @@ returns-2 c = let al = c .before in
 pub are-processes-sound-spec : {M : Type 1} → statement M
 are-processes-sound-spec =
     tie.close
-    (tie.spec
-    Inv-loop
-    μ-loop
-    (λ c κs. search needs)
-    loop-holds
-    is-sound-requires
-    returns
-    blocks-kept-requires
-    add-blocks
-    (λ c. search needs)
-    (λ c. search needs)
-    loop-again
-    is-balanced-requires
-    returns-2)
+    (tie.spec Inv-loop μ-loop (λ c κs. search needs) loop-holds is-sound-requires returns blocks-kept-requires add-blocks (λ c. search needs) (λ c. search needs)
+    loop-again is-balanced-requires returns-2)

@@ -43,14 +43,5 @@ returns-5 c = let e = c .before in
 pub is-sound-spec : {M : Type 1} → statement M
 is-sound-spec =
     tie.close
-    (tie.spec
-    returns
-    (λ c. search needs)
-    (λ c κs. search needs)
-    returns-2
-    returns-3
-    (λ c κs. search needs)
-    (λ c κs. search needs)
-    returns-4
-    (λ c κs. search needs)
+    (tie.spec returns (λ c. search needs) (λ c κs. search needs) returns-2 returns-3 (λ c κs. search needs) (λ c κs. search needs) returns-4 (λ c κs. search needs)
     returns-5)

@@ -22,8 +22,5 @@ returns-3 c = rw (c .before .before .before .a3 .given .1, c .accepted2 .ensures
 pub of-deliver-spec : {M : Type 1} → statement M
 of-deliver-spec =
     tie.close
-    (tie.spec
-    (λ c. search needs) (λ c κs. search needs) (λ c. search needs) (λ c κs. search needs) (λ c. search needs) (λ c. search needs) (λ c κs. search needs)
-    returns
-    returns-2
-    returns-3)
+    (tie.spec (λ c. search needs) (λ c κs. search needs) (λ c. search needs) (λ c κs. search needs) (λ c. search needs) (λ c. search needs) (λ c κs. search needs)
+    returns returns-2 returns-3)

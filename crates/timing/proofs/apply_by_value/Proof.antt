@@ -12,9 +12,6 @@ Inv-loop trace run₀ accepted₀ taken₀ run accepted taken = accepted ≤ tak
 abbrev μ-loop : tie.MeasureT-loop
 μ-loop trace run₀ accepted₀ taken₀ run accepted taken = length trace - 4 * taken
 
-loop-holds : tie.Need-loop-holds Inv-loop μ-loop
-loop-holds c = search needs
-
 add-accepted : tie.Need-add-accepted Inv-loop μ-loop
 add-accepted c = let left = c .before .before .before .before .before .before .before .takes-next .ensures (c .before .before .before .before .before .before .if1 .taken) in omega (arith, left .0, c .before .before .before .before .before .before .before .before .loop .inv, c .one-if .ensures)
 
@@ -27,19 +24,8 @@ loop-less c = let left = c .before .before .before .before .before .before .befo
 loop-again : tie.Need-loop-again Inv-loop μ-loop
 loop-again c = omega (arith, c .before .before .before .before .before .before .before .before .loop .inv, c .one-if .ensures)
 
-returns : tie.Need-returns Inv-loop μ-loop
-returns c = search needs
-
 pub apply-by-value-spec : {M : Type 1} → statement M
 apply-by-value-spec =
     tie.close
-    (tie.spec
-    Inv-loop
-    μ-loop
-    loop-holds
-    (λ c κs. search needs) (λ c κs. search needs) (λ c κs. search needs) (λ c κs. search needs) (λ c κs. search needs)
-    add-accepted
-    add-taken
-    loop-less
-    loop-again
-    returns)
+    (tie.spec Inv-loop μ-loop (λ c. search needs) (λ c κs. search needs) (λ c κs. search needs) (λ c κs. search needs) (λ c κs. search needs) (λ c κs. search needs)
+    add-accepted add-taken loop-less loop-again (λ c. search needs))

@@ -64,24 +64,8 @@ same-length-2 c = c .before .before .loop .inv .2 ∙ sym (c .before .before .be
 same-length-3 : tie.Need-same-length-3 Inv-loop μ-loop
 same-length-3 c = c .before .before .loop .inv .3 ∙ sym (c .before .before .before .before .before .before .before .pre .2)
 
-returns : tie.Need-returns Inv-loop μ-loop
-returns c = search needs
-
 pub apply-all-spec : {M : Type 1} → statement M
 apply-all-spec =
     tie.close
-    (tie.spec
-    Inv-loop
-    μ-loop
-    loop-holds
-    (λ c κs. search needs) (λ c κs. search needs) (λ c κs. search needs)
-    apply-requires
-    (λ c κs. search needs)
-    add-accepted
-    add-taken
-    loop-less
-    loop-again
-    same-length
-    same-length-2
-    same-length-3
-    returns)
+    (tie.spec Inv-loop μ-loop loop-holds (λ c κs. search needs) (λ c κs. search needs) (λ c κs. search needs) apply-requires (λ c κs. search needs) add-accepted
+    add-taken loop-less loop-again same-length same-length-2 same-length-3 (λ c. search needs))

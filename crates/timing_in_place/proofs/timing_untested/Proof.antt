@@ -19,9 +19,5 @@ apply-all-requires c κs =
 pub timing-untested-spec : {M : Type 1} → statement M
 timing-untested-spec =
     tie.close
-    (tie.spec
-    (λ c. search needs)
-    (λ c κs. search needs) (λ c κs. search needs)
-    (λ c. search needs) (λ c. search needs) (λ c. search needs) (λ c. search needs)
-    apply-all-requires
-    (λ c. search needs) (λ c. search needs))
+    (tie.spec (λ c. search needs) (λ c κs. search needs) (λ c κs. search needs) (λ c. search needs) (λ c. search needs) (λ c. search needs) (λ c. search needs)
+    apply-all-requires (λ c. search needs) (λ c. search needs))

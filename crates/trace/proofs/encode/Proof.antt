@@ -62,5 +62,4 @@ returns-3 c =
 
 pub encode-spec : {M : Type 1} → statement M
 encode-spec =
-    tie.close
-    (tie.spec (λ c κs. search needs) word-of-requires (λ c κs. search needs) returns returns-2 returns-3)
+    tie.close (tie.spec (λ c κs. search needs) word-of-requires (λ c κs. search needs) returns returns-2 returns-3)

@@ -43,14 +43,5 @@ returns-3 c =
 pub act-spec : {M : Type 1} → statement M
 act-spec =
     tie.close
-    (tie.spec
-    (λ c κs. search needs)
-    (λ c κs. search needs)
-    (λ c. c .before .before .send .kept .0)
-    returns
-    (λ c κs. search needs)
-    (λ c. c .before .before .deliver .kept .0)
-    returns-2
-    (λ c κs. search needs)
-    (λ c. c .before .before .send2 .kept .0)
-    returns-3)
+    (tie.spec (λ c κs. search needs) (λ c κs. search needs) (λ c. c .before .before .send .kept .0) returns (λ c κs. search needs)
+    (λ c. c .before .before .deliver .kept .0) returns-2 (λ c κs. search needs) (λ c. c .before .before .send2 .kept .0) returns-3)

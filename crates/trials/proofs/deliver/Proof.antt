@@ -15,4 +15,6 @@ returns c =
     (g .0 ∙ deliver-leaves (runOf (a .w .now)) (a .number), deliver-is (runOf (a .w .now)) (a .number) (o .deliver-on .result .answer) (c .forced-by .result) (g .1 .0) (c .forced-by .ensures))
 
 pub deliver-spec : {M : Type 1} → statement M
-deliver-spec = tie.close (tie.spec (λ c. search needs) (λ c κs. search needs) (λ c κs. search needs) (λ c. c .before .before .before .before .deliver-on .kept .0) returns)
+deliver-spec =
+    tie.close
+    (tie.spec (λ c. search needs) (λ c κs. search needs) (λ c κs. search needs) (λ c. c .before .before .before .before .deliver-on .kept .0) returns)

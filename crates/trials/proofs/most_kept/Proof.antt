@@ -44,16 +44,6 @@ returns c =
 pub most-kept-spec : {M : Type 1} → statement M
 most-kept-spec =
     tie.close
-    (tie.spec
-    Inv-loop
-    μ-loop
-    loop-holds
-    (λ c. let few = below c in search needs)
-    (λ c. let few = below c in search needs)
-    shared-slice-read-count
-    (λ c. omega (arith, c .shared-slice-known2 .given (heldAt (c .before .before .loop .p))))
-    (λ c κs. search needs)
-    (λ c. search needs)
-    (λ c. search needs)
-    loop-again
+    (tie.spec Inv-loop μ-loop loop-holds (λ c. let few = below c in search needs) (λ c. let few = below c in search needs) shared-slice-read-count
+    (λ c. omega (arith, c .shared-slice-known2 .given (heldAt (c .before .before .loop .p)))) (λ c κs. search needs) (λ c. search needs) (λ c. search needs) loop-again
     returns)

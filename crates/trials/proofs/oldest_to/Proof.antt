@@ -71,19 +71,8 @@ returns-2 c =
 pub oldest-to-spec : {M : Type 1} → statement M
 oldest-to-spec =
     tie.close
-    (tie.spec
-    Inv-loop
-    μ-loop
-    (λ c. let s = c .before .before in omega (arith, sound-words (s .args .w .now) (s .pre) .size))
-    (λ c. omega (arith, c .shared-slice-known2 .given 12))
-    loop-holds
-    number-at-requires
-    (λ c. let few = in-use (c .before) in search needs)
-    (λ c. let few = in-use (c .before) in search needs)
-    shared-slice-read-to
-    (λ c. omega (arith, c .shared-slice-known3 .given (receiverAt (c .before .before .before .loop .k))))
-    returns
-    (λ c. let few = in-use (c .before .before .before) in search needs)
-    (λ c. search needs)
-    loop-again
-    returns-2)
+    (tie.spec Inv-loop μ-loop (λ c. let s = c .before .before in omega (arith, sound-words (s .args .w .now) (s .pre) .size))
+    (λ c. omega (arith, c .shared-slice-known2 .given 12)) loop-holds number-at-requires (λ c. let few = in-use (c .before) in search needs)
+    (λ c. let few = in-use (c .before) in search needs) shared-slice-read-to
+    (λ c. omega (arith, c .shared-slice-known3 .given (receiverAt (c .before .before .before .loop .k)))) returns
+    (λ c. let few = in-use (c .before .before .before) in search needs) (λ c. search needs) loop-again returns-2)

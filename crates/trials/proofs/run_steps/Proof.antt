@@ -46,14 +46,5 @@ returns c =
 pub run-steps-spec : {M : Type 1} → statement M
 run-steps-spec =
     tie.close
-    (tie.spec
-    Inv-loop
-    μ-loop
-    (λ c κs. search needs)
-    loop-holds
-    step-requires
-    (λ c. search needs)
-    (λ c. search needs)
-    loop-again
-    (λ c. let l = c .before in l .loop .inv .1 ∙ l .before .before .before .begin .kept .0)
-    returns)
+    (tie.spec Inv-loop μ-loop (λ c κs. search needs) loop-holds step-requires (λ c. search needs) (λ c. search needs) loop-again
+    (λ c. let l = c .before in l .loop .inv .1 ∙ l .before .before .before .begin .kept .0) returns)

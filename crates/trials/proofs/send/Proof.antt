@@ -49,14 +49,6 @@ returns-3 c =
 pub send-spec : {M : Type 1} → statement M
 send-spec =
     tie.close
-    (tie.spec
-    (λ c κs. search needs)
-    returns
-    (λ c. let s = c .before .before .before in omega (arith, sound-words (s .args .w .now) (s .pre .0) .size))
-    (λ c. omega (arith, c .slice-known2 .given 1))
-    (λ c κs. search needs)
-    returns-2
-    (λ c κs. search needs)
-    (λ c κs. search needs)
-    (λ c. c .before .before .send-on .kept .0)
-    returns-3)
+    (tie.spec (λ c κs. search needs) returns (λ c. let s = c .before .before .before in omega (arith, sound-words (s .args .w .now) (s .pre .0) .size))
+    (λ c. omega (arith, c .slice-known2 .given 1)) (λ c κs. search needs) returns-2 (λ c κs. search needs) (λ c κs. search needs)
+    (λ c. c .before .before .send-on .kept .0) returns-3)

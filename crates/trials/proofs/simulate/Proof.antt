@@ -71,14 +71,5 @@ returns-4 c =
 pub simulate-spec : {M : Type 1} → statement M
 simulate-spec =
     tie.close
-    (tie.spec
-    (λ c κs. search needs) (λ c κs. search needs)
-    returns
-    (λ c κs. search needs) (λ c κs. search needs)
-    returns-2
-    (λ c κs. search needs) (λ c κs. search needs)
-    returns-3
-    (λ c. search needs)
-    run-steps-requires
-    result-of-requires
-    returns-4)
+    (tie.spec (λ c κs. search needs) (λ c κs. search needs) returns (λ c κs. search needs) (λ c κs. search needs) returns-2 (λ c κs. search needs)
+    (λ c κs. search needs) returns-3 (λ c. search needs) run-steps-requires result-of-requires returns-4)

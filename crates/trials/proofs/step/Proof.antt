@@ -152,21 +152,7 @@ returns c =
 pub step-spec : {M : Type 1} → statement M
 step-spec =
     tie.close
-    (tie.spec
-    (λ c κs. search needs) (λ c κs. search needs) (λ c κs. search needs) (λ c. search needs)
-    rem-p
-    (λ c κs. search needs)
-    mul-before
-    array-read-before
-    act-requires
-    is-due-requires
-    rest-requires
-    add-acted
-    mul-acted
-    array-write-acted
-    most-kept-requires
-    (λ c κs. search needs)
-    add-deliveries
-    add-forced
+    (tie.spec (λ c κs. search needs) (λ c κs. search needs) (λ c κs. search needs) (λ c. search needs) rem-p (λ c κs. search needs) mul-before array-read-before
+    act-requires is-due-requires rest-requires add-acted mul-acted array-write-acted most-kept-requires (λ c κs. search needs) add-deliveries add-forced
     (λ c. c .before .before .before .before .before .before .before .before .before .before .rest .kept .0 ∙ c .before .before .before .before .before .before .before .before .before .before .before .before .before .before .before .act .kept .0)
     returns)

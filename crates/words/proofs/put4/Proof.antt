@@ -21,12 +21,6 @@ returns c = simp set-is-put
 pub put4-spec : {M : Type 1} → statement M
 put4-spec =
     tie.close
-    (tie.spec
-    (λ c. search needs) (λ c. search needs) (λ c. search needs) (λ c. search needs) (λ c. search needs) (λ c. search needs)
-    slice-write-w-2
-    (λ c. search needs) (λ c. search needs) (λ c. search needs)
-    slice-write-w-3
-    (λ c. search needs) (λ c. search needs) (λ c. search needs)
-    slice-write-w-4
-    (λ c. search needs)
-    returns)
+    (tie.spec (λ c. search needs) (λ c. search needs) (λ c. search needs) (λ c. search needs) (λ c. search needs) (λ c. search needs) slice-write-w-2
+    (λ c. search needs) (λ c. search needs) (λ c. search needs) slice-write-w-3 (λ c. search needs) (λ c. search needs) (λ c. search needs) slice-write-w-4
+    (λ c. search needs) returns)

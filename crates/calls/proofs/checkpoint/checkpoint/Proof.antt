@@ -82,14 +82,6 @@ returns-3 c =
 pub checkpoint-spec : {M : Type 1} → statement M
 checkpoint-spec =
     tie.close
-    (tie.spec
-    (λ c. search needs) (λ c κs. search needs) (λ c. search needs) (λ c κs. search needs)
-    returns
-    (λ c. search needs)
-    checkpoint-on-requires
-    (λ c. search needs) (λ c. search needs) (λ c. search needs)
-    read-requires
-    (λ c. c .before .before .before .before .before .checkpoint-on .kept .1 .1 .0)
-    returns-2
-    (λ c. c .before .before .before .before .before .before .before .checkpoint-on .kept .1 .1 .0)
-    returns-3)
+    (tie.spec (λ c. search needs) (λ c κs. search needs) (λ c. search needs) (λ c κs. search needs) returns (λ c. search needs) checkpoint-on-requires
+    (λ c. search needs) (λ c. search needs) (λ c. search needs) read-requires (λ c. c .before .before .before .before .before .checkpoint-on .kept .1 .1 .0) returns-2
+    (λ c. c .before .before .before .before .before .before .before .checkpoint-on .kept .1 .1 .0) returns-3)

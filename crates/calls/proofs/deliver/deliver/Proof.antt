@@ -88,14 +88,6 @@ returns-3 c =
 pub deliver-spec : {M : Type 1} → statement M
 deliver-spec =
     tie.close
-    (tie.spec
-    (λ c. search needs) (λ c κs. search needs) (λ c. search needs) (λ c κs. search needs)
-    returns
-    (λ c. search needs)
-    deliver-on-requires
-    (λ c. search needs) (λ c. search needs)
-    read-requires
-    (λ c. c .before .before .before .before .before .deliver-on .kept .1 .1 .0)
-    returns-2
-    (λ c. c .before .before .before .before .before .before .deliver-on .kept .1 .1 .0)
-    returns-3)
+    (tie.spec (λ c. search needs) (λ c κs. search needs) (λ c. search needs) (λ c κs. search needs) returns (λ c. search needs) deliver-on-requires (λ c. search needs)
+    (λ c. search needs) read-requires (λ c. c .before .before .before .before .before .deliver-on .kept .1 .1 .0) returns-2
+    (λ c. c .before .before .before .before .before .before .deliver-on .kept .1 .1 .0) returns-3)

@@ -56,10 +56,4 @@ returns-2 c =
 pub line-spec : {M : Type 1} → statement M
 line-spec =
     tie.close
-    (tie.spec
-    (λ c. search needs) (λ c κs. search needs) (λ c. search needs) (λ c κs. search needs)
-    returns
-    (λ c. search needs)
-    line-on-requires
-    same-length
-    returns-2)
+    (tie.spec (λ c. search needs) (λ c κs. search needs) (λ c. search needs) (λ c κs. search needs) returns (λ c. search needs) line-on-requires same-length returns-2)

@@ -88,14 +88,5 @@ returns-3 c =
 pub recover-spec : {M : Type 1} → statement M
 recover-spec =
     tie.close
-    (tie.spec
-    (λ c. search needs) (λ c κs. search needs) (λ c. search needs) (λ c κs. search needs)
-    returns
-    (λ c. search needs)
-    recover-on-requires
-    (λ c. search needs) (λ c. search needs) (λ c. search needs)
-    read-requires
-    (λ c. search needs) (λ c. search needs)
-    returns-2
-    (λ c. search needs) (λ c. search needs)
-    returns-3)
+    (tie.spec (λ c. search needs) (λ c κs. search needs) (λ c. search needs) (λ c κs. search needs) returns (λ c. search needs) recover-on-requires (λ c. search needs)
+    (λ c. search needs) (λ c. search needs) read-requires (λ c. search needs) (λ c. search needs) returns-2 (λ c. search needs) (λ c. search needs) returns-3)

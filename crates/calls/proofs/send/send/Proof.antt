@@ -72,12 +72,5 @@ returns-3 c =
 pub send-spec : {M : Type 1} → statement M
 send-spec =
     tie.close
-    (tie.spec
-    (λ c. search needs) (λ c κs. search needs) (λ c. search needs) (λ c κs. search needs)
-    returns
-    (λ c. search needs)
-    send-on-requires
-    (λ c. search needs) (λ c. search needs) (λ c. search needs)
-    read-sent-requires
-    returns-2
-    returns-3)
+    (tie.spec (λ c. search needs) (λ c κs. search needs) (λ c. search needs) (λ c κs. search needs) returns (λ c. search needs) send-on-requires (λ c. search needs)
+    (λ c. search needs) (λ c. search needs) read-sent-requires returns-2 returns-3)

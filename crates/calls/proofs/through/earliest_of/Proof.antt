@@ -71,11 +71,5 @@ returns-2 c l e =
 pub earliest-of-spec : {M : Type 1} → statement M
 earliest-of-spec =
     tie.close
-    (tie.spec
-    (λ c. search needs) (λ c κs. search needs) (λ c. search needs) (λ c κs. search needs)
-    returns
-    (λ c κs. search needs) (λ c. search needs) (λ c. search needs) (λ c. search needs)
-    part-earliest-on-end
-    earliest-on-requires
-    (λ c. search needs)
-    returns-2)
+    (tie.spec (λ c. search needs) (λ c κs. search needs) (λ c. search needs) (λ c κs. search needs) returns (λ c κs. search needs) (λ c. search needs)
+    (λ c. search needs) (λ c. search needs) part-earliest-on-end earliest-on-requires (λ c. search needs) returns-2)

@@ -12,11 +12,4 @@ slice-aggregate-list c = let l = c .before in sym (length-take-le (l .room .resu
 pub list-spec : {M : Type 1} → statement M
 list-spec =
     tie.close
-    (tie.spec
-    (λ c κs. search needs)
-    (λ c κs. search needs)
-    (λ c. search needs)
-    slice-aggregate-list
-    (λ c κs. search needs)
-    (λ c κs. search needs)
-    (λ c. search needs))
+    (tie.spec (λ c κs. search needs) (λ c κs. search needs) (λ c. search needs) slice-aggregate-list (λ c κs. search needs) (λ c κs. search needs) (λ c. search needs))

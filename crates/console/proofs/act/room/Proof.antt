@@ -14,9 +14,4 @@ returns c = omega (arith, c .cut .ensures, twice-square (c .before .args .n) (c 
 
 pub room-spec : {M : Type 1} → statement M
 room-spec =
-    tie.close
-    (tie.spec
-    (λ c. search needs)
-    mul-cut-2
-    (λ c κs. search needs)
-    returns)
+    tie.close (tie.spec (λ c. search needs) mul-cut-2 (λ c κs. search needs) returns)

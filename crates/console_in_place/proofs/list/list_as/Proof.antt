@@ -82,15 +82,5 @@ returns-4 c =
 pub list-as-spec : {M : Type 1} → statement M
 list-as-spec =
     tie.close
-    (tie.spec
-    (λ c κs. search needs)
-    returns
-    (λ c κs. search needs)
-    returns-2
-    shared-slice-read-number-of
-    (λ c κs. search needs)
-    are-deletions-short-requires
-    returns-3
-    write-list-requires
-    (λ c. search needs)
-    returns-4)
+    (tie.spec (λ c κs. search needs) returns (λ c κs. search needs) returns-2 shared-slice-read-number-of (λ c κs. search needs) are-deletions-short-requires returns-3
+    write-list-requires (λ c. search needs) returns-4)

@@ -73,15 +73,4 @@ returns c =
 
 pub write-list-spec : {M : Type 1} → statement M
 write-list-spec =
-    tie.close
-    (tie.spec
-    Inv-loop
-    μ-loop
-    loop-holds
-    write-part-requires
-    add-count
-    (λ c. search needs)
-    (λ c. search needs)
-    loop-again
-    same-length
-    returns)
+    tie.close (tie.spec Inv-loop μ-loop loop-holds write-part-requires add-count (λ c. search needs) (λ c. search needs) loop-again same-length returns)

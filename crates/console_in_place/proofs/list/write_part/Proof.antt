@@ -73,16 +73,5 @@ returns-2 c =
 pub write-part-spec : {M : Type 1} → statement M
 write-part-spec =
     tie.close
-    (tie.spec
-    shared-slice-read-number-of
-    (λ c κs. search needs)
-    (λ c κs. search needs)
-    returns
-    held-at-requires
-    mul-number-of
-    shared-slice-read-number-of-2
-    (λ c κs. search needs)
-    (λ c. search needs)
-    write-kept-requires
-    (λ c. search needs)
-    returns-2)
+    (tie.spec shared-slice-read-number-of (λ c κs. search needs) (λ c κs. search needs) returns held-at-requires mul-number-of shared-slice-read-number-of-2
+    (λ c κs. search needs) (λ c. search needs) write-kept-requires (λ c. search needs) returns-2)

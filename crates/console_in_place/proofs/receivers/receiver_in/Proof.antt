@@ -43,5 +43,4 @@ returns-2 c =
 
 pub receiver-in-spec : {M : Type 1} → statement M
 receiver-in-spec =
-    tie.close
-    (tie.spec shared-slice-read-number-of (λ c κs. search needs) shared-slice-read-number-of-2 (λ c κs. search needs) search-requires returns returns-2)
+    tie.close (tie.spec shared-slice-read-number-of (λ c κs. search needs) shared-slice-read-number-of-2 (λ c κs. search needs) search-requires returns returns-2)

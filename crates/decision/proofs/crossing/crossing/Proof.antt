@@ -35,16 +35,5 @@ returns-3 c = rw (ne-eqb _ _ (c .before .before .before .before .if1 .left), ←
 pub crossing-spec : {M : Type 1} → statement M
 crossing-spec =
     tie.close
-    (tie.spec
-    (λ c. search needs)
-    (λ c. search needs)
-    returns
-    (λ c. search needs)
-    (λ c. search needs)
-    (λ c. search needs)
-    cast-entry
-    entry-requires
-    cast-entry-2
-    entry-requires-2
-    returns-2
-    returns-3)
+    (tie.spec (λ c. search needs) (λ c. search needs) returns (λ c. search needs) (λ c. search needs) (λ c. search needs) cast-entry entry-requires cast-entry-2
+    entry-requires-2 returns-2 returns-3)

@@ -34,14 +34,4 @@ returns-2 c = let l = c .before .loop in record { at = λ e. absurd (false≢tru
 
 pub near-end-spec : {M : Type 1} → statement M
 near-end-spec =
-    tie.close
-    (tie.spec
-    Inv-loop
-    μ-loop
-    loop-holds
-    least-crossing-requires
-    returns
-    (λ c. search needs)
-    (λ c. search needs)
-    loop-again
-    returns-2)
+    tie.close (tie.spec Inv-loop μ-loop loop-holds least-crossing-requires returns (λ c. search needs) (λ c. search needs) loop-again returns-2)

@@ -42,17 +42,5 @@ returns-2 c = let l = c .before .loop in record { at = λ e. absurd (false≢tru
 pub far-end-spec : {M : Type 1} → statement M
 far-end-spec =
     tie.close
-    (tie.spec
-    Inv-loop
-    μ-loop
-    loop-holds
-    (λ c. search needs)
-    (λ c. search needs)
-    cast-row
-    entry-requires
-    entry-requires-2
-    returns
-    (λ c. search needs)
-    (λ c. search needs)
-    loop-again
-    returns-2)
+    (tie.spec Inv-loop μ-loop loop-holds (λ c. search needs) (λ c. search needs) cast-row entry-requires entry-requires-2 returns (λ c. search needs)
+    (λ c. search needs) loop-again returns-2)

@@ -35,13 +35,4 @@ returns c = let l = c .before .before .loop in let w = one-pass _ _ _ _ (c .befo
 
 pub closure-spec : {M : Type 1} → statement M
 closure-spec =
-    tie.close
-    (tie.spec
-    Inv-loop
-    μ-loop
-    pass-over-requires
-    loop-holds
-    pass-over-requires-2
-    loop-less
-    loop-again
-    returns)
+    tie.close (tie.spec Inv-loop μ-loop pass-over-requires loop-holds pass-over-requires-2 loop-less loop-again returns)

@@ -38,16 +38,5 @@ returns-2 c = let l = c .before .loop in record { within = omega arith; here = �
 pub first-row-spec : {M : Type 1} → statement M
 first-row-spec =
     tie.close
-    (tie.spec
-    Inv-loop
-    μ-loop
-    loop-holds
-    (λ c. search needs)
-    (λ c. search needs)
-    cast-q
-    entry-requires
-    returns
-    (λ c. search needs)
-    (λ c. search needs)
-    loop-again
+    (tie.spec Inv-loop μ-loop loop-holds (λ c. search needs) (λ c. search needs) cast-q entry-requires returns (λ c. search needs) (λ c. search needs) loop-again
     returns-2)

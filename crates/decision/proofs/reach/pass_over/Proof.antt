@@ -26,5 +26,4 @@ returns c = let l = c .before .loop in let e : l .m ≡ 0 = omega arith in rw e 
 
 pub pass-over-spec : {M : Type 1} → statement M
 pass-over-spec =
-    tie.close
-    (tie.spec Inv-loop μ-loop loop-holds (λ c. search needs) (λ c κs. search needs) (λ c. search needs) loop-again returns)
+    tie.close (tie.spec Inv-loop μ-loop loop-holds (λ c. search needs) (λ c κs. search needs) (λ c. search needs) loop-again returns)

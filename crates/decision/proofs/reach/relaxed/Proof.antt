@@ -46,20 +46,5 @@ returns-2 c = rw (ne-eqb _ _ (c .before .before .before .before .if1 .left)) (c 
 pub relaxed-spec : {M : Type 1} → statement M
 relaxed-spec =
     tie.close
-    (tie.spec
-    (λ c. search needs)
-    (λ c. search needs)
-    returns
-    (λ c. search needs)
-    (λ c. search needs)
-    (λ c. search needs)
-    cast-s
-    mul-s
-    shared-slice-read-s
-    cast-q
-    mul-q
-    shared-slice-read-q
-    cast-lowered
-    cast-lowered-2
-    lowered-requires
-    returns-2)
+    (tie.spec (λ c. search needs) (λ c. search needs) returns (λ c. search needs) (λ c. search needs) (λ c. search needs) cast-s mul-s shared-slice-read-s cast-q mul-q
+    shared-slice-read-q cast-lowered cast-lowered-2 lowered-requires returns-2)

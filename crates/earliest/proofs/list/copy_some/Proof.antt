@@ -43,13 +43,5 @@ returns c =
 pub copy-some-spec : {M : Type 1} → statement M
 copy-some-spec =
     tie.close
-    (tie.spec
-    Inv-loop
-    μ-loop
-    (λ c κs. search needs)
-    loop-holds
-    (λ c. search needs) (λ c. search needs)
-    with-element-requires
-    (λ c. search needs) (λ c. search needs)
-    loop-again
-    returns)
+    (tie.spec Inv-loop μ-loop (λ c κs. search needs) loop-holds (λ c. search needs) (λ c. search needs) with-element-requires (λ c. search needs) (λ c. search needs)
+    loop-again returns)

@@ -23,9 +23,4 @@ returns c =
 
 pub checkpoint-spec : {M : Type 1} → statement M
 checkpoint-spec =
-    tie.close
-    (tie.spec
-    (λ c. search needs)
-    slice-aggregate-checkpoint
-    (λ c κs. search needs) (λ c κs. search needs)
-    returns)
+    tie.close (tie.spec (λ c. search needs) slice-aggregate-checkpoint (λ c κs. search needs) (λ c κs. search needs) returns)

@@ -23,9 +23,4 @@ returns c =
 
 pub deliver-spec : {M : Type 1} → statement M
 deliver-spec =
-    tie.close
-    (tie.spec
-    (λ c. search needs)
-    slice-aggregate-deliver
-    (λ c κs. search needs) (λ c κs. search needs)
-    returns)
+    tie.close (tie.spec (λ c. search needs) slice-aggregate-deliver (λ c κs. search needs) (λ c κs. search needs) returns)

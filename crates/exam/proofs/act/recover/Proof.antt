@@ -28,11 +28,4 @@ returns c =
 
 pub recover-spec : {M : Type 1} → statement M
 recover-spec =
-    tie.close
-    (tie.spec
-    (λ c. search needs)
-    slice-aggregate-recover
-    (λ c. search needs)
-    slice-aggregate-recover-2
-    (λ c κs. search needs) (λ c κs. search needs)
-    returns)
+    tie.close (tie.spec (λ c. search needs) slice-aggregate-recover (λ c. search needs) slice-aggregate-recover-2 (λ c κs. search needs) (λ c κs. search needs) returns)

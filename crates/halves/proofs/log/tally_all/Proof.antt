@@ -31,10 +31,4 @@ returns c = let l = c .before .loop in let e : l .i ≡ c .before .before .befor
 pub tally-all-spec : {M : Type 1} → statement M
 tally-all-spec =
     tie.close
-    (tie.spec
-    Inv-loop
-    μ-loop
-    loop-holds (λ c. search needs) (λ c. search needs)
-    tally-word-requires (λ c. search needs) (λ c. search needs)
-    loop-again
-    returns)
+    (tie.spec Inv-loop μ-loop loop-holds (λ c. search needs) (λ c. search needs) tally-word-requires (λ c. search needs) (λ c. search needs) loop-again returns)

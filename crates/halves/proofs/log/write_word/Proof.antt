@@ -25,8 +25,5 @@ returns c = let a = c .args .at in let e1 : a + 1 ≡ suc a = omega arith in let
 pub write-word-spec : {M : Type 1} → statement M
 write-word-spec =
     tie.close
-    (tie.spec (λ c. search needs) (λ c. search needs) (λ c. search needs) (λ c. search needs)
-    slice-write-out-2 (λ c. search needs) (λ c. search needs)
-    slice-write-out-3 (λ c. search needs) (λ c. search needs)
-    slice-write-out-4 (λ c. search needs)
-    returns)
+    (tie.spec (λ c. search needs) (λ c. search needs) (λ c. search needs) (λ c. search needs) slice-write-out-2 (λ c. search needs) (λ c. search needs)
+    slice-write-out-3 (λ c. search needs) (λ c. search needs) slice-write-out-4 (λ c. search needs) returns)

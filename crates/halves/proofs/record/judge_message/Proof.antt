@@ -47,9 +47,4 @@ returns-3 c = let f = c .before .before .before .tally-all in
 
 pub judge-message-spec : {M : Type 1} → statement M
 judge-message-spec =
-    tie.close
-    (tie.spec
-    returns (λ c κs. search needs) (λ c. search needs) (λ c κs. search needs) (λ c. search needs)
-    add-t17
-    returns-2
-    returns-3)
+    tie.close (tie.spec returns (λ c κs. search needs) (λ c. search needs) (λ c κs. search needs) (λ c. search needs) add-t17 returns-2 returns-3)

@@ -29,9 +29,4 @@ returns-5 c = let s = c .before .before .before .before .before in let a = s .ar
 pub judge-send-spec : {M : Type 1} → statement M
 judge-send-spec =
     tie.close
-    (tie.spec
-    returns
-    returns-2
-    returns-3 (λ c κs. search needs) (λ c. search needs) (λ c. search needs) (λ c. search needs) (λ c. search needs)
-    returns-4
-    returns-5)
+    (tie.spec returns returns-2 returns-3 (λ c κs. search needs) (λ c. search needs) (λ c. search needs) (λ c. search needs) (λ c. search needs) returns-4 returns-5)

@@ -12,7 +12,4 @@ returns-2 c = rw (c .before .if1 .left) (c .record-part2 .ensures)
 
 pub chosen-spec : {M : Type 1} → statement M
 chosen-spec =
-    tie.close
-    (tie.spec (λ c. search needs) (λ c. search needs) (λ c κs. search needs) (λ c. search needs) (λ c. search needs) (λ c κs. search needs)
-    returns
-    returns-2)
+    tie.close (tie.spec (λ c. search needs) (λ c. search needs) (λ c κs. search needs) (λ c. search needs) (λ c. search needs) (λ c κs. search needs) returns returns-2)

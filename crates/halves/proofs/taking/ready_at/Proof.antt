@@ -39,8 +39,5 @@ returns-4 c = let p = c .before .before .before .before .record-part in
 pub ready-at-spec : {M : Type 1} → statement M
 ready-at-spec =
     tie.close
-    (tie.spec (λ c. search needs) (λ c. search needs) (λ c κs. search needs)
-    returns (λ c κs. search needs) (λ c κs. search needs)
-    returns-2 (λ c κs. search needs)
-    returns-3
-    returns-4)
+    (tie.spec (λ c. search needs) (λ c. search needs) (λ c κs. search needs) returns (λ c κs. search needs) (λ c κs. search needs) returns-2 (λ c κs. search needs)
+    returns-3 returns-4)

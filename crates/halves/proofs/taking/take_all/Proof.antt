@@ -55,11 +55,6 @@ returns-2 c = let l = c .before .loop in
 pub take-all-spec : {M : Type 1} → statement M
 take-all-spec =
     tie.close
-    (tie.spec
-    Inv-loop
-    μ-loop (λ c. search needs) (λ c. search needs) (λ c. search needs)
-    loop-holds (λ c. search needs) (λ c κs. search needs) (λ c. search needs) (λ c. search needs)
-    returns (λ c. search needs) (λ c. search needs) (λ c. search needs) (λ c. search needs) (λ c. search needs) (λ c. search needs)
-    loop-again (λ c. search needs) (λ c. search needs) (λ c. search needs) (λ c. search needs) (λ c. search needs) (λ c. search needs)
-    loop-again-2 (λ c. search needs)
-    returns-2)
+    (tie.spec Inv-loop μ-loop (λ c. search needs) (λ c. search needs) (λ c. search needs) loop-holds (λ c. search needs) (λ c κs. search needs) (λ c. search needs)
+    (λ c. search needs) returns (λ c. search needs) (λ c. search needs) (λ c. search needs) (λ c. search needs) (λ c. search needs) (λ c. search needs) loop-again
+    (λ c. search needs) (λ c. search needs) (λ c. search needs) (λ c. search needs) (λ c. search needs) (λ c. search needs) loop-again-2 (λ c. search needs) returns-2)

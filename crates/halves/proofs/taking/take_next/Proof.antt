@@ -41,9 +41,5 @@ returns-3 c = let s = c .before .before .before .before .before .before .before 
 pub take-next-spec : {M : Type 1} → statement M
 take-next-spec =
     tie.close
-    (tie.spec (λ c. search needs) (λ c κs. search needs) (λ c κs. search needs) (λ c. search needs)
-    judge-requires (λ c κs. search needs)
-    returns (λ c. search needs) (λ c κs. search needs) (λ c κs. search needs) (λ c. search needs)
-    judge-requires-2 (λ c κs. search needs)
-    returns-2
-    returns-3)
+    (tie.spec (λ c. search needs) (λ c κs. search needs) (λ c κs. search needs) (λ c. search needs) judge-requires (λ c κs. search needs) returns (λ c. search needs)
+    (λ c κs. search needs) (λ c κs. search needs) (λ c. search needs) judge-requires-2 (λ c κs. search needs) returns-2 returns-3)

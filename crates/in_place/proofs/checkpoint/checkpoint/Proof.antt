@@ -26,12 +26,4 @@ returns-2 c =
 
 pub checkpoint-spec : {M : Type 1} → statement M
 checkpoint-spec =
-    tie.close
-    (tie.spec
-    (λ c κs. search needs)
-    (λ c. search needs)
-    returns
-    checkpoint-on-requires
-    (λ c. search needs)
-    (λ c. search needs)
-    returns-2)
+    tie.close (tie.spec (λ c κs. search needs) (λ c. search needs) returns checkpoint-on-requires (λ c. search needs) (λ c. search needs) returns-2)

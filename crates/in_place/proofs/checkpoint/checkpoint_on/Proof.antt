@@ -47,20 +47,5 @@ returns-4 c = let s = c .before .before .before .before .before .before .before 
 pub checkpoint-on-spec : {M : Type 1} → statement M
 checkpoint-on-spec =
     tie.close
-    (tie.spec
-    slice-read-n
-    cast-n
-    are-deletions-short-requires
-    returns
-    returns-2
-    (λ c κs. search needs)
-    (λ c. search needs)
-    (λ c. search needs)
-    own-of-requires
-    checkpoint-requires
-    live-index-requires
-    (λ c. search needs)
-    returns-3
-    (λ c. search needs)
-    (λ c. search needs)
-    returns-4)
+    (tie.spec slice-read-n cast-n are-deletions-short-requires returns returns-2 (λ c κs. search needs) (λ c. search needs) (λ c. search needs) own-of-requires
+    checkpoint-requires live-index-requires (λ c. search needs) returns-3 (λ c. search needs) (λ c. search needs) returns-4)

@@ -44,14 +44,5 @@ returns-3 c = let s = c .before .before .before .before .before .before .before 
 pub storing-verdict-spec : {M : Type 1} → statement M
 storing-verdict-spec =
     tie.close
-    (tie.spec
-    own-of-requires
-    (λ c κs. search needs)
-    returns
-    wide4-requires
-    add-is-past-bound
-    mul-is-past-bound
-    shared-slice-read-is-past-bound
-    (λ c κs. search needs)
-    returns-2
-    returns-3)
+    (tie.spec own-of-requires (λ c κs. search needs) returns wide4-requires add-is-past-bound mul-is-past-bound shared-slice-read-is-past-bound (λ c κs. search needs)
+    returns-2 returns-3)

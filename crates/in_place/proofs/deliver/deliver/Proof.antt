@@ -28,10 +28,4 @@ returns-2 c =
 
 pub deliver-spec : {M : Type 1} → statement M
 deliver-spec =
-    tie.close
-    (tie.spec
-    (λ c κs. search needs) (λ c κs. search needs) (λ c. search needs)
-    returns
-    deliver-on-requires
-    (λ c. search needs) (λ c. search needs)
-    returns-2)
+    tie.close (tie.spec (λ c κs. search needs) (λ c κs. search needs) (λ c. search needs) returns deliver-on-requires (λ c. search needs) (λ c. search needs) returns-2)

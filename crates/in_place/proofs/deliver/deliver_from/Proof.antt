@@ -119,26 +119,6 @@ returns-3 c = c .before .before .before .before .take-from .ensures
 pub deliver-from-spec : {M : Type 1} → statement M
 deliver-from-spec =
     tie.close
-    (tie.spec
-    add-i
-    mul-i
-    slice-read-i
-    cast-i
-    mul-vector-at
-    add-vector-at
-    vector-at-requires
-    mul-vector-at-2
-    add-vector-at-2
-    vector-at-requires-2
-    (λ c κs. search needs)
-    take-out-requires
-    (λ c. search needs)
-    returns
-    has-sent-requires
-    forced-verdict-requires
-    (λ c. search needs) (λ c κs. search needs) (λ c. search needs)
-    take-from-requires
-    (λ c. search needs)
-    returns-2
-    (λ c. search needs) (λ c. search needs)
-    returns-3)
+    (tie.spec add-i mul-i slice-read-i cast-i mul-vector-at add-vector-at vector-at-requires mul-vector-at-2 add-vector-at-2 vector-at-requires-2 (λ c κs. search needs)
+    take-out-requires (λ c. search needs) returns has-sent-requires forced-verdict-requires (λ c. search needs) (λ c κs. search needs) (λ c. search needs)
+    take-from-requires (λ c. search needs) returns-2 (λ c. search needs) (λ c. search needs) returns-3)

@@ -58,16 +58,5 @@ returns-3 c =
 pub deliver-on-spec : {M : Type 1} → statement M
 deliver-on-spec =
     tie.close
-    (tie.spec
-    slice-read-n
-    cast-n
-    are-deletions-short-requires
-    (λ c κs. search needs)
-    returns
-    place-of-requires
-    (λ c. search needs) (λ c κs. search needs) (λ c. search needs)
-    deliver-from-requires
-    (λ c. search needs)
-    returns-2
-    (λ c. search needs) (λ c. search needs)
-    returns-3)
+    (tie.spec slice-read-n cast-n are-deletions-short-requires (λ c κs. search needs) returns place-of-requires (λ c. search needs) (λ c κs. search needs)
+    (λ c. search needs) deliver-from-requires (λ c. search needs) returns-2 (λ c. search needs) (λ c. search needs) returns-3)

@@ -13,8 +13,4 @@ returns-2 c = rw (c .if1 .left)
 
 pub forced-verdict-spec : {M : Type 1} → statement M
 forced-verdict-spec =
-    tie.close
-    (tie.spec
-    storing-verdict-requires
-    returns
-    returns-2)
+    tie.close (tie.spec storing-verdict-requires returns returns-2)

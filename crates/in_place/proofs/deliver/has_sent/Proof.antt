@@ -15,8 +15,4 @@ returns c = refl
 
 pub has-sent-spec : {M : Type 1} → statement M
 has-sent-spec =
-    tie.close
-    (tie.spec
-    (λ c. search needs) (λ c. search needs)
-    shared-slice-read-result
-    returns)
+    tie.close (tie.spec (λ c. search needs) (λ c. search needs) shared-slice-read-result returns)

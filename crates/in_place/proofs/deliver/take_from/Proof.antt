@@ -55,11 +55,4 @@ returns c =
 
 pub take-from-spec : {M : Type 1} → statement M
 take-from-spec =
-    tie.close
-    (tie.spec
-    own-of-requires
-    receive-requires
-    take-out-requires
-    answer-of-requires
-    (λ c. search needs) (λ c. search needs)
-    returns)
+    tie.close (tie.spec own-of-requires receive-requires take-out-requires answer-of-requires (λ c. search needs) (λ c. search needs) returns)

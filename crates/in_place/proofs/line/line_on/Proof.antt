@@ -64,15 +64,5 @@ returns-3 c =
 pub line-on-spec : {M : Type 1} → statement M
 line-on-spec =
     tie.close
-    (tie.spec
-    shared-slice-read-n
-    cast-n
-    (λ c κs. search needs)
-    returns
-    (λ c κs. search needs)
-    (λ c. search needs)
-    (λ c. search needs)
-    line-within-requires
-    returns-2
-    (λ c. search needs)
-    returns-3)
+    (tie.spec shared-slice-read-n cast-n (λ c κs. search needs) returns (λ c κs. search needs) (λ c. search needs) (λ c. search needs) line-within-requires returns-2
+    (λ c. search needs) returns-3)

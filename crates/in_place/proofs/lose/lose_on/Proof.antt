@@ -56,13 +56,4 @@ returns-2 c =
 
 pub lose-on-spec : {M : Type 1} → statement M
 lose-on-spec =
-    tie.close
-    (tie.spec
-    place-of-requires
-    (λ c. search needs)
-    (λ c. search needs)
-    take-out-requires
-    (λ c. search needs)
-    returns
-    same-length-2
-    returns-2)
+    tie.close (tie.spec place-of-requires (λ c. search needs) (λ c. search needs) take-out-requires (λ c. search needs) returns same-length-2 returns-2)

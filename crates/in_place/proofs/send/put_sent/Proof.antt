@@ -101,17 +101,6 @@ returns c =
 pub put-sent-spec : {M : Type 1} → statement M
 put-sent-spec =
     tie.close
-    (tie.spec
-    make-room-requires
-    wide2-requires
-    add-number
-    (λ c. let m = c .before .before .before .before .before in omega (arith, few (m .before .before .before)))
-    (λ c. let m = c .before .before .before .before .before in omega (arith, few (m .before .before .before)))
-    vector-at-requires
-    put-last-requires
-    put2-requires
-    (λ c. omega (arith, from-few c))
-    (λ c. omega (arith, from-few c))
-    slice-write-w
-    same-length
-    returns)
+    (tie.spec make-room-requires wide2-requires add-number (λ c. let m = c .before .before .before .before .before in omega (arith, few (m .before .before .before)))
+    (λ c. let m = c .before .before .before .before .before in omega (arith, few (m .before .before .before))) vector-at-requires put-last-requires put2-requires
+    (λ c. omega (arith, from-few c)) (λ c. omega (arith, from-few c)) slice-write-w same-length returns)

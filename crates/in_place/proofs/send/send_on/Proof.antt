@@ -71,17 +71,6 @@ returns-2 c =
 pub send-on-spec : {M : Type 1} → statement M
 send-on-spec =
     tie.close
-    (tie.spec
-    (λ c. let s = c .before .before in omega (arith, sound-words (s .args .w .now) (s .pre) .size))
-    cast-n
-    (λ c. let s = c .before .before .before in omega (arith, sound-words (s .args .w .now) (s .pre) .size))
-    cast-many
-    wide2-requires
-    (λ c κs. search needs)
-    (λ c. search needs)
-    (λ c. search needs)
-    put-sent-requires
-    (λ c. search needs)
-    returns
-    (λ c. c .before .before .put-sent .kept .0)
-    returns-2)
+    (tie.spec (λ c. let s = c .before .before in omega (arith, sound-words (s .args .w .now) (s .pre) .size)) cast-n
+    (λ c. let s = c .before .before .before in omega (arith, sound-words (s .args .w .now) (s .pre) .size)) cast-many wide2-requires (λ c κs. search needs)
+    (λ c. search needs) (λ c. search needs) put-sent-requires (λ c. search needs) returns (λ c. c .before .before .put-sent .kept .0) returns-2)

@@ -59,15 +59,6 @@ returns c =
 pub put-counts-spec : {M : Type 1} → statement M
 put-counts-spec =
     tie.close
-    (tie.spec
-    Inv-loop
-    μ-loop
-    loop-holds
-    (λ c. search needs) (λ c. search needs)
-    (λ c. omega (arith, small c))
-    (λ c. search needs) (λ c. search needs)
+    (tie.spec Inv-loop μ-loop loop-holds (λ c. search needs) (λ c. search needs) (λ c. omega (arith, small c)) (λ c. search needs) (λ c. search needs)
     (λ c. let l = c .before .before .loop in let s = c .before .before .before in omega (arith, l .inv .1, s .pre .0, s .pre .1, c .before .loop-test .taken))
-    (λ c. search needs) (λ c. search needs)
-    loop-again
-    (λ c. c .before .loop .inv .1)
-    returns)
+    (λ c. search needs) (λ c. search needs) loop-again (λ c. c .before .loop .inv .1) returns)

@@ -52,19 +52,8 @@ returns c =
 pub put-firsts-spec : {M : Type 1} → statement M
 put-firsts-spec =
     tie.close
-    (tie.spec
-    Inv-loop
-    μ-loop
-    loop-holds
-    (λ c. omega (arith, small c)) (λ c. omega (arith, small c)) (λ c. omega (arith, small c)) (λ c. omega (arith, small c))
-    (λ c. omega (arith, small c, long c))
-    (λ c. omega (arith, small c)) (λ c. omega (arith, small c)) (λ c. omega (arith, small c)) (λ c. omega (arith, small c))
-    (λ c. simp length-set (omega (arith, small c, long c)))
-    (λ c. omega (arith, small c)) (λ c. omega (arith, small c)) (λ c. omega (arith, small c))
-    (λ c. simp length-set (omega (arith, small c, long c)))
-    (λ c. omega (arith, small c)) (λ c. omega (arith, small c))
-    (λ c. simp length-set (omega (arith, small c, long c)))
-    (λ c. search needs) (λ c. search needs)
-    loop-again
-    (λ c. c .before .loop .inv .1)
-    returns)
+    (tie.spec Inv-loop μ-loop loop-holds (λ c. omega (arith, small c)) (λ c. omega (arith, small c)) (λ c. omega (arith, small c)) (λ c. omega (arith, small c))
+    (λ c. omega (arith, small c, long c)) (λ c. omega (arith, small c)) (λ c. omega (arith, small c)) (λ c. omega (arith, small c)) (λ c. omega (arith, small c))
+    (λ c. simp length-set (omega (arith, small c, long c))) (λ c. omega (arith, small c)) (λ c. omega (arith, small c)) (λ c. omega (arith, small c))
+    (λ c. simp length-set (omega (arith, small c, long c))) (λ c. omega (arith, small c)) (λ c. omega (arith, small c))
+    (λ c. simp length-set (omega (arith, small c, long c))) (λ c. search needs) (λ c. search needs) loop-again (λ c. c .before .loop .inv .1) returns)

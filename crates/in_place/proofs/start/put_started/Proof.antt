@@ -62,12 +62,5 @@ returns c =
 pub put-started-spec : {M : Type 1} → statement M
 put-started-spec =
     tie.close
-    (tie.spec
-    (λ c κs. (c .before .before .pre .1, c .before .before .pre .2))
-    (λ c. omega (arith, c .before .before .before .pre .1))
-    (λ c. omega (arith, long (c .before .before .before)))
-    put-counts-requires
-    put-firsts-requires
-    put4-requires
-    same-length
-    returns)
+    (tie.spec (λ c κs. (c .before .before .pre .1, c .before .before .pre .2)) (λ c. omega (arith, c .before .before .before .pre .1))
+    (λ c. omega (arith, long (c .before .before .before))) put-counts-requires put-firsts-requires put4-requires same-length returns)

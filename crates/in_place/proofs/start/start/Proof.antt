@@ -90,14 +90,6 @@ returns-3 c =
 pub start-spec : {M : Type 1} → statement M
 start-spec =
     tie.close
-    (tie.spec
-    (λ c κs. search needs)
-    returns
-    (λ c κs. search needs)
-    (λ c. search needs)
-    (λ c. search needs)
-    put-started-requires
-    (λ c. c .before .before .before .before .before .clear-all .kept .0)
-    returns-2
-    (λ c. c .before .before .put-started .kept .0 ∙ c .before .before .before .before .before .before .before .before .clear-all .kept .0)
-    returns-3)
+    (tie.spec (λ c κs. search needs) returns (λ c κs. search needs) (λ c. search needs) (λ c. search needs) put-started-requires
+    (λ c. c .before .before .before .before .before .clear-all .kept .0) returns-2
+    (λ c. c .before .before .put-started .kept .0 ∙ c .before .before .before .before .before .before .before .before .clear-all .kept .0) returns-3)

@@ -99,16 +99,5 @@ returns-4 c =
 pub earliest-on-spec : {M : Type 1} → statement M
 earliest-on-spec =
     tie.close
-    (tie.spec
-    shared-slice-read-n
-    cast-n
-    (λ c κs. search needs)
-    (λ c κs. search needs)
-    returns
-    names-absent-requires
-    returns-2
-    is-unfit-requires
-    returns-3
-    line-through-requires
-    (λ c. search needs)
-    returns-4)
+    (tie.spec shared-slice-read-n cast-n (λ c κs. search needs) (λ c κs. search needs) returns names-absent-requires returns-2 is-unfit-requires returns-3
+    line-through-requires (λ c. search needs) returns-4)

@@ -95,12 +95,4 @@ returns-3 c =
 
 pub line-through-spec : {M : Type 1} → statement M
 line-through-spec =
-    tie.close
-    (tie.spec
-    find-starts-requires
-    returns
-    is-ordered-requires
-    returns-2
-    write-greatest-requires
-    (λ c. search needs)
-    returns-3)
+    tie.close (tie.spec find-starts-requires returns is-ordered-requires returns-2 write-greatest-requires (λ c. search needs) returns-3)

@@ -23,13 +23,5 @@ returns c = let a = c .before .before .before .before .before .before .before .b
 pub write-breaks-spec : {M : Type 1} → statement M
 write-breaks-spec =
     tie.close
-    (tie.spec
-    (λ c. search needs)
-    (λ c κs. search needs)
-    (λ c. search needs)
-    write-pair-requires
-    (λ c. search needs)
-    write-pair-requires-2
-    write-byte-requires
-    (λ c. search needs)
-    returns)
+    (tie.spec (λ c. search needs) (λ c κs. search needs) (λ c. search needs) write-pair-requires (λ c. search needs) write-pair-requires-2 write-byte-requires
+    (λ c. search needs) returns)

@@ -13,11 +13,4 @@ returns c = c .before .before .put-row .ensures ∙ receipt-is _ _ _ _ _ _ _ (c 
 
 pub put-receipt-spec : {M : Type 1} → statement M
 put-receipt-spec =
-    tie.close
-    (tie.spec
-    (λ c κs. search needs)
-    (λ c κs. search needs)
-    (λ c κs. search needs)
-    (λ c κs. search needs)
-    (λ c. search needs)
-    returns)
+    tie.close (tie.spec (λ c κs. search needs) (λ c κs. search needs) (λ c κs. search needs) (λ c κs. search needs) (λ c. search needs) returns)

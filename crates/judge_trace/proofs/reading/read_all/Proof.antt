@@ -82,41 +82,7 @@ returns-3 c = let l = c .before .before .before .before .loop in let st = c .bef
 pub read-all-spec : {M : Type 1} → statement M
 read-all-spec =
     tie.close
-    (tie.spec
-    Inv-loop
-    μ-loop
-    first-rows-requires
-    loop-holds
-    (λ c κs. search needs)
-    (λ c κs. search needs)
-    read-record-requires
-    (λ c. search needs)
-    same-length
-    same-length-2
-    same-length-3
-    same-length-4
-    same-length-5
-    same-length-6
-    returns
-    (λ c. search needs)
-    add-taken
-    loop-less
-    loop-again
-    mul-if2
-    add-if2
-    (λ c κs. search needs)
-    (λ c. search needs)
-    (λ c. search needs)
-    (λ c. search needs)
-    (λ c. search needs)
-    (λ c. search needs)
-    (λ c. search needs)
-    returns-2
-    (λ c κs. search needs)
-    (λ c. search needs)
-    (λ c. search needs)
-    (λ c. search needs)
-    (λ c. search needs)
-    (λ c. search needs)
-    (λ c. search needs)
-    returns-3)
+    (tie.spec Inv-loop μ-loop first-rows-requires loop-holds (λ c κs. search needs) (λ c κs. search needs) read-record-requires (λ c. search needs) same-length
+    same-length-2 same-length-3 same-length-4 same-length-5 same-length-6 returns (λ c. search needs) add-taken loop-less loop-again mul-if2 add-if2
+    (λ c κs. search needs) (λ c. search needs) (λ c. search needs) (λ c. search needs) (λ c. search needs) (λ c. search needs) (λ c. search needs) returns-2
+    (λ c κs. search needs) (λ c. search needs) (λ c. search needs) (λ c. search needs) (λ c. search needs) (λ c. search needs) (λ c. search needs) returns-3)

@@ -53,24 +53,6 @@ returns-2 c = let a = c .before .before .before .before .before .before .before 
 pub read-deliver-spec : {M : Type 1} → statement M
 read-deliver-spec =
     tie.close
-    (tie.spec
-    (λ c κs. search needs)
-    (λ c κs. search needs)
-    (λ c. search needs)
-    returns
-    mul-row
-    element-copy-out-row
-    cast-row
-    put-receipt-requires
-    mul-passing
-    slice-write-passing
-    add-to
-    cast-to
-    mul-to
-    slice-write-to
-    (λ c κs. search needs)
-    (λ c κs. search needs)
-    (λ c. search needs)
-    (λ c. search needs)
-    (λ c. search needs)
+    (tie.spec (λ c κs. search needs) (λ c κs. search needs) (λ c. search needs) returns mul-row element-copy-out-row cast-row put-receipt-requires mul-passing
+    slice-write-passing add-to cast-to mul-to slice-write-to (λ c κs. search needs) (λ c κs. search needs) (λ c. search needs) (λ c. search needs) (λ c. search needs)
     returns-2)

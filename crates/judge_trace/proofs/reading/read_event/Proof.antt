@@ -40,32 +40,7 @@ returns-5 c = let a = c .before .before .before .before .before .before .before 
 pub read-event-spec : {M : Type 1} → statement M
 read-event-spec =
     tie.close
-    (tie.spec
-    (λ c. search needs)
-    read-checkpoint-requires
-    (λ c. search needs)
-    (λ c. search needs)
-    read-send-requires
-    (λ c. search needs)
-    read-deliver-requires
-    (λ c. search needs)
-    (λ c κs. search needs)
-    (λ c. search needs)
-    (λ c κs. search needs)
-    (λ c. search needs)
-    (λ c. search needs)
-    returns
-    (λ c. search needs)
-    (λ c. search needs)
-    (λ c. search needs)
-    (λ c. search needs)
-    (λ c. search needs)
-    returns-2
-    (λ c. search needs)
-    (λ c. search needs)
-    (λ c. search needs)
-    (λ c. search needs)
-    returns-3
-    (λ c. search needs)
-    returns-4
-    returns-5)
+    (tie.spec (λ c. search needs) read-checkpoint-requires (λ c. search needs) (λ c. search needs) read-send-requires (λ c. search needs) read-deliver-requires
+    (λ c. search needs) (λ c κs. search needs) (λ c. search needs) (λ c κs. search needs) (λ c. search needs) (λ c. search needs) returns (λ c. search needs)
+    (λ c. search needs) (λ c. search needs) (λ c. search needs) (λ c. search needs) returns-2 (λ c. search needs) (λ c. search needs) (λ c. search needs)
+    (λ c. search needs) returns-3 (λ c. search needs) returns-4 returns-5)

@@ -26,14 +26,5 @@ returns-2 c = let a = c .before .before .before .before .before .before .before 
 pub read-lose-spec : {M : Type 1} → statement M
 read-lose-spec =
     tie.close
-    (tie.spec
-    (λ c κs. search needs)
-    (λ c κs. search needs)
-    (λ c. search needs)
-    returns
-    mul-passing
-    slice-write-passing
-    (λ c κs. search needs)
-    (λ c κs. search needs)
-    (λ c. search needs)
-    returns-2)
+    (tie.spec (λ c κs. search needs) (λ c κs. search needs) (λ c. search needs) returns mul-passing slice-write-passing (λ c κs. search needs) (λ c κs. search needs)
+    (λ c. search needs) returns-2)

@@ -42,29 +42,6 @@ returns-2 c = let a = c .before .before .before .before .before .before .before 
 pub read-send-spec : {M : Type 1} → statement M
 read-send-spec =
     tie.close
-    (tie.spec
-    (λ c κs. search needs)
-    (λ c. search needs)
-    (λ c κs. search needs)
-    (λ c. search needs)
-    mul-row
-    element-copy-out-row
-    cast-row
-    put-carried-requires
-    add-passing
-    cast-passing
-    (λ c. search needs)
-    (λ c. search needs)
-    cast-from
-    (λ c. search needs)
-    (λ c. search needs)
-    (λ c. search needs)
-    (λ c. search needs)
-    (λ c κs. search needs)
-    (λ c κs. search needs)
-    returns
-    (λ c. search needs)
-    (λ c. search needs)
-    (λ c. search needs)
-    (λ c. search needs)
-    returns-2)
+    (tie.spec (λ c κs. search needs) (λ c. search needs) (λ c κs. search needs) (λ c. search needs) mul-row element-copy-out-row cast-row put-carried-requires
+    add-passing cast-passing (λ c. search needs) (λ c. search needs) cast-from (λ c. search needs) (λ c. search needs) (λ c. search needs) (λ c. search needs)
+    (λ c κs. search needs) (λ c κs. search needs) returns (λ c. search needs) (λ c. search needs) (λ c. search needs) (λ c. search needs) returns-2)

@@ -18,4 +18,6 @@ returns c =
 
 pub lemidrosy-checkpoint-spec : {M : Type 1} → statement M
 lemidrosy-checkpoint-spec =
-    tie.close (tie.spec (λ c κs. search needs) of-checkpoint-requires (λ c. c .before .before .before .before .before .checkpoint .kept .0) (λ c. c .before .before .before .before .before .checkpoint .kept .1 .1 .0) returns)
+    tie.close
+    (tie.spec (λ c κs. search needs) of-checkpoint-requires (λ c. c .before .before .before .before .before .checkpoint .kept .0)
+    (λ c. c .before .before .before .before .before .checkpoint .kept .1 .1 .0) returns)

@@ -18,9 +18,4 @@ returns c =
 
 pub lemidrosy-deliver-spec : {M : Type 1} → statement M
 lemidrosy-deliver-spec =
-    tie.close
-    (tie.spec
-    (λ c κs. search needs)
-    of-deliver-requires
-    (λ c. search needs) (λ c. search needs)
-    returns)
+    tie.close (tie.spec (λ c κs. search needs) of-deliver-requires (λ c. search needs) (λ c. search needs) returns)

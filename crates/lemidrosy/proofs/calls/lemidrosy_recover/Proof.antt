@@ -32,11 +32,4 @@ returns c =
 
 pub lemidrosy-recover-spec : {M : Type 1} → statement M
 lemidrosy-recover-spec =
-    tie.close
-    (tie.spec
-    (λ c κs. search needs)
-    of-recover-requires
-    (λ c. search needs)
-    (λ c. search needs)
-    (λ c. search needs)
-    returns)
+    tie.close (tie.spec (λ c κs. search needs) of-recover-requires (λ c. search needs) (λ c. search needs) (λ c. search needs) returns)

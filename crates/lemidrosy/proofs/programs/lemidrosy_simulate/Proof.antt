@@ -44,8 +44,4 @@ returns-2 c =
 
 pub lemidrosy-simulate-spec : {M : Type 1} → statement M
 lemidrosy-simulate-spec =
-    tie.close
-    (tie.spec
-    returns
-    (λ c κs. search needs) (λ c κs. search needs) (λ c. search needs)
-    returns-2)
+    tie.close (tie.spec returns (λ c κs. search needs) (λ c κs. search needs) (λ c. search needs) returns-2)

@@ -23,9 +23,4 @@ returns-2 c = rw (c .before .before .a2 .given .1) (c .code-of .ensures)
 
 pub merge-code-spec : {M : Type 1} → statement M
 merge-code-spec =
-    tie.close
-    (tie.spec
-    (λ c. search needs) (λ c κs. search needs) (λ c. search needs) (λ c. search needs)
-    code-of-requires
-    returns
-    returns-2)
+    tie.close (tie.spec (λ c. search needs) (λ c κs. search needs) (λ c. search needs) (λ c. search needs) code-of-requires returns returns-2)

@@ -49,16 +49,5 @@ returns-3 c = rw (c .before .before .before .v2 .given .1) (omega arith)
 pub verdict-code-spec : {M : Type 1} → statement M
 verdict-code-spec =
     tie.close
-    (tie.spec
-    (λ c. search needs) (λ c κs. search needs) (λ c. search needs) (λ c. search needs) (λ c. search needs)
-    mul-near-end
-    (λ c. search needs) (λ c. search needs)
-    add-near-end
-    mul-far-end
-    (λ c. search needs) (λ c. search needs)
-    add-far-end
-    add-result
-    add-result-2
-    returns
-    returns-2
-    returns-3)
+    (tie.spec (λ c. search needs) (λ c κs. search needs) (λ c. search needs) (λ c. search needs) (λ c. search needs) mul-near-end (λ c. search needs)
+    (λ c. search needs) add-near-end mul-far-end (λ c. search needs) (λ c. search needs) add-far-end add-result add-result-2 returns returns-2 returns-3)

@@ -32,9 +32,5 @@ returns-2 c =
 pub lemidrosy-record-checkpoint-spec : {M : Type 1} → statement M
 lemidrosy-record-checkpoint-spec =
     tie.close
-    (tie.spec
-    returns
-    (λ c. search needs) (λ c κs. search needs) (λ c. search needs)
-    of-checkpoint-requires
-    (λ c. search needs) (λ c. search needs) (λ c. search needs) (λ c. search needs)
-    returns-2)
+    (tie.spec returns (λ c. search needs) (λ c κs. search needs) (λ c. search needs) of-checkpoint-requires (λ c. search needs) (λ c. search needs) (λ c. search needs)
+    (λ c. search needs) returns-2)

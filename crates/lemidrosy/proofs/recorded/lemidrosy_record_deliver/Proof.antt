@@ -33,9 +33,5 @@ returns-2 c =
 pub lemidrosy-record-deliver-spec : {M : Type 1} → statement M
 lemidrosy-record-deliver-spec =
     tie.close
-    (tie.spec
-    returns
-    (λ c. search needs) (λ c κs. search needs) (λ c. search needs)
-    of-deliver-requires
-    (λ c. search needs) (λ c. search needs) (λ c. search needs) (λ c. search needs)
-    returns-2)
+    (tie.spec returns (λ c. search needs) (λ c κs. search needs) (λ c. search needs) of-deliver-requires (λ c. search needs) (λ c. search needs) (λ c. search needs)
+    (λ c. search needs) returns-2)

@@ -32,9 +32,5 @@ returns-2 c =
 pub lemidrosy-record-recover-spec : {M : Type 1} → statement M
 lemidrosy-record-recover-spec =
     tie.close
-    (tie.spec
-    returns
-    (λ c. search needs) (λ c κs. search needs) (λ c. search needs)
-    of-recover-requires
-    (λ c. search needs) (λ c. search needs) (λ c. search needs) (λ c. search needs) (λ c. search needs)
-    returns-2)
+    (tie.spec returns (λ c. search needs) (λ c κs. search needs) (λ c. search needs) of-recover-requires (λ c. search needs) (λ c. search needs) (λ c. search needs)
+    (λ c. search needs) (λ c. search needs) returns-2)

@@ -31,9 +31,5 @@ returns-2 c =
 pub lemidrosy-record-start-spec : {M : Type 1} → statement M
 lemidrosy-record-start-spec =
     tie.close
-    (tie.spec
-    returns
-    (λ c. search needs) (λ c κs. search needs) (λ c. search needs)
-    of-start-requires
-    (λ c. search needs) (λ c. search needs) (λ c. search needs)
+    (tie.spec returns (λ c. search needs) (λ c κs. search needs) (λ c. search needs) of-start-requires (λ c. search needs) (λ c. search needs) (λ c. search needs)
     returns-2)

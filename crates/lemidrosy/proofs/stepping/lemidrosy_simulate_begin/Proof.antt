@@ -8,9 +8,6 @@ use borrow.Author.Needs.{needs}
 use Rattle.lemidrosy.proofs.stepping.lemidrosy_simulate_begin.Statement.{statement}
 use Rattle.lemidrosy.proofs.stepping.lemidrosy_simulate_begin.Tie as tie
 
-lacks-room-requires : tie.Need-lacks-room-requires
-lacks-room-requires c κs = search needs
-
 returns : tie.Need-returns
 returns c = let start = c .before .before .before .before .before .before in begun-lacking _ (now (start .args .memory)) (now (start .args .request)) _ (sym (c .before .lacks-room .ensures) ∙ c .if1 .taken)
 
@@ -20,27 +17,9 @@ returns-2 c = let start = c .before .before .before .before .before .before .bef
 begin-requires : tie.Need-begin-requires
 begin-requires c κs = room-by _ _ _ (sym (c .before .before .before .lacks-room .ensures) ∙ c .before .before .if1 .left)
 
-pack-requires : tie.Need-pack-requires
-pack-requires c κs = search needs
-
-same-length : tie.Need-same-length
-same-length c = search needs
-
-same-length-2 : tie.Need-same-length-2
-same-length-2 c = search needs
-
 returns-3 : tie.Need-returns-3
 returns-3 c = let start = c .before .before .before .before .before .before .before .before .before .before .before .before .before .before .before in begun-done _ (now (start .args .memory)) (now (start .args .request)) _ _ _ _ (sym (c .before .before .before .before .before .before .before .before .before .before .lacks-room .ensures) ∙ c .before .before .before .before .before .before .before .before .before .if1 .left) (c .before .before .before .before .before .before .before .before .if2 .left) (c .before .before .before .before .before .before .begin .ensures) (c .before .before .pack .ensures)
 
 pub lemidrosy-simulate-begin-spec : {M : Type 1} → statement M
 lemidrosy-simulate-begin-spec =
-    tie.close
-    (tie.spec
-    lacks-room-requires
-    returns
-    returns-2
-    begin-requires
-    pack-requires
-    same-length
-    same-length-2
-    returns-3)
+    tie.close (tie.spec (λ c κs. search needs) returns returns-2 begin-requires (λ c κs. search needs) (λ c. search needs) (λ c. search needs) returns-3)

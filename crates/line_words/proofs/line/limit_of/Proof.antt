@@ -11,8 +11,4 @@ returns-2 c = rw (c .if1 .left)
 
 pub limit-of-spec : {M : Type 1} → statement M
 limit-of-spec =
-    tie.close
-    (tie.spec
-    (λ c. search needs)
-    returns
-    returns-2)
+    tie.close (tie.spec (λ c. search needs) returns returns-2)

@@ -13,7 +13,4 @@ returns-2 c = rw (ne-eqb (c .before .before .before .args .known .0) (c .before 
 
 pub known-pin-spec : {M : Type 1} → statement M
 known-pin-spec =
-    tie.close
-    (tie.spec
-    returns
-    returns-2)
+    tie.close (tie.spec returns returns-2)

@@ -13,7 +13,4 @@ returns-2 c = rw (le-ltb (c .before .before .before .args .known .0) (c .before 
 
 pub later-of-spec : {M : Type 1} → statement M
 later-of-spec =
-    tie.close
-    (tie.spec
-    returns
-    returns-2)
+    tie.close (tie.spec returns returns-2)

@@ -44,13 +44,4 @@ returns c =
 pub sift-spec : {M : Type 1} → statement M
 sift-spec =
     tie.close
-    (tie.spec
-    (λ c. search needs)
-    (λ c. search needs)
-    (λ c κs. search needs)
-    (λ c κs. search needs)
-    (λ c. search needs)
-    cast-w
-    slice-write-w-2
-    same-length
-    returns)
+    (tie.spec (λ c. search needs) (λ c. search needs) (λ c κs. search needs) (λ c κs. search needs) (λ c. search needs) cast-w slice-write-w-2 same-length returns)

@@ -60,13 +60,4 @@ returns-3 c =
 pub sift-place-spec : {M : Type 1} → statement M
 sift-place-spec =
     tie.close
-    (tie.spec
-    (λ c κs. search needs)
-    (λ c. search needs)
-    returns
-    is-lost-requires
-    (λ c κs. search needs)
-    (λ c. search needs)
-    returns-2
-    (λ c. search needs)
-    returns-3)
+    (tie.spec (λ c κs. search needs) (λ c. search needs) returns is-lost-requires (λ c κs. search needs) (λ c. search needs) returns-2 (λ c. search needs) returns-3)

@@ -99,14 +99,4 @@ returns c =
 pub sift-places-spec : {M : Type 1} → statement M
 sift-places-spec =
     tie.close
-    (tie.spec
-    Inv-loop
-    μ-loop
-    loop-holds
-    sift-place-requires
-    add-left
-    (λ c. search needs)
-    (λ c. search needs)
-    loop-again
-    (λ c. c .before .loop .inv .2)
-    returns)
+    (tie.spec Inv-loop μ-loop loop-holds sift-place-requires add-left (λ c. search needs) (λ c. search needs) loop-again (λ c. c .before .loop .inv .2) returns)

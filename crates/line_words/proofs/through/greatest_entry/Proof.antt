@@ -66,18 +66,5 @@ returns c = let e : c .before .loop .k ≡ c .before .before .before .args .m = 
 pub greatest-entry-spec : {M : Type 1} → statement M
 greatest-entry-spec =
     tie.close
-    (tie.spec
-    Inv-loop
-    μ-loop
-    loop-holds
-    (λ c. search needs)
-    (λ c. search needs)
-    cast-interval-of
-    add-interval-of
-    mul-interval-of-2
-    shared-slice-read-interval-of
-    (λ c κs. search needs)
-    (λ c. search needs)
-    (λ c. search needs)
-    loop-again
-    returns)
+    (tie.spec Inv-loop μ-loop loop-holds (λ c. search needs) (λ c. search needs) cast-interval-of add-interval-of mul-interval-of-2 shared-slice-read-interval-of
+    (λ c κs. search needs) (λ c. search needs) (λ c. search needs) loop-again returns)

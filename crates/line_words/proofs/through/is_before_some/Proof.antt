@@ -56,19 +56,5 @@ returns c = let e : c .before .loop .k ≡ c .before .before .before .args .m = 
 pub is-before-some-spec : {M : Type 1} → statement M
 is-before-some-spec =
     tie.close
-    (tie.spec
-    Inv-loop
-    μ-loop
-    loop-holds
-    (λ c. search needs)
-    (λ c. search needs)
-    cast-interval-of
-    add-interval-of
-    mul-interval-of-2
-    shared-slice-read-interval-of
-    (λ c κs. search needs)
-    (λ c. search needs)
-    (λ c. search needs)
-    (λ c. search needs)
-    loop-again
-    returns)
+    (tie.spec Inv-loop μ-loop loop-holds (λ c. search needs) (λ c. search needs) cast-interval-of add-interval-of mul-interval-of-2 shared-slice-read-interval-of
+    (λ c κs. search needs) (λ c. search needs) (λ c. search needs) (λ c. search needs) loop-again returns)

@@ -11,8 +11,4 @@ returns c = ap (λ (x : CheckpointIndex). eqb (x .0) (c .before .before .args .i
 
 pub is-index-spec : {M : Type 1} → statement M
 is-index-spec =
-    tie.close
-    (tie.spec
-    (λ c κs. search needs)
-    (λ c. search needs)
-    returns)
+    tie.close (tie.spec (λ c κs. search needs) (λ c. search needs) returns)

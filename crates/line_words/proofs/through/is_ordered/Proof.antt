@@ -45,20 +45,5 @@ returns c = let e : c .before .loop .k ≡ c .before .before .before .before .ar
 pub is-ordered-spec : {M : Type 1} → statement M
 is-ordered-spec =
     tie.close
-    (tie.spec
-    Inv-loop
-    μ-loop
-    loop-holds
-    (λ c. search needs)
-    (λ c. search needs)
-    (λ c. search needs)
-    cast-is-before-some
-    (λ c. search needs)
-    (λ c. search needs)
-    (λ c. search needs)
-    (λ c. search needs)
-    is-before-some-requires
-    (λ c. search needs)
-    (λ c. search needs)
-    loop-again
-    returns)
+    (tie.spec Inv-loop μ-loop loop-holds (λ c. search needs) (λ c. search needs) (λ c. search needs) cast-is-before-some (λ c. search needs) (λ c. search needs)
+    (λ c. search needs) (λ c. search needs) is-before-some-requires (λ c. search needs) (λ c. search needs) loop-again returns)

@@ -20,9 +20,4 @@ returns-3 c =
 
 pub is-unfit-spec : {M : Type 1} → statement M
 is-unfit-spec =
-    tie.close
-    (tie.spec
-    returns
-    returns-2
-    (λ c κs. search needs)
-    returns-3)
+    tie.close (tie.spec returns returns-2 (λ c κs. search needs) returns-3)

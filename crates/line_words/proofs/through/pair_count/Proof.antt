@@ -15,7 +15,4 @@ returns-2 c = rw (ne-eqb (c .before .args .length % 2) 1 (c .if1 .left))
 
 pub pair-count-spec : {M : Type 1} → statement M
 pair-count-spec =
-    tie.close
-    (tie.spec
-    returns
-    returns-2)
+    tie.close (tie.spec returns returns-2)

@@ -5,21 +5,6 @@ use Rattle.machines.proofs.Hearing.{done-number, done-bytes, done-end, 
 use Rattle.machines.proofs.heard.is_done.Statement.{statement}
 use Rattle.machines.proofs.heard.is_done.Tie as tie
 
-enum-told : tie.Need-enum-told
-enum-told c = search needs
-
-enum-told-2 : tie.Need-enum-told-2
-enum-told-2 c = search needs
-
-enum-told-3 : tie.Need-enum-told-3
-enum-told-3 c = search needs
-
-enum-told-4 : tie.Need-enum-told-4
-enum-told-4 c = search needs
-
-enum-told-5 : tie.Need-enum-told-5
-enum-told-5 c = search needs
-
 returns : tie.Need-returns
 returns c = done-number _ _ (c .enum-told .given .1)
 
@@ -38,14 +23,4 @@ returns-5 c = done-failed _ (c .enum-told5 .given .1)
 pub is-done-spec : {M : Type 1} → statement M
 is-done-spec =
     tie.close
-    (tie.spec
-    enum-told
-    enum-told-2
-    enum-told-3
-    enum-told-4
-    enum-told-5
-    returns
-    returns-2
-    returns-3
-    returns-4
-    returns-5)
+    (tie.spec (λ c. search needs) (λ c. search needs) (λ c. search needs) (λ c. search needs) (λ c. search needs) returns returns-2 returns-3 returns-4 returns-5)

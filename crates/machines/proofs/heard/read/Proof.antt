@@ -5,26 +5,11 @@ use Rattle.machines.proofs.Hearing.{read-number, read-end, read-done, r
 use Rattle.machines.proofs.heard.read.Statement.{statement}
 use Rattle.machines.proofs.heard.read.Tie as tie
 
-enum-told : tie.Need-enum-told
-enum-told c = search needs
-
-enum-known-answer : tie.Need-enum-known-answer
-enum-known-answer c = search needs
-
 returns : tie.Need-returns
 returns c = read-few _ _ _ (c .before .before .answer .given .1) (c .if1 .taken)
 
 returns-2 : tie.Need-returns-2
 returns-2 c = read-many _ _ _ (c .before .before .before .answer .given .1) (c .if2 .taken)
-
-enum-told-2 : tie.Need-enum-told-2
-enum-told-2 c = search needs
-
-enum-told-3 : tie.Need-enum-told-3
-enum-told-3 c = search needs
-
-enum-told-4 : tie.Need-enum-told-4
-enum-told-4 c = search needs
 
 returns-3 : tie.Need-returns-3
 returns-3 c = read-number _ _ _ (c .enum-told .given .1)
@@ -44,16 +29,5 @@ returns-7 c = read-failed _ _ (c .enum-told4 .given .1)
 pub read-spec : {M : Type 1} → statement M
 read-spec =
     tie.close
-    (tie.spec
-    enum-told
-    enum-known-answer
-    returns
-    returns-2
-    enum-told-2
-    enum-told-3
-    enum-told-4
-    returns-3
-    returns-4
-    returns-5
-    returns-6
-    returns-7)
+    (tie.spec (λ c. search needs) (λ c. search needs) returns returns-2 (λ c. search needs) (λ c. search needs) (λ c. search needs) returns-3 returns-4 returns-5
+    returns-6 returns-7)

@@ -5,23 +5,8 @@ use Rattle.machines.proofs.Hearing.{word-number, word-end, word-done, w
 use Rattle.machines.proofs.heard.word.Statement.{statement}
 use Rattle.machines.proofs.heard.word.Tie as tie
 
-enum-told : tie.Need-enum-told
-enum-told c = search needs
-
-enum-known-answer : tie.Need-enum-known-answer
-enum-known-answer c = search needs
-
 returns : tie.Need-returns
 returns c = word-many _ _ _ (c .before .before .answer .given .1) (c .if1 .taken)
-
-enum-told-2 : tie.Need-enum-told-2
-enum-told-2 c = search needs
-
-enum-told-3 : tie.Need-enum-told-3
-enum-told-3 c = search needs
-
-enum-told-4 : tie.Need-enum-told-4
-enum-told-4 c = search needs
 
 returns-2 : tie.Need-returns-2
 returns-2 c = word-number _ _ _ (c .enum-told .given .1)
@@ -41,15 +26,5 @@ returns-6 c = word-failed _ _ (c .enum-told4 .given .1)
 pub word-spec : {M : Type 1} → statement M
 word-spec =
     tie.close
-    (tie.spec
-    enum-told
-    enum-known-answer
-    returns
-    enum-told-2
-    enum-told-3
-    enum-told-4
-    returns-2
-    returns-3
-    returns-4
-    returns-5
+    (tie.spec (λ c. search needs) (λ c. search needs) returns (λ c. search needs) (λ c. search needs) (λ c. search needs) returns-2 returns-3 returns-4 returns-5
     returns-6)

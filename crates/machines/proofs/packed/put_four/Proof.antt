@@ -7,31 +7,12 @@ use borrow.Author.Needs.{needs}
 use Rattle.machines.proofs.packed.put_four.Statement.{statement}
 use Rattle.machines.proofs.packed.put_four.Tie as tie
 
-slice-write-numbers : tie.Need-slice-write-numbers
-slice-write-numbers c = search needs
-
 slice-write-numbers-2 : tie.Need-slice-write-numbers-2
 slice-write-numbers-2 c = let l = now (c .args .numbers) in let a = set l 0 (c .args .kind) in omega (arith, c .pre, length-set l 0 (c .args .kind), length-set a 1 (c .args .size))
 
 slice-write-numbers-3 : tie.Need-slice-write-numbers-3
 slice-write-numbers-3 c = let l = now (c .args .numbers) in let a = set l 0 (c .args .kind) in let b = set a 1 (c .args .size) in omega (arith, c .pre, length-set l 0 (c .args .kind), length-set a 1 (c .args .size), length-set b 2 (c .args .place))
 
-slice-write-numbers-4 : tie.Need-slice-write-numbers-4
-slice-write-numbers-4 c = search needs
-
-same-length : tie.Need-same-length
-same-length c = search needs
-
-returns : tie.Need-returns
-returns c = search needs
-
 pub put-four-spec : {M : Type 1} → statement M
 put-four-spec =
-    tie.close
-    (tie.spec
-    slice-write-numbers
-    slice-write-numbers-2
-    slice-write-numbers-3
-    slice-write-numbers-4
-    same-length
-    returns)
+    tie.close (tie.spec (λ c. search needs) slice-write-numbers-2 slice-write-numbers-3 (λ c. search needs) (λ c. search needs) (λ c. search needs))

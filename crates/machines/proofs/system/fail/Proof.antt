@@ -10,11 +10,5 @@ use Rattle.machines.proofs.system.fail.Tie as tie
 slice-aggregate-fail : tie.Need-slice-aggregate-fail
 slice-aggregate-fail c = sym (length-take-le (c .before .before .args .size) (now (c .before .before .args .out)) (c .before .before .pre .1))
 
-fail-requires : tie.Need-fail-requires
-fail-requires c κs = search needs
-
-returns : tie.Need-returns
-returns c = search needs
-
 pub fail-spec : {M : Type 1} → statement M
-fail-spec = tie.close (tie.spec slice-aggregate-fail fail-requires returns)
+fail-spec = tie.close (tie.spec slice-aggregate-fail (λ c κs. search needs) (λ c. search needs))

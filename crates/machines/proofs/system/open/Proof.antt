@@ -10,15 +10,6 @@ use Rattle.machines.proofs.system.open.Tie as tie
 slice-aggregate-open-read : tie.Need-slice-aggregate-open-read
 slice-aggregate-open-read c = sym (length-take-le (c .before .before .args .size) (now (c .before .before .args .out)) (c .before .before .pre .1))
 
-open-read-requires : tie.Need-open-read-requires
-open-read-requires c κs = search needs
-
-open-answer-requires : tie.Need-open-answer-requires
-open-answer-requires c κs = search needs
-
-returns : tie.Need-returns
-returns c = search needs
-
 pub open-spec : {M : Type 1} → statement M
 open-spec =
-    tie.close (tie.spec slice-aggregate-open-read open-read-requires open-answer-requires returns)
+    tie.close (tie.spec slice-aggregate-open-read (λ c κs. search needs) (λ c κs. search needs) (λ c. search needs))

@@ -24,4 +24,7 @@ returns-3 : tie.Need-returns-3
 returns-3 c = let m = c .before .before .before .before .before .before .before .before .before .args .m in let input = c .before .before .before .before .before .before .before .before .before .args .input .now in let place = nameAt (m .half) in let h = c .before .before .before .before .before .before .word .ensures .0 place input (omega (arith, name-most (m .half), c .before .before .before .before .before .before .before .before .before .pre .1)) in led (name-failed _ place input _ (stageOf m input) h (c .before .before .before .before .enum-told2 .given .1)) (c .before .before .fail-unnamed2 .ensures input)
 
 pub after-name-spec : {M : Type 1} → statement M
-after-name-spec = tie.close (tie.spec (λ c κs. search needs) (λ c. search needs) open-file-requires (λ c. search needs) (λ c κs. search needs) (λ c. search needs) (λ c κs. search needs) (λ c. search needs) returns (λ c. search needs) returns-2 (λ c. search needs) returns-3)
+after-name-spec =
+    tie.close
+    (tie.spec (λ c κs. search needs) (λ c. search needs) open-file-requires (λ c. search needs) (λ c κs. search needs) (λ c. search needs) (λ c κs. search needs)
+    (λ c. search needs) returns (λ c. search needs) returns-2 (λ c. search needs) returns-3)

@@ -24,4 +24,7 @@ returns-3 : tie.Need-returns-3
 returns-3 c = let input = c .before .before .before .before .before .before .before .before .before .before .args .input .now in led (set-failed _ 0 input _ (c .before .before .before .before .before .before .before .word .ensures .0 0 input (omega (arith, c .before .before .before .before .before .before .before .before .before .before .pre .0))) (c .before .before .before .before .before .enum-told2 .given .1)) (c .before .before .say2 .ensures input)
 
 pub after-set-spec : {M : Type 1} → statement M
-after-set-spec = tie.close (tie.spec (λ c κs. search needs) (λ c. search needs) slice-aggregate-set-named (λ c κs. search needs) (λ c. search needs) (λ c. search needs) (λ c κs. search needs) (λ c. search needs) (λ c. search needs) (λ c κs. search needs) (λ c. search needs) returns (λ c. search needs) returns-2 (λ c. search needs) returns-3)
+after-set-spec =
+    tie.close
+    (tie.spec (λ c κs. search needs) (λ c. search needs) slice-aggregate-set-named (λ c κs. search needs) (λ c. search needs) (λ c. search needs) (λ c κs. search needs)
+    (λ c. search needs) (λ c. search needs) (λ c κs. search needs) (λ c. search needs) returns (λ c. search needs) returns-2 (λ c. search needs) returns-3)

@@ -13,4 +13,7 @@ returns-2 : tie.Need-returns-2
 returns-2 c = let m = c .before .before .before .before .before .before .before .before .before .before .before .before .before .args .m in let input = c .before .before .before .before .before .before .before .before .before .before .before .before .before .args .input .now in let held = c .before .before .before .before .before .before .before .before .before .before .held-size in led (second-held m input (c .before .before .before .before .before .before .before .before .before .before .before .before .before .args .count) (held .result) (held .ensures .0) (c .before .before .before .before .before .before .before .before .if1 .left)) (c .before .before .show .ensures input)
 
 pub end-half-spec : {M : Type 1} → statement M
-end-half-spec = tie.close (tie.spec (λ c κs. search needs) returns (λ c. search needs) (λ c. search needs) (λ c. search needs) (λ c. search needs) (λ c. search needs) (λ c. search needs) (λ c. search needs) (λ c. search needs) (λ c. search needs) (λ c κs. search needs) (λ c. search needs) returns-2)
+end-half-spec =
+    tie.close
+    (tie.spec (λ c κs. search needs) returns (λ c. search needs) (λ c. search needs) (λ c. search needs) (λ c. search needs) (λ c. search needs) (λ c. search needs)
+    (λ c. search needs) (λ c. search needs) (λ c. search needs) (λ c κs. search needs) (λ c. search needs) returns-2)

@@ -15,4 +15,6 @@ returns-2 : tie.Need-returns-2
 returns-2 c = λ input. led (ap Failing (unnamed-second (c .before .before .before .before .before .before .before .before .args .m) input (c .before .before .before .before .before .if1 .left))) (c .before .before .fail2 .ensures input)
 
 pub fail-unnamed-spec : {M : Type 1} → statement M
-fail-unnamed-spec = tie.close (tie.spec (λ c. search needs) (λ c κs. search needs) (λ c. search needs) returns (λ c. search needs) (λ c κs. search needs) (λ c. search needs) returns-2)
+fail-unnamed-spec =
+    tie.close
+    (tie.spec (λ c. search needs) (λ c κs. search needs) (λ c. search needs) returns (λ c. search needs) (λ c κs. search needs) (λ c. search needs) returns-2)

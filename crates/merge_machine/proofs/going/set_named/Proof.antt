@@ -18,4 +18,6 @@ returns-2 : tie.Need-returns-2
 returns-2 c = λ input long. let word = c .before .before .before .before .before .args .word .now in let set : c .clamped .result ≡ atMost (numberIn word) = c .clamped .ensures ∙ ap atMost (c .before .before .number-in .ensures) in led (set-some word (λ e. c .before .if1 .left (c .before .before .number-in .ensures ∙ e)) ∙ ap (λ (k : ℕ). Naming (FirstHalf k)) (sym set)) (arrives-first _ input _ (omega (arith, set, at-most (numberIn word))) long)
 
 pub set-named-spec : {M : Type 1} → statement M
-set-named-spec = tie.close (tie.spec (λ c κs. search needs) (λ c. search needs) (λ c κs. search needs) (λ c. search needs) returns (λ c κs. search needs) (λ c. search needs) returns-2)
+set-named-spec =
+    tie.close
+    (tie.spec (λ c κs. search needs) (λ c. search needs) (λ c κs. search needs) (λ c. search needs) returns (λ c κs. search needs) (λ c. search needs) returns-2)

@@ -19,4 +19,7 @@ returns-2 : tie.Need-returns-2
 returns-2 c = λ input. let first = c .before .before .before .before .before .before .before .before .before .before .before .args .first .now in let second = c .before .before .before .before .before .before .before .before .before .before .before .args .second .now in let set = c .before .before .before .before .before .before .before .before .before .before .before .args .set in let out = c .before .before .before .before .before .before .before .before .before .before .before .args .out .now in let w = worth first second set out (c .before .before .before .before .before .before .before .before .before .before .before .pre .0) in let size = c .before .before .answer2 .given .0 .0 in let is = sym (c .before .before .before .before .before .before .merge .ensures .0) ∙ c .before .before .answer2 .given .1 in let trace = w .merged size is in led (shown-trace (printed first second set) _ (trace .0) (trace .1)) (rw (c .at2 .ensures) (arrives-writing input _ size _ (omega (arith, w .fits size is, c .before .before .before .before .before .before .merge .kept .1 .1 .1 .0)) (ap (take size) (c .before .before .before .before .before .before .merge .ensures .1 .0))))
 
 pub show-spec : {M : Type 1} → statement M
-show-spec = tie.close (tie.spec (λ c κs. search needs) (λ c. search needs) (λ c κs. search needs) (λ c κs. search needs) (λ c. search needs) (λ c κs. search needs) (λ c. search needs) returns (λ c. search needs) returns-2)
+show-spec =
+    tie.close
+    (tie.spec (λ c κs. search needs) (λ c. search needs) (λ c κs. search needs) (λ c κs. search needs) (λ c. search needs) (λ c κs. search needs) (λ c. search needs)
+    returns (λ c. search needs) returns-2)

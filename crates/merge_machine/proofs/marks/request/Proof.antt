@@ -44,4 +44,7 @@ unfolding asksFor
 returns-9 c = let p = c .before .args .m .phase in let o = c .match .rest in rw (ne-eqb p 1 (o .0 .0 .0 .0 .0 .0 .0 .1), ne-eqb p 2 (o .0 .0 .0 .0 .0 .0 .1), ne-eqb p 3 (o .0 .0 .0 .0 .0 .1), ne-eqb p 4 (o .0 .0 .0 .0 .1), ne-eqb p 5 (o .0 .0 .0 .1), ne-eqb p 6 (o .0 .0 .1), ne-eqb p 7 (o .0 .1), ne-eqb p 8 (o .1)) refl
 
 pub request-spec : {M : Type 1} → statement M
-request-spec = tie.close (tie.spec (λ c κs. search needs) (λ c κs. search needs) (λ c κs. search needs) (λ c κs. search needs) returns returns-2 returns-3 returns-4 returns-5 returns-6 returns-7 returns-8 returns-9)
+request-spec =
+    tie.close
+    (tie.spec (λ c κs. search needs) (λ c κs. search needs) (λ c κs. search needs) (λ c κs. search needs) returns returns-2 returns-3 returns-4 returns-5 returns-6
+    returns-7 returns-8 returns-9)

@@ -44,5 +44,4 @@ returns-2 c =
 
 pub bill-deleted-spec : {M : Type 1} → statement M
 bill-deleted-spec =
-    tie.close
-    (tie.spec (λ c κs. search needs) mul-put4 add-put4 (λ c κs. search needs) (λ c. search needs) returns returns-2)
+    tie.close (tie.spec (λ c κs. search needs) mul-put4 add-put4 (λ c κs. search needs) (λ c. search needs) returns returns-2)

@@ -24,12 +24,6 @@ clear-requires c κs =
     let s = c .before .before .before .before in
     (l .inv .2 ∙ s .pre .0, s .pre .1, omega (arith, s .pre .3))
 
-add-k : tie.Need-add-k Inv-loop μ-loop
-add-k c = search needs
-
-loop-less : tie.Need-loop-less Inv-loop μ-loop
-loop-less c = search needs
-
 loop-again : tie.Need-loop-again Inv-loop μ-loop
 loop-again c =
     let k = c .before .before in
@@ -52,14 +46,4 @@ returns c =
 
 pub clear-from-spec : {M : Type 1} → statement M
 clear-from-spec =
-    tie.close
-    (tie.spec
-    Inv-loop
-    μ-loop
-    loop-holds
-    clear-requires
-    add-k
-    loop-less
-    loop-again
-    same-length
-    returns)
+    tie.close (tie.spec Inv-loop μ-loop loop-holds clear-requires (λ c. search needs) (λ c. search needs) loop-again same-length returns)

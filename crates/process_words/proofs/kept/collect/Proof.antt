@@ -34,11 +34,4 @@ returns c =
 
 pub collect-spec : {M : Type 1} → statement M
 collect-spec =
-    tie.close
-    (tie.spec
-    (λ c κs. search needs)
-    split-requires
-    clear-from-requires
-    same-length
-    same-length-2
-    returns)
+    tie.close (tie.spec (λ c κs. search needs) split-requires clear-from-requires same-length same-length-2 returns)

@@ -33,32 +33,11 @@ abbrev μ-loop : tie.MeasureT-loop
 loop-holds : tie.Need-loop-holds Inv-loop μ-loop
 loop-holds c = (search needs, search needs, c .before .pre .5)
 
-mul-is-named : tie.Need-mul-is-named Inv-loop μ-loop
-mul-is-named c = search needs
-
-add-is-named : tie.Need-add-is-named Inv-loop μ-loop
-add-is-named c = search needs
-
-add-is-named-2 : tie.Need-add-is-named-2 Inv-loop μ-loop
-add-is-named-2 c = search needs
-
-mul-is-named-2 : tie.Need-mul-is-named-2 Inv-loop μ-loop
-mul-is-named-2 c = search needs
-
-shared-slice-read-is-named : tie.Need-shared-slice-read-is-named Inv-loop μ-loop
-shared-slice-read-is-named c = search needs
-
 is-named-requires : tie.Need-is-named-requires Inv-loop μ-loop
 is-named-requires c κs = used-at (c .before .before .before .before .args .w .now) (c .before .before .before .before .args .p) _ (c .before .before .before .before .pre .4) (c .before .before .loop .k) (omega arith)
 
 returns : tie.Need-returns Inv-loop μ-loop
 returns c = let l = c .before .before .before .before .loop in (l .inv .0, l .inv .1, l .inv .2)
-
-add-k : tie.Need-add-k Inv-loop μ-loop
-add-k c = search needs
-
-loop-less : tie.Need-loop-less Inv-loop μ-loop
-loop-less c = search needs
 
 loop-again : tie.Need-loop-again Inv-loop μ-loop
 loop-again c =
@@ -75,18 +54,5 @@ returns-2 c = let l = c .before .loop in (l .inv .0, l .inv .1, l .inv .2)
 pub first-unnamed-spec : {M : Type 1} → statement M
 first-unnamed-spec =
     tie.close
-    (tie.spec
-    Inv-loop
-    μ-loop
-    loop-holds
-    mul-is-named
-    add-is-named
-    add-is-named-2
-    mul-is-named-2
-    shared-slice-read-is-named
-    is-named-requires
-    returns
-    add-k
-    loop-less
-    loop-again
-    returns-2)
+    (tie.spec Inv-loop μ-loop loop-holds (λ c. search needs) (λ c. search needs) (λ c. search needs) (λ c. search needs) (λ c. search needs) is-named-requires returns
+    (λ c. search needs) (λ c. search needs) loop-again returns-2)

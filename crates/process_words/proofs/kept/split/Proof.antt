@@ -58,21 +58,6 @@ loop-holds c =
       rw none (omega arith),
     )
 
-mul-word : tie.Need-mul-word Inv-loop μ-loop
-mul-word c = search needs
-
-add-word : tie.Need-add-word Inv-loop μ-loop
-add-word c = search needs
-
-add-word-2 : tie.Need-add-word-2 Inv-loop μ-loop
-add-word-2 c = search needs
-
-mul-word-2 : tie.Need-mul-word-2 Inv-loop μ-loop
-mul-word-2 c = search needs
-
-slice-read-word : tie.Need-slice-read-word Inv-loop μ-loop
-slice-read-word c = search needs
-
 is-named-requires : tie.Need-is-named-requires Inv-loop μ-loop
 is-named-requires c κs = there (c .before .before) (omega arith)
 
@@ -81,12 +66,6 @@ move-up-requires c κs =
     let l = c .before .before .before .before .before .loop in
     let s = c .before .before .before .before .before .before .before .before in
     (l .inv .2 ∙ s .pre .0 .0, s .pre .0 .1, omega (arith, s .pre .0 .3), omega (arith, s .pre .0 .3, l .inv .4 .most))
-
-add-to : tie.Need-add-to Inv-loop μ-loop
-add-to c = search needs
-
-add-write-pair : tie.Need-add-write-pair Inv-loop μ-loop
-add-write-pair c = search needs
 
 sub-write-pair : tie.Need-sub-write-pair Inv-loop μ-loop
 sub-write-pair c = let l = c .before .before .before .before .before .loop in omega (arith, l .inv .6)
@@ -99,12 +78,6 @@ write-pair-requires c κs =
     let l = c .before .before .before .before .before .before .loop in
     let s = c .before .before .before .before .before .before .before .before .before in
     (omega (arith, s .pre .1 .0, l .inv .3, l .inv .6), s .pre .0 .1, omega (arith, s .pre .1 .1, s .pre .0 .3))
-
-add-k : tie.Need-add-k Inv-loop μ-loop
-add-k c = search needs
-
-loop-less : tie.Need-loop-less Inv-loop μ-loop
-loop-less c = search needs
 
 loop-again : tie.Need-loop-again Inv-loop μ-loop
 loop-again c =
@@ -157,25 +130,6 @@ returns c =
 pub split-spec : {M : Type 1} → statement M
 split-spec =
     tie.close
-    (tie.spec
-    Inv-loop
-    μ-loop
-    loop-holds
-    mul-word
-    add-word
-    add-word-2
-    mul-word-2
-    slice-read-word
-    is-named-requires
-    move-up-requires
-    add-to
-    add-write-pair
-    sub-write-pair
-    index-of-requires
-    write-pair-requires
-    add-k
-    loop-less
-    loop-again
-    same-length
-    same-length-2
-    returns)
+    (tie.spec Inv-loop μ-loop loop-holds (λ c. search needs) (λ c. search needs) (λ c. search needs) (λ c. search needs) (λ c. search needs) is-named-requires
+    move-up-requires (λ c. search needs) (λ c. search needs) sub-write-pair index-of-requires write-pair-requires (λ c. search needs) (λ c. search needs) loop-again
+    same-length same-length-2 returns)

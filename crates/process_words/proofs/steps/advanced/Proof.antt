@@ -38,26 +38,8 @@ abbrev μ-loop : tie.MeasureT-loop
 loop-holds : tie.Need-loop-holds Inv-loop μ-loop
 loop-holds c = (search needs, below-none _ _)
 
-mul-known : tie.Need-mul-known Inv-loop μ-loop
-mul-known c = search needs
-
-array-copy-out-known : tie.Need-array-copy-out-known Inv-loop μ-loop
-array-copy-out-known c = search needs
-
 entry-then-requires : tie.Need-entry-then-requires Inv-loop μ-loop
 entry-then-requires c κs = λ e. let same : c .before .before .loop .f ≡ c .before .before .before .args .i = eqb-true (c .before .before .loop .f) (c .before .before .before .args .i) e in rw same (c .before .before .before .pre .1)
-
-mul-then : tie.Need-mul-then Inv-loop μ-loop
-mul-then c = search needs
-
-array-set-from-then : tie.Need-array-set-from-then Inv-loop μ-loop
-array-set-from-then c = search needs
-
-add-f : tie.Need-add-f Inv-loop μ-loop
-add-f c = search needs
-
-loop-less : tie.Need-loop-less Inv-loop μ-loop
-loop-less c = search needs
 
 loop-again : tie.Need-loop-again Inv-loop μ-loop
 loop-again c =
@@ -76,16 +58,5 @@ returns c =
 pub advanced-spec : {M : Type 1} → statement M
 advanced-spec =
     tie.close
-    (tie.spec
-    Inv-loop
-    μ-loop
-    loop-holds
-    mul-known
-    array-copy-out-known
-    entry-then-requires
-    mul-then
-    array-set-from-then
-    add-f
-    loop-less
-    loop-again
-    returns)
+    (tie.spec Inv-loop μ-loop loop-holds (λ c. search needs) (λ c. search needs) entry-then-requires (λ c. search needs) (λ c. search needs) (λ c. search needs)
+    (λ c. search needs) loop-again returns)

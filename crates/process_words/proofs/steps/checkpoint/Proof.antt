@@ -144,28 +144,6 @@ returns c =
 pub checkpoint-spec : {M : Type 1} → statement M
 checkpoint-spec =
     tie.close
-    (tie.spec
-    mul-vector-at
-    add-vector-at
-    vector-at-requires
-    mul-row-at
-    add-row-at
-    row-at-requires
-    add-held
-    mul-held
-    slice-read-held
-    cast-held
-    mul-live-index
-    array-copy-out-live-index
-    live-index-requires
-    pin-word-requires
-    taken-pins-requires
-    mul-put-vector
-    add-put-vector
-    advanced-requires
-    put-vector-requires
-    sub-settle
-    settle-requires
-    same-length
-    same-length-2
-    returns)
+    (tie.spec mul-vector-at add-vector-at vector-at-requires mul-row-at add-row-at row-at-requires add-held mul-held slice-read-held cast-held mul-live-index
+    array-copy-out-live-index live-index-requires pin-word-requires taken-pins-requires mul-put-vector add-put-vector advanced-requires put-vector-requires sub-settle
+    settle-requires same-length same-length-2 returns)

@@ -139,22 +139,5 @@ returns c =
 pub receive-spec : {M : Type 1} → statement M
 receive-spec =
     tie.close
-    (tie.spec
-    mul-vector-at
-    add-vector-at
-    vector-at-requires
-    mul-row-at
-    add-row-at
-    row-at-requires
-    mul-live-index
-    array-copy-out-live-index
-    live-index-requires
-    take-vector-requires
-    mul-own-pin
-    array-read-own-pin
-    own-pin-requires
-    taken-pins-requires
-    settle-requires
-    same-length
-    same-length-2
-    returns)
+    (tie.spec mul-vector-at add-vector-at vector-at-requires mul-row-at add-row-at row-at-requires mul-live-index array-copy-out-live-index live-index-requires
+    take-vector-requires mul-own-pin array-read-own-pin own-pin-requires taken-pins-requires settle-requires same-length same-length-2 returns)

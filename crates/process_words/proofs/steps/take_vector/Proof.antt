@@ -70,13 +70,5 @@ returns c =
 pub take-vector-spec : {M : Type 1} → statement M
 take-vector-spec =
     tie.close
-    (tie.spec
-    (λ c. search needs)
-    (λ c. search needs)
-    advanced-requires
-    (λ c κs. search needs)
-    (λ c. search needs)
-    (λ c. search needs)
-    take-in-requires
-    same-length
+    (tie.spec (λ c. search needs) (λ c. search needs) advanced-requires (λ c κs. search needs) (λ c. search needs) (λ c. search needs) take-in-requires same-length
     returns)

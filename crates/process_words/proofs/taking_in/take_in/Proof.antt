@@ -25,12 +25,6 @@ take-entry-requires c κs =
     let l = c .before .before .loop in
     (omega (arith, l .inv .1, c .before .before .before .before .pre), search needs, l .inv .4)
 
-add-f : tie.Need-add-f Inv-loop μ-loop
-add-f c = search needs
-
-loop-less : tie.Need-loop-less Inv-loop μ-loop
-loop-less c = search needs
-
 loop-again : tie.Need-loop-again Inv-loop μ-loop
 loop-again c =
     let t = c .before .before .take-entry in
@@ -56,14 +50,4 @@ returns c =
 
 pub take-in-spec : {M : Type 1} → statement M
 take-in-spec =
-    tie.close
-    (tie.spec
-    Inv-loop
-    μ-loop
-    loop-holds
-    take-entry-requires
-    add-f
-    loop-less
-    loop-again
-    same-length
-    returns)
+    tie.close (tie.spec Inv-loop μ-loop loop-holds take-entry-requires (λ c. search needs) (λ c. search needs) loop-again same-length returns)

@@ -52,17 +52,5 @@ returns-3 c = omega (arith, c .before .loop .inv .0, c .before .loop .inv .1)
 pub fill-spec : {M : Type 1} → statement M
 fill-spec =
     tie.close
-    (tie.spec
-    Inv-loop
-    μ-loop
-    loop-holds
-    read-behind-requires
-    same-length
-    returns
-    same-length-2
-    returns-2
-    (λ c. search needs)
-    loop-less
-    loop-again
-    same-length-3
+    (tie.spec Inv-loop μ-loop loop-holds read-behind-requires same-length returns same-length-2 returns-2 (λ c. search needs) loop-less loop-again same-length-3
     returns-3)

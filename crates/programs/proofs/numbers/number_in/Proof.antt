@@ -38,4 +38,6 @@ returns-2 c =
     number-is (now (start .args .word)) (l .value) (c .before .before .if1 .left) (rw e at (l .inv .2))
 
 pub number-in-spec : {M : Type 1} → statement M
-number-in-spec = tie.close (tie.spec Inv-loop μ-loop returns loop-holds (λ c. search needs) (λ c κs. search needs) (λ c. search needs) (λ c. search needs) loop-again returns-2)
+number-in-spec =
+    tie.close
+    (tie.spec Inv-loop μ-loop returns loop-holds (λ c. search needs) (λ c κs. search needs) (λ c. search needs) (λ c. search needs) loop-again returns-2)

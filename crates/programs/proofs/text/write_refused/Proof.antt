@@ -12,7 +12,4 @@ returns c = (rw (← c .before .before .before .before .before .number-of .ensur
 
 pub write-refused-spec : {M : Type 1} → statement M
 write-refused-spec =
-    tie.close
-    (tie.spec
-    (λ c κs. search needs) (λ c. search needs) (λ c. search needs) (λ c κs. search needs) (λ c. search needs)
-    returns)
+    tie.close (tie.spec (λ c κs. search needs) (λ c. search needs) (λ c. search needs) (λ c κs. search needs) (λ c. search needs) returns)

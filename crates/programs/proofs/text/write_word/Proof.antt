@@ -47,12 +47,5 @@ returns c =
 pub write-word-spec : {M : Type 1} → statement M
 write-word-spec =
     tie.close
-    (tie.spec Inv-loop μ-loop
-    loop-holds
-    (λ c. search needs) (λ c. search needs)
-    slice-write-out
-    (λ c. search needs) (λ c. search needs)
-    loop-again
-    (λ c. search needs)
-    same-length
-    returns)
+    (tie.spec Inv-loop μ-loop loop-holds (λ c. search needs) (λ c. search needs) slice-write-out (λ c. search needs) (λ c. search needs) loop-again (λ c. search needs)
+    same-length returns)

@@ -37,14 +37,5 @@ returns-3 c = c .before .before .lost-within .ensures
 pub lost-on-spec : {M : Type 1} → statement M
 lost-on-spec =
     tie.close
-    (tie.spec
-    (λ c. search needs)
-    (λ c κs. search needs)
-    returns
-    (λ c κs. search needs)
-    (λ c κs. search needs)
-    (λ c κs. search needs)
-    returns-2
-    lost-within-requires
-    (λ c. search needs)
-    returns-3)
+    (tie.spec (λ c. search needs) (λ c κs. search needs) returns (λ c κs. search needs) (λ c κs. search needs) (λ c κs. search needs) returns-2 lost-within-requires
+    (λ c. search needs) returns-3)

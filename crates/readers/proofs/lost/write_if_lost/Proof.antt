@@ -63,12 +63,4 @@ returns-3 c =
 
 pub write-if-lost-spec : {M : Type 1} → statement M
 write-if-lost-spec =
-    tie.close
-    (tie.spec
-    (λ c κs. search needs)
-    returns
-    is-lost-requires
-    returns-2
-    (λ c κs. search needs)
-    (λ c. search needs)
-    returns-3)
+    tie.close (tie.spec (λ c κs. search needs) returns is-lost-requires returns-2 (λ c κs. search needs) (λ c. search needs) returns-3)

@@ -58,13 +58,4 @@ returns c =
 
 pub write-lost-spec : {M : Type 1} → statement M
 write-lost-spec =
-    tie.close
-    (tie.spec
-    Inv-loop
-    μ-loop
-    loop-holds
-    write-if-lost-requires
-    (λ c. search needs) (λ c. search needs)
-    loop-again
-    (λ c. search needs)
-    returns)
+    tie.close (tie.spec Inv-loop μ-loop loop-holds write-if-lost-requires (λ c. search needs) (λ c. search needs) loop-again (λ c. search needs) returns)

@@ -51,4 +51,7 @@ returns : tie.Need-returns Inv-loop μ-loop
 returns c = let p = c .before .before .before .before .before .before .pre in all-so-far _ _ _ _ _ _ _ _ _ _ _ (c .before .loop .inv .0) (omega (arith, c .loop-test .left)) (omega (arith, p .0, p .1)) (p .0)
 
 pub take-all-spec : {M : Type 1} → statement M
-take-all-spec = tie.close (tie.spec Inv-loop μ-loop loop-holds sub-loop (λ c κs. search needs) take-one-requires (λ c. search needs) loop-less loop-again same-length same-length-2 same-length-3 returns)
+take-all-spec =
+    tie.close
+    (tie.spec Inv-loop μ-loop loop-holds sub-loop (λ c κs. search needs) take-one-requires (λ c. search needs) loop-less loop-again same-length same-length-2
+    same-length-3 returns)

@@ -19,4 +19,7 @@ returns : tie.Need-returns
 returns c = one-taken (runOf (c .before .before .before .before .before .before .before .before .before .before .before .before .before .before .before .before .before .before .before .before .before .args .w .now)) (c .before .before .before .before .before .before .before .before .before .before .before .before .before .before .before .before .before .before .before .before .before .args .t) _ (c .before .before .before .before .before .before .before .before .before .before .before .before .before .before .before .before .before .before .before .before .before .args .out .now) _ _ _ (c .before .before .before .before .before .before .before .before .before .before .before .before .before .before .before .before .before .before .before .before .before .pre .0) _ (c .before .before .before .before .before .before .before .before .before .before .before .before .before .before .before .before .place-for .ensures) (c .before .before .before .before .before .before .before .before .before .before .before .before .before .play .ensures) _ _ _ (c .before .before .before .before .write-line .ensures .0) (c .before .before .before .before .write-line .ensures .1)
 
 pub take-one-spec : {M : Type 1} → statement M
-take-one-spec = tie.close (tie.spec (λ c κs. search needs) (λ c κs. search needs) sub-more (λ c. search needs) (λ c. search needs) (λ c κs. search needs) sub-t19 add-t11 (λ c. search needs) (λ c. search needs) (λ c. search needs) returns)
+take-one-spec =
+    tie.close
+    (tie.spec (λ c κs. search needs) (λ c κs. search needs) sub-more (λ c. search needs) (λ c. search needs) (λ c κs. search needs) sub-t19 add-t11 (λ c. search needs)
+    (λ c. search needs) (λ c. search needs) returns)

@@ -20,4 +20,6 @@ returns c = let a = c .before .before .before .before .before .before .before .b
     plays recoverReport (runOf (a .w .now)) (a .buffer .now) (a .place) (some (Recover (a .failed))) (recordedRecover (runOf (a .w .now)) (a .failed) (replicate 512 0) (replicate 16 0) (a .buffer .now) (a .place)) refl (c .of-recover .result) (e .0) (e .1 .0) (e .1 .1 .1 .1 .0) (e .1 .1 .1 .1 .1 .0) (c .of-recover .ensures)
 
 pub recover-spec : {M : Type 1} → statement M
-recover-spec = tie.close (tie.spec (λ c. search needs) (λ c. search needs) (λ c κs. search needs) (λ c κs. search needs) (λ c. search needs) (λ c. search needs) returns)
+recover-spec =
+    tie.close
+    (tie.spec (λ c. search needs) (λ c. search needs) (λ c κs. search needs) (λ c κs. search needs) (λ c. search needs) (λ c. search needs) returns)

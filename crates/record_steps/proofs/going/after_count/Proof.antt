@@ -43,4 +43,9 @@ returns-7 : tie.Need-returns-7
 returns-7 c = λ words input lines at. led (count-failed _ at input (c .before .before .before .before .before .enum-told4 .given .1)) (c .before .before .fail4 .ensures words input lines)
 
 pub after-count-spec : {M : Type 1} → statement M
-after-count-spec = tie.close (tie.spec (λ c. search needs) (λ c κs. search needs) returns (λ c κs. search needs) returns-2 (λ c. search needs) end-with-requires (λ c. search needs) (λ c. search needs) fail-requires (λ c. search needs) (λ c. search needs) fail-requires-2 (λ c. search needs) (λ c. search needs) fail-requires-3 (λ c. search needs) (λ c. search needs) fail-requires-4 (λ c. search needs) returns-3 (λ c. search needs) returns-4 (λ c. search needs) returns-5 (λ c. search needs) returns-6 (λ c. search needs) returns-7)
+after-count-spec =
+    tie.close
+    (tie.spec (λ c. search needs) (λ c κs. search needs) returns (λ c κs. search needs) returns-2 (λ c. search needs) end-with-requires (λ c. search needs)
+    (λ c. search needs) fail-requires (λ c. search needs) (λ c. search needs) fail-requires-2 (λ c. search needs) (λ c. search needs) fail-requires-3
+    (λ c. search needs) (λ c. search needs) fail-requires-4 (λ c. search needs) returns-3 (λ c. search needs) returns-4 (λ c. search needs) returns-5
+    (λ c. search needs) returns-6 (λ c. search needs) returns-7)

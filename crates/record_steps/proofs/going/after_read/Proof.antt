@@ -29,4 +29,8 @@ returns-3 : tie.Need-returns-3
 returns-3 c = led (read-failed (c .before .before .before .before .before .before .before .before .before .before .before .before .before .args .m) _ (c .before .before .before .before .before .before .before .before .before .before .before .before .before .args .input .now) _ _ _ (c .before .before .before .before .before .before .before .before .most-to-read .ensures) (omega (arith, c .before .before .before .before .before .before .before .before .before .before .before .before .before .pre .2, c .before .before .before .before .before .before .before .before .before .before .before .before .before .pre .3)) (c .before .before .before .before .before .before .before .read .ensures .0 (c .before .before .before .before .before .before .before .before .before .before .before .before .before .args .m .kept) (c .before .before .before .before .before .before .before .before .before .before .before .before .before .args .input .now) (omega (arith, c .before .before .before .before .before .before .before .before .most-to-read .ensures, c .before .before .before .before .before .before .before .before .before .before .before .before .before .pre .2, c .before .before .before .before .before .before .before .before .before .before .before .before .before .pre .3))) (c .before .before .before .before .before .enum-told2 .given .1)) (c .before .before .fail .ensures _ (c .before .before .before .before .before .before .before .before .before .before .before .before .before .args .input .now) _)
 
 pub after-read-spec : {M : Type 1} → statement M
-after-read-spec = tie.close (tie.spec most-to-read-requires (λ c κs. search needs) (λ c. search needs) take-block-requires (λ c. search needs) to-end-requires (λ c. search needs) (λ c. search needs) fail-requires (λ c. search needs) (λ c. search needs) (λ c. search needs) (λ c. search needs) returns (λ c. search needs) returns-2 (λ c. search needs) returns-3)
+after-read-spec =
+    tie.close
+    (tie.spec most-to-read-requires (λ c κs. search needs) (λ c. search needs) take-block-requires (λ c. search needs) to-end-requires (λ c. search needs)
+    (λ c. search needs) fail-requires (λ c. search needs) (λ c. search needs) (λ c. search needs) (λ c. search needs) returns (λ c. search needs) returns-2
+    (λ c. search needs) returns-3)

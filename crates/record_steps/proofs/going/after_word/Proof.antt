@@ -43,4 +43,8 @@ returns-3 : tie.Need-returns-3
 returns-3 c = λ words lines. led (named-failed _ _ _ _ (c .before .before .before .before .before .before .before .word .ensures .0 (c .before .before .before .before .before .before .before .before .before .before .args .kept) (c .before .before .before .before .before .before .before .before .before .before .args .input .now) (omega (arith, c .before .before .before .before .before .before .before .before .before .before .pre .0, c .before .before .before .before .before .before .before .before .before .before .pre .1))) (c .before .before .before .before .before .enum-told2 .given .1)) (c .before .before .end-with2 .ensures words (c .before .before .before .before .before .before .before .before .before .before .args .input .now) lines)
 
 pub after-word-spec : {M : Type 1} → statement M
-after-word-spec = tie.close (tie.spec (λ c κs. search needs) (λ c. search needs) add-end (λ c. search needs) (λ c. search needs) part-size-named-end size-named-requires (λ c. search needs) (λ c. search needs) end-with-requires (λ c. search needs) (λ c. search needs) end-with-requires-2 (λ c. search needs) returns (λ c. search needs) returns-2 (λ c. search needs) returns-3)
+after-word-spec =
+    tie.close
+    (tie.spec (λ c κs. search needs) (λ c. search needs) add-end (λ c. search needs) (λ c. search needs) part-size-named-end size-named-requires (λ c. search needs)
+    (λ c. search needs) end-with-requires (λ c. search needs) (λ c. search needs) end-with-requires-2 (λ c. search needs) returns (λ c. search needs) returns-2
+    (λ c. search needs) returns-3)

@@ -18,4 +18,6 @@ returns-2 : tie.Need-returns-2
 returns-2 c = λ words input at. led (write-failed _ _ _ _ _ (c .before .before .before .before .before .before .is-done .ensures at input) (c .before .before .before .before .before .if1 .left)) (c .before .before .fail .ensures words input _)
 
 pub after-write-spec : {M : Type 1} → statement M
-after-write-spec = tie.close (tie.spec (λ c κs. search needs) to-say-requires (λ c. search needs) returns (λ c. search needs) fail-requires (λ c. search needs) returns-2)
+after-write-spec =
+    tie.close
+    (tie.spec (λ c κs. search needs) to-say-requires (λ c. search needs) returns (λ c. search needs) fail-requires (λ c. search needs) returns-2)

@@ -57,4 +57,8 @@ returns-7 c = let q = c .before .before .before .before .before .before .args .m
     (c .stop .ensures _ _ _ _)
 
 pub on-spec : {M : Type 1} → statement M
-on-spec = tie.close (tie.spec after-count-requires after-word-requires after-first-requires after-write-requires to-read-requires after-read-requires (λ c κs. search needs) (λ c. search needs) returns (λ c. search needs) (λ c. search needs) returns-2 (λ c. search needs) (λ c. search needs) (λ c. search needs) returns-3 (λ c. search needs) (λ c. search needs) returns-4 returns-5 (λ c. search needs) (λ c. search needs) (λ c. search needs) (λ c. search needs) returns-6 returns-7)
+on-spec =
+    tie.close
+    (tie.spec after-count-requires after-word-requires after-first-requires after-write-requires to-read-requires after-read-requires (λ c κs. search needs)
+    (λ c. search needs) returns (λ c. search needs) (λ c. search needs) returns-2 (λ c. search needs) (λ c. search needs) (λ c. search needs) returns-3
+    (λ c. search needs) (λ c. search needs) returns-4 returns-5 (λ c. search needs) (λ c. search needs) (λ c. search needs) (λ c. search needs) returns-6 returns-7)

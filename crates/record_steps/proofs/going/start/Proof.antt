@@ -28,4 +28,7 @@ returns-2 : tie.Need-returns-2
 returns-2 c = λ input lines. arrives-started _ (c .before .before .before .before .before .before .before .before .before .before .before .before .before .args .n) (c .before .before .before .before .before .before .before .before .before .before .before .before .before .args .left) _ input _ lines (take (c .before .before .before .before .before .before .before .before .before .before .least .result) (c .before .before .before .before .before .before .before .before .before .before .before .before .before .args .out .now)) _ (drop (c .before .before .before .before .before .before .before .before .before .before .least .result) (c .before .before .before .before .before .before .before .before .before .before .before .before .before .args .out .now)) (c .before .before .before .before .before .before .before .before .before .before .before .before .before .pre .0) (start-fine (c .before .before .before .before .before .before .before .before .before .before .before .before .before .args .n) (c .before .before .before .before .before .before .before .before .before .before .before .before .before .args .left) _ (number-is _ (c .before .before .before .before .before .before .before .before .before .before .before .before .before .args .n) (c .before .before .before .before .before .before .before .before .before .before .before .before .before .args .left) (take (c .before .before .before .before .before .before .before .before .before .before .least .result) (c .before .before .before .before .before .before .before .before .before .before .before .before .before .args .out .now)) (c .before .of-start .result) _ (c .before .before .before .before .before .before .before .before .before .before .before .before .before .pre .0) (length-take-le (c .before .before .before .before .before .before .before .before .before .before .least .result) (c .before .before .before .before .before .before .before .before .before .before .before .before .before .args .out .now) (omega (arith, c .before .before .before .before .before .before .before .before .before .before .least .ensures, c .before .before .before .before .before .before .before .before .before .before .before .before .before .pre .1)) ∙ c .before .before .before .before .before .before .before .before .before .before .least .ensures) (c .before .before .before .before .before .before .start .ensures .1 .0) (c .before .of-start .ensures)) (c .if1 .left)) (c .before .before .before .before .before .before .before .before .before .before .before .before .before .pre .2) (length-take-le (c .before .before .before .before .before .before .before .before .before .before .least .result) (c .before .before .before .before .before .before .before .before .before .before .before .before .before .args .out .now) (omega (arith, c .before .before .before .before .before .before .before .before .before .before .least .ensures, c .before .before .before .before .before .before .before .before .before .before .before .before .before .pre .1)) ∙ c .before .before .before .before .before .before .before .before .before .before .least .ensures) (c .before .before .before .before .before .before .start .ensures .0) (c .before .before .before .before .before .before .start .ensures .1 .1 .0) refl
 
 pub start-spec : {M : Type 1} → statement M
-start-spec = tie.close (tie.spec (λ c κs. search needs) (λ c. search needs) slice-relend-prefix-start slice-aggregate-start-2 (λ c κs. search needs) (λ c κs. search needs) (λ c. search needs) end-refused-requires (λ c. search needs) (λ c. search needs) returns sub-t22 (λ c. search needs) (λ c. search needs) returns-2)
+start-spec =
+    tie.close
+    (tie.spec (λ c κs. search needs) (λ c. search needs) slice-relend-prefix-start slice-aggregate-start-2 (λ c κs. search needs) (λ c κs. search needs)
+    (λ c. search needs) end-refused-requires (λ c. search needs) (λ c. search needs) returns sub-t22 (λ c. search needs) (λ c. search needs) returns-2)

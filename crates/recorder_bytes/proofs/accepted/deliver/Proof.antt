@@ -13,4 +13,6 @@ returns c = rw (c .enum-told .given .1) (sym (refused-number _))
 
 pub deliver-spec : {M : Type 1} → statement M
 unfolding deliverReport
-deliver-spec = tie.close (tie.spec (λ c. search needs) (λ c. search needs) (λ c. search needs) returns (λ c. rw (c .enum-told2 .given .1) refl) (λ c. rw (c .enum-told3 .given .1) refl))
+deliver-spec =
+    tie.close
+    (tie.spec (λ c. search needs) (λ c. search needs) (λ c. search needs) returns (λ c. rw (c .enum-told2 .given .1) refl) (λ c. rw (c .enum-told3 .given .1) refl))

@@ -28,45 +28,20 @@ four (x ∷ y ∷ z ∷ w ∷ []) l k e = rw (one, two, three)
     three = omega arith
 four (x ∷ y ∷ z ∷ w ∷ v ∷ b) l k e = absurd (omega arith)
 
-array-read-buffer : tie.Need-array-read-buffer
-array-read-buffer c = search needs
-
-slice-write-buffer : tie.Need-slice-write-buffer
-slice-write-buffer c = search needs
-
-array-read-buffer-2 : tie.Need-array-read-buffer-2
-array-read-buffer-2 c = search needs
-
-add-buffer : tie.Need-add-buffer
-add-buffer c = search needs
-
 slice-write-buffer-2 : tie.Need-slice-write-buffer-2
 slice-write-buffer-2 c = simp length-set (omega arith)
-
-array-read-buffer-3 : tie.Need-array-read-buffer-3
-array-read-buffer-3 c = search needs
-
-add-buffer-2 : tie.Need-add-buffer-2
-add-buffer-2 c = search needs
 
 slice-write-buffer-3 : tie.Need-slice-write-buffer-3
 slice-write-buffer-3 c = simp length-set (omega arith)
 
-array-read-buffer-4 : tie.Need-array-read-buffer-4
-array-read-buffer-4 c = search needs
-
-add-buffer-3 : tie.Need-add-buffer-3
-add-buffer-3 c = search needs
-
 slice-write-buffer-4 : tie.Need-slice-write-buffer-4
 slice-write-buffer-4 c = simp length-set (omega arith)
-
-same-length : tie.Need-same-length
-same-length c = search needs
 
 returns : tie.Need-returns
 returns c = four (c .args .t3) _ (c .args .place) (search needs)
 
 pub put-spec : {M : Type 1} → statement M
 put-spec =
-    tie.close (tie.spec array-read-buffer slice-write-buffer array-read-buffer-2 add-buffer slice-write-buffer-2 array-read-buffer-3 add-buffer-2 slice-write-buffer-3 array-read-buffer-4 add-buffer-3 slice-write-buffer-4 same-length returns)
+    tie.close
+    (tie.spec (λ c. search needs) (λ c. search needs) (λ c. search needs) (λ c. search needs) slice-write-buffer-2 (λ c. search needs) (λ c. search needs)
+    slice-write-buffer-3 (λ c. search needs) (λ c. search needs) slice-write-buffer-4 (λ c. search needs) returns)

@@ -19,8 +19,4 @@ returns c =
 
 pub copy-of-spec : {M : Type 1} → statement M
 copy-of-spec =
-    tie.close
-    (tie.spec
-    (λ c. search needs)
-    copy-words-requires
-    returns)
+    tie.close (tie.spec (λ c. search needs) copy-words-requires returns)

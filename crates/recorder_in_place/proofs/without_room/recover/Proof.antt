@@ -56,15 +56,5 @@ returns-3 c lent line e f =
 pub recover-spec : {M : Type 1} → statement M
 recover-spec =
     tie.close
-    (tie.spec
-    (λ c κs. search needs)
-    returns
-    copy-of-requires
-    (λ c κs. search needs) (λ c κs. search needs) (λ c. search needs) (λ c. search needs)
-    slice-aggregate-recover-on-2
-    (λ c. search needs)
-    slice-aggregate-recover-on-3
-    recover-on-requires
-    (λ c κs. search needs)
-    returns-2
-    returns-3)
+    (tie.spec (λ c κs. search needs) returns copy-of-requires (λ c κs. search needs) (λ c κs. search needs) (λ c. search needs) (λ c. search needs)
+    slice-aggregate-recover-on-2 (λ c. search needs) slice-aggregate-recover-on-3 recover-on-requires (λ c κs. search needs) returns-2 returns-3)

@@ -39,13 +39,4 @@ returns-3 c =
 
 pub send-spec : {M : Type 1} → statement M
 send-spec =
-    tie.close
-    (tie.spec
-    (λ c κs. search needs)
-    returns
-    copy-of-requires
-    (λ c. search needs)
-    send-on-requires
-    (λ c κs. search needs)
-    returns-2
-    returns-3)
+    tie.close (tie.spec (λ c κs. search needs) returns copy-of-requires (λ c. search needs) send-on-requires (λ c κs. search needs) returns-2 returns-3)

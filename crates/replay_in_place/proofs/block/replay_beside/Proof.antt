@@ -92,21 +92,5 @@ returns c =
 pub replay-beside-spec : {M : Type 1} → statement M
 replay-beside-spec =
     tie.close
-    (tie.spec
-    Inv-loop
-    μ-loop
-    loop-holds
-    sub-takes-next
-    (λ c κs. search needs) (λ c κs. search needs) (λ c κs. search needs)
-    add-taken
-    apply-requires
-    (λ c κs. search needs)
-    add-print
-    print-requires
-    loop-less
-    loop-again
-    same-length
-    same-length-2
-    same-length-3
-    same-length-4
-    returns)
+    (tie.spec Inv-loop μ-loop loop-holds sub-takes-next (λ c κs. search needs) (λ c κs. search needs) (λ c κs. search needs) add-taken apply-requires
+    (λ c κs. search needs) add-print print-requires loop-less loop-again same-length same-length-2 same-length-3 same-length-4 returns)

@@ -33,11 +33,5 @@ returns-3 c =
 pub apply-spec : {M : Type 1} → statement M
 apply-spec =
     tie.close
-    (tie.spec
-    (λ c. search needs) (λ c κs. search needs) (λ c. search needs)
-    event-on-requires
-    (λ c κs. search needs)
-    returns
-    (λ c. search needs) (λ c. search needs) (λ c. search needs)
-    returns-2
-    returns-3)
+    (tie.spec (λ c. search needs) (λ c κs. search needs) (λ c. search needs) event-on-requires (λ c κs. search needs) returns (λ c. search needs) (λ c. search needs)
+    (λ c. search needs) returns-2 returns-3)

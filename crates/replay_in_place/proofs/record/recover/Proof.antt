@@ -28,9 +28,4 @@ returns c =
 
 pub recover-spec : {M : Type 1} → statement M
 recover-spec =
-    tie.close
-    (tie.spec
-    (λ c κs. search needs) (λ c κs. search needs)
-    sound-after-requires
-    (λ c. search needs) (λ c. search needs) (λ c. search needs)
-    returns)
+    tie.close (tie.spec (λ c κs. search needs) (λ c κs. search needs) sound-after-requires (λ c. search needs) (λ c. search needs) (λ c. search needs) returns)

@@ -23,26 +23,14 @@ same c =
     let start = c .before .args in
     ap length (c .loop .inv .2) ∙ length-sets (now (start .buffer)) (start .to) (take (c .loop .k) (drop (start .from) (now (start .buffer))))
 
-sub-left : tie.Need-sub-left Inv-loop μ-loop
-sub-left c = search needs
-
 loop-holds : tie.Need-loop-holds Inv-loop μ-loop
 loop-holds c = (omega arith, refl, refl)
-
-add-byte : tie.Need-add-byte Inv-loop μ-loop
-add-byte c = search needs
 
 slice-read-byte : tie.Need-slice-read-byte Inv-loop μ-loop
 slice-read-byte c = omega (arith, same (c .before .before))
 
-add-buffer : tie.Need-add-buffer Inv-loop μ-loop
-add-buffer c = search needs
-
 slice-write-buffer : tie.Need-slice-write-buffer Inv-loop μ-loop
 slice-write-buffer c = omega (arith, same (c .before .before))
-
-add-k : tie.Need-add-k Inv-loop μ-loop
-add-k c = search needs
 
 loop-less : tie.Need-loop-less Inv-loop μ-loop
 loop-less c = omega arith
@@ -63,4 +51,7 @@ returns c =
     rw all at (l .inv .2)
 
 pub keep-spec : {M : Type 1} → statement M
-keep-spec = tie.close (tie.spec Inv-loop μ-loop sub-left loop-holds add-byte slice-read-byte add-buffer slice-write-buffer add-k loop-less loop-again same-length returns)
+keep-spec =
+    tie.close
+    (tie.spec Inv-loop μ-loop (λ c. search needs) loop-holds (λ c. search needs) slice-read-byte (λ c. search needs) slice-write-buffer (λ c. search needs) loop-less
+    loop-again same-length returns)

@@ -36,4 +36,8 @@ unfolding opened takenOf
 returns-3 c = c .before .before .fail-input .ensures ∙ rw (c .before .before .before .before .before .before .before .read .ensures .0 (c .before .before .before .before .before .before .before .before .before .before .before .args .p .held) (now (c .before .before .before .before .before .before .before .before .before .before .before .args .input)) (omega (arith, roomy-input _ _ _ (c .before .before .before .before .before .before .before .before .before .before .before .pre .0), c .before .before .before .before .before .before .before .before .before .before .before .pre .1)), c .before .before .before .before .before .enum-told3 .given .1)
 
 pub after-first-spec : {M : Type 1} → statement M
-after-first-spec = tie.close (tie.spec (λ c κs. search needs) (λ c. search needs) shared-slice-read-begin-run (λ c κs. search needs) (λ c. search needs) empty-requires (λ c κs. search needs) (λ c. search needs) (λ c κs. search needs) (λ c. search needs) (λ c. search needs) returns (λ c. search needs) returns-2 (λ c. search needs) (λ c. search needs) returns-3)
+after-first-spec =
+    tie.close
+    (tie.spec (λ c κs. search needs) (λ c. search needs) shared-slice-read-begin-run (λ c κs. search needs) (λ c. search needs) empty-requires (λ c κs. search needs)
+    (λ c. search needs) (λ c κs. search needs) (λ c. search needs) (λ c. search needs) returns (λ c. search needs) returns-2 (λ c. search needs) (λ c. search needs)
+    returns-3)

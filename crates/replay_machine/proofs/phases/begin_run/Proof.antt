@@ -32,4 +32,7 @@ returns-2 c = let a = c .before .before .before .before .before .before .before 
     rw (c .plain .ensures) (plain-reading (a .all) then-words (now (a .input)) (now (a .out)) (rw (c .before .before .before .before .before .start .kept .0) (c .before .before .before .before .before .before .before .before .before .before .before .pre)) ∙ rw (none, run))
 
 pub begin-run-spec : {M : Type 1} → statement M
-begin-run-spec = tie.close (tie.spec (λ c. search needs) (λ c κs. search needs) (λ c. search needs) refuse-requires (λ c κs. search needs) (λ c. search needs) (λ c κs. search needs) (λ c. search needs) (λ c. search needs) returns (λ c. search needs) returns-2)
+begin-run-spec =
+    tie.close
+    (tie.spec (λ c. search needs) (λ c κs. search needs) (λ c. search needs) refuse-requires (λ c κs. search needs) (λ c. search needs) (λ c κs. search needs)
+    (λ c. search needs) (λ c. search needs) returns (λ c. search needs) returns-2)

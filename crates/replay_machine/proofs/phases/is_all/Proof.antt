@@ -33,4 +33,7 @@ unfolding takenOf brought same
 returns-3 c = rw (c .enum-told2 .given .1)
 
 pub is-all-spec : {M : Type 1} → statement M
-is-all-spec = tie.close (tie.spec (λ c. search needs) add-is-all (λ c. search needs) (λ c. search needs) part-is-all-end (λ c κs. search needs) (λ c. search needs) (λ c. search needs) returns returns-2 returns-3)
+is-all-spec =
+    tie.close
+    (tie.spec (λ c. search needs) add-is-all (λ c. search needs) (λ c. search needs) part-is-all-end (λ c κs. search needs) (λ c. search needs) (λ c. search needs)
+    returns returns-2 returns-3)

@@ -131,20 +131,5 @@ returns-3 c =
 pub ready-read-spec : {M : Type 1} → statement M
 ready-read-spec =
     tie.close
-    (tie.spec
-    fill-to-requires
-    sub-most
-    (λ c κs. search needs)
-    (λ c. search needs)
-    with-more-requires
-    (λ c. search needs)
-    slice-aggregate-end
-    end-requires
-    (λ c κs. search needs)
-    (λ c. search needs)
-    (λ c κs. search needs)
-    returns
-    (λ c. search needs)
-    returns-2
-    (λ c. search needs)
-    returns-3)
+    (tie.spec fill-to-requires sub-most (λ c κs. search needs) (λ c. search needs) with-more-requires (λ c. search needs) slice-aggregate-end end-requires
+    (λ c κs. search needs) (λ c. search needs) (λ c κs. search needs) returns (λ c. search needs) returns-2 (λ c. search needs) returns-3)

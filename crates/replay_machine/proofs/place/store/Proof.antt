@@ -27,4 +27,7 @@ returns : tie.Need-returns
 returns c = rw (c .bit-of .ensures) (stored (now (c .before .before .args .memory)) (c .before .before .args .p) (c .before .before .pre))
 
 pub store-spec : {M : Type 1} → statement M
-store-spec = tie.close (tie.spec (λ c κs. search needs) (λ c. search needs) slice-write-memory-2 slice-write-memory-3 slice-write-memory-4 slice-write-memory-5 (λ c. search needs) (λ c. search needs) returns)
+store-spec =
+    tie.close
+    (tie.spec (λ c κs. search needs) (λ c. search needs) slice-write-memory-2 slice-write-memory-3 slice-write-memory-4 slice-write-memory-5 (λ c. search needs)
+    (λ c. search needs) returns)

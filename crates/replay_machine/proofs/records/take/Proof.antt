@@ -63,4 +63,9 @@ returns-4 : tie.Need-returns-4
 returns-4 c = prints (place (c .before .before .before .before .before .before .before .before .before .before)) (words (c .before .before .before .before .before .before .before .before .before .before)) (input (c .before .before .before .before .before .before .before .before .before .before)) (out (c .before .before .before .before .before .before .before .before .before .before)) (c .before .before .before .before .before .before .before .before .before .before .before .before .before .before .before .before .before .before .before .pre .0) (made (c .before .before .before .before .before .before .before .before .before .before)) (then-words (c .before .before .before .before .before .before .before .before .before .before)) (then-out (c .before .before .before .before .before .before .before .before .before .before)) (blocked (c .before .before .before .before .before .before .before .before .before .before)) (c .before .before .before .before .before .before .before .before .before .before .replay .kept .0) (c .before .before .before .before .before .before .before .before .before .before .replay .kept .1 .1 .1 .1 .1 .0) (c .before .before .before .before .before .if1 .left) _ refl refl refl refl refl refl (not-false (made (c .before .before .before .before .before .before .before .before .before .before) .going) (c .before .before .before .if2 .left)) (c .before .if3 .left)
 
 pub take-spec : {M : Type 1} → statement M
-take-spec = tie.close (tie.spec (λ c. search needs) (λ c. search needs) (λ c. search needs) (λ c. search needs) (λ c κs. search needs) (λ c κs. search needs) (λ c. search needs) (λ c. search needs) (λ c. search needs) returns (λ c κs. search needs) (λ c. search needs) (λ c. search needs) (λ c. search needs) returns-2 add-count (λ c κs. search needs) (λ c. search needs) (λ c. search needs) (λ c. search needs) returns-3 (λ c. search needs) (λ c. search needs) (λ c. search needs) sub-t25 (λ c. search needs) (λ c. search needs) (λ c. search needs) returns-4)
+take-spec =
+    tie.close
+    (tie.spec (λ c. search needs) (λ c. search needs) (λ c. search needs) (λ c. search needs) (λ c κs. search needs) (λ c κs. search needs) (λ c. search needs)
+    (λ c. search needs) (λ c. search needs) returns (λ c κs. search needs) (λ c. search needs) (λ c. search needs) (λ c. search needs) returns-2 add-count
+    (λ c κs. search needs) (λ c. search needs) (λ c. search needs) (λ c. search needs) returns-3 (λ c. search needs) (λ c. search needs) (λ c. search needs) sub-t25
+    (λ c. search needs) (λ c. search needs) (λ c. search needs) returns-4)

@@ -103,21 +103,7 @@ returns-6 c =
 pub after-spec : {M : Type 1} → statement M
 after-spec =
     tie.close
-    (tie.spec
-    after-bytes-requires
-    (λ c. search needs) (λ c. search needs) (λ c. search needs)
-    returns
-    (λ c κs. search needs)
-    after-word-requires
-    after-first-requires
-    (λ c κs. search needs)
-    (λ c κs. search needs)
-    (λ c. search needs) (λ c. search needs) (λ c. search needs)
-    returns-2
-    (λ c. search needs) (λ c. search needs) (λ c. search needs)
-    returns-3
-    (λ c. search needs) (λ c. search needs) (λ c. search needs)
-    returns-4
-    (λ c. search needs) (λ c. search needs) (λ c. search needs)
-    returns-5
-    returns-6)
+    (tie.spec after-bytes-requires (λ c. search needs) (λ c. search needs) (λ c. search needs) returns (λ c κs. search needs) after-word-requires after-first-requires
+    (λ c κs. search needs) (λ c κs. search needs) (λ c. search needs) (λ c. search needs) (λ c. search needs) returns-2 (λ c. search needs) (λ c. search needs)
+    (λ c. search needs) returns-3 (λ c. search needs) (λ c. search needs) (λ c. search needs) returns-4 (λ c. search needs) (λ c. search needs) (λ c. search needs)
+    returns-5 returns-6)

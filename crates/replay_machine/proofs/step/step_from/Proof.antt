@@ -72,4 +72,7 @@ returns-4 c = let q = sym (c .before .before .before .before .before .before .st
     )
 
 pub step-from-spec : {M : Type 1} → statement M
-step-from-spec = tie.close (tie.spec returns (λ c κs. search needs) returns-2 (λ c κs. search needs) (λ c κs. search needs) (λ c. search needs) returns-3 after-requires (λ c κs. search needs) request-of-requires (λ c. search needs) (λ c. search needs) (λ c. search needs) (λ c. search needs) returns-4)
+step-from-spec =
+    tie.close
+    (tie.spec returns (λ c κs. search needs) returns-2 (λ c κs. search needs) (λ c κs. search needs) (λ c. search needs) returns-3 after-requires (λ c κs. search needs)
+    request-of-requires (λ c. search needs) (λ c. search needs) (λ c. search needs) (λ c. search needs) returns-4)

@@ -32,6 +32,4 @@ returns c = let b = c .before in every-end isNothing (b .before .args .t1) (b .l
 pub are-nothing-spec : {M : Type 1} → statement M
 are-nothing-spec =
     tie.close
-    (tie.spec
-    Inv-loop μ-loop loop-holds (λ c. search needs) (λ c. search needs) (λ c κs. search needs) (λ c. search needs) (λ c. search needs) loop-again
-    returns)
+    (tie.spec Inv-loop μ-loop loop-holds (λ c. search needs) (λ c. search needs) (λ c κs. search needs) (λ c. search needs) (λ c. search needs) loop-again returns)

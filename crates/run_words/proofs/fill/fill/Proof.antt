@@ -57,6 +57,5 @@ returns-3 c =
 pub fill-spec : {M : Type 1} → statement M
 fill-spec =
     tie.close
-    (tie.spec
-    returns returns-2 (λ c κs. search needs) (λ c κs. search needs) (λ c κs. search needs) (λ c κs. search needs) put-rows-requires
-    put-messages-requires put-numbers-requires same-length returns-3)
+    (tie.spec returns returns-2 (λ c κs. search needs) (λ c κs. search needs) (λ c κs. search needs) (λ c κs. search needs) put-rows-requires put-messages-requires
+    put-numbers-requires same-length returns-3)

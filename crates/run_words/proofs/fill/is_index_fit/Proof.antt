@@ -10,6 +10,4 @@ returns c = search needs
 
 pub is-index-fit-spec : {M : Type 1} → statement M
 is-index-fit-spec =
-    tie.close
-    (tie.spec
-    returns)
+    tie.close (tie.spec returns)

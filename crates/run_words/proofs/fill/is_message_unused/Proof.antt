@@ -10,6 +10,4 @@ returns c = rw (c .before .before .before .is-zero .ensures)
 
 pub is-message-unused-spec : {M : Type 1} → statement M
 is-message-unused-spec =
-    tie.close
-    (tie.spec
-    (λ c κs. search needs) returns)
+    tie.close (tie.spec (λ c κs. search needs) returns)

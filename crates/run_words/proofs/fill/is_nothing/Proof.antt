@@ -14,6 +14,4 @@ returns-2 c = search needs
 
 pub is-nothing-spec : {M : Type 1} → statement M
 is-nothing-spec =
-    tie.close
-    (tie.spec
-    (λ c. search needs) (λ c. search needs) returns returns-2)
+    tie.close (tie.spec (λ c. search needs) (λ c. search needs) returns returns-2)

@@ -14,6 +14,4 @@ returns-2 c = rw (c .is-index-fit .ensures, c .before .before .pin .given .1)
 
 pub is-pin-fit-spec : {M : Type 1} → statement M
 is-pin-fit-spec =
-    tie.close
-    (tie.spec
-    (λ c. search needs) (λ c. search needs) (λ c κs. search needs) returns returns-2)
+    tie.close (tie.spec (λ c. search needs) (λ c. search needs) (λ c κs. search needs) returns returns-2)

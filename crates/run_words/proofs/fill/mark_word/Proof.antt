@@ -14,6 +14,4 @@ returns-2 c = search needs
 
 pub mark-word-spec : {M : Type 1} → statement M
 mark-word-spec =
-    tie.close
-    (tie.spec
-    returns returns-2)
+    tie.close (tie.spec returns returns-2)

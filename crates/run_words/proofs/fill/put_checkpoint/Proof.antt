@@ -29,7 +29,6 @@ returns c =
 pub put-checkpoint-spec : {M : Type 1} → statement M
 put-checkpoint-spec =
     tie.close
-    (tie.spec
-    pin-word-requires (λ c. search needs) (λ c. search needs) (λ c. search needs) (λ c. search needs) (λ c. search needs) (λ c. search needs)
-    (λ c. search needs) (λ c. search needs) (λ c. search needs) (λ c. search needs) slice-write-w-2 (λ c. search needs) (λ c. search needs)
-    (λ c. search needs) (λ c. search needs) put-vector-requires same-length returns)
+    (tie.spec pin-word-requires (λ c. search needs) (λ c. search needs) (λ c. search needs) (λ c. search needs) (λ c. search needs) (λ c. search needs)
+    (λ c. search needs) (λ c. search needs) (λ c. search needs) (λ c. search needs) slice-write-w-2 (λ c. search needs) (λ c. search needs) (λ c. search needs)
+    (λ c. search needs) put-vector-requires same-length returns)

@@ -51,6 +51,4 @@ returns c =
 pub put-messages-spec : {M : Type 1} → statement M
 put-messages-spec =
     tie.close
-    (tie.spec
-    Inv-loop μ-loop loop-holds (λ c. search needs) (λ c. search needs) put-one-requires (λ c. search needs) (λ c. search needs) loop-again
-    same-length returns)
+    (tie.spec Inv-loop μ-loop loop-holds (λ c. search needs) (λ c. search needs) put-one-requires (λ c. search needs) (λ c. search needs) loop-again same-length returns)

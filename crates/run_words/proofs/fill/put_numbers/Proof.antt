@@ -43,6 +43,5 @@ returns c =
 pub put-numbers-spec : {M : Type 1} → statement M
 put-numbers-spec =
     tie.close
-    (tie.spec
-    (λ c. search needs) (λ c. search needs) (λ c. search needs) (λ c. search needs) put2-requires put4-requires put4-requires-2 (λ c. search needs)
+    (tie.spec (λ c. search needs) (λ c. search needs) (λ c. search needs) (λ c. search needs) put2-requires put4-requires put4-requires-2 (λ c. search needs)
     slice-write-w-3 same-length returns)

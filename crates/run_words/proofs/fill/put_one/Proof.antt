@@ -36,6 +36,4 @@ returns-3 c =
 
 pub put-one-spec : {M : Type 1} → statement M
 put-one-spec =
-    tie.close
-    (tie.spec
-    (λ c κs. search needs) returns put-message-requires same-length returns-2 (λ c κs. search needs) returns-3)
+    tie.close (tie.spec (λ c κs. search needs) returns put-message-requires same-length returns-2 (λ c κs. search needs) returns-3)

@@ -34,6 +34,4 @@ returns-3 c =
 
 pub put-place-spec : {M : Type 1} → statement M
 put-place-spec =
-    tie.close
-    (tie.spec
-    (λ c κs. search needs) returns put-checkpoint-requires same-length returns-2 (λ c κs. search needs) returns-3)
+    tie.close (tie.spec (λ c κs. search needs) returns put-checkpoint-requires same-length returns-2 (λ c κs. search needs) returns-3)

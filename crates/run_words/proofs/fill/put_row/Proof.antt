@@ -27,6 +27,4 @@ returns-3 c =
 
 pub put-row-spec : {M : Type 1} → statement M
 put-row-spec =
-    tie.close
-    (tie.spec
-    returns (λ c κs. search needs) same-length returns-2 (λ c κs. search needs) (λ c κs. search needs) returns-3)
+    tie.close (tie.spec returns (λ c κs. search needs) same-length returns-2 (λ c κs. search needs) (λ c κs. search needs) returns-3)

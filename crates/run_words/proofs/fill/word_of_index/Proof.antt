@@ -16,6 +16,4 @@ returns-2 c = rw (eq-eqb (c .before .before .args .index .0) 65535 (omega arith)
 
 pub word-of-index-spec : {M : Type 1} → statement M
 word-of-index-spec =
-    tie.close
-    (tie.spec
-    (λ c. search needs) returns returns-2)
+    tie.close (tie.spec (λ c. search needs) returns returns-2)

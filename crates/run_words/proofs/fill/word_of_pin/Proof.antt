@@ -14,6 +14,4 @@ returns-2 c = rw (c .word-of-index .ensures, c .before .before .pin .given .1)
 
 pub word-of-pin-spec : {M : Type 1} → statement M
 word-of-pin-spec =
-    tie.close
-    (tie.spec
-    (λ c. search needs) (λ c. search needs) (λ c κs. search needs) returns returns-2)
+    tie.close (tie.spec (λ c. search needs) (λ c. search needs) (λ c κs. search needs) returns returns-2)

@@ -8,6 +8,4 @@ returns c = rw (c .zero-vector .ensures)
 
 pub no-message-spec : {M : Type 1} → statement M
 no-message-spec =
-    tie.close
-    (tie.spec
-    (λ c κs. search needs) returns)
+    tie.close (tie.spec (λ c κs. search needs) returns)

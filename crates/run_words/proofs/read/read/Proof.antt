@@ -128,8 +128,7 @@ returns c =
 pub read-spec : {M : Type 1} → statement M
 read-spec =
     tie.close
-    (tie.spec
-    Inv-loop μ-loop count-read (λ c κs. search needs) vectors-of-requires (λ c κs. search needs) pins-of-requires (λ c κs. search needs) marks-of-requires held-of-requires
-    end-read (λ c κs. search needs) messages-of-requires disk-of-requires wide2-requires underway-read (λ c κs. search needs) (λ c κs. search needs)
+    (tie.spec Inv-loop μ-loop count-read (λ c κs. search needs) vectors-of-requires (λ c κs. search needs) pins-of-requires (λ c κs. search needs) marks-of-requires
+    held-of-requires end-read (λ c κs. search needs) messages-of-requires disk-of-requires wide2-requires underway-read (λ c κs. search needs) (λ c κs. search needs)
     (λ c. search needs) (λ c. search needs) end-of-loop loop-holds is-kept-requires checkpoint-at-requires (λ c. search needs) (λ c. search needs) (λ c. search needs)
     (λ c. search needs) (λ c. search needs) (λ c. search needs) loop-again (λ c κs. search needs) returns)

@@ -32,6 +32,4 @@ returns c =
 
 pub read-lost-spec : {M : Type 1} → statement M
 read-lost-spec =
-    tie.close
-    (tie.spec
-    end-read (λ c κs. search needs) messages-of-requires underway-read (λ c κs. search needs) returns)
+    tie.close (tie.spec end-read (λ c κs. search needs) messages-of-requires underway-read (λ c κs. search needs) returns)

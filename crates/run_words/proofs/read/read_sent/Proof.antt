@@ -43,6 +43,4 @@ returns c =
 
 pub read-sent-spec : {M : Type 1} → statement M
 read-sent-spec =
-    tie.close
-    (tie.spec
-    marks-of-requires end-read (λ c κs. search needs) messages-of-requires wide2-requires underway-read (λ c κs. search needs) returns)
+    tie.close (tie.spec marks-of-requires end-read (λ c κs. search needs) messages-of-requires wide2-requires underway-read (λ c κs. search needs) returns)

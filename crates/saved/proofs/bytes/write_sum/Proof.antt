@@ -20,11 +20,5 @@ returns c = refl
 pub write-sum-spec : {M : Type 1} → statement M
 write-sum-spec =
     tie.close
-    (tie.spec
-    (λ c. search needs) (λ c. search needs) (λ c. search needs) (λ c. search needs)
-    slice-write-bytes-2
-    (λ c. search needs) (λ c. search needs)
-    slice-write-bytes-3
-    (λ c. search needs) (λ c. search needs) (λ c. search needs)
-    (λ c. search needs)
-    returns)
+    (tie.spec (λ c. search needs) (λ c. search needs) (λ c. search needs) (λ c. search needs) slice-write-bytes-2 (λ c. search needs) (λ c. search needs)
+    slice-write-bytes-3 (λ c. search needs) (λ c. search needs) (λ c. search needs) (λ c. search needs) returns)

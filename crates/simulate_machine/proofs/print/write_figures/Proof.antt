@@ -59,14 +59,6 @@ returns c =
 pub write-figures-spec : {M : Type 1} → statement M
 write-figures-spec =
     tie.close
-    (tie.spec
-    (λ c. search needs) (λ c. search needs) (λ c κs. search needs) (λ c. search needs) (λ c. search needs)
-    write-figure-requires-2
-    (λ c. search needs)
-    write-figure-requires-3
-    (λ c. search needs) (λ c. search needs)
-    write-figure-requires-4
-    (λ c. search needs) (λ c. search needs)
-    write-figure-requires-5
-    same-length
+    (tie.spec (λ c. search needs) (λ c. search needs) (λ c κs. search needs) (λ c. search needs) (λ c. search needs) write-figure-requires-2 (λ c. search needs)
+    write-figure-requires-3 (λ c. search needs) (λ c. search needs) write-figure-requires-4 (λ c. search needs) (λ c. search needs) write-figure-requires-5 same-length
     returns)

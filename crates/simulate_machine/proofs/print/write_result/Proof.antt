@@ -16,9 +16,4 @@ returns-2 c = (rw (c .before .before .before .before .enum-told .given .1) (c .b
 
 pub write-result-spec : {M : Type 1} → statement M
 write-result-spec =
-    tie.close
-    (tie.spec
-    (λ c. search needs) (λ c κs. search needs) (λ c. search needs) (λ c κs. search needs) (λ c. search needs)
-    returns
-    (λ c. search needs)
-    returns-2)
+    tie.close (tie.spec (λ c. search needs) (λ c κs. search needs) (λ c. search needs) (λ c κs. search needs) (λ c. search needs) returns (λ c. search needs) returns-2)

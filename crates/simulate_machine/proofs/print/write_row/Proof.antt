@@ -78,17 +78,5 @@ returns c =
 pub write-row-spec : {M : Type 1} → statement M
 write-row-spec =
     tie.close
-    (tie.spec
-    write-number-requires
-    (λ c. search needs)
-    write-field-requires
-    (λ c. search needs)
-    write-field-requires-2
-    write-field-requires-3
-    (λ c. search needs)
-    write-field-requires-4
-    (λ c. search needs)
-    write-field-requires-5
-    write-byte-requires
-    same-length
-    returns)
+    (tie.spec write-number-requires (λ c. search needs) write-field-requires (λ c. search needs) write-field-requires-2 write-field-requires-3 (λ c. search needs)
+    write-field-requires-4 (λ c. search needs) write-field-requires-5 write-byte-requires same-length returns)

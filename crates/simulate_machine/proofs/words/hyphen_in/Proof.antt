@@ -34,9 +34,4 @@ returns c =
 
 pub hyphen-in-spec : {M : Type 1} → statement M
 hyphen-in-spec =
-    tie.close
-    (tie.spec Inv-loop μ-loop
-    loop-holds
-    (λ c. search needs) (λ c κs. search needs) (λ c. search needs) (λ c. search needs)
-    loop-again
-    returns)
+    tie.close (tie.spec Inv-loop μ-loop loop-holds (λ c. search needs) (λ c κs. search needs) (λ c. search needs) (λ c. search needs) loop-again returns)

@@ -36,10 +36,5 @@ returns-2 c =
 pub spacings-in-spec : {M : Type 1} → statement M
 spacings-in-spec =
     tie.close
-    (tie.spec
-    (λ c κs. search needs)
-    slice-aggregate-number-in
-    (λ c κs. search needs)
-    returns
-    (λ c. search needs) (λ c. search needs) (λ c. search needs) (λ c. search needs) (λ c κs. search needs)
-    returns-2)
+    (tie.spec (λ c κs. search needs) slice-aggregate-number-in (λ c κs. search needs) returns (λ c. search needs) (λ c. search needs) (λ c. search needs)
+    (λ c. search needs) (λ c κs. search needs) returns-2)

@@ -5,17 +5,11 @@ use borrow.Author.Needs.{needs}
 use Rattle.simulate_machine.proofs.words.with_word.Statement.{statement}
 use Rattle.simulate_machine.proofs.words.with_word.Tie as tie
 
-spacings-in-requires : tie.Need-spacings-in-requires
-spacings-in-requires c κs = search needs
-
 returns : tie.Need-returns
 returns c =
     let at-if1 = c .before .if1 in
     let at-spacings-in = c .spacings-in in
     word-second _ _ _ _ (at-if1 .taken) (at-spacings-in .ensures)
-
-number-in-requires : tie.Need-number-in-requires
-number-in-requires c κs = search needs
 
 returns-2 : tie.Need-returns-2
 returns-2 c =
@@ -39,5 +33,4 @@ returns-4 c =
 
 pub with-word-spec : {M : Type 1} → statement M
 with-word-spec =
-    tie.close
-    (tie.spec spacings-in-requires returns number-in-requires returns-2 returns-3 returns-4)
+    tie.close (tie.spec (λ c κs. search needs) returns (λ c κs. search needs) returns-2 returns-3 returns-4)

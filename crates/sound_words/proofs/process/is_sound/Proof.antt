@@ -42,13 +42,5 @@ returns-2 c = let n = c .before in
 pub is-sound-spec : {M : Type 1} → statement M
 is-sound-spec =
     tie.close
-    (tie.spec
-    (λ c κs. search needs)
-    returns
-    rows-off-requires
-    (λ c κs. search needs)
-    (λ c. search needs)
-    (λ c. search needs)
-    (λ c κs. search needs)
-    are-kept-sound-requires
-    returns-2)
+    (tie.spec (λ c κs. search needs) returns rows-off-requires (λ c κs. search needs) (λ c. search needs) (λ c. search needs) (λ c κs. search needs)
+    are-kept-sound-requires returns-2)

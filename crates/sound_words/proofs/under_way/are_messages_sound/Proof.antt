@@ -40,13 +40,4 @@ returns-4 c = let e = c .before in
 pub are-messages-sound-spec : {M : Type 1} → statement M
 are-messages-sound-spec =
     tie.close
-    (tie.spec
-    (λ c. search needs)
-    (λ c κs. search needs)
-    returns
-    (λ c κs. search needs)
-    returns-2
-    (λ c κs. search needs)
-    returns-3
-    are-places-sound-requires
-    returns-4)
+    (tie.spec (λ c. search needs) (λ c κs. search needs) returns (λ c κs. search needs) returns-2 (λ c κs. search needs) returns-3 are-places-sound-requires returns-4)

@@ -11,4 +11,6 @@ abbrev μ-loop : tie.MeasureT-loop
 μ-loop run₀ p₀ run p = 16 - p
 
 pub checkpoints-spec : {M : Type 1} → statement M
-checkpoints-spec = tie.close (tie.spec Inv-loop μ-loop (λ c. search needs) (λ c κs. search needs) (λ c. search needs) (λ c. search needs) (λ c. search needs) (λ c. search needs))
+checkpoints-spec =
+    tie.close
+    (tie.spec Inv-loop μ-loop (λ c. search needs) (λ c κs. search needs) (λ c. search needs) (λ c. search needs) (λ c. search needs) (λ c. search needs))

@@ -57,15 +57,5 @@ returns c =
 pub restore-stored-spec : {M : Type 1} → statement M
 restore-stored-spec =
     tie.close
-    (tie.spec
-    (λ c. search needs)
-    go-back-requires
-    (λ c. search needs)
-    (λ c. search needs)
-    (λ c κs. search needs)
-    (λ c κs. search needs)
-    (λ c κs. search needs)
-    settle-requires
-    (λ c. search needs)
-    (λ c. search needs)
-    returns)
+    (tie.spec (λ c. search needs) go-back-requires (λ c. search needs) (λ c. search needs) (λ c κs. search needs) (λ c κs. search needs) (λ c κs. search needs)
+    settle-requires (λ c. search needs) (λ c. search needs) returns)
