@@ -97,7 +97,7 @@ pub(crate) fn is_fit(w: &[u16]) -> bool
 }
 
 // How many processes the run has that the words stand for. Other words stand for a state of zeros.
-pub(crate) fn count_of(w: &[u16]) -> usize
+pub fn count_of(w: &[u16]) -> usize
     ensures { λ r. ⌜ r ≡ runOf (now (w .entry)) .count ⌝ }
 {
     let fit = is_fit(w);

@@ -41,24 +41,24 @@ startedOver s o = record { run = pick (eqb (o .reply .report .refused) 0) (o .ru
 abbrev pub startedBy : Caller → ℕ → Answered
 startedBy c n = answered startReport (consoleStart c n ones)
 
--- What a call does, by its operation.
-unfoldable pub madeAs : Operation → Run → Call → Answered
-madeAs Checkpoint s c = consoleAnswered (c .caller) s (made (checkpoint (c .process) (lentPairs s c)))
-madeAs Send s c = consoleAnswered (c .caller) s (made (send (c .process) (c .argument)))
-madeAs Deliver s c = consoleAnswered (c .caller) s (made (deliver (c .argument) (lentPairs s c)))
-madeAs Lose s c = consoleAnswered (c .caller) s (made (lose (c .argument)))
-madeAs Recover s c = consoleAnswered (c .caller) s (made (recover (c .low) (lentPairs s c) (lentLine s c)))
-madeAs Line s c = consoleAnswered (c .caller) s (made (line (c .low) (lentLine s c)))
+-- What a call does with the lists that are lent for pairs and for a line, by its operation.
+unfoldable pub madeWith : Operation → Run → Call → List ℕ → List ℕ → Answered
+madeWith Checkpoint s c pairs entries = consoleAnswered (c .caller) s (made (checkpoint (c .process) pairs))
+madeWith Send s c pairs entries = consoleAnswered (c .caller) s (made (send (c .process) (c .argument)))
+madeWith Deliver s c pairs entries = consoleAnswered (c .caller) s (made (deliver (c .argument) pairs))
+madeWith Lose s c pairs entries = consoleAnswered (c .caller) s (made (lose (c .argument)))
+madeWith Recover s c pairs entries = consoleAnswered (c .caller) s (made (recover (c .low) pairs entries))
+madeWith Line s c pairs entries = consoleAnswered (c .caller) s (made (line (c .low) entries))
 -- the line through one named checkpoint
-madeAs Earliest s c = consoleAnswered (c .caller) s (made (earliest (record { process = c .process; index = record { 0 = c .low } } ∷ []) (lentLine s c)))
-madeAs Listing s c = consoleAnswered (c .caller) s (list (lentPairs s c))
-madeAs Counts s c = consoleAnswered (c .caller) s (counts (lentLine s c))
-madeAs Start s c = startedOver s (startedBy (c .caller) (c .process))
+madeWith Earliest s c pairs entries = consoleAnswered (c .caller) s (made (earliest (record { process = c .process; index = record { 0 = c .low } } ∷ []) entries))
+madeWith Listing s c pairs entries = consoleAnswered (c .caller) s (list pairs)
+madeWith Counts s c pairs entries = consoleAnswered (c .caller) s (counts entries)
+madeWith Start s c pairs entries = startedOver s (startedBy (c .caller) (c .process))
 
 -- What is no call is refused with 14, and changes nothing.
 unfoldable pub madeOn : Run → Option Call → Answered
 madeOn s none = record { run = s; reply = record { report = refusing MalformedRecord; rose = 0; deleted = []; line = [] } }
-madeOn s (some c) = madeAs (c .operation) s c
+madeOn s (some c) = madeWith (c .operation) s c (lentPairs s c) (lentLine s c)
 
 -- The operator, who starts the run of a script.
 abbrev pub operator : Caller

@@ -14,7 +14,7 @@ pub struct Call {
     pub short: bool,
     pub operation: Operation,
     // of a checkpoint, of an earliest line; the sender; the count of a start
-    pub process: usize,
+    pub process: u8,
     // the receiver, the message's number: three bytes
     pub argument: u32,
     // the failed set, the index of the named checkpoint: two bytes, and the one before them is zero
@@ -108,7 +108,7 @@ fn call_in(operation: Operation, bytes: [u8; 8]) -> Call
     let owned = two(bytes[1], bytes[2]);
     let caller = Caller { role, owned };
     let short = 128 <= who;
-    let process = bytes[4] as usize;
+    let process = bytes[4];
     let argument = three(bytes[5], bytes[6], bytes[7]);
     let low = two(bytes[6], bytes[7]);
     Call {

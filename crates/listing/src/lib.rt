@@ -69,7 +69,7 @@ pub fn write_byte(out: &mut [u8], at: usize, byte: u8) -> usize
     at + 1
 }
 
-fn write_value(out: &mut [u8], at: usize, value: Value) -> usize
+pub fn write_value(out: &mut [u8], at: usize, value: Value) -> usize
     requires { ⌜ Room (now out) at (valueText (valueIn value)) ⌝ }
     ensures { λ r. ⌜ Printed (now (out .entry)) at (valueText (valueIn value)) (now (out .exit)) r ⌝ }
 {
@@ -91,7 +91,7 @@ pub fn write_pair(out: &mut [u8], at: usize, process: u16, index: u16) -> usize
 }
 
 // `count` deletions from the front of the deletion list.
-fn write_deletions(out: &mut [u8], at: usize, deleted: &[u16], count: usize) -> usize
+pub fn write_deletions(out: &mut [u8], at: usize, deleted: &[u16], count: usize) -> usize
     requires { ⌜ (2 * count ≤ length (now deleted)) × Room (now out) at (deletionsText count (now deleted)) ⌝ }
     ensures { λ r. ⌜ Printed (now (out .entry)) at (deletionsText count (now (deleted .entry))) (now (out .exit)) r ⌝ }
 {

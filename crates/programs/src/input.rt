@@ -1,5 +1,4 @@
 // Bytes read into a lent buffer.
-use libc::STDIN_FILENO;
 ghost use mathlib.Core.Path.{_≡_};
 ghost use Prim.Native.Nat.{_+_, _≤_};
 ghost use lib.ListN.{length, take};
@@ -20,36 +19,5 @@ pub fn read_behind(fd: i32, input: &mut [u8], held: usize) -> Brought
     Brought {
         failed: got < 0,
         more,
-    }
-}
-
-// Whether a read failed, and how many bytes are held.
-pub struct Filled {
-    pub failed: bool,
-    pub held: usize,
-}
-
-// Reads standard input until the buffer is full, the input ends or a read fails. The caller says what failed.
-pub fn fill(input: &mut [u8]) -> Filled
-    ensures { λ r. ⌜ r .held ≤ length (now (input .entry)) ⌝ }
-{
-    let mut held = 0;
-    while held < input.len() {
-        let brought = read_behind(STDIN_FILENO, input, held);
-        if brought.failed {
-            return Filled { failed: true, held };
-        }
-        let more = brought.more;
-        if more == 0 {
-            return Filled {
-                failed: false,
-                held,
-            };
-        }
-        held += more;
-    }
-    Filled {
-        failed: false,
-        held,
     }
 }

@@ -1,0 +1,12 @@
+-- The program's buffers are large enough.
+-- Assumes nothing.
+use mathlib.Core.Path.{_≡_, refl}
+use mathlib.Core.Bool.{true}
+use Prim.Native.Nat.{ℕ, _≤_}
+use borrow.Author.Tests.{le-leb, eq-eqb}
+use Rattle.console_steps.specs.Replied.{longestLine}
+use Rattle.console_steps.specs.Lent.{hasRoom}
+
+pub has-room : (memory words input out : ℕ) → 4 ≤ memory → words ≡ 6464 → 8 ≤ input → longestLine ≤ out → hasRoom memory words input out ≡ true
+unfolding hasRoom
+has-room memory words input out a b c d = rw (le-leb 4 memory a, eq-eqb words 6464 b, le-leb 8 input c, le-leb longestLine out d) refl

@@ -1,0 +1,20 @@
+-- `console_steps::begin` meets its contract. Assumes nothing.
+use mathlib.Core.Path.{refl}
+use native.Mathlib.Omega.{arith}
+use Rattle.console_steps.proofs.Arriving.{arrives-opening}
+use Rattle.console_steps.proofs.Stepping.{roomy, room-kept, begin-stands}
+use borrow.Author.Needs.{needs}
+use Rattle.console_steps.proofs.begin.Statement.{statement}
+use Rattle.console_steps.proofs.begin.Tie as tie
+
+put-requires : tie.Need-put-requires
+put-requires c κs = roomy _ _ _ _ (c .before .before .before .before .before .before .pre) .memory-room
+
+request-requires : tie.Need-request-requires
+request-requires c κs = rw (c .before .before .before .before .at .ensures) (omega arith)
+
+returns : tie.Need-returns
+returns c = begin-stands _ _ _ _ _ _ _ (room-kept _ _ _ _ _ _ _ _ (c .before .before .before .put .kept .0) refl refl refl (c .before .before .before .before .before .before .before .before .before .before .pre)) (c .before .before .before .put .ensures) (rw (c .before .before .before .before .before .at .ensures) (arrives-opening _ _ _)) (c .request .ensures)
+
+pub begin-spec : {M : Type 1} → statement M
+begin-spec = tie.close (tie.spec (λ c κs. search needs) put-requires request-requires (λ c. search needs) returns)

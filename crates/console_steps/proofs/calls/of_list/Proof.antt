@@ -1,0 +1,19 @@
+-- `console_steps::calls::of_list` meets its contract. Assumes nothing.
+use mathlib.Core.Path.{refl, sym, _∙_, ap}
+use Rattle.listing.specs.Lines.{valueIn}
+use Rattle.listing.specs.Said.{reportIn}
+use Rattle.roles.specs.Console.{listReport}
+use borrow.Author.Needs.{needs}
+use Rattle.console_steps.proofs.calls.of_list.Statement.{statement}
+use Rattle.console_steps.proofs.calls.of_list.Tie as tie
+
+returns : tie.Need-returns
+unfolding listReport
+returns c = c .refused .ensures ∙ ap listReport (sym (c .before .before .answer .given .1))
+
+returns-2 : tie.Need-returns-2
+unfolding listReport reportIn valueIn
+returns-2 c = rw (c .before .answer2 .given .1) refl
+
+pub of-list-spec : {M : Type 1} → statement M
+of-list-spec = tie.close (tie.spec (λ c. search needs) (λ c κs. search needs) (λ c. search needs) returns returns-2)

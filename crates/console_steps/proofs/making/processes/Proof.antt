@@ -1,0 +1,14 @@
+-- `console_steps::making::processes` meets its contract. Assumes nothing.
+use mathlib.Core.Path.{_∙_, ap}
+use Prim.Native.Nat.{min}
+use Rattle.console_machine.specs.Made.{processes}
+use borrow.Author.Needs.{needs}
+use Rattle.console_steps.proofs.making.processes.Statement.{statement}
+use Rattle.console_steps.proofs.making.processes.Tie as tie
+
+returns : tie.Need-returns
+unfolding processes
+returns c = c .least .ensures ∙ ap (min 16) (c .before .count-of .ensures)
+
+pub processes-spec : {M : Type 1} → statement M
+processes-spec = tie.close (tie.spec (λ c κs. search needs) (λ c κs. search needs) returns)

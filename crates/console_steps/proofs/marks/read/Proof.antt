@@ -1,0 +1,13 @@
+-- `console_steps::marks::read` meets its contract. Assumes nothing.
+use mathlib.Core.Path.{refl}
+use Rattle.console_steps.specs.Lent.{marksOf}
+use borrow.Author.Needs.{needs}
+use Rattle.console_steps.proofs.marks.read.Statement.{statement}
+use Rattle.console_steps.proofs.marks.read.Tie as tie
+
+returns : tie.Need-returns
+unfolding marksOf
+returns c = refl
+
+pub read-spec : {M : Type 1} → statement M
+read-spec = tie.close (tie.spec (λ c. search needs) (λ c. search needs) (λ c. search needs) (λ c. search needs) returns)

@@ -1,0 +1,43 @@
+-- What the functions leave that make a call on words and write its line.
+-- Assumes nothing.
+use mathlib.Core.Path.{_≡_}
+use mathlib.Core.List.{List}
+use mathlib.Core.Option.{Option}
+use Prim.Native.Nat.{ℕ, _≤_}
+use lib.ListN.{length, take}
+use Rattle.model.specs.declared.Run.{Run}
+use Rattle.whole_runs.specs.Calls.{Reply, Answered}
+use Rattle.listing.specs.Said.{reportIn}
+use Rattle.words.specs.Layout.{runOf}
+use Rattle.roles.specs.declared.Caller.{Caller}
+use Rattle.roles.specs.declared.Operation.{Operation}
+use Rattle.console_script.specs.declared.Call.{Call}
+use Rattle.console_in_place.specs.declared.denied.Claim.the-variants.{As}
+use Rattle.console_in_place.specs.Asked.{claimOf}
+use Rattle.console_machine.specs.Made.{madeOn}
+use Rattle.console_machine.specs.Text.{answerText, callText}
+use Rattle.console_steps.specs.declared.calls.Replied.{Replied}
+
+-- No line is longer: a field has a space and 20 digits at most, and there are no more of them than four, 16 entries, and two for each of 256 pairs.
+abbrev pub longestLine : ℕ
+longestLine = 12_000
+
+-- The number of a role and a set of processes are those of a caller.
+abbrev pub Claims : ℕ → ℕ → Caller → Type 0
+Claims role owned c = (claimOf role ≡ As (c .role)) × (owned ≡ c .owned)
+
+-- The reply that a call handed back, with what it left of the lent lists.
+abbrev pub replyOf : Replied → List ℕ → List ℕ → Reply
+replyOf r pairs line = record { report = reportIn (r .said); rose = r .rose; deleted = pairs; line = line }
+
+-- A call answered so on words, and no line of it reads otherwise.
+pub record Replies (o : Operation) (a : Answered) (w′ : List ℕ) (r : Replied) (pairs line : List ℕ) : Type 0 where
+  pub run : runOf w′ ≡ a .run
+  pub refused : r .said .refused ≡ a .reply .report .refused
+  pub answer : (c : Caller) (n : ℕ) → answerText o c n (replyOf r pairs line) ≡ answerText o c n (a .reply)
+
+-- What is a call or not is made on words, and its line is at the front of a buffer.
+pub record Makes (s : Run) (number : ℕ) (c : Option Call) (w′ out′ : List ℕ) (size : ℕ) : Type 0 where
+  pub run : runOf w′ ≡ madeOn s c .run
+  pub line : take size out′ ≡ callText number s c
+  pub inside : size ≤ length out′

@@ -1,0 +1,129 @@
+// The line of a call, printed to the front of a lent buffer.
+use crate::calls::Replied;
+use crate::text;
+use console_script::Call;
+use listing::Summary;
+use listing::Value;
+use roles::Operation;
+ghost use mathlib.Core.Path.{_≡_};
+ghost use mathlib.Core.List.{[], _++_};
+ghost use mathlib.Core.Option.{some};
+ghost use Prim.Native.Nat.{_+_, _*_, _≤_};
+ghost use lib.ListN.{length};
+ghost use Rattle.whole_runs.specs.Listing.{decimal};
+ghost use Rattle.listing.specs.Lines.{valueIn};
+ghost use Rattle.listing.specs.Printed.{Printed};
+ghost use Rattle.console_machine.specs.Text.{fieldText, pairsText, listText, entriesText, answerText, lineText};
+ghost use Rattle.console_steps.specs.Replied.{longestLine, replyOf};
+
+// A value and the deletions.
+fn write_valued(out: &mut [u8], at: usize, said: Summary, pairs: &[u16]) -> usize
+    requires { ⌜ at + (42 + 21 * length (now pairs)) ≤ length (now out) ⌝ }
+    ensures { λ r. ⌜ Printed (now (out .entry)) at (fieldText (valueIn (said .value)) ++ pairsText (said .deletions) (now (pairs .entry))) (now (out .exit)) r × (r ≤ at + (42 + 21 * length (now (pairs .entry)))) ⌝ }
+{
+    let value = said.value;
+    let valued = text::write_value(out, at, value);
+    text::write_pairs(out, valued, said.deletions, pairs)
+}
+
+// The forced index, the set of the entries that rose, and the deletions.
+fn write_delivered(out: &mut [u8], at: usize, said: Summary, rose: u16, pairs: &[u16]) -> usize
+    requires { ⌜ at + (63 + 21 * length (now pairs)) ≤ length (now out) ⌝ }
+    ensures { λ r. ⌜ Printed (now (out .entry)) at (fieldText (valueIn (said .value)) ++ (fieldText (some rose) ++ pairsText (said .deletions) (now (pairs .entry)))) (now (out .exit)) r × (r ≤ at + (63 + 21 * length (now (pairs .entry)))) ⌝ }
+{
+    let value = said.value;
+    let valued = text::write_value(out, at, value);
+    let risen = text::write_field(out, valued, rose as u64);
+    text::write_pairs(out, risen, said.deletions, pairs)
+}
+
+// The members of the line, how many were rolled back, and the deletions.
+fn write_recovered(out: &mut [u8], at: usize, said: Summary, pairs: &[u16], line: &[u16]) -> usize
+    requires { ⌜ at + (21 * length (now line) + (42 + 21 * length (now pairs))) ≤ length (now out) ⌝ }
+    ensures { λ r. ⌜ Printed (now (out .entry)) at (entriesText (now (line .entry)) ++ (fieldText (valueIn (said .value)) ++ pairsText (said .deletions) (now (pairs .entry)))) (now (out .exit)) r × (r ≤ at + (21 * length (now (line .entry)) + (42 + 21 * length (now (pairs .entry))))) ⌝ }
+{
+    let members = text::write_entries(out, at, line);
+    write_valued(out, members, said, pairs)
+}
+
+// Of a list its count is the value.
+fn write_list(out: &mut [u8], at: usize, value: Value, pairs: &[u16]) -> usize
+    requires { ⌜ at + (21 + 21 * length (now pairs)) ≤ length (now out) ⌝ }
+    ensures { λ r. ⌜ Printed (now (out .entry)) at (listText (valueIn value) (now (pairs .entry))) (now (out .exit)) r × (r ≤ at + (21 + 21 * length (now (pairs .entry)))) ⌝ }
+{
+    match value {
+        Value::Hyphen => at,
+        Value::Number(count) => text::write_pairs(out, at, count as usize, pairs),
+    }
+}
+
+// What follows the 0 of an accepted call, by its operation.
+fn write_answer(
+    out: &mut [u8],
+    at: usize,
+    c: Call,
+    n: usize,
+    r: Replied,
+    pairs: &[u16],
+    line: &[u16],
+) -> usize
+    requires { ⌜ (length (now pairs) ≤ 512) × (length (now line) ≤ 16) × (at + 11200 ≤ length (now out)) ⌝ }
+    ensures { λ x. ⌜ Printed (now (out .entry)) at (answerText (c .operation) (c .caller) n (replyOf r (now (pairs .entry)) (now (line .entry)))) (now (out .exit)) x × (x ≤ at + 11200) ⌝ }
+{
+    let said = r.said;
+    let value = said.value;
+    let operation = c.operation;
+    match operation {
+        Operation::Checkpoint => write_valued(out, at, said, pairs),
+        Operation::Send => text::write_value(out, at, value),
+        Operation::Deliver => write_delivered(out, at, said, r.rose, pairs),
+        Operation::Lose => at,
+        Operation::Recover => write_recovered(out, at, said, pairs, line),
+        Operation::Line => text::write_members(out, at, c.caller, n, line),
+        Operation::Earliest => text::write_entries(out, at, line),
+        Operation::List => write_list(out, at, value, pairs),
+        Operation::Counts => text::write_entries(out, at, line),
+        Operation::Start => at,
+    }
+}
+
+// The number of a call, and 0 or that of its refusal.
+fn write_numbers(out: &mut [u8], number: u64, refused: u64) -> usize
+    requires { ⌜ longestLine ≤ length (now out) ⌝ }
+    ensures { λ r. ⌜ Printed (now (out .entry)) 0 (decimal number ++ fieldText (some refused)) (now (out .exit)) r × (r ≤ 41) ⌝ }
+{
+    let numbered = listing::write_number(out, 0, number);
+    text::write_field(out, numbered, refused)
+}
+
+// The line of a refusal.
+pub fn write_refused(out: &mut [u8], number: u64, refused: u64) -> usize
+    requires { ⌜ longestLine ≤ length (now out) ⌝ }
+    ensures { λ r. ⌜ Printed (now (out .entry)) 0 (lineText number refused []) (now (out .exit)) r × (r ≤ longestLine) ⌝ }
+{
+    let told = write_numbers(out, number, refused);
+    listing::write_byte(out, told, b'\n')
+}
+
+// The line of a call that is made.
+pub fn write_line(
+    out: &mut [u8],
+    number: u64,
+    c: Call,
+    n: usize,
+    r: Replied,
+    pairs: &[u16],
+    line: &[u16],
+) -> usize
+    requires { ⌜ (length (now pairs) ≤ 512) × (length (now line) ≤ 16) × (longestLine ≤ length (now out)) ⌝ }
+    ensures { λ x. ⌜ Printed (now (out .entry)) 0 (lineText number (r .said .refused) (answerText (c .operation) (c .caller) n (replyOf r (now (pairs .entry)) (now (line .entry))))) (now (out .exit)) x × (x ≤ longestLine) ⌝ }
+{
+    let said = r.said;
+    let refused = said.refused;
+    if refused != 0 {
+        return write_refused(out, number, refused as u64);
+    }
+    let told = write_numbers(out, number, 0);
+    let whole = write_answer(out, told, c, n, r, pairs, line);
+    listing::write_byte(out, whole, b'\n')
+}
