@@ -40,4 +40,7 @@ returns : tie.Need-returns Inv-loop μ-loop
 returns c = driven-ends _ _ _ _ _ (c .before .before .loop .inv .0) (sym (c .before .goes-on .ensures) ∙ c .if1 .left)
 
 pub drive-spec : {M : Type 1} → statement M
-drive-spec = tie.close (tie.spec Inv-loop μ-loop begin-requires (λ c κs. search needs) loop-holds (λ c κs. search needs) obey-requires (λ c κs. search needs) loop-less loop-again (λ c. search needs) (λ c. search needs) (λ c. search needs) (λ c. search needs) returns)
+drive-spec =
+    tie.close
+    (tie.spec Inv-loop μ-loop begin-requires (λ c κs. search needs) loop-holds (λ c κs. search needs) obey-requires (λ c κs. search needs) loop-less loop-again
+    (λ c. search needs) (λ c. search needs) (λ c. search needs) (λ c. search needs) returns)

@@ -30,4 +30,7 @@ returns-3 : tie.Need-returns-3
 returns-3 c = let k = c .before .before .before .before .before .before .before .before .before .on .kept in step-stands _ _ _ _ _ _ _ _ _ _ _ _ (sym (c .before .before .before .before .before .before .before .before .before .before .before .before .before .before .before .before .before .has-room .ensures) ∙ affirmed _ (c .before .before .before .before .before .before .before .before .before .before .before .before .before .before .before .before .if1 .left)) (c .before .before .before .before .before .before .before .before .before .before .before .before .before .before .read .ensures) (sym (c .before .before .before .before .before .before .before .before .before .before .before .before .before .in-bounds .ensures) ∙ affirmed _ (c .before .before .before .before .before .before .before .before .before .before .before .before .if2 .left)) (room-kept _ _ _ _ _ _ _ _ (c .before .before .before .put .kept .0) (k .1 .0) refl (k .1 .1 .1 .0) (sym (c .before .before .before .before .before .before .before .before .before .before .before .before .before .before .before .before .before .has-room .ensures) ∙ affirmed _ (c .before .before .before .before .before .before .before .before .before .before .before .before .before .before .before .before .if1 .left))) (c .before .before .before .put .ensures) (c .before .before .before .before .before .before .before .before .before .on .ensures) (c .request .ensures)
 
 pub step-spec : {M : Type 1} → statement M
-step-spec = tie.close (tie.spec (λ c κs. search needs) returns read-requires (λ c κs. search needs) (λ c. search needs) returns-2 on-requires put-requires request-requires (λ c. search needs) (λ c. search needs) (λ c. search needs) returns-3)
+step-spec =
+    tie.close
+    (tie.spec (λ c κs. search needs) returns read-requires (λ c κs. search needs) (λ c. search needs) returns-2 on-requires put-requires request-requires
+    (λ c. search needs) (λ c. search needs) (λ c. search needs) returns-3)

@@ -16,5 +16,4 @@ returns c =
 
 pub deliver-spec : {M : Type 1} → statement M
 deliver-spec =
-    tie.close
-    (tie.spec (λ c. search needs) (λ c κs. search needs) (λ c κs. search needs) (λ c. c .before .before .before .before .deliver-on .kept .0) returns)
+    tie.close (tie.spec (λ c. search needs) (λ c κs. search needs) (λ c κs. search needs) (λ c. c .before .before .before .before .deliver-on .kept .0) returns)

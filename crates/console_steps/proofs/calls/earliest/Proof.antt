@@ -9,4 +9,6 @@ returns : tie.Need-returns
 returns c = let a = c .before .before .before .before .before .before .before .before .before .before .args in let e = c .before .before .before .earliest .ensures in λ pairs. earliest-replies (a .role) (a .owned) (a .c) _ _ _ (c .before .before .before .before .before .before .before .before .before .before .pre) pairs _ _ _ _ refl (e .0) (e .1 .0) (e .1 .1) (c .of-line .ensures)
 
 pub earliest-spec : {M : Type 1} → statement M
-earliest-spec = tie.close (tie.spec (λ c. search needs) (λ c. search needs) (λ c. search needs) (λ c κs. search needs) (λ c κs. search needs) (λ c. search needs) returns)
+earliest-spec =
+    tie.close
+    (tie.spec (λ c. search needs) (λ c. search needs) (λ c. search needs) (λ c κs. search needs) (λ c κs. search needs) (λ c. search needs) returns)

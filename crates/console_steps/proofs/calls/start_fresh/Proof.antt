@@ -14,4 +14,7 @@ returns-2 : tie.Need-returns-2
 returns-2 c = λ pairs line. let a = c .before .before .before .before .before .before .before .before .before .before .before .args in let e = c .before .before .before .before .before .start .ensures in start-refused (a .role) (a .owned) (a .c) (c .before .before .before .before .before .before .before .before .before .before .before .pre .0) _ _ _ _ (c .before .before .before .before .before .before .before .before .before .before .before .pre .2) _ _ pairs line (e .0) (e .1 .0) (c .before .before .of-start .ensures) (c .if1 .left) refl
 
 pub start-fresh-spec : {M : Type 1} → statement M
-start-fresh-spec = tie.close (tie.spec (λ c. search needs) (λ c. search needs) (λ c κs. search needs) (λ c κs. search needs) (λ c κs. search needs) (λ c. search needs) (λ c. search needs) returns (λ c. search needs) returns-2)
+start-fresh-spec =
+    tie.close
+    (tie.spec (λ c. search needs) (λ c. search needs) (λ c κs. search needs) (λ c κs. search needs) (λ c κs. search needs) (λ c. search needs) (λ c. search needs)
+    returns (λ c. search needs) returns-2)

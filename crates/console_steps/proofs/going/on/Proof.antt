@@ -30,4 +30,7 @@ returns-5 : tie.Need-returns-5
 returns-5 c = let q = c .before .before .before .before .before .args .m .phase in let o = c .before .match .rest in led (rest-stops (c .before .before .before .before .before .args .m) _ _ _ _ (ne-eqb q 1 (o .0 .0 .0 .1)) (ne-eqb q 2 (o .0 .0 .1)) (ne-eqb q 3 (o .0 .1)) (ne-eqb q 4 (o .1))) (c .stop .ensures _ _ _)
 
 pub on-spec : {M : Type 1} → statement M
-on-spec = tie.close (tie.spec (λ c κs. search needs) after-read-requires (λ c κs. search needs) (λ c κs. search needs) (λ c κs. search needs) (λ c. search needs) (λ c. search needs) returns (λ c. search needs) (λ c. search needs) returns-2 (λ c. search needs) returns-3 (λ c. search needs) returns-4 returns-5)
+on-spec =
+    tie.close
+    (tie.spec (λ c κs. search needs) after-read-requires (λ c κs. search needs) (λ c κs. search needs) (λ c κs. search needs) (λ c. search needs) (λ c. search needs)
+    returns (λ c. search needs) (λ c. search needs) returns-2 (λ c. search needs) returns-3 (λ c. search needs) returns-4 returns-5)

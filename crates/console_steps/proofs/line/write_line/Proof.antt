@@ -17,4 +17,7 @@ returns-2 : tie.Need-returns-2
 returns-2 c = let a = c .before .before .before .before .before .before .before .before .before .before .before .before .before .before .before .before .before .args in let answer = answerText (a .c .operation) (a .c .caller) (a .n) (replyOf (a .r) (a .pairs .now) (a .line .now)) in let none : a .r .said .refused ≡ 0 = omega (arith, c .before .before .before .before .before .before .before .before .before .before .before .before .if1 .left) in (printed-as (ap (λ (x : ℕ). lineText (a .number) x answer) none ∙ accepted-line (a .number) answer) (then (then (c .before .before .before .before .before .before .before .before .before .before .write-numbers .ensures .0) (c .before .before .before .before .before .before .write-answer .ensures .0)) (c .before .before .write-byte .ensures)), omega (arith, c .before .before .before .before .before .before .before .before .before .before .write-numbers .ensures .1, c .before .before .before .before .before .before .write-answer .ensures .1, c .before .before .write-byte .ensures .next-place))
 
 pub write-line-spec : {M : Type 1} → statement M
-write-line-spec = tie.close (tie.spec (λ c. search needs) (λ c κs. search needs) (λ c. search needs) returns (λ c κs. search needs) (λ c κs. search needs) (λ c κs. search needs) (λ c. search needs) returns-2)
+write-line-spec =
+    tie.close
+    (tie.spec (λ c. search needs) (λ c κs. search needs) (λ c. search needs) returns (λ c κs. search needs) (λ c κs. search needs) (λ c κs. search needs)
+    (λ c. search needs) returns-2)

@@ -20,4 +20,8 @@ returns-4 : tie.Need-returns-4
 returns-4 c = rw (asks-some (callOf (c .before .before .before .before .before .before .before .before .before .before .before .before .before .args .bytes)) _ (sym (eight-is (c .before .before .before .before .before .before .before .before .before .before .before .before .before .args .bytes)) ∙ sym (c .before .before .before .before .before .before .before .before .before .before .next-of .ensures) ∙ c .before .before .before .before .before .before .before .before .read .given .1)) (c .before .before .before .before .make-asked .ensures)
 
 pub make-spec : {M : Type 1} → statement M
-make-spec = tie.close (tie.spec (λ c κs. search needs) (λ c. search needs) (λ c κs. search needs) (λ c. search needs) (λ c κs. search needs) (λ c. search needs) (λ c κs. search needs) (λ c. search needs) (λ c κs. search needs) (λ c. search needs) returns (λ c. search needs) returns-2 (λ c. search needs) returns-3 (λ c. search needs) (λ c. search needs) returns-4)
+make-spec =
+    tie.close
+    (tie.spec (λ c κs. search needs) (λ c. search needs) (λ c κs. search needs) (λ c. search needs) (λ c κs. search needs) (λ c. search needs) (λ c κs. search needs)
+    (λ c. search needs) (λ c κs. search needs) (λ c. search needs) returns (λ c. search needs) returns-2 (λ c. search needs) returns-3 (λ c. search needs)
+    (λ c. search needs) returns-4)

@@ -34,4 +34,7 @@ make-with-requires : tie.Need-make-with-requires
 make-with-requires c κs = let few16 : c .before .before .before .before .before .before .processes .result ≤ 16 = omega (arith, c .before .before .before .before .before .before .processes .ensures, few (runOf (c .before .before .before .before .before .before .before .before .before .before .args .w .now))) in (c .before .before .before .before .before .before .before .before .before .before .pre .0, c .before .before .before .before .before .before .processes .ensures, lent-is (c .before .before .before .before .before .before .before .before .before .before .args .c .short) _ 512 _ (twice-square (c .before .before .before .before .before .before .processes .result) few16) (c .before .before .before .before .before .cut .ensures) ∙ ap (λ (k : ℕ). lent (c .before .before .before .before .before .before .before .before .before .before .args .c .short) (2 * k * k)) (c .before .before .before .before .before .before .processes .ensures), lent-is (c .before .before .before .before .before .before .before .before .before .before .args .c .short) _ 16 _ few16 (c .before .before .before .before .cut2 .ensures) ∙ ap (lent (c .before .before .before .before .before .before .before .before .before .before .args .c .short)) (c .before .before .before .before .before .before .processes .ensures), c .before .before .before .before .before .before .before .before .before .before .pre .1)
 
 pub make-asked-spec : {M : Type 1} → statement M
-make-asked-spec = tie.close (tie.spec (λ c κs. search needs) mul-cut mul-cut-2 (λ c κs. search needs) (λ c κs. search needs) array-borrow-prefix-pairs slice-aggregate-make-with array-borrow-prefix-line slice-aggregate-make-with-2 make-with-requires (λ c. search needs) (λ c. search needs) (λ c. search needs))
+make-asked-spec =
+    tie.close
+    (tie.spec (λ c κs. search needs) mul-cut mul-cut-2 (λ c κs. search needs) (λ c κs. search needs) array-borrow-prefix-pairs slice-aggregate-make-with
+    array-borrow-prefix-line slice-aggregate-make-with-2 make-with-requires (λ c. search needs) (λ c. search needs) (λ c. search needs))

@@ -33,4 +33,7 @@ returns : tie.Need-returns Inv-loop μ-loop
 returns c = let l = c .before .loop in let a = c .before .before .before .before .args in (printed-as (whole-line (a .caller) (a .n) (l .p) (a .line .now) (omega (arith, c .loop-test .left))) (l .inv .2), omega (arith, l .inv .3, l .inv .0))
 
 pub write-members-spec : {M : Type 1} → statement M
-write-members-spec = tie.close (tie.spec Inv-loop μ-loop loop-holds (λ c. search needs) (λ c. search needs) (λ c κs. search needs) write-value-requires (λ c. search needs) (λ c. search needs) loop-again (λ c. search needs) returns)
+write-members-spec =
+    tie.close
+    (tie.spec Inv-loop μ-loop loop-holds (λ c. search needs) (λ c. search needs) (λ c κs. search needs) write-value-requires (λ c. search needs) (λ c. search needs)
+    loop-again (λ c. search needs) returns)

@@ -10,5 +10,4 @@ returns c = rw (c .one-if .ensures)
 
 pub write-progress-spec : {M : Type 1} → statement M
 write-progress-spec =
-    tie.close
-    (tie.spec (λ c. search needs) (λ c. simp length-set (omega arith)) (λ c κs. search needs) (λ c. search needs) (λ c. search needs) returns)
+    tie.close (tie.spec (λ c. search needs) (λ c. simp length-set (omega arith)) (λ c κs. search needs) (λ c. search needs) (λ c. search needs) returns)

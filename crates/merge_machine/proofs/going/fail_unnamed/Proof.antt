@@ -16,5 +16,4 @@ returns-2 c = λ input. led (ap Failing (unnamed-second (c .before .before .befo
 
 pub fail-unnamed-spec : {M : Type 1} → statement M
 fail-unnamed-spec =
-    tie.close
-    (tie.spec (λ c. search needs) (λ c κs. search needs) (λ c. search needs) returns (λ c. search needs) (λ c κs. search needs) (λ c. search needs) returns-2)
+    tie.close (tie.spec (λ c. search needs) (λ c κs. search needs) (λ c. search needs) returns (λ c. search needs) (λ c κs. search needs) (λ c. search needs) returns-2)

@@ -12,5 +12,4 @@ returns-2 c = plays-event _ _ _ _ _ _ _ _ _ (c .before .before .before .before .
 
 pub play-spec : {M : Type 1} → statement M
 play-spec =
-    tie.close
-    (tie.spec (λ c κs. search needs) (λ c. search needs) (λ c. search needs) (λ c κs. search needs) returns (λ c. search needs) (λ c. search needs) returns-2)
+    tie.close (tie.spec (λ c κs. search needs) (λ c. search needs) (λ c. search needs) (λ c κs. search needs) returns (λ c. search needs) (λ c. search needs) returns-2)

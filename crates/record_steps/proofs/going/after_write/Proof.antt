@@ -19,5 +19,4 @@ returns-2 c = λ words input at. led (write-failed _ _ _ _ _ (c .before .before 
 
 pub after-write-spec : {M : Type 1} → statement M
 after-write-spec =
-    tie.close
-    (tie.spec (λ c κs. search needs) to-say-requires (λ c. search needs) returns (λ c. search needs) fail-requires (λ c. search needs) returns-2)
+    tie.close (tie.spec (λ c κs. search needs) to-say-requires (λ c. search needs) returns (λ c. search needs) fail-requires (λ c. search needs) returns-2)

@@ -23,5 +23,4 @@ returns c = (
 
 pub write-refused-spec : {M : Type 1} → statement M
 write-refused-spec =
-    tie.close
-    (tie.spec (λ c. search needs) (λ c κs. search needs) write-number-requires (λ c. search needs) write-figure-requires (λ c. search needs) returns)
+    tie.close (tie.spec (λ c. search needs) (λ c κs. search needs) write-number-requires (λ c. search needs) write-figure-requires (λ c. search needs) returns)

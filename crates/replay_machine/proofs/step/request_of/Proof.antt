@@ -92,5 +92,4 @@ returns-9 c = let others = c .match .rest in record {
 
 pub request-of-spec : {M : Type 1} → statement M
 request-of-spec =
-    tie.close
-    (tie.spec (λ c κs. search needs) returns fill-to-requires sub-t15 returns-2 returns-3 returns-4 returns-5 returns-6 returns-7 returns-8 returns-9)
+    tie.close (tie.spec (λ c κs. search needs) returns fill-to-requires sub-t15 returns-2 returns-3 returns-4 returns-5 returns-6 returns-7 returns-8 returns-9)
