@@ -315,6 +315,19 @@ enum {
 uint64_t lemidrosy_simulate_begin(uint64_t *memory, size_t memory_length, const uint8_t *input, size_t input_length, const uint8_t *out, size_t out_length, uint64_t *request, size_t request_length);
 uint64_t lemidrosy_simulate_step(uint64_t *memory, size_t memory_length, const uint8_t *input, size_t input_length, uint8_t *out, size_t out_length, uint64_t kind, size_t number, uint64_t *request, size_t request_length);
 
+/* The program console, with the words of a run lent besides. It asks for the script's first byte, then for its calls of eight bytes one at a time, and has the line of each
+   written before it asks for the next. For every list of answers it is proved that what is to be written is the facts of the script that was read, as far as was read;
+   that nothing is read past the end, or after a first byte that is refused; and that it ends. Each call on words that stand for no sound state is refused. Four numbers
+   of memory, LEMIDROSY_WORDS words, 8 bytes of input or more and 12,000 bytes of out or more. */
+enum {
+    LEMIDROSY_CONSOLE_MEMORY = 4,
+    LEMIDROSY_CONSOLE_INPUT = 8,
+    LEMIDROSY_CONSOLE_OUT = 12000
+};
+
+uint64_t lemidrosy_console_begin(const uint16_t *words, size_t words_length, uint64_t *memory, size_t memory_length, const uint8_t *input, size_t input_length, const uint8_t *out, size_t out_length, uint64_t *request, size_t request_length);
+uint64_t lemidrosy_console_step(uint16_t *words, size_t words_length, uint64_t *memory, size_t memory_length, const uint8_t *input, size_t input_length, uint8_t *out, size_t out_length, uint64_t kind, size_t number, uint64_t *request, size_t request_length);
+
 /* The merge of two halves of one run: bit p of the set says that process p belongs to the first half. The merged trace goes to the list, which has as many bytes as both
    halves together; the value is how many bytes were written. The set is judged with all its 32 bits. Refused with 1, 3, 4, 5, 7, 12, 13, 14, 17, 23 or 24. It takes
    40 KB of stack. */

@@ -9,3 +9,4 @@ pub mod Unsound
 pub mod Verdicts
 pub mod ReplayStepped
 pub mod RecordStepped
+pub mod ConsoleStepped

@@ -5,3 +5,4 @@ pub mod Replaying
 pub mod Stepping
 pub mod ReplaySteps
 pub mod RecordSteps
+pub mod ConsoleSteps

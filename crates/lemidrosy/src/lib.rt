@@ -31,3 +31,6 @@ pub mod replay_steps;
 
 // record_stepping.rt: the program `record` as a machine
 pub mod record_stepping;
+
+// consoling.rt: the program console as a machine
+pub mod consoling;
