@@ -10,5 +10,4 @@ returns c = let a = c .before .before .before .before .before .before .before .b
 
 pub earliest-spec : {M : Type 1} → statement M
 earliest-spec =
-    tie.close
-    (tie.spec (λ c. search needs) (λ c. search needs) (λ c. search needs) (λ c κs. search needs) (λ c κs. search needs) (λ c. search needs) returns)
+    tie.close (tie.spec (λ c. search needs) (λ c. search needs) (λ c. search needs) (λ c κs. search needs) (λ c κs. search needs) (λ c. search needs) returns)

@@ -9,5 +9,4 @@ returns c = let a = c .before .before .before .before .before .before .before .b
 
 pub recover-spec : {M : Type 1} → statement M
 recover-spec =
-    tie.close
-    (tie.spec (λ c. search needs) (λ c κs. search needs) (λ c κs. search needs) (λ c. search needs) (λ c. search needs) (λ c. search needs) returns)
+    tie.close (tie.spec (λ c. search needs) (λ c κs. search needs) (λ c κs. search needs) (λ c. search needs) (λ c. search needs) (λ c. search needs) returns)

@@ -20,4 +20,6 @@ returns-3 : tie.Need-returns-3
 returns-3 c = begun-done (now (c .before .before .before .before .before .before .before .before .before .before .before .before .before .before .before .before .args .words)) (now (c .before .before .before .before .before .before .before .before .before .before .before .before .before .before .before .before .args .memory)) (now (c .before .before .before .before .before .before .before .before .before .before .before .before .before .before .before .before .args .input)) (now (c .before .before .before .before .before .before .before .before .before .before .before .before .before .before .before .before .args .out)) (now (c .before .before .before .before .before .before .before .before .before .before .before .before .before .before .before .before .args .request)) _ _ _ (sym (c .before .before .before .before .before .before .before .before .before .before .has-room .ensures) ∙ not-false (c .before .before .before .before .before .before .before .before .before .before .has-room .result) (c .before .before .before .before .before .before .before .before .before .if1 .left)) (c .before .before .before .before .before .before .before .before .if2 .left) (c .before .before .before .before .before .before .begin .ensures) (c .before .before .pack .ensures)
 
 pub lemidrosy-console-begin-spec : {M : Type 1} → statement M
-lemidrosy-console-begin-spec = tie.close (tie.spec (λ c κs. search needs) returns returns-2 begin-requires (λ c κs. search needs) (λ c. search needs) (λ c. search needs) returns-3)
+lemidrosy-console-begin-spec =
+    tie.close
+    (tie.spec (λ c κs. search needs) returns returns-2 begin-requires (λ c κs. search needs) (λ c. search needs) (λ c. search needs) returns-3)
