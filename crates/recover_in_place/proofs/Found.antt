@@ -12,10 +12,13 @@ use Rattle.laws.specs.Choice.{pick, by-bool, by-eq}
 use Rattle.laws.specs.Lists.{select, lastOf, table}
 use Rattle.laws.specs.Select.{select-append}
 use Rattle.laws.specs.Tables.{length-table, getD-table}
+use Rattle.laws.specs.Truth.{never-both}
 use Rattle.model.specs.declared.Interval.{Interval}
 use Rattle.model.specs.declared.Checkpoint.{Checkpoint}
-use Rattle.model.specs.declared.Pin.the-variants.{Nothing}
+use Rattle.model.specs.declared.Pin.{Pin}
+use Rattle.model.specs.declared.Pin.the-variants.{Nothing, At}
 use Rattle.model.specs.Words.{entry, below}
+use Rattle.model.specs.Sound.{isNothing}
 use Rattle.model.specs.Steps.{advanced, latestPin}
 use Rattle.words.specs.Layout.{word, indexAt, storedAt, pinOf, vectorIn, checkpointIn}
 use Rattle.words.proofs.Reading.{pin-some}
@@ -94,6 +97,11 @@ pub pin-pick : (b : Bool) (x : ℕ) → pinOf (pick b x 0) ≡ pick b (pinOf x) 
 unfolding pinOf
 pin-pick true x = refl
 pin-pick false x = refl
+
+pub nothing-is : (pin : Pin) → isNothing pin ≡ true → pin ≡ Nothing
+unfolding isNothing
+nothing-is Nothing e = refl
+nothing-is (At a) e = never-both false e refl
 
 pub advanced-own : (p : ℕ) (v : List Interval) → p < length v → entry (advanced p v) p ≡ record { 0 = entry v p .0 + 1 }
 unfolding advanced

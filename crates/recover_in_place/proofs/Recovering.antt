@@ -40,7 +40,7 @@ use Rattle.words.proofs.ViewSound.{sound-words}
 use Rattle.line_words.specs.Line.{limitsIn, membersIn, indexesIn}
 use Rattle.line_words.proofs.LineRule.{all-found, line-is}
 use Rattle.recover_in_place.specs.Restored.{goesBack, ownsAfter, AllReturn}
-use Rattle.recover_in_place.proofs.Recovery.{rolled, recovered-is, gone-is, restorable}
+use Rattle.recover_in_place.proofs.Recovery.{rolled, recovered-is, gone-is, restorable, all-return}
 use Rattle.line_words.specs.Sifted.{lostTo, SendersPresent, Sifted}
 use Rattle.line_words.proofs.Lost.{senders-present, still-are}
 use Rattle.in_place.specs.Left.{Leaves}
@@ -127,7 +127,7 @@ module _ (w : List ℕ) (h : sound (runOf w) ≡ true) (F : ℕ) (lent line : Li
         indexes = indexesIn w n pasts
 
         abbrev owns : List Interval
-        owns = ownsAfter w n pasts
+        owns = ownsAfter w pasts
 
         accepted : recoverRefusal s F lent line ≡ none
         unfolding recoverRefusal
@@ -199,7 +199,7 @@ module _ (w : List ℕ) (h : sound (runOf w) ≡ true) (F : ℕ) (lent line : Li
 
         -- The same with the count, the members and the rest as they were found.
         pub recovers : (m : ℕ) (found : List ℕ) (line-indexes : List CheckpointIndex) (own-entries : List Interval) → m ≡ n → found ≡ pasts → line-indexes ≡ indexesIn w m found
-            → own-entries ≡ ownsAfter w m found → Recovers w F lent line m found line-indexes own-entries
+            → own-entries ≡ ownsAfter w found → Recovers w F lent line m found line-indexes own-entries
         recovers m found line-indexes own-entries a b c d = rw (d, c, b, a) recovered-to
 
 -- What the functions on the processes and on the messages rely on.
@@ -210,8 +210,8 @@ module _ (w : List ℕ) (h : sound (runOf w) ≡ true) (F : ℕ) (there : noMemb
   pub all-restorable : (m : ℕ) (found : List ℕ) → m ≡ countOf w → found ≡ found-pasts → AllRestorable m found w
   all-restorable m found a b = rw (b, a) (λ p lt. restorable w h F (all-found w h F ∙ ap not there) p lt small)
 
-  pub all-returning : (m : ℕ) (found : List ℕ) → m ≡ countOf w → found ≡ found-pasts → AllReturn m found w
-  all-returning m found a b = rw (b, a) (λ p lt. restorable w h F (all-found w h F ∙ ap not there) p lt small .0)
+  pub all-returning : (found : List ℕ) → found ≡ found-pasts → AllReturn found w
+  all-returning found b = rw b (all-return w h F (all-found w h F ∙ ap not there) small)
 
 pub senders-still : (w v pasts : List ℕ) (owns : List Interval) (k : ℕ) → sound (runOf w) ≡ true → Restored w pasts owns k v → (length v ≡ 6464) × (endOf v ≤ 64) × SendersPresent (endOf v) v
 senders-still w v pasts owns k h done = (

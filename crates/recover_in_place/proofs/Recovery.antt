@@ -6,16 +6,18 @@ use mathlib.Core.List.{List, []}
 use Prim.Native.Nat.{ℕ, _+_, _*_, _-_, _≤_, _<_}
 use native.Mathlib.Omega.{arith}
 use lib.Dec.{eqb, leb}
-use lib.ListN.{length, getD, length-replicate, getD-replicate}
-use borrow.Author.Tests.{lt-ltb, le-ltb, le-leb, lt-leb, leb-true, eq-eqb, eqb-true}
-use Rattle.laws.specs.Choice.{pick, by-bool, by-eq}
+use lib.ListN.{length, getD, replicate, getD-replicate}
+use lib.Seq.{getD-set-other}
+use borrow.Author.Tests.{lt-ltb, le-ltb, le-leb, lt-leb, leb-true, eq-eqb, ne-eqb, eqb-true}
+use Rattle.laws.specs.Choice.{pick, by-bool, by-eq, pick-same}
 use Rattle.laws.specs.Elements.{every-table}
 use Rattle.laws.specs.Lists.{select, lastOf, table}
-use Rattle.laws.specs.Loops.{below-at, below-above}
-use Rattle.laws.specs.Rows.{by-lt}
+use Rattle.laws.specs.Loops.{below-above}
+use Rattle.laws.specs.Prefixes.{select-none}
+use Rattle.laws.specs.Rows.{by-lt, every-behind}
 use Rattle.laws.specs.Search.{anyBelow, any-in, any-out}
 use Rattle.laws.specs.Select.{all-chosen}
-use Rattle.laws.specs.Tables.{table-same}
+use Rattle.laws.specs.Tables.{getD-table, table-same}
 use Rattle.laws.specs.Tests.{some-of}
 use Rattle.laws.specs.Truth.{never-both}
 use Rattle.model.specs.declared.Interval.{Interval}
@@ -25,14 +27,14 @@ use Rattle.model.specs.declared.Pin.the-variants.{Nothing}
 use Rattle.model.specs.declared.Run.{Run}
 use Rattle.model.specs.Words.{entry, below, named, names, zeroVector, live, Process, process, own, blocksOf}
 use Rattle.model.specs.Refusals.{noMember}
-use Rattle.model.specs.Sound.{sound}
+use Rattle.model.specs.Sound.{isNothing, nothingFrom, sound}
 use Rattle.model.specs.Steps.{advanced, member, rolledBack, vectorAfter, notLost, ownAfter, latestPin, movedPin, pinAfter, pinsAfter, recovered, goneAt}
 use Rattle.words.specs.Layout.{word, countOf, heldAt, blocksAt, partAt, pinsAt, indexAt, storedAt, intervalOf, indexOf, pinOf, rowIn, vectorIn, pinsIn, markIn, checkpointIn, decoded, runOf}
 use Rattle.words.specs.Parts.{processIn}
-use Rattle.words.proofs.Same.{row-word, vector-length, vector-word}
-use Rattle.words.proofs.View.{run-fits, part-past}
-use Rattle.words.proofs.ViewRows.{kept-pinned}
-use Rattle.words.proofs.ViewSound.{SoundPart, sound-fits, sound-few, sound-process-is, sound-own-is, sound-part}
+use Rattle.words.proofs.Same.{row-word, vector-length, vector-word, pins-length}
+use Rattle.words.proofs.View.{run-fits, count-is, part-past}
+use Rattle.words.proofs.ViewRows.{vector-zero, stored-zero, kept-pinned}
+use Rattle.words.proofs.ViewSound.{SoundPart, sound-fits, sound-few, sound-known, sound-process-is, sound-own-is, sound-part}
 use Rattle.line_words.specs.Line.{limitsIn, pastLatest, stateIn, membersIn}
 use Rattle.line_words.specs.Restored.{foundIn}
 use Rattle.line_words.proofs.LineRule.{past-most, member-is, all-found, past-at, found-one}
@@ -42,7 +44,7 @@ use Rattle.process_words.specs.Steps.{placesOf, unnamedIn}
 use Rattle.process_words.proofs.PinRows.{named-row, pins-row, row-pin}
 use Rattle.process_words.proofs.Stepping.{selected-blocks}
 use Rattle.recover_in_place.specs.Restored.{goesBack, restoredVector, restoredOwn, ownsAfter, restoredPins, restoredPart, restoredGone, Returns, AllReturn, Restorable}
-use Rattle.recover_in_place.proofs.Found.{select-alike, select-short, found-is, found-under, known-at, pick-least, pin-pick, advanced-own}
+use Rattle.recover_in_place.proofs.Found.{select-alike, select-short, found-is, found-under, known-at, pick-least, pin-pick, nothing-is, advanced-own}
 
 -- "every kept one is pinned"
 each-named : (w : List ℕ) → sound (runOf w) ≡ true → (p : ℕ) → p < countOf w → AllNamed w p (pinsIn w (pinsAt p)) (word w (heldAt p))
@@ -68,7 +70,7 @@ module _ (w : List ℕ) (h : sound (runOf w) ≡ true) (F : ℕ) (all : membersI
   pastOf p = getD pasts p 0
 
   abbrev pub owns : List Interval
-  owns = ownsAfter w (countOf w) pasts
+  owns = ownsAfter w pasts
 
   few : countOf w ≤ 16
   few = sound-few w h
@@ -150,13 +152,22 @@ module _ (w : List ℕ) (h : sound (runOf w) ≡ true) (F : ℕ) (all : membersI
     own-then = by-bool (goesBack w p (pastOf p)) (λ e. own-picked true e ∙ own-back e) (λ e. own-picked false e ∙ own-live e)
       where
         own-picked : (b : Bool) → goesBack w p (pastOf p) ≡ b → restoredOwn w p (pastOf p) ≡ pick b (intervalOf (word w (storedAt p (pastOf p - 1) + p) + 1)) (intervalOf (word w (partAt p + p)))
-        own-picked b e = rw e
+        own-picked b e = rw (lt-ltb 0 (pastOf p) past-some, e)
 
     own-is : restoredOwn w p (pastOf p) ≡ ownAfter s F p
     unfolding ownAfter
     own-is = own-then ∙ ap (λ (v : List Interval). entry v p) vector-is
 
-  -- own(f), of the processes and past them.
+  -- own(f), of the processes.
+  pub owns-are : (f : ℕ) → f < countOf w → entry owns f ≡ ownAfter s F f
+  unfolding ownsAfter
+  owns-are f lt = getD-table 16 (λ p. restoredOwn w p (getD pasts p 0)) f (record { 0 = 0 }) (omega (arith, few)) ∙ own-is f lt
+
+  -- Past them there is no member, and Steps has 0; what the words hold there is not known.
+  past-unused : (p : ℕ) → countOf w ≤ p → p < 16 → pastOf p ≡ 0
+  unfolding membersIn
+  past-unused p le lt = below-above (pastLatest w limits) (replicate 16 0) (countOf w) p 0 le ∙ getD-replicate {A = ℕ} 16 p 0 0 lt
+
   unused-own : (f : ℕ) → countOf w ≤ f → f < 16 → own s f .0 ≡ 0
   unfolding own process decoded
   unused-own f le lt =
@@ -167,17 +178,8 @@ module _ (w : List ℕ) (h : sound (runOf w) ≡ true) (F : ℕ) (all : membersI
   unfolding ownAfter vectorAfter rolledBack own
   unused-after f e = rw (le-ltb (member s F f .index .0) (own s f .0) (omega (arith, e))) e
 
-  pub owns-are : (f : ℕ) → f < 16 → entry owns f ≡ ownAfter s F f
-  unfolding ownsAfter
-  owns-are f lt =
-      let none : Interval = record { 0 = 0 } in
-      let size : length zeroVector ≡ 16 = length-replicate 16 none in
-      by-lt f (countOf w)
-      (λ less. below-at (λ p. restoredOwn w p (getD pasts p 0)) zeroVector (countOf w) f none less (omega arith) ∙ own-is f less)
-      (λ more. below-above (λ p. restoredOwn w p (getD pasts p 0)) zeroVector (countOf w) f none more ∙ getD-replicate 16 f none none lt ∙ sym (zero-is (ownAfter s F f) (unused-after f (unused-own f more lt))))
-    where
-      zero-is : (x : Interval) → x .0 ≡ 0 → x ≡ record { 0 = 0 }
-      zero-is x e = ap (λ (n : ℕ). record { 0 = n }) e
+  own-unused : (f : ℕ) → countOf w ≤ f → f < 16 → ownAfter s F f .0 ≡ 0
+  own-unused f le lt = unused-after f (unused-own f le lt)
 
   module _ (p : ℕ) (lt : p < countOf w) where
     abbrev row : List ℕ
@@ -217,26 +219,65 @@ module _ (w : List ℕ) (h : sound (runOf w) ≡ true) (F : ℕ) (all : membersI
     lost-none over = rw kept-here (all-chosen (λ c. leb (c .index .0) (member s F p .index .0)) (table (word w (heldAt p)) (checkpointIn w p)) (every-table _ (word w (heldAt p)) (checkpointIn w p) (λ k less. not-later k less (omega arith))))
 
     -- The pins.
-    moved-pin : pastOf p ≤ word w (heldAt p) → (f : ℕ) → f < 16 → pinOf (getD (foundIn w owns p (pastOf p)) f 0) ≡ movedPin s F p f
+    moved-pin : pastOf p ≤ word w (heldAt p) → (f : ℕ) → f < 16 → entry owns f ≡ ownAfter s F f → pinOf (getD (foundIn w owns p (pastOf p)) f 0) ≡ movedPin s F p f
     unfolding movedPin
-    moved-pin le f less = found-is w owns p f less (pastOf p) (λ j under. part p lt .used j (omega arith)) ∙ (λ j. latestPin (lastOf (select (λ c. below (entry (c .vector) f) (owns-are f less j)) (sym (lost-not le) j))))
+    moved-pin le f less is = found-is w owns p f less (pastOf p) (λ j under. part p lt .used j (omega arith)) ∙ (λ j. latestPin (lastOf (select (λ c. below (entry (c .vector) f) (is j)) (sym (lost-not le) j))))
 
     kept-pin : (f : ℕ) → f < 16 → pinOf (getD (rowIn w (pinsAt p)) f 0) ≡ getD (process s p .pins) f Nothing
     unfolding processIn
     kept-pin f less = sym (ap (λ (P : Process). getD (P .pins) f Nothing) (sound-process-is w h p lt) ∙ ap (λ (l : List Pin). getD l f Nothing) (pins-row w (pinsAt p)) ∙ row-pin (rowIn w (pinsAt p)) f less)
 
-    chosen-pin : (f : ℕ) → f < 16 → pinOf (getD (pick (goesBack w p (pastOf p)) (foundIn w owns p (pastOf p)) (rowIn w (pinsAt p))) f 0)
+    chosen-pin : (f : ℕ) → f < 16 → entry owns f ≡ ownAfter s F f → pinOf (getD (pick (goesBack w p (pastOf p)) (foundIn w owns p (pastOf p)) (rowIn w (pinsAt p))) f 0)
         ≡ pick (rolledBack s F p) (movedPin s F p f) (getD (process s p .pins) f Nothing)
-    chosen-pin f less = by-bool (goesBack w p (pastOf p))
-        (λ e. rw (sym (rolled p lt), e) (moved-pin (leb-true (pastOf p) (word w (heldAt p)) e) f less))
+    chosen-pin f less is = by-bool (goesBack w p (pastOf p))
+        (λ e. rw (sym (rolled p lt), e) (moved-pin (leb-true (pastOf p) (word w (heldAt p)) e) f less is))
         (λ e. rw (sym (rolled p lt), e) (kept-pin f less))
 
-    pin-is : (f : ℕ) → f < 16 → pinOf (getD row f 0) ≡ pinAfter s F p f
+    pin-known : (f : ℕ) → f < 16 → entry owns f ≡ ownAfter s F f → pinOf (getD row f 0) ≡ pinAfter s F p f
     unfolding restoredPins pinAfter
-    pin-is f less =
+    pin-known f less is =
         ap pinOf (known-at (restoredVector w p (pastOf p)) owns (pick (goesBack w p (pastOf p)) (foundIn w owns p (pastOf p)) (rowIn w (pinsAt p))) f less)
         ∙ pin-pick (eqb (entry (restoredVector w p (pastOf p)) f .0) (entry owns f .0)) _
-        ∙ (λ j. pick (eqb (entry (vector-is p lt j) f .0) (owns-are f less j .0)) (chosen-pin f less j) Nothing)
+        ∙ (λ j. pick (eqb (entry (vector-is p lt j) f .0) (is j .0)) (chosen-pin f less is j) Nothing)
+
+    -- No vector has an entry for a place of no process, and no pin is for it: whatever its own entry is taken to be.
+    module _ (f : ℕ) (le : countOf w ≤ f) (less : f < 16) where
+      entry-unused : entry (restoredVector w p (pastOf p)) f .0 ≡ 0
+      unfolding restoredVector advanced
+      entry-unused = by-bool (goesBack w p (pastOf p))
+          (λ e. rw e (ap (λ (x : Interval). x .0) (getD-set-other (vectorIn w (storedAt p (pastOf p - 1))) p f _ (record { 0 = 0 }) (omega arith) ∙ vector-word w (storedAt p (pastOf p - 1)) f less)
+          ∙ stored-zero w h p lt (pastOf p - 1) (omega (arith, leb-true (pastOf p) (word w (heldAt p)) e, past-some p lt)) f le less))
+          (λ e. rw e (ap (λ (x : Interval). x .0) (vector-word w (partAt p) f less) ∙ vector-zero w h p lt f le less))
+
+      moved-unused : movedPin s F p f ≡ Nothing
+      unfolding movedPin latestPin lastOf
+      moved-unused = ap (λ (l : List Checkpoint). latestPin (lastOf l)) (select-none (λ c. below (entry (c .vector) f) (ownAfter s F f)) (notLost s F p)
+          (λ c. le-ltb (entry (c .vector) f .0) (ownAfter s F f .0) (omega (arith, own-unused f le less))))
+
+      kept-unused : getD (process s p .pins) f Nothing ≡ Nothing
+      unfolding processIn nothingFrom
+      kept-unused =
+          let e = rw (sound-process-is w h p lt) at (sound-known w h p lt .pins-unused) in
+          ap (λ (P : Process). getD (P .pins) f Nothing) (sound-process-is w h p lt)
+          ∙ nothing-is (getD (pinsIn w (pinsAt p)) f Nothing) (every-behind isNothing (s .count) (pinsIn w (pinsAt p)) f Nothing e (omega (arith, count-is w (sound-fits w h))) (omega (arith, pins-length w (pinsAt p))))
+
+      pin-unused : pinAfter s F p f ≡ Nothing
+      unfolding pinAfter
+      pin-unused = rw (moved-unused, kept-unused, pick-same (rolledBack s F p) Nothing) (pick-same (eqb (entry (vectorAfter s F p) f .0) (ownAfter s F f .0)) Nothing)
+
+      pin-other : (entry owns f .0 ≡ 0 → ⊥) → pinOf (getD row f 0) ≡ Nothing
+      unfolding restoredPins pinOf
+      pin-other ne =
+          let none : getD row f 0 ≡ 0 = known-at (restoredVector w p (pastOf p)) owns (pick (goesBack w p (pastOf p)) (foundIn w owns p (pastOf p)) (rowIn w (pinsAt p))) f less
+          ∙ rw (ne-eqb (entry (restoredVector w p (pastOf p)) f .0) (entry owns f .0) (λ e. ne (sym e ∙ entry-unused))) in
+          ap pinOf none
+
+    pin-is : (f : ℕ) → f < 16 → pinOf (getD row f 0) ≡ pinAfter s F p f
+    pin-is f less = by-lt f (countOf w)
+        (λ used. pin-known f less (owns-are f used))
+        (λ le. by-eq (entry owns f .0) 0
+        (λ e. pin-known f less (ap (λ (x : ℕ). record { 0 = x }) (e ∙ sym (own-unused f le less))))
+        (λ ne. pin-other f le less ne ∙ sym (pin-unused f le less)))
 
     pub pins-are : pinRow row ≡ pinsAfter s F p
     unfolding pinRow pinsAfter
@@ -308,5 +349,5 @@ module _ (w : List ℕ) (h : sound (runOf w) ≡ true) (F : ℕ) (all : membersI
       unfolding Used
       restorable = (returns-there, part p lt .used, each-named w h p lt)
 
-  pub all-return : ((k : ℕ) → word w k < 65536) → AllReturn (countOf w) pasts w
-  all-return small p lt = returns-there p lt small
+  pub all-return : ((k : ℕ) → word w k < 65536) → AllReturn pasts w
+  all-return small p lt some = by-lt p (countOf w) (λ less. returns-there p less small) (λ le. absurd (omega (arith, past-unused p le lt)))

@@ -5,15 +5,14 @@ use mathlib.Core.Path.{_≡_}
 use mathlib.Core.Bool.{Bool, _&&_, not}
 use mathlib.Core.List.{List}
 use Prim.Native.Nat.{ℕ, _+_, _-_, _≤_, _<_}
-use lib.Dec.{leb}
+use lib.Dec.{ltb, leb}
 use lib.ListN.{getD}
 use Rattle.laws.specs.Choice.{pick}
-use Rattle.laws.specs.Lists.{select}
-use Rattle.laws.specs.Loops.{setBelow}
+use Rattle.laws.specs.Lists.{select, table}
 use Rattle.model.specs.declared.Interval.{Interval}
 use Rattle.model.specs.declared.Pin.{Pin}
 use Rattle.model.specs.declared.Checkpoint.{Checkpoint}
-use Rattle.model.specs.Words.{named, zeroVector, Process}
+use Rattle.model.specs.Words.{places, named, Process}
 use Rattle.model.specs.Steps.{advanced}
 use Rattle.words.specs.Layout.{word, heldAt, markAt, blocksAt, partAt, pinsAt, storedAt, intervalOf, rowIn, vectorIn, pinsIn, markIn}
 use Rattle.line_words.specs.Restored.{knownRow, foundIn}
@@ -30,10 +29,11 @@ unfoldable pub restoredVector : List ℕ → ℕ → ℕ → List Interval
 restoredVector w p past = pick (goesBack w p past) (advanced p (vectorIn w (storedAt p (past - 1)))) (vectorIn w (partAt p))
 
 unfoldable pub restoredOwn : List ℕ → ℕ → ℕ → Interval
-restoredOwn w p past = pick (goesBack w p past) (intervalOf (word w (storedAt p (past - 1) + p) + 1)) (intervalOf (word w (partAt p + p)))
+restoredOwn w p past = pick (ltb 0 past && goesBack w p past) (intervalOf (word w (storedAt p (past - 1) + p) + 1)) (intervalOf (word w (partAt p + p)))
 
-unfoldable pub ownsAfter : List ℕ → ℕ → List ℕ → List Interval
-ownsAfter w n pasts = setBelow n (λ p. restoredOwn w p (getD pasts p 0)) zeroVector
+-- A place at n or above has no member. The entry that the words hold there is of no use: no pin is for it (`pin-is` of proofs/Recovery).
+unfoldable pub ownsAfter : List ℕ → List ℕ → List Interval
+ownsAfter w pasts = table places (λ p. restoredOwn w p (getD pasts p 0))
 
 -- "a pin for f whose vector entry is not own(f) becomes none. In a rolled-back process a pin whose entry is own(f) names the latest checkpoint with entry f below own(f)
 -- among those kept before the call and not lost": these are in the places up to the member's.
@@ -61,8 +61,8 @@ abbrev pub Returns : List ℕ → ℕ → ℕ → Type 0
 Returns w p past =
     (word w (heldAt p) ≤ 16) × (1 ≤ past) × (past ≤ word w (heldAt p) + 1) × (past ≤ word w (heldAt p) → word w (storedAt p (past - 1) + p) < 65535)
 
-abbrev pub AllReturn : ℕ → List ℕ → List ℕ → Type 0
-AllReturn n pasts w = (p : ℕ) → p < n → Returns w p (getD pasts p 0)
+abbrev pub AllReturn : List ℕ → List ℕ → Type 0
+AllReturn pasts w = (p : ℕ) → p < 16 → 1 ≤ getD pasts p 0 → Returns w p (getD pasts p 0)
 
 -- Each kept checkpoint has an index, and a pin names it.
 abbrev pub Restorable : List ℕ → ℕ → ℕ → Type 0

@@ -98,7 +98,7 @@ fn recover_within(
     }
     let pasts = members.pasts;
     let indexes = line_words::line::indexes_of(w, n, pasts);
-    let owns = crate::process::owns::owns_after(w, n, pasts);
+    let owns = crate::process::owns::owns_after(w, pasts);
     let back = count_back(w, n, pasts);
     in_place::line::write_line(line, indexes, n);
     let gone = restore_all(w, n, pasts, owns, deleted);

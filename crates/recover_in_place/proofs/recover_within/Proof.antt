@@ -114,7 +114,7 @@ owns-after-requires c κs =
     let e = at-indexes (c .before) in
     let st = at-limits (at-members (e .before)) in
     let w = st .args .w .now in
-    (sound-words w (st .pre .0) .size, few st, all-returning w (st .pre .0) (st .args .failed) (there e) (small e) (st .args .n) _ (st .pre .1) (pasts-are e))
+    (sound-words w (st .pre .0) .size, all-returning w (st .pre .0) (st .args .failed) (there e) (small e) _ (pasts-are e))
 
 count-back-requires : tie.Need-count-back-requires
 count-back-requires c κs =

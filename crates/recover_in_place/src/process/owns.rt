@@ -6,13 +6,13 @@ ghost use Prim.Native.Nat.{_≤_, _<_};
 ghost use lib.ListN.{length};
 ghost use Rattle.recover_in_place.specs.Restored.{restoredOwn, ownsAfter, Returns, AllReturn};
 
-// The own entry of process p, whose member is in the place before this one.
+// The own entry of process p, whose member is in the place before this one. Where there is no member, the place is 0, and the answer is the live entry.
 fn own_then(w: &[u16], p: usize, past: usize) -> Interval
-    requires { ⌜ (length (now w) ≡ 6464) × (p < 16) × Returns (now w) p past ⌝ }
+    requires { ⌜ (length (now w) ≡ 6464) × (p < 16) × (1 ≤ past → Returns (now w) p past) ⌝ }
     ensures { λ r. ⌜ r ≡ restoredOwn (now (w .entry)) p past ⌝ }
 {
     let held = w[places::HELD + p] as usize;
-    if past <= held {
+    if (0 < past) & (past <= held) {
         let stored = w[places::STORED + places::PART * p + places::ROW * (past - 1) + p];
         words::interval_of(stored + 1)
     } else {
@@ -20,13 +20,14 @@ fn own_then(w: &[u16], p: usize, past: usize) -> Interval
     }
 }
 
-// Those of n processes, 0 at n and above.
-pub fn owns_after(w: &[u16], n: usize, pasts: [u16; 16]) -> [Interval; 16]
-    requires { ⌜ (length (now w) ≡ 6464) × (n ≤ 16) × AllReturn n pasts (now w) ⌝ }
-    ensures { λ r. ⌜ r ≡ ownsAfter (now (w .entry)) n pasts ⌝ }
+// Those at all 16 places: at n and above they are of no use, but a loop of 16 iterations is unrolled, and its row stays in registers. A loop of n iterations stores the
+// row word by word, and a read of the whole row waits for these stores.
+pub fn owns_after(w: &[u16], pasts: [u16; 16]) -> [Interval; 16]
+    requires { ⌜ (length (now w) ≡ 6464) × AllReturn pasts (now w) ⌝ }
+    ensures { λ r. ⌜ r ≡ ownsAfter (now (w .entry)) pasts ⌝ }
 {
     let mut owns = [Interval(0); 16];
-    for p in 0..n {
+    for p in 0..words::PROCESSES {
         let past = pasts[p] as usize;
         let own = own_then(w, p, past);
         owns[p] = own;

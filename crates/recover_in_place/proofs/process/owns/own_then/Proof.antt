@@ -1,36 +1,68 @@
 -- `recover_in_place::process::owns::own_then` meets its contract, by whether the member is stored. Assumes nothing.
+use Prim.Native.Nat.{_≤_}
 use native.Mathlib.Omega.{arith}
+use lib.Dec.{ltb, leb}
 use borrow.Author.Needs.{needs}
-use borrow.Author.Tests.{le-leb, lt-leb}
+use borrow.Author.Tests.{ltb-true, leb-true}
+use Rattle.laws.specs.Truth.{and-out}
 use Rattle.words.specs.Layout.{word, heldAt}
 use Rattle.recover_in_place.specs.Restored.{restoredOwn}
 use Rattle.recover_in_place.proofs.process.owns.own_then.Statement.{statement}
 use Rattle.recover_in_place.proofs.process.owns.own_then.Tie as tie
 
+abbrev start : tie.Then1 → tie.Start
+start i = i .before .before .before
+
+-- The member is stored: it is in one of the places.
+stored : (i : tie.Then1) → let a = start i .args in (1 ≤ a .past) × (a .past ≤ word (a .w .now) (heldAt (a .p))) × (a .past ≤ 16)
+stored i =
+    let a = start i .args in
+    let held = word (a .w .now) (heldAt (a .p)) in
+    let e = and-out (ltb 0 (a .past)) (leb (a .past) held) (i .if1 .taken) in
+    let one : 1 ≤ a .past = ltb-true 0 (a .past) (e .0) in
+    let most : a .past ≤ held = leb-true (a .past) held (e .1) in
+    (one, most, omega (arith, start i .pre .2 one .0))
+
+cast-held : tie.Need-cast-held
+cast-held c = let small = c .shared-slice-known2 .given (heldAt (c .before .before .args .p)) in search (needs, small)
+
 add-interval-of : tie.Need-add-interval-of
 add-interval-of c =
-    let i = c .before in
-    let st = i .before .before .before in
-    let less = st .pre .2 .3 (i .if1 .taken) in
+    let s = stored (c .before) in
+    let less = start (c .before) .pre .2 (s .0) .3 (s .1) in
     search (needs, less)
 
 returns : tie.Need-returns
 unfolding restoredOwn
-returns c =
-    let i = c .before .before in
-    let st = i .before .before .before in
-    rw (le-leb (st .args .past) (word (st .args .w .now) (heldAt (st .args .p))) (i .if1 .taken)) (c .interval-of .ensures)
+returns c = rw (c .before .before .if1 .taken) (c .interval-of .ensures)
 
 returns-2 : tie.Need-returns-2
 unfolding restoredOwn
-returns-2 c =
-    let i = c .before .before in
-    let st = i .before .before .before in
-    rw (lt-leb (st .args .past) (word (st .args .w .now) (heldAt (st .args .p))) (omega (arith, i .if1 .left))) (c .interval-of2 .ensures)
+returns-2 c = rw (c .before .before .if1 .left) (c .interval-of2 .ensures)
 
 pub own-then-spec : {M : Type 1} → statement M
 own-then-spec =
     tie.close
-    (tie.spec (λ c. search needs) (λ c. search needs) (λ c. search needs) (λ c. search needs) (λ c. search needs) (λ c. search needs) (λ c. search needs)
-    (λ c. search needs) (λ c. search needs) (λ c. search needs) (λ c. search needs) (λ c. search needs) add-interval-of (λ c κs. search needs) (λ c. search needs)
-    (λ c. search needs) (λ c. search needs) (λ c. search needs) (λ c. search needs) (λ c κs. search needs) returns returns-2)
+    (tie.spec
+    (λ c. search needs)
+    (λ c. search needs)
+    (λ c. search needs)
+    cast-held
+    (λ c. search needs)
+    (λ c. search needs)
+    (λ c. let s = stored c in search needs)
+    (λ c. let s = stored c in search needs)
+    (λ c. let s = stored c in search needs)
+    (λ c. let s = stored c in search needs)
+    (λ c. let s = stored c in search needs)
+    (λ c. let s = stored (c .before) in search needs)
+    add-interval-of
+    (λ c κs. search needs)
+    (λ c. search needs)
+    (λ c. search needs)
+    (λ c. search needs)
+    (λ c. search needs)
+    (λ c. search needs)
+    (λ c κs. search needs)
+    returns
+    returns-2)
