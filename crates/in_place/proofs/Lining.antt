@@ -1,7 +1,7 @@
 -- The line call: what its outcome is, by the list's length, the failed set, and whether each process has a member.
 -- Assumes nothing.
 use mathlib.Core.Path.{_≡_, refl, sym, _∙_, ap}
-use mathlib.Core.Bool.{true, false, false≢true}
+use mathlib.Core.Bool.{Bool, true, false, false≢true, not}
 use mathlib.Core.List.{List, []}
 use mathlib.Core.Option.{Option, none, some}
 use Prim.Native.Nat.{ℕ, _^_, _≤_}
@@ -12,9 +12,8 @@ use lib.Seq.{sets}
 use Rattle.laws.specs.Below.{not-out}
 use Rattle.laws.specs.Choice.{pick, by-bool}
 use Rattle.laws.specs.Lists.{table}
-use Rattle.line_words.specs.declared.line.Members.{Members}
-use Rattle.line_words.specs.Line.{limitsIn, membersIn, indexesIn, OwnSome, HeldMost, AllUsed, AllFound}
-use Rattle.line_words.proofs.LineRule.{all-found, past-at, found-one, line-is}
+use Rattle.line_words.specs.Line.{limitsIn, hasMembers, pastsIn, indexesIn, OwnSome, HeldMost, AllUsed, AllFound}
+use Rattle.line_words.proofs.LineRule.{pasts-length, all-found, past-at, found-one, line-is}
 use Rattle.model.specs.declared.Interval.{Interval}
 use Rattle.model.specs.declared.CheckpointIndex.{CheckpointIndex}
 use Rattle.model.specs.declared.Refusal.{Refusal}
@@ -105,19 +104,27 @@ module _ (w : List ℕ) (h : sound (runOf w) ≡ true) (n : ℕ) (same : n ≡ c
   pub all-used : AllUsed n w
   all-used p lt = sound-part w h p (omega arith) .used
 
-  module _ (F : ℕ) (limits : List Interval) (m : Members) (of-set : limits ≡ limitsIn w n F) (found : m ≡ membersIn w n limits) where
-    pub members-are : m ≡ membersIn w (countOf w) (limitsIn w (countOf w) F)
-    members-are = found ∙ rw (of-set, same)
+  module _ (F : ℕ) (limits : List Interval) (of-set : limits ≡ limitsIn w n F) where
+    module _ (all : Bool) (found : all ≡ hasMembers w n limits) where
+      all-are : all ≡ not (noMember (runOf w) F)
+      all-are = found ∙ rw (of-set, same) (all-found w h F)
 
-    pub members-missing : m .all ≡ false → noMember (runOf w) F ≡ true
-    members-missing e = not-out (noMember (runOf w) F) false (sym (all-found w h F) ∙ sym (ap (λ (x : Members). x .all) members-are) ∙ e)
+      pub members-missing : all ≡ false → noMember (runOf w) F ≡ true
+      members-missing e = not-out (noMember (runOf w) F) false (sym all-are ∙ e)
 
-    pub members-there : m .all ≡ true → noMember (runOf w) F ≡ false
-    members-there e = not-out (noMember (runOf w) F) true (sym (all-found w h F) ∙ sym (ap (λ (x : Members). x .all) members-are) ∙ e)
+      pub members-there : all ≡ true → noMember (runOf w) F ≡ false
+      members-there e = not-out (noMember (runOf w) F) true (sym all-are ∙ e)
 
-    pub members-found : m .all ≡ true → AllFound n (m .pasts)
-    members-found e p lt = rw (members-are, past-at w h F p (omega arith)) (found-one w h F (members-there e) p (omega arith))
+    module _ (pasts : List ℕ) (found : pasts ≡ pastsIn w n limits) where
+      pub pasts-are : pasts ≡ pastsIn w (countOf w) (limitsIn w (countOf w) F)
+      pasts-are = found ∙ rw (of-set, same)
 
-    pub line-found : m .all ≡ true → (indexes : List CheckpointIndex) → indexes ≡ indexesIn w n (m .pasts)
-        → table n (λ p. getD indexes p (record { 0 = 0 }) .0) ≡ lineOf (runOf w) F
-    line-found e indexes q = rw (q, members-are, same) (line-is w h F (members-there e))
+      pub pasts-room : n ≤ length pasts
+      pasts-room = omega (arith, ap length found ∙ pasts-length w n limits, sound-few w h)
+
+      module _ (there : noMember (runOf w) F ≡ false) where
+        pub members-found : AllFound n pasts
+        members-found = (pasts-room, λ p lt. rw (pasts-are, past-at w h F p (omega arith)) (found-one w h F there p (omega arith)))
+
+        pub line-found : (indexes : List CheckpointIndex) → indexes ≡ indexesIn w n pasts → table n (λ p. getD indexes p (record { 0 = 0 }) .0) ≡ lineOf (runOf w) F
+        line-found indexes q = rw (q, pasts-are, same) (line-is w h F there)

@@ -39,12 +39,12 @@ fn line_within(w: &[u16], n: usize, failed: u32, line: &mut [u16]) -> LineAnswer
     ensures { λ r. ⌜ now (line .exit) ≡ pick (noMember (runOf (now (w .entry))) failed) (now (line .entry)) (sets (now (line .entry)) 0 (lineOf (runOf (now (w .entry))) failed)) ⌝ }
 {
     let limits = line_words::line::limits_of(w, n, failed);
-    let members = line_words::line::find_members(w, n, limits);
-    let all = members.all;
+    let mut table = [0u16; 16];
+    let pasts: &mut [u16] = &mut table;
+    let all = line_words::line::find_members(w, n, limits, pasts);
     if !all {
         return LineAnswer::Refused(Refusal::UnsoundState);
     }
-    let pasts = members.pasts;
     let indexes = line_words::line::indexes_of(w, n, pasts);
     write_line(line, indexes, n);
     LineAnswer::Written

@@ -11,7 +11,7 @@ use lib.ListN.{length, getD, replicate, length-replicate, getD-replicate}
 use borrow.Author.Tests.{lt-ltb, le-ltb, ltb-true, ltb-false, le-leb, lt-leb, leb-true, leb-false, eq-eqb, ne-eqb, eqb-false}
 use Rattle.laws.specs.Choice.{pick, by-bool, by-eq}
 use Rattle.laws.specs.Lists.{select, lastOf, orElse, table}
-use Rattle.laws.specs.Loops.{setBelow, below-at, below-above}
+use Rattle.laws.specs.Loops.{setBelow, below-length, below-at, below-above}
 use Rattle.laws.specs.Ranges.{all-same}
 use Rattle.laws.specs.Rows.{by-lt}
 use Rattle.laws.specs.Below.{all-not-any}
@@ -32,7 +32,7 @@ use Rattle.words.proofs.Same.{vector-word}
 use Rattle.words.proofs.View.{count-is}
 use Rattle.words.proofs.ViewRows.{vector-within, vector-zero, stored-within, stored-zero}
 use Rattle.words.proofs.ViewSound.{sound-fits, sound-few, sound-process-is, sound-own-is, sound-part, sound-kept-is}
-use Rattle.line_words.specs.Line.{limitOf, limitsIn, isWithin, pastKept, pastLatest, stateIn, stateBefore, membersIn, indexIn, indexesIn}
+use Rattle.line_words.specs.Line.{limitOf, limitsIn, isWithin, pastKept, pastLatest, stateIn, stateBefore, hasMembers, pastsIn, indexIn, indexesIn}
 
 -- Numbers from n on that pass do not count.
 pub all-wider : (n m : ℕ) (t : ℕ → Bool) → n ≤ m → ((k : ℕ) → n ≤ k → k < m → t k ≡ true) → allBelow m t ≡ allBelow n t
@@ -57,6 +57,10 @@ module _ (w : List ℕ) (limits : List Interval) (p : ℕ) where
   pub past-most : pastLatest w limits p ≤ word w (heldAt p) + 1
   unfolding pastLatest
   past-most = by-bool (isWithin limits (vectorIn w (partAt p))) (λ e. rw e (omega arith)) (λ e. rw e (omega (arith, kept-most (word w (heldAt p)))))
+
+pub pasts-length : (w : List ℕ) (n : ℕ) (limits : List Interval) → length (pastsIn w n limits) ≡ 16
+unfolding pastsIn
+pasts-length w n limits = below-length (pastLatest w limits) (replicate 16 0) n ∙ length-replicate {A = ℕ} 16 0
 
 -- The last of a table that passes.
 pub last-more : {A : Type 0} (t : A → Bool) (n : ℕ) (g : ℕ → A) → t (g n) ≡ true → lastOf (select t (table (suc n) g)) ≡ some (g n)
@@ -173,16 +177,20 @@ module _ (w : List ℕ) (h : sound (runOf w) ≡ true) (F : ℕ) where
         (λ ge. rw (le-ltb (past - 1) held ge, lt-leb past held (omega arith), vector-word w (partAt p) p (omega (arith, few))))
 
   -- The line, and whether each process has a member.
-  pub all-found : membersIn w (countOf w) limits .all ≡ not (noMember s F)
-  unfolding membersIn noMember
+  pub all-found : hasMembers w (countOf w) limits ≡ not (noMember s F)
+  unfolding hasMembers noMember
   all-found =
       all-same (countOf w) _ (λ p. not (missing (latestAllowed s F p))) (λ p lt. ap not (sym (missing-is p lt)))
       ∙ all-not-any (countOf w) (λ p. missing (latestAllowed s F p)) (λ p. missing (latestAllowed s F p)) (λ k. refl)
       ∙ ap (λ (n : ℕ). not (anyBelow n (λ p. missing (latestAllowed s F p)))) (sym count)
 
-  pub past-at : (p : ℕ) → p < countOf w → getD (membersIn w (countOf w) limits .pasts) p 0 ≡ pastLatest w limits p
-  unfolding membersIn
+  pub past-at : (p : ℕ) → p < countOf w → getD (pastsIn w (countOf w) limits) p 0 ≡ pastLatest w limits p
+  unfolding pastsIn
   past-at p lt = let size = length-replicate {A = ℕ} 16 0 in below-at (pastLatest w limits) (replicate 16 0) (countOf w) p 0 lt (omega (arith, few))
+
+  pub past-beyond : (p : ℕ) → countOf w ≤ p → p < 16 → getD (pastsIn w (countOf w) limits) p 0 ≡ 0
+  unfolding pastsIn
+  past-beyond p le lt = below-above (pastLatest w limits) (replicate 16 0) (countOf w) p 0 le ∙ getD-replicate {A = ℕ} 16 p 0 0 lt
 
   module _ (there : noMember s F ≡ false) where
     pub found-one : (p : ℕ) → p < countOf w → 1 ≤ pastLatest w limits p
@@ -195,16 +203,16 @@ module _ (w : List ℕ) (h : sound (runOf w) ≡ true) (F : ℕ) where
     pub index-at : (p : ℕ) → p < countOf w → member s F p .index ≡ indexIn w p (pastLatest w limits p)
     index-at p lt = ap (λ (c : Checkpoint). c .index) (member-is p lt (found-one p lt)) ∙ index-is p lt (pastLatest w limits p) (found-one p lt) (past-most w limits p)
 
-    pub indexes-at : (p : ℕ) → p < countOf w → getD (indexesIn w (countOf w) (membersIn w (countOf w) limits .pasts)) p (record { 0 = 0 }) ≡ member s F p .index
+    pub indexes-at : (p : ℕ) → p < countOf w → getD (indexesIn w (countOf w) (pastsIn w (countOf w) limits)) p (record { 0 = 0 }) ≡ member s F p .index
     unfolding indexesIn
     indexes-at p lt =
         let none : CheckpointIndex = record { 0 = 0 } in
         let size : length (replicate 16 none) ≡ 16 = length-replicate 16 none in
-        below-at (λ p. indexIn w p (getD (membersIn w (countOf w) limits .pasts) p 0)) (replicate 16 none) (countOf w) p none lt (omega (arith, few))
+        below-at (λ p. indexIn w p (getD (pastsIn w (countOf w) limits) p 0)) (replicate 16 none) (countOf w) p none lt (omega (arith, few))
         ∙ ap (indexIn w p) (past-at p lt)
         ∙ sym (index-at p lt)
 
-    pub line-is : table (countOf w) (λ p. getD (indexesIn w (countOf w) (membersIn w (countOf w) limits .pasts)) p (record { 0 = 0 }) .0) ≡ lineOf s F
+    pub line-is : table (countOf w) (λ p. getD (indexesIn w (countOf w) (pastsIn w (countOf w) limits)) p (record { 0 = 0 }) .0) ≡ lineOf s F
     unfolding lineOf
     line-is =
         table-same (countOf w) _ (λ p. member s F p .index .0) (λ p lt. ap (λ (x : CheckpointIndex). x .0) (indexes-at p lt))

@@ -20,13 +20,13 @@ use Rattle.model.specs.laws.Sound.{sound-state, sound-message}
 use Rattle.words.specs.Layout.{countOf, endOf, messageIn, messagesIn, runOf}
 use Rattle.words.proofs.View.{count-is}
 use Rattle.words.proofs.ViewSound.{SoundWords, sound-words}
-use Rattle.line_words.specs.Line.{limitsIn, membersIn, indexesIn}
+use Rattle.line_words.specs.Line.{limitsIn, pastsIn, indexesIn}
 use Rattle.line_words.proofs.LineRule.{indexes-at}
 use Rattle.line_words.specs.Sifted.{lostTo, SendersPresent}
 
 -- The indexes of the members of the line for the failed set F.
 abbrev pub lineIndexes : List ℕ → ℕ → List CheckpointIndex
-lineIndexes w F = indexesIn w (countOf w) (membersIn w (countOf w) (limitsIn w (countOf w) F) .pasts)
+lineIndexes w F = indexesIn w (countOf w) (pastsIn w (countOf w) (limitsIn w (countOf w) F))
 
 module _ (w : List ℕ) (h : sound (runOf w) ≡ true) where
   abbrev s : Run

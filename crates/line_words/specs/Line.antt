@@ -6,7 +6,7 @@ use mathlib.Core.List.{List}
 use mathlib.Core.Option.{Option, none, some}
 use Prim.Native.Nat.{ℕ, zero, suc, _+_, _-_, _≤_, _<_}
 use lib.Dec.{eqb, ltb, leb}
-use lib.ListN.{getD, replicate}
+use lib.ListN.{length, getD, replicate}
 use Rattle.laws.specs.Choice.{pick}
 use Rattle.laws.specs.Loops.{setBelow}
 use Rattle.laws.specs.Search.{allBelow}
@@ -16,7 +16,6 @@ use Rattle.model.specs.declared.Checkpoint.{Checkpoint}
 use Rattle.model.specs.Words.{places, entry, liveIndex, live, zeroVector, failed}
 use Rattle.words.specs.Layout.{word, heldAt, partAt, indexAt, storedAt, intervalOf, indexOf, vectorIn, checkpointIn}
 use Rattle.words.specs.Parts.{processIn}
-use Rattle.line_words.specs.declared.line.Members.{Members}
 
 -- "whose entry f is less than f's current own entry, for every failed f": the greatest entry for f that a state may have. No entry for f is above f's own one.
 unfoldable pub limitOf : List ℕ → ℕ → ℕ → Interval
@@ -57,15 +56,16 @@ KeptUsed p w = (k : ℕ) → k < word w (heldAt p) → 1 ≤ word w (indexAt p k
 abbrev pub AllUsed : ℕ → List ℕ → Type 0
 AllUsed n w = (p : ℕ) → p < n → KeptUsed p w
 
--- The members of n processes, and their indexes.
-unfoldable pub membersIn : List ℕ → ℕ → List Interval → Members
-membersIn w n limits = record {
-  all = allBelow n (λ p. not (eqb (pastLatest w limits p) 0));
-  pasts = setBelow n (pastLatest w limits) (replicate places 0);
-}
+-- Whether each of n processes has a member; one above the place of each member, 0 at n and above; and their indexes.
+unfoldable pub hasMembers : List ℕ → ℕ → List Interval → Bool
+hasMembers w n limits = allBelow n (λ p. not (eqb (pastLatest w limits p) 0))
 
+unfoldable pub pastsIn : List ℕ → ℕ → List Interval → List ℕ
+pastsIn w n limits = setBelow n (pastLatest w limits) (replicate places 0)
+
+-- The table has a place for each of n processes, and each has a member.
 abbrev pub AllFound : ℕ → List ℕ → Type 0
-AllFound n pasts = (p : ℕ) → p < n → 1 ≤ getD pasts p 0
+AllFound n pasts = (n ≤ length pasts) × ((p : ℕ) → p < n → 1 ≤ getD pasts p 0)
 
 unfoldable pub indexIn : List ℕ → ℕ → ℕ → CheckpointIndex
 indexIn w p past = pick (leb past (word w (heldAt p))) (indexOf (word w (indexAt p (past - 1)))) (liveIndex (intervalOf (word w (partAt p + p))))

@@ -4,10 +4,10 @@ use model::Interval;
 use words::places;
 ghost use mathlib.Core.Path.{_≡_};
 ghost use Prim.Native.Nat.{_+_, _-_, _≤_, _<_};
-ghost use lib.ListN.{length};
+ghost use lib.ListN.{length, replicate};
 ghost use Rattle.laws.specs.Choice.{pick};
 ghost use Rattle.words.specs.Layout.{word, heldAt, partAt};
-ghost use Rattle.line_words.specs.Line.{limitsIn, pastKept, pastLatest, membersIn, indexIn, indexesIn, OwnSome, HeldMost, KeptUsed, AllUsed, AllFound};
+ghost use Rattle.line_words.specs.Line.{limitsIn, pastKept, pastLatest, hasMembers, pastsIn, indexIn, indexesIn, OwnSome, HeldMost, KeptUsed, AllUsed, AllFound};
 
 // The greatest entry for a process that a state may have: "less than f's current own entry" where it has failed. Where it has not, no entry is above the own entry.
 fn limit_of(failed: bool, own: Interval) -> Interval
@@ -67,24 +67,20 @@ fn latest_allowed(w: &[u16], p: usize, limits: [Interval; 16]) -> usize
     latest_kept(w, p, held, limits)
 }
 
-// One above the place of each process's member, 0 at n and above. `all` says whether the line rule accepts a state of each process.
-pub struct Members {
-    pub all: bool,
-    pub pasts: [u16; 16],
-}
-
-pub fn find_members(w: &[u16], n: usize, limits: [Interval; 16]) -> Members
-    requires { ⌜ (length (now w) ≡ 6464) × (n ≤ 16) × HeldMost n (now w) ⌝ }
-    ensures { λ r. ⌜ r ≡ membersIn (now (w .entry)) n limits ⌝ }
+// One above the place of the member of each of n processes goes into the lent table, which holds zeros. The result says whether the line rule accepts a state of each.
+// The table is lent, and then read place by place: a table by value is copied as rows, and such a copy waits for the stores of its places.
+pub fn find_members(w: &[u16], n: usize, limits: [Interval; 16], pasts: &mut [u16]) -> bool
+    requires { ⌜ (length (now w) ≡ 6464) × (n ≤ 16) × HeldMost n (now w) × (now pasts ≡ replicate 16 0) ⌝ }
+    ensures { λ r. ⌜ r ≡ hasMembers (now (w .entry)) n limits ⌝ }
+    ensures { λ r. ⌜ now (pasts .exit) ≡ pastsIn (now (w .entry)) n limits ⌝ }
 {
-    let mut pasts = [0u16; 16];
     let mut all = true;
     for p in 0..n {
         let past = latest_allowed(w, p, limits);
         pasts[p] = past as u16;
         all = all & (past != 0);
     }
-    Members { all, pasts }
+    all
 }
 
 // The index of the state of process p in the place before this one.
@@ -101,9 +97,9 @@ fn index_in(w: &[u16], p: usize, past: usize) -> CheckpointIndex
 }
 
 // The indexes of the members of n processes, 0 at n and above.
-pub fn indexes_of(w: &[u16], n: usize, pasts: [u16; 16]) -> [CheckpointIndex; 16]
-    requires { ⌜ (length (now w) ≡ 6464) × (n ≤ 16) × OwnSome n (now w) × HeldMost n (now w) × AllUsed n (now w) × AllFound n pasts ⌝ }
-    ensures { λ r. ⌜ r ≡ indexesIn (now (w .entry)) n pasts ⌝ }
+pub fn indexes_of(w: &[u16], n: usize, pasts: &[u16]) -> [CheckpointIndex; 16]
+    requires { ⌜ (length (now w) ≡ 6464) × (n ≤ 16) × OwnSome n (now w) × HeldMost n (now w) × AllUsed n (now w) × AllFound n (now pasts) ⌝ }
+    ensures { λ r. ⌜ r ≡ indexesIn (now (w .entry)) n (now (pasts .entry)) ⌝ }
 {
     let mut indexes = [CheckpointIndex(0); 16];
     for p in 0..n {

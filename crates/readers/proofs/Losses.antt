@@ -22,8 +22,7 @@ use Rattle.model.specs.Refusals.{outside, noMember}
 use Rattle.words.specs.Layout.{countOf, endOf, messageIn, isMessage, messagesIn, runOf}
 use Rattle.words.proofs.View.{count-is}
 use Rattle.words.proofs.ViewSound.{SoundWords, sound-words}
-use Rattle.line_words.specs.declared.line.Members.{Members}
-use Rattle.line_words.specs.Line.{limitsIn, membersIn, indexesIn}
+use Rattle.line_words.specs.Line.{limitsIn, pastsIn, indexesIn}
 use Rattle.line_words.specs.Sifted.{lostTo}
 use Rattle.line_words.proofs.Lost.{lineIndexes, lost-are}
 use Rattle.readers.specs.Readings.{sentNumbers, lostMessages, lostReading}
@@ -34,9 +33,9 @@ pub few-lost : (indexes : List CheckpointIndex) (w : List ℕ) (k : ℕ) → len
 few-lost indexes w k = omega (arith, select-length (λ x. isMessage x && lostTo indexes x) (table k (messageIn w)), length-table k (messageIn w))
 
 -- The indexes that line_words finds are those of the line.
-pub indexes-are : (w : List ℕ) (n F : ℕ) (limits : List Interval) (m : Members) (indexes : List CheckpointIndex) → n ≡ countOf w → limits ≡ limitsIn w n F → m ≡ membersIn w n limits
-    → indexes ≡ indexesIn w n (m .pasts) → indexes ≡ lineIndexes w F
-indexes-are w n F limits m indexes same of-set found e = e ∙ rw (found, of-set, same)
+pub indexes-are : (w : List ℕ) (n F : ℕ) (limits : List Interval) (pasts : List ℕ) (indexes : List CheckpointIndex) → n ≡ countOf w → limits ≡ limitsIn w n F → pasts ≡ pastsIn w n limits
+    → indexes ≡ indexesIn w n pasts → indexes ≡ lineIndexes w F
+indexes-are w n F limits pasts indexes same of-set found e = e ∙ rw (found, of-set, same)
 
 module _ (w : List ℕ) (h : sound (runOf w) ≡ true) (F : ℕ) (lent : List ℕ) where
   abbrev s : Run

@@ -65,12 +65,12 @@ fn lost_within(w: &[u16], n: usize, failed: u32, messages: &mut [u32]) -> u64
     ensures { λ r. ⌜ now (messages .exit) ≡ lostReading (runOf (now (w .entry))) failed (now (messages .entry)) .list ⌝ }
 {
     let limits = line_words::line::limits_of(w, n, failed);
-    let members = line_words::line::find_members(w, n, limits);
-    let all = members.all;
+    let mut table = [0u16; 16];
+    let pasts: &mut [u16] = &mut table;
+    let all = line_words::line::find_members(w, n, limits, pasts);
     if !all {
         return refused(Refusal::UnsoundState);
     }
-    let pasts = members.pasts;
     let indexes = line_words::line::indexes_of(w, n, pasts);
     let end = end_in(w);
     let many = write_lost(w, end, indexes, messages);

@@ -37,8 +37,8 @@ use Rattle.words.proofs.View.{count-is, last-is, fits-size}
 use Rattle.words.proofs.ViewChange.{with-messages, mail-same, messages-same}
 use Rattle.words.proofs.ViewClean.{clean-messages}
 use Rattle.words.proofs.ViewSound.{sound-words}
-use Rattle.line_words.specs.Line.{limitsIn, membersIn, indexesIn}
-use Rattle.line_words.proofs.LineRule.{all-found, line-is}
+use Rattle.line_words.specs.Line.{limitsIn, hasMembers, pastsIn, indexesIn}
+use Rattle.line_words.proofs.LineRule.{pasts-length, all-found, line-is}
 use Rattle.recover_in_place.specs.Restored.{goesBack, ownsAfter, AllReturn}
 use Rattle.recover_in_place.proofs.Recovery.{rolled, recovered-is, gone-is, restorable, all-return}
 use Rattle.line_words.specs.Sifted.{lostTo, SendersPresent, Sifted}
@@ -121,7 +121,7 @@ module _ (w : List ℕ) (h : sound (runOf w) ≡ true) (F : ℕ) (lent line : Li
       -- Each process has a member: the words of an accepted recovery.
       module _ (there : noMember s F ≡ false) where
         abbrev pasts : List ℕ
-        pasts = membersIn w n (limitsIn w n F) .pasts
+        pasts = pastsIn w n (limitsIn w n F)
 
         abbrev indexes : List CheckpointIndex
         indexes = indexesIn w n pasts
@@ -133,7 +133,7 @@ module _ (w : List ℕ) (h : sound (runOf w) ≡ true) (F : ℕ) (lent line : Li
         unfolding recoverRefusal
         accepted = refusal-in _ none (rw h, (short-is ∙ long, (inside, (there, tt))))
 
-        all : membersIn w n (limitsIn w n F) .all ≡ true
+        all : hasMembers w n (limitsIn w n F) ≡ true
         all = all-found w h F ∙ ap not there
 
         losses-are : lossesThen w pasts owns n ≡ recoverDeletions s F
@@ -205,10 +205,13 @@ module _ (w : List ℕ) (h : sound (runOf w) ≡ true) (F : ℕ) (lent line : Li
 -- What the functions on the processes and on the messages rely on.
 module _ (w : List ℕ) (h : sound (runOf w) ≡ true) (F : ℕ) (there : noMember (runOf w) F ≡ false) (small : (k : ℕ) → word w k < 65536) where
   abbrev found-pasts : List ℕ
-  found-pasts = membersIn w (countOf w) (limitsIn w (countOf w) F) .pasts
+  found-pasts = pastsIn w (countOf w) (limitsIn w (countOf w) F)
 
   pub all-restorable : (m : ℕ) (found : List ℕ) → m ≡ countOf w → found ≡ found-pasts → AllRestorable m found w
-  all-restorable m found a b = rw (b, a) (λ p lt. restorable w h F (all-found w h F ∙ ap not there) p lt small)
+  all-restorable m found a b = rw (b, a) (
+    omega (arith, pasts-length w (countOf w) (limitsIn w (countOf w) F), sound-words w h .few),
+    λ p lt. restorable w h F (all-found w h F ∙ ap not there) p lt small,
+  )
 
   pub all-returning : (found : List ℕ) → found ≡ found-pasts → AllReturn found w
   all-returning found b = rw b (all-return w h F (all-found w h F ∙ ap not there) small)

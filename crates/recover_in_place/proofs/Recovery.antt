@@ -6,13 +6,12 @@ use mathlib.Core.List.{List, []}
 use Prim.Native.Nat.{ℕ, _+_, _*_, _-_, _≤_, _<_}
 use native.Mathlib.Omega.{arith}
 use lib.Dec.{eqb, leb}
-use lib.ListN.{length, getD, replicate, getD-replicate}
+use lib.ListN.{length, getD, getD-replicate}
 use lib.Seq.{getD-set-other}
 use borrow.Author.Tests.{lt-ltb, le-ltb, le-leb, lt-leb, leb-true, eq-eqb, ne-eqb, eqb-true}
 use Rattle.laws.specs.Choice.{pick, by-bool, by-eq, pick-same}
 use Rattle.laws.specs.Elements.{every-table}
 use Rattle.laws.specs.Lists.{select, lastOf, table}
-use Rattle.laws.specs.Loops.{below-above}
 use Rattle.laws.specs.Prefixes.{select-none}
 use Rattle.laws.specs.Rows.{by-lt, every-behind}
 use Rattle.laws.specs.Search.{anyBelow, any-in, any-out}
@@ -35,9 +34,9 @@ use Rattle.words.proofs.Same.{row-word, vector-length, vector-word, pins-length
 use Rattle.words.proofs.View.{run-fits, count-is, part-past}
 use Rattle.words.proofs.ViewRows.{vector-zero, stored-zero, kept-pinned}
 use Rattle.words.proofs.ViewSound.{SoundPart, sound-fits, sound-few, sound-known, sound-process-is, sound-own-is, sound-part}
-use Rattle.line_words.specs.Line.{limitsIn, pastLatest, stateIn, membersIn}
+use Rattle.line_words.specs.Line.{limitsIn, pastLatest, stateIn, hasMembers, pastsIn}
 use Rattle.line_words.specs.Restored.{foundIn}
-use Rattle.line_words.proofs.LineRule.{past-most, member-is, all-found, past-at, found-one}
+use Rattle.line_words.proofs.LineRule.{past-most, pasts-length, member-is, all-found, past-at, past-beyond, found-one}
 use Rattle.process_words.specs.Kept.{Used, AllNamed}
 use Rattle.process_words.specs.Pins.{pinRow}
 use Rattle.process_words.specs.Steps.{placesOf, unnamedIn}
@@ -56,7 +55,7 @@ each-named w h p lt k less =
     ∙ named-row (rowIn w (pinsAt p)) (word w (indexAt p k)) here
     ∙ any-in 16 (λ f. eqb (getD (rowIn w (pinsAt p)) f 0) (word w (indexAt p k))) (one .0) (one .1) (eq-eqb _ _ (row-word w (pinsAt p) (one .0) (one .1) ∙ one .2))
 
-module _ (w : List ℕ) (h : sound (runOf w) ≡ true) (F : ℕ) (all : membersIn w (countOf w) (limitsIn w (countOf w) F) .all ≡ true) where
+module _ (w : List ℕ) (h : sound (runOf w) ≡ true) (F : ℕ) (all : hasMembers w (countOf w) (limitsIn w (countOf w) F) ≡ true) where
   abbrev s : Run
   s = runOf w
 
@@ -64,7 +63,7 @@ module _ (w : List ℕ) (h : sound (runOf w) ≡ true) (F : ℕ) (all : membersI
   limits = limitsIn w (countOf w) F
 
   abbrev pub pasts : List ℕ
-  pasts = membersIn w (countOf w) limits .pasts
+  pasts = pastsIn w (countOf w) limits
 
   abbrev pub pastOf : ℕ → ℕ
   pastOf p = getD pasts p 0
@@ -163,11 +162,7 @@ module _ (w : List ℕ) (h : sound (runOf w) ≡ true) (F : ℕ) (all : membersI
   unfolding ownsAfter
   owns-are f lt = getD-table 16 (λ p. restoredOwn w p (getD pasts p 0)) f (record { 0 = 0 }) (omega (arith, few)) ∙ own-is f lt
 
-  -- Past them there is no member, and Steps has 0; what the words hold there is not known.
-  past-unused : (p : ℕ) → countOf w ≤ p → p < 16 → pastOf p ≡ 0
-  unfolding membersIn
-  past-unused p le lt = below-above (pastLatest w limits) (replicate 16 0) (countOf w) p 0 le ∙ getD-replicate {A = ℕ} 16 p 0 0 lt
-
+  -- Past them Steps has 0; what the words hold there is not known.
   unused-own : (f : ℕ) → countOf w ≤ f → f < 16 → own s f .0 ≡ 0
   unfolding own process decoded
   unused-own f le lt =
@@ -350,4 +345,7 @@ module _ (w : List ℕ) (h : sound (runOf w) ≡ true) (F : ℕ) (all : membersI
       restorable = (returns-there, part p lt .used, each-named w h p lt)
 
   pub all-return : ((k : ℕ) → word w k < 65536) → AllReturn pasts w
-  all-return small p lt some = by-lt p (countOf w) (λ less. returns-there p less small) (λ le. absurd (omega (arith, past-unused p le lt)))
+  all-return small = (
+    omega (arith, pasts-length w (countOf w) limits),
+    λ p lt some. by-lt p (countOf w) (λ less. returns-there p less small) (λ le. absurd (omega (arith, past-beyond w h F p le lt))),
+  )

@@ -4,7 +4,7 @@ use mathlib.Core.Path.{_≡_}
 use mathlib.Core.Bool.{true}
 use mathlib.Core.List.{List}
 use Prim.Native.Nat.{ℕ, _≤_, _<_}
-use lib.ListN.{getD}
+use lib.ListN.{length, getD}
 use Rattle.laws.specs.Lists.{gather}
 use Rattle.laws.specs.Sums.{sumBelow}
 use Rattle.model.specs.declared.Interval.{Interval}
@@ -31,9 +31,9 @@ lossesThen w pasts owns k = gather k (λ p. listed p (goneThen w pasts owns p))
 unfoldable pub diskThen : List ℕ → List ℕ → List Interval → ℕ → Disk
 diskThen w pasts owns k = billed (diskIn w) 0 (sumBelow k (λ p. blocksOf (goneThen w pasts owns p)))
 
--- Each of n processes can go back to its member.
+-- Each of n processes can go back to its member, whose place the table has.
 abbrev pub AllRestorable : ℕ → List ℕ → List ℕ → Type 0
-AllRestorable n pasts w = (p : ℕ) → p < n → Restorable w p (getD pasts p 0)
+AllRestorable n pasts w = (n ≤ length pasts) × ((p : ℕ) → p < n → Restorable w p (getD pasts p 0))
 
 -- v is w with the first k processes as they are after the recovery; the others and the messages are as they were.
 pub record Restored (w pasts : List ℕ) (owns : List Interval) (k : ℕ) (v : List ℕ) : Type 0 where

@@ -6,7 +6,7 @@ use mathlib.Core.Bool.{Bool, _&&_, not}
 use mathlib.Core.List.{List}
 use Prim.Native.Nat.{ℕ, _+_, _-_, _≤_, _<_}
 use lib.Dec.{ltb, leb}
-use lib.ListN.{getD}
+use lib.ListN.{length, getD}
 use Rattle.laws.specs.Choice.{pick}
 use Rattle.laws.specs.Lists.{select, table}
 use Rattle.model.specs.declared.Interval.{Interval}
@@ -62,7 +62,7 @@ Returns w p past =
     (word w (heldAt p) ≤ 16) × (1 ≤ past) × (past ≤ word w (heldAt p) + 1) × (past ≤ word w (heldAt p) → word w (storedAt p (past - 1) + p) < 65535)
 
 abbrev pub AllReturn : List ℕ → List ℕ → Type 0
-AllReturn pasts w = (p : ℕ) → p < 16 → 1 ≤ getD pasts p 0 → Returns w p (getD pasts p 0)
+AllReturn pasts w = (16 ≤ length pasts) × ((p : ℕ) → p < 16 → 1 ≤ getD pasts p 0 → Returns w p (getD pasts p 0))
 
 -- Each kept checkpoint has an index, and a pin names it.
 abbrev pub Restorable : List ℕ → ℕ → ℕ → Type 0

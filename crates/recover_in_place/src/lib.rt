@@ -39,9 +39,9 @@ fn one_if_back(w: &[u16], p: usize, past: u16) -> usize
 }
 
 // How many of n processes go back.
-fn count_back(w: &[u16], n: usize, pasts: [u16; 16]) -> usize
-    requires { ⌜ (length (now w) ≡ 6464) × (n ≤ 16) ⌝ }
-    ensures { λ r. ⌜ r ≡ countBelow n (λ p. goesBack (now (w .entry)) p (getD pasts p 0)) ⌝ }
+fn count_back(w: &[u16], n: usize, pasts: &[u16]) -> usize
+    requires { ⌜ (length (now w) ≡ 6464) × (n ≤ 16) × (n ≤ length (now pasts)) ⌝ }
+    ensures { λ r. ⌜ r ≡ countBelow n (λ p. goesBack (now (w .entry)) p (getD (now (pasts .entry)) p 0)) ⌝ }
 {
     let mut back = 0;
     for p in 0..n {
@@ -56,14 +56,14 @@ fn count_back(w: &[u16], n: usize, pasts: [u16; 16]) -> usize
 fn restore_all(
     w: &mut [u16],
     n: usize,
-    pasts: [u16; 16],
+    pasts: &[u16],
     owns: [Interval; 16],
     deleted: &mut [u16],
 ) -> usize
-    requires { ⌜ (sound (runOf (now w)) ≡ true) × (n ≡ countOf (now w)) × (2 * n * n ≤ length (now deleted)) × AllRestorable n pasts (now w) ⌝ }
-    ensures { λ r. ⌜ Restored (now (w .entry)) pasts owns n (now (w .exit)) ⌝ }
-    ensures { λ r. ⌜ now (deleted .exit) ≡ sets (now (deleted .entry)) 0 (pairs (lossesThen (now (w .entry)) pasts owns n)) ⌝ }
-    ensures { λ r. ⌜ r ≡ length (lossesThen (now (w .entry)) pasts owns n) ⌝ }
+    requires { ⌜ (sound (runOf (now w)) ≡ true) × (n ≡ countOf (now w)) × (2 * n * n ≤ length (now deleted)) × AllRestorable n (now pasts) (now w) ⌝ }
+    ensures { λ r. ⌜ Restored (now (w .entry)) (now (pasts .entry)) owns n (now (w .exit)) ⌝ }
+    ensures { λ r. ⌜ now (deleted .exit) ≡ sets (now (deleted .entry)) 0 (pairs (lossesThen (now (w .entry)) (now (pasts .entry)) owns n)) ⌝ }
+    ensures { λ r. ⌜ r ≡ length (lossesThen (now (w .entry)) (now (pasts .entry)) owns n) ⌝ }
 {
     let mut gone = 0;
     for p in 0..n {
@@ -91,12 +91,12 @@ fn recover_within(
     ensures { λ r. ⌜ Leaves (now (w .entry)) (now (w .exit)) ⌝ }
 {
     let limits = line_words::line::limits_of(w, n, failed);
-    let members = line_words::line::find_members(w, n, limits);
-    let all = members.all;
+    let mut table = [0u16; 16];
+    let pasts: &mut [u16] = &mut table;
+    let all = line_words::line::find_members(w, n, limits, pasts);
     if !all {
         return RecoverAnswer::Refused(Refusal::UnsoundState);
     }
-    let pasts = members.pasts;
     let indexes = line_words::line::indexes_of(w, n, pasts);
     let owns = crate::process::owns::owns_after(w, pasts);
     let back = count_back(w, n, pasts);

@@ -37,24 +37,34 @@ loop-holds c = (search needs, none-counted _)
 
 add-back : tie.Need-add-back Inv-loop μ-loop
 add-back c =
-    let l = c .before .before .loop in
-    let st = c .before .before .before .before in
-    omega (arith, l .inv .0, st .pre .1, l .inv .1, count-le (l .p) (λ q. goesBack (st .args .w .now) q (getD (st .args .t3) q 0)), c .one-if-back .ensures, one-most (goesBack (st .args .w .now) (l .p) (getD (st .args .t3) (l .p) 0)))
+    let l = c .before .before .before .loop in
+    let st = c .before .before .before .before .before .before in
+    omega (arith, l .inv .0, st .pre .1, l .inv .1, count-le (l .p) (λ q. goesBack (st .args .w .now) q (getD (st .args .pasts .now) q 0)), c .one-if-back .ensures, one-most (goesBack (st .args .w .now) (l .p) (getD (st .args .pasts .now) (l .p) 0)))
 
 loop-again : tie.Need-loop-again Inv-loop μ-loop
 loop-again c =
-    let l = c .before .before .loop in
-    let st = c .before .before .before .before in
-    (search needs, one-counted (λ q. goesBack (st .args .w .now) q (getD (st .args .t3) q 0)) (l .p) (l .back) _ (l .inv .1) (c .one-if-back .ensures))
+    let l = c .before .before .before .loop in
+    let st = c .before .before .before .before .before .before in
+    (search needs, one-counted (λ q. goesBack (st .args .w .now) q (getD (st .args .pasts .now) q 0)) (l .p) (l .back) _ (l .inv .1) (c .one-if-back .ensures))
 
 returns : tie.Need-returns Inv-loop μ-loop
 returns c =
     let l = c .before .loop in
-    let e : l .p ≡ c .before .before .before .args .n = omega arith in
+    let e : l .p ≡ c .before .before .before .before .args .n = omega arith in
     rw e at (l .inv .1)
 
 pub count-back-spec : {M : Type 1} → statement M
 count-back-spec =
     tie.close
-    (tie.spec Inv-loop μ-loop loop-holds (λ c. search needs) (λ c. search needs) (λ c κs. search needs) add-back (λ c. search needs) (λ c. search needs) loop-again
+    (tie.spec
+    Inv-loop
+    μ-loop
+    loop-holds
+    (λ c. search needs)
+    (λ c. let i = c .before in omega (arith, i .loop-test .taken, i .before .before .before .before .pre .2))
+    (λ c κs. search needs)
+    add-back
+    (λ c. search needs)
+    (λ c. search needs)
+    loop-again
     returns)

@@ -22,9 +22,9 @@ fn own_then(w: &[u16], p: usize, past: usize) -> Interval
 
 // Those at all 16 places: at n and above they are of no use, but a loop of 16 iterations is unrolled, and its row stays in registers. A loop of n iterations stores the
 // row word by word, and a read of the whole row waits for these stores.
-pub fn owns_after(w: &[u16], pasts: [u16; 16]) -> [Interval; 16]
-    requires { ⌜ (length (now w) ≡ 6464) × AllReturn pasts (now w) ⌝ }
-    ensures { λ r. ⌜ r ≡ ownsAfter (now (w .entry)) pasts ⌝ }
+pub fn owns_after(w: &[u16], pasts: &[u16]) -> [Interval; 16]
+    requires { ⌜ (length (now w) ≡ 6464) × AllReturn (now pasts) (now w) ⌝ }
+    ensures { λ r. ⌜ r ≡ ownsAfter (now (w .entry)) (now (pasts .entry)) ⌝ }
 {
     let mut owns = [Interval(0); 16];
     for p in 0..words::PROCESSES {

@@ -21,15 +21,15 @@ loop-holds c = (search needs, below-none _ _)
 
 own-then-requires : tie.Need-own-then-requires Inv-loop μ-loop
 own-then-requires c κs =
-    let st = c .before .before .before in
-    let p = c .before .loop .p in
-    (st .pre .0, c .loop-test .taken, st .pre .1 p (c .loop-test .taken))
+    let i = c .before in
+    let st = i .before .before .before .before in
+    (st .pre .0, i .loop-test .taken, st .pre .1 .1 (i .before .loop .p) (i .loop-test .taken))
 
 loop-again : tie.Need-loop-again Inv-loop μ-loop
 loop-again c =
-    let l = c .before .before .loop in
-    let a = c .before .before .before .before .args in
-    (search needs, turn-set (λ q. restoredOwn (a .w .now) q (getD (a .t2) q 0)) _ (l .owns) (l .p) (l .inv .1) _ (c .own-then .ensures))
+    let l = c .before .before .before .loop in
+    let a = c .before .before .before .before .before .before .args in
+    (search needs, turn-set (λ q. restoredOwn (a .w .now) q (getD (a .pasts .now) q 0)) _ (l .owns) (l .p) (l .inv .1) _ (c .own-then .ensures))
 
 returns : tie.Need-returns Inv-loop μ-loop
 unfolding ownsAfter
@@ -41,5 +41,17 @@ returns c =
 pub owns-after-spec : {M : Type 1} → statement M
 owns-after-spec =
     tie.close
-    (tie.spec Inv-loop μ-loop loop-holds (λ c. search needs) (λ c. search needs) (λ c. search needs) own-then-requires (λ c. search needs) (λ c. search needs)
-    (λ c. search needs) (λ c. search needs) loop-again returns)
+    (tie.spec
+    Inv-loop
+    μ-loop
+    loop-holds
+    (λ c. search needs)
+    (λ c. let i = c .before in omega (arith, i .loop-test .taken, i .before .before .before .before .pre .1 .0))
+    (λ c. let small = c .shared-slice-known3 .given (c .before .before .loop .p) in search (needs, small))
+    own-then-requires
+    (λ c. search needs)
+    (λ c. search needs)
+    (λ c. search needs)
+    (λ c. search needs)
+    loop-again
+    returns)
