@@ -56,15 +56,5 @@ returns c =
 pub count-back-spec : {M : Type 1} → statement M
 count-back-spec =
     tie.close
-    (tie.spec
-    Inv-loop
-    μ-loop
-    loop-holds
-    (λ c. search needs)
-    (λ c. let i = c .before in omega (arith, i .loop-test .taken, i .before .before .before .before .pre .2))
-    (λ c κs. search needs)
-    add-back
-    (λ c. search needs)
-    (λ c. search needs)
-    loop-again
-    returns)
+    (tie.spec Inv-loop μ-loop loop-holds (λ c. search needs) (λ c. let i = c .before in omega (arith, i .loop-test .taken, i .before .before .before .before .pre .2))
+    (λ c κs. search needs) add-back (λ c. search needs) (λ c. search needs) loop-again returns)

@@ -162,19 +162,5 @@ returns-2 c =
 pub recover-within-spec : {M : Type 1} → statement M
 recover-within-spec =
     tie.close
-    (tie.spec
-    limits-of-requires
-    (λ c. search needs)
-    find-members-requires
-    (λ c. search needs)
-    returns
-    indexes-of-requires
-    owns-after-requires
-    count-back-requires
-    write-line-requires
-    restore-all-requires
-    sift-requires
-    (λ c. search needs)
-    (λ c. search needs)
-    (λ c. search needs)
-    returns-2)
+    (tie.spec limits-of-requires (λ c. search needs) find-members-requires (λ c. search needs) returns indexes-of-requires owns-after-requires count-back-requires
+    write-line-requires restore-all-requires sift-requires (λ c. search needs) (λ c. search needs) (λ c. search needs) returns-2)

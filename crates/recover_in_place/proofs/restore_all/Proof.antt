@@ -104,18 +104,5 @@ returns c =
 pub restore-all-spec : {M : Type 1} → statement M
 restore-all-spec =
     tie.close
-    (tie.spec
-    Inv-loop
-    μ-loop
-    loop-holds
-    mul-past
-    shared-slice-read-past
-    cast-past
-    restore-requires
-    add-gone
-    (λ c. search needs)
-    (λ c. search needs)
-    loop-again
-    same-length
-    (λ c. search needs)
-    returns)
+    (tie.spec Inv-loop μ-loop loop-holds mul-past shared-slice-read-past cast-past restore-requires add-gone (λ c. search needs) (λ c. search needs) loop-again
+    same-length (λ c. search needs) returns)

@@ -90,13 +90,4 @@ returns-2 c =
 
 pub line-within-spec : {M : Type 1} → statement M
 line-within-spec =
-    tie.close
-    (tie.spec
-    limits-of-requires
-    (λ c. search needs)
-    find-members-requires
-    returns
-    indexes-of-requires
-    write-line-requires
-    (λ c. search needs)
-    returns-2)
+    tie.close (tie.spec limits-of-requires (λ c. search needs) find-members-requires returns indexes-of-requires write-line-requires (λ c. search needs) returns-2)

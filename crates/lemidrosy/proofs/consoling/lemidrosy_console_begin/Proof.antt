@@ -21,5 +21,4 @@ returns-3 c = begun-done (now (c .before .before .before .before .before .before
 
 pub lemidrosy-console-begin-spec : {M : Type 1} → statement M
 lemidrosy-console-begin-spec =
-    tie.close
-    (tie.spec (λ c κs. search needs) returns returns-2 begin-requires (λ c κs. search needs) (λ c. search needs) (λ c. search needs) returns-3)
+    tie.close (tie.spec (λ c κs. search needs) returns returns-2 begin-requires (λ c κs. search needs) (λ c. search needs) (λ c. search needs) returns-3)

@@ -72,16 +72,5 @@ returns c =
 pub find-members-spec : {M : Type 1} → statement M
 find-members-spec =
     tie.close
-    (tie.spec
-    Inv-loop
-    μ-loop
-    loop-holds
-    latest-allowed-requires
-    cast-pasts
-    (λ c. search needs)
-    slice-write-pasts
-    (λ c. search needs)
-    (λ c. search needs)
-    loop-again
-    same-length
-    returns)
+    (tie.spec Inv-loop μ-loop loop-holds latest-allowed-requires cast-pasts (λ c. search needs) slice-write-pasts (λ c. search needs) (λ c. search needs) loop-again
+    same-length returns)

@@ -114,15 +114,5 @@ returns-2 c =
 pub lost-within-spec : {M : Type 1} → statement M
 lost-within-spec =
     tie.close
-    (tie.spec
-    limits-of-requires
-    (λ c. search needs)
-    find-members-requires
-    (λ c κs. search needs)
-    returns
-    indexes-of-requires
-    (λ c κs. search needs)
-    write-lost-requires
-    counted-requires
-    (λ c. search needs)
-    returns-2)
+    (tie.spec limits-of-requires (λ c. search needs) find-members-requires (λ c κs. search needs) returns indexes-of-requires (λ c κs. search needs) write-lost-requires
+    counted-requires (λ c. search needs) returns-2)

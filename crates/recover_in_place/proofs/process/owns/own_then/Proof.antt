@@ -43,26 +43,7 @@ returns-2 c = rw (c .before .before .if1 .left) (c .interval-of2 .ensures)
 pub own-then-spec : {M : Type 1} → statement M
 own-then-spec =
     tie.close
-    (tie.spec
-    (λ c. search needs)
-    (λ c. search needs)
-    (λ c. search needs)
-    cast-held
-    (λ c. search needs)
-    (λ c. search needs)
-    (λ c. let s = stored c in search needs)
-    (λ c. let s = stored c in search needs)
-    (λ c. let s = stored c in search needs)
-    (λ c. let s = stored c in search needs)
-    (λ c. let s = stored c in search needs)
-    (λ c. let s = stored (c .before) in search needs)
-    add-interval-of
-    (λ c κs. search needs)
-    (λ c. search needs)
-    (λ c. search needs)
-    (λ c. search needs)
-    (λ c. search needs)
-    (λ c. search needs)
-    (λ c κs. search needs)
-    returns
-    returns-2)
+    (tie.spec (λ c. search needs) (λ c. search needs) (λ c. search needs) cast-held (λ c. search needs) (λ c. search needs) (λ c. let s = stored c in search needs)
+    (λ c. let s = stored c in search needs) (λ c. let s = stored c in search needs) (λ c. let s = stored c in search needs) (λ c. let s = stored c in search needs)
+    (λ c. let s = stored (c .before) in search needs) add-interval-of (λ c κs. search needs) (λ c. search needs) (λ c. search needs) (λ c. search needs)
+    (λ c. search needs) (λ c. search needs) (λ c κs. search needs) returns returns-2)
