@@ -39,7 +39,7 @@ static void same(const char *what, long got, long right) {
 // thing that the process does, half of it if it writes; step `failing` fails with `failure`.
 static char steps[256];
 static size_t count_steps, most_written;
-static bool watched;
+static bool watched, crowded;
 static int fatal, failing, failure, interrupted;
 
 static void watch(void) {
@@ -51,8 +51,10 @@ static void watch(void) {
     watched = true;
 }
 
-// Notes a step. Whether it is to be done; if not, errno says why.
+// Notes a step. Whether it is to be done; if not, errno says why. In a crowd another gets its turn before each, however few the processors are.
 static bool step(char letter) {
+    if (crowded)
+        nanosleep(&(struct timespec){0, 20000}, NULL);
     if (!watched)
         return true;
     if (interrupted > 0 && (letter == 'w' || letter == 's' || letter == 'd')) {
@@ -343,6 +345,7 @@ static void company(long rounds) {
     for (int k = 0; k < 2; k++) {
         writers[k] = fork();
         if (writers[k] == 0) {
+            crowded = true;
             for (long round = 0; round < rounds; round++)
                 if (store((uint32_t)k + 1) != 0)
                     _exit(1);
