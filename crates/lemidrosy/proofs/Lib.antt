@@ -1,5 +1,4 @@
 -- Laws that belong to no one function.
-pub mod Blocks
 pub mod Consoles
 pub mod Merging
 pub mod Recording
@@ -7,6 +6,5 @@ pub mod Starting
 pub mod Stepped
 pub mod Unsound
 pub mod Verdicts
-pub mod ReplayStepped
 pub mod RecordStepped
 pub mod ConsoleStepped

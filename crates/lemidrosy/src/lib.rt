@@ -1,6 +1,6 @@
-// The library for C: everything that it exports stands here, and nothing but calls of what is proved below. A lent slice is a pointer and a length; it may be empty,
-// and then its pointer counts for nothing. No function asks anything of its arguments: what does not fit is refused, and its number says why. An answer is one number
-// with fields (`answers`, specs/Codes). Lent slices must not overlap.
+// The library for C: everything that it exports stands here, the replay alone in `lemidrosy_replay`, and nothing but calls of what is proved below. A lent slice is a
+// pointer and a length; it may be empty, and then its pointer counts for nothing. No function asks anything of its arguments: what does not fit is refused, and its
+// number says why. An answer is one number with fields (`answers`, specs/Codes). Lent slices must not overlap.
 
 // calls.rt: the calls in place
 pub mod calls;
@@ -14,9 +14,6 @@ pub mod console;
 // readings.rt: what is read of the words
 pub mod readings;
 
-// replaying.rt: a block of records
-pub mod replaying;
-
 // saving.rt: a state as bytes
 pub mod saving;
 
@@ -25,9 +22,6 @@ pub mod programs;
 
 // stepping.rt: the programs as machines
 pub mod stepping;
-
-// replay_steps.rt: the replay program as a machine
-pub mod replay_steps;
 
 // record_stepping.rt: the program `record` as a machine
 pub mod record_stepping;

@@ -4,9 +4,9 @@ use mathlib.Core.Path.{sym, _∙_}
 use borrow.Author.Needs.{needs}
 use borrow.Author.Tests.{not-true, not-false}
 use denote.Ref.{now}
-use Rattle.lemidrosy.proofs.ReplayStepped.{few-numbers, not-roomy, no-request, begun-done}
-use Rattle.lemidrosy.proofs.replay_steps.lemidrosy_replay_begin.Statement.{statement}
-use Rattle.lemidrosy.proofs.replay_steps.lemidrosy_replay_begin.Tie as tie
+use Rattle.lemidrosy_replay.proofs.ReplayStepped.{few-numbers, not-roomy, no-request, begun-done}
+use Rattle.lemidrosy_replay.proofs.replay_steps.lemidrosy_replay_begin.Statement.{statement}
+use Rattle.lemidrosy_replay.proofs.replay_steps.lemidrosy_replay_begin.Tie as tie
 
 returns : tie.Need-returns
 returns c = few-numbers (now (c .before .before .before .before .before .before .args .words)) (now (c .before .before .before .before .before .before .args .memory)) (now (c .before .before .before .before .before .before .args .input)) (now (c .before .before .before .before .before .before .args .out)) (now (c .before .before .before .before .before .before .args .request)) (c .if1 .taken)

@@ -15,7 +15,7 @@ use Rattle.machines.specs.Forms.{answerOf, Asks}
 use Rattle.machines.specs.Packed.{packed, unpacked}
 use Rattle.replay_machine.specs.Replaying.{State, starting, asks, replaying}
 use Rattle.replay_machine.specs.Standing.{numbers, roomy, stateOf, placeOf}
-use Rattle.lemidrosy.specs.ReplaySteps.{ReplayPosed, hasRoom, ReplayBegun, ReplayStepped}
+use Rattle.lemidrosy_replay.specs.ReplaySteps.{ReplayPosed, hasRoom, ReplayBegun, ReplayStepped}
 
 module _ (words memory input out request : List ℕ) where
   too-short : hasRoom words memory input out request ≡ false → ReplayBegun words memory input out request memory request 3

@@ -2,7 +2,7 @@
 use machines::packed;
 use replay_machine::place;
 use replay_machine::step;
-ghost use Rattle.lemidrosy.specs.ReplaySteps.{ReplayBegun, ReplayStepped};
+ghost use Rattle.lemidrosy_replay.specs.ReplaySteps.{ReplayBegun, ReplayStepped};
 
 // The replay before anything is asked. 0, or 3 where a list is too short.
 #[no_mangle]

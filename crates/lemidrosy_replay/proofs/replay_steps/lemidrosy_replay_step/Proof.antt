@@ -2,9 +2,9 @@
 -- Assumes nothing.
 use borrow.Author.Needs.{needs}
 use denote.Ref.{now}
-use Rattle.lemidrosy.proofs.ReplayStepped.{stepped-short, stepped-done}
-use Rattle.lemidrosy.proofs.replay_steps.lemidrosy_replay_step.Statement.{statement}
-use Rattle.lemidrosy.proofs.replay_steps.lemidrosy_replay_step.Tie as tie
+use Rattle.lemidrosy_replay.proofs.ReplayStepped.{stepped-short, stepped-done}
+use Rattle.lemidrosy_replay.proofs.replay_steps.lemidrosy_replay_step.Statement.{statement}
+use Rattle.lemidrosy_replay.proofs.replay_steps.lemidrosy_replay_step.Tie as tie
 
 returns : tie.Need-returns
 returns c = stepped-short (now (c .before .before .before .before .before .before .args .words)) (now (c .before .before .before .before .before .before .args .memory)) (now (c .before .before .before .before .before .before .args .input)) (now (c .before .before .before .before .before .before .args .out)) (now (c .before .before .before .before .before .before .args .request)) (c .before .before .before .before .before .before .args .kind) (c .before .before .before .before .before .before .args .number) (c .if1 .taken)

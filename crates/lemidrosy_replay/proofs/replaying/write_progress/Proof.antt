@@ -1,9 +1,9 @@
--- `lemidrosy::replaying::write_progress` meets its contract. Assumes nothing.
+-- `lemidrosy_replay::replaying::write_progress` meets its contract. Assumes nothing.
 use native.Mathlib.Omega.{arith}
 use lib.ListN.{length-set}
 use borrow.Author.Needs.{needs}
-use Rattle.lemidrosy.proofs.replaying.write_progress.Statement.{statement}
-use Rattle.lemidrosy.proofs.replaying.write_progress.Tie as tie
+use Rattle.lemidrosy_replay.proofs.replaying.write_progress.Statement.{statement}
+use Rattle.lemidrosy_replay.proofs.replaying.write_progress.Tie as tie
 
 returns : tie.Need-returns
 returns c = rw (c .one-if .ensures)

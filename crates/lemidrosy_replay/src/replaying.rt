@@ -10,7 +10,7 @@ ghost use Rattle.whole_runs.specs.WholeRuns.{Reachable};
 ghost use Rattle.answers.specs.Codes.{coded};
 ghost use Rattle.words.specs.Layout.{runOf};
 ghost use Rattle.in_place.specs.Left.{Leaves};
-ghost use Rattle.lemidrosy.specs.Replaying.{replaying};
+ghost use Rattle.lemidrosy_replay.specs.Replaying.{replaying};
 
 // How many numbers say how far a replay of a block came, and the number of the answer to a list with fewer entries.
 const PROGRESS: usize = 3;

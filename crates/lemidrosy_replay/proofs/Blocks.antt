@@ -12,7 +12,7 @@ use Rattle.model.specs.declared.Run.{Run}
 use Rattle.model.specs.Refusals.{number}
 use Rattle.answers.specs.Codes.{coded, valueCode}
 use Rattle.replay_in_place.specs.Taken.{BlockOutcome, blockOutcome}
-use Rattle.lemidrosy.specs.Replaying.{Replaying, replaying}
+use Rattle.lemidrosy_replay.specs.Replaying.{Replaying, replaying}
 
 module _ (all : Bool) (done : ℕ) (s : Run) (records text progress : List ℕ) where
   abbrev Leads : ℕ → Run → List ℕ → List ℕ → Type 0
