@@ -1,4 +1,4 @@
-/* drive PROGRAM [WORD..]: judge, replay or record as a machine, driven with this program's own files. What is read, written and said, the machine decides. The status is
+/* drive PROGRAM [WORD..]: judge, replay, record, merge, simulate or console as a machine, driven with this program's own files. What is read, written and said, the machine decides. The status is
    3 if the system failed. */
 #define _POSIX_C_SOURCE 200809L
 #include "lemidrosy.h"
@@ -8,10 +8,10 @@
 #include <string.h>
 #include <unistd.h>
 
-/* What is lent to the machine: enough for each of the three. */
-static uint64_t memory[LEMIDROSY_RECORD_MEMORY], request[LEMIDROSY_REQUEST];
+/* What is lent to the machine: enough for each of them. */
+static uint64_t memory[LEMIDROSY_SIMULATE_MEMORY], request[LEMIDROSY_REQUEST];
 static uint16_t words[LEMIDROSY_WORDS];
-static uint8_t input[65536], out[LEMIDROSY_RECORD_OUT], lines[LEMIDROSY_RECORD_LINES];
+static uint8_t input[LEMIDROSY_MERGE_INPUT], out[LEMIDROSY_RECORD_OUT], lines[LEMIDROSY_RECORD_LINES];
 
 struct answer {
     uint64_t kind;
@@ -25,6 +25,12 @@ static uint64_t begin(const char *program) {
         return lemidrosy_replay_begin(words, LEMIDROSY_WORDS, memory, LEMIDROSY_REPLAY_MEMORY, input, sizeof input, out, sizeof out, request, LEMIDROSY_REQUEST);
     if (strcmp(program, "record") == 0)
         return lemidrosy_record_begin(memory, LEMIDROSY_RECORD_MEMORY, words, LEMIDROSY_WORDS, input, sizeof input, out, sizeof out, lines, sizeof lines, request, LEMIDROSY_REQUEST);
+    if (strcmp(program, "merge") == 0)
+        return lemidrosy_merge_begin(memory, LEMIDROSY_MERGE_MEMORY, input, sizeof input, out, sizeof out, request, LEMIDROSY_REQUEST);
+    if (strcmp(program, "simulate") == 0)
+        return lemidrosy_simulate_begin(memory, LEMIDROSY_SIMULATE_MEMORY, input, sizeof input, out, sizeof out, request, LEMIDROSY_REQUEST);
+    if (strcmp(program, "console") == 0)
+        return lemidrosy_console_begin(words, LEMIDROSY_WORDS, memory, LEMIDROSY_CONSOLE_MEMORY, input, sizeof input, out, sizeof out, request, LEMIDROSY_REQUEST);
     return LEMIDROSY_LIST_TOO_SHORT;
 }
 
@@ -33,8 +39,14 @@ static void step(const char *program, struct answer a) {
         lemidrosy_judge_step(memory, LEMIDROSY_JUDGE_MEMORY, input, sizeof input, out, sizeof out, a.kind, a.number, request, LEMIDROSY_REQUEST);
     else if (strcmp(program, "replay") == 0)
         lemidrosy_replay_step(words, LEMIDROSY_WORDS, memory, LEMIDROSY_REPLAY_MEMORY, input, sizeof input, out, sizeof out, a.kind, a.number, request, LEMIDROSY_REQUEST);
-    else
+    else if (strcmp(program, "record") == 0)
         lemidrosy_record_step(memory, LEMIDROSY_RECORD_MEMORY, words, LEMIDROSY_WORDS, input, sizeof input, out, sizeof out, lines, sizeof lines, a.kind, a.number, request, LEMIDROSY_REQUEST);
+    else if (strcmp(program, "merge") == 0)
+        lemidrosy_merge_step(memory, LEMIDROSY_MERGE_MEMORY, input, sizeof input, out, sizeof out, a.kind, a.number, request, LEMIDROSY_REQUEST);
+    else if (strcmp(program, "simulate") == 0)
+        lemidrosy_simulate_step(memory, LEMIDROSY_SIMULATE_MEMORY, input, sizeof input, out, sizeof out, a.kind, a.number, request, LEMIDROSY_REQUEST);
+    else
+        lemidrosy_console_step(words, LEMIDROSY_WORDS, memory, LEMIDROSY_CONSOLE_MEMORY, input, sizeof input, out, sizeof out, a.kind, a.number, request, LEMIDROSY_REQUEST);
 }
 
 static struct answer answer(uint64_t kind, size_t number) {
@@ -64,9 +76,16 @@ static struct answer bytes_from(int file, uint8_t *to, size_t most) {
     return got == 0 ? answer(LEMIDROSY_ANSWER_END, 0) : answer(LEMIDROSY_ANSWER_BYTES, (size_t)got);
 }
 
+static struct answer failed(int reason) {
+    errno = reason;
+    return done(false);
+}
+
 static struct answer word(const char *text, uint8_t *to, size_t most) {
-    if (text == NULL || strlen(text) > most)
-        return done(false);
+    if (text == NULL)
+        return failed(EINVAL);
+    if (strlen(text) > most)
+        return failed(ENAMETOOLONG);
     memcpy(to, text, strlen(text));
     return answer(LEMIDROSY_ANSWER_BYTES, strlen(text));
 }
@@ -75,7 +94,7 @@ static struct answer word(const char *text, uint8_t *to, size_t most) {
 static struct answer opened(size_t size, int *source) {
     char name[4097] = "";
     if (size >= sizeof name)
-        return done(false);
+        return failed(ENAMETOOLONG);
     memcpy(name, out, size);
     int file = open(name, O_RDONLY);
     if (file >= 0)
@@ -101,7 +120,7 @@ static struct answer obey(char **started, size_t count, int *source) {
 
 int main(int count, char **started) {
     if (count < 2 || begin(started[1]) != 0)
-        return fprintf(stderr, "usage: drive judge|replay|record [WORD..]\n"), 2;
+        return fprintf(stderr, "usage: drive judge|replay|record|merge|simulate|console [WORD..]\n"), 2;
     int source = STDIN_FILENO, status = 0;
     while (request[0] != LEMIDROSY_REQUEST_STOP) {
         if (request[0] == LEMIDROSY_REQUEST_FAIL)

@@ -27,7 +27,7 @@ class Pieces(io.RawIOBase):
         size = len(buffer)
         if self.reads != "0":
             self.state = (self.state * 1664525 + 1013904223) % 2**32
-            size = min(size, 1 + (self.state >> 16) % 97)
+            size = 1 + (self.state >> 16) % min(size, 97)
         part, self.rest = self.rest[:size], self.rest[size:]
         buffer[: len(part)] = part
         return len(part)
@@ -55,7 +55,9 @@ for line in sys.stdin:
     words = Path(f"{name}.words").read_bytes().split(b"\0")[:-1]
     output, errors = Full(writes), io.BytesIO()
     source = Pieces(Path(f"{name}.in").read_bytes(), reads)
-    failed = lemidrosy.drive(lemidrosy.Machine(program), source, output, errors, words)
+    # what is opened comes in pieces too
+    more = {} if reads in ("0", "fails") else {"opens": lambda path, reads=reads: Pieces(open(path, "rb").read(), reads)}
+    failed = lemidrosy.drive(lemidrosy.Machine(program), source, output, errors, words, **more)
     Path(f"{name}.out").write_bytes(output.getvalue())
     Path(f"{name}.err").write_bytes(errors.getvalue())
     Path(f"{name}.status").write_text("0\n" if failed is None else "3\n")

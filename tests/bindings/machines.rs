@@ -24,7 +24,7 @@ impl Read for Pieces {
         if seed != 0 {
             let next = seed.wrapping_mul(1_664_525).wrapping_add(1_013_904_223);
             self.seed = Some(next.max(1));
-            size = size.min(1 + (next >> 16) as usize % 97);
+            size = size.min(1 + (next >> 16) as usize % to.len().min(97));
         }
         to[..size].copy_from_slice(&self.data[self.at..self.at + size]);
         self.at += size;
@@ -72,7 +72,10 @@ fn main() -> io::Result<()> {
         let mut machine = match program {
             "judge" => Machine::judge(),
             "replay" => Machine::replay(),
-            _ => Machine::record(),
+            "record" => Machine::record(),
+            "merge" => Machine::merge(),
+            "simulate" => Machine::simulate(),
+            _ => Machine::console(),
         };
         let mut input = Pieces {
             data: fs::read(format!("{name}.in"))?,

@@ -300,7 +300,7 @@ class Package(Case):
         """It stops whatever it is told, and none of its lists is left."""
         draws = random.Random(6)
         for _ in range(many(300)):
-            machine = lemidrosy.Machine(draws.choice(("judge", "replay", "record")))
+            machine = lemidrosy.Machine(draws.choice(lemidrosy.machine.PROGRAMS))
             for _ in range(200):
                 if draws.randrange(3) and machine.request.kind in (1, 6):
                     machine.bring(draws.randbytes(draws.randrange(machine.request.size + 1)))

@@ -36,8 +36,8 @@ _sums = ctypes.POINTER(c_uint64)
 _bytes = ctypes.POINTER(c_uint8)
 
 # What the machines are lent, and beside it a step's answer and the request.
-_JUDGE = (_sums, c_size_t, _bytes, c_size_t, _bytes, c_size_t)
-_REPLAY = (_words, c_size_t, _sums, c_size_t, _bytes, c_size_t, _bytes, c_size_t)
+_JUDGE = _MERGE = _SIMULATE = (_sums, c_size_t, _bytes, c_size_t, _bytes, c_size_t)
+_REPLAY = _CONSOLE = (_words, c_size_t, _sums, c_size_t, _bytes, c_size_t, _bytes, c_size_t)
 _RECORD = (_sums, c_size_t, _words, c_size_t, _bytes, c_size_t, _bytes, c_size_t, _bytes, c_size_t)
 _ANSWER = (c_uint64, c_size_t)
 _REQUEST = (_sums, c_size_t)
@@ -87,6 +87,12 @@ _ON_WORDS: Dict[str, Tuple[Any, ...]] = {
     "replay_step": (*_REPLAY, *_ANSWER, *_REQUEST),
     "record_begin": (*_RECORD, *_REQUEST),
     "record_step": (*_RECORD, *_ANSWER, *_REQUEST),
+    "merge_begin": (*_MERGE, *_REQUEST),
+    "merge_step": (*_MERGE, *_ANSWER, *_REQUEST),
+    "simulate_begin": (*_SIMULATE, *_REQUEST),
+    "simulate_step": (*_SIMULATE, *_ANSWER, *_REQUEST),
+    "console_begin": (*_CONSOLE, *_REQUEST),
+    "console_step": (*_CONSOLE, *_ANSWER, *_REQUEST),
 }
 _ON_BYTES: Dict[str, Tuple[Any, ...]] = {
     "judge": (c_char_p, c_size_t),

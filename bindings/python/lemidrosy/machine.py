@@ -24,6 +24,9 @@ _LENT: Dict[str, Tuple[Tuple[str, int], ...]] = {
     "judge": ((_MEMORY, 2), (_INPUT, 16389), (_OUT, 96)),
     "replay": ((_WORDS, WORDS), (_MEMORY, 6), (_INPUT, 65536), (_OUT, 65536)),
     "record": ((_MEMORY, 6), (_WORDS, WORDS), (_INPUT, 4099), (_OUT, 67584), (_LINES, 67584)),
+    "merge": ((_MEMORY, 7), (_INPUT, 131072), (_OUT, 32784)),
+    "simulate": ((_MEMORY, 8), (_INPUT, 65536), (_OUT, 260)),
+    "console": ((_WORDS, WORDS), (_MEMORY, 4), (_INPUT, 8), (_OUT, 12000)),
 }
 
 PROGRAMS = tuple(_LENT)

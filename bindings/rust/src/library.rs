@@ -301,6 +301,76 @@ mod c {
             r: *mut u64,
             rl: usize,
         ) -> u64;
+        pub fn lemidrosy_merge_begin(
+            m: *mut u64,
+            ml: usize,
+            i: *const u8,
+            il: usize,
+            o: *const u8,
+            ol: usize,
+            r: *mut u64,
+            rl: usize,
+        ) -> u64;
+        pub fn lemidrosy_merge_step(
+            m: *mut u64,
+            ml: usize,
+            i: *const u8,
+            il: usize,
+            o: *mut u8,
+            ol: usize,
+            k: u64,
+            x: usize,
+            r: *mut u64,
+            rl: usize,
+        ) -> u64;
+        pub fn lemidrosy_simulate_begin(
+            m: *mut u64,
+            ml: usize,
+            i: *const u8,
+            il: usize,
+            o: *const u8,
+            ol: usize,
+            r: *mut u64,
+            rl: usize,
+        ) -> u64;
+        pub fn lemidrosy_simulate_step(
+            m: *mut u64,
+            ml: usize,
+            i: *const u8,
+            il: usize,
+            o: *mut u8,
+            ol: usize,
+            k: u64,
+            x: usize,
+            r: *mut u64,
+            rl: usize,
+        ) -> u64;
+        pub fn lemidrosy_console_begin(
+            w: *const u16,
+            wl: usize,
+            m: *mut u64,
+            ml: usize,
+            i: *const u8,
+            il: usize,
+            o: *const u8,
+            ol: usize,
+            r: *mut u64,
+            rl: usize,
+        ) -> u64;
+        pub fn lemidrosy_console_step(
+            w: *mut u16,
+            wl: usize,
+            m: *mut u64,
+            ml: usize,
+            i: *const u8,
+            il: usize,
+            o: *mut u8,
+            ol: usize,
+            k: u64,
+            x: usize,
+            r: *mut u64,
+            rl: usize,
+        ) -> u64;
     }
 }
 
@@ -929,6 +999,106 @@ pub fn record_step(lent: &mut Lent, kind: u64, number: usize, request: &mut [u64
             lent.out.len(),
             lent.lines.as_mut_ptr(),
             lent.lines.len(),
+            kind,
+            number,
+            request.as_mut_ptr(),
+            request.len(),
+        )
+    }
+}
+
+pub fn merge_begin(lent: &mut Lent, request: &mut [u64]) -> u64 {
+    unsafe {
+        c::lemidrosy_merge_begin(
+            lent.memory.as_mut_ptr(),
+            lent.memory.len(),
+            lent.input.as_ptr(),
+            lent.input.len(),
+            lent.out.as_ptr(),
+            lent.out.len(),
+            request.as_mut_ptr(),
+            request.len(),
+        )
+    }
+}
+
+pub fn merge_step(lent: &mut Lent, kind: u64, number: usize, request: &mut [u64]) -> u64 {
+    unsafe {
+        c::lemidrosy_merge_step(
+            lent.memory.as_mut_ptr(),
+            lent.memory.len(),
+            lent.input.as_ptr(),
+            lent.input.len(),
+            lent.out.as_mut_ptr(),
+            lent.out.len(),
+            kind,
+            number,
+            request.as_mut_ptr(),
+            request.len(),
+        )
+    }
+}
+
+pub fn simulate_begin(lent: &mut Lent, request: &mut [u64]) -> u64 {
+    unsafe {
+        c::lemidrosy_simulate_begin(
+            lent.memory.as_mut_ptr(),
+            lent.memory.len(),
+            lent.input.as_ptr(),
+            lent.input.len(),
+            lent.out.as_ptr(),
+            lent.out.len(),
+            request.as_mut_ptr(),
+            request.len(),
+        )
+    }
+}
+
+pub fn simulate_step(lent: &mut Lent, kind: u64, number: usize, request: &mut [u64]) -> u64 {
+    unsafe {
+        c::lemidrosy_simulate_step(
+            lent.memory.as_mut_ptr(),
+            lent.memory.len(),
+            lent.input.as_ptr(),
+            lent.input.len(),
+            lent.out.as_mut_ptr(),
+            lent.out.len(),
+            kind,
+            number,
+            request.as_mut_ptr(),
+            request.len(),
+        )
+    }
+}
+
+pub fn console_begin(lent: &mut Lent, request: &mut [u64]) -> u64 {
+    unsafe {
+        c::lemidrosy_console_begin(
+            lent.words.as_ptr(),
+            lent.words.len(),
+            lent.memory.as_mut_ptr(),
+            lent.memory.len(),
+            lent.input.as_ptr(),
+            lent.input.len(),
+            lent.out.as_ptr(),
+            lent.out.len(),
+            request.as_mut_ptr(),
+            request.len(),
+        )
+    }
+}
+
+pub fn console_step(lent: &mut Lent, kind: u64, number: usize, request: &mut [u64]) -> u64 {
+    unsafe {
+        c::lemidrosy_console_step(
+            lent.words.as_mut_ptr(),
+            lent.words.len(),
+            lent.memory.as_mut_ptr(),
+            lent.memory.len(),
+            lent.input.as_ptr(),
+            lent.input.len(),
+            lent.out.as_mut_ptr(),
+            lent.out.len(),
             kind,
             number,
             request.as_mut_ptr(),

@@ -49,6 +49,9 @@ enum Program {
     Judge,
     Replay,
     Record,
+    Merge,
+    Simulate,
+    Console,
 }
 
 /// A program of the library that asks for one thing at a time and takes what came of it: [`drive`] obeys it with files. What is read, written and said, the machine decides.
@@ -93,6 +96,9 @@ impl Machine {
             Program::Judge => library::judge_begin(lent, asked),
             Program::Replay => library::replay_begin(lent, asked),
             Program::Record => library::record_begin(lent, asked),
+            Program::Merge => library::merge_begin(lent, asked),
+            Program::Simulate => library::simulate_begin(lent, asked),
+            Program::Console => library::console_begin(lent, asked),
         };
         assert_eq!(refused, 0, "the lists are as long as lemidrosy.h says");
         machine
@@ -113,12 +119,30 @@ impl Machine {
         Machine::begun(Program::Record, [6, WORDS, 4099, 67584, 67584])
     }
 
+    /// The program `merge`.
+    pub fn merge() -> Machine {
+        Machine::begun(Program::Merge, [7, 0, 131072, 32784, 0])
+    }
+
+    /// The program `simulate`.
+    pub fn simulate() -> Machine {
+        Machine::begun(Program::Simulate, [8, 0, 65536, 260, 0])
+    }
+
+    /// The program `console`.
+    pub fn console() -> Machine {
+        Machine::begun(Program::Console, [4, WORDS, 8, 12000, 0])
+    }
+
     /// The program's name.
     pub fn name(&self) -> &'static str {
         match self.program {
             Program::Judge => "judge",
             Program::Replay => "replay",
             Program::Record => "record",
+            Program::Merge => "merge",
+            Program::Simulate => "simulate",
+            Program::Console => "console",
         }
     }
 
@@ -152,6 +176,9 @@ impl Machine {
             Program::Judge => library::judge_step(lent, kind, number, asked),
             Program::Replay => library::replay_step(lent, kind, number, asked),
             Program::Record => library::record_step(lent, kind, number, asked),
+            Program::Merge => library::merge_step(lent, kind, number, asked),
+            Program::Simulate => library::simulate_step(lent, kind, number, asked),
+            Program::Console => library::console_step(lent, kind, number, asked),
         };
     }
 }
@@ -186,10 +213,15 @@ fn write(output: &mut dyn Write, bytes: &[u8]) -> io::Result<Answered> {
     Ok(Answered::Done)
 }
 
+/// The system's number for a name that is too long.
+const ENAMETOOLONG: i32 = 36;
+
 /// A word, if it is there and has room.
 fn word(word: Option<&&[u8]>, to: &mut [u8]) -> io::Result<Answered> {
     let word = word.ok_or(ErrorKind::InvalidInput)?;
-    let front = to.get_mut(..word.len()).ok_or(ErrorKind::InvalidInput)?;
+    let front = to
+        .get_mut(..word.len())
+        .ok_or_else(|| io::Error::from_raw_os_error(ENAMETOOLONG))?;
     front.copy_from_slice(word);
     Ok(Answered::Bytes(word.len()))
 }
