@@ -893,6 +893,46 @@ class Programs(Case):
             running.stdin.close()
             self.assertEqual(running.wait(30), 0)
 
+    def test_console(self):
+        """What the proved program prints; and each call that it says is refused, in words."""
+        for seed in range(many(60)):
+            script = program(ORACLE, "oracle", "console", seed)
+            script = script[: len(script) - seed % 8] if seed % 3 == 2 else script
+            status, said = self.same("console", (), script)
+            lines = list(text_of(io.BytesIO(script), "console"))
+            refusals = [pair for pair in (tuple(map(int, line.split()[:2])) for line in program(PROGRAMS, "console", given=script).splitlines()) if pair[1]]
+            self.assertEqual((status, len(said.splitlines())), (1 if refusals else 0, len(refusals)), seed)
+            for line, (number, refusal) in zip(said.splitlines(), refusals):
+                where = f"call {number}, {lines[number]}: " if 0 < number <= (len(script) - 1) // 8 else ""
+                self.assertTrue(line.startswith(f"lemidrosy console: {where}refused {refusal}: "), (seed, line, where))
+
+    def test_console_ends(self):
+        script = b"".join(bytes_of(["console 3", "owner 0: checkpoint 0", "owner 0: checkpoint 1", "operator: start 17", "viewer: counts"]))
+        Path("script").write_bytes(script)
+        for words, given in ((("console", "script"), b""), (("console",), script), (("console", "-"), script)):
+            status, output, said = command(*words, given=given)
+            self.assertEqual((status, output), (1, b"1 0 1 1 0:0\n2 25\n3 1\n4 0 1 1 1\n"))
+            self.assertEqual(said, "lemidrosy console: call 2, owner 0: checkpoint 1: refused 25: the caller may not do this (have the operator do it)\n"
+                             "lemidrosy console: call 3, operator: start 17: refused 1: the number of processes is not from 1 to 16 (byte 4 of a start is the count of processes)\n")
+        self.assertEqual(command("console", given=script[:9]), (0, b"1 0 1 1 0:0\n", ""))
+        self.assertEqual(command("console", given=b"\x03"), (0, b"", ""))
+        for given, printed, words in ((b"", "0 12\n", "console: refused 12: "), (b"console 3\n", "0 1\n", "'lemidrosy bytes' makes a script of text"), (b"\x03abc", "1 13\n", "in a script one to seven; was the file cut off?")):
+            self.prints(printed, "console", given=given, status=1, says=words)
+        self.ends(2, "unrecognized arguments: other; see lemidrosy", "console", "script", "other")
+        status, output, said = command("console", given=b"\x02" + (b"\x02" + bytes(7)) * 9000)
+        self.assertEqual((status, output.count(b" 25\n")), (1, 9000))
+        self.assertEqual([line.split(": refused 25")[0] for line in said.splitlines()], [f"lemidrosy console: call {number}, viewer: checkpoint 0" for number in range(1, 9001)])
+
+    def test_what_is_asked_is_answered(self):
+        """A call's line stands there before more comes."""
+        with subprocess.Popen([sys.executable, "-m", "lemidrosy", "console"], stdin=subprocess.PIPE, stdout=subprocess.PIPE, stderr=subprocess.DEVNULL) as running:
+            for given, expected in (("02 0000", b""), ("000000000000", b"1 0 1 1 0:0\n"), ("0000000800000000 0000", b"2 0 1 1\n")):
+                running.stdin.write(bytes.fromhex(given))
+                running.stdin.flush()
+                self.assertEqual(os.read(running.stdout.fileno(), 100) if expected else b"", expected)
+            running.stdin.close()
+            self.assertEqual((running.stdout.read(), running.wait(30)), (b"3 13\n", 1))
+
     @needs("merge")
     def test_merge(self):
         for seed in range(many(300)):
@@ -982,12 +1022,12 @@ class Ends(Case):
     """Files, streams, terminals and interrupts."""
 
     def test_files_that_cannot_be_read(self):
-        for subcommand, more in (("text", ()), ("bytes", ()), ("explain", ()), ("line", ("--all",)), ("earliest", ("0:0",)), ("draw", ()), ("replay", ()), ("record", ()), ("judge", ()), ("merge", (EXAMPLE, 1))):
+        for subcommand, more in (("text", ()), ("bytes", ()), ("explain", ()), ("line", ("--all",)), ("earliest", ("0:0",)), ("draw", ()), ("replay", ()), ("record", ()), ("console", ()), ("judge", ()), ("merge", (EXAMPLE, 1))):
             self.ends(3, "/no/such/file: No such file", subcommand, "/no/such/file", *more)
             self.ends(3, "/: Is a directory", subcommand, "/", *more)
 
     def test_outputs_that_cannot_be_written(self):
-        for words in (("text", EXAMPLE), ("explain", EXAMPLE, 8), ("line", EXAMPLE, "--all", "--at", 8), ("earliest", EXAMPLE, "1:2", "--at", 8), ("draw", EXAMPLE, "--at", 8), ("record", EXAMPLE), ("judge", EXAMPLE)):
+        for words in (("text", EXAMPLE), ("explain", EXAMPLE, 8), ("line", EXAMPLE, "--all", "--at", 8), ("earliest", EXAMPLE, "1:2", "--at", 8), ("draw", EXAMPLE, "--at", 8), ("record", EXAMPLE), ("console", EXAMPLE), ("judge", EXAMPLE)):
             for output, said in ((">/dev/full", "No space left"), (">&-", "Bad file descriptor")):
                 line = " ".join([sys.executable, "-m", "lemidrosy", *map(str, words)])
                 done = subprocess.run(["bash", "-c", f"exec {line} {output}"], capture_output=True, text=True)
@@ -997,7 +1037,8 @@ class Ends(Case):
 
     def test_a_standard_error_that_cannot_be_written(self):
         """What is printed is the same, and so is the status."""
-        for words in (("replay", EXAMPLE), ("record", EXAMPLE), ("judge", EXAMPLE), ("line", EXAMPLE, "--all"), ("simulate", 0, 1, 1, 1)):
+        Path("refused").write_bytes(b"\x02\x02" + bytes(7))
+        for words in (("replay", EXAMPLE), ("record", EXAMPLE), ("console", "refused"), ("judge", EXAMPLE), ("line", EXAMPLE, "--all"), ("simulate", 0, 1, 1, 1)):
             status, output, said = command(*words)
             self.assertEqual((status, said.count("\n")), (1, 1), said)
             for errors in ("2>/dev/full", "2>&-"):
@@ -1012,16 +1053,17 @@ class Ends(Case):
         self.assertEqual(done.returncode, 128 + signal.SIGPIPE)
 
     def test_an_interrupt(self):
-        """It comes when the command has read a line and waits for more. Where the tests run in the background it would be ignored."""
-        running = subprocess.Popen([sys.executable, "-m", "lemidrosy", "bytes"], stdin=subprocess.PIPE, stdout=subprocess.PIPE, stderr=subprocess.PIPE,
-                                   preexec_fn=lambda: signal.signal(signal.SIGINT, signal.SIG_DFL))
-        running.stdin.write(b"processes 2\n")
-        running.stdin.flush()
-        while int.from_bytes(fcntl.ioctl(running.stdin, termios.FIONREAD, bytes(4)), sys.byteorder):
-            time.sleep(0.05)
-        running.send_signal(signal.SIGINT)
-        output, said = running.communicate(timeout=30)
-        self.assertEqual((running.returncode, output, said), (130, b"", b""))
+        """It comes when the command has read something and waits for more. Where the tests run in the background it would be ignored."""
+        for subcommand, given in (("bytes", b"processes 2\n"), ("console", b"\x02")):
+            running = subprocess.Popen([sys.executable, "-m", "lemidrosy", subcommand], stdin=subprocess.PIPE, stdout=subprocess.PIPE, stderr=subprocess.PIPE,
+                                       preexec_fn=lambda: signal.signal(signal.SIGINT, signal.SIG_DFL))
+            running.stdin.write(given)
+            running.stdin.flush()
+            while int.from_bytes(fcntl.ioctl(running.stdin, termios.FIONREAD, bytes(4)), sys.byteorder):
+                time.sleep(0.05)
+            running.send_signal(signal.SIGINT)
+            output, said = running.communicate(timeout=30)
+            self.assertEqual((running.returncode, output, said), (130, b"", b""), subcommand)
 
     def test_at_a_terminal(self):
         """The trace is typed; the command says that it waits for it."""
@@ -1029,6 +1071,11 @@ class Ends(Case):
         self.assertEqual(status, 0)
         self.assertIn(b"reading text from the terminal", seen)
         self.assertTrue(seen.endswith(b"A"), seen)
+
+    def test_a_script_at_a_terminal(self):
+        seen, status = typed(["-m", "lemidrosy", "console"], b"\n\x04", b"Ctrl-D")
+        self.assertEqual((status, seen.count(b"refused")), (0, 0), seen)
+        self.assertIn(b"reading a console script from the terminal", seen)
 
 
 if __name__ == "__main__":

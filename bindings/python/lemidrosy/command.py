@@ -6,7 +6,7 @@ import argparse
 import signal
 from typing import List, NoReturn, Optional, Sequence
 
-from . import __version__, convert, draw, exam, explain, lines, programs, recording, simulation
+from . import __version__, convert, draw, exam, explain, lines, programs, recording, scripting, simulation
 from .answers import Refused
 from .files import INTERRUPTED, REFUSED, SYSTEM, USAGE, Stop, say
 from .library import LibraryError
@@ -51,6 +51,7 @@ def parser() -> Parser:
         programs.add_judge,
         programs.add_merge,
         recording.add,
+        scripting.add,
         simulation.add,
         exam.add,
     ):

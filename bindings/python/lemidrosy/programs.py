@@ -5,7 +5,7 @@ from __future__ import annotations
 import argparse
 import io
 import re
-from typing import Optional
+from typing import Mapping, Optional
 
 from .answers import Refused
 from .driven import Copied, Source
@@ -18,7 +18,7 @@ from .progress import Progress
 from .records import TraceForm
 from .trace import RECORD, Record
 
-_ADVICE = {
+ADVICE = {
     1: "the first byte of a trace is the count of processes",
     4: "processes are numbered from 0",
     8: "'lemidrosy explain' tells what became of it",
@@ -36,10 +36,10 @@ _ADVICE = {
 """What to do, where more can be said than what the number means."""
 
 
-def in_words(refusal: Refused) -> str:
+def in_words(refusal: Refused, advice: Mapping[int, str] = ADVICE) -> str:
     """A refusal, and what to do."""
-    advice = _ADVICE.get(refusal.number)
-    return f"{refusal} ({advice})" if advice else str(refusal)
+    done = advice.get(refusal.number)
+    return f"{refusal} ({done})" if done else str(refusal)
 
 
 def told(subcommand: str, refusal: Refused, number: int = 0, record: Optional[Record] = None) -> int:

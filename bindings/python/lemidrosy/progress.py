@@ -10,10 +10,11 @@ _FIRST, _EVERY = 0.5, 0.2
 
 
 class Progress:
-    """Records, rate and time left, in one line that is written over. Nothing is said where standard error is no terminal, or standard output is one."""
+    """Records or calls, rate and time left, in one line that is written over. Nothing is said where standard error is no terminal, or standard output is one."""
 
-    def __init__(self, records: int) -> None:
+    def __init__(self, records: int, unit: str = "records") -> None:
         self._records = records
+        self._unit = unit
         self._start = time.monotonic()
         self._next = self._start + _FIRST
         self._is_shown = False
@@ -31,7 +32,7 @@ class Progress:
         rate = done / (now - self._start)
         left = f", {max(0.0, self._records - done) / rate:,.0f} s left" if self._records and rate else ""
         share = f" of {self._records:,}" if self._records else ""
-        print(f"\r{done:,}{share} records, {rate:,.0f} a second{left}\x1b[K", end="", file=sys.stderr, flush=True)
+        print(f"\r{done:,}{share} {self._unit}, {rate:,.0f} a second{left}\x1b[K", end="", file=sys.stderr, flush=True)
 
     def end(self) -> None:
         """The line goes, if it is there."""
