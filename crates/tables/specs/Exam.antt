@@ -47,17 +47,21 @@ unfoldable pub pinNumber : Pin → ℕ
 pinNumber Nothing = 0
 pinNumber (At a) = suc (a .0)
 
--- A case: the calls from a start with block counts of 1, their answers, and the state that they leave: vectors, pins, kept checkpoints and their causes, blocks
--- written and blocks deleted (Note 5), lines.
+-- Note 5: what the disks hold. Of each process the indexes, the causes and the block counts of its kept checkpoints; blocks written, blocks deleted.
+pub record Disks : Type 0 where
+  pub kept : List (List ℕ)
+  pub causes : List (List ℕ)
+  pub counts : List (List ℕ)
+  pub blocks : List ℕ
+
+-- A case: the calls from a start with block counts of 1, their answers, and what they leave: vectors, pins, disks and lines.
 pub record Case : Type 0 where
   pub count : ℕ
   pub calls : List Call
   pub answers : List Expected
   pub vectors : List (List ℕ)
   pub pins : List (List ℕ)
-  pub kept : List (List ℕ)
-  pub causes : List (List ℕ)
-  pub blocks : List ℕ
+  pub disks : Disks
   pub lines : List ExpectedLine
 
 -- The lent lists of the cases: 2 × n × n entries and n entries, all 9, so that what must stay unchanged is seen.
@@ -87,12 +91,16 @@ answersRight (a ∷ l) (b ∷ m) = answerRight (a .reply) b && answersRight l m
 unfoldable pub lineRight : Run → ExpectedLine → Bool
 lineRight s e = same (call s (line (e .failed) (lineList (s .count))) .reply .line) (e .indexes)
 
--- What a function says of the kept checkpoints, a row for each process. Blocks written and blocks deleted.
+-- What a function says of the kept checkpoints, a row for each process.
 unfoldable pub keptRows : Run → (Checkpoint → ℕ) → List (List ℕ)
 keptRows s f = table (s .count) (λ p. map f (process s p .kept))
 
-unfoldable pub blocksAre : Run → List ℕ → Bool
-blocksAre s blocks = same (s .disk .written ∷ s .disk .deleted ∷ []) blocks
+unfoldable pub disksAre : Run → Disks → Bool
+disksAre s d =
+    sameRows (keptRows s (λ k. k .index .0)) (d .kept)
+    && sameRows (keptRows s (λ k. k .cause)) (d .causes)
+    && sameRows (keptRows s (λ k. k .blocks)) (d .counts)
+    && same (s .disk .written ∷ s .disk .deleted ∷ []) (d .blocks)
 
 unfoldable pub right : Case → Bool
 right c =
@@ -101,11 +109,44 @@ right c =
     answersRight (transcript s₀ (c .calls)) (c .answers)
     && sameRows (table (c .count) (λ p. table (c .count) (λ f. entry (process s p .vector) f .0))) (c .vectors)
     && sameRows (table (c .count) (λ p. table (c .count) (λ f. pinNumber (getD (process s p .pins) f Nothing)))) (c .pins)
-    && sameRows (keptRows s (λ k. k .index .0)) (c .kept)
-    && sameRows (keptRows s (λ k. k .cause)) (c .causes)
-    && sameRows (keptRows s (λ k. k .blocks)) (keptRows s (λ k. 1))
-    && blocksAre s (c .blocks)
+    && disksAre s (c .disks)
     && every (lineRight s) (c .lines)
+
+-- The accepted answers. A send: the message's number.
+abbrev pub sent : ℕ → Expected
+sent m = record { refused = 0; value = m ∷ []; rose = 0; deleted = []; line = [] }
+
+-- A checkpoint: its index and the pairs that it deletes.
+abbrev pub stored : ℕ → List ℕ → Expected
+stored k deleted = record { refused = 0; value = k ∷ []; rose = 0; deleted = deleted; line = [] }
+
+-- A delivery that forces nothing: the entries that rose. One that forces: the index and the pairs that it deletes, too.
+abbrev pub quiet : ℕ → Expected
+quiet rose = record { refused = 0; value = []; rose = rose; deleted = []; line = [] }
+
+abbrev pub forced : ℕ → ℕ → List ℕ → Expected
+forced rose k deleted = record { refused = 0; value = k ∷ []; rose = rose; deleted = deleted; line = [] }
+
+-- A recovery: how many rolled back, the pairs that it deletes and the line.
+abbrev pub wentBack : ℕ → List ℕ → List ℕ → Expected
+wentBack count deleted members = record { refused = 0; value = count ∷ []; rose = 0; deleted = deleted; line = members }
+
+-- A refusal with its number.
+abbrev pub refusedWith : ℕ → Expected
+refusedWith number = record { refused = number; value = []; rose = 0; deleted = []; line = [] }
+
+-- The line for a failed set.
+abbrev pub lineFor : ℕ → List ℕ → ExpectedLine
+lineFor failed indexes = record { failed = failed; indexes = indexes }
+
+-- One of each of two processes.
+abbrev pub both : {A : Type 0} → A → A → List A
+both a b = a ∷ b ∷ []
+
+-- Disks on which each kept checkpoint has one block.
+abbrev pub disksOfOnes : List (List ℕ) → List (List ℕ) → ℕ → ℕ → Disks
+disksOfOnes kept causes written deleted =
+    record { kept = kept; causes = causes; counts = map (map (λ k. 1)) kept; blocks = written ∷ deleted ∷ [] }
 
 -- "Cases 1 to 7 use the trace above": its ten records as calls, and their answers.
 unfoldable pub traceCalls : List Call
@@ -124,16 +165,16 @@ traceCalls =
 
 unfoldable pub traceAnswers : List Expected
 traceAnswers =
-    record { refused = 0; value = 1 ∷ []; rose = 0; deleted = []; line = [] }
-    ∷ record { refused = 0; value = []; rose = 1; deleted = []; line = [] }
-    ∷ record { refused = 0; value = 1 ∷ []; rose = 0; deleted = []; line = [] }
-    ∷ record { refused = 0; value = 1 ∷ []; rose = 0; deleted = 0 ∷ 0 ∷ []; line = [] }
-    ∷ record { refused = 0; value = 2 ∷ []; rose = 0; deleted = []; line = [] }
-    ∷ record { refused = 0; value = []; rose = 2; deleted = []; line = [] }
-    ∷ record { refused = 0; value = 3 ∷ []; rose = 0; deleted = []; line = [] }
-    ∷ record { refused = 0; value = 2 ∷ []; rose = 1; deleted = 1 ∷ 0 ∷ 1 ∷ 1 ∷ []; line = [] }
-    ∷ record { refused = 0; value = 2 ∷ []; rose = 0; deleted = []; line = 1 ∷ 2 ∷ [] }
-    ∷ record { refused = 8; value = []; rose = 0; deleted = []; line = [] }
+    sent 1
+    ∷ quiet 1
+    ∷ stored 1 []
+    ∷ stored 1 (0 ∷ 0 ∷ [])
+    ∷ sent 2
+    ∷ quiet 2
+    ∷ sent 3
+    ∷ forced 1 2 (1 ∷ 0 ∷ 1 ∷ 1 ∷ [])
+    ∷ wentBack 2 [] (1 ∷ 2 ∷ [])
+    ∷ refusedWith 8
     ∷ []
 
 -- Note 4: calls up to a sweep that deletes, and the delivery of a message that was under way.
@@ -150,260 +191,102 @@ sweepCalls =
     ∷ []
 
 unfoldable pub sweepAnswers : List Expected
-sweepAnswers =
-    record { refused = 0; value = 1 ∷ []; rose = 0; deleted = []; line = [] }
-    ∷ record { refused = 0; value = 1 ∷ []; rose = 0; deleted = 1 ∷ 0 ∷ []; line = [] }
-    ∷ record { refused = 0; value = []; rose = 1; deleted = []; line = [] }
-    ∷ record { refused = 0; value = 2 ∷ []; rose = 0; deleted = []; line = [] }
-    ∷ record { refused = 0; value = 1 ∷ []; rose = 0; deleted = 0 ∷ 0 ∷ []; line = [] }
-    ∷ record { refused = 0; value = 2 ∷ []; rose = 0; deleted = []; line = [] }
-    ∷ record { refused = 0; value = 0 ∷ []; rose = 0; deleted = 1 ∷ 1 ∷ []; line = 2 ∷ 3 ∷ [] }
-    ∷ record { refused = 0; value = []; rose = 1; deleted = []; line = [] }
-    ∷ []
+sweepAnswers = sent 1 ∷ stored 1 (1 ∷ 0 ∷ []) ∷ quiet 1 ∷ stored 2 [] ∷ stored 1 (0 ∷ 0 ∷ []) ∷ sent 2 ∷ wentBack 0 (1 ∷ 1 ∷ []) (2 ∷ 3 ∷ []) ∷ quiet 1 ∷ []
 
--- Cases 1 to 9, in the order of the exam sheet, and behind them two for Note 2 and two for Note 4. Pins are written 0 for none and k + 1 for checkpoint k.
+-- The lines of all four failed sets after a sweep that leaves the processes in intervals 2 and 3.
+abbrev pub sweptLines : List ExpectedLine
+sweptLines = lineFor 0 (both 2 3) ∷ lineFor 1 (both 1 3) ∷ lineFor 2 (both 2 2) ∷ lineFor 3 (both 1 2) ∷ []
+
+-- A case of two processes: calls and their answers, and the vectors, pins, disks and lines that they leave.
+unfoldable pub ofTwo : List Call → List Expected → List (List ℕ) → List (List ℕ) → Disks → List ExpectedLine → Case
+ofTwo calls answers vectors pins held lines =
+    record { count = 2; calls = calls; answers = answers; vectors = vectors; pins = pins; disks = held; lines = lines }
+
+-- The case after some records of the trace.
+unfoldable pub after : ℕ → List (List ℕ) → List (List ℕ) → Disks → List ExpectedLine → Case
+after k = ofTwo (take k traceCalls) (take k traceAnswers)
+
+-- Cases 1 to 9, in the order of the exam sheet, and after them three for Note 2 and two for Note 4. Pins are written 0 for none and k + 1 for checkpoint k.
 unfoldable pub exam : List Case
 exam =
     -- 1. "After record 2: vectors (1,0) and (1,1); 1's pins 0, 0. Failed {0}: line (0,0). Failed {1}: (1,0)."
-    record {
-      count = 2;
-      calls = take 2 traceCalls;
-      answers = take 2 traceAnswers;
-      vectors = (1 ∷ 0 ∷ []) ∷ (1 ∷ 1 ∷ []) ∷ [];
-      pins = (1 ∷ 0 ∷ []) ∷ (1 ∷ 1 ∷ []) ∷ [];
-      kept = (0 ∷ []) ∷ (0 ∷ []) ∷ [];
-      causes = (0 ∷ []) ∷ (0 ∷ []) ∷ [];
-      blocks = 2 ∷ 0 ∷ [];
-      lines = record { failed = 1; indexes = 0 ∷ 0 ∷ [] } ∷ record { failed = 2; indexes = 1 ∷ 0 ∷ [] } ∷ [];
-    }
+    after 2 (both (both 1 0) (both 1 1)) (both (both 1 0) (both 1 1)) (disksOfOnes (both (0 ∷ []) (0 ∷ [])) (both (0 ∷ []) (0 ∷ [])) 2 0) (lineFor 1 (both 0 0) ∷ lineFor 2 (both 1 0) ∷ [])
     -- 2. "After 3: process 1 keeps 0 and 1. Failed {0}: (0,0). Failed {1}: (1,1)."
-    ∷ record {
-      count = 2;
-      calls = take 3 traceCalls;
-      answers = take 3 traceAnswers;
-      vectors = (1 ∷ 0 ∷ []) ∷ (1 ∷ 2 ∷ []) ∷ [];
-      pins = (1 ∷ 0 ∷ []) ∷ (1 ∷ 2 ∷ []) ∷ [];
-      kept = (0 ∷ []) ∷ (0 ∷ 1 ∷ []) ∷ [];
-      causes = (0 ∷ []) ∷ (0 ∷ 1 ∷ []) ∷ [];
-      blocks = 3 ∷ 0 ∷ [];
-      lines = record { failed = 1; indexes = 0 ∷ 0 ∷ [] } ∷ record { failed = 2; indexes = 1 ∷ 1 ∷ [] } ∷ [];
-    }
+    ∷ after 3 (both (both 1 0) (both 1 2)) (both (both 1 0) (both 1 2)) (disksOfOnes (both (0 ∷ []) (0 ∷ 1 ∷ [])) (both (0 ∷ []) (0 ∷ 1 ∷ [])) 3 0) (lineFor 1 (both 0 0) ∷ lineFor 2 (both 1 1) ∷ [])
     -- 3. "After 4: failed {0}: (1,2); entry 1 equals last index 1, so process 1 stays live. Failed {1}: (2,1)."
-    ∷ record {
-      count = 2;
-      calls = take 4 traceCalls;
-      answers = take 4 traceAnswers;
-      vectors = (2 ∷ 0 ∷ []) ∷ (1 ∷ 2 ∷ []) ∷ [];
-      pins = (2 ∷ 0 ∷ []) ∷ (1 ∷ 2 ∷ []) ∷ [];
-      kept = (1 ∷ []) ∷ (0 ∷ 1 ∷ []) ∷ [];
-      causes = (1 ∷ []) ∷ (0 ∷ 1 ∷ []) ∷ [];
-      blocks = 4 ∷ 1 ∷ [];
-      lines = record { failed = 1; indexes = 1 ∷ 2 ∷ [] } ∷ record { failed = 2; indexes = 2 ∷ 1 ∷ [] } ∷ [];
-    }
+    ∷ after 4 (both (both 2 0) (both 1 2)) (both (both 2 0) (both 1 2)) (disksOfOnes (both (1 ∷ []) (0 ∷ 1 ∷ [])) (both (1 ∷ []) (0 ∷ 1 ∷ [])) 4 1) (lineFor 1 (both 1 2) ∷ lineFor 2 (both 2 1) ∷ [])
     -- 4. "After 6: 0's vector (2,2), pins 1, 1. Failed {1}: (1,1)."
-    ∷ record {
-      count = 2;
-      calls = take 6 traceCalls;
-      answers = take 6 traceAnswers;
-      vectors = (2 ∷ 2 ∷ []) ∷ (1 ∷ 2 ∷ []) ∷ [];
-      pins = (2 ∷ 2 ∷ []) ∷ (1 ∷ 2 ∷ []) ∷ [];
-      kept = (1 ∷ []) ∷ (0 ∷ 1 ∷ []) ∷ [];
-      causes = (1 ∷ []) ∷ (0 ∷ 1 ∷ []) ∷ [];
-      blocks = 4 ∷ 1 ∷ [];
-      lines = record { failed = 2; indexes = 1 ∷ 1 ∷ [] } ∷ [];
-    }
+    ∷ after 6 (both (both 2 2) (both 1 2)) (both (both 2 2) (both 1 2)) (disksOfOnes (both (1 ∷ []) (0 ∷ 1 ∷ [])) (both (1 ∷ []) (0 ∷ 1 ∷ [])) 4 1) (lineFor 2 (both 1 1) ∷ [])
     -- 5. "After 8: 1's vector (2,3), it keeps only 2. Failed {1}: (2,2). Failed {0}: (1,2)."
-    ∷ record {
-      count = 2;
-      calls = take 8 traceCalls;
-      answers = take 8 traceAnswers;
-      vectors = (2 ∷ 2 ∷ []) ∷ (2 ∷ 3 ∷ []) ∷ [];
-      pins = (2 ∷ 2 ∷ []) ∷ (3 ∷ 3 ∷ []) ∷ [];
-      kept = (1 ∷ []) ∷ (2 ∷ []) ∷ [];
-      causes = (1 ∷ []) ∷ (2 ∷ []) ∷ [];
-      blocks = 5 ∷ 3 ∷ [];
-      lines = record { failed = 2; indexes = 2 ∷ 2 ∷ [] } ∷ record { failed = 1; indexes = 1 ∷ 2 ∷ [] } ∷ [];
-    }
+    ∷ after 8 (both (both 2 2) (both 2 3)) (both (both 2 2) (both 3 3)) (disksOfOnes (both (1 ∷ []) (2 ∷ [])) (both (1 ∷ []) (2 ∷ [])) 5 3) (lineFor 2 (both 2 2) ∷ lineFor 1 (both 1 2) ∷ [])
     -- 6. "After 9: vectors (2,0) and (1,3); each keeps one checkpoint."
-    ∷ record {
-      count = 2;
-      calls = take 9 traceCalls;
-      answers = take 9 traceAnswers;
-      vectors = (2 ∷ 0 ∷ []) ∷ (1 ∷ 3 ∷ []) ∷ [];
-      pins = (2 ∷ 0 ∷ []) ∷ (0 ∷ 3 ∷ []) ∷ [];
-      kept = (1 ∷ []) ∷ (2 ∷ []) ∷ [];
-      causes = (1 ∷ []) ∷ (2 ∷ []) ∷ [];
-      blocks = 5 ∷ 3 ∷ [];
-      lines = [];
-    }
+    ∷ after 9 (both (both 2 0) (both 1 3)) (both (both 2 0) (both 0 3)) (disksOfOnes (both (1 ∷ []) (2 ∷ [])) (both (1 ∷ []) (2 ∷ [])) 5 3) []
     -- The whole trace: record 10 is refused, "10 8", and the state is as it came.
-    ∷ record {
-      count = 2;
-      calls = traceCalls;
-      answers = traceAnswers;
-      vectors = (2 ∷ 0 ∷ []) ∷ (1 ∷ 3 ∷ []) ∷ [];
-      pins = (2 ∷ 0 ∷ []) ∷ (0 ∷ 3 ∷ []) ∷ [];
-      kept = (1 ∷ []) ∷ (2 ∷ []) ∷ [];
-      causes = (1 ∷ []) ∷ (2 ∷ []) ∷ [];
-      blocks = 5 ∷ 3 ∷ [];
-      lines = [];
-    }
+    ∷ after 10 (both (both 2 0) (both 1 3)) (both (both 2 0) (both 0 3)) (disksOfOnes (both (1 ∷ []) (2 ∷ [])) (both (1 ∷ []) (2 ∷ [])) 5 3) []
     -- 7. "After 4, recover {1} instead: line (2,1), deletion 1:0, 1's vector (1,2)."
-    ∷ record {
-      count = 2;
-      calls = take 4 traceCalls ++ (recover 2 (deletionList 2) (lineList 2) ∷ []);
-      answers = take 4 traceAnswers ++ (record { refused = 0; value = 1 ∷ []; rose = 0; deleted = 1 ∷ 0 ∷ []; line = 2 ∷ 1 ∷ [] } ∷ []);
-      vectors = (2 ∷ 0 ∷ []) ∷ (1 ∷ 2 ∷ []) ∷ [];
-      pins = (2 ∷ 0 ∷ []) ∷ (0 ∷ 2 ∷ []) ∷ [];
-      kept = (1 ∷ []) ∷ (1 ∷ []) ∷ [];
-      causes = (1 ∷ []) ∷ (1 ∷ []) ∷ [];
-      blocks = 4 ∷ 2 ∷ [];
-      lines = [];
-    }
+    ∷ ofTwo
+    (take 4 traceCalls ++ (recover 2 (deletionList 2) (lineList 2) ∷ []))
+    (take 4 traceAnswers ++ (wentBack 1 (1 ∷ 0 ∷ []) (2 ∷ 1 ∷ []) ∷ []))
+    (both (both 2 0) (both 1 2))
+    (both (both 2 0) (both 0 2))
+    (disksOfOnes (both (1 ∷ []) (1 ∷ [])) (both (1 ∷ []) (1 ∷ [])) 4 2)
+    []
     -- 8. "Three processes, 0 to 1 sent and delivered, then 1 to 2 sent and delivered: failed {0}: (0,0,0); {1}: (1,0,0); {2}: (1,1,0)."
     ∷ record {
       count = 3;
       calls = send 0 1 ∷ deliver 1 (deletionList 3) ∷ send 1 2 ∷ deliver 2 (deletionList 3) ∷ [];
-      answers =
-          record { refused = 0; value = 1 ∷ []; rose = 0; deleted = []; line = [] }
-          ∷ record { refused = 0; value = []; rose = 1; deleted = []; line = [] }
-          ∷ record { refused = 0; value = 2 ∷ []; rose = 0; deleted = []; line = [] }
-          ∷ record { refused = 0; value = []; rose = 3; deleted = []; line = [] }
-          ∷ [];
+      answers = sent 1 ∷ quiet 1 ∷ sent 2 ∷ quiet 3 ∷ [];
       vectors = (1 ∷ 0 ∷ 0 ∷ []) ∷ (1 ∷ 1 ∷ 0 ∷ []) ∷ (1 ∷ 1 ∷ 1 ∷ []) ∷ [];
       pins = (1 ∷ 0 ∷ 0 ∷ []) ∷ (1 ∷ 1 ∷ 0 ∷ []) ∷ (1 ∷ 1 ∷ 1 ∷ []) ∷ [];
-      kept = (0 ∷ []) ∷ (0 ∷ []) ∷ (0 ∷ []) ∷ [];
-      causes = (0 ∷ []) ∷ (0 ∷ []) ∷ (0 ∷ []) ∷ [];
-      blocks = 3 ∷ 0 ∷ [];
-      lines =
-          record { failed = 1; indexes = 0 ∷ 0 ∷ 0 ∷ [] }
-          ∷ record { failed = 2; indexes = 1 ∷ 0 ∷ 0 ∷ [] }
-          ∷ record { failed = 4; indexes = 1 ∷ 1 ∷ 0 ∷ [] }
-          ∷ [];
+      disks = disksOfOnes ((0 ∷ []) ∷ (0 ∷ []) ∷ (0 ∷ []) ∷ []) ((0 ∷ []) ∷ (0 ∷ []) ∷ (0 ∷ []) ∷ []) 3 0;
+      lines = lineFor 1 (0 ∷ 0 ∷ 0 ∷ []) ∷ lineFor 2 (1 ∷ 0 ∷ 0 ∷ []) ∷ lineFor 4 (1 ∷ 1 ∷ 0 ∷ []) ∷ [];
     }
     -- 9. "Two processes, send 0 to 1, recover {1}: line (1,0)"; Note 2: "deliver 1 is then accepted."
-    ∷ record {
-      count = 2;
-      calls = send 0 1 ∷ recover 2 (deletionList 2) (lineList 2) ∷ deliver 1 (deletionList 2) ∷ [];
-      answers =
-          record { refused = 0; value = 1 ∷ []; rose = 0; deleted = []; line = [] }
-          ∷ record { refused = 0; value = 1 ∷ []; rose = 0; deleted = []; line = 1 ∷ 0 ∷ [] }
-          ∷ record { refused = 0; value = []; rose = 1; deleted = []; line = [] }
-          ∷ [];
-      vectors = (1 ∷ 0 ∷ []) ∷ (1 ∷ 1 ∷ []) ∷ [];
-      pins = (1 ∷ 0 ∷ []) ∷ (1 ∷ 1 ∷ []) ∷ [];
-      kept = (0 ∷ []) ∷ (0 ∷ []) ∷ [];
-      causes = (0 ∷ []) ∷ (0 ∷ []) ∷ [];
-      blocks = 2 ∷ 0 ∷ [];
-      lines = record { failed = 1; indexes = 0 ∷ 0 ∷ [] } ∷ record { failed = 2; indexes = 1 ∷ 0 ∷ [] } ∷ [];
-    }
-    -- Note 2, the sender rolls back behind its send: recover {0} instead, line (0,1); the message is lost, and deliver 1 is refused with 8.
-    ∷ record {
-      count = 2;
-      calls = send 0 1 ∷ recover 1 (deletionList 2) (lineList 2) ∷ deliver 1 (deletionList 2) ∷ [];
-      answers =
-          record { refused = 0; value = 1 ∷ []; rose = 0; deleted = []; line = [] }
-          ∷ record { refused = 0; value = 1 ∷ []; rose = 0; deleted = []; line = 0 ∷ 1 ∷ [] }
-          ∷ record { refused = 8; value = []; rose = 0; deleted = []; line = [] }
-          ∷ [];
-      vectors = (1 ∷ 0 ∷ []) ∷ (0 ∷ 1 ∷ []) ∷ [];
-      pins = (1 ∷ 0 ∷ []) ∷ (0 ∷ 1 ∷ []) ∷ [];
-      kept = (0 ∷ []) ∷ (0 ∷ []) ∷ [];
-      causes = (0 ∷ []) ∷ (0 ∷ []) ∷ [];
-      blocks = 2 ∷ 0 ∷ [];
-      lines = record { failed = 1; indexes = 0 ∷ 1 ∷ [] } ∷ record { failed = 2; indexes = 1 ∷ 0 ∷ [] } ∷ [];
-    }
+    ∷ ofTwo
+    (send 0 1 ∷ recover 2 (deletionList 2) (lineList 2) ∷ deliver 1 (deletionList 2) ∷ [])
+    (sent 1 ∷ wentBack 1 [] (1 ∷ 0 ∷ []) ∷ quiet 1 ∷ [])
+    (both (both 1 0) (both 1 1))
+    (both (both 1 0) (both 1 1))
+    (disksOfOnes (both (0 ∷ []) (0 ∷ [])) (both (0 ∷ []) (0 ∷ [])) 2 0)
+    (lineFor 1 (both 0 0) ∷ lineFor 2 (both 1 0) ∷ [])
+    -- Note 2, the sender rolls back to before its send: recover {0} instead, line (0,1); the message is lost, and deliver 1 is refused with 8.
+    ∷ ofTwo
+    (send 0 1 ∷ recover 1 (deletionList 2) (lineList 2) ∷ deliver 1 (deletionList 2) ∷ [])
+    (sent 1 ∷ wentBack 1 [] (0 ∷ 1 ∷ []) ∷ refusedWith 8 ∷ [])
+    (both (both 1 0) (both 0 1))
+    (both (both 1 0) (both 0 1))
+    (disksOfOnes (both (0 ∷ []) (0 ∷ [])) (both (0 ∷ []) (0 ∷ [])) 2 0)
+    (lineFor 1 (both 0 1) ∷ lineFor 2 (both 1 0) ∷ [])
     -- Note 2, the sender rolls back between two sends: message 1, sent in the interval before its member, remains under way, and message 2 is lost.
-    ∷ record {
-      count = 2;
-      calls =
-          send 0 1
-          ∷ checkpoint 0 (deletionList 2)
-          ∷ send 0 1
-          ∷ recover 1 (deletionList 2) (lineList 2)
-          ∷ deliver 2 (deletionList 2)
-          ∷ deliver 1 (deletionList 2)
-          ∷ [];
-      answers =
-          record { refused = 0; value = 1 ∷ []; rose = 0; deleted = []; line = [] }
-          ∷ record { refused = 0; value = 1 ∷ []; rose = 0; deleted = 0 ∷ 0 ∷ []; line = [] }
-          ∷ record { refused = 0; value = 2 ∷ []; rose = 0; deleted = []; line = [] }
-          ∷ record { refused = 0; value = 1 ∷ []; rose = 0; deleted = []; line = 1 ∷ 1 ∷ [] }
-          ∷ record { refused = 8; value = []; rose = 0; deleted = []; line = [] }
-          ∷ record { refused = 0; value = []; rose = 1; deleted = []; line = [] }
-          ∷ [];
-      vectors = (2 ∷ 0 ∷ []) ∷ (1 ∷ 1 ∷ []) ∷ [];
-      pins = (2 ∷ 0 ∷ []) ∷ (1 ∷ 1 ∷ []) ∷ [];
-      kept = (1 ∷ []) ∷ (0 ∷ []) ∷ [];
-      causes = (1 ∷ []) ∷ (0 ∷ []) ∷ [];
-      blocks = 3 ∷ 1 ∷ [];
-      lines = record { failed = 1; indexes = 1 ∷ 1 ∷ [] } ∷ record { failed = 2; indexes = 2 ∷ 0 ∷ [] } ∷ record { failed = 3; indexes = 1 ∷ 0 ∷ [] } ∷ [];
-    }
-    -- Note 4, a sweep that deletes, with the lines of all four failed sets behind it: process 1 learnt of interval 1 of process 0, which is now in interval 2,
+    ∷ ofTwo
+    (send 0 1 ∷ checkpoint 0 (deletionList 2) ∷ send 0 1 ∷ recover 1 (deletionList 2) (lineList 2) ∷ deliver 2 (deletionList 2) ∷ deliver 1 (deletionList 2) ∷ [])
+    (sent 1 ∷ stored 1 (0 ∷ 0 ∷ []) ∷ sent 2 ∷ wentBack 1 [] (1 ∷ 1 ∷ []) ∷ refusedWith 8 ∷ quiet 1 ∷ [])
+    (both (both 2 0) (both 1 1))
+    (both (both 2 0) (both 1 1))
+    (disksOfOnes (both (1 ∷ []) (0 ∷ [])) (both (1 ∷ []) (0 ∷ [])) 3 1)
+    (lineFor 1 (both 1 1) ∷ lineFor 2 (both 2 0) ∷ lineFor 3 (both 1 0) ∷ [])
+    -- Note 4, a sweep that deletes, with the lines of all four failed sets after it: process 1 learnt of interval 1 of process 0, which is now in interval 2,
     -- so no failure could use checkpoint 1 of process 1.
-    ∷ record {
-      count = 2;
-      calls = take 7 sweepCalls;
-      answers = take 7 sweepAnswers;
-      vectors = (2 ∷ 0 ∷ []) ∷ (1 ∷ 3 ∷ []) ∷ [];
-      pins = (2 ∷ 0 ∷ []) ∷ (0 ∷ 3 ∷ []) ∷ [];
-      kept = (1 ∷ []) ∷ (2 ∷ []) ∷ [];
-      causes = (1 ∷ []) ∷ (1 ∷ []) ∷ [];
-      blocks = 5 ∷ 3 ∷ [];
-      lines =
-          record { failed = 0; indexes = 2 ∷ 3 ∷ [] }
-          ∷ record { failed = 1; indexes = 1 ∷ 3 ∷ [] }
-          ∷ record { failed = 2; indexes = 2 ∷ 2 ∷ [] }
-          ∷ record { failed = 3; indexes = 1 ∷ 2 ∷ [] }
-          ∷ [];
-    }
+    ∷ ofTwo
+    (take 7 sweepCalls)
+    (take 7 sweepAnswers)
+    (both (both 2 0) (both 1 3))
+    (both (both 2 0) (both 0 3))
+    (disksOfOnes (both (1 ∷ []) (2 ∷ [])) (both (1 ∷ []) (1 ∷ [])) 5 3)
+    sweptLines
     -- "Messages under way stay": message 2, sent before the sweep, is then delivered.
-    ∷ record {
-      count = 2;
-      calls = sweepCalls;
-      answers = sweepAnswers;
-      vectors = (2 ∷ 0 ∷ []) ∷ (2 ∷ 3 ∷ []) ∷ [];
-      pins = (2 ∷ 0 ∷ []) ∷ (3 ∷ 3 ∷ []) ∷ [];
-      kept = (1 ∷ []) ∷ (2 ∷ []) ∷ [];
-      causes = (1 ∷ []) ∷ (1 ∷ []) ∷ [];
-      blocks = 5 ∷ 3 ∷ [];
-      lines = [];
-    }
+    ∷ ofTwo sweepCalls sweepAnswers (both (both 2 0) (both 2 3)) (both (both 2 0) (both 3 3)) (disksOfOnes (both (1 ∷ []) (2 ∷ [])) (both (1 ∷ []) (1 ∷ [])) 5 3) []
     -- For the wrong mark "Forcing whenever the sent mark is set, though nothing carried is newer": process 1 has sent, and message 2 brings it nothing.
-    ∷ record {
-      count = 2;
-      calls = send 0 1 ∷ send 0 1 ∷ deliver 1 (deletionList 2) ∷ send 1 0 ∷ deliver 2 (deletionList 2) ∷ [];
-      answers =
-          record { refused = 0; value = 1 ∷ []; rose = 0; deleted = []; line = [] }
-          ∷ record { refused = 0; value = 2 ∷ []; rose = 0; deleted = []; line = [] }
-          ∷ record { refused = 0; value = []; rose = 1; deleted = []; line = [] }
-          ∷ record { refused = 0; value = 3 ∷ []; rose = 0; deleted = []; line = [] }
-          ∷ record { refused = 0; value = []; rose = 0; deleted = []; line = [] }
-          ∷ [];
-      vectors = (1 ∷ 0 ∷ []) ∷ (1 ∷ 1 ∷ []) ∷ [];
-      pins = (1 ∷ 0 ∷ []) ∷ (1 ∷ 1 ∷ []) ∷ [];
-      kept = (0 ∷ []) ∷ (0 ∷ []) ∷ [];
-      causes = (0 ∷ []) ∷ (0 ∷ []) ∷ [];
-      blocks = 2 ∷ 0 ∷ [];
-      lines = record { failed = 1; indexes = 0 ∷ 0 ∷ [] } ∷ [];
-    }
+    ∷ ofTwo
+    (send 0 1 ∷ send 0 1 ∷ deliver 1 (deletionList 2) ∷ send 1 0 ∷ deliver 2 (deletionList 2) ∷ [])
+    (sent 1 ∷ sent 2 ∷ quiet 1 ∷ sent 3 ∷ quiet 0 ∷ [])
+    (both (both 1 0) (both 1 1))
+    (both (both 1 0) (both 1 1))
+    (disksOfOnes (both (0 ∷ []) (0 ∷ [])) (both (0 ∷ []) (0 ∷ [])) 2 0)
+    (lineFor 1 (both 0 0) ∷ [])
     ∷ []
 
--- Note 5: what the disks hold. Of each process the indexes, the causes and the block counts of its kept checkpoints; blocks written, blocks deleted.
-pub record Disks : Type 0 where
-  pub kept : List (List ℕ)
-  pub causes : List (List ℕ)
-  pub counts : List (List ℕ)
-  pub blocks : List ℕ
-
-unfoldable pub disksAre : Run → Disks → Bool
-disksAre s d =
-    sameRows (keptRows s (λ k. k .index .0)) (d .kept)
-    && sameRows (keptRows s (λ k. k .cause)) (d .causes)
-    && sameRows (keptRows s (λ k. k .blocks)) (d .counts)
-    && blocksAre s (d .blocks)
-
--- They hold the first before the calls, and the others after each of them.
+-- The disks hold the first before the calls, and the others after each of them.
 unfoldable pub disksRight : Run → List Call → List Disks → Bool
 disksRight s l [] = false
 disksRight s [] (d ∷ []) = disksAre s d
@@ -449,13 +332,7 @@ diskCases =
 
 unfoldable pub disks : Bool
 disks =
-    disksRight (startOutcome 2 diskCounts .run) diskCalls diskCases
-    && every (lineRight (stateAfter (startOutcome 2 diskCounts .run) diskCalls)) (
-    record { failed = 0; indexes = 2 ∷ 3 ∷ [] }
-    ∷ record { failed = 1; indexes = 1 ∷ 3 ∷ [] }
-    ∷ record { failed = 2; indexes = 2 ∷ 2 ∷ [] }
-    ∷ record { failed = 3; indexes = 1 ∷ 2 ∷ [] }
-    ∷ [])
+    disksRight (startOutcome 2 diskCounts .run) diskCalls diskCases && every (lineRight (stateAfter (startOutcome 2 diskCounts .run) diskCalls)) sweptLines
 
 -- The example of "The trace": its input bytes, and its whole output.
 unfoldable pub exampleTrace : List ℕ
