@@ -15,10 +15,6 @@ small : (said : Summary) → Fits (reportIn said) → (said .refused < 256) × (
 unfolding reportIn
 small said f = (f .refused, f .deletions)
 
-value-code-requires : tie.Need-value-code-requires
-unfolding reportIn
-value-code-requires c κs = c .pre .value
-
 mul-result : tie.Need-mul-result
 mul-result c = let b = c .before .before in omega (arith, small (b .args .said) (b .pre))
 
@@ -31,10 +27,9 @@ add-result-2 c = let b = c .before .before in omega (arith, small (b .args .said
 add-result-3 : tie.Need-add-result-3
 add-result-3 c = let b = c .before .before in omega (arith, small (b .args .said) (b .pre), c .before .value-code .ensures)
 
-returns : tie.Need-returns
-unfolding coded reportIn
-returns c = omega (arith, c .before .value-code .ensures)
-
 pub code-of-spec : {M : Type 1} → statement M
+unfolding reportIn coded
 code-of-spec =
-    tie.close (tie.spec value-code-requires (λ c. search needs) mul-result add-result add-result-2 (λ c. search needs) add-result-3 returns)
+    tie.close
+    (tie.spec (λ c κs. c .pre .value) (λ c. search needs) mul-result add-result add-result-2 (λ c. search needs) add-result-3
+    (λ c. omega (arith, c .before .value-code .ensures)))

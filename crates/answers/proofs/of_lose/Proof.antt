@@ -5,11 +5,7 @@ use Rattle.answers.specs.Codes.{Fits, coded}
 use Rattle.answers.proofs.of_lose.Statement.{statement}
 use Rattle.answers.proofs.of_lose.Tie as tie
 
-code-of-requires : tie.Need-code-of-requires
-code-of-requires c κs = rw (c .of-lose .ensures) (c .before .pre)
-
-returns : tie.Need-returns
-returns c = rw (c .code-of .ensures, c .before .of-lose .ensures)
-
 pub of-lose-spec : {M : Type 1} → statement M
-of-lose-spec = tie.close (tie.spec (λ c κs. search needs) code-of-requires returns)
+of-lose-spec =
+    tie.close
+    (tie.spec (λ c κs. search needs) (λ c κs. rw (c .of-lose .ensures) (c .before .pre)) (λ c. rw (c .code-of .ensures, c .before .of-lose .ensures)))

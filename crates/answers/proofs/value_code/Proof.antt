@@ -22,14 +22,10 @@ mul-result c = let b = c .before .before .before in omega (arith, small (b .args
 add-result : tie.Need-add-result
 add-result c = let b = c .before .before .before in omega (arith, small (b .args .value) _ (b .pre) (c .before .value .given .1))
 
-returns : tie.Need-returns
-unfolding valueIn valueCode
-returns c = (rw (c .enum-told .given .1) refl, omega arith)
-
 returns-2 : tie.Need-returns-2
 unfolding valueIn valueCode
 returns-2 c = let b = c .before .before .before in (rw (c .before .value .given .1) refl, omega (arith, small (b .args .value) _ (b .pre) (c .before .value .given .1)))
 
 pub value-code-spec : {M : Type 1} → statement M
-value-code-spec =
-    tie.close (tie.spec (λ c. search needs) (λ c. search needs) mul-result add-result returns returns-2)
+unfolding valueIn valueCode
+value-code-spec = tie.close (tie.spec (λ c. search needs) (λ c. search needs) mul-result add-result (λ c. (rw (c .enum-told .given .1) refl, omega arith)) returns-2)

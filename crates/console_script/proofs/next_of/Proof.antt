@@ -6,10 +6,6 @@ use Rattle.console_script.specs.Script.{nextOf}
 use Rattle.console_script.proofs.next_of.Statement.{statement}
 use Rattle.console_script.proofs.next_of.Tie as tie
 
-returns : tie.Need-returns
-unfolding nextOf
-returns c = rw (eq-eqb (c .before .args .held) 0 (c .if1 .taken))
-
 returns-2 : tie.Need-returns-2
 unfolding nextOf
 returns-2 c = let held = c .before .before .args .held in rw (ne-eqb held 0 (c .before .if1 .left), lt-ltb held 8 (c .if2 .taken))
@@ -22,4 +18,5 @@ returns-3 c =
     rw (ne-eqb held 0 (few .before .if1 .left), le-ltb held 8 (few .if2 .left)) (c .call-of .ensures)
 
 pub next-of-spec : {M : Type 1} → statement M
-next-of-spec = tie.close (tie.spec returns returns-2 (λ c κs. search needs) returns-3)
+unfolding nextOf
+next-of-spec = tie.close (tie.spec (λ c. rw (eq-eqb (c .before .args .held) 0 (c .if1 .taken))) returns-2 (λ c κs. search needs) returns-3)

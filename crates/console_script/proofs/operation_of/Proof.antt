@@ -7,42 +7,6 @@ use Rattle.console_script.specs.Script.{operationOf}
 use Rattle.console_script.proofs.operation_of.Statement.{statement}
 use Rattle.console_script.proofs.operation_of.Tie as tie
 
-returns : tie.Need-returns
-unfolding operationOf
-returns c = rw (c .match .keys1)
-
-returns-2 : tie.Need-returns-2
-unfolding operationOf
-returns-2 c = rw (c .match .keys2)
-
-returns-3 : tie.Need-returns-3
-unfolding operationOf
-returns-3 c = rw (c .match .keys3)
-
-returns-4 : tie.Need-returns-4
-unfolding operationOf
-returns-4 c = rw (c .match .keys4)
-
-returns-5 : tie.Need-returns-5
-unfolding operationOf
-returns-5 c = rw (c .match .keys5)
-
-returns-6 : tie.Need-returns-6
-unfolding operationOf
-returns-6 c = rw (c .match .keys6)
-
-returns-7 : tie.Need-returns-7
-unfolding operationOf
-returns-7 c = rw (c .match .keys7)
-
-returns-8 : tie.Need-returns-8
-unfolding operationOf
-returns-8 c = rw (c .match .keys8)
-
-returns-9 : tie.Need-returns-9
-unfolding operationOf
-returns-9 c = rw (c .match .keys9)
-
 returns-10 : tie.Need-returns-10
 unfolding operationOf
 returns-10 c =
@@ -61,4 +25,8 @@ returns-10 c =
     rw e
 
 pub operation-of-spec : {M : Type 1} → statement M
-operation-of-spec = tie.close (tie.spec returns returns-2 returns-3 returns-4 returns-5 returns-6 returns-7 returns-8 returns-9 returns-10)
+unfolding operationOf
+operation-of-spec =
+    tie.close
+    (tie.spec (λ c. rw (c .match .keys1)) (λ c. rw (c .match .keys2)) (λ c. rw (c .match .keys3)) (λ c. rw (c .match .keys4)) (λ c. rw (c .match .keys5))
+    (λ c. rw (c .match .keys6)) (λ c. rw (c .match .keys7)) (λ c. rw (c .match .keys8)) (λ c. rw (c .match .keys9)) returns-10)

@@ -5,22 +5,6 @@ use Rattle.console_script.specs.Script.{roleOf}
 use Rattle.console_script.proofs.role_of.Statement.{statement}
 use Rattle.console_script.proofs.role_of.Tie as tie
 
-returns : tie.Need-returns
-unfolding roleOf
-returns c = rw (eq-eqb _ 0 (c .if1 .taken))
-
-returns-2 : tie.Need-returns-2
-unfolding roleOf
-returns-2 c = rw (c .if2 .taken)
-
-returns-3 : tie.Need-returns-3
-unfolding roleOf
-returns-3 c = rw (c .if3 .taken)
-
-returns-4 : tie.Need-returns-4
-unfolding roleOf
-returns-4 c = rw (c .if4 .taken)
-
 returns-5 : tie.Need-returns-5
 unfolding roleOf
 returns-5 c =
@@ -28,4 +12,5 @@ returns-5 c =
     rw (ne-eqb who 0 (c .before .before .before .if1 .left), ne-eqb who 128 (c .before .before .if2 .left), ne-eqb who 1 (c .before .if3 .left), ne-eqb who 129 (c .if4 .left))
 
 pub role-of-spec : {M : Type 1} → statement M
-role-of-spec = tie.close (tie.spec returns returns-2 returns-3 returns-4 returns-5)
+unfolding roleOf
+role-of-spec = tie.close (tie.spec (λ c. rw (eq-eqb _ 0 (c .if1 .taken))) (λ c. rw (c .if2 .taken)) (λ c. rw (c .if3 .taken)) (λ c. rw (c .if4 .taken)) returns-5)

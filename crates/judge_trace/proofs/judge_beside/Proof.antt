@@ -15,9 +15,6 @@ use Rattle.judge_trace.proofs.judge_beside.Tie as tie
 returns : tie.Need-returns
 returns c = let st = c .before .before .before .before .before .before .before .before in no-byte (st .args .trace .now) (c .if1 .taken)
 
-shared-slice-read-wide : tie.Need-shared-slice-read-wide
-shared-slice-read-wide c = omega (arith, c .before .if1 .left)
-
 returns-2 : tie.Need-returns-2
 returns-2 c = let st = c .before .before .before .before .before .before .before .before .before .before .before in let t = st .args .trace .now in let b : 1 ≤ length t = omega (arith, c .before .before .before .if1 .left) in let e = c .before .wide .ensures ∙ first-byte t b in bad-count t b (inl (omega (arith, e, c .if2 .taken)))
 
@@ -42,6 +39,6 @@ returns-6 c = let st = c .before .before .before .before .before .before .before
 pub judge-beside-spec : {M : Type 1} → statement M
 judge-beside-spec =
     tie.close
-    (tie.spec returns shared-slice-read-wide (λ c κs. search needs) returns-2 returns-3 (λ c. search needs) returns-4 read-all-requires (λ c. search needs)
-    (λ c. search needs) decide-requires (λ c. search needs) (λ c. search needs) (λ c. search needs) (λ c. search needs) (λ c. search needs) (λ c. search needs)
-    returns-5 (λ c. search needs) (λ c. search needs) (λ c. search needs) (λ c. search needs) (λ c. search needs) (λ c. search needs) returns-6)
+    (tie.spec returns (λ c. omega (arith, c .before .if1 .left)) (λ c κs. search needs) returns-2 returns-3 (λ c. search needs) returns-4 read-all-requires
+    (λ c. search needs) (λ c. search needs) decide-requires (λ c. search needs) (λ c. search needs) (λ c. search needs) (λ c. search needs) (λ c. search needs)
+    (λ c. search needs) returns-5 (λ c. search needs) (λ c. search needs) (λ c. search needs) (λ c. search needs) (λ c. search needs) (λ c. search needs) returns-6)

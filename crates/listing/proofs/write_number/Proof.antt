@@ -55,15 +55,6 @@ two-left c =
     let l = c .before .before .loop in
     all-stored-by-two (now (a .out)) (a .at) (a .x) (l .out) (l .place) (l .rest) (l .inv) (c .if1 .taken) (c .before .loop-test .left)
 
-sub-place : tie.Need-sub-place Inv-loop μ-loop
-sub-place c = two-before c
-
-slice-write-out : tie.Need-slice-write-out Inv-loop μ-loop
-slice-write-out c = omega (arith, room (c .before), two-before c)
-
-add-out-3 : tie.Need-add-out-3 Inv-loop μ-loop
-add-out-3 c = omega (arith, room (c .before), two-before c)
-
 slice-write-out-2 : tie.Need-slice-write-out-2 Inv-loop μ-loop
 slice-write-out-2 c =
     let l = c .before .loop in
@@ -75,20 +66,11 @@ loop-again c =
     let l = c .before .loop in
     two-stored (now (a .out)) (a .at) (a .x) (l .out) (l .place) (l .rest) (l .inv) (c .loop-test .taken)
 
-slice-write-out-3 : tie.Need-slice-write-out-3 Inv-loop μ-loop
-slice-write-out-3 c = omega (arith, room (c .before .before))
-
 slice-write-out-4 : tie.Need-slice-write-out-4 Inv-loop μ-loop
 slice-write-out-4 c =
     let a = start (c .before .before) .args in
     let l = c .before .before .loop in
     still-inside (l .out) (a .at) _ (a .at + 1) (omega (arith, room (c .before .before), two-left c .0))
-
-slice-write-out-5 : tie.Need-slice-write-out-5 Inv-loop μ-loop
-slice-write-out-5 c = omega (arith, room (c .before .before))
-
-returns : tie.Need-returns Inv-loop μ-loop
-returns c = record { next-place = search needs; holds = two-left c .1 }
 
 returns-2 : tie.Need-returns-2 Inv-loop μ-loop
 returns-2 c =
@@ -99,7 +81,8 @@ returns-2 c =
 pub write-number-spec : {M : Type 1} → statement M
 write-number-spec =
     tie.close
-    (tie.spec Inv-loop μ-loop (λ c κs. search needs) (λ c. search needs) loop-holds sub-place (λ c. search needs) (λ c. search needs) slice-write-out
-    (λ c. search needs) (λ c. search needs) add-out-3 slice-write-out-2 (λ c. search needs) loop-again (λ c. search needs) (λ c. search needs) slice-write-out-3
-    (λ c. search needs) (λ c. search needs) (λ c. search needs) slice-write-out-4 (λ c. search needs) (λ c. search needs) slice-write-out-5 (λ c. search needs) returns
-    (λ c. search needs) returns-2)
+    (tie.spec Inv-loop μ-loop (λ c κs. search needs) (λ c. search needs) loop-holds (λ c. two-before c) (λ c. search needs) (λ c. search needs)
+    (λ c. omega (arith, room (c .before), two-before c)) (λ c. search needs) (λ c. search needs) (λ c. omega (arith, room (c .before), two-before c))
+    slice-write-out-2 (λ c. search needs) loop-again (λ c. search needs) (λ c. search needs) (λ c. omega (arith, room (c .before .before))) (λ c. search needs)
+    (λ c. search needs) (λ c. search needs) slice-write-out-4 (λ c. search needs) (λ c. search needs) (λ c. omega (arith, room (c .before .before)))
+    (λ c. search needs) (λ c. record { next-place = search needs; holds = two-left c .1 }) (λ c. search needs) returns-2)

@@ -42,9 +42,6 @@ write-byte-requires-2 c κs =
     let a = p .before .before .before .before .before .before .before .args in
     room-first (p .write-number .last .0) (p .write-number .result) (colon ∷ []) (decimal (a .index)) (room-2 p)
 
-write-number-requires-2 : tie.Need-write-number-requires-2
-write-number-requires-2 c κs = room-3 (c .before .before .before)
-
 returns : tie.Need-returns
 unfolding pairText
 returns c =
@@ -56,4 +53,5 @@ returns c =
 
 pub write-pair-spec : {M : Type 1} → statement M
 write-pair-spec =
-    tie.close (tie.spec write-byte-requires write-number-requires write-byte-requires-2 write-number-requires-2 (λ c. search needs) returns)
+    tie.close
+    (tie.spec write-byte-requires write-number-requires write-byte-requires-2 (λ c κs. room-3 (c .before .before .before)) (λ c. search needs) returns)

@@ -53,14 +53,12 @@ returns-7 : tie.Need-returns-7
 unfolding Leaves
 returns-7 c = leaves-by _ _ _ _ (c .before .before .before .request6 .given .1) refl
 
-returns-8 : tie.Need-returns-8
-unfolding Leaves
-returns-8 c = leaves-by _ _ _ _ (c .before .enum-told2 .given .1) refl
-
 pub obey-spec : {M : Type 1} → statement M
+unfolding Leaves
 obey-spec =
     tie.close
     (tie.spec (λ c. search needs) (λ c κs. search needs) (λ c κs. search needs) (λ c. search needs) argument-requires (λ c κs. search needs) (λ c. search needs)
-    open-requires (λ c. search needs) read-requires (λ c κs. search needs) (λ c. search needs) write-requires (λ c κs. search needs) (λ c. search needs) say-requires
-    (λ c κs. search needs) (λ c. search needs) fail-requires (λ c κs. search needs) (λ c. search needs) (λ c κs. search needs) returns (λ c. search needs) returns-2
-    returns-3 (λ c. search needs) returns-4 returns-5 returns-6 returns-7 returns-8)
+    open-requires (λ c. search needs) read-requires (λ c κs. search needs) (λ c. search needs) write-requires (λ c κs. search needs) (λ c. search needs)
+    say-requires (λ c κs. search needs) (λ c. search needs) fail-requires (λ c κs. search needs) (λ c. search needs) (λ c κs. search needs) returns
+    (λ c. search needs) returns-2 returns-3 (λ c. search needs) returns-4 returns-5 returns-6 returns-7
+    (λ c. leaves-by _ _ _ _ (c .before .enum-told2 .given .1) refl))

@@ -26,18 +26,12 @@ first : (w : List ℕ) (from : ℕ) → w ≡ clearedFrom w from (from - from)
 unfolding clearedFrom
 first w from = let a : from - from ≡ 0 = omega arith in rw a refl
 
-loop-holds : tie.Need-loop-holds Inv-loop μ-loop
-loop-holds c = (search needs, search needs, refl, first _ _)
-
 loop-again : tie.Need-loop-again Inv-loop μ-loop
 loop-again c =
     let k = c .before .before in
     let l = k .before .before .before .loop in
     let a = k .before .before .before .before .before .args in
     (omega (arith, l .inv .0), search needs, k .clear .kept .0 ∙ l .inv .2, one-more (a .w .now) (l .w) _ (a .from) (l .k) (l .inv .0) (l .inv .3) (k .clear .ensures))
-
-same-length : tie.Need-same-length Inv-loop μ-loop
-same-length c = c .before .loop .inv .2
 
 returns : tie.Need-returns Inv-loop μ-loop
 returns c =
@@ -47,4 +41,6 @@ returns c =
 
 pub clear-from-spec : {M : Type 1} → statement M
 clear-from-spec =
-    tie.close (tie.spec Inv-loop μ-loop loop-holds (λ c κs. search needs) (λ c. search needs) (λ c. search needs) loop-again same-length returns)
+    tie.close
+    (tie.spec Inv-loop μ-loop (λ c. (search needs, search needs, refl, first _ _)) (λ c κs. search needs) (λ c. search needs) (λ c. search needs) loop-again
+    (λ c. c .before .loop .inv .2) returns)

@@ -31,9 +31,6 @@ none : (w : List ℕ) (e : ℕ) → e ≡ 0 → endBelow w e ≡ 0
 unfolding endBelow
 none w e q = rw q
 
-loop-holds : tie.Need-loop-holds Inv-loop μ-loop
-loop-holds c = (search needs, refl)
-
 returns : tie.Need-returns Inv-loop μ-loop
 returns c =
     let u = c .before in
@@ -56,4 +53,6 @@ returns-2 c =
 
 pub end-before-spec : {M : Type 1} → statement M
 end-before-spec =
-    tie.close (tie.spec Inv-loop μ-loop loop-holds (λ c. search needs) (λ c κs. search needs) returns (λ c. search needs) (λ c. search needs) loop-again returns-2)
+    tie.close
+    (tie.spec Inv-loop μ-loop (λ c. (search needs, refl)) (λ c. search needs) (λ c κs. search needs) returns (λ c. search needs) (λ c. search needs) loop-again
+    returns-2)

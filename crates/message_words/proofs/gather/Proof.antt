@@ -49,9 +49,6 @@ loop-again c =
     let t = then m in
     (search needs, omega (arith, t .1 .1, l .inv .1), m .move-to .kept .0 ∙ l .inv .2, t .0, t .1 .0)
 
-same-length : tie.Need-same-length Inv-loop μ-loop
-same-length c = c .before .loop .inv .2
-
 returns : tie.Need-returns Inv-loop μ-loop
 returns c =
     let l = c .before .loop in
@@ -63,4 +60,4 @@ gather-spec =
     tie.close
     (tie.spec Inv-loop μ-loop loop-holds (λ c κs. search needs) (λ c κs. search needs)
     (λ c. let m = c .before .before in let t = then m in omega (arith, t .1 .1, m .before .before .before .before .before .loop .inv .1, m .before .before .before .before .before .loop .inv .0))
-    (λ c. search needs) (λ c. search needs) loop-again same-length returns)
+    (λ c. search needs) (λ c. search needs) loop-again (λ c. c .before .loop .inv .2) returns)

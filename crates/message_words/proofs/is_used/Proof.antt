@@ -8,9 +8,6 @@ use Rattle.words.specs.Layout.{isMessage}
 use Rattle.message_words.proofs.is_used.Statement.{statement}
 use Rattle.message_words.proofs.is_used.Tie as tie
 
-returns : tie.Need-returns
-unfolding isMessage
-returns c = ap (λ (n : ℕ). not (eqb n 0)) (c .number-at .ensures)
-
 pub is-used-spec : {M : Type 1} → statement M
-is-used-spec = tie.close (tie.spec (λ c κs. search needs) returns)
+unfolding isMessage
+is-used-spec = tie.close (tie.spec (λ c κs. search needs) (λ c. ap (λ (n : ℕ). not (eqb n 0)) (c .number-at .ensures)))

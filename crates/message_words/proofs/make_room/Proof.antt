@@ -14,9 +14,8 @@ returns c =
     let i = k .before .before in
     rw (eq-eqb _ 64 (i .if1 .taken)) (k .close-up .ensures)
 
-returns-2 : tie.Need-returns-2
-unfolding withRoom
-returns-2 c = rw (ne-eqb _ 64 (c .if1 .left)) refl
-
 pub make-room-spec : {M : Type 1} → statement M
-make-room-spec = tie.close (tie.spec (λ c. search needs) (λ c κs. search needs) (λ c. c .before .before .close-up .kept .0) returns returns-2)
+unfolding withRoom
+make-room-spec =
+    tie.close
+    (tie.spec (λ c. search needs) (λ c κs. search needs) (λ c. c .before .before .close-up .kept .0) returns (λ c. rw (ne-eqb _ 64 (c .if1 .left)) refl))

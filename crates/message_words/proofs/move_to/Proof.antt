@@ -13,9 +13,6 @@ use Rattle.message_words.specs.Places.{messagePuts, movedTo}
 use Rattle.message_words.proofs.move_to.Statement.{statement}
 use Rattle.message_words.proofs.move_to.Tie as tie
 
-same-length : tie.Need-same-length
-same-length c = c .before .before .put-vector .kept .0 ∙ simp length-set
-
 -- What was read is the message that stands there.
 moved-by : (w : List ℕ) (from to n : ℕ) (v : List Interval) → n ≡ messageIn w from .number → v ≡ vectorIn w (carriedAt from)
     → puts w (messagePuts to (record { number = n; sender = word w (senderAt from); receiver = word w (receiverAt from); vector = v })) ≡ movedTo w from to
@@ -34,7 +31,7 @@ pub move-to-spec : {M : Type 1} → statement M
 move-to-spec =
     tie.close
     (tie.spec (λ c κs. search needs) (λ c. search needs) (λ c. search needs) (λ c. search needs) (λ c. search needs) (λ c. search needs) (λ c. search needs)
-    (λ c. search needs) (λ c. search needs) (λ c κs. search needs) (λ c. search needs) (λ c. search needs) (λ c. search needs) (λ c. search needs) (λ c. search needs)
-    (λ c. search needs) (λ c. search needs) (λ c. simp length-set (omega arith)) (λ c. search needs) (λ c. search needs) (λ c. simp length-set (omega arith))
-    (λ c. search needs) (λ c. search needs) (λ c. simp length-set (omega arith)) (λ c. search needs) (λ c. search needs) (λ c κs. simp length-set (omega arith))
-    same-length returns)
+    (λ c. search needs) (λ c. search needs) (λ c κs. search needs) (λ c. search needs) (λ c. search needs) (λ c. search needs) (λ c. search needs)
+    (λ c. search needs) (λ c. search needs) (λ c. search needs) (λ c. simp length-set (omega arith)) (λ c. search needs) (λ c. search needs)
+    (λ c. simp length-set (omega arith)) (λ c. search needs) (λ c. search needs) (λ c. simp length-set (omega arith)) (λ c. search needs) (λ c. search needs)
+    (λ c κs. simp length-set (omega arith)) (λ c. c .before .before .put-vector .kept .0 ∙ simp length-set) returns)

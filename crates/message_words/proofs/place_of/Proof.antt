@@ -58,9 +58,6 @@ unfolding foundAt
 at-place zero ne = absurd (ne refl)
 at-place (suc k) ne = ap At (let e : suc k - 1 ≡ k = omega arith in e)
 
-loop-holds : tie.Need-loop-holds Inv-loop μ-loop
-loop-holds c = (search needs, search needs, nowhere _ _)
-
 returns : tie.Need-returns Inv-loop μ-loop
 unfolding foundAt
 returns c = let a = c .before .before .args in rw (no-number (a .w .now) (a .m) (c .if1 .taken)) refl
@@ -95,6 +92,7 @@ returns-3 c =
 pub place-of-spec : {M : Type 1} → statement M
 place-of-spec =
     tie.close
-    (tie.spec Inv-loop μ-loop returns (λ c. search needs) (λ c. search needs) (λ c. search needs) (λ c. search needs) loop-holds (λ c. search needs) (λ c. search needs)
-    (λ c. search needs) (λ c. search needs) (λ c. search needs) (λ c. search needs) (λ c. search needs) (λ c κs. search needs) (λ c κs. search needs)
-    (λ c. search needs) (λ c. search needs) loop-again returns-2 (λ c. search needs) (λ c. search needs) returns-3)
+    (tie.spec Inv-loop μ-loop returns (λ c. search needs) (λ c. search needs) (λ c. search needs) (λ c. search needs)
+    (λ c. (search needs, search needs, nowhere _ _)) (λ c. search needs) (λ c. search needs) (λ c. search needs) (λ c. search needs) (λ c. search needs)
+    (λ c. search needs) (λ c. search needs) (λ c κs. search needs) (λ c κs. search needs) (λ c. search needs) (λ c. search needs) loop-again returns-2
+    (λ c. search needs) (λ c. search needs) returns-3)

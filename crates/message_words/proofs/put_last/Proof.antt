@@ -8,15 +8,10 @@ use Rattle.message_words.specs.Places.{putLast}
 use Rattle.message_words.proofs.put_last.Statement.{statement}
 use Rattle.message_words.proofs.put_last.Tie as tie
 
-same-length : tie.Need-same-length
-same-length c = simp length-set (c .before .before .put .kept .0)
-
-returns : tie.Need-returns
-unfolding putLast
-returns c = simp set-is-put (rw (c .before .before .put .ensures) refl)
-
 pub put-last-spec : {M : Type 1} → statement M
+unfolding putLast
 put-last-spec =
     tie.close
     (tie.spec (λ c. search needs) (λ c. search needs) (λ c. search needs) (λ c κs. search needs) (λ c. search needs) (λ c. search needs) (λ c. search needs)
-    (λ c. simp length-set (omega (arith, c .before .before .put .kept .0, c .before .before .before .before .before .before .before .pre .0))) same-length returns)
+    (λ c. simp length-set (omega (arith, c .before .before .put .kept .0, c .before .before .before .before .before .before .before .pre .0)))
+    (λ c. simp length-set (c .before .before .put .kept .0)) (λ c. simp set-is-put (rw (c .before .before .put .ensures) refl)))

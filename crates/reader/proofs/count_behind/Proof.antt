@@ -18,13 +18,9 @@ add-result c =
     let left = leb-true (1 + 4 * a .taken + 4) (length (now (a .trace))) (sym (c .before .record-left .ensures) ∙ c .if1 .taken) in
     record { fits = omega (arith, left, c .before .before .before .good .0) }
 
-returns : tie.Need-returns
-unfolding takenAfter
-returns c = rw (sym (c .before .record-left .ensures), c .if1 .taken)
-
-returns-2 : tie.Need-returns-2
-unfolding takenAfter
-returns-2 c = rw (sym (c .before .record-left .ensures), c .if1 .left)
-
 pub count-behind-spec : {M : Type 1} → statement M
-count-behind-spec = tie.close (tie.spec (λ c κs. search needs) add-result returns returns-2)
+unfolding takenAfter
+count-behind-spec =
+    tie.close
+    (tie.spec (λ c κs. search needs) add-result (λ c. rw (sym (c .before .record-left .ensures), c .if1 .taken))
+    (λ c. rw (sym (c .before .record-left .ensures), c .if1 .left)))

@@ -10,10 +10,6 @@ use Rattle.reader.proofs.Room.{no-room}
 use Rattle.reader.proofs.part_behind.Statement.{statement}
 use Rattle.reader.proofs.part_behind.Tie as tie
 
-returns : tie.Need-returns
-unfolding recordAfter
-returns c = c .record-part .ensures
-
 returns-2 : tie.Need-returns-2
 unfolding recordAfter recordAt
 returns-2 c =
@@ -21,4 +17,5 @@ returns-2 c =
     rw (no-room (length (now (a .trace))) (a .taken) (c .before .if1 .left))
 
 pub part-behind-spec : {M : Type 1} → statement M
-part-behind-spec = tie.close (tie.spec (λ c. search needs) (λ c. search needs) (λ c κs. search needs) (λ c. search needs) returns returns-2)
+unfolding recordAfter
+part-behind-spec = tie.close (tie.spec (λ c. search needs) (λ c. search needs) (λ c κs. search needs) (λ c. search needs) (λ c. c .record-part .ensures) returns-2)

@@ -6,13 +6,6 @@ use Rattle.answers.proofs.Fit.{fits-value}
 use Rattle.readers.proofs.counted.Statement.{statement}
 use Rattle.readers.proofs.counted.Tie as tie
 
-code-of-requires : tie.Need-code-of-requires
-unfolding reportIn valueIn
-code-of-requires c κs = fits-value _ 0 (omega arith) (omega arith)
-
-returns : tie.Need-returns
-unfolding reportIn valueIn
-returns c = c .code-of .ensures
-
 pub counted-spec : {M : Type 1} → statement M
-counted-spec = tie.close (tie.spec code-of-requires returns)
+unfolding reportIn valueIn
+counted-spec = tie.close (tie.spec (λ c κs. fits-value _ 0 (omega arith) (omega arith)) (λ c. c .code-of .ensures))

@@ -7,8 +7,5 @@ use Rattle.readers.proofs.refused.Tie as tie
 code-of-requires : tie.Need-code-of-requires
 code-of-requires c κs = rw (c .refused .ensures) (fits-refused (c .before .args .why))
 
-returns : tie.Need-returns
-returns c = rw (c .code-of .ensures, c .before .refused .ensures)
-
 pub refused-spec : {M : Type 1} → statement M
-refused-spec = tie.close (tie.spec (λ c κs. search needs) code-of-requires returns)
+refused-spec = tie.close (tie.spec (λ c κs. search needs) code-of-requires (λ c. rw (c .code-of .ensures, c .before .refused .ensures)))

@@ -32,9 +32,6 @@ one-most : (b : Bool) → pick b 1 0 ≤ 1
 one-most true = omega arith
 one-most false = omega arith
 
-loop-holds : tie.Need-loop-holds Inv-loop μ-loop
-loop-holds c = (search needs, none-counted _)
-
 add-back : tie.Need-add-back Inv-loop μ-loop
 add-back c =
     let l = c .before .before .before .loop in
@@ -56,5 +53,6 @@ returns c =
 pub count-back-spec : {M : Type 1} → statement M
 count-back-spec =
     tie.close
-    (tie.spec Inv-loop μ-loop loop-holds (λ c. search needs) (λ c. let i = c .before in omega (arith, i .loop-test .taken, i .before .before .before .before .pre .2))
-    (λ c κs. search needs) add-back (λ c. search needs) (λ c. search needs) loop-again returns)
+    (tie.spec Inv-loop μ-loop (λ c. (search needs, none-counted _)) (λ c. search needs)
+    (λ c. let i = c .before in omega (arith, i .loop-test .taken, i .before .before .before .before .pre .2)) (λ c κs. search needs) add-back (λ c. search needs)
+    (λ c. search needs) loop-again returns)

@@ -39,9 +39,6 @@ below i = omega (arith, start i .pre .1, i .loop-test .taken)
 room : (i : tie.In-loop Inv-loop μ-loop) → i .before .loop .p < 16
 room i = omega (arith, below i, sound-words (start i .args .w .now) (start i .pre .0) .few)
 
-mul-past : tie.Need-mul-past Inv-loop μ-loop
-mul-past c = let few = room c in search needs
-
 shared-slice-read-past : tie.Need-shared-slice-read-past Inv-loop μ-loop
 shared-slice-read-past c = let i = c .before in omega (arith, i .loop-test .taken, start i .pre .3 .0)
 
@@ -104,5 +101,5 @@ returns c =
 pub restore-all-spec : {M : Type 1} → statement M
 restore-all-spec =
     tie.close
-    (tie.spec Inv-loop μ-loop loop-holds mul-past shared-slice-read-past cast-past restore-requires add-gone (λ c. search needs) (λ c. search needs) loop-again
-    same-length (λ c. search needs) returns)
+    (tie.spec Inv-loop μ-loop loop-holds (λ c. let few = room c in search needs) shared-slice-read-past cast-past restore-requires add-gone (λ c. search needs)
+    (λ c. search needs) loop-again same-length (λ c. search needs) returns)

@@ -18,10 +18,6 @@ Inv-loop a b any₀ f₀ any f = (f ≤ 16) × (eqb any 0 ≡ allBelow f (λ q. 
 abbrev μ-loop : tie.MeasureT-loop
 μ-loop a b any₀ f₀ any f = 16 - f
 
-loop-holds : tie.Need-loop-holds Inv-loop μ-loop
-unfolding allBelow
-loop-holds c = (search needs, refl)
-
 loop-again : tie.Need-loop-again Inv-loop μ-loop
 loop-again c = let l = c .before .loop in
     let a = c .before .before .args in
@@ -31,7 +27,8 @@ returns : tie.Need-returns Inv-loop μ-loop
 returns c = let e : c .before .loop .f ≡ 16 = omega arith in rw e at (c .before .loop .inv .1)
 
 pub are-zero-spec : {M : Type 1} → statement M
+unfolding allBelow
 are-zero-spec =
     tie.close
-    (tie.spec Inv-loop μ-loop loop-holds (λ c. search needs) (λ c. search needs) (λ c. search needs) (λ c. search needs) (λ c. search needs) (λ c. search needs)
-    loop-again returns)
+    (tie.spec Inv-loop μ-loop (λ c. (search needs, refl)) (λ c. search needs) (λ c. search needs) (λ c. search needs) (λ c. search needs) (λ c. search needs)
+    (λ c. search needs) loop-again returns)

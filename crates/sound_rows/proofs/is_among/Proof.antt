@@ -17,9 +17,6 @@ Inv-loop x row any₀ f₀ any f = (f ≤ 16) × (eqb any 0 ≡ not (anyBelow f 
 abbrev μ-loop : tie.MeasureT-loop
 μ-loop x row any₀ f₀ any f = 16 - f
 
-loop-holds : tie.Need-loop-holds Inv-loop μ-loop
-loop-holds c = (search needs, any-none _)
-
 loop-again : tie.Need-loop-again Inv-loop μ-loop
 loop-again c = let l = c .before .before .loop in
     let a = c .before .before .before .args in
@@ -33,4 +30,5 @@ returns c = let l = c .before .loop in
 pub is-among-spec : {M : Type 1} → statement M
 is-among-spec =
     tie.close
-    (tie.spec Inv-loop μ-loop loop-holds (λ c. search needs) (λ c. search needs) (λ c κs. search needs) (λ c. search needs) (λ c. search needs) loop-again returns)
+    (tie.spec Inv-loop μ-loop (λ c. (search needs, any-none _)) (λ c. search needs) (λ c. search needs) (λ c κs. search needs) (λ c. search needs)
+    (λ c. search needs) loop-again returns)

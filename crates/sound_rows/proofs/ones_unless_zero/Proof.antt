@@ -3,11 +3,5 @@ use borrow.Author.Tests.{eq-eqb, ne-eqb}
 use Rattle.sound_rows.proofs.ones_unless_zero.Statement.{statement}
 use Rattle.sound_rows.proofs.ones_unless_zero.Tie as tie
 
-returns : tie.Need-returns
-returns c = rw (eq-eqb (c .before .args .x) 0 (c .if1 .taken))
-
-returns-2 : tie.Need-returns-2
-returns-2 c = rw (ne-eqb (c .before .args .x) 0 (c .if1 .left))
-
 pub ones-unless-zero-spec : {M : Type 1} → statement M
-ones-unless-zero-spec = tie.close (tie.spec returns returns-2)
+ones-unless-zero-spec = tie.close (tie.spec (λ c. rw (eq-eqb (c .before .args .x) 0 (c .if1 .taken))) (λ c. rw (ne-eqb (c .before .args .x) 0 (c .if1 .left))))

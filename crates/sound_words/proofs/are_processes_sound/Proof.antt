@@ -44,9 +44,6 @@ loop-again c = let e = c .before in
     let a = l .before .before .before .args in
     one-passed (a .w .now) (a .n) (l .loop .p) (l .loop .blocks) (c .blocks-kept .result) (l .loop .inv) (m .before .loop-test .taken) (m .is-sound .result) (m .is-sound .ensures) (e .if1 .left) (c .blocks-kept .ensures .0) (c .blocks-kept .ensures .1)
 
-is-balanced-requires : tie.Need-is-balanced-requires Inv-loop μ-loop
-is-balanced-requires c κs = c .before .before .before .before .pre .sized
-
 returns-2 : tie.Need-returns-2 Inv-loop μ-loop
 returns-2 c = let al = c .before in
     let l = al .before in
@@ -58,4 +55,4 @@ pub are-processes-sound-spec : {M : Type 1} → statement M
 are-processes-sound-spec =
     tie.close
     (tie.spec Inv-loop μ-loop (λ c κs. search needs) loop-holds is-sound-requires returns blocks-kept-requires add-blocks (λ c. search needs) (λ c. search needs)
-    loop-again is-balanced-requires returns-2)
+    loop-again (λ c κs. c .before .before .before .before .pre .sized) returns-2)

@@ -13,9 +13,6 @@ few c =
     let s = ha .before .before in
     product-few (w1 .wide .result) (c .wide2 .result) (omega (arith, rw (ha .held-at .ensures) at (w1 .wide .ensures .0), s .pre .2)) (c .wide2 .ensures .1)
 
-mul-result : tie.Need-mul-result
-mul-result c = search (needs, few c)
-
 returns : tie.Need-returns
 returns c = let ba = c .before .before in
     let w1 = ba .before in
@@ -28,4 +25,4 @@ pub blocks-kept-spec : {M : Type 1} → statement M
 blocks-kept-spec =
     tie.close
     (tie.spec (λ c κs. search needs) (λ c. search needs) (λ c. search needs) (λ c κs. search needs) (λ c κs. search needs) (λ c. search needs) (λ c. search needs)
-    (λ c κs. search needs) mul-result returns)
+    (λ c κs. search needs) (λ c. search (needs, few c)) returns)

@@ -16,9 +16,6 @@ Inv-loop w n owns₀ f₀ owns f = (f ≤ n) × (owns ≡ setBelow f (λ q. inte
 abbrev μ-loop : tie.MeasureT-loop
 μ-loop w n owns₀ f₀ owns f = n - f
 
-loop-holds : tie.Need-loop-holds Inv-loop μ-loop
-loop-holds c = (search needs, below-none _ _)
-
 loop-again : tie.Need-loop-again Inv-loop μ-loop
 loop-again c = let pa = c .before .before in
     let l = pa .before .before .loop in
@@ -34,5 +31,5 @@ returns c = let l = c .before .loop in
 pub own-entries-spec : {M : Type 1} → statement M
 own-entries-spec =
     tie.close
-    (tie.spec Inv-loop μ-loop loop-holds (λ c κs. search needs) (λ c. search needs) (λ c. search needs) (λ c. search needs) (λ c κs. search needs) (λ c. search needs)
-    (λ c. search needs) (λ c. search needs) (λ c. search needs) loop-again returns)
+    (tie.spec Inv-loop μ-loop (λ c. (search needs, below-none _ _)) (λ c κs. search needs) (λ c. search needs) (λ c. search needs) (λ c. search needs)
+    (λ c κs. search needs) (λ c. search needs) (λ c. search needs) (λ c. search needs) (λ c. search needs) loop-again returns)

@@ -7,20 +7,13 @@ use Rattle.listing.specs.Said.{reportIn}
 use Rattle.summaries.proofs.of_deliver.Statement.{statement}
 use Rattle.summaries.proofs.of_deliver.Tie as tie
 
-returns : tie.Need-returns
-unfolding deliverReport
-returns c = rw (c .before .before .a .given .1) (c .refused .ensures)
-
-returns-2 : tie.Need-returns-2
-unfolding reportIn valueIn deliverReport
-returns-2 c = rw (c .before .before .a2 .given .1, c .accepted .ensures)
-
 returns-3 : tie.Need-returns-3
 unfolding reportIn valueIn deliverReport
 returns-3 c = rw (c .before .before .before .a3 .given .1, c .accepted2 .ensures)
 
 pub of-deliver-spec : {M : Type 1} → statement M
+unfolding deliverReport reportIn valueIn
 of-deliver-spec =
     tie.close
     (tie.spec (λ c. search needs) (λ c κs. search needs) (λ c. search needs) (λ c κs. search needs) (λ c. search needs) (λ c. search needs) (λ c κs. search needs)
-    returns returns-2 returns-3)
+    (λ c. rw (c .before .before .a .given .1) (c .refused .ensures)) (λ c. rw (c .before .before .a2 .given .1, c .accepted .ensures)) returns-3)

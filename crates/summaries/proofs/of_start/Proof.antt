@@ -7,14 +7,9 @@ use Rattle.listing.specs.Said.{reportIn}
 use Rattle.summaries.proofs.of_start.Statement.{statement}
 use Rattle.summaries.proofs.of_start.Tie as tie
 
-returns : tie.Need-returns
-unfolding startReport
-returns c = rw (c .before .before .a .given .1) (c .refused .ensures)
-
-returns-2 : tie.Need-returns-2
-unfolding reportIn valueIn startReport
-returns-2 c = rw (c .accepted .ensures) (search needs)
-
 pub of-start-spec : {M : Type 1} → statement M
+unfolding startReport reportIn valueIn
 of-start-spec =
-    tie.close (tie.spec (λ c. search needs) (λ c κs. search needs) (λ c. search needs) (λ c κs. search needs) returns returns-2)
+    tie.close
+    (tie.spec (λ c. search needs) (λ c κs. search needs) (λ c. search needs) (λ c κs. search needs)
+    (λ c. rw (c .before .before .a .given .1) (c .refused .ensures)) (λ c. rw (c .accepted .ensures) (search needs)))

@@ -6,9 +6,6 @@ use Rattle.listing.specs.Lines.{valueIn}
 use Rattle.summaries.proofs.refused.Statement.{statement}
 use Rattle.summaries.proofs.refused.Tie as tie
 
-returns : tie.Need-returns
-unfolding reportIn valueIn
-returns c = rw (c .number-of .ensures)
-
 pub refused-spec : {M : Type 1} → statement M
-refused-spec = tie.close (tie.spec (λ c κs. search needs) returns)
+unfolding reportIn valueIn
+refused-spec = tie.close (tie.spec (λ c κs. search needs) (λ c. rw (c .number-of .ensures)))

@@ -6,9 +6,6 @@ use Rattle.model.specs.Trace.{bytesOf}
 use Rattle.trace.proofs.bytes_of.Statement.{statement}
 use Rattle.trace.proofs.bytes_of.Tie as tie
 
-returns : tie.Need-returns
-unfolding bytesOf
-returns c = refl
-
 pub bytes-of-spec : {M : Type 1} → statement M
-bytes-of-spec = tie.close (tie.spec (λ c. search needs) (λ c. search needs) (λ c. search needs) (λ c. search needs) returns)
+unfolding bytesOf
+bytes-of-spec = tie.close (tie.spec (λ c. search needs) (λ c. search needs) (λ c. search needs) (λ c. search needs) (λ c. refl))

@@ -7,26 +7,6 @@ use Rattle.trace.specs.Answers.{eventRead}
 use Rattle.trace.proofs.event_of.Statement.{statement}
 use Rattle.trace.proofs.event_of.Tie as tie
 
-returns : tie.Need-returns
-unfolding eventOf
-returns c = rw (c .before .match .keys1) (c .if-zero .ensures)
-
-returns-2 : tie.Need-returns-2
-unfolding eventOf eventRead
-returns-2 c = rw (c .match .keys2)
-
-returns-3 : tie.Need-returns-3
-unfolding eventOf
-returns-3 c = rw (c .before .match .keys3) (c .if-zero2 .ensures)
-
-returns-4 : tie.Need-returns-4
-unfolding eventOf
-returns-4 c = rw (c .before .match .keys4) (c .if-zero3 .ensures)
-
-returns-5 : tie.Need-returns-5
-unfolding eventOf
-returns-5 c = rw (c .before .match .keys5) (c .if-zero4 .ensures)
-
 returns-6 : tie.Need-returns-6
 unfolding eventOf eventRead
 returns-6 c =
@@ -35,7 +15,9 @@ returns-6 c =
     rw (ne-eqb kind 0 (others .0 .0 .0 .0 .1), ne-eqb kind 1 (others .0 .0 .0 .1), ne-eqb kind 2 (others .0 .0 .1), ne-eqb kind 3 (others .0 .1), ne-eqb kind 4 (others .1))
 
 pub event-of-spec : {M : Type 1} → statement M
+unfolding eventOf eventRead
 event-of-spec =
     tie.close
-    (tie.spec (λ c. search needs) (λ c κs. search needs) (λ c κs. search needs) (λ c κs. search needs) (λ c κs. search needs) returns returns-2 returns-3 returns-4
-    returns-5 returns-6)
+    (tie.spec (λ c. search needs) (λ c κs. search needs) (λ c κs. search needs) (λ c κs. search needs) (λ c κs. search needs)
+    (λ c. rw (c .before .match .keys1) (c .if-zero .ensures)) (λ c. rw (c .match .keys2)) (λ c. rw (c .before .match .keys3) (c .if-zero2 .ensures))
+    (λ c. rw (c .before .match .keys4) (c .if-zero3 .ensures)) (λ c. rw (c .before .match .keys5) (c .if-zero4 .ensures)) returns-6)

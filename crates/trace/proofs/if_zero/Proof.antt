@@ -14,13 +14,6 @@ unfolding ifZero
 not-zero zero e h = absurd (h refl)
 not-zero (suc n) e h = refl
 
-returns : tie.Need-returns
-unfolding eventRead ifZero
-returns c = rw (c .if1 .taken)
-
-returns-2 : tie.Need-returns-2
-unfolding eventRead
-returns-2 c = sym (not-zero _ _ (c .if1 .left))
-
 pub if-zero-spec : {M : Type 1} → statement M
-if-zero-spec = tie.close (tie.spec returns returns-2)
+unfolding eventRead ifZero
+if-zero-spec = tie.close (tie.spec (λ c. rw (c .if1 .taken)) (λ c. sym (not-zero _ _ (c .if1 .left))))

@@ -6,10 +6,6 @@ use Rattle.model.specs.Trace.{wordOf}
 use Rattle.trace.proofs.word_of.Statement.{statement}
 use Rattle.trace.proofs.word_of.Tie as tie
 
-returns : tie.Need-returns
-unfolding wordOf
-returns c = refl
-
 pub word-of-spec : {M : Type 1} → statement M
-word-of-spec =
-    tie.close (tie.spec (λ c. search needs) (λ c. search needs) (λ c. search needs) (λ c. search needs) (λ c. search needs) returns)
+unfolding wordOf
+word-of-spec = tie.close (tie.spec (λ c. search needs) (λ c. search needs) (λ c. search needs) (λ c. search needs) (λ c. search needs) (λ c. refl))

@@ -17,10 +17,6 @@ Inv-loop w n most₀ p₀ most p = (p ≤ n) × (most ≡ greatestBelow p (λ q.
 abbrev μ-loop : tie.MeasureT-loop
 μ-loop w n most₀ p₀ most p = n - p
 
-loop-holds : tie.Need-loop-holds Inv-loop μ-loop
-unfolding greatestBelow
-loop-holds c = (search needs, refl)
-
 below : (c : tie.In-loop Inv-loop μ-loop) → c .before .loop .p < 16
 below c = let s = c .before .before .before in omega (arith, c .loop-test .taken, sound-words (s .args .w .now) (s .pre .0) .few, s .pre .1)
 
@@ -42,8 +38,9 @@ returns c =
     l .inv .1 ∙ ap (λ (p : ℕ). greatestBelow p (λ q. word w (heldAt q))) whole ∙ sym (most-in w (s .pre .0)) ∙ ap (λ (n : ℕ). mostKept n (runOf w)) (sym (s .pre .1))
 
 pub most-kept-spec : {M : Type 1} → statement M
+unfolding greatestBelow
 most-kept-spec =
     tie.close
-    (tie.spec Inv-loop μ-loop loop-holds (λ c. let few = below c in search needs) (λ c. let few = below c in search needs) shared-slice-read-count
-    (λ c. omega (arith, c .shared-slice-known2 .given (heldAt (c .before .before .loop .p)))) (λ c κs. search needs) (λ c. search needs) (λ c. search needs) loop-again
-    returns)
+    (tie.spec Inv-loop μ-loop (λ c. (search needs, refl)) (λ c. let few = below c in search needs) (λ c. let few = below c in search needs) shared-slice-read-count
+    (λ c. omega (arith, c .shared-slice-known2 .given (heldAt (c .before .before .loop .p)))) (λ c κs. search needs) (λ c. search needs) (λ c. search needs)
+    loop-again returns)

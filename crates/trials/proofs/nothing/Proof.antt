@@ -4,8 +4,5 @@ use mathlib.Core.Path.{refl}
 use Rattle.trials.proofs.nothing.Statement.{statement}
 use Rattle.trials.proofs.nothing.Tie as tie
 
-returns : tie.Need-returns
-returns c = refl
-
 pub nothing-spec : {M : Type 1} → statement M
-nothing-spec = tie.close (tie.spec returns)
+nothing-spec = tie.close (tie.spec (λ c. refl))

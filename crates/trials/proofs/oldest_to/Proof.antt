@@ -19,9 +19,6 @@ Inv-loop w p end k₀ k = (k ≤ end) × ((j : ℕ) → j < k → isTo p (messag
 abbrev μ-loop : tie.MeasureT-loop
 μ-loop w p end k₀ k = end - k
 
-loop-holds : tie.Need-loop-holds Inv-loop μ-loop
-loop-holds c = (search needs, λ j lt. absurd (omega arith))
-
 in-use : (c : tie.In-loop Inv-loop μ-loop) → c .before .loop .k < 64
 in-use c = let s = c .before .before .before .before in omega (arith, c .loop-test .taken, sound-words (s .args .w .now) (s .pre) .end)
 
@@ -72,7 +69,7 @@ pub oldest-to-spec : {M : Type 1} → statement M
 oldest-to-spec =
     tie.close
     (tie.spec Inv-loop μ-loop (λ c. let s = c .before .before in omega (arith, sound-words (s .args .w .now) (s .pre) .size))
-    (λ c. omega (arith, c .shared-slice-known2 .given 12)) loop-holds number-at-requires (λ c. let few = in-use (c .before) in search needs)
-    (λ c. let few = in-use (c .before) in search needs) shared-slice-read-to
+    (λ c. omega (arith, c .shared-slice-known2 .given 12)) (λ c. (search needs, λ j lt. absurd (omega arith))) number-at-requires
+    (λ c. let few = in-use (c .before) in search needs) (λ c. let few = in-use (c .before) in search needs) shared-slice-read-to
     (λ c. omega (arith, c .shared-slice-known3 .given (receiverAt (c .before .before .before .loop .k)))) returns
     (λ c. let few = in-use (c .before .before .before) in search needs) (λ c. search needs) loop-again returns-2)

@@ -6,11 +6,5 @@ use Rattle.verdicts.proofs.Room.{twice-square}
 use Rattle.verdicts.proofs.are_deletions_short.Statement.{statement}
 use Rattle.verdicts.proofs.are_deletions_short.Tie as tie
 
-mul-result-2 : tie.Need-mul-result-2
-mul-result-2 c = omega (arith, twice-square (c .args .n) (c .pre))
-
-returns : tie.Need-returns
-returns c = refl
-
 pub are-deletions-short-spec : {M : Type 1} → statement M
-are-deletions-short-spec = tie.close (tie.spec (λ c. search needs) mul-result-2 returns)
+are-deletions-short-spec = tie.close (tie.spec (λ c. search needs) (λ c. omega (arith, twice-square (c .args .n) (c .pre))) (λ c. refl))

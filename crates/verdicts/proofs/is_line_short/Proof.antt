@@ -3,8 +3,5 @@ use mathlib.Core.Path.{refl}
 use Rattle.verdicts.proofs.is_line_short.Statement.{statement}
 use Rattle.verdicts.proofs.is_line_short.Tie as tie
 
-returns : tie.Need-returns
-returns c = refl
-
 pub is-line-short-spec : {M : Type 1} → statement M
-is-line-short-spec = tie.close (tie.spec returns)
+is-line-short-spec = tie.close (tie.spec (λ c. refl))

@@ -15,9 +15,6 @@ Inv-loop failed n left₀ k₀ left k = (k ≤ n) × (left ≡ failed / (2 ^ k))
 abbrev μ-loop : tie.MeasureT-loop
 μ-loop failed n left₀ k₀ left k = n - k
 
-loop-holds : tie.Need-loop-holds Inv-loop μ-loop
-loop-holds c = (search needs, bits-all _)
-
 loop-again : tie.Need-loop-again Inv-loop μ-loop
 loop-again c = (search needs, bits-next (c .before .before .args .failed) (c .before .loop .k) _ (c .before .loop .inv .1))
 
@@ -29,5 +26,4 @@ returns c =
     bits-left (a .failed) (a .n) (l .left) (rw e at (l .inv .1))
 
 pub is-outside-spec : {M : Type 1} → statement M
-is-outside-spec =
-    tie.close (tie.spec Inv-loop μ-loop loop-holds (λ c. search needs) (λ c. search needs) loop-again returns)
+is-outside-spec = tie.close (tie.spec Inv-loop μ-loop (λ c. (search needs, bits-all _)) (λ c. search needs) (λ c. search needs) loop-again returns)

@@ -5,10 +5,6 @@ use Rattle.verdicts.specs.Verdicts.{sendVerdict}
 use Rattle.verdicts.proofs.send_verdict.Statement.{statement}
 use Rattle.verdicts.proofs.send_verdict.Tie as tie
 
-returns : tie.Need-returns
-unfolding sendVerdict
-returns c = rw (le-leb _ _ (c .if1 .taken))
-
 returns-2 : tie.Need-returns-2
 unfolding sendVerdict
 returns-2 c = rw (lt-leb _ _ (c .before .if1 .left), le-leb _ _ (c .if2 .taken))
@@ -30,4 +26,5 @@ unfolding sendVerdict
 returns-6 c = rw (lt-leb _ _ (c .before .before .before .before .if1 .left), lt-leb _ _ (c .before .before .before .if2 .left), ne-eqb _ _ (c .before .before .if3 .left), lt-leb 64 _ (c .before .if4 .left), lt-leb 1000000 _ (c .if5 .left))
 
 pub send-verdict-spec : {M : Type 1} → statement M
-send-verdict-spec = tie.close (tie.spec returns returns-2 returns-3 returns-4 returns-5 returns-6)
+unfolding sendVerdict
+send-verdict-spec = tie.close (tie.spec (λ c. rw (le-leb _ _ (c .if1 .taken))) returns-2 returns-3 returns-4 returns-5 returns-6)

@@ -8,12 +8,9 @@ use Rattle.words.proofs.Reading.{pin-some}
 use Rattle.words.proofs.pin_of.Statement.{statement}
 use Rattle.words.proofs.pin_of.Tie as tie
 
-returns : tie.Need-returns
-unfolding pinOf
-returns c = search needs
-
 returns-2 : tie.Need-returns-2
 returns-2 c = ap At (c .index-of .ensures) ∙ sym (pin-some (c .before .before .args .x) (omega arith))
 
 pub pin-of-spec : {M : Type 1} → statement M
-pin-of-spec = tie.close (tie.spec (λ c κs. search needs) returns returns-2)
+unfolding pinOf
+pin-of-spec = tie.close (tie.spec (λ c κs. search needs) (λ c. search needs) returns-2)

@@ -34,9 +34,6 @@ returns c =
     let g = checkpoint-unsound (a .s) bad (a .i) (a .deleted .now) in
     (g .0, (g .1 .0, (g .1 .1, checkpoint-promise (a .s) (a .i) (a .deleted .now) (a .s) (g .0))))
 
-checkpoint-on-requires : tie.Need-checkpoint-on-requires
-checkpoint-on-requires c κs = let r = ready (c .before .before) in ap sound (r .0) ∙ r .1
-
 read-requires : tie.Need-read-requires
 read-requires c κs =
     let o = c .before .before .before .before .before .before in
@@ -82,6 +79,7 @@ returns-3 c =
 pub checkpoint-spec : {M : Type 1} → statement M
 checkpoint-spec =
     tie.close
-    (tie.spec (λ c. search needs) (λ c κs. search needs) (λ c. search needs) (λ c κs. search needs) returns (λ c. search needs) checkpoint-on-requires
-    (λ c. search needs) (λ c. search needs) (λ c. search needs) read-requires (λ c. c .before .before .before .before .before .checkpoint-on .kept .1 .1 .0) returns-2
+    (tie.spec (λ c. search needs) (λ c κs. search needs) (λ c. search needs) (λ c κs. search needs) returns (λ c. search needs)
+    (λ c κs. let r = ready (c .before .before) in ap sound (r .0) ∙ r .1) (λ c. search needs) (λ c. search needs) (λ c. search needs) read-requires
+    (λ c. c .before .before .before .before .before .checkpoint-on .kept .1 .1 .0) returns-2
     (λ c. c .before .before .before .before .before .before .before .checkpoint-on .kept .1 .1 .0) returns-3)

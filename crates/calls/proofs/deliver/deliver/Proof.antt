@@ -34,9 +34,6 @@ returns c =
     let g = deliver-unsound (a .s) bad (a .m) (a .deleted .now) in
     (g .0, (g .1 .0, (g .1 .1 .0, (g .1 .1 .1, deliver-promise (a .s) (a .m) (a .deleted .now) (a .s) (g .0)))))
 
-deliver-on-requires : tie.Need-deliver-on-requires
-deliver-on-requires c κs = let r = ready (c .before .before) in ap sound (r .0) ∙ r .1
-
 read-requires : tie.Need-read-requires
 read-requires c κs =
     let o = c .before .before .before .before .before in
@@ -88,6 +85,7 @@ returns-3 c =
 pub deliver-spec : {M : Type 1} → statement M
 deliver-spec =
     tie.close
-    (tie.spec (λ c. search needs) (λ c κs. search needs) (λ c. search needs) (λ c κs. search needs) returns (λ c. search needs) deliver-on-requires (λ c. search needs)
-    (λ c. search needs) read-requires (λ c. c .before .before .before .before .before .deliver-on .kept .1 .1 .0) returns-2
+    (tie.spec (λ c. search needs) (λ c κs. search needs) (λ c. search needs) (λ c κs. search needs) returns (λ c. search needs)
+    (λ c κs. let r = ready (c .before .before) in ap sound (r .0) ∙ r .1) (λ c. search needs) (λ c. search needs) read-requires
+    (λ c. c .before .before .before .before .before .deliver-on .kept .1 .1 .0) returns-2
     (λ c. c .before .before .before .before .before .before .deliver-on .kept .1 .1 .0) returns-3)

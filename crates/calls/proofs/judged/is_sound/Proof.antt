@@ -4,11 +4,8 @@ use Rattle.calls.proofs.Changing.{no-flag, flag}
 use Rattle.calls.proofs.judged.is_sound.Statement.{statement}
 use Rattle.calls.proofs.judged.is_sound.Tie as tie
 
-returns : tie.Need-returns
-returns c = no-flag (c .before .before .args .fit) _ (c .if1 .taken)
-
 returns-2 : tie.Need-returns-2
 returns-2 c = flag (c .before .before .before .args .fit) _ _ (c .before .if1 .left) (c .is-sound .ensures)
 
 pub is-sound-spec : {M : Type 1} → statement M
-is-sound-spec = tie.close (tie.spec returns (λ c κs. search needs) returns-2)
+is-sound-spec = tie.close (tie.spec (λ c. no-flag (c .before .before .args .fit) _ (c .if1 .taken)) (λ c κs. search needs) returns-2)

@@ -34,12 +34,6 @@ returns c =
     let g = line-unsound (a .s) bad (a .failed) (a .line .now) in
     (g .0, (g .1 .0, (g .1 .1, (line-promise (a .s) (a .failed), empty-line-promise (a .s) (a .failed) (a .line .now) (g .1 .0) (g .1 .1)))))
 
-line-on-requires : tie.Need-line-on-requires
-line-on-requires c κs = let r = ready (c .before .before) in ap sound (r .0) ∙ r .1
-
-same-length : tie.Need-same-length
-same-length c = c .before .before .line-on .kept .1 .1 .0
-
 returns-2 : tie.Need-returns-2
 returns-2 c =
     let o = c .before .before in
@@ -56,4 +50,5 @@ returns-2 c =
 pub line-spec : {M : Type 1} → statement M
 line-spec =
     tie.close
-    (tie.spec (λ c. search needs) (λ c κs. search needs) (λ c. search needs) (λ c κs. search needs) returns (λ c. search needs) line-on-requires same-length returns-2)
+    (tie.spec (λ c. search needs) (λ c κs. search needs) (λ c. search needs) (λ c κs. search needs) returns (λ c. search needs)
+    (λ c κs. let r = ready (c .before .before) in ap sound (r .0) ∙ r .1) (λ c. c .before .before .line-on .kept .1 .1 .0) returns-2)

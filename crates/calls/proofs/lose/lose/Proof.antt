@@ -35,9 +35,6 @@ returns c =
     let g = lose-unsound (a .s) bad (a .m) in
     (g .0, (g .1, lose-promise (a .s) (a .m) (a .s) (g .0)))
 
-lose-on-requires : tie.Need-lose-on-requires
-lose-on-requires c κs = let r = ready (c .before) in ap sound (r .0) ∙ r .1
-
 read-lost-requires : tie.Need-read-lost-requires
 read-lost-requires c κs =
     let o = c .before .before .before .before in
@@ -72,5 +69,6 @@ returns-3 c =
 pub lose-spec : {M : Type 1} → statement M
 lose-spec =
     tie.close
-    (tie.spec (λ c. search needs) (λ c κs. search needs) (λ c. search needs) (λ c κs. search needs) returns (λ c. search needs) lose-on-requires (λ c. search needs)
-    (λ c. search needs) (λ c. search needs) read-lost-requires returns-2 returns-3)
+    (tie.spec (λ c. search needs) (λ c κs. search needs) (λ c. search needs) (λ c κs. search needs) returns (λ c. search needs)
+    (λ c κs. let r = ready (c .before) in ap sound (r .0) ∙ r .1) (λ c. search needs) (λ c. search needs) (λ c. search needs) read-lost-requires returns-2
+    returns-3)

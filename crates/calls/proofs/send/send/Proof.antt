@@ -35,9 +35,6 @@ returns c =
     let g = send-unsound (a .s) bad (a .i) (a .j) in
     (g .0, (g .1, send-promise (a .s) (a .i) (a .j) (a .s) (g .0)))
 
-send-on-requires : tie.Need-send-on-requires
-send-on-requires c κs = let r = ready (c .before) in ap sound (r .0) ∙ r .1
-
 read-sent-requires : tie.Need-read-sent-requires
 read-sent-requires c κs =
     let o = c .before .before .before .before in
@@ -72,5 +69,6 @@ returns-3 c =
 pub send-spec : {M : Type 1} → statement M
 send-spec =
     tie.close
-    (tie.spec (λ c. search needs) (λ c κs. search needs) (λ c. search needs) (λ c κs. search needs) returns (λ c. search needs) send-on-requires (λ c. search needs)
-    (λ c. search needs) (λ c. search needs) read-sent-requires returns-2 returns-3)
+    (tie.spec (λ c. search needs) (λ c κs. search needs) (λ c. search needs) (λ c κs. search needs) returns (λ c. search needs)
+    (λ c κs. let r = ready (c .before) in ap sound (r .0) ∙ r .1) (λ c. search needs) (λ c. search needs) (λ c. search needs) read-sent-requires returns-2
+    returns-3)

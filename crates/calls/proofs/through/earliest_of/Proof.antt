@@ -41,9 +41,6 @@ returns c l e =
     let g = earliest-unsound (a .s) bad l (a .line .now) in
     (g .0, g .1 .0, g .1 .1)
 
-part-earliest-on-end : tie.Need-part-earliest-on-end
-part-earliest-on-end c = c .before .before .before .pairs-of .ensures .0
-
 earliest-on-requires : tie.Need-earliest-on-requires
 earliest-on-requires c κs = let r = ready (c .before .before .before .before .before .before) in ap sound (r .0) ∙ r .1
 
@@ -72,4 +69,4 @@ pub earliest-of-spec : {M : Type 1} → statement M
 earliest-of-spec =
     tie.close
     (tie.spec (λ c. search needs) (λ c κs. search needs) (λ c. search needs) (λ c κs. search needs) returns (λ c κs. search needs) (λ c. search needs)
-    (λ c. search needs) (λ c. search needs) part-earliest-on-end earliest-on-requires (λ c. search needs) returns-2)
+    (λ c. search needs) (λ c. search needs) (λ c. c .before .before .before .pairs-of .ensures .0) earliest-on-requires (λ c. search needs) returns-2)

@@ -6,10 +6,6 @@ use Rattle.console_in_place.specs.Asked.{claimOf}
 use Rattle.console_in_place.proofs.denied.claim_of.Statement.{statement}
 use Rattle.console_in_place.proofs.denied.claim_of.Tie as tie
 
-returns : tie.Need-returns
-unfolding claimOf
-returns c = rw (eq-eqb _ _ (c .if1 .taken)) refl
-
 returns-2 : tie.Need-returns-2
 unfolding claimOf
 returns-2 c = rw (ne-eqb _ _ (c .before .if1 .left), eq-eqb _ _ (c .if2 .taken)) refl
@@ -23,4 +19,5 @@ unfolding claimOf
 returns-4 c = rw (ne-eqb _ _ (c .before .before .if1 .left), ne-eqb _ _ (c .before .if2 .left), ne-eqb _ _ (c .if3 .left)) refl
 
 pub claim-of-spec : {M : Type 1} → statement M
-claim-of-spec = tie.close (tie.spec returns returns-2 returns-3 returns-4)
+unfolding claimOf
+claim-of-spec = tie.close (tie.spec (λ c. rw (eq-eqb _ _ (c .if1 .taken)) refl) returns-2 returns-3 returns-4)

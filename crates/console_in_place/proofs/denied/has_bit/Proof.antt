@@ -15,9 +15,6 @@ Inv-loop set p left₀ k₀ left k = (k ≤ p) × (left ≡ set / (2 ^ k))
 abbrev μ-loop : tie.MeasureT-loop
 μ-loop set p left₀ k₀ left k = p - k
 
-loop-holds : tie.Need-loop-holds Inv-loop μ-loop
-loop-holds c = (search needs, bits-all _)
-
 loop-again : tie.Need-loop-again Inv-loop μ-loop
 loop-again c = (search needs, bits-next (c .before .before .args .set) (c .before .loop .k) _ (c .before .loop .inv .1))
 
@@ -29,4 +26,4 @@ returns c =
     ap (λ (x : ℕ). eqb (x % 2) 1) (rw e at (l .inv .1))
 
 pub has-bit-spec : {M : Type 1} → statement M
-has-bit-spec = tie.close (tie.spec Inv-loop μ-loop loop-holds (λ c. search needs) (λ c. search needs) loop-again returns)
+has-bit-spec = tie.close (tie.spec Inv-loop μ-loop (λ c. (search needs, bits-all _)) (λ c. search needs) (λ c. search needs) loop-again returns)

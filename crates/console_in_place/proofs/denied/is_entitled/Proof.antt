@@ -5,17 +5,9 @@ use Rattle.roles.specs.Console.{entitledBy}
 use Rattle.console_in_place.proofs.denied.is_entitled.Statement.{statement}
 use Rattle.console_in_place.proofs.denied.is_entitled.Tie as tie
 
-returns : tie.Need-returns
-unfolding entitledBy
-returns c = search needs
-
-returns-2 : tie.Need-returns-2
-unfolding entitledBy
-returns-2 c = rw (c .before .enum-told2 .given .1) (c .is-own .ensures)
-
-returns-3 : tie.Need-returns-3
-unfolding entitledBy
-returns-3 c = search needs
-
 pub is-entitled-spec : {M : Type 1} → statement M
-is-entitled-spec = tie.close (tie.spec (λ c. search needs) (λ c. search needs) (λ c κs. search needs) (λ c. search needs) returns returns-2 returns-3)
+unfolding entitledBy
+is-entitled-spec =
+    tie.close
+    (tie.spec (λ c. search needs) (λ c. search needs) (λ c κs. search needs) (λ c. search needs) (λ c. search needs)
+    (λ c. rw (c .before .enum-told2 .given .1) (c .is-own .ensures)) (λ c. search needs))

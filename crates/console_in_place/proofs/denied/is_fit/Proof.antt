@@ -30,9 +30,6 @@ module _ (w : List ℕ) where
     unfolding fits endFits
     used most ne b h = h ∙ rw (eq-eqb _ _ e, le-leb _ _ most, ne-eqb _ _ ne)
 
-returns : tie.Need-returns
-returns c = another (c .before .before .args .w .now) (c .if1 .taken)
-
 returns-2 : tie.Need-returns-2
 returns-2 c =
     let n = c .before in
@@ -57,4 +54,6 @@ returns-4 c =
 
 pub is-fit-spec : {M : Type 1} → statement M
 is-fit-spec =
-    tie.close (tie.spec returns (λ c. search needs) (λ c κs. search needs) returns-2 returns-3 (λ c. search needs) (λ c κs. search needs) returns-4)
+    tie.close
+    (tie.spec (λ c. another (c .before .before .args .w .now) (c .if1 .taken)) (λ c. search needs) (λ c κs. search needs) returns-2 returns-3 (λ c. search needs)
+    (λ c κs. search needs) returns-4)

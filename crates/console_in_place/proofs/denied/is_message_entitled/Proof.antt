@@ -9,10 +9,6 @@ use Rattle.console_in_place.proofs.Receiving.{reaches-own}
 use Rattle.console_in_place.proofs.denied.is_message_entitled.Statement.{statement}
 use Rattle.console_in_place.proofs.denied.is_message_entitled.Tie as tie
 
-returns : tie.Need-returns
-unfolding entitledMessageBy
-returns c = search needs
-
 returns-2 : tie.Need-returns-2
 returns-2 c =
     let o = c .before in
@@ -22,12 +18,9 @@ returns-2 c =
     let a = t .before .before .before .args in
     rw (t .enum-told2 .given .1) (reaches-own (a .owned) (runOf (a .w .now) .count) (found (runOf (a .w .now)) (a .m)) _ _ (r .receiver-of .ensures) (rw (n .count-of .ensures) at (o .is-own .ensures)))
 
-returns-3 : tie.Need-returns-3
-unfolding entitledMessageBy
-returns-3 c = search needs
-
 pub is-message-entitled-spec : {M : Type 1} → statement M
+unfolding entitledMessageBy
 is-message-entitled-spec =
     tie.close
-    (tie.spec (λ c. search needs) (λ c. search needs) (λ c κs. search needs) (λ c κs. search needs) (λ c κs. search needs) (λ c. search needs) returns returns-2
-    returns-3)
+    (tie.spec (λ c. search needs) (λ c. search needs) (λ c κs. search needs) (λ c κs. search needs) (λ c κs. search needs) (λ c. search needs) (λ c. search needs)
+    returns-2 (λ c. search needs))

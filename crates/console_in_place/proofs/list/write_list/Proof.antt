@@ -61,9 +61,6 @@ loop-again c =
     one-listed (a .role) (a .owned) (countOf (a .w .now)) (a .w .now) (a .deleted .now) (l .deleted) (l .count) (l .p) (l .inv) (h .few) below most _ _
     (t .write-part .ensures .0) (t .write-part .ensures .1) (t .write-part .kept .1 .1 .1 .1 .0)
 
-same-length : tie.Need-same-length Inv-loop μ-loop
-same-length c = c .before .loop .inv .long
-
 returns : tie.Need-returns Inv-loop μ-loop
 returns c =
     let l = c .before .loop in
@@ -73,4 +70,5 @@ returns c =
 
 pub write-list-spec : {M : Type 1} → statement M
 write-list-spec =
-    tie.close (tie.spec Inv-loop μ-loop loop-holds write-part-requires add-count (λ c. search needs) (λ c. search needs) loop-again same-length returns)
+    tie.close
+    (tie.spec Inv-loop μ-loop loop-holds write-part-requires add-count (λ c. search needs) (λ c. search needs) loop-again (λ c. c .before .loop .inv .long) returns)

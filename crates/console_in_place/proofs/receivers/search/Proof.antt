@@ -24,9 +24,6 @@ look-at-requires c κs =
     let s = c .before .before .before in
     (s .pre .0, omega (arith, c .loop-test .taken, s .pre .1), s .pre .2, l .inv .1)
 
-loop-again : tie.Need-loop-again Inv-loop μ-loop
-loop-again c = (search needs, c .look-at .ensures)
-
 returns : tie.Need-returns Inv-loop μ-loop
 returns c =
     let l = c .before .loop in
@@ -34,4 +31,6 @@ returns c =
     rw e at (l .inv .1)
 
 pub search-spec : {M : Type 1} → statement M
-search-spec = tie.close (tie.spec Inv-loop μ-loop loop-holds look-at-requires (λ c. search needs) (λ c. search needs) loop-again returns)
+search-spec =
+    tie.close
+    (tie.spec Inv-loop μ-loop loop-holds look-at-requires (λ c. search needs) (λ c. search needs) (λ c. (search needs, c .look-at .ensures)) returns)

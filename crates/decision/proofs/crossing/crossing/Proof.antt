@@ -8,10 +8,6 @@ use Rattle.decision.specs.Crossings.{crossingOf, crossesAt}
 use Rattle.decision.proofs.crossing.crossing.Statement.{statement}
 use Rattle.decision.proofs.crossing.crossing.Tie as tie
 
-returns : tie.Need-returns
-unfolding crossingOf crossesAt
-returns c = rw (eq-eqb _ _ (c .if1 .taken))
-
 cast-entry : tie.Need-cast-entry
 cast-entry c = let s = (c .before .before .before .before .before .before) in omega (arith, s .pre .2 .from-row (s .args .m) (s .pre .0))
 
@@ -33,7 +29,8 @@ unfolding crossingOf crossesAt
 returns-3 c = rw (ne-eqb _ _ (c .before .before .before .before .if1 .left), ← c .before .entry2 .ensures, ← c .before .before .entry .ensures, le-ltb _ _ (c .if2 .left))
 
 pub crossing-spec : {M : Type 1} → statement M
+unfolding crossingOf crossesAt
 crossing-spec =
     tie.close
-    (tie.spec (λ c. search needs) (λ c. search needs) returns (λ c. search needs) (λ c. search needs) (λ c. search needs) cast-entry entry-requires cast-entry-2
-    entry-requires-2 returns-2 returns-3)
+    (tie.spec (λ c. search needs) (λ c. search needs) (λ c. rw (eq-eqb _ _ (c .if1 .taken))) (λ c. search needs) (λ c. search needs) (λ c. search needs) cast-entry
+    entry-requires cast-entry-2 entry-requires-2 returns-2 returns-3)

@@ -14,9 +14,6 @@ Inv-loop vectors from to last f least₀ m₀ least m = (m ≤ last) × (least �
 abbrev μ-loop : tie.MeasureT-loop
 μ-loop vectors from to last f least₀ m₀ least m = last - m
 
-loop-holds : tie.Need-loop-holds Inv-loop μ-loop
-loop-holds c = (search needs, least-none _ _ _ _)
-
 loop-again : tie.Need-loop-again Inv-loop μ-loop
 loop-again c = let l = c .before .before .before .loop in (search needs, least-more _ _ _ _ (l .m) (l .least) _ _ (l .inv .1) (c .before .crossing .ensures) (c .lesser .ensures))
 
@@ -25,4 +22,6 @@ returns c = let e : c .before .loop .m ≡ c .before .before .before .before .be
 
 pub least-crossing-spec : {M : Type 1} → statement M
 least-crossing-spec =
-    tie.close (tie.spec Inv-loop μ-loop loop-holds (λ c κs. search needs) (λ c κs. search needs) (λ c. search needs) (λ c. search needs) loop-again returns)
+    tie.close
+    (tie.spec Inv-loop μ-loop (λ c. (search needs, least-none _ _ _ _)) (λ c κs. search needs) (λ c κs. search needs) (λ c. search needs) (λ c. search needs)
+    loop-again returns)

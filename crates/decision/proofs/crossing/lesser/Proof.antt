@@ -14,13 +14,6 @@ returns-2 : tie.Need-returns-2
 unfolding lesserOf
 returns-2 c = rw (c .before .before .before .before .if1 .taken, c .before .before .before .if2 .taken, le-ltb _ _ (c .if3 .left))
 
-returns-3 : tie.Need-returns-3
-unfolding lesserOf
-returns-3 c = rw (c .before .if1 .taken, c .if2 .left)
-
-returns-4 : tie.Need-returns-4
-unfolding lesserOf
-returns-4 c = rw (c .if1 .left)
-
 pub lesser-spec : {M : Type 1} → statement M
-lesser-spec = tie.close (tie.spec returns returns-2 returns-3 returns-4)
+unfolding lesserOf
+lesser-spec = tie.close (tie.spec returns returns-2 (λ c. rw (c .before .if1 .taken, c .if2 .left)) (λ c. rw (c .if1 .left)))

@@ -17,9 +17,6 @@ Inv-loop vectors from to last n f₀ f = (f ≤ n) × ((x : ℕ) → x < f → l
 abbrev μ-loop : tie.MeasureT-loop
 μ-loop vectors from to last n f₀ f = n - f
 
-loop-holds : tie.Need-loop-holds Inv-loop μ-loop
-loop-holds c = (search needs, λ x h. absurd (omega arith))
-
 least-crossing-requires : tie.Need-least-crossing-requires Inv-loop μ-loop
 least-crossing-requires c κs = (omega arith, c .before .before .before .before .before .pre .1)
 
@@ -34,4 +31,6 @@ returns-2 c = let l = c .before .loop in record { at = λ e. absurd (false≢tru
 
 pub near-end-spec : {M : Type 1} → statement M
 near-end-spec =
-    tie.close (tie.spec Inv-loop μ-loop loop-holds least-crossing-requires returns (λ c. search needs) (λ c. search needs) loop-again returns-2)
+    tie.close
+    (tie.spec Inv-loop μ-loop (λ c. (search needs, λ x h. absurd (omega arith))) least-crossing-requires returns (λ c. search needs) (λ c. search needs) loop-again
+    returns-2)

@@ -18,9 +18,6 @@ Inv-loop vectors n p k reach q₀ q = (q ≤ n) × ((x : ℕ) → x < q → (get
 abbrev μ-loop : tie.MeasureT-loop
 μ-loop vectors n p k reach q₀ q = n - q
 
-loop-holds : tie.Need-loop-holds Inv-loop μ-loop
-loop-holds c = (search needs, λ x h. absurd (omega arith))
-
 cast-row : tie.Need-cast-row Inv-loop μ-loop
 cast-row c = let s = c .before .before .before .before in omega (arith, s .pre .2 .rows (c .before .before .loop .q) (omega arith) (c .if1 .taken))
 
@@ -42,5 +39,5 @@ returns-2 c = let l = c .before .loop in record { at = λ e. absurd (false≢tru
 pub far-end-spec : {M : Type 1} → statement M
 far-end-spec =
     tie.close
-    (tie.spec Inv-loop μ-loop loop-holds (λ c. search needs) (λ c. search needs) cast-row entry-requires entry-requires-2 returns (λ c. search needs)
-    (λ c. search needs) loop-again returns-2)
+    (tie.spec Inv-loop μ-loop (λ c. (search needs, λ x h. absurd (omega arith))) (λ c. search needs) (λ c. search needs) cast-row entry-requires entry-requires-2
+    returns (λ c. search needs) (λ c. search needs) loop-again returns-2)

@@ -15,9 +15,6 @@ Inv-loop table₀ row v f₀ table f = (f ≤ 16) × (length table ≡ length ta
 abbrev μ-loop : tie.MeasureT-loop
 μ-loop table₀ row v f₀ table f = 16 - f
 
-loop-holds : tie.Need-loop-holds Inv-loop μ-loop
-loop-holds c = (search needs, refl, put-none _ _ _)
-
 loop-again : tie.Need-loop-again Inv-loop μ-loop
 loop-again c = let l = c .before .before .loop in let a = c .before .before .before .args in (search needs, simp length-set (l .inv .1), put-more (a .table .now) (a .row) (a .t3) (l .f) (l .table) (l .inv .2))
 
@@ -28,5 +25,5 @@ returns c = let e : c .before .loop .f ≡ 16 = omega arith in rw e at (c .befor
 pub put-row-spec : {M : Type 1} → statement M
 put-row-spec =
     tie.close
-    (tie.spec Inv-loop μ-loop loop-holds (λ c. search needs) (λ c. search needs) (λ c. search needs) (λ c. search needs) (λ c. search needs) (λ c. search needs)
-    (λ c. search needs) (λ c. search needs) loop-again (λ c. search needs) returns)
+    (tie.spec Inv-loop μ-loop (λ c. (search needs, refl, put-none _ _ _)) (λ c. search needs) (λ c. search needs) (λ c. search needs) (λ c. search needs)
+    (λ c. search needs) (λ c. search needs) (λ c. search needs) (λ c. search needs) loop-again (λ c. search needs) returns)

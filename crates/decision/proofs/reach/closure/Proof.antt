@@ -14,9 +14,6 @@ Inv-loop process from to last p₀ p = Lowered last process from to (p₀ .reach
 abbrev μ-loop : tie.MeasureT-loop
 μ-loop process from to last p₀ p = total (p .reach) + mark (p .changed)
 
-pass-over-requires : tie.Need-pass-over-requires Inv-loop μ-loop
-pass-over-requires c κs = c .before .before .before .pre .1
-
 loop-holds : tie.Need-loop-holds Inv-loop μ-loop
 loop-holds c = let w = one-pass _ _ _ _ (c .before .before .before .before .pre .1) _ _ (c .before .before .before .before .pre .0) (c .pass-over .ensures) in (lowered-none _ _ _ _ (c .before .before .before .before .pre .1) _ (w .lowered .size), w .closed)
 
@@ -34,5 +31,4 @@ returns : tie.Need-returns Inv-loop μ-loop
 returns c = let l = c .before .before .loop in let w = one-pass _ _ _ _ (c .before .before .before .before .before .before .before .pre .1) _ _ (c .before .before .before .before .before .before .before .pre .0) (c .before .before .before .pass-over .ensures) in let v = lowered-then _ _ _ _ (c .before .before .before .before .before .before .before .pre .1) _ _ _ (w .lowered) (l .inv .0) in record { size = v .size; lower = v .lower; sound = v .sound; closed = l .inv .1 (c .before .loop-test .left) }
 
 pub closure-spec : {M : Type 1} → statement M
-closure-spec =
-    tie.close (tie.spec Inv-loop μ-loop pass-over-requires loop-holds pass-over-requires-2 loop-less loop-again returns)
+closure-spec = tie.close (tie.spec Inv-loop μ-loop (λ c κs. c .before .before .before .pre .1) loop-holds pass-over-requires-2 loop-less loop-again returns)

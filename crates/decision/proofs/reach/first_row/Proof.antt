@@ -17,14 +17,8 @@ Inv-loop vectors process rows p k r₀ r = (r ≤ rows) × ((x : ℕ) → x < r 
 abbrev μ-loop : tie.MeasureT-loop
 μ-loop vectors process rows p k r₀ r = rows - r
 
-loop-holds : tie.Need-loop-holds Inv-loop μ-loop
-loop-holds c = (search needs, λ x h. absurd (omega arith))
-
 cast-q : tie.Need-cast-q Inv-loop μ-loop
 cast-q c = omega (arith, c .shared-slice-known3 .given (c .before .before .loop .r))
-
-entry-requires : tie.Need-entry-requires Inv-loop μ-loop
-entry-requires c κs = (search needs, omega arith)
 
 returns : tie.Need-returns Inv-loop μ-loop
 returns c = let l = c .before .before .before .before .before .loop in record { within = omega arith; here = λ h. (c .before .before .if1 .taken, omega (arith, c .if2 .taken, c .before .entry .ensures)); before = l .inv .1 }
@@ -38,5 +32,5 @@ returns-2 c = let l = c .before .loop in record { within = omega arith; here = �
 pub first-row-spec : {M : Type 1} → statement M
 first-row-spec =
     tie.close
-    (tie.spec Inv-loop μ-loop loop-holds (λ c. search needs) (λ c. search needs) cast-q entry-requires returns (λ c. search needs) (λ c. search needs) loop-again
-    returns-2)
+    (tie.spec Inv-loop μ-loop (λ c. (search needs, λ x h. absurd (omega arith))) (λ c. search needs) (λ c. search needs) cast-q
+    (λ c κs. (search needs, omega arith)) returns (λ c. search needs) (λ c. search needs) loop-again returns-2)

@@ -15,11 +15,9 @@ returns-2 : tie.Need-returns-2
 unfolding loweredBy
 returns-2 c = rw (le-leb _ _ (c .before .if1 .taken), le-ltb _ _ (c .if2 .left))
 
-returns-3 : tie.Need-returns-3
-unfolding loweredBy
-returns-3 c = rw (lt-leb _ _ (c .if1 .left))
-
 pub lowered-spec : {M : Type 1} → statement M
+unfolding loweredBy
 lowered-spec =
     tie.close
-    (tie.spec (λ c. search needs) (λ c. search needs) (λ c. search needs) (λ c. search needs) (λ c. search needs) (λ c. search needs) returns returns-2 returns-3)
+    (tie.spec (λ c. search needs) (λ c. search needs) (λ c. search needs) (λ c. search needs) (λ c. search needs) (λ c. search needs) returns returns-2
+    (λ c. rw (lt-leb _ _ (c .if1 .left))))

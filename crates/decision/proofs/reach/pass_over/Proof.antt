@@ -14,9 +14,6 @@ Inv-loop process from to last p₀ m₀ p m = (m ≤ last) × (passed process fr
 abbrev μ-loop : tie.MeasureT-loop
 μ-loop process from to last p₀ m₀ p m = m
 
-loop-holds : tie.Need-loop-holds Inv-loop μ-loop
-loop-holds c = (search needs, refl)
-
 loop-again : tie.Need-loop-again Inv-loop μ-loop
 loop-again c = let l = c .before .before .loop in (search needs, ap (passed _ _ _ (l .m - 1)) (c .relaxed .ensures) ∙ sym (passed-one _ _ _ (l .m) (l .p) (search needs)) ∙ l .inv .1)
 
@@ -25,5 +22,4 @@ unfolding passed
 returns c = let l = c .before .loop in let e : l .m ≡ 0 = omega arith in rw e at (l .inv .1)
 
 pub pass-over-spec : {M : Type 1} → statement M
-pass-over-spec =
-    tie.close (tie.spec Inv-loop μ-loop loop-holds (λ c. search needs) (λ c κs. search needs) (λ c. search needs) loop-again returns)
+pass-over-spec = tie.close (tie.spec Inv-loop μ-loop (λ c. (search needs, refl)) (λ c. search needs) (λ c κs. search needs) (λ c. search needs) loop-again returns)

@@ -8,10 +8,6 @@ use Rattle.decision.specs.Reach.{relaxedBy}
 use Rattle.decision.proofs.reach.relaxed.Statement.{statement}
 use Rattle.decision.proofs.reach.relaxed.Tie as tie
 
-returns : tie.Need-returns
-unfolding relaxedBy
-returns c = rw (eq-eqb _ _ (c .if1 .taken))
-
 cast-s : tie.Need-cast-s
 cast-s c = let s = c .before .before .before .before .before .before in let g = s .pre .1 in let m = s .args .m in let h = s .pre .0 in omega (arith, g .from-row m h)
 
@@ -44,7 +40,8 @@ unfolding relaxedBy
 returns-2 c = rw (ne-eqb _ _ (c .before .before .before .before .if1 .left)) (c .lowered .ensures)
 
 pub relaxed-spec : {M : Type 1} → statement M
+unfolding relaxedBy
 relaxed-spec =
     tie.close
-    (tie.spec (λ c. search needs) (λ c. search needs) returns (λ c. search needs) (λ c. search needs) (λ c. search needs) cast-s mul-s shared-slice-read-s cast-q mul-q
-    shared-slice-read-q cast-lowered cast-lowered-2 lowered-requires returns-2)
+    (tie.spec (λ c. search needs) (λ c. search needs) (λ c. rw (eq-eqb _ _ (c .if1 .taken))) (λ c. search needs) (λ c. search needs) (λ c. search needs) cast-s
+    mul-s shared-slice-read-s cast-q mul-q shared-slice-read-q cast-lowered cast-lowered-2 lowered-requires returns-2)

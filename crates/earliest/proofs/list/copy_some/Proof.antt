@@ -17,9 +17,6 @@ Inv-loop m named copied₀ k₀ copied k = (k ≤ m) × (copied ≡ copyTo k (ta
 abbrev μ-loop : tie.MeasureT-loop
 μ-loop m named copied₀ k₀ copied k = m - k
 
-loop-holds : tie.Need-loop-holds Inv-loop μ-loop
-loop-holds c = (search needs, copy-none _ _ (c .nothing-copied .ensures))
-
 with-element-requires : tie.Need-with-element-requires Inv-loop μ-loop
 with-element-requires c κs =
     let b = c .before .before in
@@ -43,5 +40,5 @@ returns c =
 pub copy-some-spec : {M : Type 1} → statement M
 copy-some-spec =
     tie.close
-    (tie.spec Inv-loop μ-loop (λ c κs. search needs) loop-holds (λ c. search needs) (λ c. search needs) with-element-requires (λ c. search needs) (λ c. search needs)
-    loop-again returns)
+    (tie.spec Inv-loop μ-loop (λ c κs. search needs) (λ c. (search needs, copy-none _ _ (c .nothing-copied .ensures))) (λ c. search needs) (λ c. search needs)
+    with-element-requires (λ c. search needs) (λ c. search needs) loop-again returns)

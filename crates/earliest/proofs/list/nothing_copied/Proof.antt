@@ -5,9 +5,6 @@ use Rattle.earliest.specs.Copying.{nothingCopied}
 use Rattle.earliest.proofs.list.nothing_copied.Statement.{statement}
 use Rattle.earliest.proofs.list.nothing_copied.Tie as tie
 
-returns : tie.Need-returns
-unfolding nothingCopied
-returns c = refl
-
 pub nothing-copied-spec : {M : Type 1} → statement M
-nothing-copied-spec = tie.close (tie.spec returns)
+unfolding nothingCopied
+nothing-copied-spec = tie.close (tie.spec (λ c. refl))

@@ -5,9 +5,8 @@ use Rattle.earliest.specs.Copying.{withElement}
 use Rattle.earliest.proofs.list.with_element.Statement.{statement}
 use Rattle.earliest.proofs.list.with_element.Tie as tie
 
-returns : tie.Need-returns
-unfolding withElement
-returns c = rw (c .greater .ensures, c .before .placed .ensures)
-
 pub with-element-spec : {M : Type 1} → statement M
-with-element-spec = tie.close (tie.spec (λ c κs. search needs) (λ c κs. search needs) (λ c. search needs) returns)
+unfolding withElement
+with-element-spec =
+    tie.close
+    (tie.spec (λ c κs. search needs) (λ c κs. search needs) (λ c. search needs) (λ c. rw (c .greater .ensures, c .before .placed .ensures)))

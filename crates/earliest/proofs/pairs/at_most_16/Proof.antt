@@ -4,11 +4,7 @@ use borrow.Author.Tests.{lt-ltb, le-ltb}
 use Rattle.earliest.proofs.pairs.at_most_16.Statement.{statement}
 use Rattle.earliest.proofs.pairs.at_most_16.Tie as tie
 
-returns : tie.Need-returns
-returns c = rw (lt-ltb (c .before .args .process) 16 (search needs))
-
-returns-2 : tie.Need-returns-2
-returns-2 c = rw (le-ltb (c .before .args .process) 16 (search needs))
-
 pub at-most-16-spec : {M : Type 1} → statement M
-at-most-16-spec = tie.close (tie.spec (λ c. search needs) returns returns-2)
+at-most-16-spec =
+    tie.close
+    (tie.spec (λ c. search needs) (λ c. rw (lt-ltb (c .before .args .process) 16 (search needs))) (λ c. rw (le-ltb (c .before .args .process) 16 (search needs))))

@@ -17,9 +17,6 @@ Inv-loop m named numbers₀ k₀ numbers k = (k ≤ m) × (length numbers ≡ 34
 abbrev μ-loop : tie.MeasureT-loop
 μ-loop m named numbers₀ k₀ numbers k = m - k
 
-loop-holds : tie.Need-loop-holds Inv-loop μ-loop
-loop-holds c = (search needs, search needs, λ j lt. absurd (omega arith))
-
 cast-numbers : tie.Need-cast-numbers Inv-loop μ-loop
 cast-numbers c =
     let l = c .before .before .before .before in
@@ -36,5 +33,6 @@ returns c = let l = c .before .loop in (l .inv .1, λ k lt. l .inv .2 k (omega (
 pub numbers-of-spec : {M : Type 1} → statement M
 numbers-of-spec =
     tie.close
-    (tie.spec Inv-loop μ-loop loop-holds (λ c. search needs) (λ c. search needs) cast-numbers (λ c. search needs) (λ c. search needs) (λ c. search needs)
-    (λ c. search needs) (λ c. search needs) (λ c. search needs) (λ c. search needs) (λ c. search needs) (λ c. search needs) (λ c. search needs) loop-again returns)
+    (tie.spec Inv-loop μ-loop (λ c. (search needs, search needs, λ j lt. absurd (omega arith))) (λ c. search needs) (λ c. search needs) cast-numbers
+    (λ c. search needs) (λ c. search needs) (λ c. search needs) (λ c. search needs) (λ c. search needs) (λ c. search needs) (λ c. search needs) (λ c. search needs)
+    (λ c. search needs) (λ c. search needs) loop-again returns)

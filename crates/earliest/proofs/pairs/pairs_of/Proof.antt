@@ -22,9 +22,6 @@ numbers-of-requires : tie.Need-numbers-of-requires
 unfolding IsCopy
 numbers-of-requires c κs = let st = c .before .before in (few (c .before), process-low (st .args .copied) (st .pre .0) (st .pre .1) (few (c .before)) (low (c .before)))
 
-mul-t10 : tie.Need-mul-t10
-mul-t10 c = omega (arith, few (c .before .before))
-
 returns : tie.Need-returns
 returns c =
     let t = c .before .before .before .args .copied in
@@ -37,4 +34,4 @@ returns-2 c =
     (omega arith, λ l e. rest-same x (replicate 34 x) refl (same-numbers x) t l e (c .at-most-16 .ensures) (not-whole (t .length) (t .process) (c .before .if1 .left)))
 
 pub pairs-of-spec : {M : Type 1} → statement M
-pairs-of-spec = tie.close (tie.spec numbers-of-requires mul-t10 returns (λ c κs. search needs) returns-2)
+pairs-of-spec = tie.close (tie.spec numbers-of-requires (λ c. omega (arith, few (c .before .before))) returns (λ c κs. search needs) returns-2)

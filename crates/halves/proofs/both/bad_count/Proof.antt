@@ -6,9 +6,6 @@ use Rattle.halves.proofs.Rules.{bad-empty, bad-zero, bad-other}
 use Rattle.halves.proofs.both.bad_count.Statement.{statement}
 use Rattle.halves.proofs.both.bad_count.Tie as tie
 
-returns : tie.Need-returns
-returns c = bad-empty (now (c .before .args .half)) (c .if1 .taken)
-
 returns-2 : tie.Need-returns-2
 returns-2 c = bad-zero (now (c .before .before .before .args .half)) (c .before .before .if1 .left) (c .if2 .taken)
 
@@ -16,5 +13,4 @@ returns-3 : tie.Need-returns-3
 returns-3 c = bad-other (now (c .before .before .before .before .args .half)) (c .before .before .before .if1 .left) (c .before .if2 .left)
 
 pub bad-count-spec : {M : Type 1} → statement M
-bad-count-spec =
-    tie.close (tie.spec returns (λ c. search needs) (λ c. search needs) returns-2 returns-3)
+bad-count-spec = tie.close (tie.spec (λ c. bad-empty (now (c .before .args .half)) (c .if1 .taken)) (λ c. search needs) (λ c. search needs) returns-2 returns-3)

@@ -9,15 +9,6 @@ use Rattle.model.specs.Trace.{bytesOf}
 use Rattle.halves.proofs.log.write_word.Statement.{statement}
 use Rattle.halves.proofs.log.write_word.Tie as tie
 
-slice-write-out-2 : tie.Need-slice-write-out-2
-slice-write-out-2 c = simp length-set (omega arith)
-
-slice-write-out-3 : tie.Need-slice-write-out-3
-slice-write-out-3 c = simp length-set (omega arith)
-
-slice-write-out-4 : tie.Need-slice-write-out-4
-slice-write-out-4 c = simp length-set (omega arith)
-
 returns : tie.Need-returns
 unfolding bytesOf
 returns c = let a = c .args .at in let e1 : a + 1 ≡ suc a = omega arith in let e2 : a + 2 ≡ suc (suc a) = omega arith in let e3 : a + 3 ≡ suc (suc (suc a)) = omega arith in rw (e1, e2, e3)
@@ -25,5 +16,6 @@ returns c = let a = c .args .at in let e1 : a + 1 ≡ suc a = omega arith in let
 pub write-word-spec : {M : Type 1} → statement M
 write-word-spec =
     tie.close
-    (tie.spec (λ c. search needs) (λ c. search needs) (λ c. search needs) (λ c. search needs) slice-write-out-2 (λ c. search needs) (λ c. search needs)
-    slice-write-out-3 (λ c. search needs) (λ c. search needs) slice-write-out-4 (λ c. search needs) returns)
+    (tie.spec (λ c. search needs) (λ c. search needs) (λ c. search needs) (λ c. search needs) (λ c. simp length-set (omega arith)) (λ c. search needs)
+    (λ c. search needs) (λ c. simp length-set (omega arith)) (λ c. search needs) (λ c. search needs) (λ c. simp length-set (omega arith)) (λ c. search needs)
+    returns)

@@ -14,9 +14,6 @@ Inv-loop set p rest₀ i₀ rest i = (i ≤ p) × (rest ≡ set / (2 ^ i))
 abbrev μ-loop : tie.MeasureT-loop
 μ-loop set p rest₀ i₀ rest i = p - i
 
-loop-holds : tie.Need-loop-holds Inv-loop μ-loop
-loop-holds c = (search needs, bits-all (c .args .set))
-
 loop-again : tie.Need-loop-again Inv-loop μ-loop
 loop-again c = let l = c .before .loop in (search needs, bits-next (c .before .before .args .set) (l .i) (l .rest) (l .inv .1))
 
@@ -24,4 +21,4 @@ returns : tie.Need-returns Inv-loop μ-loop
 returns c = let l = c .before .loop in let e : l .i ≡ c .before .before .args .p = omega arith in rw e at (l .inv .1)
 
 pub above-spec : {M : Type 1} → statement M
-above-spec = tie.close (tie.spec Inv-loop μ-loop loop-holds (λ c. search needs) (λ c. search needs) loop-again returns)
+above-spec = tie.close (tie.spec Inv-loop μ-loop (λ c. (search needs, bits-all (c .args .set))) (λ c. search needs) (λ c. search needs) loop-again returns)

@@ -5,13 +5,6 @@ use Rattle.merges.specs.Merge.{inHalf}
 use Rattle.halves.proofs.record.in_half.Statement.{statement}
 use Rattle.halves.proofs.record.in_half.Tie as tie
 
-returns : tie.Need-returns
-unfolding inHalf
-returns c = rw (c .if1 .taken, c .before .above .ensures)
-
-returns-2 : tie.Need-returns-2
-unfolding inHalf
-returns-2 c = rw (c .if1 .left, c .before .above .ensures)
-
 pub in-half-spec : {M : Type 1} → statement M
-in-half-spec = tie.close (tie.spec (λ c κs. search needs) returns returns-2)
+unfolding inHalf
+in-half-spec = tie.close (tie.spec (λ c κs. search needs) (λ c. rw (c .if1 .taken, c .before .above .ensures)) (λ c. rw (c .if1 .left, c .before .above .ensures)))

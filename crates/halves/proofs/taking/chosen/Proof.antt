@@ -4,12 +4,8 @@ use borrow.Author.Needs.{needs}
 use Rattle.halves.proofs.taking.chosen.Statement.{statement}
 use Rattle.halves.proofs.taking.chosen.Tie as tie
 
-returns : tie.Need-returns
-returns c = rw (c .before .if1 .taken) (c .record-part .ensures)
-
-returns-2 : tie.Need-returns-2
-returns-2 c = rw (c .before .if1 .left) (c .record-part2 .ensures)
-
 pub chosen-spec : {M : Type 1} → statement M
 chosen-spec =
-    tie.close (tie.spec (λ c. search needs) (λ c. search needs) (λ c κs. search needs) (λ c. search needs) (λ c. search needs) (λ c κs. search needs) returns returns-2)
+    tie.close
+    (tie.spec (λ c. search needs) (λ c. search needs) (λ c κs. search needs) (λ c. search needs) (λ c. search needs) (λ c κs. search needs)
+    (λ c. rw (c .before .if1 .taken) (c .record-part .ensures)) (λ c. rw (c .before .if1 .left) (c .record-part2 .ensures)))

@@ -17,14 +17,8 @@ use Rattle.in_place.proofs.checkpoint.storing_verdict.Tie as tie
 known : (c : tie.Start) → (length (c .args .w .now) ≡ 6464) × (c .args .i < 16)
 known c = let h = sound-words (c .args .w .now) (c .pre .0) in (h .size, omega (arith, h .few, c .pre .1))
 
-own-of-requires : tie.Need-own-of-requires
-own-of-requires c κs = known (c .before)
-
 returns : tie.Need-returns
 returns c = let s = c .before .before .before .before in verdict-last (s .args .w .now) (s .pre .0) (s .args .i) (s .pre .1) (sym (c .before .is-last-interval .ensures ∙ ap (λ (x : Interval). leb 65535 (x .0)) (c .before .before .own-of .ensures)) ∙ c .if1 .taken)
-
-wide4-requires : tie.Need-wide4-requires
-wide4-requires c κs = omega (arith, known (c .before .before .before .before) .0)
 
 add-is-past-bound : tie.Need-add-is-past-bound
 add-is-past-bound c = let k = known (c .before .before .before .before .before) in search needs
@@ -44,5 +38,5 @@ returns-3 c = let s = c .before .before .before .before .before .before .before 
 pub storing-verdict-spec : {M : Type 1} → statement M
 storing-verdict-spec =
     tie.close
-    (tie.spec own-of-requires (λ c κs. search needs) returns wide4-requires add-is-past-bound mul-is-past-bound shared-slice-read-is-past-bound (λ c κs. search needs)
-    returns-2 returns-3)
+    (tie.spec (λ c κs. known (c .before)) (λ c κs. search needs) returns (λ c κs. omega (arith, known (c .before .before .before .before) .0)) add-is-past-bound
+    mul-is-past-bound shared-slice-read-is-past-bound (λ c κs. search needs) returns-2 returns-3)

@@ -4,11 +4,5 @@ use borrow.Author.Needs.{needs}
 use Rattle.in_place.proofs.deliver.answer_of.Statement.{statement}
 use Rattle.in_place.proofs.deliver.answer_of.Tie as tie
 
-returns : tie.Need-returns
-returns c = rw (c .live-index .ensures, c .before .if1 .taken)
-
-returns-2 : tie.Need-returns-2
-returns-2 c = rw (c .if1 .left)
-
 pub answer-of-spec : {M : Type 1} → statement M
-answer-of-spec = tie.close (tie.spec (λ c κs. search needs) returns returns-2)
+answer-of-spec = tie.close (tie.spec (λ c κs. search needs) (λ c. rw (c .live-index .ensures, c .before .if1 .taken)) (λ c. rw (c .if1 .left)))

@@ -37,17 +37,11 @@ known c =
     let p = place-there (c .args .w .now) (c .pre .0) (c .args .deleted .now) (c .args .k) (c .pre .1) (c .pre .2) in
     (h .size, p .0, omega (arith, h .few, p .1))
 
-add-i : tie.Need-add-i
-add-i c = let k = known (c .before .before) in search needs
-
 add-vector-at : tie.Need-add-vector-at
 add-vector-at c = let k = known (c .before .before .before .before) in search needs
 
 add-vector-at-2 : tie.Need-add-vector-at-2
 add-vector-at-2 c = let k = known (c .before .before .before .before .before .before) in search needs
-
-mul-i : tie.Need-mul-i
-mul-i c = let k = known (c .before .before) in search needs
 
 mul-vector-at : tie.Need-mul-vector-at
 mul-vector-at c = let k = known (c .before .before .before .before) in search needs
@@ -113,12 +107,10 @@ take-from-requires c κs =
       ),
     )
 
-returns-3 : tie.Need-returns-3
-returns-3 c = c .before .before .before .before .take-from .ensures
-
 pub deliver-from-spec : {M : Type 1} → statement M
 deliver-from-spec =
     tie.close
-    (tie.spec add-i mul-i slice-read-i cast-i mul-vector-at add-vector-at vector-at-requires mul-vector-at-2 add-vector-at-2 vector-at-requires-2 (λ c κs. search needs)
-    take-out-requires (λ c. search needs) returns has-sent-requires forced-verdict-requires (λ c. search needs) (λ c κs. search needs) (λ c. search needs)
-    take-from-requires (λ c. search needs) returns-2 (λ c. search needs) (λ c. search needs) returns-3)
+    (tie.spec (λ c. let k = known (c .before .before) in search needs) (λ c. let k = known (c .before .before) in search needs) slice-read-i cast-i mul-vector-at
+    add-vector-at vector-at-requires mul-vector-at-2 add-vector-at-2 vector-at-requires-2 (λ c κs. search needs) take-out-requires (λ c. search needs) returns
+    has-sent-requires forced-verdict-requires (λ c. search needs) (λ c κs. search needs) (λ c. search needs) take-from-requires (λ c. search needs) returns-2
+    (λ c. search needs) (λ c. search needs) (λ c. c .before .before .before .before .take-from .ensures))

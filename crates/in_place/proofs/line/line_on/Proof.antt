@@ -25,9 +25,6 @@ long c = sym (c .before .is-line-short .ensures) ∙ c .if1 .left
 shared-slice-read-n : tie.Need-shared-slice-read-n
 shared-slice-read-n c = let st = c .before .before .before in omega (arith, sound-words (st .args .w .now) (st .pre) .size)
 
-cast-n : tie.Need-cast-n
-cast-n c = omega (arith, c .shared-slice-known2 .given 0)
-
 returns : tie.Need-returns
 unfolding refused
 returns c =
@@ -64,5 +61,5 @@ returns-3 c =
 pub line-on-spec : {M : Type 1} → statement M
 line-on-spec =
     tie.close
-    (tie.spec shared-slice-read-n cast-n (λ c κs. search needs) returns (λ c κs. search needs) (λ c. search needs) (λ c. search needs) line-within-requires returns-2
-    (λ c. search needs) returns-3)
+    (tie.spec shared-slice-read-n (λ c. omega (arith, c .shared-slice-known2 .given 0)) (λ c κs. search needs) returns (λ c κs. search needs) (λ c. search needs)
+    (λ c. search needs) line-within-requires returns-2 (λ c. search needs) returns-3)

@@ -42,9 +42,6 @@ returns c =
     let e = nothing (placeOf (s .args .w .now) (s .args .m)) (sym (c .enum-told .given .1) ∙ p .place-of .ensures) in
     rw (lose-refused (s .args .w .now) (s .pre) (s .args .m) e) (refl, (refl, (λ why q. refl, same-words (s .args .w .now))))
 
-same-length-2 : tie.Need-same-length-2
-same-length-2 c = c .before .before .take-out .kept .0
-
 returns-2 : tie.Need-returns-2
 returns-2 c =
     let t = c .before .before in
@@ -56,4 +53,6 @@ returns-2 c =
 
 pub lose-on-spec : {M : Type 1} → statement M
 lose-on-spec =
-    tie.close (tie.spec place-of-requires (λ c. search needs) (λ c. search needs) take-out-requires (λ c. search needs) returns same-length-2 returns-2)
+    tie.close
+    (tie.spec place-of-requires (λ c. search needs) (λ c. search needs) take-out-requires (λ c. search needs) returns (λ c. c .before .before .take-out .kept .0)
+    returns-2)

@@ -27,12 +27,6 @@ judged c =
     let a = c .before .before .before .before .before .before .args in
     ap (sendVerdict (a .i) (a .j) (word (a .w .now) 0) (word (a .w .now) 1)) (sym (c .before .wide2 .ensures)) ∙ sym (c .send-verdict .ensures)
 
-cast-n : tie.Need-cast-n
-cast-n c = omega (arith, c .slice-known2 .given 0)
-
-cast-many : tie.Need-cast-many
-cast-many c = omega (arith, c .slice-known3 .given 1)
-
 wide2-requires : tie.Need-wide2-requires
 wide2-requires c κs = let s = c .before .before .before .before in omega (arith, sound-words (s .args .w .now) (s .pre) .size)
 
@@ -71,6 +65,7 @@ returns-2 c =
 pub send-on-spec : {M : Type 1} → statement M
 send-on-spec =
     tie.close
-    (tie.spec (λ c. let s = c .before .before in omega (arith, sound-words (s .args .w .now) (s .pre) .size)) cast-n
-    (λ c. let s = c .before .before .before in omega (arith, sound-words (s .args .w .now) (s .pre) .size)) cast-many wide2-requires (λ c κs. search needs)
-    (λ c. search needs) (λ c. search needs) put-sent-requires (λ c. search needs) returns (λ c. c .before .before .put-sent .kept .0) returns-2)
+    (tie.spec (λ c. let s = c .before .before in omega (arith, sound-words (s .args .w .now) (s .pre) .size)) (λ c. omega (arith, c .slice-known2 .given 0))
+    (λ c. let s = c .before .before .before in omega (arith, sound-words (s .args .w .now) (s .pre) .size)) (λ c. omega (arith, c .slice-known3 .given 1))
+    wide2-requires (λ c κs. search needs) (λ c. search needs) (λ c. search needs) put-sent-requires (λ c. search needs) returns
+    (λ c. c .before .before .put-sent .kept .0) returns-2)

@@ -18,9 +18,6 @@ Inv-loop counts n all₀ p₀ all p = (p ≤ n) × (all ≡ allBelow p (λ q. is
 abbrev μ-loop : tie.MeasureT-loop
 μ-loop counts n all₀ p₀ all p = n - p
 
-loop-holds : tie.Need-loop-holds Inv-loop μ-loop
-loop-holds c = (search needs, all-zero _)
-
 loop-again : tie.Need-loop-again Inv-loop μ-loop
 loop-again c =
     let l = c .before .before .before .loop in
@@ -35,4 +32,5 @@ returns c =
 pub are-block-counts-spec : {M : Type 1} → statement M
 are-block-counts-spec =
     tie.close
-    (tie.spec Inv-loop μ-loop loop-holds (λ c. search needs) (λ c. search needs) (λ c κs. search needs) (λ c. search needs) (λ c. search needs) loop-again returns)
+    (tie.spec Inv-loop μ-loop (λ c. (search needs, all-zero _)) (λ c. search needs) (λ c. search needs) (λ c κs. search needs) (λ c. search needs)
+    (λ c. search needs) loop-again returns)

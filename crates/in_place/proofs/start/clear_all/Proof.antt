@@ -17,9 +17,6 @@ Inv-loop w₀ k₀ w k = (k ≤ 6464) × (length w ≡ length w₀) × (w ≡ se
 abbrev μ-loop : tie.MeasureT-loop
 μ-loop w₀ k₀ w k = 6464 - k
 
-loop-holds : tie.Need-loop-holds Inv-loop μ-loop
-loop-holds c = (search needs, refl, below-none _ _)
-
 loop-again : tie.Need-loop-again Inv-loop μ-loop
 loop-again c =
     let l = c .before .loop in
@@ -37,5 +34,5 @@ returns c =
 pub clear-all-spec : {M : Type 1} → statement M
 clear-all-spec =
     tie.close
-    (tie.spec Inv-loop μ-loop loop-holds (λ c. search needs) (λ c. search needs) (λ c. search needs) (λ c. search needs) loop-again (λ c. c .before .loop .inv .1)
-    returns)
+    (tie.spec Inv-loop μ-loop (λ c. (search needs, refl, below-none _ _)) (λ c. search needs) (λ c. search needs) (λ c. search needs) (λ c. search needs)
+    loop-again (λ c. c .before .loop .inv .1) returns)

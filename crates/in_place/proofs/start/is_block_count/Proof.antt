@@ -4,9 +4,6 @@ use Rattle.model.specs.Sound.{isBlockCount}
 use Rattle.in_place.proofs.start.is_block_count.Statement.{statement}
 use Rattle.in_place.proofs.start.is_block_count.Tie as tie
 
-returns : tie.Need-returns
-unfolding isBlockCount
-returns c = refl
-
 pub is-block-count-spec : {M : Type 1} → statement M
-is-block-count-spec = tie.close (tie.spec returns)
+unfolding isBlockCount
+is-block-count-spec = tie.close (tie.spec (λ c. refl))

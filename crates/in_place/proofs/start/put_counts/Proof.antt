@@ -32,9 +32,6 @@ none : (w counts : List ℕ) → w ≡ withCounts w counts 0
 unfolding withCounts
 none w counts = refl
 
-loop-holds : tie.Need-loop-holds Inv-loop μ-loop
-loop-holds c = (search needs, refl, none _ _)
-
 -- The block count of an iteration is in its range.
 small : (c : tie.After-shared-slice-known Inv-loop μ-loop) → getD (c .before .before .before .args .counts .now) (c .before .before .loop .p) 0 ≤ 65535
 unfolding isBlockCount
@@ -59,6 +56,7 @@ returns c =
 pub put-counts-spec : {M : Type 1} → statement M
 put-counts-spec =
     tie.close
-    (tie.spec Inv-loop μ-loop loop-holds (λ c. search needs) (λ c. search needs) (λ c. omega (arith, small c)) (λ c. search needs) (λ c. search needs)
+    (tie.spec Inv-loop μ-loop (λ c. (search needs, refl, none _ _)) (λ c. search needs) (λ c. search needs) (λ c. omega (arith, small c)) (λ c. search needs)
+    (λ c. search needs)
     (λ c. let l = c .before .before .loop in let s = c .before .before .before in omega (arith, l .inv .1, s .pre .0, s .pre .1, c .before .loop-test .taken))
     (λ c. search needs) (λ c. search needs) loop-again (λ c. c .before .loop .inv .1) returns)

@@ -27,9 +27,6 @@ none : (w : List ℕ) → w ≡ withFirsts w 0
 unfolding withFirsts
 none w = refl
 
-loop-holds : tie.Need-loop-holds Inv-loop μ-loop
-loop-holds c = (search needs, refl, none _)
-
 -- The process of an iteration is one of 16.
 small : (c : tie.In-loop Inv-loop μ-loop) → c .before .loop .p < 16
 small c = omega (arith, c .loop-test .taken, c .before .before .pre .1)
@@ -52,8 +49,8 @@ returns c =
 pub put-firsts-spec : {M : Type 1} → statement M
 put-firsts-spec =
     tie.close
-    (tie.spec Inv-loop μ-loop loop-holds (λ c. omega (arith, small c)) (λ c. omega (arith, small c)) (λ c. omega (arith, small c)) (λ c. omega (arith, small c))
-    (λ c. omega (arith, small c, long c)) (λ c. omega (arith, small c)) (λ c. omega (arith, small c)) (λ c. omega (arith, small c)) (λ c. omega (arith, small c))
-    (λ c. simp length-set (omega (arith, small c, long c))) (λ c. omega (arith, small c)) (λ c. omega (arith, small c)) (λ c. omega (arith, small c))
-    (λ c. simp length-set (omega (arith, small c, long c))) (λ c. omega (arith, small c)) (λ c. omega (arith, small c))
+    (tie.spec Inv-loop μ-loop (λ c. (search needs, refl, none _)) (λ c. omega (arith, small c)) (λ c. omega (arith, small c)) (λ c. omega (arith, small c))
+    (λ c. omega (arith, small c)) (λ c. omega (arith, small c, long c)) (λ c. omega (arith, small c)) (λ c. omega (arith, small c)) (λ c. omega (arith, small c))
+    (λ c. omega (arith, small c)) (λ c. simp length-set (omega (arith, small c, long c))) (λ c. omega (arith, small c)) (λ c. omega (arith, small c))
+    (λ c. omega (arith, small c)) (λ c. simp length-set (omega (arith, small c, long c))) (λ c. omega (arith, small c)) (λ c. omega (arith, small c))
     (λ c. simp length-set (omega (arith, small c, long c))) (λ c. search needs) (λ c. search needs) loop-again (λ c. c .before .loop .inv .1) returns)

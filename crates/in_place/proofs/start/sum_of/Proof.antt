@@ -23,9 +23,6 @@ none : (f : ℕ → ℕ) → 0 ≡ sumBelow 0 f
 unfolding sumBelow
 none f = refl
 
-loop-holds : tie.Need-loop-holds Inv-loop μ-loop
-loop-holds c = (search needs, none _, omega arith)
-
 -- A block count is a number of 32 bits.
 small : (c : tie.After-shared-slice-known Inv-loop μ-loop) → getD (c .before .before .before .args .counts .now) (c .before .before .loop .p) 0 ≤ 4294967295
 small c = omega (arith, c .shared-slice-known .given (c .before .before .loop .p))
@@ -48,5 +45,5 @@ returns c =
 pub sum-of-spec : {M : Type 1} → statement M
 sum-of-spec =
     tie.close
-    (tie.spec Inv-loop μ-loop loop-holds (λ c. search needs) (λ c. search needs) (λ c. omega (arith, small c)) add-sum (λ c. search needs) (λ c. search needs)
-    loop-again returns)
+    (tie.spec Inv-loop μ-loop (λ c. (search needs, none _, omega arith)) (λ c. search needs) (λ c. search needs) (λ c. omega (arith, small c)) add-sum
+    (λ c. search needs) (λ c. search needs) loop-again returns)

@@ -47,9 +47,6 @@ unfits c =
 shared-slice-read-n : tie.Need-shared-slice-read-n
 shared-slice-read-n c = let st = c .before .before .before .before in omega (arith, sound-words (st .args .w .now) (st .pre) .size)
 
-cast-n : tie.Need-cast-n
-cast-n c = omega (arith, c .shared-slice-known3 .given 0)
-
 returns : tie.Need-returns
 unfolding refused
 returns c =
@@ -67,9 +64,6 @@ returns-2 c =
     let t = c .before in
     let st = begun (t .before .before .before) in
     rw (reach-absent (st .args .w .now) (st .pre) (st .args .named .now) (st .args .line .now) (long (t .before)) (sym (absent t) ∙ c .if2 .taken)) (refl, (refl, refl))
-
-is-unfit-requires : tie.Need-is-unfit-requires
-is-unfit-requires c κs = pairs-in (c .before .before .before .before)
 
 returns-3 : tie.Need-returns-3
 unfolding refused
@@ -99,5 +93,5 @@ returns-4 c =
 pub earliest-on-spec : {M : Type 1} → statement M
 earliest-on-spec =
     tie.close
-    (tie.spec shared-slice-read-n cast-n (λ c κs. search needs) (λ c κs. search needs) returns names-absent-requires returns-2 is-unfit-requires returns-3
-    line-through-requires (λ c. search needs) returns-4)
+    (tie.spec shared-slice-read-n (λ c. omega (arith, c .shared-slice-known3 .given 0)) (λ c κs. search needs) (λ c κs. search needs) returns names-absent-requires
+    returns-2 (λ c κs. pairs-in (c .before .before .before .before)) returns-3 line-through-requires (λ c. search needs) returns-4)

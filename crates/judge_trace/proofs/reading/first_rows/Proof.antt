@@ -16,9 +16,6 @@ Inv-loop vectors₀ process₀ n current₀ p₀ vectors process current p = (p 
 abbrev μ-loop : tie.MeasureT-loop
 μ-loop vectors₀ process₀ n current₀ p₀ vectors process current p = n - p
 
-loop-holds : tie.Need-loop-holds Inv-loop μ-loop
-loop-holds c = (search needs, refl, refl, first-none _ _)
-
 loop-again : tie.Need-loop-again Inv-loop μ-loop
 loop-again c = let l = c .before .before .before .before .before .before .loop in let s = c .before .before .before .before .before .before .before .before .before in let w = first-turn (l .p) (l .vectors) (l .process) (l .current) _ _ (omega arith) (omega arith) (omega arith) (c .before .before .before .before .first-vector .ensures ones) (l .inv .3) (c .before .before .put-row .ensures) in (search needs, w .0 ∙ l .inv .1, length-set (l .process) (l .p) (l .p) ∙ l .inv .2, w .1)
 
@@ -28,5 +25,6 @@ returns c = let l = c .before .loop in let e : l .p ≡ c .before .before .befor
 pub first-rows-spec : {M : Type 1} → statement M
 first-rows-spec =
     tie.close
-    (tie.spec Inv-loop μ-loop loop-holds (λ c κs. search needs) (λ c κs. search needs) (λ c. search needs) (λ c. search needs) (λ c. search needs) (λ c. search needs)
-    (λ c. search needs) (λ c. search needs) (λ c. search needs) (λ c. search needs) loop-again (λ c. search needs) (λ c. search needs) returns)
+    (tie.spec Inv-loop μ-loop (λ c. (search needs, refl, refl, first-none _ _)) (λ c κs. search needs) (λ c κs. search needs) (λ c. search needs)
+    (λ c. search needs) (λ c. search needs) (λ c. search needs) (λ c. search needs) (λ c. search needs) (λ c. search needs) (λ c. search needs) loop-again
+    (λ c. search needs) (λ c. search needs) returns)

@@ -5,9 +5,6 @@ use Rattle.judge_trace.specs.Readings.{takenStep}
 use Rattle.judge_trace.proofs.reading.take.Statement.{statement}
 use Rattle.judge_trace.proofs.reading.take.Tie as tie
 
-returns : tie.Need-returns
-unfolding takenStep
-returns c = refl
-
 pub take-spec : {M : Type 1} → statement M
-take-spec = tie.close (tie.spec returns)
+unfolding takenStep
+take-spec = tie.close (tie.spec (λ c. refl))

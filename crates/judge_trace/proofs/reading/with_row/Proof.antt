@@ -6,9 +6,6 @@ use Rattle.judge_trace.specs.Readings.{withRow}
 use Rattle.judge_trace.proofs.reading.with_row.Statement.{statement}
 use Rattle.judge_trace.proofs.reading.with_row.Tie as tie
 
-returns : tie.Need-returns
-unfolding withRow
-returns c = refl
-
 pub with-row-spec : {M : Type 1} → statement M
-with-row-spec = tie.close (tie.spec (λ c. search needs) (λ c. search needs) (λ c. search needs) (λ c. search needs) returns)
+unfolding withRow
+with-row-spec = tie.close (tie.spec (λ c. search needs) (λ c. search needs) (λ c. search needs) (λ c. search needs) (λ c. refl))

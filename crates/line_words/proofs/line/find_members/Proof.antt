@@ -22,9 +22,6 @@ Inv-loop w n limits pasts₀ all₀ p₀ pasts all p =
 abbrev μ-loop : tie.MeasureT-loop
 μ-loop w n limits pasts₀ all₀ p₀ pasts all p = n - p
 
-loop-holds : tie.Need-loop-holds Inv-loop μ-loop
-loop-holds c = (search needs, below-none _ _, all-zero _)
-
 abbrev start : tie.At-loop Inv-loop μ-loop → tie.Start Inv-loop μ-loop
 start a = a .before .before .before
 
@@ -58,9 +55,6 @@ loop-again c =
       all-and (λ q. not (eqb (pastLatest (a .w .now) (a .limits) q) 0)) (l .p) (l .all) _ (l .inv .2) (ap (λ (k : ℕ). not (eqb k 0)) (c .latest-allowed .ensures)),
     )
 
-same-length : tie.Need-same-length Inv-loop μ-loop
-same-length c = same-size (c .before)
-
 returns : tie.Need-returns Inv-loop μ-loop
 unfolding hasMembers pastsIn
 returns c =
@@ -72,5 +66,5 @@ returns c =
 pub find-members-spec : {M : Type 1} → statement M
 find-members-spec =
     tie.close
-    (tie.spec Inv-loop μ-loop loop-holds latest-allowed-requires cast-pasts (λ c. search needs) slice-write-pasts (λ c. search needs) (λ c. search needs) loop-again
-    same-length returns)
+    (tie.spec Inv-loop μ-loop (λ c. (search needs, below-none _ _, all-zero _)) latest-allowed-requires cast-pasts (λ c. search needs) slice-write-pasts
+    (λ c. search needs) (λ c. search needs) loop-again (λ c. same-size (c .before)) returns)

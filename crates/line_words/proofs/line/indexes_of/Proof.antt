@@ -16,9 +16,6 @@ Inv-loop w n pasts indexes₀ p₀ indexes p = (p ≤ n) × (indexes ≡ setBelo
 abbrev μ-loop : tie.MeasureT-loop
 μ-loop w n pasts indexes₀ p₀ indexes p = n - p
 
-loop-holds : tie.Need-loop-holds Inv-loop μ-loop
-loop-holds c = (search needs, below-none _ _)
-
 index-in-requires : tie.Need-index-in-requires Inv-loop μ-loop
 index-in-requires c κs =
     let i = c .before in
@@ -43,7 +40,7 @@ returns c =
 pub indexes-of-spec : {M : Type 1} → statement M
 indexes-of-spec =
     tie.close
-    (tie.spec Inv-loop μ-loop loop-holds (λ c. search needs)
+    (tie.spec Inv-loop μ-loop (λ c. (search needs, below-none _ _)) (λ c. search needs)
     (λ c. let i = c .before in omega (arith, i .loop-test .taken, i .before .before .before .before .pre .5 .0))
-    (λ c. let small = c .shared-slice-known3 .given (c .before .before .loop .p) in search (needs, small)) index-in-requires (λ c. search needs) (λ c. search needs)
-    (λ c. search needs) (λ c. search needs) loop-again returns)
+    (λ c. let small = c .shared-slice-known3 .given (c .before .before .loop .p) in search (needs, small)) index-in-requires (λ c. search needs)
+    (λ c. search needs) (λ c. search needs) (λ c. search needs) loop-again returns)

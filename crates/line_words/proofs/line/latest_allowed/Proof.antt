@@ -12,16 +12,13 @@ tested : (c : tie.After-is-within) → let a = c .before .before .before .before
 unfolding isWithin
 tested c = c .is-within .ensures ∙ ap (isWithin (c .before .before .before .before .args .limits)) (c .before .vector-at .ensures)
 
-returns : tie.Need-returns
-unfolding pastLatest
-returns c = rw (sym (tested (c .before)) ∙ c .if1 .taken)
-
 returns-2 : tie.Need-returns-2
 unfolding pastLatest
 returns-2 c = rw (sym (tested (c .before .before)) ∙ c .before .if1 .left) (c .latest-kept .ensures)
 
 pub latest-allowed-spec : {M : Type 1} → statement M
+unfolding pastLatest
 latest-allowed-spec =
     tie.close
     (tie.spec (λ c. search needs) (λ c. search needs) (λ c. search needs) (λ c. search needs) (λ c. search needs) (λ c. search needs) (λ c κs. search needs)
-    (λ c κs. search needs) (λ c. search needs) returns (λ c κs. search needs) returns-2)
+    (λ c κs. search needs) (λ c. search needs) (λ c. rw (sym (tested (c .before)) ∙ c .if1 .taken)) (λ c κs. search needs) returns-2)

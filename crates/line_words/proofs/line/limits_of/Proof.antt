@@ -21,9 +21,6 @@ Inv-loop w n failed limits₀ left₀ f₀ limits left f = (f ≤ n) × (left �
 abbrev μ-loop : tie.MeasureT-loop
 μ-loop w n failed limits₀ left₀ f₀ limits left f = n - f
 
-loop-holds : tie.Need-loop-holds Inv-loop μ-loop
-loop-holds c = (search needs, bits-all _, below-none _ _)
-
 limit-of-requires : tie.Need-limit-of-requires Inv-loop μ-loop
 limit-of-requires c κs =
     let i = c .before .before in
@@ -55,5 +52,5 @@ returns c =
 pub limits-of-spec : {M : Type 1} → statement M
 limits-of-spec =
     tie.close
-    (tie.spec Inv-loop μ-loop loop-holds (λ c. search needs) (λ c. search needs) (λ c. search needs) (λ c. search needs) (λ c. search needs) (λ c κs. search needs)
-    limit-of-requires (λ c. search needs) (λ c. search needs) (λ c. search needs) (λ c. search needs) loop-again returns)
+    (tie.spec Inv-loop μ-loop (λ c. (search needs, bits-all _, below-none _ _)) (λ c. search needs) (λ c. search needs) (λ c. search needs) (λ c. search needs)
+    (λ c. search needs) (λ c κs. search needs) limit-of-requires (λ c. search needs) (λ c. search needs) (λ c. search needs) (λ c. search needs) loop-again returns)

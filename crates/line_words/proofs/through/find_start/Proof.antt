@@ -32,9 +32,6 @@ not-here : (w : List ℕ) (p i k : ℕ) → eqb (word w (indexAt p k) - 1) i ≡
 unfolding startOf
 not-here w p i k e = rw (add-one k, e)
 
-loop-holds : tie.Need-loop-holds Inv-loop μ-loop
-loop-holds c = (search needs, nowhere _ _ _)
-
 is-index-requires : tie.Need-is-index-requires Inv-loop μ-loop
 is-index-requires c κs =
     let i = c .before in
@@ -60,6 +57,6 @@ returns c =
 pub find-start-spec : {M : Type 1} → statement M
 find-start-spec =
     tie.close
-    (tie.spec Inv-loop μ-loop (λ c. search needs) (λ c. search needs) (λ c. search needs) (λ c. search needs) loop-holds (λ c. search needs) (λ c. search needs)
-    (λ c. search needs) (λ c. search needs) (λ c. search needs) is-index-requires (λ c. search needs) (λ c. search needs) (λ c. search needs) (λ c. search needs)
-    (λ c. search needs) (λ c. search needs) loop-again returns)
+    (tie.spec Inv-loop μ-loop (λ c. search needs) (λ c. search needs) (λ c. search needs) (λ c. search needs) (λ c. (search needs, nowhere _ _ _))
+    (λ c. search needs) (λ c. search needs) (λ c. search needs) (λ c. search needs) (λ c. search needs) is-index-requires (λ c. search needs) (λ c. search needs)
+    (λ c. search needs) (λ c. search needs) (λ c. search needs) (λ c. search needs) loop-again returns)

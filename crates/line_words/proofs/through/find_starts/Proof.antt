@@ -22,9 +22,6 @@ Inv-loop w named m starts₀ all₀ k₀ starts all k =
 abbrev μ-loop : tie.MeasureT-loop
 μ-loop w named m starts₀ all₀ k₀ starts all k = m - k
 
-loop-holds : tie.Need-loop-holds Inv-loop μ-loop
-loop-holds c = (search needs, below-none _ _, all-zero _)
-
 cast-find-start : tie.Need-cast-find-start Inv-loop μ-loop
 cast-find-start c =
     let i = c .before in
@@ -70,6 +67,6 @@ returns c =
 pub find-starts-spec : {M : Type 1} → statement M
 find-starts-spec =
     tie.close
-    (tie.spec Inv-loop μ-loop loop-holds (λ c. search needs) (λ c. search needs) (λ c. search needs) cast-find-start (λ c. search needs) (λ c. search needs)
-    (λ c. search needs) (λ c. search needs) find-start-requires cast-starts (λ c. search needs) (λ c. search needs) (λ c. search needs) (λ c. search needs) loop-again
-    returns)
+    (tie.spec Inv-loop μ-loop (λ c. (search needs, below-none _ _, all-zero _)) (λ c. search needs) (λ c. search needs) (λ c. search needs) cast-find-start
+    (λ c. search needs) (λ c. search needs) (λ c. search needs) (λ c. search needs) find-start-requires cast-starts (λ c. search needs) (λ c. search needs)
+    (λ c. search needs) (λ c. search needs) loop-again returns)

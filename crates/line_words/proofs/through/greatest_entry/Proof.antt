@@ -32,9 +32,6 @@ more : (w starts : List ℕ) (p k g : ℕ) → g ≡ max (greatestIn w starts p 
 unfolding greatestIn
 more w starts p k g e = rw (add-one k) e
 
-loop-holds : tie.Need-loop-holds Inv-loop μ-loop
-loop-holds c = (search needs, nothing _ _ _)
-
 cast-interval-of : tie.Need-cast-interval-of Inv-loop μ-loop
 cast-interval-of c = let st = c .before .before .before in omega (arith, st .pre .3 (c .before .loop .k) (c .loop-test .taken))
 
@@ -66,5 +63,5 @@ returns c = let e : c .before .loop .k ≡ c .before .before .before .args .m = 
 pub greatest-entry-spec : {M : Type 1} → statement M
 greatest-entry-spec =
     tie.close
-    (tie.spec Inv-loop μ-loop loop-holds (λ c. search needs) (λ c. search needs) cast-interval-of add-interval-of mul-interval-of-2 shared-slice-read-interval-of
-    (λ c κs. search needs) (λ c. search needs) (λ c. search needs) loop-again returns)
+    (tie.spec Inv-loop μ-loop (λ c. (search needs, nothing _ _ _)) (λ c. search needs) (λ c. search needs) cast-interval-of add-interval-of mul-interval-of-2
+    shared-slice-read-interval-of (λ c κs. search needs) (λ c. search needs) (λ c. search needs) loop-again returns)

@@ -24,9 +24,6 @@ Inv-loop w p index m starts any₀ k₀ any k = (k ≤ m) × (any ≡ anyBelow k
 abbrev μ-loop : tie.MeasureT-loop
 μ-loop w p index m starts any₀ k₀ any k = m - k
 
-loop-holds : tie.Need-loop-holds Inv-loop μ-loop
-loop-holds c = (search needs, any-zero _)
-
 cast-interval-of : tie.Need-cast-interval-of Inv-loop μ-loop
 cast-interval-of c = let st = c .before .before .before in omega (arith, st .pre .3 (c .before .loop .k) (c .loop-test .taken))
 
@@ -56,5 +53,5 @@ returns c = let e : c .before .loop .k ≡ c .before .before .before .args .m = 
 pub is-before-some-spec : {M : Type 1} → statement M
 is-before-some-spec =
     tie.close
-    (tie.spec Inv-loop μ-loop loop-holds (λ c. search needs) (λ c. search needs) cast-interval-of add-interval-of mul-interval-of-2 shared-slice-read-interval-of
-    (λ c κs. search needs) (λ c. search needs) (λ c. search needs) (λ c. search needs) loop-again returns)
+    (tie.spec Inv-loop μ-loop (λ c. (search needs, any-zero _)) (λ c. search needs) (λ c. search needs) cast-interval-of add-interval-of mul-interval-of-2
+    shared-slice-read-interval-of (λ c κs. search needs) (λ c. search needs) (λ c. search needs) (λ c. search needs) loop-again returns)

@@ -17,9 +17,6 @@ Inv-loop w named starts m any₀ k₀ any k = (k ≤ m) × (any ≡ anyBelow k (
 abbrev μ-loop : tie.MeasureT-loop
 μ-loop w named starts m any₀ k₀ any k = m - k
 
-loop-holds : tie.Need-loop-holds Inv-loop μ-loop
-loop-holds c = (search needs, any-zero _)
-
 cast-is-before-some : tie.Need-cast-is-before-some Inv-loop μ-loop
 cast-is-before-some c =
     let i = c .before in
@@ -45,5 +42,5 @@ returns c = let e : c .before .loop .k ≡ c .before .before .before .before .ar
 pub is-ordered-spec : {M : Type 1} → statement M
 is-ordered-spec =
     tie.close
-    (tie.spec Inv-loop μ-loop loop-holds (λ c. search needs) (λ c. search needs) (λ c. search needs) cast-is-before-some (λ c. search needs) (λ c. search needs)
-    (λ c. search needs) (λ c. search needs) is-before-some-requires (λ c. search needs) (λ c. search needs) loop-again returns)
+    (tie.spec Inv-loop μ-loop (λ c. (search needs, any-zero _)) (λ c. search needs) (λ c. search needs) (λ c. search needs) cast-is-before-some (λ c. search needs)
+    (λ c. search needs) (λ c. search needs) (λ c. search needs) is-before-some-requires (λ c. search needs) (λ c. search needs) loop-again returns)

@@ -5,14 +5,8 @@ use Rattle.line_words.specs.Through.{pairCount}
 use Rattle.line_words.proofs.through.pair_count.Statement.{statement}
 use Rattle.line_words.proofs.through.pair_count.Tie as tie
 
-returns : tie.Need-returns
-unfolding pairCount
-returns c = rw (eq-eqb (c .before .args .length % 2) 1 (c .if1 .taken))
-
-returns-2 : tie.Need-returns-2
-unfolding pairCount
-returns-2 c = rw (ne-eqb (c .before .args .length % 2) 1 (c .if1 .left))
-
 pub pair-count-spec : {M : Type 1} → statement M
+unfolding pairCount
 pair-count-spec =
-    tie.close (tie.spec returns returns-2)
+    tie.close
+    (tie.spec (λ c. rw (eq-eqb (c .before .args .length % 2) 1 (c .if1 .taken))) (λ c. rw (ne-eqb (c .before .args .length % 2) 1 (c .if1 .left))))

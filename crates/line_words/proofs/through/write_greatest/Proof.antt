@@ -17,9 +17,6 @@ Inv-loop w starts m n line₀ p₀ line p = (p ≤ n) × (length line ≡ length
 abbrev μ-loop : tie.MeasureT-loop
 μ-loop w starts m n line₀ p₀ line p = n - p
 
-loop-holds : tie.Need-loop-holds Inv-loop μ-loop
-loop-holds c = (search needs, refl, below-none _ _)
-
 greatest-entry-requires : tie.Need-greatest-entry-requires Inv-loop μ-loop
 greatest-entry-requires c κs =
     let st = c .before .before .before .before in
@@ -44,5 +41,5 @@ returns c =
 pub write-greatest-spec : {M : Type 1} → statement M
 write-greatest-spec =
     tie.close
-    (tie.spec Inv-loop μ-loop loop-holds greatest-entry-requires (λ c. search needs) (λ c. search needs) (λ c. search needs) (λ c. search needs) loop-again
-    (λ c. search needs) returns)
+    (tie.spec Inv-loop μ-loop (λ c. (search needs, refl, below-none _ _)) greatest-entry-requires (λ c. search needs) (λ c. search needs) (λ c. search needs)
+    (λ c. search needs) loop-again (λ c. search needs) returns)

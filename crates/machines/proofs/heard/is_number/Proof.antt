@@ -5,22 +5,9 @@ use Rattle.machines.proofs.Hearing.{number-number, number-bytes, number
 use Rattle.machines.proofs.heard.is_number.Statement.{statement}
 use Rattle.machines.proofs.heard.is_number.Tie as tie
 
-returns : tie.Need-returns
-returns c = number-number _ _ _ (c .before .answer .given .1)
-
-returns-2 : tie.Need-returns-2
-returns-2 c = number-bytes _ _ _ (c .enum-told .given .1)
-
-returns-3 : tie.Need-returns-3
-returns-3 c = number-end _ _ (c .enum-told2 .given .1)
-
-returns-4 : tie.Need-returns-4
-returns-4 c = number-done _ _ (c .enum-told3 .given .1)
-
-returns-5 : tie.Need-returns-5
-returns-5 c = number-failed _ _ (c .enum-told4 .given .1)
-
 pub is-number-spec : {M : Type 1} → statement M
 is-number-spec =
     tie.close
-    (tie.spec (λ c. search needs) (λ c. search needs) (λ c. search needs) (λ c. search needs) (λ c. search needs) returns returns-2 returns-3 returns-4 returns-5)
+    (tie.spec (λ c. search needs) (λ c. search needs) (λ c. search needs) (λ c. search needs) (λ c. search needs)
+    (λ c. number-number _ _ _ (c .before .answer .given .1)) (λ c. number-bytes _ _ _ (c .enum-told .given .1)) (λ c. number-end _ _ (c .enum-told2 .given .1))
+    (λ c. number-done _ _ (c .enum-told3 .given .1)) (λ c. number-failed _ _ (c .enum-told4 .given .1)))

@@ -11,23 +11,12 @@ returns c = read-few _ _ _ (c .before .before .answer .given .1) (c .if1 .taken)
 returns-2 : tie.Need-returns-2
 returns-2 c = read-many _ _ _ (c .before .before .before .answer .given .1) (c .if2 .taken)
 
-returns-3 : tie.Need-returns-3
-returns-3 c = read-number _ _ _ (c .enum-told .given .1)
-
 returns-4 : tie.Need-returns-4
 returns-4 c = read-some _ _ _ (c .before .before .before .answer .given .1) (c .before .if1 .left) (c .if2 .left)
-
-returns-5 : tie.Need-returns-5
-returns-5 c = read-end _ _ (c .enum-told2 .given .1)
-
-returns-6 : tie.Need-returns-6
-returns-6 c = read-done _ _ (c .enum-told3 .given .1)
-
-returns-7 : tie.Need-returns-7
-returns-7 c = read-failed _ _ (c .enum-told4 .given .1)
 
 pub read-spec : {M : Type 1} → statement M
 read-spec =
     tie.close
-    (tie.spec (λ c. search needs) (λ c. search needs) returns returns-2 (λ c. search needs) (λ c. search needs) (λ c. search needs) returns-3 returns-4 returns-5
-    returns-6 returns-7)
+    (tie.spec (λ c. search needs) (λ c. search needs) returns returns-2 (λ c. search needs) (λ c. search needs) (λ c. search needs)
+    (λ c. read-number _ _ _ (c .enum-told .given .1)) returns-4 (λ c. read-end _ _ (c .enum-told2 .given .1)) (λ c. read-done _ _ (c .enum-told3 .given .1))
+    (λ c. read-failed _ _ (c .enum-told4 .given .1)))

@@ -8,23 +8,12 @@ use Rattle.machines.proofs.heard.word.Tie as tie
 returns : tie.Need-returns
 returns c = word-many _ _ _ (c .before .before .answer .given .1) (c .if1 .taken)
 
-returns-2 : tie.Need-returns-2
-returns-2 c = word-number _ _ _ (c .enum-told .given .1)
-
 returns-3 : tie.Need-returns-3
 returns-3 c = word-some _ _ _ (c .before .before .answer .given .1) (c .if1 .left)
-
-returns-4 : tie.Need-returns-4
-returns-4 c = word-end _ _ (c .enum-told2 .given .1)
-
-returns-5 : tie.Need-returns-5
-returns-5 c = word-done _ _ (c .enum-told3 .given .1)
-
-returns-6 : tie.Need-returns-6
-returns-6 c = word-failed _ _ (c .enum-told4 .given .1)
 
 pub word-spec : {M : Type 1} → statement M
 word-spec =
     tie.close
-    (tie.spec (λ c. search needs) (λ c. search needs) returns (λ c. search needs) (λ c. search needs) (λ c. search needs) returns-2 returns-3 returns-4 returns-5
-    returns-6)
+    (tie.spec (λ c. search needs) (λ c. search needs) returns (λ c. search needs) (λ c. search needs) (λ c. search needs)
+    (λ c. word-number _ _ _ (c .enum-told .given .1)) returns-3 (λ c. word-end _ _ (c .enum-told2 .given .1)) (λ c. word-done _ _ (c .enum-told3 .given .1))
+    (λ c. word-failed _ _ (c .enum-told4 .given .1)))

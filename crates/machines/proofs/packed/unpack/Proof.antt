@@ -5,10 +5,6 @@ use Rattle.machines.specs.Packed.{unpacked}
 use Rattle.machines.proofs.packed.unpack.Statement.{statement}
 use Rattle.machines.proofs.packed.unpack.Tie as tie
 
-returns : tie.Need-returns
-unfolding unpacked
-returns c = rw (eq-eqb _ _ (c .if1 .taken))
-
 returns-2 : tie.Need-returns-2
 unfolding unpacked
 returns-2 c = rw (ne-eqb _ _ (c .before .if1 .left), eq-eqb _ _ (c .if2 .taken))
@@ -26,4 +22,5 @@ unfolding unpacked
 returns-5 c = rw (ne-eqb _ _ (c .before .before .before .if1 .left), ne-eqb _ _ (c .before .before .if2 .left), ne-eqb _ _ (c .before .if3 .left), ne-eqb _ _ (c .if4 .left))
 
 pub unpack-spec : {M : Type 1} → statement M
-unpack-spec = tie.close (tie.spec returns returns-2 returns-3 returns-4 returns-5)
+unfolding unpacked
+unpack-spec = tie.close (tie.spec (λ c. rw (eq-eqb _ _ (c .if1 .taken))) returns-2 returns-3 returns-4 returns-5)

@@ -4,13 +4,6 @@ use Rattle.whole_runs.specs.Listing.{goesOn}
 use Rattle.output.proofs.line.goes_on.Statement.{statement}
 use Rattle.output.proofs.line.goes_on.Tie as tie
 
-returns : tie.Need-returns
-unfolding goesOn
-returns c = rw (c .if1 .taken)
-
-returns-2 : tie.Need-returns-2
-unfolding goesOn
-returns-2 c = rw (c .if1 .left)
-
 pub goes-on-spec : {M : Type 1} → statement M
-goes-on-spec = tie.close (tie.spec returns returns-2)
+unfolding goesOn
+goes-on-spec = tie.close (tie.spec (λ c. rw (c .if1 .taken)) (λ c. rw (c .if1 .left)))

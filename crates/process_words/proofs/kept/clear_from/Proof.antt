@@ -15,9 +15,6 @@ Inv-loop w₀ p from to k₀ w k = (from ≤ k) × (k ≤ to) × (length w ≡ l
 abbrev μ-loop : tie.MeasureT-loop
 μ-loop w₀ p from to k₀ w k = to - k
 
-loop-holds : tie.Need-loop-holds Inv-loop μ-loop
-loop-holds c = (search needs, search needs, refl, cleared-none _ _ _)
-
 clear-requires : tie.Need-clear-requires Inv-loop μ-loop
 clear-requires c κs =
     let l = c .before .before .loop in
@@ -35,9 +32,6 @@ loop-again c =
       cleared-turn (s .args .w .now) (s .args .p) (s .args .from) (l .k) (l .w) _ (s .pre .0) (s .pre .1) (l .inv .0) (omega (arith, s .pre .3)) (l .inv .3) (k .clear .ensures),
     )
 
-same-length : tie.Need-same-length Inv-loop μ-loop
-same-length c = c .before .loop .inv .2
-
 returns : tie.Need-returns Inv-loop μ-loop
 returns c =
     let l = c .before .loop in
@@ -46,4 +40,6 @@ returns c =
 
 pub clear-from-spec : {M : Type 1} → statement M
 clear-from-spec =
-    tie.close (tie.spec Inv-loop μ-loop loop-holds clear-requires (λ c. search needs) (λ c. search needs) loop-again same-length returns)
+    tie.close
+    (tie.spec Inv-loop μ-loop (λ c. (search needs, search needs, refl, cleared-none _ _ _)) clear-requires (λ c. search needs) (λ c. search needs) loop-again
+    (λ c. c .before .loop .inv .2) returns)

@@ -30,9 +30,6 @@ Inv-loop w p from held pins k₀ k = (from ≤ k) × (k ≤ held) × AllNamed w 
 abbrev μ-loop : tie.MeasureT-loop
 μ-loop w p from held pins k₀ k = held - k
 
-loop-holds : tie.Need-loop-holds Inv-loop μ-loop
-loop-holds c = (search needs, search needs, c .before .pre .5)
-
 is-named-requires : tie.Need-is-named-requires Inv-loop μ-loop
 is-named-requires c κs = used-at (c .before .before .before .before .args .w .now) (c .before .before .before .before .args .p) _ (c .before .before .before .before .pre .4) (c .before .before .loop .k) (omega arith)
 
@@ -48,11 +45,9 @@ loop-again c =
       one-more (s .args .w .now) (s .args .p) (pinRow (s .args .pins)) (l .k) (l .inv .2) (named-is (s .args .w .now) (s .args .p) (l .k) (pinRow (s .args .pins)) ∙ sym (c .before .is-named .ensures) ∙ not-false (c .before .is-named .result) (c .if1 .left)),
     )
 
-returns-2 : tie.Need-returns-2 Inv-loop μ-loop
-returns-2 c = let l = c .before .loop in (l .inv .0, l .inv .1, l .inv .2)
-
 pub first-unnamed-spec : {M : Type 1} → statement M
 first-unnamed-spec =
     tie.close
-    (tie.spec Inv-loop μ-loop loop-holds (λ c. search needs) (λ c. search needs) (λ c. search needs) (λ c. search needs) (λ c. search needs) is-named-requires returns
-    (λ c. search needs) (λ c. search needs) loop-again returns-2)
+    (tie.spec Inv-loop μ-loop (λ c. (search needs, search needs, c .before .pre .5)) (λ c. search needs) (λ c. search needs) (λ c. search needs)
+    (λ c. search needs) (λ c. search needs) is-named-requires returns (λ c. search needs) (λ c. search needs) loop-again
+    (λ c. let l = c .before .loop in (l .inv .0, l .inv .1, l .inv .2)))

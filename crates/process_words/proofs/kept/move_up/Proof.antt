@@ -8,15 +8,6 @@ use borrow.Author.Needs.{needs}
 use Rattle.process_words.proofs.kept.move_up.Statement.{statement}
 use Rattle.process_words.proofs.kept.move_up.Tie as tie
 
-slice-write-w-2 : tie.Need-slice-write-w-2
-slice-write-w-2 c = simp length-set (omega arith)
-
-put-row-requires : tie.Need-put-row-requires
-put-row-requires c κs = simp length-set (omega arith)
-
-same-length : tie.Need-same-length
-same-length c = c .before .before .put-row .kept .0 ∙ simp length-set
-
 returns : tie.Need-returns
 unfolding movedUp
 returns c = c .before .before .put-row .ensures ∙ rw (c .before .before .before .before .row-at .ensures) (simp set-is-put)
@@ -25,6 +16,7 @@ pub move-up-spec : {M : Type 1} → statement M
 move-up-spec =
     tie.close
     (tie.spec (λ c. search needs) (λ c. search needs) (λ c. search needs) (λ c. search needs) (λ c. search needs) (λ c. search needs) (λ c. search needs)
-    (λ c. search needs) (λ c. search needs) (λ c. search needs) (λ c. search needs) (λ c. search needs) (λ c. search needs) (λ c. search needs) (λ c κs. search needs)
-    (λ c. search needs) (λ c. search needs) (λ c. search needs) (λ c. search needs) (λ c. search needs) (λ c. search needs) (λ c. search needs) (λ c. search needs)
-    (λ c. search needs) slice-write-w-2 (λ c. search needs) (λ c. search needs) (λ c. search needs) (λ c. search needs) put-row-requires same-length returns)
+    (λ c. search needs) (λ c. search needs) (λ c. search needs) (λ c. search needs) (λ c. search needs) (λ c. search needs) (λ c. search needs)
+    (λ c κs. search needs) (λ c. search needs) (λ c. search needs) (λ c. search needs) (λ c. search needs) (λ c. search needs) (λ c. search needs)
+    (λ c. search needs) (λ c. search needs) (λ c. search needs) (λ c. simp length-set (omega arith)) (λ c. search needs) (λ c. search needs) (λ c. search needs)
+    (λ c. search needs) (λ c κs. simp length-set (omega arith)) (λ c. c .before .before .put-row .kept .0 ∙ simp length-set) returns)

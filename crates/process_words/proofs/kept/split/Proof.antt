@@ -58,9 +58,6 @@ loop-holds c =
       rw none (omega arith),
     )
 
-is-named-requires : tie.Need-is-named-requires Inv-loop μ-loop
-is-named-requires c κs = there (c .before .before) (omega arith)
-
 move-up-requires : tie.Need-move-up-requires Inv-loop μ-loop
 move-up-requires c κs =
     let l = c .before .before .before .before .before .loop in
@@ -115,12 +112,6 @@ loop-again c =
       omega (arith, t .8, l .inv .6, more),
     ))
 
-same-length : tie.Need-same-length Inv-loop μ-loop
-same-length c = c .before .loop .inv .2
-
-same-length-2 : tie.Need-same-length-2 Inv-loop μ-loop
-same-length-2 c = c .before .loop .inv .3
-
 returns : tie.Need-returns Inv-loop μ-loop
 returns c =
     let l = c .before .loop in
@@ -130,6 +121,6 @@ returns c =
 pub split-spec : {M : Type 1} → statement M
 split-spec =
     tie.close
-    (tie.spec Inv-loop μ-loop loop-holds (λ c. search needs) (λ c. search needs) (λ c. search needs) (λ c. search needs) (λ c. search needs) is-named-requires
-    move-up-requires (λ c. search needs) (λ c. search needs) sub-write-pair index-of-requires write-pair-requires (λ c. search needs) (λ c. search needs) loop-again
-    same-length same-length-2 returns)
+    (tie.spec Inv-loop μ-loop loop-holds (λ c. search needs) (λ c. search needs) (λ c. search needs) (λ c. search needs) (λ c. search needs)
+    (λ c κs. there (c .before .before) (omega arith)) move-up-requires (λ c. search needs) (λ c. search needs) sub-write-pair index-of-requires write-pair-requires
+    (λ c. search needs) (λ c. search needs) loop-again (λ c. c .before .loop .inv .2) (λ c. c .before .loop .inv .3) returns)

@@ -11,15 +11,6 @@ use borrow.Author.Needs.{needs}
 use Rattle.process_words.proofs.kept.store.Statement.{statement}
 use Rattle.process_words.proofs.kept.store.Tie as tie
 
-slice-write-w-2 : tie.Need-slice-write-w-2
-slice-write-w-2 c = simp length-set (omega arith)
-
-put-vector-requires : tie.Need-put-vector-requires
-put-vector-requires c κs = simp length-set (omega arith)
-
-same-length : tie.Need-same-length
-same-length c = c .before .before .put-vector .kept .0 ∙ simp length-set
-
 returns : tie.Need-returns
 returns c = c .before .before .put-vector .ensures ∙ ap (λ (x : ℕ). puts (set (set (c .before .before .before .before .before .before .args .w .now) (indexAt (c .before .before .before .before .before .before .args .p) (c .before .before .before .before .before .before .args .k)) x) (causeAt (c .before .before .before .before .before .before .args .p) (c .before .before .before .before .before .before .args .k)) (c .before .before .before .before .before .before .args .cause)) (vectorPut (storedAt (c .before .before .before .before .before .before .args .p) (c .before .before .before .before .before .before .args .k)) (c .before .before .before .before .before .before .args .vector) ∷ [])) (c .before .before .before .before .pin-word .ensures .0) ∙ simp set-is-put
 
@@ -27,5 +18,5 @@ pub store-spec : {M : Type 1} → statement M
 store-spec =
     tie.close
     (tie.spec (λ c κs. search needs) (λ c. search needs) (λ c. search needs) (λ c. search needs) (λ c. search needs) (λ c. search needs) (λ c. search needs)
-    (λ c. search needs) (λ c. search needs) (λ c. search needs) slice-write-w-2 (λ c. search needs) (λ c. search needs) (λ c. search needs) (λ c. search needs)
-    put-vector-requires same-length returns)
+    (λ c. search needs) (λ c. search needs) (λ c. search needs) (λ c. simp length-set (omega arith)) (λ c. search needs) (λ c. search needs) (λ c. search needs)
+    (λ c. search needs) (λ c κs. simp length-set (omega arith)) (λ c. c .before .before .put-vector .kept .0 ∙ simp length-set) returns)

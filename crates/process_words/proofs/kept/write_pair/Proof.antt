@@ -5,11 +5,8 @@ use borrow.Author.Needs.{needs}
 use Rattle.process_words.proofs.kept.write_pair.Statement.{statement}
 use Rattle.process_words.proofs.kept.write_pair.Tie as tie
 
-slice-write-deleted-2 : tie.Need-slice-write-deleted-2
-slice-write-deleted-2 c = simp length-set (omega arith)
-
 pub write-pair-spec : {M : Type 1} → statement M
 write-pair-spec =
     tie.close
     (tie.spec (λ c. search needs) (λ c. search needs) (λ c. search needs) (λ c. search needs) (λ c. search needs) (λ c. search needs) (λ c. search needs)
-    slice-write-deleted-2 (λ c. search needs) (λ c. search needs))
+    (λ c. simp length-set (omega arith)) (λ c. search needs) (λ c. search needs))

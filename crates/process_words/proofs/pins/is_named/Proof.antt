@@ -24,9 +24,6 @@ Inv-loop word pins any₀ f₀ any f = (f ≤ 16) × (any ≡ anyBelow f (λ k. 
 abbrev μ-loop : tie.MeasureT-loop
 μ-loop word pins any₀ f₀ any f = 16 - f
 
-loop-holds : tie.Need-loop-holds Inv-loop μ-loop
-loop-holds c = (search needs, any-zero _)
-
 loop-again : tie.Need-loop-again Inv-loop μ-loop
 loop-again c = (search needs, turn (λ k. eqb (getD (c .before .before .args .t1) k 0) (c .before .before .args .word)) (c .before .loop .f) (c .before .loop .any) (c .before .loop .inv .1))
 
@@ -37,4 +34,5 @@ returns c =
 
 pub is-named-spec : {M : Type 1} → statement M
 is-named-spec =
-    tie.close (tie.spec Inv-loop μ-loop loop-holds (λ c. search needs) (λ c. search needs) (λ c. search needs) (λ c. search needs) loop-again returns)
+    tie.close
+    (tie.spec Inv-loop μ-loop (λ c. (search needs, any-zero _)) (λ c. search needs) (λ c. search needs) (λ c. search needs) (λ c. search needs) loop-again returns)

@@ -17,9 +17,6 @@ Inv-loop moves new pins then₀ f₀ then f = (f ≤ 16) × (then ≡ setBelow f
 abbrev μ-loop : tie.MeasureT-loop
 μ-loop moves new pins then₀ f₀ then f = 16 - f
 
-loop-holds : tie.Need-loop-holds Inv-loop μ-loop
-loop-holds c = (search needs, below-none _ _)
-
 loop-again : tie.Need-loop-again Inv-loop μ-loop
 loop-again c =
     let a = c .before .before .before .args in
@@ -35,5 +32,5 @@ returns c =
 pub move-pins-spec : {M : Type 1} → statement M
 move-pins-spec =
     tie.close
-    (tie.spec Inv-loop μ-loop loop-holds (λ c. search needs) (λ c. search needs) (λ c κs. search needs) (λ c. search needs) (λ c. search needs) (λ c. search needs)
-    (λ c. search needs) loop-again returns)
+    (tie.spec Inv-loop μ-loop (λ c. (search needs, below-none _ _)) (λ c. search needs) (λ c. search needs) (λ c κs. search needs) (λ c. search needs)
+    (λ c. search needs) (λ c. search needs) (λ c. search needs) loop-again returns)

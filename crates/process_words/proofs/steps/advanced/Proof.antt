@@ -35,9 +35,6 @@ Inv-loop i v then₀ f₀ then f = (f ≤ 16) × (then ≡ setBelow f (entry-of 
 abbrev μ-loop : tie.MeasureT-loop
 μ-loop i v then₀ f₀ then f = 16 - f
 
-loop-holds : tie.Need-loop-holds Inv-loop μ-loop
-loop-holds c = (search needs, below-none _ _)
-
 entry-then-requires : tie.Need-entry-then-requires Inv-loop μ-loop
 entry-then-requires c κs = λ e. let same : c .before .before .loop .f ≡ c .before .before .before .args .i = eqb-true (c .before .before .loop .f) (c .before .before .before .args .i) e in rw same (c .before .before .before .pre .1)
 
@@ -58,5 +55,5 @@ returns c =
 pub advanced-spec : {M : Type 1} → statement M
 advanced-spec =
     tie.close
-    (tie.spec Inv-loop μ-loop loop-holds (λ c. search needs) (λ c. search needs) entry-then-requires (λ c. search needs) (λ c. search needs) (λ c. search needs)
-    (λ c. search needs) loop-again returns)
+    (tie.spec Inv-loop μ-loop (λ c. (search needs, below-none _ _)) (λ c. search needs) (λ c. search needs) entry-then-requires (λ c. search needs)
+    (λ c. search needs) (λ c. search needs) (λ c. search needs) loop-again returns)

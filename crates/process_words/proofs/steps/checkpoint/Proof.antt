@@ -51,15 +51,6 @@ done w h i lt x fresh u e r index is row vector read y g l l′ many m lent =
       (lent ∙ lists w h i lt x long u e r true index basic vector Q part lost l, deletes w h i lt x long u e r true index basic vector Q part lost y g many),
     )
 
-mul-vector-at : tie.Need-mul-vector-at
-mul-vector-at c = let k = known (c .before .before .before) in search needs
-
-add-vector-at : tie.Need-add-vector-at
-add-vector-at c = let k = known (c .before .before .before) in search needs
-
-vector-at-requires : tie.Need-vector-at-requires
-vector-at-requires c κs = let k = known (c .before .before .before) in search needs
-
 mul-row-at : tie.Need-mul-row-at
 mul-row-at c = let k = known (c .before .before .before .before .before) in search needs
 
@@ -144,6 +135,7 @@ returns c =
 pub checkpoint-spec : {M : Type 1} → statement M
 checkpoint-spec =
     tie.close
-    (tie.spec mul-vector-at add-vector-at vector-at-requires mul-row-at add-row-at row-at-requires add-held mul-held slice-read-held cast-held mul-live-index
-    array-copy-out-live-index live-index-requires pin-word-requires taken-pins-requires mul-put-vector add-put-vector advanced-requires put-vector-requires sub-settle
-    settle-requires same-length same-length-2 returns)
+    (tie.spec (λ c. let k = known (c .before .before .before) in search needs) (λ c. let k = known (c .before .before .before) in search needs)
+    (λ c κs. let k = known (c .before .before .before) in search needs) mul-row-at add-row-at row-at-requires add-held mul-held slice-read-held cast-held
+    mul-live-index array-copy-out-live-index live-index-requires pin-word-requires taken-pins-requires mul-put-vector add-put-vector advanced-requires
+    put-vector-requires sub-settle settle-requires same-length same-length-2 returns)

@@ -6,8 +6,5 @@ use Rattle.process_words.proofs.steps.entry_then.Tie as tie
 add-t5 : tie.Need-add-t5
 add-t5 c = let h = c .before .before .pre (c .before .if1 .taken) in search needs
 
-returns : tie.Need-returns
-returns c = rw (c .before .if1 .taken)
-
 pub entry-then-spec : {M : Type 1} → statement M
-entry-then-spec = tie.close (tie.spec add-t5 returns (λ c. search needs))
+entry-then-spec = tie.close (tie.spec add-t5 (λ c. rw (c .before .if1 .taken)) (λ c. search needs))

@@ -4,11 +4,5 @@ use borrow.Author.Needs.{needs}
 use Rattle.process_words.proofs.steps.held_then.Statement.{statement}
 use Rattle.process_words.proofs.steps.held_then.Tie as tie
 
-returns : tie.Need-returns
-returns c = rw (c .if1 .taken)
-
-returns-2 : tie.Need-returns-2
-returns-2 c = rw (c .if1 .left) (omega arith)
-
 pub held-then-spec : {M : Type 1} → statement M
-held-then-spec = tie.close (tie.spec (λ c. search needs) (λ c. search needs) (λ c. search needs) returns returns-2)
+held-then-spec = tie.close (tie.spec (λ c. search needs) (λ c. search needs) (λ c. search needs) (λ c. rw (c .if1 .taken)) (λ c. rw (c .if1 .left) (omega arith)))

@@ -54,15 +54,6 @@ done w h i lt stores carried x fresh u e r index is own own-word row vector read
       (lent ∙ lists w h i lt x long u e r stores index forced vector Q part lost l, deletes w h i lt x long u e r stores index forced vector Q part lost y g many),
     )
 
-mul-vector-at : tie.Need-mul-vector-at
-mul-vector-at c = let k = known (c .before .before .before) in search needs
-
-add-vector-at : tie.Need-add-vector-at
-add-vector-at c = let k = known (c .before .before .before) in search needs
-
-vector-at-requires : tie.Need-vector-at-requires
-vector-at-requires c κs = let k = known (c .before .before .before) in search needs
-
 mul-row-at : tie.Need-mul-row-at
 mul-row-at c = let k = known (c .before .before .before .before .before) in search needs
 
@@ -139,5 +130,6 @@ returns c =
 pub receive-spec : {M : Type 1} → statement M
 receive-spec =
     tie.close
-    (tie.spec mul-vector-at add-vector-at vector-at-requires mul-row-at add-row-at row-at-requires mul-live-index array-copy-out-live-index live-index-requires
-    take-vector-requires mul-own-pin array-read-own-pin own-pin-requires taken-pins-requires settle-requires same-length same-length-2 returns)
+    (tie.spec (λ c. let k = known (c .before .before .before) in search needs) (λ c. let k = known (c .before .before .before) in search needs)
+    (λ c κs. let k = known (c .before .before .before) in search needs) mul-row-at add-row-at row-at-requires mul-live-index array-copy-out-live-index
+    live-index-requires take-vector-requires mul-own-pin array-read-own-pin own-pin-requires taken-pins-requires settle-requires same-length same-length-2 returns)

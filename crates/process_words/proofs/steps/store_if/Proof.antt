@@ -17,12 +17,11 @@ store-requires c κs = let p = c .before .before .before .pre in let q = p .2 (c
 slice-write-w : tie.Need-slice-write-w
 slice-write-w c = omega (arith, c .before .before .store .kept .0, c .before .before .before .before .before .before .pre .0)
 
-same-length : tie.Need-same-length
-same-length c = simp length-set (c .before .before .store .kept .0)
-
 returns : tie.Need-returns
 returns c = rw (c .before .before .before .before .if1 .taken) (set-is-put _ _ _ ∙ ap (λ (u : List ℕ). putFrom u (markAt (c .before .before .before .before .before .before .args .i)) 1 (λ f. 0)) (c .before .before .store .ensures))
 
 pub store-if-spec : {M : Type 1} → statement M
 store-if-spec =
-    tie.close (tie.spec store-requires (λ c. search needs) (λ c. search needs) slice-write-w same-length returns (λ c. search needs))
+    tie.close
+    (tie.spec store-requires (λ c. search needs) (λ c. search needs) slice-write-w (λ c. simp length-set (c .before .before .store .kept .0)) returns
+    (λ c. search needs))

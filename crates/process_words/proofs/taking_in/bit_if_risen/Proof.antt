@@ -13,8 +13,5 @@ returns c =
     let u = c .before .before .before in
     rw (lt-ltb _ _ (c .if1 .taken)) (shl-exact {a = 1} 1 (u .args .f) 16 (omega arith) (omega (arith, u .pre)) ∙ one-mul _)
 
-returns-2 : tie.Need-returns-2
-returns-2 c = rw (le-ltb _ _ (c .if1 .left))
-
 pub bit-if-risen-spec : {M : Type 1} → statement M
-bit-if-risen-spec = tie.close (tie.spec (λ c. search needs) (λ c. search needs) returns returns-2)
+bit-if-risen-spec = tie.close (tie.spec (λ c. search needs) (λ c. search needs) returns (λ c. rw (le-ltb _ _ (c .if1 .left))))

@@ -38,9 +38,6 @@ loop-again c =
       t .ensures .1 .1,
     )
 
-same-length : tie.Need-same-length Inv-loop μ-loop
-same-length c = c .before .loop .inv .1
-
 returns : tie.Need-returns Inv-loop μ-loop
 returns c =
     let l = c .before .loop in
@@ -50,4 +47,5 @@ returns c =
 
 pub take-in-spec : {M : Type 1} → statement M
 take-in-spec =
-    tie.close (tie.spec Inv-loop μ-loop loop-holds take-entry-requires (λ c. search needs) (λ c. search needs) loop-again same-length returns)
+    tie.close
+    (tie.spec Inv-loop μ-loop loop-holds take-entry-requires (λ c. search needs) (λ c. search needs) loop-again (λ c. c .before .loop .inv .1) returns)

@@ -6,13 +6,6 @@ use Rattle.programs.specs.Numbers.{atMost}
 use Rattle.programs.proofs.numbers.clamped.Statement.{statement}
 use Rattle.programs.proofs.numbers.clamped.Tie as tie
 
-returns : tie.Need-returns
-unfolding atMost
-returns c = rw (lt-ltb _ _ (c .if1 .taken))
-
-returns-2 : tie.Need-returns-2
-unfolding atMost
-returns-2 c = rw (le-ltb 4294967295 (c .before .args .x) (search needs))
-
 pub clamped-spec : {M : Type 1} → statement M
-clamped-spec = tie.close (tie.spec (λ c. search needs) returns returns-2)
+unfolding atMost
+clamped-spec = tie.close (tie.spec (λ c. search needs) (λ c. rw (lt-ltb _ _ (c .if1 .taken))) (λ c. rw (le-ltb 4294967295 (c .before .args .x) (search needs))))

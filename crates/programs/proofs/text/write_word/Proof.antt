@@ -23,9 +23,6 @@ same c =
     let a = c .before .args in
     ap length (c .loop .inv .2) ∙ length-sets (now (a .out)) (a .at) (take (c .loop .k) (now (a .word)))
 
-loop-holds : tie.Need-loop-holds Inv-loop μ-loop
-loop-holds c = (omega arith, refl, refl)
-
 slice-write-out : tie.Need-slice-write-out Inv-loop μ-loop
 slice-write-out c = omega (arith, same (c .before .before), c .before .before .before .pre)
 
@@ -34,9 +31,6 @@ loop-again c =
     let a = c .before .before .before .args in
     let l = c .before .before .loop in
     (omega arith, refl, one-copied (now (a .out)) (l .out) (a .at) (l .k) (now (a .word)) (l .inv .2) (omega arith))
-
-same-length : tie.Need-same-length Inv-loop μ-loop
-same-length c = same (c .before)
 
 returns : tie.Need-returns Inv-loop μ-loop
 returns c =
@@ -47,5 +41,5 @@ returns c =
 pub write-word-spec : {M : Type 1} → statement M
 write-word-spec =
     tie.close
-    (tie.spec Inv-loop μ-loop loop-holds (λ c. search needs) (λ c. search needs) slice-write-out (λ c. search needs) (λ c. search needs) loop-again (λ c. search needs)
-    same-length returns)
+    (tie.spec Inv-loop μ-loop (λ c. (omega arith, refl, refl)) (λ c. search needs) (λ c. search needs) slice-write-out (λ c. search needs) (λ c. search needs)
+    loop-again (λ c. search needs) (λ c. same (c .before)) returns)

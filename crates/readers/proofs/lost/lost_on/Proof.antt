@@ -31,11 +31,8 @@ lost-within-requires c κs =
     let st = e .before .before .before in
     (st .pre, n .count-in .ensures, sym (o .is-outside .ensures) ∙ c .before .if2 .left, e .if1 .left)
 
-returns-3 : tie.Need-returns-3
-returns-3 c = c .before .before .lost-within .ensures
-
 pub lost-on-spec : {M : Type 1} → statement M
 lost-on-spec =
     tie.close
-    (tie.spec (λ c. search needs) (λ c κs. search needs) returns (λ c κs. search needs) (λ c κs. search needs) (λ c κs. search needs) returns-2 lost-within-requires
-    (λ c. search needs) returns-3)
+    (tie.spec (λ c. search needs) (λ c κs. search needs) returns (λ c κs. search needs) (λ c κs. search needs) (λ c κs. search needs) returns-2
+    lost-within-requires (λ c. search needs) (λ c. c .before .before .lost-within .ensures))

@@ -7,10 +7,8 @@ use Rattle.whole_runs.proofs.whole.Reached.{refused-number}
 use Rattle.recorder_bytes.proofs.accepted.checkpoint.Statement.{statement}
 use Rattle.recorder_bytes.proofs.accepted.checkpoint.Tie as tie
 
-returns : tie.Need-returns
-unfolding checkpointReport
-returns c = rw (c .enum-told .given .1) (sym (refused-number _))
-
 pub checkpoint-spec : {M : Type 1} → statement M
 unfolding checkpointReport
-checkpoint-spec = tie.close (tie.spec (λ c. search needs) (λ c. search needs) returns (λ c. rw (c .enum-told2 .given .1) refl))
+checkpoint-spec =
+    tie.close
+    (tie.spec (λ c. search needs) (λ c. search needs) (λ c. rw (c .enum-told .given .1) (sym (refused-number _))) (λ c. rw (c .enum-told2 .given .1) refl))

@@ -7,12 +7,9 @@ use Rattle.whole_runs.proofs.whole.Reached.{refused-number}
 use Rattle.recorder_bytes.proofs.accepted.deliver.Statement.{statement}
 use Rattle.recorder_bytes.proofs.accepted.deliver.Tie as tie
 
-returns : tie.Need-returns
-unfolding deliverReport
-returns c = rw (c .enum-told .given .1) (sym (refused-number _))
-
 pub deliver-spec : {M : Type 1} → statement M
 unfolding deliverReport
 deliver-spec =
     tie.close
-    (tie.spec (λ c. search needs) (λ c. search needs) (λ c. search needs) returns (λ c. rw (c .enum-told2 .given .1) refl) (λ c. rw (c .enum-told3 .given .1) refl))
+    (tie.spec (λ c. search needs) (λ c. search needs) (λ c. search needs) (λ c. rw (c .enum-told .given .1) (sym (refused-number _)))
+    (λ c. rw (c .enum-told2 .given .1) refl) (λ c. rw (c .enum-told3 .given .1) refl))

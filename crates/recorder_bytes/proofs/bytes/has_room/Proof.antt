@@ -22,8 +22,5 @@ left k = by-bool (leb 4 k)
 returns : tie.Need-returns
 returns c = let a = c .before .args in past (a .size) (a .place) (c .if1 .taken)
 
-returns-2 : tie.Need-returns-2
-returns-2 c = let a = c .before .args in left (a .size - a .place)
-
 pub has-room-spec : {M : Type 1} → statement M
-has-room-spec = tie.close (tie.spec returns returns-2)
+has-room-spec = tie.close (tie.spec returns (λ c. let a = c .before .args in left (a .size - a .place)))

@@ -28,20 +28,9 @@ four (x ∷ y ∷ z ∷ w ∷ []) l k e = rw (one, two, three)
     three = omega arith
 four (x ∷ y ∷ z ∷ w ∷ v ∷ b) l k e = absurd (omega arith)
 
-slice-write-buffer-2 : tie.Need-slice-write-buffer-2
-slice-write-buffer-2 c = simp length-set (omega arith)
-
-slice-write-buffer-3 : tie.Need-slice-write-buffer-3
-slice-write-buffer-3 c = simp length-set (omega arith)
-
-slice-write-buffer-4 : tie.Need-slice-write-buffer-4
-slice-write-buffer-4 c = simp length-set (omega arith)
-
-returns : tie.Need-returns
-returns c = four (c .args .t3) _ (c .args .place) (search needs)
-
 pub put-spec : {M : Type 1} → statement M
 put-spec =
     tie.close
-    (tie.spec (λ c. search needs) (λ c. search needs) (λ c. search needs) (λ c. search needs) slice-write-buffer-2 (λ c. search needs) (λ c. search needs)
-    slice-write-buffer-3 (λ c. search needs) (λ c. search needs) slice-write-buffer-4 (λ c. search needs) returns)
+    (tie.spec (λ c. search needs) (λ c. search needs) (λ c. search needs) (λ c. search needs) (λ c. simp length-set (omega arith)) (λ c. search needs)
+    (λ c. search needs) (λ c. simp length-set (omega arith)) (λ c. search needs) (λ c. search needs) (λ c. simp length-set (omega arith)) (λ c. search needs)
+    (λ c. four (c .args .t3) _ (c .args .place) (search needs)))

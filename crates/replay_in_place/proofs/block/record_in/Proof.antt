@@ -16,13 +16,10 @@ mul-record-part c =
     let a = c .before .before .before .args in
     omega (arith, leb-true (4 * a .taken + 4) (length (a .block .now)) (sym (c .before .is-left .ensures) ∙ c .if1 .taken))
 
-returns : tie.Need-returns
-unfolding recordIn
-returns c = c .record-part .ensures
-
 returns-2 : tie.Need-returns-2
 unfolding recordIn recordAt isLeft
 returns-2 c = rw (sym (c .before .before .is-left .ensures) ∙ c .before .if1 .left)
 
 pub record-in-spec : {M : Type 1} → statement M
-record-in-spec = tie.close (tie.spec (λ c κs. search needs) mul-record-part (λ c κs. search needs) (λ c. search needs) returns returns-2)
+unfolding recordIn
+record-in-spec = tie.close (tie.spec (λ c κs. search needs) mul-record-part (λ c κs. search needs) (λ c. search needs) (λ c. c .record-part .ensures) returns-2)

@@ -37,9 +37,6 @@ sub-takes-next c = let so-far = c .loop .inv .0 in omega (arith, so-far .fits, s
 takes : (c : tie.Then1 Inv-loop μ-loop) → let a = c .before .before .before .before .before .before .before .before .args in let l = c .before .before .loop in Takes (l .going) (a .done) (a .block .now) (l .taken) (length (a .out .now) - l .written)
 takes c = one-next _ _ _ _ _ _ _ _ _ _ (c .before .before .loop .inv .0) (c .before .takes-next .ensures) (c .if1 .taken)
 
-add-taken : tie.Need-add-taken Inv-loop μ-loop
-add-taken c = omega (arith, takes (c .before .before) .few)
-
 apply-requires : tie.Need-apply-requires Inv-loop μ-loop
 apply-requires c κs = let inv = c .before .before .before .before .before .before .before .loop .inv in (inv .1, inv .2, inv .3, inv .4)
 
@@ -71,9 +68,6 @@ loop-again c =
       leaves-then _ _ _ (l .inv .5) (done .1 .1),
     )
 
-same-length : tie.Need-same-length Inv-loop μ-loop
-same-length c = c .before .before .loop .inv .5 .size
-
 same-length-2 : tie.Need-same-length-2 Inv-loop μ-loop
 same-length-2 c = same-room _ _ _ _ _ _ _ _ _ _ (c .before .before .loop .inv .0)
 
@@ -92,5 +86,6 @@ returns c =
 pub replay-beside-spec : {M : Type 1} → statement M
 replay-beside-spec =
     tie.close
-    (tie.spec Inv-loop μ-loop loop-holds sub-takes-next (λ c κs. search needs) (λ c κs. search needs) (λ c κs. search needs) add-taken apply-requires
-    (λ c κs. search needs) add-print print-requires loop-less loop-again same-length same-length-2 same-length-3 same-length-4 returns)
+    (tie.spec Inv-loop μ-loop loop-holds sub-takes-next (λ c κs. search needs) (λ c κs. search needs) (λ c κs. search needs)
+    (λ c. omega (arith, takes (c .before .before) .few)) apply-requires (λ c κs. search needs) add-print print-requires loop-less loop-again
+    (λ c. c .before .before .loop .inv .5 .size) same-length-2 same-length-3 same-length-4 returns)

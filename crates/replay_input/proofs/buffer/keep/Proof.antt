@@ -23,26 +23,11 @@ same c =
     let start = c .before .args in
     ap length (c .loop .inv .2) ∙ length-sets (now (start .buffer)) (start .to) (take (c .loop .k) (drop (start .from) (now (start .buffer))))
 
-loop-holds : tie.Need-loop-holds Inv-loop μ-loop
-loop-holds c = (omega arith, refl, refl)
-
-slice-read-byte : tie.Need-slice-read-byte Inv-loop μ-loop
-slice-read-byte c = omega (arith, same (c .before .before))
-
-slice-write-buffer : tie.Need-slice-write-buffer Inv-loop μ-loop
-slice-write-buffer c = omega (arith, same (c .before .before))
-
-loop-less : tie.Need-loop-less Inv-loop μ-loop
-loop-less c = omega arith
-
 loop-again : tie.Need-loop-again Inv-loop μ-loop
 loop-again c =
     let start = c .before .before .before in
     let l = c .before .before .loop in
     (omega arith, l .inv .1, one-moved (now (start .args .buffer)) (l .buffer) (start .args .to) (start .args .from) (l .k) (l .inv .2) (omega arith) (omega arith))
-
-same-length : tie.Need-same-length Inv-loop μ-loop
-same-length c = same (c .before)
 
 returns : tie.Need-returns Inv-loop μ-loop
 returns c =
@@ -53,5 +38,5 @@ returns c =
 pub keep-spec : {M : Type 1} → statement M
 keep-spec =
     tie.close
-    (tie.spec Inv-loop μ-loop (λ c. search needs) loop-holds (λ c. search needs) slice-read-byte (λ c. search needs) slice-write-buffer (λ c. search needs) loop-less
-    loop-again same-length returns)
+    (tie.spec Inv-loop μ-loop (λ c. search needs) (λ c. (omega arith, refl, refl)) (λ c. search needs) (λ c. omega (arith, same (c .before .before)))
+    (λ c. search needs) (λ c. omega (arith, same (c .before .before))) (λ c. search needs) (λ c. omega arith) loop-again (λ c. same (c .before)) returns)

@@ -5,9 +5,6 @@ use Rattle.model.specs.Steps.{started}
 use Rattle.rows.proofs.start.first_vector.Statement.{statement}
 use Rattle.rows.proofs.start.first_vector.Tie as tie
 
-returns : tie.Need-returns
-unfolding started
-returns c counts = rw (c .zero-vector .ensures)
-
 pub first-vector-spec : {M : Type 1} → statement M
-first-vector-spec = tie.close (tie.spec (λ c κs. search needs) (λ c. search needs) (λ c. search needs) returns)
+unfolding started
+first-vector-spec = tie.close (tie.spec (λ c κs. search needs) (λ c. search needs) (λ c. search needs) (λ c counts. rw (c .zero-vector .ensures)))

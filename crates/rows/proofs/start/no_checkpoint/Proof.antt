@@ -4,8 +4,5 @@ use borrow.Author.Needs.{needs}
 use Rattle.rows.proofs.start.no_checkpoint.Statement.{statement}
 use Rattle.rows.proofs.start.no_checkpoint.Tie as tie
 
-returns : tie.Need-returns
-returns c = rw (c .stored .ensures, c .before .zero-vector .ensures)
-
 pub no-checkpoint-spec : {M : Type 1} → statement M
-no-checkpoint-spec = tie.close (tie.spec (λ c κs. search needs) (λ c κs. search needs) returns)
+no-checkpoint-spec = tie.close (tie.spec (λ c κs. search needs) (λ c κs. search needs) (λ c. rw (c .stored .ensures, c .before .zero-vector .ensures)))

@@ -5,10 +5,6 @@ use Rattle.model.specs.Steps.{advanced}
 use Rattle.rows.proofs.vector.advanced.Statement.{statement}
 use Rattle.rows.proofs.vector.advanced.Tie as tie
 
-returns : tie.Need-returns
-unfolding advanced
-returns c = search needs
-
 pub advanced-spec : {M : Type 1} → statement M
-advanced-spec =
-    tie.close (tie.spec (λ c. search needs) (λ c. search needs) (λ c. search needs) (λ c. search needs) (λ c. search needs) returns)
+unfolding advanced
+advanced-spec = tie.close (tie.spec (λ c. search needs) (λ c. search needs) (λ c. search needs) (λ c. search needs) (λ c. search needs) (λ c. search needs))

@@ -15,9 +15,6 @@ Inv-loop a b most₀ f₀ most f = (f ≤ 16) × (most ≡ setBelow f (takenEntr
 abbrev μ-loop : tie.MeasureT-loop
 μ-loop a b most₀ f₀ most f = 16 - f
 
-loop-holds : tie.Need-loop-holds Inv-loop μ-loop
-loop-holds c = (search needs, below-none _ _)
-
 loop-again : tie.Need-loop-again Inv-loop μ-loop
 unfolding takenEntry
 loop-again c =
@@ -32,5 +29,5 @@ returns c = let e : c .before .loop .f ≡ 16 = omega arith in rw e at (c .befor
 pub greatest-spec : {M : Type 1} → statement M
 greatest-spec =
     tie.close
-    (tie.spec Inv-loop μ-loop loop-holds (λ c. search needs) (λ c. search needs) (λ c. search needs) (λ c. search needs) (λ c κs. search needs) (λ c. search needs)
-    (λ c. search needs) (λ c. search needs) (λ c. search needs) loop-again returns)
+    (tie.spec Inv-loop μ-loop (λ c. (search needs, below-none _ _)) (λ c. search needs) (λ c. search needs) (λ c. search needs) (λ c. search needs)
+    (λ c κs. search needs) (λ c. search needs) (λ c. search needs) (λ c. search needs) (λ c. search needs) loop-again returns)

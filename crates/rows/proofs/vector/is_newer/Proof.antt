@@ -19,9 +19,6 @@ Inv-loop own carried any₀ f₀ any f = (f ≤ 16) × (any ≡ anyBelow f (λ k
 abbrev μ-loop : tie.MeasureT-loop
 μ-loop own carried any₀ f₀ any f = 16 - f
 
-loop-holds : tie.Need-loop-holds Inv-loop μ-loop
-loop-holds c = (search needs, any-zero _)
-
 loop-again : tie.Need-loop-again Inv-loop μ-loop
 loop-again c =
     let a = c .before .before .before .args in
@@ -40,5 +37,5 @@ returns c = let e : c .before .loop .f ≡ 16 = omega arith in rw e at (c .befor
 pub is-newer-spec : {M : Type 1} → statement M
 is-newer-spec =
     tie.close
-    (tie.spec Inv-loop μ-loop loop-holds (λ c. search needs) (λ c. search needs) (λ c. search needs) (λ c. search needs) (λ c. search needs) (λ c. search needs)
-    loop-again returns)
+    (tie.spec Inv-loop μ-loop (λ c. (search needs, any-zero _)) (λ c. search needs) (λ c. search needs) (λ c. search needs) (λ c. search needs) (λ c. search needs)
+    (λ c. search needs) loop-again returns)

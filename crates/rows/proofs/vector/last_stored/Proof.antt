@@ -7,8 +7,5 @@ use borrow.Author.Needs.{needs}
 use Rattle.rows.proofs.vector.last_stored.Statement.{statement}
 use Rattle.rows.proofs.vector.last_stored.Tie as tie
 
-returns : tie.Need-returns
-returns c = ap (λ (n : ℕ). record { 0 = n }) (omega arith)
-
 pub last-stored-spec : {M : Type 1} → statement M
-last-stored-spec = tie.close (tie.spec (λ c. search needs) returns (λ c. search needs))
+last-stored-spec = tie.close (tie.spec (λ c. search needs) (λ c. ap (λ (n : ℕ). record { 0 = n }) (omega arith)) (λ c. search needs))

@@ -17,9 +17,6 @@ Inv-loop pins all₀ f₀ all f = (f ≤ 16) × ((all && every isNothing (drop f
 abbrev μ-loop : tie.MeasureT-loop
 μ-loop pins all₀ f₀ all f = 16 - f
 
-loop-holds : tie.Need-loop-holds Inv-loop μ-loop
-loop-holds c = (search needs, refl)
-
 loop-again : tie.Need-loop-again Inv-loop μ-loop
 loop-again c =
     let b = c .before .before .before in
@@ -32,4 +29,5 @@ returns c = let b = c .before in every-end isNothing (b .before .args .t1) (b .l
 pub are-nothing-spec : {M : Type 1} → statement M
 are-nothing-spec =
     tie.close
-    (tie.spec Inv-loop μ-loop loop-holds (λ c. search needs) (λ c. search needs) (λ c κs. search needs) (λ c. search needs) (λ c. search needs) loop-again returns)
+    (tie.spec Inv-loop μ-loop (λ c. (search needs, refl)) (λ c. search needs) (λ c. search needs) (λ c κs. search needs) (λ c. search needs) (λ c. search needs)
+    loop-again returns)

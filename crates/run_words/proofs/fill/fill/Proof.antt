@@ -23,12 +23,6 @@ after-rows c = c .put-rows .kept .0 ∙ after-kept (c .before .before .before .b
 after-messages : (c : tie.After-put-messages) → length (c .put-messages .last .0) ≡ 6464
 after-messages c = c .put-messages .kept .0 ∙ after-rows (c .before .before .before .before)
 
-put-rows-requires : tie.Need-put-rows-requires
-put-rows-requires c κs = after-kept (c .before .before .before)
-
-put-messages-requires : tie.Need-put-messages-requires
-put-messages-requires c κs = after-rows (c .before .before .before)
-
 put-numbers-requires : tie.Need-put-numbers-requires
 put-numbers-requires c κs = (after-messages (c .before .before .before), search needs, search needs)
 
@@ -57,5 +51,5 @@ returns-3 c =
 pub fill-spec : {M : Type 1} → statement M
 fill-spec =
     tie.close
-    (tie.spec returns returns-2 (λ c κs. search needs) (λ c κs. search needs) (λ c κs. search needs) (λ c κs. search needs) put-rows-requires put-messages-requires
-    put-numbers-requires same-length returns-3)
+    (tie.spec returns returns-2 (λ c κs. search needs) (λ c κs. search needs) (λ c κs. search needs) (λ c κs. search needs)
+    (λ c κs. after-kept (c .before .before .before)) (λ c κs. after-rows (c .before .before .before)) put-numbers-requires same-length returns-3)

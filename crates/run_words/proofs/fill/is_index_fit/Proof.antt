@@ -4,10 +4,6 @@ use borrow.Author.Needs.{needs}
 use Rattle.run_words.proofs.fill.is_index_fit.Statement.{statement}
 use Rattle.run_words.proofs.fill.is_index_fit.Tie as tie
 
-returns : tie.Need-returns
-unfolding indexFits
-returns c = search needs
-
 pub is-index-fit-spec : {M : Type 1} → statement M
-is-index-fit-spec =
-    tie.close (tie.spec returns)
+unfolding indexFits
+is-index-fit-spec = tie.close (tie.spec (λ c. search needs))

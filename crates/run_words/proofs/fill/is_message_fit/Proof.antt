@@ -4,10 +4,6 @@ use borrow.Author.Needs.{needs}
 use Rattle.run_words.proofs.fill.is_message_fit.Statement.{statement}
 use Rattle.run_words.proofs.fill.is_message_fit.Tie as tie
 
-returns : tie.Need-returns
-unfolding messageFits
-returns c = search needs
-
 pub is-message-fit-spec : {M : Type 1} → statement M
-is-message-fit-spec =
-    tie.close (tie.spec returns)
+unfolding messageFits
+is-message-fit-spec = tie.close (tie.spec (λ c. search needs))

@@ -4,10 +4,6 @@ use borrow.Author.Needs.{needs}
 use Rattle.run_words.proofs.fill.is_message_unused.Statement.{statement}
 use Rattle.run_words.proofs.fill.is_message_unused.Tie as tie
 
-returns : tie.Need-returns
-unfolding unusedMessage
-returns c = rw (c .before .before .before .is-zero .ensures)
-
 pub is-message-unused-spec : {M : Type 1} → statement M
-is-message-unused-spec =
-    tie.close (tie.spec (λ c κs. search needs) returns)
+unfolding unusedMessage
+is-message-unused-spec = tie.close (tie.spec (λ c κs. search needs) (λ c. rw (c .before .before .before .is-zero .ensures)))

@@ -4,14 +4,10 @@ use borrow.Author.Needs.{needs}
 use Rattle.run_words.proofs.fill.is_pin_fit.Statement.{statement}
 use Rattle.run_words.proofs.fill.is_pin_fit.Tie as tie
 
-returns : tie.Need-returns
-unfolding pinFits
-returns c = search needs
-
 returns-2 : tie.Need-returns-2
 unfolding pinFits
 returns-2 c = rw (c .is-index-fit .ensures, c .before .before .pin .given .1)
 
 pub is-pin-fit-spec : {M : Type 1} → statement M
-is-pin-fit-spec =
-    tie.close (tie.spec (λ c. search needs) (λ c. search needs) (λ c κs. search needs) returns returns-2)
+unfolding pinFits
+is-pin-fit-spec = tie.close (tie.spec (λ c. search needs) (λ c. search needs) (λ c κs. search needs) (λ c. search needs) returns-2)

@@ -17,10 +17,6 @@ Inv-loop vector any₀ f₀ any f = (f ≤ 16) × (eqb any 0 ≡ allBelow f (λ 
 abbrev μ-loop : tie.MeasureT-loop
 μ-loop vector any₀ f₀ any f = 16 - f
 
-loop-holds : tie.Need-loop-holds Inv-loop μ-loop
-unfolding allBelow
-loop-holds c = (search needs, refl)
-
 loop-again : tie.Need-loop-again Inv-loop μ-loop
 loop-again c =
     let b = c .before .before .before in
@@ -33,5 +29,7 @@ returns c =
     rw e at (l .inv .1) ∙ zero-all (c .before .before .args .t1) (search needs)
 
 pub is-zero-spec : {M : Type 1} → statement M
+unfolding allBelow
 is-zero-spec =
-    tie.close (tie.spec Inv-loop μ-loop loop-holds (λ c. search needs) (λ c. search needs) (λ c. search needs) (λ c. search needs) loop-again returns)
+    tie.close
+    (tie.spec Inv-loop μ-loop (λ c. (search needs, refl)) (λ c. search needs) (λ c. search needs) (λ c. search needs) (λ c. search needs) loop-again returns)

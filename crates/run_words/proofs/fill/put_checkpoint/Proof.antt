@@ -8,18 +8,6 @@ use borrow.Author.Needs.{needs}
 use Rattle.run_words.proofs.fill.put_checkpoint.Statement.{statement}
 use Rattle.run_words.proofs.fill.put_checkpoint.Tie as tie
 
-pin-word-requires : tie.Need-pin-word-requires
-pin-word-requires c κs = index-below _ (search needs) (search needs)
-
-slice-write-w-2 : tie.Need-slice-write-w-2
-slice-write-w-2 c = simp length-set (omega arith)
-
-put-vector-requires : tie.Need-put-vector-requires
-put-vector-requires c κs = simp length-set (omega arith)
-
-same-length : tie.Need-same-length
-same-length c = c .before .before .put-vector .kept .0 ∙ simp length-set
-
 returns : tie.Need-returns
 returns c =
     let u = c .before .before in
@@ -29,6 +17,7 @@ returns c =
 pub put-checkpoint-spec : {M : Type 1} → statement M
 put-checkpoint-spec =
     tie.close
-    (tie.spec pin-word-requires (λ c. search needs) (λ c. search needs) (λ c. search needs) (λ c. search needs) (λ c. search needs) (λ c. search needs)
-    (λ c. search needs) (λ c. search needs) (λ c. search needs) (λ c. search needs) slice-write-w-2 (λ c. search needs) (λ c. search needs) (λ c. search needs)
-    (λ c. search needs) put-vector-requires same-length returns)
+    (tie.spec (λ c κs. index-below _ (search needs) (search needs)) (λ c. search needs) (λ c. search needs) (λ c. search needs) (λ c. search needs)
+    (λ c. search needs) (λ c. search needs) (λ c. search needs) (λ c. search needs) (λ c. search needs) (λ c. search needs) (λ c. simp length-set (omega arith))
+    (λ c. search needs) (λ c. search needs) (λ c. search needs) (λ c. search needs) (λ c κs. simp length-set (omega arith))
+    (λ c. c .before .before .put-vector .kept .0 ∙ simp length-set) returns)

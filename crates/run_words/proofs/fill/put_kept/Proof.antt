@@ -24,9 +24,6 @@ Inv-loop w₀ kept held all₀ q₀ w all q =
 abbrev μ-loop : tie.MeasureT-loop
 μ-loop w₀ kept held all₀ q₀ w all q = 256 - q
 
-loop-holds : tie.Need-loop-holds Inv-loop μ-loop
-loop-holds c = (search needs, refl, all-zero _, iter-none _ _)
-
 slice-write-w : tie.Need-slice-write-w Inv-loop μ-loop
 slice-write-w c = let x = c .before .before .before in omega (arith, x .loop .inv .1, x .before .before .pre)
 
@@ -45,9 +42,6 @@ loop-again c =
       iter-more (keptFilled (a .t2) (a .t3)) (a .w .now) (l .w) (l .q) _ (l .inv .3) (place-more (a .t2) (a .t3) (l .q) (l .w) _ (u .put-place .ensures .1)),
     )
 
-same-length : tie.Need-same-length Inv-loop μ-loop
-same-length c = c .before .loop .inv .1
-
 returns : tie.Need-returns Inv-loop μ-loop
 unfolding keptFits
 returns c =
@@ -58,6 +52,6 @@ returns c =
 pub put-kept-spec : {M : Type 1} → statement M
 put-kept-spec =
     tie.close
-    (tie.spec Inv-loop μ-loop loop-holds (λ c. search needs) (λ c. search needs) (λ c. search needs) (λ c. search needs) (λ c. search needs) (λ c. search needs)
-    (λ c. search needs) (λ c. search needs) (λ c. search needs) slice-write-w (λ c. search needs) (λ c. search needs) put-place-requires (λ c. search needs)
-    (λ c. search needs) loop-again same-length returns)
+    (tie.spec Inv-loop μ-loop (λ c. (search needs, refl, all-zero _, iter-none _ _)) (λ c. search needs) (λ c. search needs) (λ c. search needs)
+    (λ c. search needs) (λ c. search needs) (λ c. search needs) (λ c. search needs) (λ c. search needs) (λ c. search needs) slice-write-w (λ c. search needs)
+    (λ c. search needs) put-place-requires (λ c. search needs) (λ c. search needs) loop-again (λ c. c .before .loop .inv .1) returns)

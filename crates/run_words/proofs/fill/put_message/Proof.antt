@@ -7,16 +7,10 @@ use borrow.Author.Needs.{needs}
 use Rattle.run_words.proofs.fill.put_message.Statement.{statement}
 use Rattle.run_words.proofs.fill.put_message.Tie as tie
 
-same-length : tie.Need-same-length
-same-length c = c .before .before .put-vector .kept .0 ∙ simp length-set
-
-returns : tie.Need-returns
-returns c = c .before .before .put-vector .ensures ∙ simp set-is-put
-
 pub put-message-spec : {M : Type 1} → statement M
 put-message-spec =
     tie.close
     (tie.spec (λ c. search needs) (λ c. search needs) (λ c. search needs) (λ c. search needs) (λ c. search needs) (λ c. search needs) (λ c. search needs)
     (λ c. simp length-set (omega arith)) (λ c. search needs) (λ c. search needs) (λ c. search needs) (λ c. simp length-set (omega arith)) (λ c. search needs)
     (λ c. search needs) (λ c. search needs) (λ c. simp length-set (omega arith)) (λ c. search needs) (λ c. search needs) (λ c κs. simp length-set (omega arith))
-    same-length returns)
+    (λ c. c .before .before .put-vector .kept .0 ∙ simp length-set) (λ c. c .before .before .put-vector .ensures ∙ simp set-is-put))

@@ -19,9 +19,6 @@ Inv-loop w₀ many messages all₀ k₀ w all k =
 abbrev μ-loop : tie.MeasureT-loop
 μ-loop w₀ many messages all₀ k₀ w all k = 64 - k
 
-loop-holds : tie.Need-loop-holds Inv-loop μ-loop
-loop-holds c = (search needs, refl, all-zero _, iter-none _ _)
-
 put-one-requires : tie.Need-put-one-requires Inv-loop μ-loop
 put-one-requires c κs = let x = c .before .before .before in (x .loop .inv .1 ∙ x .before .before .pre, search needs)
 
@@ -38,9 +35,6 @@ loop-again c =
       iter-more (messagesFilled (a .many) (a .t2)) (a .w .now) (l .w) (l .k) _ (l .inv .3) (u .put-one .ensures .1),
     )
 
-same-length : tie.Need-same-length Inv-loop μ-loop
-same-length c = c .before .loop .inv .1
-
 returns : tie.Need-returns Inv-loop μ-loop
 unfolding messagesFit
 returns c =
@@ -51,4 +45,5 @@ returns c =
 pub put-messages-spec : {M : Type 1} → statement M
 put-messages-spec =
     tie.close
-    (tie.spec Inv-loop μ-loop loop-holds (λ c. search needs) (λ c. search needs) put-one-requires (λ c. search needs) (λ c. search needs) loop-again same-length returns)
+    (tie.spec Inv-loop μ-loop (λ c. (search needs, refl, all-zero _, iter-none _ _)) (λ c. search needs) (λ c. search needs) put-one-requires (λ c. search needs)
+    (λ c. search needs) loop-again (λ c. c .before .loop .inv .1) returns)

@@ -7,9 +7,6 @@ use borrow.Author.Needs.{needs}
 use Rattle.run_words.proofs.fill.put_numbers.Statement.{statement}
 use Rattle.run_words.proofs.fill.put_numbers.Tie as tie
 
-put2-requires : tie.Need-put2-requires
-put2-requires c κs = simp length-set (omega arith)
-
 -- How many words there are after each step.
 sized-2 : (c : tie.After-put2) → length (c .put2 .last .0) ≡ 6464
 sized-2 c = c .put2 .kept .0 ∙ simp length-set (c .before .before .before .pre .0)
@@ -19,15 +16,6 @@ sized-4 c = c .put4 .kept .0 ∙ sized-2 (c .before .before .before .before)
 
 sized-8 : (c : tie.After-put42) → length (c .put42 .last .0) ≡ 6464
 sized-8 c = c .put42 .kept .0 ∙ sized-4 (c .before .before .before .before)
-
-put4-requires : tie.Need-put4-requires
-put4-requires c κs = let e = sized-2 (c .before .before .before) in omega arith
-
-put4-requires-2 : tie.Need-put4-requires-2
-put4-requires-2 c κs = let e = sized-4 (c .before .before .before) in omega arith
-
-slice-write-w-3 : tie.Need-slice-write-w-3
-slice-write-w-3 c = let e = sized-8 (c .before .before) in omega arith
 
 same-length : tie.Need-same-length
 same-length c = simp length-set (sized-8 (c .before .before) ∙ sym (c .before .before .before .before .before .before .before .before .before .before .before .before .before .pre .0))
@@ -43,5 +31,6 @@ returns c =
 pub put-numbers-spec : {M : Type 1} → statement M
 put-numbers-spec =
     tie.close
-    (tie.spec (λ c. search needs) (λ c. search needs) (λ c. search needs) (λ c. search needs) put2-requires put4-requires put4-requires-2 (λ c. search needs)
-    slice-write-w-3 same-length returns)
+    (tie.spec (λ c. search needs) (λ c. search needs) (λ c. search needs) (λ c. search needs) (λ c κs. simp length-set (omega arith))
+    (λ c κs. let e = sized-2 (c .before .before .before) in omega arith) (λ c κs. let e = sized-4 (c .before .before .before) in omega arith) (λ c. search needs)
+    (λ c. let e = sized-8 (c .before .before) in omega arith) same-length returns)

@@ -18,9 +18,6 @@ put-message-requires c κs =
     let m = message-words (s .args .x) (granted _ (e .before .is-message-fit .ensures) (e .if2 .left)) in
     (s .pre .0, s .pre .1, m .0, m .1)
 
-same-length : tie.Need-same-length
-same-length c = c .before .before .put-message .kept .0
-
 returns-2 : tie.Need-returns-2
 returns-2 c =
     let t = c .before .before in
@@ -36,4 +33,5 @@ returns-3 c =
 
 pub put-one-spec : {M : Type 1} → statement M
 put-one-spec =
-    tie.close (tie.spec (λ c κs. search needs) returns put-message-requires same-length returns-2 (λ c κs. search needs) returns-3)
+    tie.close
+    (tie.spec (λ c κs. search needs) returns put-message-requires (λ c. c .before .before .put-message .kept .0) returns-2 (λ c κs. search needs) returns-3)

@@ -21,9 +21,6 @@ Inv-loop w₀ at pins all₀ f₀ w all f = (f ≤ 16) × (length w ≡ length w
 abbrev μ-loop : tie.MeasureT-loop
 μ-loop w₀ at pins all₀ f₀ w all f = 16 - f
 
-loop-holds : tie.Need-loop-holds Inv-loop μ-loop
-loop-holds c = (search needs, refl, all-zero _, put-none _ _ _)
-
 loop-again : tie.Need-loop-again Inv-loop μ-loop
 loop-again c =
     let x = c .before in
@@ -36,9 +33,6 @@ loop-again c =
       put-turn (a .w .now) (a .at) (λ q. pinWord (getD (a .t3) q Nothing)) (l .f) (l .w) _ (l .inv .3) (x .word-of-pin .ensures),
     )
 
-same-length : tie.Need-same-length Inv-loop μ-loop
-same-length c = c .before .loop .inv .1
-
 returns : tie.Need-returns Inv-loop μ-loop
 returns c =
     let l = c .before .loop in
@@ -48,5 +42,6 @@ returns c =
 pub put-pins-spec : {M : Type 1} → statement M
 put-pins-spec =
     tie.close
-    (tie.spec Inv-loop μ-loop loop-holds (λ c. search needs) (λ c. search needs) (λ c κs. search needs) (λ c. search needs) (λ c. search needs) (λ c. search needs)
-    (λ c κs. search needs) (λ c. search needs) (λ c. search needs) loop-again same-length returns)
+    (tie.spec Inv-loop μ-loop (λ c. (search needs, refl, all-zero _, put-none _ _ _)) (λ c. search needs) (λ c. search needs) (λ c κs. search needs)
+    (λ c. search needs) (λ c. search needs) (λ c. search needs) (λ c κs. search needs) (λ c. search needs) (λ c. search needs) loop-again
+    (λ c. c .before .loop .inv .1) returns)

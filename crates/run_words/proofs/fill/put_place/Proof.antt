@@ -16,9 +16,6 @@ put-checkpoint-requires c κs =
     let s = e .before .before .before .before in
     (s .pre .0, s .pre .1, s .pre .2, granted _ (e .before .is-index-fit .ensures) (e .if2 .left))
 
-same-length : tie.Need-same-length
-same-length c = c .before .before .before .put-checkpoint .kept .0
-
 returns-2 : tie.Need-returns-2
 returns-2 c =
     let t = c .before .before .before in
@@ -34,4 +31,6 @@ returns-3 c =
 
 pub put-place-spec : {M : Type 1} → statement M
 put-place-spec =
-    tie.close (tie.spec (λ c κs. search needs) returns put-checkpoint-requires same-length returns-2 (λ c κs. search needs) returns-3)
+    tie.close
+    (tie.spec (λ c κs. search needs) returns put-checkpoint-requires (λ c. c .before .before .before .put-checkpoint .kept .0) returns-2 (λ c κs. search needs)
+    returns-3)

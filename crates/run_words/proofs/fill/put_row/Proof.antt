@@ -9,9 +9,6 @@ returns c =
     let a = c .before .before .before .args in
     row-refused (a .p) (a .n) (a .vector) (a .pins) (a .held) (a .mark) (a .w .now) (c .before .if1 .taken) (c .if2 .taken)
 
-same-length : tie.Need-same-length
-same-length c = c .before .before .put-process .kept .0
-
 returns-2 : tie.Need-returns-2
 returns-2 c =
     let t = c .before .before in
@@ -27,4 +24,5 @@ returns-3 c =
 
 pub put-row-spec : {M : Type 1} → statement M
 put-row-spec =
-    tie.close (tie.spec returns (λ c κs. search needs) same-length returns-2 (λ c κs. search needs) (λ c κs. search needs) returns-3)
+    tie.close
+    (tie.spec returns (λ c κs. search needs) (λ c. c .before .before .put-process .kept .0) returns-2 (λ c κs. search needs) (λ c κs. search needs) returns-3)

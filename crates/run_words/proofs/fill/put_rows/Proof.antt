@@ -23,9 +23,6 @@ Inv-loop w₀ n vectors pins held sent all₀ p₀ w all p =
 abbrev μ-loop : tie.MeasureT-loop
 μ-loop w₀ n vectors pins held sent all₀ p₀ w all p = 16 - p
 
-loop-holds : tie.Need-loop-holds Inv-loop μ-loop
-loop-holds c = (search needs, refl, all-zero _, iter-none _ _)
-
 put-row-requires : tie.Need-put-row-requires Inv-loop μ-loop
 put-row-requires c κs = let x = c .before .before .before .before in (x .loop .inv .1 ∙ x .before .before .pre, search needs)
 
@@ -42,9 +39,6 @@ loop-again c =
       iter-more (rowsFilled (a .n) (a .t3) (a .t4) (a .t5) (a .t6)) (a .w .now) (l .w) (l .p) _ (l .inv .3) (u .put-row .ensures .1),
     )
 
-same-length : tie.Need-same-length Inv-loop μ-loop
-same-length c = c .before .loop .inv .1
-
 returns : tie.Need-returns Inv-loop μ-loop
 unfolding rowsFit
 returns c =
@@ -55,5 +49,6 @@ returns c =
 pub put-rows-spec : {M : Type 1} → statement M
 put-rows-spec =
     tie.close
-    (tie.spec Inv-loop μ-loop loop-holds (λ c. search needs) (λ c. search needs) (λ c. search needs) (λ c. search needs) (λ c. search needs) (λ c. search needs)
-    (λ c. search needs) put-row-requires (λ c. search needs) (λ c. search needs) loop-again same-length returns)
+    (tie.spec Inv-loop μ-loop (λ c. (search needs, refl, all-zero _, iter-none _ _)) (λ c. search needs) (λ c. search needs) (λ c. search needs)
+    (λ c. search needs) (λ c. search needs) (λ c. search needs) (λ c. search needs) put-row-requires (λ c. search needs) (λ c. search needs) loop-again
+    (λ c. c .before .loop .inv .1) returns)

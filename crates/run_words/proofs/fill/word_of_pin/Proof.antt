@@ -4,14 +4,10 @@ use borrow.Author.Needs.{needs}
 use Rattle.run_words.proofs.fill.word_of_pin.Statement.{statement}
 use Rattle.run_words.proofs.fill.word_of_pin.Tie as tie
 
-returns : tie.Need-returns
-unfolding pinWord
-returns c = search needs
-
 returns-2 : tie.Need-returns-2
 unfolding pinWord
 returns-2 c = rw (c .word-of-index .ensures, c .before .before .pin .given .1)
 
 pub word-of-pin-spec : {M : Type 1} → statement M
-word-of-pin-spec =
-    tie.close (tie.spec (λ c. search needs) (λ c. search needs) (λ c κs. search needs) returns returns-2)
+unfolding pinWord
+word-of-pin-spec = tie.close (tie.spec (λ c. search needs) (λ c. search needs) (λ c κs. search needs) (λ c. search needs) returns-2)

@@ -16,9 +16,6 @@ Inv-loop w n sent₀ p₀ sent p = (p ≤ n) × (sent ≡ setBelow p (markIn w) 
 abbrev μ-loop : tie.MeasureT-loop
 μ-loop w n sent₀ p₀ sent p = n - p
 
-loop-holds : tie.Need-loop-holds Inv-loop μ-loop
-loop-holds c = (search needs, below-none _ _)
-
 loop-again : tie.Need-loop-again Inv-loop μ-loop
 unfolding markIn
 loop-again c =
@@ -36,5 +33,5 @@ returns c =
 pub marks-of-spec : {M : Type 1} → statement M
 marks-of-spec =
     tie.close
-    (tie.spec Inv-loop μ-loop loop-holds (λ c. search needs) (λ c. search needs) (λ c. search needs) (λ c. search needs) (λ c. search needs) (λ c. search needs)
-    loop-again returns)
+    (tie.spec Inv-loop μ-loop (λ c. (search needs, below-none _ _)) (λ c. search needs) (λ c. search needs) (λ c. search needs) (λ c. search needs)
+    (λ c. search needs) (λ c. search needs) loop-again returns)

@@ -3,9 +3,5 @@ use borrow.Author.Needs.{needs}
 use Rattle.run_words.proofs.read.no_message.Statement.{statement}
 use Rattle.run_words.proofs.read.no_message.Tie as tie
 
-returns : tie.Need-returns
-returns c = rw (c .zero-vector .ensures)
-
 pub no-message-spec : {M : Type 1} → statement M
-no-message-spec =
-    tie.close (tie.spec (λ c κs. search needs) returns)
+no-message-spec = tie.close (tie.spec (λ c κs. search needs) (λ c. rw (c .zero-vector .ensures)))

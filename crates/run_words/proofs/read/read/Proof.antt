@@ -38,40 +38,16 @@ count c = c .before .before .before .before .before .before
 abbrev counted : tie.After-no-checkpoint Inv-loop μ-loop → tie.After-number-of Inv-loop μ-loop
 counted c = count (c .before .before .before .before .before .before .before .before)
 
-count-read : tie.Need-shared-slice-read-number-of Inv-loop μ-loop
-count-read c = let e = sized (c .before .before) in omega arith
-
-vectors-of-requires : tie.Need-vectors-of-requires Inv-loop μ-loop
-vectors-of-requires c κs = asked c
-
-pins-of-requires : tie.Need-pins-of-requires Inv-loop μ-loop
-pins-of-requires c κs = asked (c .before .before)
-
-marks-of-requires : tie.Need-marks-of-requires Inv-loop μ-loop
-marks-of-requires c κs = asked (c .before .before .before .before)
-
-held-of-requires : tie.Need-held-of-requires Inv-loop μ-loop
-held-of-requires c κs = asked (c .before .before .before .before .before)
-
-end-read : tie.Need-shared-slice-read-number-of-2 Inv-loop μ-loop
-end-read c = let e = asked (count (c .before)) .0 in omega arith
-
 messages-of-requires : tie.Need-messages-of-requires Inv-loop μ-loop
 messages-of-requires c κs =
     let s = count (c .before .before) .before .before .before in
     (sized s, c .number-of2 .ensures, omega (arith, c .number-of2 .ensures, end-most (s .args .w .now) (fits-end (s .args .w .now) (s .pre .fit))))
-
-disk-of-requires : tie.Need-disk-of-requires Inv-loop μ-loop
-disk-of-requires c κs = asked (count (c .before .before .before)) .0
 
 wide2-requires : tie.Need-wide2-requires Inv-loop μ-loop
 wide2-requires c κs = let e = asked (count (c .before .before .before .before)) .0 in omega arith
 
 underway-read : tie.Need-shared-slice-read-number-of-3 Inv-loop μ-loop
 underway-read c = let e = asked (count (c .before .before .before .before .before .before)) .0 in omega arith
-
-end-of-loop : tie.Need-mul-q-end Inv-loop μ-loop
-end-of-loop c = let e = asked (counted c) .2 in omega arith
 
 loop-holds : tie.Need-loop-holds Inv-loop μ-loop
 loop-holds c =
@@ -128,7 +104,10 @@ returns c =
 pub read-spec : {M : Type 1} → statement M
 read-spec =
     tie.close
-    (tie.spec Inv-loop μ-loop count-read (λ c κs. search needs) vectors-of-requires (λ c κs. search needs) pins-of-requires (λ c κs. search needs) marks-of-requires
-    held-of-requires end-read (λ c κs. search needs) messages-of-requires disk-of-requires wide2-requires underway-read (λ c κs. search needs) (λ c κs. search needs)
-    (λ c. search needs) (λ c. search needs) end-of-loop loop-holds is-kept-requires checkpoint-at-requires (λ c. search needs) (λ c. search needs) (λ c. search needs)
-    (λ c. search needs) (λ c. search needs) (λ c. search needs) loop-again (λ c κs. search needs) returns)
+    (tie.spec Inv-loop μ-loop (λ c. let e = sized (c .before .before) in omega arith) (λ c κs. search needs) (λ c κs. asked c) (λ c κs. search needs)
+    (λ c κs. asked (c .before .before)) (λ c κs. search needs) (λ c κs. asked (c .before .before .before .before))
+    (λ c κs. asked (c .before .before .before .before .before)) (λ c. let e = asked (count (c .before)) .0 in omega arith) (λ c κs. search needs)
+    messages-of-requires (λ c κs. asked (count (c .before .before .before)) .0) wide2-requires underway-read (λ c κs. search needs) (λ c κs. search needs)
+    (λ c. search needs) (λ c. search needs) (λ c. let e = asked (counted c) .2 in omega arith) loop-holds is-kept-requires checkpoint-at-requires
+    (λ c. search needs) (λ c. search needs) (λ c. search needs) (λ c. search needs) (λ c. search needs) (λ c. search needs) loop-again (λ c κs. search needs)
+    returns)

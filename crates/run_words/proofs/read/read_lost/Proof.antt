@@ -12,9 +12,6 @@ use Rattle.run_words.proofs.read.read_lost.Tie as tie
 sized : (c : tie.Start) → length (c .args .w .now) ≡ 6464
 sized c = fits-size (c .args .w .now) (c .pre .0 .fit)
 
-end-read : tie.Need-shared-slice-read-number-of
-end-read c = let e = sized (c .before .before) in omega arith
-
 messages-of-requires : tie.Need-messages-of-requires
 messages-of-requires c κs =
     let s = c .before .before .before in
@@ -32,4 +29,5 @@ returns c =
 
 pub read-lost-spec : {M : Type 1} → statement M
 read-lost-spec =
-    tie.close (tie.spec end-read (λ c κs. search needs) messages-of-requires underway-read (λ c κs. search needs) returns)
+    tie.close
+    (tie.spec (λ c. let e = sized (c .before .before) in omega arith) (λ c κs. search needs) messages-of-requires underway-read (λ c κs. search needs) returns)

@@ -18,9 +18,6 @@ marks-of-requires c κs =
     let n = count-same (s .args .w .now) (s .args .s) (s .pre .0) (s .pre .1) in
     (sized s, n, omega (arith, n, s .pre .0 .few))
 
-end-read : tie.Need-shared-slice-read-number-of
-end-read c = let e = sized (c .before .before .before) in omega arith
-
 messages-of-requires : tie.Need-messages-of-requires
 messages-of-requires c κs =
     let s = c .before .before .before .before in
@@ -43,4 +40,6 @@ returns c =
 
 pub read-sent-spec : {M : Type 1} → statement M
 read-sent-spec =
-    tie.close (tie.spec marks-of-requires end-read (λ c κs. search needs) messages-of-requires wide2-requires underway-read (λ c κs. search needs) returns)
+    tie.close
+    (tie.spec marks-of-requires (λ c. let e = sized (c .before .before .before) in omega arith) (λ c κs. search needs) messages-of-requires wide2-requires
+    underway-read (λ c κs. search needs) returns)

@@ -19,9 +19,6 @@ Inv-loop bytes first k₀ k = (k ≤ 10) × (first ≡ heading) × (true ≡ all
 abbrev μ-loop : tie.MeasureT-loop
 μ-loop bytes first k₀ k = 10 - k
 
-loop-holds : tie.Need-loop-holds Inv-loop μ-loop
-loop-holds c = (search needs, search needs, all-zero _)
-
 returns : tie.Need-returns Inv-loop μ-loop
 unfolding hasHeading
 returns c =
@@ -44,5 +41,5 @@ returns-2 c =
 pub has-heading-spec : {M : Type 1} → statement M
 has-heading-spec =
     tie.close
-    (tie.spec Inv-loop μ-loop (λ c κs. search needs) loop-holds (λ c. search needs) (λ c. search needs) returns (λ c. search needs) (λ c. search needs) loop-again
-    returns-2)
+    (tie.spec Inv-loop μ-loop (λ c κs. search needs) (λ c. (search needs, search needs, all-zero _)) (λ c. search needs) (λ c. search needs) returns
+    (λ c. search needs) (λ c. search needs) loop-again returns-2)

@@ -4,9 +4,6 @@ use Rattle.saved.specs.Format.{heading}
 use Rattle.saved.proofs.bytes.heading_bytes.Statement.{statement}
 use Rattle.saved.proofs.bytes.heading_bytes.Tie as tie
 
-returns : tie.Need-returns
-unfolding heading
-returns c = refl
-
 pub heading-bytes-spec : {M : Type 1} → statement M
-heading-bytes-spec = tie.close (tie.spec returns)
+unfolding heading
+heading-bytes-spec = tie.close (tie.spec (λ c. refl))

@@ -7,9 +7,6 @@ use Rattle.saved.proofs.Parts.{not-sized, not-headed, summed-or-not}
 use Rattle.saved.proofs.bytes.is_whole.Statement.{statement}
 use Rattle.saved.proofs.bytes.is_whole.Tie as tie
 
-returns : tie.Need-returns
-returns c = not-sized _ (c .if1 .taken)
-
 returns-2 : tie.Need-returns-2
 returns-2 c =
     let s = c .before .before .before .before in
@@ -22,4 +19,4 @@ returns-3 c =
     (c .sum-in .result) (c .before .crc32c-of .result) (c .sum-in .ensures) (c .before .crc32c-of .ensures)
 
 pub is-whole-spec : {M : Type 1} → statement M
-is-whole-spec = tie.close (tie.spec returns (λ c κs. search needs) returns-2 (λ c κs. search needs) (λ c κs. search needs) returns-3)
+is-whole-spec = tie.close (tie.spec (λ c. not-sized _ (c .if1 .taken)) (λ c κs. search needs) returns-2 (λ c κs. search needs) (λ c κs. search needs) returns-3)

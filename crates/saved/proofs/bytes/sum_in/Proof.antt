@@ -5,13 +5,10 @@ use Rattle.saved.specs.Format.{sumIn}
 use Rattle.saved.proofs.bytes.sum_in.Statement.{statement}
 use Rattle.saved.proofs.bytes.sum_in.Tie as tie
 
-returns : tie.Need-returns
-unfolding sumIn
-returns c = omega arith
-
 pub sum-in-spec : {M : Type 1} → statement M
+unfolding sumIn
 sum-in-spec =
     tie.close
     (tie.spec (λ c. search needs) (λ c κs. search needs) (λ c. search needs) (λ c. search needs) (λ c κs. search needs) (λ c. search needs) (λ c. search needs)
     (λ c. search needs) (λ c. search needs) (λ c κs. search needs) (λ c. search needs) (λ c. search needs) (λ c. search needs) (λ c. search needs)
-    (λ c κs. search needs) (λ c. search needs) (λ c. search needs) returns)
+    (λ c κs. search needs) (λ c. search needs) (λ c. search needs) (λ c. omega arith))

@@ -15,9 +15,6 @@ Inv-loop bytes w₀ k₀ w k = (k ≤ 6464) × (w ≡ setBelow k (wordIn bytes) 
 abbrev μ-loop : tie.MeasureT-loop
 μ-loop bytes w₀ k₀ w k = 6464 - k
 
-loop-holds : tie.Need-loop-holds Inv-loop μ-loop
-loop-holds c = (search needs, below-none _ _)
-
 loop-again : tie.Need-loop-again Inv-loop μ-loop
 loop-again c =
     let l = c .before .before .loop in
@@ -33,4 +30,5 @@ returns c =
 pub words-in-spec : {M : Type 1} → statement M
 words-in-spec =
     tie.close
-    (tie.spec Inv-loop μ-loop loop-holds (λ c κs. search needs) (λ c. search needs) (λ c. search needs) (λ c. search needs) (λ c. search needs) loop-again returns)
+    (tie.spec Inv-loop μ-loop (λ c. (search needs, below-none _ _)) (λ c κs. search needs) (λ c. search needs) (λ c. search needs) (λ c. search needs)
+    (λ c. search needs) loop-again returns)

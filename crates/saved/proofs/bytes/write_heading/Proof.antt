@@ -19,9 +19,6 @@ Inv-loop bytes₀ first k₀ bytes k = (k ≤ 10) × (first ≡ heading) × (len
 abbrev μ-loop : tie.MeasureT-loop
 μ-loop bytes₀ first k₀ bytes k = 10 - k
 
-loop-holds : tie.Need-loop-holds Inv-loop μ-loop
-loop-holds c = (search needs, search needs, refl, below-none _ _)
-
 loop-again : tie.Need-loop-again Inv-loop μ-loop
 loop-again c =
     let l = c .before .loop in
@@ -37,5 +34,5 @@ returns c =
 pub write-heading-spec : {M : Type 1} → statement M
 write-heading-spec =
     tie.close
-    (tie.spec Inv-loop μ-loop (λ c κs. search needs) loop-holds (λ c. search needs) (λ c. search needs) (λ c. search needs) (λ c. search needs) loop-again
-    (λ c. search needs) returns)
+    (tie.spec Inv-loop μ-loop (λ c κs. search needs) (λ c. (search needs, search needs, refl, below-none _ _)) (λ c. search needs) (λ c. search needs)
+    (λ c. search needs) (λ c. search needs) loop-again (λ c. search needs) returns)

@@ -7,13 +7,9 @@ use Rattle.saved.specs.Format.{wordBytes}
 use Rattle.saved.proofs.bytes.write_word.Statement.{statement}
 use Rattle.saved.proofs.bytes.write_word.Tie as tie
 
-slice-write-bytes-2 : tie.Need-slice-write-bytes-2
-slice-write-bytes-2 c = simp length-set (omega arith)
-
-returns : tie.Need-returns
-unfolding wordBytes
-returns c = rw add-one
-
 pub write-word-spec : {M : Type 1} → statement M
+unfolding wordBytes
 write-word-spec =
-    tie.close (tie.spec (λ c. search needs) (λ c. search needs) (λ c. search needs) (λ c. search needs) slice-write-bytes-2 (λ c. search needs) returns)
+    tie.close
+    (tie.spec (λ c. search needs) (λ c. search needs) (λ c. search needs) (λ c. search needs) (λ c. simp length-set (omega arith)) (λ c. search needs)
+    (λ c. rw add-one))

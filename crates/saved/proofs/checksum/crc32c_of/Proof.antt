@@ -26,9 +26,6 @@ Inv-loop bytes n rest₀ k₀ rest k = (k ≤ n) × (rest ≡ remainder ones (ta
 abbrev μ-loop : tie.MeasureT-loop
 μ-loop bytes n rest₀ k₀ rest k = n - k
 
-loop-holds : tie.Need-loop-holds Inv-loop μ-loop
-loop-holds c = (search needs, none-taken (c .before .args .bytes .now))
-
 loop-again : tie.Need-loop-again Inv-loop μ-loop
 loop-again c =
     let l = c .before .before .before .loop in
@@ -45,4 +42,6 @@ returns c =
 
 pub crc32c-of-spec : {M : Type 1} → statement M
 crc32c-of-spec =
-    tie.close (tie.spec Inv-loop μ-loop loop-holds (λ c. search needs) (λ c κs. search needs) (λ c. search needs) (λ c. search needs) loop-again returns)
+    tie.close
+    (tie.spec Inv-loop μ-loop (λ c. (search needs, none-taken (c .before .args .bytes .now))) (λ c. search needs) (λ c κs. search needs) (λ c. search needs)
+    (λ c. search needs) loop-again returns)

@@ -15,9 +15,6 @@ Inv-loop x byte wider rest₀ k₀ rest k = (k ≤ 8) × (wider ≡ byte) × (re
 abbrev μ-loop : tie.MeasureT-loop
 μ-loop x byte wider rest₀ k₀ rest k = 8 - k
 
-loop-holds : tie.Need-loop-holds Inv-loop μ-loop
-loop-holds c = (search needs, search needs, iter-none (λ i. bitTaken) _)
-
 loop-again : tie.Need-loop-again Inv-loop μ-loop
 loop-again c =
     let l = c .before .before .loop in
@@ -32,4 +29,6 @@ returns c =
 
 pub take-byte-spec : {M : Type 1} → statement M
 take-byte-spec =
-    tie.close (tie.spec Inv-loop μ-loop (λ c κs. search needs) loop-holds (λ c κs. search needs) (λ c. search needs) (λ c. search needs) loop-again returns)
+    tie.close
+    (tie.spec Inv-loop μ-loop (λ c κs. search needs) (λ c. (search needs, search needs, iter-none (λ i. bitTaken) _)) (λ c κs. search needs) (λ c. search needs)
+    (λ c. search needs) loop-again returns)

@@ -12,12 +12,8 @@ use Rattle.sound_words.proofs.process.last_word.Tie as tie
 last : (c : tie.After-last-stored) → c .last-stored .result .0 ≡ c .before .before .args .own - 1
 last c = ap (λ (x : CheckpointIndex). x .0) (c .last-stored .ensures ∙ ap (λ (x : Interval). lastStored x) (c .before .interval-of .ensures))
 
-pin-word-requires : tie.Need-pin-word-requires
-pin-word-requires c κs = omega (arith, last c, c .before .before .fits .own)
-
 returns : tie.Need-returns
 returns c = c .pin-word .ensures .0 ∙ ap (λ (x : ℕ). x + 1) (last (c .before))
 
 pub last-word-spec : {M : Type 1} → statement M
-last-word-spec =
-    tie.close (tie.spec (λ c κs. search needs) (λ c κs. search needs) pin-word-requires returns)
+last-word-spec = tie.close (tie.spec (λ c κs. search needs) (λ c κs. search needs) (λ c κs. omega (arith, last c, c .before .before .fits .own)) returns)

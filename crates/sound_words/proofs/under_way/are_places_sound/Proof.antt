@@ -13,9 +13,6 @@ Inv-loop w end n owns over₀ before₀ count₀ k₀ over before count k = Read
 abbrev μ-loop : tie.MeasureT-loop
 μ-loop w end n owns over₀ before₀ count₀ k₀ over before count k = end - k
 
-loop-holds : tie.Need-loop-holds Inv-loop μ-loop
-loop-holds c = let a = c .before .args in none-read (a .w .now) (a .end)
-
 is-message-sound-requires : tie.Need-is-message-sound-requires Inv-loop μ-loop
 is-message-sound-requires c κs = let n = c .before in
     let l = n .before .before in
@@ -54,5 +51,6 @@ returns-2 c = let m = c .before in
 pub are-places-sound-spec : {M : Type 1} → statement M
 are-places-sound-spec =
     tie.close
-    (tie.spec Inv-loop μ-loop loop-holds (λ c κs. search needs) is-message-sound-requires returns add-count (λ c κs. search needs) (λ c κs. search needs)
-    (λ c κs. search needs) (λ c. search needs) (λ c. search needs) loop-again (λ c κs. search needs) (λ c κs. search needs) (λ c. search needs) returns-2)
+    (tie.spec Inv-loop μ-loop (λ c. let a = c .before .args in none-read (a .w .now) (a .end)) (λ c κs. search needs) is-message-sound-requires returns add-count
+    (λ c κs. search needs) (λ c κs. search needs) (λ c κs. search needs) (λ c. search needs) (λ c. search needs) loop-again (λ c κs. search needs)
+    (λ c κs. search needs) (λ c. search needs) returns-2)

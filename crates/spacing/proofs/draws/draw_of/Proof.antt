@@ -5,9 +5,6 @@ use Rattle.spacing.specs.Spacing.{draw}
 use Rattle.spacing.proofs.draws.draw_of.Statement.{statement}
 use Rattle.spacing.proofs.draws.draw_of.Tie as tie
 
-returns : tie.Need-returns
-unfolding draw
-returns c = search needs
-
 pub draw-of-spec : {M : Type 1} → statement M
-draw-of-spec = tie.close (tie.spec returns)
+unfolding draw
+draw-of-spec = tie.close (tie.spec (λ c. search needs))

@@ -5,9 +5,6 @@ use Rattle.spacing.specs.Spacing.{isDue}
 use Rattle.spacing.proofs.draws.is_due.Statement.{statement}
 use Rattle.spacing.proofs.draws.is_due.Tie as tie
 
-returns : tie.Need-returns
-unfolding isDue
-returns c = search needs
-
 pub is-due-spec : {M : Type 1} → statement M
-is-due-spec = tie.close (tie.spec (λ c. search needs) (λ c. search needs) returns)
+unfolding isDue
+is-due-spec = tie.close (tie.spec (λ c. search needs) (λ c. search needs) (λ c. search needs))

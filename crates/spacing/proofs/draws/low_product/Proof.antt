@@ -13,8 +13,5 @@ below k {a} {b} ha hb =
     subst⁻¹ (λ (n : ℕ). a * b < n) (pow-add 2 k k)
     (lt-of-le-of-lt (mul-le-mul-left a (le-of-lt hb)) (mul-lt-mul-of-pos-right ha (pow-pos k)))
 
-mul-result : tie.Need-mul-result
-mul-result c = record { fits = below 32 (search needs) (search needs) }
-
 pub low-product-spec : {M : Type 1} → statement M
-low-product-spec = tie.close (tie.spec mul-result (λ c. search needs) (λ c. search needs))
+low-product-spec = tie.close (tie.spec (λ c. record { fits = below 32 (search needs) (search needs) }) (λ c. search needs) (λ c. search needs))

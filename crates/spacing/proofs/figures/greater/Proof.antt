@@ -4,11 +4,5 @@ use native.Mathlib.Omega.{arith}
 use Rattle.spacing.proofs.figures.greater.Statement.{statement}
 use Rattle.spacing.proofs.figures.greater.Tie as tie
 
-returns : tie.Need-returns
-returns c = omega (arith, c .if1 .taken)
-
-returns-2 : tie.Need-returns-2
-returns-2 c = omega (arith, c .if1 .left)
-
 pub greater-spec : {M : Type 1} → statement M
-greater-spec = tie.close (tie.spec returns returns-2)
+greater-spec = tie.close (tie.spec (λ c. omega (arith, c .if1 .taken)) (λ c. omega (arith, c .if1 .left)))

@@ -32,18 +32,12 @@ add-interval-of c =
     let less = start (c .before) .pre .2 (s .0) .3 (s .1) in
     search (needs, less)
 
-returns : tie.Need-returns
-unfolding restoredOwn
-returns c = rw (c .before .before .if1 .taken) (c .interval-of .ensures)
-
-returns-2 : tie.Need-returns-2
-unfolding restoredOwn
-returns-2 c = rw (c .before .before .if1 .left) (c .interval-of2 .ensures)
-
 pub own-then-spec : {M : Type 1} → statement M
+unfolding restoredOwn
 own-then-spec =
     tie.close
     (tie.spec (λ c. search needs) (λ c. search needs) (λ c. search needs) cast-held (λ c. search needs) (λ c. search needs) (λ c. let s = stored c in search needs)
     (λ c. let s = stored c in search needs) (λ c. let s = stored c in search needs) (λ c. let s = stored c in search needs) (λ c. let s = stored c in search needs)
     (λ c. let s = stored (c .before) in search needs) add-interval-of (λ c κs. search needs) (λ c. search needs) (λ c. search needs) (λ c. search needs)
-    (λ c. search needs) (λ c. search needs) (λ c κs. search needs) returns returns-2)
+    (λ c. search needs) (λ c. search needs) (λ c κs. search needs) (λ c. rw (c .before .before .if1 .taken) (c .interval-of .ensures))
+    (λ c. rw (c .before .before .if1 .left) (c .interval-of2 .ensures)))

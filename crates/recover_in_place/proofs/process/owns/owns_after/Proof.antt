@@ -16,9 +16,6 @@ Inv-loop w pasts owns₀ p₀ owns p = (p ≤ 16) × (owns ≡ setBelow p (λ q.
 abbrev μ-loop : tie.MeasureT-loop
 μ-loop w pasts owns₀ p₀ owns p = 16 - p
 
-loop-holds : tie.Need-loop-holds Inv-loop μ-loop
-loop-holds c = (search needs, below-none _ _)
-
 own-then-requires : tie.Need-own-then-requires Inv-loop μ-loop
 own-then-requires c κs =
     let i = c .before in
@@ -41,7 +38,7 @@ returns c =
 pub owns-after-spec : {M : Type 1} → statement M
 owns-after-spec =
     tie.close
-    (tie.spec Inv-loop μ-loop loop-holds (λ c. search needs)
+    (tie.spec Inv-loop μ-loop (λ c. (search needs, below-none _ _)) (λ c. search needs)
     (λ c. let i = c .before in omega (arith, i .loop-test .taken, i .before .before .before .before .pre .1 .0))
-    (λ c. let small = c .shared-slice-known3 .given (c .before .before .loop .p) in search (needs, small)) own-then-requires (λ c. search needs) (λ c. search needs)
-    (λ c. search needs) (λ c. search needs) loop-again returns)
+    (λ c. let small = c .shared-slice-known3 .given (c .before .before .loop .p) in search (needs, small)) own-then-requires (λ c. search needs)
+    (λ c. search needs) (λ c. search needs) (λ c. search needs) loop-again returns)
