@@ -6,10 +6,6 @@ use borrow.Author.Needs.{needs}
 use Rattle.console_steps.proofs.has_room.Statement.{statement}
 use Rattle.console_steps.proofs.has_room.Tie as tie
 
-returns : tie.Need-returns
-unfolding hasRoom
-returns c = rw (lt-leb 4 (c .before .args .memory) (c .if1 .taken)) refl
-
 returns-2 : tie.Need-returns-2
 unfolding hasRoom
 returns-2 c = rw (le-leb 4 (c .before .before .args .memory) (c .before .if1 .left), ne-eqb (c .before .before .args .words) 6464 (c .if2 .taken)) refl
@@ -23,4 +19,5 @@ unfolding hasRoom
 returns-4 c = rw (le-leb 4 (c .before .before .before .args .memory) (c .before .before .if1 .left), eq-eqb (c .before .before .before .args .words) 6464 (c .before .if2 .left), le-leb 8 (c .before .before .before .args .input) (c .if3 .left)) refl
 
 pub has-room-spec : {M : Type 1} → statement M
-has-room-spec = tie.close (tie.spec returns returns-2 returns-3 returns-4)
+unfolding hasRoom
+has-room-spec = tie.close (tie.spec (λ c. rw (lt-leb 4 (c .before .args .memory) (c .if1 .taken)) refl) returns-2 returns-3 returns-4)

@@ -6,13 +6,6 @@ use Rattle.judge_machine.specs.Judging.{wanted}
 use Rattle.judge_machine.proofs.wanted.Statement.{statement}
 use Rattle.judge_machine.proofs.wanted.Tie as tie
 
-returns : tie.Need-returns
-unfolding wanted
-returns c = rw (eq-eqb _ _ (c .if1 .taken))
-
-returns-2 : tie.Need-returns-2
-unfolding wanted
-returns-2 c = rw (ne-eqb _ _ (c .if1 .left))
-
 pub wanted-spec : {M : Type 1} → statement M
-wanted-spec = tie.close (tie.spec returns (λ c. search needs) returns-2)
+unfolding wanted
+wanted-spec = tie.close (tie.spec (λ c. rw (eq-eqb _ _ (c .if1 .taken))) (λ c. search needs) (λ c. rw (ne-eqb _ _ (c .if1 .left))))

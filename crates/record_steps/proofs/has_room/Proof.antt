@@ -7,10 +7,6 @@ use borrow.Author.Needs.{needs}
 use Rattle.record_steps.proofs.has_room.Statement.{statement}
 use Rattle.record_steps.proofs.has_room.Tie as tie
 
-returns : tie.Need-returns
-unfolding hasRoom
-returns c = rw (lt-leb 6 (c .before .args .memory) (c .if1 .taken)) refl
-
 returns-2 : tie.Need-returns-2
 unfolding hasRoom
 returns-2 c = rw (le-leb 6 (c .before .before .args .memory) (c .before .if1 .left), ne-eqb (c .before .before .args .words) 6464 (c .if2 .taken)) refl
@@ -28,4 +24,5 @@ unfolding hasRoom
 returns-5 c = rw (le-leb 6 (c .before .before .before .before .args .memory) (c .before .before .before .if1 .left), eq-eqb (c .before .before .before .before .args .words) 6464 (c .before .before .if2 .left), le-leb 4099 (c .before .before .before .before .args .input) (c .before .if3 .left), le-leb blockLines (c .before .before .before .before .args .out) (c .if4 .left)) refl
 
 pub has-room-spec : {M : Type 1} → statement M
-has-room-spec = tie.close (tie.spec returns returns-2 returns-3 returns-4 returns-5)
+unfolding hasRoom
+has-room-spec = tie.close (tie.spec (λ c. rw (lt-leb 6 (c .before .args .memory) (c .if1 .taken)) refl) returns-2 returns-3 returns-4 returns-5)

@@ -11,9 +11,6 @@ returns : tie.Need-returns
 unfolding listReport
 returns c = c .refused .ensures ∙ ap listReport (sym (c .before .before .answer .given .1))
 
-returns-2 : tie.Need-returns-2
-unfolding listReport reportIn valueIn
-returns-2 c = rw (c .before .answer2 .given .1) refl
-
 pub of-list-spec : {M : Type 1} → statement M
-of-list-spec = tie.close (tie.spec (λ c. search needs) (λ c κs. search needs) (λ c. search needs) returns returns-2)
+unfolding listReport reportIn valueIn
+of-list-spec = tie.close (tie.spec (λ c. search needs) (λ c κs. search needs) (λ c. search needs) returns (λ c. rw (c .before .answer2 .given .1) refl))

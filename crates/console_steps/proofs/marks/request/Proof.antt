@@ -6,29 +6,13 @@ use borrow.Author.Needs.{needs}
 use Rattle.console_steps.proofs.marks.request.Statement.{statement}
 use Rattle.console_steps.proofs.marks.request.Tie as tie
 
-returns : tie.Need-returns
-unfolding asksFor
-returns c = rw (c .match .keys1) refl
-
-returns-2 : tie.Need-returns-2
-unfolding asksFor
-returns-2 c = rw (c .before .match .keys2) refl
-
-returns-3 : tie.Need-returns-3
-unfolding asksFor
-returns-3 c = rw (c .match .keys3) refl
-
-returns-4 : tie.Need-returns-4
-unfolding asksFor
-returns-4 c = rw (c .match .keys4) refl
-
-returns-5 : tie.Need-returns-5
-unfolding asksFor
-returns-5 c = rw (c .match .keys5) refl
-
 returns-6 : tie.Need-returns-6
 unfolding asksFor
 returns-6 c = let p = c .before .args .m .phase in let o = c .match .rest in rw (ne-eqb p 1 (o .0 .0 .0 .0 .1), ne-eqb p 2 (o .0 .0 .0 .1), ne-eqb p 3 (o .0 .0 .1), ne-eqb p 4 (o .0 .1), ne-eqb p 5 (o .1)) refl
 
 pub request-spec : {M : Type 1} → statement M
-request-spec = tie.close (tie.spec (λ c. search needs) returns returns-2 returns-3 returns-4 returns-5 returns-6)
+unfolding asksFor
+request-spec =
+    tie.close
+    (tie.spec (λ c. search needs) (λ c. rw (c .match .keys1) refl) (λ c. rw (c .before .match .keys2) refl) (λ c. rw (c .match .keys3) refl)
+    (λ c. rw (c .match .keys4) refl) (λ c. rw (c .match .keys5) refl) returns-6)

@@ -4,9 +4,6 @@ use borrow.Author.Needs.{needs}
 use Rattle.console_steps.proofs.text.write_field.Statement.{statement}
 use Rattle.console_steps.proofs.text.write_field.Tie as tie
 
-returns : tie.Need-returns
-unfolding valueIn
-returns c = c .before .before .write-value .ensures
-
 pub write-field-spec : {M : Type 1} → statement M
-write-field-spec = tie.close (tie.spec (λ c κs. search needs) (λ c. search needs) returns)
+unfolding valueIn
+write-field-spec = tie.close (tie.spec (λ c κs. search needs) (λ c. search needs) (λ c. c .before .before .write-value .ensures))

@@ -5,8 +5,5 @@ use borrow.Author.Needs.{needs}
 use Rattle.merge_machine.proofs.going.stop.Statement.{statement}
 use Rattle.merge_machine.proofs.going.stop.Tie as tie
 
-returns : tie.Need-returns
-returns c = λ input out. rw (c .at .ensures) (arrives-stopped input out)
-
 pub stop-spec : {M : Type 1} → statement M
-stop-spec = tie.close (tie.spec (λ c κs. search needs) returns)
+stop-spec = tie.close (tie.spec (λ c κs. search needs) (λ c. λ input out. rw (c .at .ensures) (arrives-stopped input out)))

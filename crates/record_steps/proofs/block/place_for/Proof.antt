@@ -6,13 +6,8 @@ use borrow.Author.Needs.{needs}
 use Rattle.record_steps.proofs.block.place_for.Statement.{statement}
 use Rattle.record_steps.proofs.block.place_for.Tie as tie
 
-returns : tie.Need-returns
-unfolding placeFor
-returns c = rw (lt-ltb (c .before .args .left) 4 (c .if1 .taken)) refl
-
-returns-2 : tie.Need-returns-2
-unfolding placeFor
-returns-2 c = rw (le-ltb (c .before .args .left) 4 (c .if1 .left)) refl
-
 pub place-for-spec : {M : Type 1} → statement M
-place-for-spec = tie.close (tie.spec returns returns-2)
+unfolding placeFor
+place-for-spec =
+    tie.close
+    (tie.spec (λ c. rw (lt-ltb (c .before .args .left) 4 (c .if1 .taken)) refl) (λ c. rw (le-ltb (c .before .args .left) 4 (c .if1 .left)) refl))

@@ -16,12 +16,6 @@ Inv-loop w₀ left done block out₀ lines₀ t₀ at₀ w out lines t at =
 abbrev μ-loop : tie.MeasureT-loop
 μ-loop w₀ left done block out₀ lines₀ t₀ at₀ w out lines t at = length block - at
 
-loop-holds : tie.Need-loop-holds Inv-loop μ-loop
-loop-holds c = (none-so-far _ _ _ _ _ _, refl)
-
-sub-loop : tie.Need-sub-loop Inv-loop μ-loop
-sub-loop c = omega (arith, c .loop .inv .0 .inside)
-
 take-one-requires : tie.Need-take-one-requires Inv-loop μ-loop
 take-one-requires c κs = let i = c .before .before .before .before .before .loop .inv .0 in let p = c .before .before .before .before .before .before .before .before .before .before .pre in (omega (arith, i .size, i .out-length, i .inside, p .0, p .1, c .before .before .before .before .loop-test .taken), omega (arith, i .told, i .lines-length, i .inside, p .0, p .2, c .before .before .before .before .loop-test .taken), omega (arith, i .count, i .inside, p .3), omega (arith, i .size, i .inside, p .0))
 
@@ -38,20 +32,12 @@ loop-again c = let i = c .before .before .before .before .before .before .before
       c .before .before .before .before .before .before .take-one .kept .0 ∙ c .before .before .before .before .before .before .before .before .before .before .before .before .loop .inv .1,
     )
 
-same-length : tie.Need-same-length Inv-loop μ-loop
-same-length c = c .before .loop .inv .1
-
-same-length-2 : tie.Need-same-length-2 Inv-loop μ-loop
-same-length-2 c = c .before .loop .inv .0 .out-length
-
-same-length-3 : tie.Need-same-length-3 Inv-loop μ-loop
-same-length-3 c = c .before .loop .inv .0 .lines-length
-
 returns : tie.Need-returns Inv-loop μ-loop
 returns c = let p = c .before .before .before .before .before .before .pre in all-so-far _ _ _ _ _ _ _ _ _ _ _ (c .before .loop .inv .0) (omega (arith, c .loop-test .left)) (omega (arith, p .0, p .1)) (p .0)
 
 pub take-all-spec : {M : Type 1} → statement M
 take-all-spec =
     tie.close
-    (tie.spec Inv-loop μ-loop loop-holds sub-loop (λ c κs. search needs) take-one-requires (λ c. search needs) loop-less loop-again same-length same-length-2
-    same-length-3 returns)
+    (tie.spec Inv-loop μ-loop (λ c. (none-so-far _ _ _ _ _ _, refl)) (λ c. omega (arith, c .loop .inv .0 .inside)) (λ c κs. search needs) take-one-requires
+    (λ c. search needs) loop-less loop-again (λ c. c .before .loop .inv .1) (λ c. c .before .loop .inv .0 .out-length) (λ c. c .before .loop .inv .0 .lines-length)
+    returns)

@@ -5,11 +5,8 @@ use borrow.Author.Needs.{needs}
 use Rattle.record_steps.proofs.going.end_refused.Statement.{statement}
 use Rattle.record_steps.proofs.going.end_refused.Tie as tie
 
-write-refused-requires : tie.Need-write-refused-requires
-write-refused-requires c κs = omega (arith, c .before .before .pre)
-
 returns : tie.Need-returns
 returns c = λ words input lines. arrives-ending words input lines _ _ _ _ (omega (arith, c .before .before .before .before .before .pre, c .before .before .write-refused .ensures .0 .next-place, c .before .before .write-refused .ensures .1)) (c .before .before .write-refused .ensures .0)
 
 pub end-refused-spec : {M : Type 1} → statement M
-end-refused-spec = tie.close (tie.spec write-refused-requires (λ c. search needs) returns)
+end-refused-spec = tie.close (tie.spec (λ c κs. omega (arith, c .before .before .pre)) (λ c. search needs) returns)

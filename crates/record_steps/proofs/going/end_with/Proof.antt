@@ -5,11 +5,8 @@ use borrow.Author.Needs.{needs}
 use Rattle.record_steps.proofs.going.end_with.Statement.{statement}
 use Rattle.record_steps.proofs.going.end_with.Tie as tie
 
-write-word-requires : tie.Need-write-word-requires
-write-word-requires c κs = omega (arith, c .before .before .before .pre)
-
 returns : tie.Need-returns
 returns c = λ words input lines. arrives-ending words input lines _ _ _ _ (c .before .before .before .before .before .before .pre) (c .before .before .write-word .ensures)
 
 pub end-with-spec : {M : Type 1} → statement M
-end-with-spec = tie.close (tie.spec write-word-requires (λ c. search needs) returns)
+end-with-spec = tie.close (tie.spec (λ c κs. omega (arith, c .before .before .before .pre)) (λ c. search needs) returns)

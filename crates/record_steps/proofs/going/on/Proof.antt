@@ -8,9 +8,6 @@ use borrow.Author.Needs.{needs}
 use Rattle.record_steps.proofs.going.on.Statement.{statement}
 use Rattle.record_steps.proofs.going.on.Tie as tie
 
-after-count-requires : tie.Need-after-count-requires
-after-count-requires c κs = c .before .before .before .before .before .before .pre .6
-
 after-word-requires : tie.Need-after-word-requires
 after-word-requires c κs = (c .before .before .before .before .before .before .before .pre .5, c .before .before .before .before .before .before .before .pre .2, c .before .before .before .before .before .before .before .pre .6)
 
@@ -59,6 +56,7 @@ returns-7 c = let q = c .before .before .before .before .before .before .args .m
 pub on-spec : {M : Type 1} → statement M
 on-spec =
     tie.close
-    (tie.spec after-count-requires after-word-requires after-first-requires after-write-requires to-read-requires after-read-requires (λ c κs. search needs)
-    (λ c. search needs) returns (λ c. search needs) (λ c. search needs) returns-2 (λ c. search needs) (λ c. search needs) (λ c. search needs) returns-3
-    (λ c. search needs) (λ c. search needs) returns-4 returns-5 (λ c. search needs) (λ c. search needs) (λ c. search needs) (λ c. search needs) returns-6 returns-7)
+    (tie.spec (λ c κs. c .before .before .before .before .before .before .pre .6) after-word-requires after-first-requires after-write-requires to-read-requires
+    after-read-requires (λ c κs. search needs) (λ c. search needs) returns (λ c. search needs) (λ c. search needs) returns-2 (λ c. search needs)
+    (λ c. search needs) (λ c. search needs) returns-3 (λ c. search needs) (λ c. search needs) returns-4 returns-5 (λ c. search needs) (λ c. search needs)
+    (λ c. search needs) (λ c. search needs) returns-6 returns-7)

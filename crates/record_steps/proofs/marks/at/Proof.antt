@@ -4,8 +4,5 @@ use borrow.Author.Needs.{needs}
 use Rattle.record_steps.proofs.marks.at.Statement.{statement}
 use Rattle.record_steps.proofs.marks.at.Tie as tie
 
-returns : tie.Need-returns
-returns c = refl
-
 pub at-spec : {M : Type 1} → statement M
-at-spec = tie.close (tie.spec returns)
+at-spec = tie.close (tie.spec (λ c. refl))
