@@ -135,14 +135,6 @@ not-end-word most End = refl
 not-end-word most Done = refl
 not-end-word most Failed = refl
 
-not-end-done : (a : Answer) → isEnd (heardDone a) ≡ false
-unfolding isEnd heardDone
-not-end-done (Number k) = refl
-not-end-done (Bytes l) = refl
-not-end-done End = refl
-not-end-done Done = refl
-not-end-done Failed = refl
-
 number-two : (a : Answer) → isNumber a 2 ≡ eqb (numberOf a) 2
 unfolding isNumber numberOf
 number-two (Number n) = refl

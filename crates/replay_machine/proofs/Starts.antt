@@ -84,10 +84,6 @@ first-byte k (suc at) (x ∷ l) h = first-byte k at l h
 
 -- The bytes that are read after those that are held at the front.
 module _ (p : Place) (words input : List ℕ) (front : p .from ≡ 0) (fits : p .held ≤ length input) where
-  held-front : betweenIn p words input .held ≡ take (p .held) input
-  unfolding betweenIn
-  held-front = rw front
-
   pub most-same : min (length input) (4 * (mostRecords - p .count)) - p .held ≡ mostToRead (length input) (betweenIn p words input)
   unfolding mostToRead betweenIn
   most-same = rw (front, length-take-le (p .held) input fits)

@@ -18,13 +18,6 @@ use Rattle.simulate_machine.specs.Text.{longestText}
 use Rattle.simulate_machine.specs.Simulating.{longestWord, State, Counting, Asking, Telling, Tabling, Saying, Failing, Stopped, ask}
 use Rattle.simulate_machine.specs.Words.{Roomy, lacksRoom, keptIn, inPhase, stateOf, Puts, StandsFor}
 
--- Room for eight numbers stays.
-pub set8 : (m : List ℕ) (i x : ℕ) → 8 ≤ length m → 8 ≤ length (set m i x)
-set8 m i x h = omega (arith, h, length-set m i x)
-
-pub below : (m : List ℕ) (j : ℕ) → j < 8 → 8 ≤ length m → j < length m
-below m j few h = omega (arith, few, h)
-
 -- Eight numbers that are put are read back.
 flag-back : (b : Bool) → eqb (pick b 1 0) 1 ≡ b
 flag-back true = refl

@@ -12,19 +12,17 @@ use Rattle.simulate_machine.proofs.after_count.Tie as tie
 returns : tie.Need-returns
 returns c =
     let at-is-number = c .before .before .before .before .before .before .before .is-number in
-    let start = c .before .before .before .before .before .before .before .before .before .before .before in
     let at-if1 = c .before .before .before .before .before .before .if1 in
     let at-no-numbers = c .before .before .before .no-numbers in
     let at-ask-word = c .before .before .ask-word in
-    stands-as _ _ _ _ _ _ (led-counted _ _ (at-is-number .ensures 0 (now (start .args .input))) (at-if1 .taken) ∙ ap (Asking 1) (sym (at-no-numbers .ensures))) (at-ask-word .ensures)
+    stands-as _ _ _ _ _ _ (led-counted _ _ (at-is-number .ensures 0 (now (c .before .before .before .before .before .before .before .before .before .before .before .args .input))) (at-if1 .taken) ∙ ap (Asking 1) (sym (at-no-numbers .ensures))) (at-ask-word .ensures)
 
 returns-2 : tie.Need-returns-2
 returns-2 c =
     let at-is-number = c .before .before .before .before .before .before .before .before .is-number in
-    let start = c .before .before .before .before .before .before .before .before .before .before .before .before in
     let at-if1 = c .before .before .before .before .before .before .before .if1 in
     let at-say-usage = c .before .before .before .before .say-usage in
-    stands-as _ _ _ _ _ _ (led-miscounted _ _ (at-is-number .ensures 0 (now (start .args .input))) (at-if1 .left)) (at-say-usage .ensures)
+    stands-as _ _ _ _ _ _ (led-miscounted _ _ (at-is-number .ensures 0 (now (c .before .before .before .before .before .before .before .before .before .before .before .before .args .input))) (at-if1 .left)) (at-say-usage .ensures)
 
 pub after-count-spec : {M : Type 1} → statement M
 after-count-spec =

@@ -10,18 +10,16 @@ use Rattle.simulate_machine.proofs.after_line.Tie as tie
 returns : tie.Need-returns
 returns c =
     let at-is-done = c .before .before .before .before .before .before .before .before .is-done in
-    let start = c .before .before .before .before .before .before .before .before .before .before .before .before in
     let at-if1 = c .before .before .before .before .before .before .before .if1 in
     let at-next-row = c .before .before .before .before .next-row in
-    λ text. stands-as _ _ _ _ _ _ (row-done text _ _ (at-is-done .ensures 0 (now (start .args .input))) (start .args .k) (at-if1 .taken)) (at-next-row .ensures)
+    λ text. stands-as _ _ _ _ _ _ (row-done text _ _ (at-is-done .ensures 0 (now (c .before .before .before .before .before .before .before .before .before .before .before .before .args .input))) (c .before .before .before .before .before .before .before .before .before .before .before .before .args .k) (at-if1 .taken)) (at-next-row .ensures)
 
 returns-2 : tie.Need-returns-2
 returns-2 c =
     let at-is-done = c .before .before .before .before .before .before .before .before .is-done in
-    let start = c .before .before .before .before .before .before .before .before .before .before .before .before in
     let at-if1 = c .before .before .before .before .before .before .before .if1 in
     let at-fail = c .before .before .before .before .fail in
-    λ text. stands-as _ _ _ _ _ _ (row-failed text _ _ (at-is-done .ensures 0 (now (start .args .input))) (start .args .k) (at-if1 .left)) (at-fail .ensures)
+    λ text. stands-as _ _ _ _ _ _ (row-failed text _ _ (at-is-done .ensures 0 (now (c .before .before .before .before .before .before .before .before .before .before .before .before .args .input))) (c .before .before .before .before .before .before .before .before .before .before .before .before .args .k) (at-if1 .left)) (at-fail .ensures)
 
 pub after-line-spec : {M : Type 1} → statement M
 after-line-spec =

@@ -13,8 +13,7 @@ use Rattle.simulate_machine.proofs.after_word.Tie as tie
 slice-aggregate-with-word : tie.Need-slice-aggregate-with-word
 slice-aggregate-with-word c =
     let at-size-of = c .before .size-of in
-    let start = c .before .before .before .before .before .before in
-    sym (length-take-le (at-size-of .result) (now (start .args .input)) (omega (arith, at-size-of .ensures .1, start .pre .0 .1)))
+    sym (length-take-le (at-size-of .result) (now (c .before .before .before .before .before .before .args .input)) (omega (arith, at-size-of .ensures .1, c .before .before .before .before .before .before .pre .0 .1)))
 
 returns : tie.Need-returns
 returns c =

@@ -14,19 +14,17 @@ use Rattle.simulate_machine.proofs.answer_with.Tie as tie
 
 returns : tie.Need-returns
 returns c =
-    let start = c .before .before .before .before .before .before .before .before .before .before .before .before in
     let at-if1 = c .before .before .before .before .before .before .before .if1 in
     let at-table = c .before .before .before .before .table in
-    stands-as _ _ _ _ _ _ (answered-table (start .args .k) (at-if1 .taken)) (at-table .ensures)
+    stands-as _ _ _ _ _ _ (answered-table (c .before .before .before .before .before .before .before .before .before .before .before .before .args .k) (at-if1 .taken)) (at-table .ensures)
 
 returns-2 : tie.Need-returns-2
 returns-2 c =
-    let start = c .before .before .before .before .before .before .before .before .before .before .before .before .before .before .before in
     let at-if1 = c .before .before .before .before .before .before .before .before .before .before .if1 in
     let at-write-result = c .before .before .before .before .before .before .before .write-result in
     let at-trial = c .before .before .before .before .before .before .before .before .before .trial in
     let at-tell = c .before .before .tell in
-    stands-as _ _ _ _ _ _ (answered-one (start .args .k) (at-if1 .left) ∙ ap Telling (sym (front-text (now (start .args .out)) _ (at-write-result .last .0) (at-write-result .result) (at-write-result .ensures .0) (omega (arith, at-write-result .ensures .1, start .pre .2)) ∙ ap resultText (at-trial .ensures)))) (at-tell .ensures)
+    stands-as _ _ _ _ _ _ (answered-one (c .before .before .before .before .before .before .before .before .before .before .before .before .before .before .before .args .k) (at-if1 .left) ∙ ap Telling (sym (front-text (now (c .before .before .before .before .before .before .before .before .before .before .before .before .before .before .before .args .out)) _ (at-write-result .last .0) (at-write-result .result) (at-write-result .ensures .0) (omega (arith, at-write-result .ensures .1, c .before .before .before .before .before .before .before .before .before .before .before .before .before .before .before .pre .2)) ∙ ap resultText (at-trial .ensures)))) (at-tell .ensures)
 
 pub answer-with-spec : {M : Type 1} → statement M
 answer-with-spec =

@@ -9,19 +9,17 @@ use Rattle.simulate_machine.proofs.decide.Tie as tie
 
 returns : tie.Need-returns
 returns c =
-    let start = c .before .before .before .before .before .before .before .before .before .before .before .before .before in
     let at-is-wrong = c .before .before .before .before .before .before .before .before .is-wrong in
     let at-if1 = c .before .before .before .before .before .before .before .if1 in
     let at-say-usage = c .before .before .before .before .say-usage in
-    stands-as _ _ _ _ _ _ (decided-wrong (start .args .k) (sym (at-is-wrong .ensures) ∙ at-if1 .taken)) (at-say-usage .ensures)
+    stands-as _ _ _ _ _ _ (decided-wrong (c .before .before .before .before .before .before .before .before .before .before .before .before .before .args .k) (sym (at-is-wrong .ensures) ∙ at-if1 .taken)) (at-say-usage .ensures)
 
 returns-2 : tie.Need-returns-2
 returns-2 c =
-    let start = c .before .before .before .before .before .before .before .before .before .before .before .before .before in
     let at-is-wrong = c .before .before .before .before .before .before .before .before .is-wrong in
     let at-if1 = c .before .before .before .before .before .before .before .if1 in
     let at-answer-with = c .before .before .before .before .answer-with in
-    stands-as _ _ _ _ _ _ (decided-right (start .args .k) (sym (at-is-wrong .ensures) ∙ at-if1 .left)) (at-answer-with .ensures)
+    stands-as _ _ _ _ _ _ (decided-right (c .before .before .before .before .before .before .before .before .before .before .before .before .before .args .k) (sym (at-is-wrong .ensures) ∙ at-if1 .left)) (at-answer-with .ensures)
 
 pub decide-spec : {M : Type 1} → statement M
 decide-spec =

@@ -5,11 +5,8 @@ use borrow.Author.Needs.{needs}
 use Rattle.simulate_machine.proofs.kept.Statement.{statement}
 use Rattle.simulate_machine.proofs.kept.Tie as tie
 
-returns : tie.Need-returns
-unfolding keptIn
-returns c =
-    search needs
-
 pub kept-spec : {M : Type 1} → statement M
+unfolding keptIn
 kept-spec =
-    tie.close (tie.spec (λ c. search needs) (λ c. search needs) (λ c. search needs) (λ c. search needs) (λ c. search needs) (λ c. search needs) returns)
+    tie.close
+    (tie.spec (λ c. search needs) (λ c. search needs) (λ c. search needs) (λ c. search needs) (λ c. search needs) (λ c. search needs) (λ c. search needs))

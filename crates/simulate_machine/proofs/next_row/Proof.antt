@@ -16,10 +16,9 @@ use Rattle.simulate_machine.proofs.next_row.Tie as tie
 
 returns : tie.Need-returns
 returns c =
-    let start = c .before .before .before .before .before .before .before .before .before .before in
     let at-if1 = c .before .before .before .before .if1 in
     let at-stop = c .before .before .stop in
-    stands-as _ _ _ _ _ _ (row-none (start .args .k) (at-if1 .taken)) (at-stop .ensures _ _)
+    stands-as _ _ _ _ _ _ (row-none (c .before .before .before .before .before .before .before .before .before .before .args .k) (at-if1 .taken)) (at-stop .ensures _ _)
 
 returns-2 : tie.Need-returns-2
 unfolding withoutFirst

@@ -7,21 +7,18 @@ use Rattle.simulate_machine.proofs.size_of.Tie as tie
 
 returns : tie.Need-returns
 returns c =
-    let start = c .before .before .before in
     let at-taken = c .before .taken in
-    size-brought (start .args .taken) (start .pre) _ (at-taken .given .1)
+    size-brought (c .before .before .before .args .taken) (c .before .before .before .pre) _ (at-taken .given .1)
 
 returns-2 : tie.Need-returns-2
 returns-2 c =
-    let start = c .before .before in
     let at-enum-told = c .enum-told in
-    size-ended (start .args .taken) (start .pre) (at-enum-told .given .1)
+    size-ended (c .before .before .args .taken) (c .before .before .pre) (at-enum-told .given .1)
 
 returns-3 : tie.Need-returns-3
 returns-3 c =
-    let start = c .before .before in
     let at-enum-told2 = c .enum-told2 in
-    size-failed (start .args .taken) (start .pre) (at-enum-told2 .given .1)
+    size-failed (c .before .before .args .taken) (c .before .before .pre) (at-enum-told2 .given .1)
 
 pub size-of-spec : {M : Type 1} → statement M
 size-of-spec =

@@ -13,10 +13,9 @@ use Rattle.simulate_machine.proofs.step.Tie as tie
 
 returns : tie.Need-returns
 returns c =
-    let start = c .before .before .before .before .before in
     let at-lacks-room = c .before .lacks-room in
     let at-if1 = c .if1 in
-    no-room (now (start .args .memory)) (now (start .args .input)) (now (start .args .out)) _ (sym (at-lacks-room .ensures) ∙ at-if1 .taken)
+    no-room (now (c .before .before .before .before .before .args .memory)) (now (c .before .before .before .before .before .args .input)) (now (c .before .before .before .before .before .args .out)) _ (sym (at-lacks-room .ensures) ∙ at-if1 .taken)
 
 slice-read-phase : tie.Need-slice-read-phase
 slice-read-phase c =
@@ -32,12 +31,11 @@ after-count-requires c κs =
 
 returns-2 : tie.Need-returns-2
 returns-2 c =
-    let start = c .before .before .before .before .before .before .before .before .before .before .before .before .before .before in
     let at-lacks-room = c .before .before .before .before .before .before .before .before .before .before .lacks-room in
     let at-if1 = c .before .before .before .before .before .before .before .before .before .if1 in
     let at-if2 = c .before .before .before .before .before .before .before .if2 in
     let at-after-count = c .before .before .before .before .after-count in
-    steps-as _ _ _ _ _ _ _ (is-counting (now (start .args .memory)) (now (start .args .input)) (now (start .args .out)) (room-by _ _ _ (sym (at-lacks-room .ensures) ∙ at-if1 .left)) (at-if2 .taken)) (at-after-count .ensures)
+    steps-as _ _ _ _ _ _ _ (is-counting (now (c .before .before .before .before .before .before .before .before .before .before .before .before .before .before .args .memory)) (now (c .before .before .before .before .before .before .before .before .before .before .before .before .before .before .args .input)) (now (c .before .before .before .before .before .before .before .before .before .before .before .before .before .before .args .out)) (room-by _ _ _ (sym (at-lacks-room .ensures) ∙ at-if1 .left)) (at-if2 .taken)) (at-after-count .ensures)
 
 kept-requires : tie.Need-kept-requires
 kept-requires c κs =
@@ -72,12 +70,11 @@ after-last-requires c κs =
 
 returns-4 : tie.Need-returns-4
 returns-4 c =
-    let start = c .before .before .before .before .before .before .before .before .before .before .before .before .before .before .before .before in
     let at-lacks-room = c .before .before .before .before .before .before .before .before .before .before .before .before .lacks-room in
     let at-if1 = c .before .before .before .before .before .before .before .before .before .before .before .if1 in
     let at-if4 = c .before .before .before .before .before .before .before .if4 in
     let at-after-last = c .before .before .before .before .after-last in
-    steps-as _ _ _ _ _ _ _ (is-telling (now (start .args .memory)) (now (start .args .input)) (now (start .args .out)) (room-by _ _ _ (sym (at-lacks-room .ensures) ∙ at-if1 .left)) (at-if4 .taken)) (at-after-last .ensures _)
+    steps-as _ _ _ _ _ _ _ (is-telling (now (c .before .before .before .before .before .before .before .before .before .before .before .before .before .before .before .before .args .memory)) (now (c .before .before .before .before .before .before .before .before .before .before .before .before .before .before .before .before .args .input)) (now (c .before .before .before .before .before .before .before .before .before .before .before .before .before .before .before .before .args .out)) (room-by _ _ _ (sym (at-lacks-room .ensures) ∙ at-if1 .left)) (at-if4 .taken)) (at-after-last .ensures _)
 
 go-on-requires : tie.Need-go-on-requires
 go-on-requires c κs =
@@ -94,14 +91,13 @@ stop-requires c κs =
 
 returns-6 : tie.Need-returns-6
 returns-6 c =
-    let start = c .before .before .before .before .before .before .before .before .before .before .before .before .before .before in
     let at-lacks-room = c .before .before .before .before .before .before .before .before .before .before .lacks-room in
     let at-if1 = c .before .before .before .before .before .before .before .before .before .if1 in
     let at-if3 = c .before .before .before .before .before .before .if3 in
     let at-if4 = c .before .before .before .before .before .if4 in
     let at-if5 = c .before .before .before .before .if5 in
     let at-stop = c .before .before .stop in
-    stands-as _ _ _ _ _ _ (then-stops (now (start .args .memory)) (now (start .args .input)) (now (start .args .out)) (room-by _ _ _ (sym (at-lacks-room .ensures) ∙ at-if1 .left)) _ (at-if3 .left) (at-if4 .left) (at-if5 .left)) (at-stop .ensures _ _)
+    stands-as _ _ _ _ _ _ (then-stops (now (c .before .before .before .before .before .before .before .before .before .before .before .before .before .before .args .memory)) (now (c .before .before .before .before .before .before .before .before .before .before .before .before .before .before .args .input)) (now (c .before .before .before .before .before .before .before .before .before .before .before .before .before .before .args .out)) (room-by _ _ _ (sym (at-lacks-room .ensures) ∙ at-if1 .left)) _ (at-if3 .left) (at-if4 .left) (at-if5 .left)) (at-stop .ensures _ _)
 
 pub step-spec : {M : Type 1} → statement M
 step-spec =

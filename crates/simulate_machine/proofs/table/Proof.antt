@@ -17,12 +17,11 @@ use Rattle.simulate_machine.proofs.table.Tie as tie
 
 returns : tie.Need-returns
 returns c =
-    let start = c .before .before .before .before .before .before .before .before .before .before .before .before .before .before .before in
     let at-is-refused = c .before .before .before .before .before .before .before .before .before .before .is-refused in
     let at-if1 = c .before .before .before .before .before .before .before .before .before .if1 in
     let at-write-refused = c .before .before .before .before .before .before .before .write-refused in
     let at-tell = c .before .before .tell in
-    stands-as _ _ _ _ _ _ (tabled-refused (start .args .k) (sym (at-is-refused .ensures) ∙ at-if1 .taken) ∙ ap Telling (sym (front-text (now (start .args .out)) _ (at-write-refused .last .0) (at-write-refused .result) (at-write-refused .ensures .0) (omega (arith, at-write-refused .ensures .1, start .pre .2))))) (at-tell .ensures)
+    stands-as _ _ _ _ _ _ (tabled-refused (c .before .before .before .before .before .before .before .before .before .before .before .before .before .before .before .args .k) (sym (at-is-refused .ensures) ∙ at-if1 .taken) ∙ ap Telling (sym (front-text (now (c .before .before .before .before .before .before .before .before .before .before .before .before .before .before .before .args .out)) _ (at-write-refused .last .0) (at-write-refused .result) (at-write-refused .ensures .0) (omega (arith, at-write-refused .ensures .1, c .before .before .before .before .before .before .before .before .before .before .before .before .before .before .before .pre .2))))) (at-tell .ensures)
 
 tabulate-requires : tie.Need-tabulate-requires
 tabulate-requires c κs =

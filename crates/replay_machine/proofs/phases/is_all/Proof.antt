@@ -24,16 +24,9 @@ returns : tie.Need-returns
 unfolding takenOf brought
 returns c = let a = c .before .before .before .before .before .before .args in let size = c .before .before .before .taken .given .0 .0 in let whole : a .at + size - a .at ≡ size = omega arith in rw (c .before .before .before .taken .given .1) (rw whole at (c .is-all .ensures))
 
-returns-2 : tie.Need-returns-2
-unfolding takenOf brought same
-returns-2 c = rw (c .enum-told .given .1)
-
-returns-3 : tie.Need-returns-3
-unfolding takenOf brought same
-returns-3 c = rw (c .enum-told2 .given .1)
-
 pub is-all-spec : {M : Type 1} → statement M
+unfolding takenOf brought same
 is-all-spec =
     tie.close
     (tie.spec (λ c. search needs) add-is-all (λ c. search needs) (λ c. search needs) part-is-all-end (λ c κs. search needs) (λ c. search needs) (λ c. search needs)
-    returns returns-2 returns-3)
+    returns (λ c. rw (c .enum-told .given .1)) (λ c. rw (c .enum-told2 .given .1)))

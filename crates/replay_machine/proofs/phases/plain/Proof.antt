@@ -5,9 +5,6 @@ use Rattle.replay_machine.specs.Standing.{plainPlace}
 use Rattle.replay_machine.proofs.phases.plain.Statement.{statement}
 use Rattle.replay_machine.proofs.phases.plain.Tie as tie
 
-returns : tie.Need-returns
-unfolding plainPlace
-returns c = refl
-
 pub plain-spec : {M : Type 1} → statement M
-plain-spec = tie.close (tie.spec returns)
+unfolding plainPlace
+plain-spec = tie.close (tie.spec (λ c. refl))

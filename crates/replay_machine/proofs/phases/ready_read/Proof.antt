@@ -63,9 +63,6 @@ module _ (c : tie.After-read) where
       let fits : p start .held + (c .before .fill-to .result - p start .held) ≤ length (input start) = omega (arith, c .before .fill-to .ensures, in-lists start .few, few-held start, roomy-input _ _ _ (start .pre .0 .0)) in
       rw (← most-is) (c .read .ensures .0 (p start .held) (input start) fits ∙ ap (λ (f : takens.Taken). takenOf f (p start .held) (input start)) e)
 
-fill-to-requires : tie.Need-fill-to-requires
-fill-to-requires c κs = omega (arith, in-lists (c .before .before .before) .few)
-
 sub-most : tie.Need-sub-most
 sub-most c =
     let s = c .before .before .before .before in
@@ -131,5 +128,6 @@ returns-3 c =
 pub ready-read-spec : {M : Type 1} → statement M
 ready-read-spec =
     tie.close
-    (tie.spec fill-to-requires sub-most (λ c κs. search needs) (λ c. search needs) with-more-requires (λ c. search needs) slice-aggregate-end end-requires
-    (λ c κs. search needs) (λ c. search needs) (λ c κs. search needs) returns (λ c. search needs) returns-2 (λ c. search needs) returns-3)
+    (tie.spec (λ c κs. omega (arith, in-lists (c .before .before .before) .few)) sub-most (λ c κs. search needs) (λ c. search needs) with-more-requires
+    (λ c. search needs) slice-aggregate-end end-requires (λ c κs. search needs) (λ c. search needs) (λ c κs. search needs) returns (λ c. search needs) returns-2
+    (λ c. search needs) returns-3)

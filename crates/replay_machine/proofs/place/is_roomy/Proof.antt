@@ -5,10 +5,6 @@ use Rattle.replay_machine.specs.Standing.{roomy}
 use Rattle.replay_machine.proofs.place.is_roomy.Statement.{statement}
 use Rattle.replay_machine.proofs.place.is_roomy.Tie as tie
 
-returns : tie.Need-returns
-unfolding roomy
-returns c = rw (ne-eqb (c .before .args .words) 6464 (c .if1 .taken))
-
 returns-2 : tie.Need-returns-2
 unfolding roomy
 returns-2 c = rw (eq-eqb (c .before .before .args .words) 6464 (c .before .if1 .left), lt-leb 8 (c .before .before .args .input) (c .if2 .taken))
@@ -18,4 +14,5 @@ unfolding roomy
 returns-3 c = rw (eq-eqb (c .before .before .args .words) 6464 (c .before .if1 .left), le-leb 8 (c .before .before .args .input) (c .if2 .left))
 
 pub is-roomy-spec : {M : Type 1} → statement M
-is-roomy-spec = tie.close (tie.spec returns returns-2 returns-3)
+unfolding roomy
+is-roomy-spec = tie.close (tie.spec (λ c. rw (ne-eqb (c .before .args .words) 6464 (c .if1 .taken))) returns-2 returns-3)

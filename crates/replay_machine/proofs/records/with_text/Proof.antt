@@ -5,9 +5,6 @@ use Rattle.replay_machine.specs.Standing.{textPlace}
 use Rattle.replay_machine.proofs.records.with_text.Statement.{statement}
 use Rattle.replay_machine.proofs.records.with_text.Tie as tie
 
-returns : tie.Need-returns
-unfolding textPlace
-returns c = refl
-
 pub with-text-spec : {M : Type 1} → statement M
-with-text-spec = tie.close (tie.spec returns)
+unfolding textPlace
+with-text-spec = tie.close (tie.spec (λ c. refl))

@@ -3,35 +3,19 @@
 use borrow.Author.Needs.{needs}
 use borrow.Author.Tests.{eq-eqb, ne-eqb, eqb-true, eqb-false}
 use mathlib.Core.Path.{_≡_}
-use mathlib.Core.Bool.{true, false, _||_}
-use mathlib.Core.List.{List}
+use mathlib.Core.Bool.{true, _||_}
 use Prim.Native.Nat.{ℕ}
 use native.Mathlib.Omega.{arith}
-use denote.Ref.{now}
 use lib.Dec.{eqb}
 use Rattle.laws.specs.Choice.{by-eq}
 use Rattle.laws.specs.Truth.{or-none}
 use Rattle.machines.specs.Machines.{stepped, heard}
-use Rattle.replay_machine.specs.declared.place.Place.{Place}
 use Rattle.replay_machine.specs.Replaying.{asks, next}
 use Rattle.replay_machine.specs.Standing.{betweenIn, Led}
 use Rattle.replay_machine.specs.Ready.{bytesState, readState, linesState}
 use Rattle.replay_machine.proofs.Places.{in-lists, is-starting, is-counted, is-opening, is-reading, is-printing, is-ending, is-failing, is-stopped, text-stopped}
 use Rattle.replay_machine.proofs.step.after.Statement.{statement}
 use Rattle.replay_machine.proofs.step.after.Tie as tie
-
-module _ (s : tie.Start) where
-  abbrev p : Place
-  p = s .args .p
-
-  abbrev words : List ℕ
-  words = now (s .args .words)
-
-  abbrev input : List ℕ
-  input = now (s .args .input)
-
-  abbrev out : List ℕ
-  out = now (s .args .out)
 
 -- A phase in which bytes were read or lines written, and is not the first of the two.
 is-four : (k : ℕ) → (eqb k 3 || eqb k 4) ≡ true → (k ≡ 3 → ⊥) → k ≡ 4
@@ -42,63 +26,63 @@ unfolding Led betweenIn
 after-bytes-requires c κs =
     let s = c .before .before .before .before .before .before .before in (
       s .pre .0,
-      λ e. by-eq (p s .phase) 3
-          (λ three. rw (is-reading (p s) (words s) (input s) (out s) (s .pre .0) three) at (s .pre .1 e))
-          (λ ne. rw (is-printing (p s) (words s) (input s) (out s) (s .pre .0) (is-four (p s .phase) (c .before .before .before .if1 .taken) ne)) at (s .pre .1 e)),
+      λ e. by-eq (s .args .p .phase) 3
+          (λ three. rw (is-reading (s .args .p) (s .args .words .now) (s .args .input .now) (s .args .out .now) (s .pre .0) three) at (s .pre .1 e))
+          (λ ne. rw (is-printing (s .args .p) (s .args .words .now) (s .args .input .now) (s .args .out .now) (s .pre .0) (is-four (s .args .p .phase) (c .before .before .before .if1 .taken) ne)) at (s .pre .1 e)),
     )
 
 returns : tie.Need-returns
 unfolding stepped next asks heard bytesState readState linesState
 returns c =
     let s = c .before .before .before .before .before .before .before .before .before .before .before .before .before .before in
-    by-eq (p s .phase) 3
-    (λ three. rw (is-reading (p s) (words s) (input s) (out s) (s .pre .0) three) (rw (eq-eqb (p s .phase) 3 three) at (c .before .before .before .before .before .before .after-bytes .ensures)))
-    (λ ne. rw (is-printing (p s) (words s) (input s) (out s) (s .pre .0) (is-four (p s .phase) (c .before .before .before .before .before .before .before .before .before .before .if1 .taken) ne)) (rw (ne-eqb (p s .phase) 3 ne) at (c .before .before .before .before .before .before .after-bytes .ensures)))
+    by-eq (s .args .p .phase) 3
+    (λ three. rw (is-reading (s .args .p) (s .args .words .now) (s .args .input .now) (s .args .out .now) (s .pre .0) three) (rw (eq-eqb (s .args .p .phase) 3 three) at (c .before .before .before .before .before .before .after-bytes .ensures)))
+    (λ ne. rw (is-printing (s .args .p) (s .args .words .now) (s .args .input .now) (s .args .out .now) (s .pre .0) (is-four (s .args .p .phase) (c .before .before .before .before .before .before .before .before .before .before .if1 .taken) ne)) (rw (ne-eqb (s .args .p .phase) 3 ne) at (c .before .before .before .before .before .before .after-bytes .ensures)))
 
 after-word-requires : tie.Need-after-word-requires
 after-word-requires c κs =
     let s = c .before .before .before .before .before .before .before .before in
-    (s .pre .0 .0, in-lists (p s) (words s) (input s) (out s) (s .pre .0) .front (λ e. omega (arith, c .before .before .before .match .keys2)) .0)
+    (s .pre .0 .0, in-lists (s .args .p) (s .args .words .now) (s .args .input .now) (s .args .out .now) (s .pre .0) .front (λ e. omega (arith, c .before .before .before .match .keys2)) .0)
 
 after-first-requires : tie.Need-after-first-requires
 after-first-requires c κs =
     let s = c .before .before .before .before .before .before .before .before in
-    (s .pre .0 .0, in-lists (p s) (words s) (input s) (out s) (s .pre .0) .front (λ e. omega (arith, c .before .before .before .match .keys3)) .0)
+    (s .pre .0 .0, in-lists (s .args .p) (s .args .words .now) (s .args .input .now) (s .args .out .now) (s .pre .0) .front (λ e. omega (arith, c .before .before .before .match .keys3)) .0)
 
 returns-2 : tie.Need-returns-2
 unfolding stepped next asks heard
 returns-2 c =
     let s = c .before .before .before .before .before .before .before .before .before in
-    rw (is-starting (p s) (words s) (input s) (out s) (s .pre .0) (c .before .before .before .before .match .keys1)) (c .after-count .ensures)
+    rw (is-starting (s .args .p) (s .args .words .now) (s .args .input .now) (s .args .out .now) (s .pre .0) (c .before .before .before .before .match .keys1)) (c .after-count .ensures)
 
 returns-3 : tie.Need-returns-3
 unfolding stepped next asks heard
 returns-3 c =
     let s = c .before .before .before .before .before .before .before .before .before in
-    rw (is-counted (p s) (words s) (input s) (out s) (s .pre .0) (c .before .before .before .before .match .keys2)) (c .after-word .ensures)
+    rw (is-counted (s .args .p) (s .args .words .now) (s .args .input .now) (s .args .out .now) (s .pre .0) (c .before .before .before .before .match .keys2)) (c .after-word .ensures)
 
 returns-4 : tie.Need-returns-4
 unfolding stepped next asks heard
 returns-4 c =
     let s = c .before .before .before .before .before .before .before .before .before .before .before .before .before in
-    rw (is-opening (p s) (words s) (input s) (out s) (s .pre .0) (c .before .before .before .before .before .before .before .before .match .keys3)) (c .before .before .before .before .after-first .ensures)
+    rw (is-opening (s .args .p) (s .args .words .now) (s .args .input .now) (s .args .out .now) (s .pre .0) (c .before .before .before .before .before .before .before .before .match .keys3)) (c .before .before .before .before .after-first .ensures)
 
 returns-5 : tie.Need-returns-5
 unfolding stepped next asks heard
 returns-5 c =
     let s = c .before .before .before .before .before .before .before .before .before .before .before in
-    rw (is-ending (p s) (words s) (input s) (out s) (s .pre .0) (c .before .before .before .before .before .before .match .keys4)) (c .before .before .after-last .ensures)
+    rw (is-ending (s .args .p) (s .args .words .now) (s .args .input .now) (s .args .out .now) (s .pre .0) (c .before .before .before .before .before .before .match .keys4)) (c .before .before .after-last .ensures)
 
 returns-6 : tie.Need-returns-6
 unfolding stepped next asks heard
 returns-6 c =
     let s = c .before .before .before .before .before .before in
     let others = c .before .match .rest in
-    let neither = or-none (eqb (p s .phase) 3) (eqb (p s .phase) 4) (c .before .before .if1 .left) in
-    let ends = text-stopped 0 (words s) (input s) (out s) (s .pre .0 .0) (omega arith) in
-    rw (c .with-text .ensures) (by-eq (p s .phase) 6
-    (λ e. rw (is-failing (p s) (words s) (input s) (out s) (s .pre .0) e) ends)
-    (λ ne. rw (is-stopped (p s) (words s) (input s) (out s) (s .pre .0) (others .0 .0 .0 .1) (others .0 .0 .1) (others .0 .1) (eqb-false (p s .phase) 3 (neither .0)) (eqb-false (p s .phase) 4 (neither .1)) (others .1) ne) ends))
+    let neither = or-none (eqb (s .args .p .phase) 3) (eqb (s .args .p .phase) 4) (c .before .before .if1 .left) in
+    let ends = text-stopped 0 (s .args .words .now) (s .args .input .now) (s .args .out .now) (s .pre .0 .0) (omega arith) in
+    rw (c .with-text .ensures) (by-eq (s .args .p .phase) 6
+    (λ e. rw (is-failing (s .args .p) (s .args .words .now) (s .args .input .now) (s .args .out .now) (s .pre .0) e) ends)
+    (λ ne. rw (is-stopped (s .args .p) (s .args .words .now) (s .args .input .now) (s .args .out .now) (s .pre .0) (others .0 .0 .0 .1) (others .0 .0 .1) (others .0 .1) (eqb-false (s .args .p .phase) 3 (neither .0)) (eqb-false (s .args .p .phase) 4 (neither .1)) (others .1) ne) ends))
 
 pub after-spec : {M : Type 1} → statement M
 after-spec =

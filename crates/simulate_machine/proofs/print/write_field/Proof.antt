@@ -9,9 +9,8 @@ use Rattle.simulate_machine.proofs.print.write_field.Tie as tie
 
 write-number-requires : tie.Need-write-number-requires
 write-number-requires c κs =
-    let s = c .before .before .before .before .before .before in
     let space = c .before .before .before .write-byte in
-    omega (arith, space .ensures .next-place, space .kept .0, s .pre, twenty-digits (s .args .x))
+    omega (arith, space .ensures .next-place, space .kept .0, c .before .before .before .before .before .before .pre, twenty-digits (c .before .before .before .before .before .before .args .x))
 
 returns : tie.Need-returns
 returns c =

@@ -17,9 +17,6 @@ Inv-loop word size place₀ i₀ place i = (i ≤ size) × (size ≡ length word
 abbrev μ-loop : tie.MeasureT-loop
 μ-loop word size place₀ i₀ place i = size - i
 
-loop-holds : tie.Need-loop-holds Inv-loop μ-loop
-loop-holds c = (search needs, search needs, search needs, iter-none _ _)
-
 loop-again : tie.Need-loop-again Inv-loop μ-loop
 loop-again c =
     let l = c .before .before .before .loop in
@@ -34,4 +31,6 @@ returns c =
 
 pub hyphen-in-spec : {M : Type 1} → statement M
 hyphen-in-spec =
-    tie.close (tie.spec Inv-loop μ-loop loop-holds (λ c. search needs) (λ c κs. search needs) (λ c. search needs) (λ c. search needs) loop-again returns)
+    tie.close
+    (tie.spec Inv-loop μ-loop (λ c. (search needs, search needs, search needs, iter-none _ _)) (λ c. search needs) (λ c κs. search needs) (λ c. search needs)
+    (λ c. search needs) loop-again returns)

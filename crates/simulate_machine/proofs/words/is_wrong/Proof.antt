@@ -5,9 +5,6 @@ use Rattle.simulate_machine.specs.Arguments.{isWrong}
 use Rattle.simulate_machine.proofs.words.is_wrong.Statement.{statement}
 use Rattle.simulate_machine.proofs.words.is_wrong.Tie as tie
 
-returns : tie.Need-returns
-unfolding isWrong
-returns c = search needs
-
 pub is-wrong-spec : {M : Type 1} → statement M
-is-wrong-spec = tie.close (tie.spec returns)
+unfolding isWrong
+is-wrong-spec = tie.close (tie.spec (λ c. search needs))
