@@ -11,11 +11,11 @@ use borrow.Author.Tests.{lt-leb, le-leb, leb-true, eq-eqb, not-false}
 use Rattle.laws.specs.Rows.{by-lt}
 use Rattle.laws.specs.Truth.{and-left}
 use Rattle.model.specs.Refusals.{firstOf, startRefusal}
-use Rattle.model.specs.Words.{places, noCheckpoint, blank}
+use Rattle.model.specs.Words.{mostProcesses, noCheckpoint, blank}
 use Rattle.model.specs.Steps.{checkpointZero, started, startState}
 use Rattle.model.specs.laws.Refusals.{no-rule, by-refusal}
 use Rattle.whole_runs.specs.Outcomes.{startOutcome}
-use Rattle.words.specs.Layout.{size, word}
+use Rattle.words.specs.Layout.{stateSize, word}
 use Rattle.words.proofs.ViewBlank.{blank-fits}
 use Rattle.run_words.specs.Readable.{Readable}
 use Rattle.run_words.proofs.Causes.{Small, small-disk}
@@ -26,7 +26,7 @@ use Rattle.calls.proofs.Changing.{small-readable}
 use Rattle.calls.proofs.Keeping.{Few, small-processes}
 
 -- More than 16 processes are refused whatever is lent.
-pub started-so : (n : ℕ) (counts : List ℕ) → length counts ≡ 16 → startOutcomeIn size n counts ≡ startOutcome n counts
+pub started-so : (n : ℕ) (counts : List ℕ) → length counts ≡ 16 → startOutcomeIn stateSize n counts ≡ startOutcome n counts
 unfolding StartsTheSame startOutcomeIn startRefusalIn startOutcome startRefusal firstOf
 started-so n counts long = by-lt 16 n
     (λ many. rw (lt-leb n 16 many, le-leb 1 n (omega arith)))
@@ -40,7 +40,7 @@ replicate-zero (suc n) (suc k) = replicate-zero n k
 
 zero-at : (k : ℕ) → word zeros k ≡ 0
 unfolding zeros
-zero-at k = replicate-zero size k
+zero-at k = replicate-zero stateSize k
 
 zeros-readable : Readable zeros
 zeros-readable = record {
@@ -56,9 +56,9 @@ module _ (n : ℕ) (one : 1 ≤ n) (most : n ≤ 16) where
   blank-small = record {
     count-some = one;
     count-few = most;
-    rows = length-replicate places (replicate places noCheckpoint);
+    rows = length-replicate mostProcesses (replicate mostProcesses noCheckpoint);
     causes = λ p k lt less.
-        rw (getD-replicate places p (replicate places noCheckpoint) [] (omega arith), getD-replicate places k noCheckpoint noCheckpoint less)
+        rw (getD-replicate mostProcesses p (replicate mostProcesses noCheckpoint) [] (omega arith), getD-replicate mostProcesses k noCheckpoint noCheckpoint less)
         (omega arith);
   }
 
@@ -75,10 +75,10 @@ accepted-some : (many n : ℕ) (counts : List ℕ) → startRefusalIn many n cou
 unfolding startRefusalIn
 accepted-some many n counts fine = leb-true 1 n (and-left (leb 1 n) (leb n 16) (not-false _ (no-rule _ fine 0)))
 
-pub start-readable : (w : List ℕ) (n : ℕ) (counts : List ℕ) → length w ≡ size → Readable (startWords w n counts)
+pub start-readable : (w : List ℕ) (n : ℕ) (counts : List ℕ) → length w ≡ stateSize → Readable (startWords w n counts)
 unfolding startWords
 start-readable w n counts long = by-refusal (startRefusalIn (length w) n counts)
     (λ fine.
     let few = accepted-few (length w) n counts fine in
     rw fine (small-readable (startedWords n counts) (startState n counts) (started-run n counts few) (start-small n (accepted-some (length w) n counts fine) few counts)))
-    (λ why e. rw (e, eq-eqb (length w) size long) zeros-readable)
+    (λ why e. rw (e, eq-eqb (length w) stateSize long) zeros-readable)

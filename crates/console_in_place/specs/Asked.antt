@@ -25,7 +25,7 @@ use Rattle.model.specs.declared.LineAnswer.the-variants as line-answer
 use Rattle.model.specs.declared.RecoverAnswer.{RecoverAnswer}
 use Rattle.model.specs.declared.RecoverAnswer.the-variants as recover-answer
 use Rattle.whole_runs.specs.Outcomes.{Outcome}
-use Rattle.words.specs.Layout.{size, runOf}
+use Rattle.words.specs.Layout.{stateSize, runOf}
 use Rattle.in_place.specs.Starting.{startOutcomeIn, startWords}
 use Rattle.roles.specs.declared.Role.{Role}
 use Rattle.roles.specs.declared.Role.the-variants.{Operator, JobOwner, Viewer}
@@ -62,7 +62,7 @@ consoleStartIn c w n counts = pick (denied c Start)
 
 -- Where enough is lent, it answers as the console's start, and is it where it is not denied.
 unfoldable pub ConsoleStartsTheSame : Type 0
-ConsoleStartsTheSame = (c : Caller) (w : List ℕ) (n : ℕ) (counts : List ℕ) → length w ≡ size → n ≤ length counts
+ConsoleStartsTheSame = (c : Caller) (w : List ℕ) (n : ℕ) (counts : List ℕ) → length w ≡ stateSize → n ≤ length counts
     → (consoleStartIn c w n counts .answer ≡ consoleStart c n counts .answer) × (denied c Start ≡ false → consoleStartIn c w n counts ≡ consoleStart c n counts)
 
 -- Each call by the number of a role.

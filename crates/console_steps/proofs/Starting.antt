@@ -14,7 +14,7 @@ use Rattle.model.specs.declared.Run.{Run}
 use Rattle.model.specs.declared.Refusal.the-variants.{Denied}
 use Rattle.model.specs.declared.StartAnswer.{StartAnswer}
 use Rattle.model.specs.declared.StartAnswer.the-variants.{Refused}
-use Rattle.model.specs.Words.{ones, places}
+use Rattle.model.specs.Words.{ones, mostProcesses}
 use Rattle.model.specs.Refusals.{firstOf, startRefusal}
 use Rattle.whole_runs.specs.Outcomes.{Outcome, Report, startReport, startOutcome}
 use Rattle.whole_runs.specs.Calls.{answered}
@@ -39,8 +39,8 @@ clash e = absurd (let z : _≡_ {A = ℕ} 0 1 = cc in omega arith)
 
 refusal-same : (n : ℕ) → startRefusalIn 6464 n ones ≡ startRefusal n ones
 unfolding startRefusalIn startRefusal firstOf
-refusal-same n = by-bool (leb 1 n && leb n places)
-    (λ h. rw (h, le-ltb (length ones) n (leb-true n places (and-right (leb 1 n) (leb n places) h))) refl)
+refusal-same n = by-bool (leb 1 n && leb n mostProcesses)
+    (λ h. rw (h, le-ltb (length ones) n (leb-true n mostProcesses (and-right (leb 1 n) (leb n mostProcesses) h))) refl)
     (λ h. rw h refl)
 
 outcome-same : (n : ℕ) → startOutcomeIn 6464 n ones ≡ startOutcome n ones

@@ -7,7 +7,7 @@ use lib.Dec.{ltb}
 use lib.ListN.{length, getD, set, replicate}
 use Rattle.laws.specs.Choice.{pick}
 use Rattle.model.specs.declared.Named.{Named}
-use Rattle.model.specs.Words.{places}
+use Rattle.model.specs.Words.{mostProcesses}
 use Rattle.earliest.specs.declared.list.Copied.{Copied}
 
 -- What stands in a place that is not used.
@@ -15,12 +15,12 @@ abbrev pub noNamed : Named
 noNamed = record { process = 0; index = record { 0 = 0 } }
 
 unfoldable pub nothingCopied : Copied
-nothingCopied = record { named = replicate places noNamed; length = 0; process = 0 }
+nothingCopied = record { named = replicate mostProcesses noNamed; length = 0; process = 0 }
 
 -- One element more.
 unfoldable pub withElement : Copied → Named → Copied
 withElement t c = record {
-  named = pick (ltb (t .length) places) (set (t .named) (t .length) c) (t .named);
+  named = pick (ltb (t .length) mostProcesses) (set (t .named) (t .length) c) (t .named);
   length = t .length + 1;
   process = max (t .process) (c .process);
 }

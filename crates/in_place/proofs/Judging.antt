@@ -24,7 +24,7 @@ use Rattle.model.specs.laws.Refusals.{by-refusal}
 use Rattle.whole_runs.specs.Outcomes.{Outcome, startOutcome}
 use Rattle.whole_runs.specs.WholeRuns.{StartPromise}
 use Rattle.whole_runs.proofs.WholeRuns.{start-promise}
-use Rattle.words.specs.Layout.{size}
+use Rattle.words.specs.Layout.{stateSize}
 use Rattle.in_place.specs.Starting.{startRefusalIn, startOutcomeIn, StartsTheSame}
 use Rattle.in_place.proofs.Starting.{accepted-size, accepted-long}
 
@@ -57,25 +57,25 @@ module _ (many n : ℕ) (counts : List ℕ) where
     many-processes lt = refused CountOutsideRange (rw (le-leb 1 n one, lt-leb n 16 lt))
 
     module _ (most : n ≤ 16) where
-      pub other-size : (many ≡ size → ⊥) → startOutcomeIn many n counts ≡ record { run = blank 0; answer = Refused UnsoundState; rose = 0; deleted = []; line = [] }
+      pub other-size : (many ≡ stateSize → ⊥) → startOutcomeIn many n counts ≡ record { run = blank 0; answer = Refused UnsoundState; rose = 0; deleted = []; line = [] }
       unfolding startRefusalIn firstOf
-      other-size ne = refused UnsoundState (rw (le-leb 1 n one, le-leb n 16 most, ne-eqb many size ne))
+      other-size ne = refused UnsoundState (rw (le-leb 1 n one, le-leb n 16 most, ne-eqb many stateSize ne))
 
-      module _ (right : many ≡ size) where
+      module _ (right : many ≡ stateSize) where
         pub short-counts : length counts < n → startOutcomeIn many n counts ≡ record { run = blank 0; answer = Refused ListTooShort; rose = 0; deleted = []; line = [] }
         unfolding startRefusalIn firstOf
-        short-counts lt = refused ListTooShort (rw (le-leb 1 n one, le-leb n 16 most, eq-eqb many size right, lt-ltb (length counts) n lt))
+        short-counts lt = refused ListTooShort (rw (le-leb 1 n one, le-leb n 16 most, eq-eqb many stateSize right, lt-ltb (length counts) n lt))
 
         module _ (enough : n ≤ length counts) where
           pub outside : allBelow n (λ p. isBlockCount (getD counts p 0)) ≡ false
               → startOutcomeIn many n counts ≡ record { run = blank 0; answer = Refused BlockCountOutsideRange; rose = 0; deleted = []; line = [] }
           unfolding startRefusalIn firstOf
           outside e = refused BlockCountOutsideRange
-              (rw (le-leb 1 n one, le-leb n 16 most, eq-eqb many size right, le-ltb (length counts) n enough, some-not n (λ p. isBlockCount (getD counts p 0)), e))
+              (rw (le-leb 1 n one, le-leb n 16 most, eq-eqb many stateSize right, le-ltb (length counts) n enough, some-not n (λ p. isBlockCount (getD counts p 0)), e))
 
           pub fine-refusal : allBelow n (λ p. isBlockCount (getD counts p 0)) ≡ true → startRefusalIn many n counts ≡ none
           unfolding startRefusalIn firstOf
-          fine-refusal e = rw (le-leb 1 n one, le-leb n 16 most, eq-eqb many size right, le-ltb (length counts) n enough, some-not n (λ p. isBlockCount (getD counts p 0)), e)
+          fine-refusal e = rw (le-leb 1 n one, le-leb n 16 most, eq-eqb many stateSize right, le-ltb (length counts) n enough, some-not n (λ p. isBlockCount (getD counts p 0)), e)
 
           pub fine : allBelow n (λ p. isBlockCount (getD counts p 0)) ≡ true
               → startOutcomeIn many n counts ≡ record { run = startState n counts; answer = Started; rose = 0; deleted = []; line = [] }

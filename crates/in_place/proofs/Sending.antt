@@ -23,7 +23,7 @@ use Rattle.whole_runs.specs.Outcomes.{sendOutcome}
 use Rattle.verdicts.specs.declared.Verdict.the-variants.{Accepted, Refused}
 use Rattle.verdicts.specs.Verdicts.{refusalOf, sendVerdict}
 use Rattle.verdicts.proofs.Cases.{accepted-send, verdict-rules}
-use Rattle.words.specs.Layout.{size, word, wide2, countOf, endOf, heldAt, markAt, blocksAt, partAt, pinsAt, vectorIn, pinsIn, markIn, keptIn, messageIn, isMessage, messagesIn, endFits, fits, runOf}
+use Rattle.words.specs.Layout.{stateSize, word, wide2, countOf, endOf, heldAt, markAt, blocksAt, partAt, pinsAt, vectorIn, pinsIn, markIn, keptIn, messageIn, isMessage, messagesIn, endFits, fits, runOf}
 use Rattle.words.specs.Parts.{processIn}
 use Rattle.words.specs.Frames.{OnlyProcess, OnlyMessages}
 use Rattle.words.specs.Clean.{Clean, CleanMessages}
@@ -43,7 +43,7 @@ use Rattle.in_place.specs.Sending.{sentIn, sentWords}
 
 -- A place is left: the same messages, and nothing else has changed but their places.
 pub record Roomy (w v : List ℕ) : Type 0 where
-  pub long : length v ≡ size
+  pub long : length v ≡ stateSize
   pub room : endOf v < 64
   pub rest : (q : ℕ) → q < 5184 → (q ≡ 12 → ⊥) → word v q ≡ word w q
   pub same : messagesIn v ≡ messagesIn w
@@ -98,7 +98,7 @@ module _ (w : List ℕ) (h : sound (runOf w) ≡ true) (i j : ℕ) (li : i < cou
   abbrev a : List ℕ
   a = putLast r x
 
-  long-a : length a ≡ size
+  long-a : length a ≡ stateSize
   long-a = added-length r (g .long) (g .room) x whole is ∙ g .long
 
   abbrev number : ℕ
@@ -169,7 +169,7 @@ module _ (w : List ℕ) (h : sound (runOf w) ≡ true) (i j : ℕ) (li : i < cou
   room-i : i < 16
   room-i = omega (arith, known .few)
 
-  long-b : length b ≡ size
+  long-b : length b ≡ stateSize
   long-b = puts-length a (puts2 2 number) ∙ long-a
 
   mark-only : OnlyProcess b v i

@@ -26,7 +26,7 @@ use Rattle.model.specs.Words.{Process, zeroVector, noPins, blank, withDisk}
 use Rattle.model.specs.Sound.{isBlockCount}
 use Rattle.model.specs.Steps.{withProcesses, checkpointZero, started, startState, opening}
 use Rattle.model.specs.laws.Refusals.{no-rule, by-refusal}
-use Rattle.words.specs.Layout.{size, word, wide4, countOf, heldAt, markAt, blocksAt, partAt, pinsAt, indexAt, causeAt, storedAt, intervalOf, indexOf, pinOf, vectorIn, pinsIn, markIn, checkpointIn, keptIn, fits, runOf}
+use Rattle.words.specs.Layout.{stateSize, word, wide4, countOf, heldAt, markAt, blocksAt, partAt, pinsAt, indexAt, causeAt, storedAt, intervalOf, indexOf, pinOf, vectorIn, pinsIn, markIn, checkpointIn, keptIn, fits, runOf}
 use Rattle.words.specs.Parts.{processIn}
 use Rattle.words.specs.Frames.{OnlyProcess, OnlyDisk}
 use Rattle.words.specs.Clean.{Clean, CleanKept}
@@ -40,9 +40,9 @@ use Rattle.words.proofs.ViewClean.{clean-process, clean-disk}
 use Rattle.words.proofs.ViewParts.{process-by, with-processes-turn}
 use Rattle.in_place.specs.Starting.{zeros, withCounts, counted, firstPuts, withFirsts, begun, startedWords, startRefusalIn, startOutcomeIn, startWords}
 
-pub zeros-length : length zeros ≡ size
+pub zeros-length : length zeros ≡ stateSize
 unfolding zeros
-zeros-length = length-replicate {A = ℕ} size 0
+zeros-length = length-replicate {A = ℕ} stateSize 0
 
 replicate-zero : (n k : ℕ) → word (replicate n 0) k ≡ 0
 replicate-zero zero k = refl
@@ -51,7 +51,7 @@ replicate-zero (suc n) (suc k) = replicate-zero n k
 
 zeros-word : (k : ℕ) → word zeros k ≡ 0
 unfolding zeros
-zeros-word k = replicate-zero size k
+zeros-word k = replicate-zero stateSize k
 
 pub zeros-run : runOf zeros ≡ blank 0
 zeros-run = blank-run zeros (λ k low lt. zeros-word k) (λ k low. zeros-word k) zeros-length ∙ ap blank (zeros-word 0)
@@ -60,7 +60,7 @@ pub zeros-clean : Clean zeros
 zeros-clean = blank-clean zeros (λ k low lt. zeros-word k) (λ k low. zeros-word k) (λ p le lt. zeros-word (blocksAt p))
 
 module _ (n : ℕ) (counts : List ℕ) (few : n ≤ 16) where
-  pub counted-length : (k : ℕ) → length (counted n counts k) ≡ size
+  pub counted-length : (k : ℕ) → length (counted n counts k) ≡ stateSize
   unfolding counted withCounts
   counted-length zero = puts-length zeros (one 0 n ∷ []) ∙ zeros-length
   counted-length (suc k) = puts-length (counted n counts k) (one (blocksAt k) (getD counts k 0) ∷ []) ∙ counted-length k
@@ -94,7 +94,7 @@ module _ (n : ℕ) (counts : List ℕ) (few : n ≤ 16) where
 
   -- What the first k processes have, and the others not yet.
   pub record Begun (k : ℕ) (w : List ℕ) : Type 0 where
-    pub long : length w ≡ size
+    pub long : length w ≡ stateSize
     pub count : countOf w ≡ n
     pub fit : fits w ≡ true
     pub blocks : (p : ℕ) → p < n → word w (blocksAt p) ≡ getD counts p 0
@@ -281,10 +281,10 @@ module _ (n : ℕ) (counts : List ℕ) (few : n ≤ 16) where
   pub started-clean : Clean (startedWords n counts)
   started-clean = clean-disk b (startedWords n counts) disk-only (begun-is n (omega arith) .clean)
 
-  pub started-length : length (startedWords n counts) ≡ size
+  pub started-length : length (startedWords n counts) ≡ stateSize
   started-length = disk-only .size ∙ begun-is n (omega arith) .long
 
-not-size : (w : List ℕ) → eqb (length w) size ≡ false → fits w ≡ false
+not-size : (w : List ℕ) → eqb (length w) stateSize ≡ false → fits w ≡ false
 unfolding fits
 not-size w q = rw q
 
@@ -294,9 +294,9 @@ module _ (many n : ℕ) (counts : List ℕ) (fine : startRefusalIn many n counts
   unfolding startRefusalIn
   accepted-few = leb-true n 16 (and-right (leb 1 n) (leb n 16) (not-false _ (no-rule _ fine 0)))
 
-  pub accepted-size : many ≡ size
+  pub accepted-size : many ≡ stateSize
   unfolding startRefusalIn
-  accepted-size = eqb-true many size (not-false _ (no-rule _ fine 1))
+  accepted-size = eqb-true many stateSize (not-false _ (no-rule _ fine 1))
 
   pub accepted-long : n ≤ length counts
   unfolding startRefusalIn
@@ -311,20 +311,20 @@ pub start-run : (w : List ℕ) (n : ℕ) (counts : List ℕ) → runOf (startWor
 unfolding startWords startOutcomeIn
 start-run w n counts = by-refusal (startRefusalIn (length w) n counts)
     (λ fine. rw fine (started-run n counts (accepted-few (length w) n counts fine)))
-    (λ why e. rw e (by-bool (eqb (length w) size)
+    (λ why e. rw e (by-bool (eqb (length w) stateSize)
     (λ q. rw q zeros-run)
     (λ q. rw q (run-unfit w (not-size w q)))))
 
-pub start-clean : (w : List ℕ) (n : ℕ) (counts : List ℕ) → length w ≡ size → Clean (startWords w n counts)
+pub start-clean : (w : List ℕ) (n : ℕ) (counts : List ℕ) → length w ≡ stateSize → Clean (startWords w n counts)
 unfolding startWords
 start-clean w n counts long = by-refusal (startRefusalIn (length w) n counts)
     (λ fine. rw fine (started-clean n counts (accepted-few (length w) n counts fine)))
-    (λ why e. rw (e, eq-eqb (length w) size long) zeros-clean)
+    (λ why e. rw (e, eq-eqb (length w) stateSize long) zeros-clean)
 
 pub start-length : (w : List ℕ) (n : ℕ) (counts : List ℕ) → length (startWords w n counts) ≡ length w
 unfolding startWords
 start-length w n counts = by-refusal (startRefusalIn (length w) n counts)
     (λ fine. rw fine (started-length n counts (accepted-few (length w) n counts fine) ∙ sym (accepted-size (length w) n counts fine)))
-    (λ why e. rw e (by-bool (eqb (length w) size)
-    (λ q. rw q (zeros-length ∙ sym (eqb-true (length w) size q)))
+    (λ why e. rw e (by-bool (eqb (length w) stateSize)
+    (λ q. rw q (zeros-length ∙ sym (eqb-true (length w) stateSize q)))
     (λ q. rw q refl)))

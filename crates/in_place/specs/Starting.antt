@@ -14,17 +14,17 @@ use Rattle.model.specs.declared.Refusal.{Refusal}
 use Rattle.model.specs.declared.Refusal.the-variants.{CountOutsideRange, UnsoundState, ListTooShort, BlockCountOutsideRange}
 use Rattle.model.specs.declared.StartAnswer.{StartAnswer}
 use Rattle.model.specs.declared.StartAnswer.the-variants.{Refused, Started}
-use Rattle.model.specs.Words.{places, blank}
+use Rattle.model.specs.Words.{mostProcesses, blank}
 use Rattle.model.specs.Steps.{startState}
 use Rattle.model.specs.Sound.{isBlockCount}
 use Rattle.model.specs.Refusals.{firstOf}
 use Rattle.whole_runs.specs.Outcomes.{Outcome, judged, startOutcome}
-use Rattle.words.specs.Layout.{size, heldAt, blocksAt, partAt, pinsAt, indexAt}
+use Rattle.words.specs.Layout.{stateSize, heldAt, blocksAt, partAt, pinsAt, indexAt}
 use Rattle.words.specs.Puts.{Put, puts, one, puts4}
 
 -- The first words are n and the block counts of the processes below it; all others are zero.
 unfoldable pub zeros : List ℕ
-zeros = replicate size 0
+zeros = replicate stateSize 0
 
 unfoldable pub withCounts : List ℕ → List ℕ → ℕ → List ℕ
 withCounts w counts zero = w
@@ -52,8 +52,8 @@ startedWords n counts = puts (begun n counts n) (puts4 4 (sumBelow n (λ p. getD
 -- 3 where fewer than n block counts are lent; Note 5: "15 .. for a block count outside 1 to 65,535".
 unfoldable pub startRefusalIn : ℕ → ℕ → List ℕ → Option Refusal
 startRefusalIn many n counts = firstOf (
-    record { holds = not (leb 1 n && leb n places); gives = CountOutsideRange }
-    ∷ record { holds = not (eqb many size); gives = UnsoundState }
+    record { holds = not (leb 1 n && leb n mostProcesses); gives = CountOutsideRange }
+    ∷ record { holds = not (eqb many stateSize); gives = UnsoundState }
     ∷ record { holds = ltb (length counts) n; gives = ListTooShort }
     ∷ record { holds = anyBelow n (λ p. not (isBlockCount (getD counts p 0))); gives = BlockCountOutsideRange }
     ∷ [])
@@ -66,10 +66,10 @@ startOutcomeIn many n counts = judged (startRefusalIn many n counts)
 
 -- Where enough is lent, it is the outcome of document 01's start.
 unfoldable pub StartsTheSame : Type 0
-StartsTheSame = (n : ℕ) (counts : List ℕ) → n ≤ length counts → startOutcomeIn size n counts ≡ startOutcome n counts
+StartsTheSame = (n : ℕ) (counts : List ℕ) → n ≤ length counts → startOutcomeIn stateSize n counts ≡ startOutcome n counts
 
 -- The words of a refused start are zero. Words of another number are left as they were: they stand for no sound state.
 unfoldable pub startWords : List ℕ → ℕ → List ℕ → List ℕ
 startWords w n counts = judged (startRefusalIn (length w) n counts)
-    (λ why. pick (eqb (length w) size) zeros w)
+    (λ why. pick (eqb (length w) stateSize) zeros w)
     (startedWords n counts)

@@ -22,7 +22,7 @@ use Rattle.model.specs.declared.Interval.{Interval}
 use Rattle.model.specs.declared.CheckpointIndex.{CheckpointIndex}
 use Rattle.model.specs.declared.Checkpoint.{Checkpoint}
 use Rattle.model.specs.declared.Run.{Run}
-use Rattle.model.specs.Words.{places, entry, below, failed, liveIndex, live, zeroVector, Process, process, own}
+use Rattle.model.specs.Words.{mostProcesses, entry, below, failed, liveIndex, live, zeroVector, Process, process, own}
 use Rattle.model.specs.Sound.{sound}
 use Rattle.model.specs.Steps.{allowed, states, latestAllowed, member, lineOf}
 use Rattle.model.specs.Refusals.{missing, noMember}

@@ -16,7 +16,7 @@ use Rattle.laws.specs.Tables.{table-same}
 use Rattle.laws.specs.Truth.{never-both, and-out, and-both, or-in-right}
 use Rattle.model.specs.declared.CheckpointIndex.{CheckpointIndex}
 use Rattle.model.specs.declared.Message.{Message}
-use Rattle.words.specs.Layout.{size, word, endOf, messageIn, isMessage, messagesIn, endFits}
+use Rattle.words.specs.Layout.{stateSize, word, endOf, messageIn, isMessage, messagesIn, endFits}
 use Rattle.words.specs.Parts.{isUsedIn}
 use Rattle.words.specs.Clean.{CleanMessages}
 use Rattle.words.specs.Puts.{Put, puts, one}
@@ -39,7 +39,7 @@ stays-so indexes x e = by-bool (isMessage x)
     (λ is. rw is (let h : lostTo indexes x ≡ false = rw is at e in rw h))
     (λ isnt. rw isnt)
 
-module _ (indexes : List CheckpointIndex) (w : List ℕ) (long : length w ≡ size) where
+module _ (indexes : List CheckpointIndex) (w : List ℕ) (long : length w ≡ stateSize) where
   -- v is what the first n places leave.
   pub record SiftedTo (n : ℕ) (v : List ℕ) : Type 0 where
     pub same : length v ≡ length w
@@ -56,7 +56,7 @@ module _ (indexes : List CheckpointIndex) (w : List ℕ) (long : length w ≡ si
     abbrev x : Message
     x = messageIn w n
 
-    long-v : length v ≡ size
+    long-v : length v ≡ stateSize
     long-v = h .same ∙ long
 
     here : messageIn v n ≡ x
@@ -130,7 +130,7 @@ siftedWords indexes w =
     let u = siftedBelow indexes w (endOf w) in
     puts u (one 1 (length (select (remains indexes) (table (endOf w) (messageIn w)))) ∷ one 12 (endBelow u (endOf w)) ∷ [])
 
-module _ (indexes : List CheckpointIndex) (w : List ℕ) (long : length w ≡ size) (few : endOf w ≤ 64) where
+module _ (indexes : List CheckpointIndex) (w : List ℕ) (long : length w ≡ stateSize) (few : endOf w ≤ 64) where
   abbrev u : List ℕ
   u = siftedBelow indexes w (endOf w)
 
@@ -146,7 +146,7 @@ module _ (indexes : List CheckpointIndex) (w : List ℕ) (long : length w ≡ si
   h : SiftedTo indexes w long (endOf w) u
   h = sifted-below indexes w long (endOf w) few
 
-  long-u : length u ≡ size
+  long-u : length u ≡ stateSize
   long-u = h .same ∙ long
 
   end-then : endOf v ≡ endBelow u (endOf w)

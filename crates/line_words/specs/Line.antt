@@ -13,7 +13,7 @@ use Rattle.laws.specs.Search.{allBelow}
 use Rattle.model.specs.declared.Interval.{Interval}
 use Rattle.model.specs.declared.CheckpointIndex.{CheckpointIndex}
 use Rattle.model.specs.declared.Checkpoint.{Checkpoint}
-use Rattle.model.specs.Words.{places, entry, liveIndex, live, zeroVector, failed}
+use Rattle.model.specs.Words.{mostProcesses, entry, liveIndex, live, zeroVector, failed}
 use Rattle.words.specs.Layout.{word, heldAt, partAt, indexAt, storedAt, intervalOf, indexOf, vectorIn, checkpointIn}
 use Rattle.words.specs.Parts.{processIn}
 
@@ -25,7 +25,7 @@ unfoldable pub limitsIn : List ℕ → ℕ → ℕ → List Interval
 limitsIn w n F = setBelow n (limitOf w F) zeroVector
 
 unfoldable pub isWithin : List Interval → List Interval → Bool
-isWithin limits v = allBelow places (λ f. leb (entry v f .0) (entry limits f .0))
+isWithin limits v = allBelow mostProcesses (λ f. leb (entry v f .0) (entry limits f .0))
 
 -- One above the place of the latest of the first kept checkpoints that is within the limits, 0 if there is none; and of all states, the live one last.
 unfoldable pub pastKept : List ℕ → List Interval → ℕ → ℕ → ℕ
@@ -61,7 +61,7 @@ unfoldable pub hasMembers : List ℕ → ℕ → List Interval → Bool
 hasMembers w n limits = allBelow n (λ p. not (eqb (pastLatest w limits p) 0))
 
 unfoldable pub pastsIn : List ℕ → ℕ → List Interval → List ℕ
-pastsIn w n limits = setBelow n (pastLatest w limits) (replicate places 0)
+pastsIn w n limits = setBelow n (pastLatest w limits) (replicate mostProcesses 0)
 
 -- The table has a place for each of n processes, and each has a member.
 abbrev pub AllFound : ℕ → List ℕ → Type 0
@@ -71,4 +71,4 @@ unfoldable pub indexIn : List ℕ → ℕ → ℕ → CheckpointIndex
 indexIn w p past = pick (leb past (word w (heldAt p))) (indexOf (word w (indexAt p (past - 1)))) (liveIndex (intervalOf (word w (partAt p + p))))
 
 unfoldable pub indexesIn : List ℕ → ℕ → List ℕ → List CheckpointIndex
-indexesIn w n pasts = setBelow n (λ p. indexIn w p (getD pasts p 0)) (replicate places (record { 0 = 0 }))
+indexesIn w n pasts = setBelow n (λ p. indexIn w p (getD pasts p 0)) (replicate mostProcesses (record { 0 = 0 }))

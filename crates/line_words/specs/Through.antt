@@ -11,7 +11,7 @@ use Rattle.laws.specs.Lists.{table}
 use Rattle.laws.specs.Loops.{setBelow}
 use Rattle.laws.specs.Search.{allBelow, anyBelow}
 use Rattle.model.specs.declared.Named.{Named}
-use Rattle.model.specs.Words.{places}
+use Rattle.model.specs.Words.{mostProcesses}
 use Rattle.words.specs.Layout.{word, heldAt, indexAt, storedAt}
 use Rattle.line_words.specs.declared.through.Starts.{Starts}
 use Rattle.line_words.specs.Line.{KeptUsed}
@@ -49,7 +49,7 @@ abbrev pub startAt : List ℕ → List ℕ → ℕ → ℕ
 startAt w l k = startOf w (processOf l k) (indexOf l k) (word w (heldAt (processOf l k)))
 
 unfoldable pub startsIn : List ℕ → List ℕ → ℕ → Starts
-startsIn w l m = record { all = allBelow m (λ k. not (eqb (startAt w l k) 0)); starts = setBelow m (startAt w l) (replicate places 0) }
+startsIn w l m = record { all = allBelow m (λ k. not (eqb (startAt w l k) 0)); starts = setBelow m (startAt w l) (replicate mostProcesses 0) }
 
 -- Checkpoint i of process p comes before one of m states, whose vectors start at these words; and the greatest of their entries for p.
 unfoldable pub beforeSome : List ℕ → List ℕ → ℕ → ℕ → ℕ → Bool

@@ -16,7 +16,7 @@ use Rattle.laws.specs.Counting.{count-mono}
 use Rattle.laws.specs.Tests.{countBelow}
 use Rattle.laws.specs.Truth.{never-both, and-left}
 use Rattle.model.specs.Words as words
-use Rattle.model.specs.Words.{basic, places, mostUnderWay, mostInterval, mostBlocks}
+use Rattle.model.specs.Words.{basic, mostProcesses, mostUnderWay, mostInterval, mostBlocks}
 use Rattle.model.specs.declared.Named.{Named}
 use Rattle.model.specs.Refusals.{checkpointRefusal, sendRefusal, deliverRefusal, loseRefusal}
 use Rattle.whole_runs.specs.Outcomes.{deliverAnswer, deliverOutcome, deliverReport}
@@ -50,7 +50,7 @@ unfoldable receiptOf : Ideal → ℕ → List Seen
 receiptOf r m = pick (forces r m) (forced ∷ []) [] ++ (got (r .sender m) (vectorOf (r .n) (r .carried m)) ∷ [])
 
 -- What process i sees of an accepted delivery.
-seen-deliver : (r : Ideal) → Inv r → r .n ≤ places → (i m : ℕ) (deleted : List ℕ) → r .transit m ≡ true → deliverRefusal (stateOf r) m deleted ≡ none
+seen-deliver : (r : Ideal) → Inv r → r .n ≤ mostProcesses → (i m : ℕ) (deleted : List ℕ) → r .transit m ≡ true → deliverRefusal (stateOf r) m deleted ≡ none
     → seenOf i (stateOf r) (deliver m deleted) ≡ pick (eqb (r .receiver m) i) (receiptOf r m) []
 unfolding seenOf receiptOf messageOf call answered deliverOutcome deliverAnswer deliverReport forcedIn
 seen-deliver r v few i m deleted under e =
@@ -75,10 +75,10 @@ module _ (i f g : ℕ) where
   Next r r′ c = (SubRun f g (stepped r c) r′ × (seenOf i (stateOf r) c ≡ [])) ⊎ Taken r r′ c
 
   module _ (r r′ : Ideal) (v : Inv r) (v′ : Inv r′) (fit : Limits r) (fit′ : Limits r′) (hf : f < r .n) (c : SubRun f g r r′) where
-    few : r .n ≤ places
+    few : r .n ≤ mostProcesses
     few = fit .few-processes
 
-    few′ : r′ .n ≤ places
+    few′ : r′ .n ≤ mostProcesses
     few′ = fit′ .few-processes
 
     -- The block count of a process, and that the run with another reason for the next checkpoint has all that the invariant says.

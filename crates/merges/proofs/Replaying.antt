@@ -16,7 +16,7 @@ use Rattle.model.specs.declared.Refusal.{Refusal}
 use Rattle.model.specs.declared.MergeAnswer.the-variants as merge-answer
 use Rattle.model.specs.declared.Run.{Run}
 use Rattle.model.specs.declared.Event.{Event}
-use Rattle.model.specs.Words.{places}
+use Rattle.model.specs.Words.{mostProcesses}
 use Rattle.model.specs.laws.Refusals.{no-rule, number-range}
 use Rattle.model.specs.Trace.{decoded, fieldsOf, fits, wordOf, bytesOf, encoded}
 use Rattle.whole_runs.specs.Calls.{Call, call, stateAfter}
@@ -40,7 +40,7 @@ number-few [] s c = omega arith
 number-few (x ∷ l) s c = by-bool (isSendNumber s c x l) (λ e. rw e (omega (arith, sends-few l))) (λ e. rw e (omega (arith, number-few l s c)))
 
 -- The event of a record that is no process's outside the run fits its four bytes.
-plain-fits : (n : ℕ) (l : List HalfEvent) (x : HalfEvent) → n ≤ places → length l < 33554432 → outOfRun n x ≡ false → fits (plainEvent l x) ≡ true
+plain-fits : (n : ℕ) (l : List HalfEvent) (x : HalfEvent) → n ≤ mostProcesses → length l < 33554432 → outOfRun n x ≡ false → fits (plainEvent l x) ≡ true
 unfolding plainEvent fits fieldsOf outOfRun
 plain-fits n l (checkpointAt p) b h e = rw (lt-ltb p 16 (omega (arith, leb-false n p e)))
 plain-fits n l (sendTo i j) b h e =
@@ -56,7 +56,7 @@ Fitting : List HalfEvent → Type 0
 Fitting [] = 0 ≤ 0
 Fitting (x ∷ l) = (fits (plainEvent l x) ≡ true) × Fitting l
 
-module _ (n set : ℕ) (b : n ≤ places) where
+module _ (n set : ℕ) (b : n ≤ mostProcesses) where
   in-run : (side : Bool) (taken : List HalfEvent) (x : HalfEvent) → recordRefusal n set side taken x ≡ none → outOfRun n x ≡ false
   unfolding recordRefusal
   in-run side taken x e = no-rule _ e 0
@@ -137,14 +137,14 @@ how-many (a ∷ b ∷ []) = refl
 how-many (a ∷ b ∷ c ∷ []) = refl
 how-many (a ∷ b ∷ c ∷ d ∷ l) = let h = how-many l in omega arith
 
-pub good-count : (l : List ℕ) → badCount l ≡ false → countOf l ≤ places
+pub good-count : (l : List ℕ) → badCount l ≡ false → countOf l ≤ mostProcesses
 unfolding badCount countOf
 good-count [] e = omega arith
-good-count (n ∷ l) e = leb-true n places (and-right (leb 1 n) (leb n places) (not-false _ e))
+good-count (n ∷ l) e = leb-true n mostProcesses (and-right (leb 1 n) (leb n mostProcesses) (not-false _ e))
 
 -- Two halves and a buffer that no rule refuses before any record.
 pub record Fine (first second buffer : List ℕ) : Type 0 where
-  pub count : countOf first ≤ places
+  pub count : countOf first ≤ mostProcesses
   pub room : length first + length second ≤ length buffer
   pub first-byte : length first ≡ 0 → ⊥
   pub second-byte : length second ≡ 0 → ⊥

@@ -14,7 +14,7 @@ use Rattle.model.specs.declared.Refusal.{Refusal}
 use Rattle.model.specs.declared.Refusal.the-variants.{CountOutsideRange, ListTooShort, NoSuchProcess, SenderIsReceiver, NoSuchFailedProcess, NoFirstByte, LeftOverBytes, MalformedRecord, TooManyRecords, HalvesMismatch, NeitherReady}
 use Rattle.model.specs.declared.MergeAnswer.{MergeAnswer}
 use Rattle.model.specs.declared.MergeAnswer.the-variants as merge-answer
-use Rattle.model.specs.Words.{places, inSet}
+use Rattle.model.specs.Words.{mostProcesses, inSet}
 use Rattle.model.specs.Refusals.{firstOf}
 use Rattle.model.specs.Trace.{fields, ifZero, fieldsOf, wordOf, bytesOf}
 use Rattle.whole_runs.specs.Outcomes.{judged, written, Report, refusing, accepting}
@@ -127,7 +127,7 @@ takeAll first second set = takeFrom (length (fieldsIn (behindCount first)) + len
 -- 1, a count outside 1 to 16, of a half that has one.
 unfoldable pub badCount : List ℕ → Bool
 badCount [] = false
-badCount (n ∷ l) = not (leb 1 n && leb n places)
+badCount (n ∷ l) = not (leb 1 n && leb n mostProcesses)
 
 -- 13: "one to three bytes left over". 17: "more than 4,096 records".
 abbrev pub leftOver : List ℕ → Bool
@@ -184,7 +184,7 @@ MergeKeeps = (n set : ℕ) (first second : List Fields) (taken : List HalfEvent)
 -- "The result is a plain trace": each record taken is four bytes of it, and replaying them is the run of the merged calls. An argument has 25 bits, so
 -- the records are fewer than 2 to the power 25; a merge has 8,192 at most.
 unfoldable pub MergeReplays : Type 0
-MergeReplays = (n set : ℕ) (first second : List Fields) (order : List HalfEvent) → n ≤ places → length first + length second < 33554432
+MergeReplays = (n set : ℕ) (first second : List Fields) (order : List HalfEvent) → n ≤ mostProcesses → length first + length second < 33554432
     → takeFrom (length first + length second) n set [] first second ≡ took (newestFirst [] order)
     → (length (plainBytes (newestFirst [] order)) ≡ 4 * length order)
     × ((s : Run) → stateAfterRecords s (plainBytes (newestFirst [] order)) ≡ stateAfter s (callsFrom [] order))

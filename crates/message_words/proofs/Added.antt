@@ -13,14 +13,14 @@ use Rattle.laws.specs.Lists.{select, table}
 use Rattle.laws.specs.Tables.{table-same}
 use Rattle.laws.specs.Truth.{and-both, or-in-right}
 use Rattle.model.specs.declared.Message.{Message}
-use Rattle.words.specs.Layout.{size, word, endOf, lowAt, highAt, senderAt, receiverAt, carriedAt, messageIn, isMessage, messagesIn, endFits}
+use Rattle.words.specs.Layout.{stateSize, word, endOf, lowAt, highAt, senderAt, receiverAt, carriedAt, messageIn, isMessage, messagesIn, endFits}
 use Rattle.words.specs.Puts.{Put, puts, one}
 use Rattle.words.proofs.Reading.{puts-length, untouched, touched}
 use Rattle.message_words.specs.Places.{messagePuts, putLast}
 use Rattle.message_words.proofs.Selected.{select-more}
 use Rattle.message_words.proofs.Placed.{message-stays, message-put, message-beside}
 
-module _ (w : List ℕ) (long : length w ≡ size) (room : endOf w < 64) (x : Message) (whole : length (x .vector) ≡ 16) (is : isMessage x ≡ true) where
+module _ (w : List ℕ) (long : length w ≡ stateSize) (room : endOf w < 64) (x : Message) (whole : length (x .vector) ≡ 16) (is : isMessage x ≡ true) where
   abbrev u : List ℕ
   u = puts w (messagePuts (endOf w) x)
 
@@ -30,7 +30,7 @@ module _ (w : List ℕ) (long : length w ≡ size) (room : endOf w < 64) (x : Me
   abbrev v : List ℕ
   v = putLast w x
 
-  long-u : length u ≡ size
+  long-u : length u ≡ stateSize
   long-u = puts-length w (messagePuts (endOf w) x) ∙ long
 
   -- the message first, then the ends

@@ -15,7 +15,7 @@ use Rattle.laws.specs.Select.{all-chosen}
 use Rattle.laws.specs.Tables.{table-same, length-table}
 use Rattle.laws.specs.Truth.{and-both, or-in-right}
 use Rattle.model.specs.declared.Message.{Message}
-use Rattle.words.specs.Layout.{size, word, endOf, lowAt, highAt, senderAt, receiverAt, carriedAt, messageIn, isMessage, messagesIn, endFits}
+use Rattle.words.specs.Layout.{stateSize, word, endOf, lowAt, highAt, senderAt, receiverAt, carriedAt, messageIn, isMessage, messagesIn, endFits}
 use Rattle.words.specs.Puts.{Put, puts, one}
 use Rattle.words.proofs.Reading.{puts-length, untouched, touched}
 use Rattle.words.proofs.Same.{vector-length}
@@ -50,7 +50,7 @@ pub record Closed (w : List ℕ) (n : ℕ) (c : Closing) : Type 0 where
   pub front : table (c .many) (messageIn (c .words)) ≡ select isMessage (table n (messageIn w))
   pub used : (j : ℕ) → j < c .many → isMessage (messageIn (c .words) j) ≡ true
 
-module _ (w : List ℕ) (size-w : length w ≡ size) where
+module _ (w : List ℕ) (size-w : length w ≡ stateSize) where
   module _ (n : ℕ) (c : Closing) (lt : n < 64) (h : Closed w n c) where
     abbrev x : Message
     x = messageIn (c .words) n
@@ -61,7 +61,7 @@ module _ (w : List ℕ) (size-w : length w ≡ size) where
     abbrev v : List ℕ
     v = puts (c .words) (messagePuts to x)
 
-    long-c : length (c .words) ≡ size
+    long-c : length (c .words) ≡ stateSize
     long-c = h .long ∙ size-w
 
     in-range : to < 64
@@ -127,7 +127,7 @@ pub record ClearedFrom (w : List ℕ) (from : ℕ) (v : List ℕ) : Type 0 where
   pub rest : (q : ℕ) → q < 5184 → word v q ≡ word w q
   pub before : (j : ℕ) → j < from → messageIn v j ≡ messageIn w j
 
-pub cleared-from : (w : List ℕ) (from n : ℕ) → length w ≡ size → from + n ≤ 64 → ClearedFrom w from (clearedFrom w from n)
+pub cleared-from : (w : List ℕ) (from n : ℕ) → length w ≡ stateSize → from + n ≤ 64 → ClearedFrom w from (clearedFrom w from n)
 unfolding clearedFrom
 cleared-from w from zero long le = record { long = refl; rest = λ q less. refl; before = λ j less. refl }
 cleared-from w from (suc n) long le =
@@ -140,7 +140,7 @@ cleared-from w from (suc n) long le =
     }
 
 -- All 64 places closed up.
-module _ (w : List ℕ) (long : length w ≡ size) (full : endOf w ≡ 64) where
+module _ (w : List ℕ) (long : length w ≡ stateSize) (full : endOf w ≡ 64) where
   abbrev c : Closing
   c = closing w 64
 
@@ -156,7 +156,7 @@ module _ (w : List ℕ) (long : length w ≡ size) (full : endOf w ≡ 64) where
   abbrev then : List ℕ
   then = closedUp w
 
-  long-u : length u ≡ size
+  long-u : length u ≡ stateSize
   long-u = g .long ∙ h .long ∙ long
 
   pub closed-length : length then ≡ length w

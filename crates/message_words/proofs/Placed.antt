@@ -10,7 +10,7 @@ use lib.ListN.{length}
 use Rattle.laws.specs.Choice.{pick}
 use Rattle.model.specs.declared.Message.{Message}
 use Rattle.model.specs.Words.{noMessage}
-use Rattle.words.specs.Layout.{size, word, endOf, lowAt, highAt, senderAt, receiverAt, carriedAt, messageIn, isMessage}
+use Rattle.words.specs.Layout.{stateSize, word, endOf, lowAt, highAt, senderAt, receiverAt, carriedAt, messageIn, isMessage}
 use Rattle.words.specs.Puts.{Put, puts, one}
 use Rattle.words.proofs.Reading.{Clear, Hits, puts-length, untouched, touched, wide2-back}
 use Rattle.words.proofs.Same.{message-same, vector-is}
@@ -28,7 +28,7 @@ message-stays w l j c = message-same (puts w l) w j j
     (untouched w l (receiverAt j) (c .3))
     (λ f lt. untouched w l (carriedAt j + f) ((c .4) f lt))
 
-module _ (w : List ℕ) (long : length w ≡ size) (k : ℕ) (lt : k < 64) where
+module _ (w : List ℕ) (long : length w ≡ stateSize) (k : ℕ) (lt : k < 64) where
   -- a message put there
   module _ (x : Message) (whole : length (x .vector) ≡ 16) where
     pub message-put : messageIn (puts w (messagePuts k x)) k ≡ x

@@ -14,7 +14,7 @@ use Rattle.laws.specs.Select.{select-select}
 use Rattle.laws.specs.Tables.{table-same}
 use Rattle.laws.specs.Truth.{never-both, and-both, or-in-right, or-left}
 use Rattle.model.specs.declared.Message.{Message}
-use Rattle.words.specs.Layout.{size, word, endOf, lowAt, highAt, senderAt, receiverAt, carriedAt, messageIn, isMessage, messagesIn, endFits}
+use Rattle.words.specs.Layout.{stateSize, word, endOf, lowAt, highAt, senderAt, receiverAt, carriedAt, messageIn, isMessage, messagesIn, endFits}
 use Rattle.words.specs.Puts.{Put, puts, one}
 use Rattle.words.proofs.Reading.{puts-length, untouched, touched}
 use Rattle.message_words.specs.Places.{clearPuts, cleared, takenOut, endBelow}
@@ -43,14 +43,14 @@ one-fewer (suc n) k f g lt was not-now same = by-eq n k
     ∙ ap suc (sym (length-append (select isMessage (table n g)) (g n ∷ [])) ∙ ap length (sym (select-more isMessage n g (rw here e)))))
     (λ e. ap length (select-less isMessage n f e) ∙ rec ∙ ap (λ l. suc (length l)) (sym (select-less isMessage n g (rw here e)))))
 
-module _ (w : List ℕ) (long : length w ≡ size) (few : endOf w ≤ 64) (k : ℕ) (lt : k < endOf w) where
+module _ (w : List ℕ) (long : length w ≡ stateSize) (few : endOf w ≤ 64) (k : ℕ) (lt : k < endOf w) where
   abbrev c : List ℕ
   c = cleared w k
 
   abbrev v : List ℕ
   v = takenOut w k
 
-  long-c : length c ≡ size
+  long-c : length c ≡ stateSize
   long-c = cleared-length w k ∙ long
 
   abbrev ends : List Put

@@ -12,7 +12,7 @@ use Rattle.laws.specs.Choice.{pick, by-bool, by-eq}
 use Rattle.laws.specs.Rows.{by-lt}
 use Rattle.laws.specs.Truth.{never-both, and-out}
 use Rattle.model.specs.declared.Message.{Message}
-use Rattle.words.specs.Layout.{size, word, endOf, lowAt, highAt, senderAt, receiverAt, carriedAt, messageIn, isMessage}
+use Rattle.words.specs.Layout.{stateSize, word, endOf, lowAt, highAt, senderAt, receiverAt, carriedAt, messageIn, isMessage}
 use Rattle.words.specs.Parts.{isUsedIn}
 use Rattle.words.specs.Clean.{CleanMessages}
 use Rattle.words.specs.Puts.{Put, puts, one}
@@ -53,7 +53,7 @@ zero-stays w l j c z = record {
   vector = λ f lt. untouched w l (carriedAt j + f) ((c .4) f lt) ∙ z .vector f lt;
 }
 
-pub zero-cleared : (w : List ℕ) (k : ℕ) → length w ≡ size → k < 64 → Zero (cleared w k) k
+pub zero-cleared : (w : List ℕ) (k : ℕ) → length w ≡ stateSize → k < 64 → Zero (cleared w k) k
 unfolding cleared
 zero-cleared w k long lt = record {
   low = touched w (clearPuts k) 0 0 (lowAt k) (omega arith, omega arith, omega (arith, long), omega arith);
@@ -89,7 +89,7 @@ none-after w (suc n) j le lt = by-bool (isMessage (messageIn w n))
     (λ e. by-eq j n (λ q. rw q e) (λ ne. none-after w n j (rw e at le) (omega arith)))
 
 -- Taken out.
-module _ (w : List ℕ) (long : length w ≡ size) (few : endOf w ≤ 64) (k : ℕ) (lt : k < endOf w) where
+module _ (w : List ℕ) (long : length w ≡ stateSize) (few : endOf w ≤ 64) (k : ℕ) (lt : k < endOf w) where
   abbrev c : List ℕ
   c = cleared w k
 
@@ -115,7 +115,7 @@ module _ (w : List ℕ) (long : length w ≡ size) (few : endOf w ≤ 64) (k : �
       (λ ne. zero-beside w k j (omega arith) less ne (zero-at w h j less (was-unused j less ne u)))))
 
 -- Put after the others.
-module _ (w : List ℕ) (long : length w ≡ size) (room : endOf w < 64) (x : Message) (whole : length (x .vector) ≡ 16) (is : isMessage x ≡ true) where
+module _ (w : List ℕ) (long : length w ≡ stateSize) (room : endOf w < 64) (x : Message) (whole : length (x .vector) ≡ 16) (is : isMessage x ≡ true) where
   used : (j : ℕ) → j ≡ endOf w → isUsedIn (putLast w x) j ≡ true
   unfolding isUsedIn
   used j e = rw (e, added-end w long room x whole is, lt-ltb (endOf w) (endOf w + 1) (omega arith), added-last w long room x whole is, is)
@@ -132,17 +132,17 @@ module _ (w : List ℕ) (long : length w ≡ size) (room : endOf w < 64) (x : Me
       (λ ne. zero-stays w (messagePuts (endOf w) x ++ one 1 (word w 1 + 1) ∷ one 12 (endOf w + 1) ∷ []) j (omega arith, omega arith, omega arith, omega arith, λ f l. omega arith) (zero-at w h j less (was-free j less ne u))))
 
 -- Closed up.
-zero-from : (w : List ℕ) (from n j : ℕ) → length w ≡ size → from + n ≤ 64 → from ≤ j → j < from + n → Zero (clearedFrom w from n) j
+zero-from : (w : List ℕ) (from n j : ℕ) → length w ≡ stateSize → from + n ≤ 64 → from ≤ j → j < from + n → Zero (clearedFrom w from n) j
 unfolding clearedFrom
 zero-from w from zero j long le low high = absurd (omega arith)
 zero-from w from (suc n) j long le low high =
     let u = clearedFrom w from n in
-    let long-u : length u ≡ size = cleared-from w from n long (omega arith) .long ∙ long in
+    let long-u : length u ≡ stateSize = cleared-from w from n long (omega arith) .long ∙ long in
     by-eq j (from + n)
     (λ e. rw e (zero-cleared u (from + n) long-u (omega arith)))
     (λ ne. zero-beside u (from + n) j (omega arith) (omega arith) ne (zero-from w from n j long (omega arith) low (omega arith)))
 
-module _ (w : List ℕ) (long : length w ≡ size) (full : endOf w ≡ 64) where
+module _ (w : List ℕ) (long : length w ≡ stateSize) (full : endOf w ≡ 64) where
   past : (j : ℕ) → j < 64 → isUsedIn (closedUp w) j ≡ false → closing w 64 .many ≤ j
   past j less e = by-lt j (closing w 64 .many)
       (λ low. let z = unused-out (closedUp w) j e (closed-used w long full j low) in omega (arith, closed-end w long full))

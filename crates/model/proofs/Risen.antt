@@ -12,7 +12,7 @@ use Rattle.laws.specs.Choice.{by-bool}
 use Rattle.laws.specs.Search.{anyBelow, any-out, any-none}
 use Rattle.laws.specs.Tables.{getD-table}
 use Rattle.model.specs.declared.Interval.{Interval}
-use Rattle.model.specs.Words.{places, entry, below}
+use Rattle.model.specs.Words.{mostProcesses, entry, below}
 use Rattle.model.specs.Steps.{newer, takenEntry, takenVector, risen}
 use Rattle.model.specs.Risen.{RisenIsExact}
 
@@ -31,16 +31,16 @@ module _ (own carried : List Interval) where
   unfolding takenEntry
   out-is-greater f = by-bool (rises f) (λ e. rw e (sym e)) (λ e. rw e (sym (le-ltb (entry own f .0) (entry own f .0) (omega arith))))
 
-  taken-entry : (f : ℕ) → f < places → entry (takenVector own carried) f ≡ takenEntry own carried f
+  taken-entry : (f : ℕ) → f < mostProcesses → entry (takenVector own carried) f ≡ takenEntry own carried f
   unfolding takenVector
-  taken-entry f lt = getD-table places (takenEntry own carried) f (record { 0 = 0 }) lt
+  taken-entry f lt = getD-table mostProcesses (takenEntry own carried) f (record { 0 = 0 }) lt
 
   pub risen-is-exact : RisenIsExact own carried
   unfolding risen newer
   risen-is-exact = record {
-    small = bits-less _ places;
-    exact = λ f lt. bits-at _ places f lt;
-    rose = λ f lt. bits-at rises places f lt ∙ out-is-greater f ∙ ap (λ (x : Interval). below (entry own f) x) (sym (taken-entry f lt));
-    no-more = λ f le. bits-past _ places f le;
-    nothing = none-set places rises;
+    small = bits-less _ mostProcesses;
+    exact = λ f lt. bits-at _ mostProcesses f lt;
+    rose = λ f lt. bits-at rises mostProcesses f lt ∙ out-is-greater f ∙ ap (λ (x : Interval). below (entry own f) x) (sym (taken-entry f lt));
+    no-more = λ f le. bits-past _ mostProcesses f le;
+    nothing = none-set mostProcesses rises;
   }

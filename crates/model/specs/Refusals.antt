@@ -12,7 +12,7 @@ use Rattle.model.specs.declared.Message.{Message}
 use Rattle.model.specs.declared.Run.{Run}
 use Rattle.model.specs.declared.Refusal.{Refusal}
 use Rattle.model.specs.declared.Refusal.the-variants.{CountOutsideRange, UnsoundState, ListTooShort, NoSuchProcess, SenderIsReceiver, NoSuchFailedProcess, NotUnderWay, TooManyUnderWay, MessageNumbersUsed, IntervalsUsed, NoFirstByte, LeftOverBytes, MalformedRecord, BlockCountOutsideRange, BlocksUsed, TooManyRecords, UnfitNamedList, NotKept, CausallyOrdered, BufferTooShort, TrialOutsideRange, HalvesMismatch, NeitherReady, Denied}
-use Rattle.model.specs.Words.{places, mostUnderWay, mostMessages, mostInterval, mostBlocks, blockCount, process, own}
+use Rattle.model.specs.Words.{mostProcesses, mostUnderWay, mostMessages, mostInterval, mostBlocks, blockCount, process, own}
 use Rattle.model.specs.Steps.{found, forces, latestAllowed}
 use Rattle.model.specs.Sound.{isBlockCount, sound}
 
@@ -57,7 +57,7 @@ firstOf (r ∷ l) = pick (r .holds) (some (r .gives)) (firstOf l)
 -- Note 5: "15, at the start after 1, for a block count outside 1 to 65,535"; "those at n and above are neither judged nor stored".
 unfoldable pub startRefusal : ℕ → List ℕ → Option Refusal
 startRefusal n counts = firstOf (
-    record { holds = not (leb 1 n && leb n places); gives = CountOutsideRange }
+    record { holds = not (leb 1 n && leb n mostProcesses); gives = CountOutsideRange }
     ∷ record { holds = anyBelow n (λ p. not (isBlockCount (getD counts p 0))); gives = BlockCountOutsideRange }
     ∷ [])
 

@@ -8,17 +8,17 @@ use mathlib.Core.List.{List}
 use Prim.Native.Nat.{ℕ, _≤_, _<_}
 use lib.Dec.{eqb}
 use Rattle.model.specs.declared.Interval.{Interval}
-use Rattle.model.specs.Words.{places, entry, below, inSet}
+use Rattle.model.specs.Words.{mostProcesses, entry, below, inSet}
 use Rattle.model.specs.Steps.{newer, takenVector, risen}
 
 pub record RisenIsExact (own carried : List Interval) : Type 0 where
   -- "a number of 16 bits"
   pub small : risen own carried < 65_536
   -- bit f is set exactly if entry f was smaller than the carried one
-  pub exact : (f : ℕ) → f < places → inSet (risen own carried) f ≡ below (entry own f) (entry carried f)
+  pub exact : (f : ℕ) → f < mostProcesses → inSet (risen own carried) f ≡ below (entry own f) (entry carried f)
   -- which is: exactly if it is greater in the vector that comes out
-  pub rose : (f : ℕ) → f < places → inSet (risen own carried) f ≡ below (entry own f) (entry (takenVector own carried) f)
+  pub rose : (f : ℕ) → f < mostProcesses → inSet (risen own carried) f ≡ below (entry own f) (entry (takenVector own carried) f)
   -- no bit is set at 16 or above
-  pub no-more : (f : ℕ) → places ≤ f → inSet (risen own carried) f ≡ false
+  pub no-more : (f : ℕ) → mostProcesses ≤ f → inSet (risen own carried) f ≡ false
   -- the set is empty exactly if nothing carried is newer
   pub nothing : eqb (risen own carried) 0 ≡ not (newer own carried)

@@ -16,11 +16,11 @@ use Rattle.model.specs.declared.Pin.the-variants.{Nothing, At}
 use Rattle.model.specs.declared.Checkpoint.{Checkpoint}
 use Rattle.model.specs.declared.Message.{Message}
 use Rattle.model.specs.declared.Run.{Run}
-use Rattle.model.specs.Words.{places, mostUnderWay, mostMessages, mostBlockCount, mostBlocks, entry, lastStored, names, named, Process, blocksOf, noCheckpoint, blockCount, process, own, underWay}
+use Rattle.model.specs.Words.{mostProcesses, mostUnderWay, mostMessages, mostBlockCount, mostBlocks, entry, lastStored, names, named, Process, blocksOf, noCheckpoint, blockCount, process, own, underWay}
 
 -- "Count 1 to 16."
 unfoldable pub countSound : Run → Bool
-countSound s = leb 1 (s .count) && leb (s .count) places
+countSound s = leb 1 (s .count) && leb (s .count) mostProcesses
 
 -- "Own entries at least 1."
 unfoldable pub ownSound : Run → Bool

@@ -20,7 +20,7 @@ use Rattle.model.specs.declared.Checkpoint.{Checkpoint}
 use Rattle.model.specs.declared.Message.{Message}
 use Rattle.model.specs.declared.Disk.{Disk}
 use Rattle.model.specs.declared.Run.{Run}
-use Rattle.model.specs.Words.{places, initial, basic, forced, entry, below, liveIndex, named, Process, live, blocksOf, zeroVector, noPins, blockCount, blank, process, withProcess, own, underWay, withMessages, withDisk, failed}
+use Rattle.model.specs.Words.{mostProcesses, initial, basic, forced, entry, below, liveIndex, named, Process, live, blocksOf, zeroVector, noPins, blockCount, blank, process, withProcess, own, underWay, withMessages, withDisk, failed}
 
 -- A deleted checkpoint, as "pairs process, index".
 pub record Deletion : Type 0 where
@@ -115,7 +115,7 @@ others s m = select (λ x. not (eqb (x .number) m)) (underWay s)
 -- Deliver to i. "If the sent mark is set and some carried entry is greater than i's, first do a checkpoint at i (forced)."
 -- Entries at n and above are zero in every vector, so none of them is ever greater.
 unfoldable pub newer : List Interval → List Interval → Bool
-newer own carried = anyBelow places (λ f. below (entry own f) (entry carried f))
+newer own carried = anyBelow mostProcesses (λ f. below (entry own f) (entry carried f))
 
 unfoldable pub forces : Process → List Interval → Bool
 forces P carried = P .mark && newer (P .vector) carried
@@ -125,17 +125,17 @@ unfoldable pub takenEntry : List Interval → List Interval → ℕ → Interval
 takenEntry own carried f = pick (below (entry own f) (entry carried f)) (entry carried f) (entry own f)
 
 unfoldable pub takenVector : List Interval → List Interval → List Interval
-takenVector own carried = table places (takenEntry own carried)
+takenVector own carried = table mostProcesses (takenEntry own carried)
 
 unfoldable pub takenPin : ℕ → List Interval → List Interval → List Pin → ℕ → Pin
 takenPin i own carried pins f = pick (below (entry own f) (entry carried f)) (getD pins i Nothing) (getD pins f Nothing)
 
 unfoldable pub takenPins : ℕ → List Interval → List Interval → List Pin → List Pin
-takenPins i own carried pins = table places (takenPin i own carried pins)
+takenPins i own carried pins = table mostProcesses (takenPin i own carried pins)
 
 -- Note 1: "the set of entries that rose, as a number of 16 bits". Entry f rises where it is smaller than the carried one; bit f stands for it.
 unfoldable pub risen : List Interval → List Interval → ℕ
-risen own carried = bitsOf places (λ f. below (entry own f) (entry carried f))
+risen own carried = bitsOf mostProcesses (λ f. below (entry own f) (entry carried f))
 
 unfoldable pub takenIn : ℕ → List Interval → Process → Process
 takenIn i carried P = record {
@@ -218,7 +218,7 @@ pinAfter s F p f =
     Nothing
 
 unfoldable pub pinsAfter : Run → ℕ → ℕ → List Pin
-pinsAfter s F p = table places (pinAfter s F p)
+pinsAfter s F p = table mostProcesses (pinAfter s F p)
 
 unfoldable pub recovered : Run → ℕ → ℕ → Process
 recovered s F p = record {

@@ -18,8 +18,8 @@ use Rattle.model.specs.declared.Disk.{Disk}
 use Rattle.model.specs.declared.Run.{Run}
 
 -- "A run has n processes, 1 to 16, numbered from 0."
-abbrev pub places : ℕ
-places = 16
+abbrev pub mostProcesses : ℕ
+mostProcesses = 16
 
 -- "At most 64 messages are under way."
 abbrev pub mostUnderWay : ℕ
@@ -52,7 +52,7 @@ mostBlocks = 1_000_000_000_000_000
 
 -- Note 5: "a trace run uses 1": the block counts of its start.
 abbrev pub ones : List ℕ
-ones = replicate places 1
+ones = replicate mostProcesses 1
 
 -- "Entry f of i's vector is the last interval of f that i knows, 0 if none"
 abbrev pub entry : List Interval → ℕ → Interval
@@ -101,10 +101,10 @@ blocksOf (c ∷ l) = c .blocks + blocksOf l
 
 -- Unused places: "Unused places hold zero; unused pins .. are none."
 abbrev pub zeroVector : List Interval
-zeroVector = replicate places (record { 0 = 0 })
+zeroVector = replicate mostProcesses (record { 0 = 0 })
 
 abbrev pub noPins : List Pin
-noPins = replicate places Nothing
+noPins = replicate mostProcesses Nothing
 
 abbrev pub noCheckpoint : Checkpoint
 noCheckpoint = record { index = record { 0 = 0 }; vector = zeroVector; cause = 0; blocks = 0 }
@@ -124,11 +124,11 @@ noMessage = record { number = 0; sender = 0; receiver = 0; vector = zeroVector }
 unfoldable pub blank : ℕ → Run
 blank n = record {
   count = n;
-  vectors = record { 0 = replicate places zeroVector };
-  pins = record { 0 = replicate places noPins };
-  sent = replicate places false;
-  kept = record { 0 = replicate places (replicate places noCheckpoint) };
-  held = replicate places 0;
+  vectors = record { 0 = replicate mostProcesses zeroVector };
+  pins = record { 0 = replicate mostProcesses noPins };
+  sent = replicate mostProcesses false;
+  kept = record { 0 = replicate mostProcesses (replicate mostProcesses noCheckpoint) };
+  held = replicate mostProcesses 0;
   messages = replicate mostUnderWay noMessage;
   underway = 0;
   last = 0;
@@ -155,7 +155,7 @@ withProcess s p P = record {
   vectors = record { 0 = set (s .vectors .0) p (P .vector) };
   pins = record { 0 = set (s .pins .0) p (P .pins) };
   sent = set (s .sent) p (P .mark);
-  kept = record { 0 = set (s .kept .0) p (placed places noCheckpoint (P .kept)) };
+  kept = record { 0 = set (s .kept .0) p (placed mostProcesses noCheckpoint (P .kept)) };
   held = set (s .held) p (length (P .kept));
   messages = s .messages;
   underway = s .underway;

@@ -17,7 +17,7 @@ use Rattle.laws.specs.Lists.{select, lastOf, placed}
 use Rattle.laws.specs.Search.{latest, latest-is, latest-out}
 use Rattle.laws.specs.Truth.{and-left, and-both, and-no-right, never-both}
 use Rattle.model.specs.declared.Run.{Run}
-use Rattle.model.specs.Words.{places, Process, noCheckpoint, blank, inSet, process, withProcess, withMessages, withDisk, failed}
+use Rattle.model.specs.Words.{mostProcesses, Process, noCheckpoint, blank, inSet, process, withProcess, withMessages, withDisk, failed}
 use Rattle.model.specs.Steps.{states, member}
 use Rattle.model.specs.Sound.{sound}
 use Rattle.model.specs.Refusals.{noMember}
@@ -67,12 +67,12 @@ pub record Fit (s : Run) : Type 0 where
   -- a member of a line is one of its process's states, and its index says which
   pub stands : (F p : ℕ) → p < s .count → lastOf (select (λ c. eqb (c .index .0) (member s F p .index .0)) (states p (process s p))) ≡ some (member s F p)
 
-state-room : (r : Ideal) (p : ℕ) → p < places → Room (stateOf r) p
+state-room : (r : Ideal) (p : ℕ) → p < mostProcesses → Room (stateOf r) p
 unfolding stateOf partsOf withDisk withMessages
 state-room r p lt = let w = room-all (r .n) (processOf r) (blank (r .n)) p (room-blank (r .n) p lt) in
     record { vectors = w .vectors; pins = w .pins; sent = w .sent; kept = w .kept; held = w .held }
 
-state-stands : (r : Ideal) → Inv r → r .n ≤ places → (F p : ℕ) → p < r .n
+state-stands : (r : Ideal) → Inv r → r .n ≤ mostProcesses → (F p : ℕ) → p < r .n
     → lastOf (select (λ c. eqb (c .index .0) (member (stateOf r) F p .index .0)) (states p (process (stateOf r) p))) ≡ some (member (stateOf r) F p)
 unfolding checkpointOf
 state-stands r v few F p lt =
@@ -120,9 +120,9 @@ process-put s p P h = rw (
   getD-set-same (s .vectors .0) p (P .vector) [] (h .vectors),
   getD-set-same (s .pins .0) p (P .pins) [] (h .pins),
   getD-set-same (s .sent) p (P .mark) false (h .sent),
-  getD-set-same (s .kept .0) p (placed places noCheckpoint (P .kept)) [] (h .kept),
+  getD-set-same (s .kept .0) p (placed mostProcesses noCheckpoint (P .kept)) [] (h .kept),
   getD-set-same (s .held) p (length (P .kept)) 0 (h .held),
-  take-placed places noCheckpoint (P .kept),
+  take-placed mostProcesses noCheckpoint (P .kept),
 )
 
 process-other : (s : Run) (p q : ℕ) (Q : Process) → (p ≡ q → ⊥) → process (withProcess s q Q) p ≡ process s p
@@ -131,7 +131,7 @@ process-other s p q Q ne = rw (
   getD-set-other (s .vectors .0) q p (Q .vector) [] ne,
   getD-set-other (s .pins .0) q p (Q .pins) [] ne,
   getD-set-other (s .sent) q p (Q .mark) false ne,
-  getD-set-other (s .kept .0) q p (placed places noCheckpoint (Q .kept)) [] ne,
+  getD-set-other (s .kept .0) q p (placed mostProcesses noCheckpoint (Q .kept)) [] ne,
   getD-set-other (s .held) q p (length (Q .kept)) 0 ne,
 )
 

@@ -24,7 +24,7 @@ use Rattle.model.specs.declared.Run.{Run}
 use Rattle.model.specs.declared.Pin.the-variants.{At}
 use Rattle.model.specs.declared.StartAnswer.the-variants as start-answer
 use Rattle.model.specs.declared.StartAnswer.the-variants.{Started}
-use Rattle.model.specs.Words.{places, zeroVector, noPins, noMessage, blank, inSet, process, withDisk}
+use Rattle.model.specs.Words.{mostProcesses, zeroVector, noPins, noMessage, blank, inSet, process, withDisk}
 use Rattle.model.specs.Steps.{checkpointZero, started, startState, found, forces, checkpointState, sendState, deliverState, loseState, recoverState}
 use Rattle.model.specs.Refusals.{startRefusal, missing, checkpointRefusal, sendRefusal, deliverRefusal, loseRefusal, recoverRefusal}
 use Rattle.model.specs.laws.Refusals.{by-refusal, no-rule}
@@ -311,11 +311,11 @@ start-count : (n : ℕ) (sizes : List ℕ) → startState n sizes .count ≡ n
 unfolding startState withDisk blank
 start-count n sizes = count-all n (started sizes) (blank n)
 
-start-part : (n : ℕ) (sizes : List ℕ) (p : ℕ) → n ≤ places → p < n → process (startState n sizes) p ≡ started sizes p
+start-part : (n : ℕ) (sizes : List ℕ) (p : ℕ) → n ≤ mostProcesses → p < n → process (startState n sizes) p ≡ started sizes p
 unfolding startState
 start-part n sizes p few lt = process-disk _ _ p ∙ process-all n (started sizes) (blank n) p lt (room-blank n p (omega arith))
 
-start-alike : (owned n : ℕ) (sizes others : List ℕ) → n ≤ places → ((p : ℕ) → owns owned n p ≡ true → getD sizes p 0 ≡ getD others p 0) → Alike owned (startState n sizes) (startState n others)
+start-alike : (owned n : ℕ) (sizes others : List ℕ) → n ≤ mostProcesses → ((p : ℕ) → owns owned n p ≡ true → getD sizes p 0 ≡ getD others p 0) → Alike owned (startState n sizes) (startState n others)
 unfolding started
 start-alike owned n sizes others few same = record {
   count = start-count n sizes ∙ sym (start-count n others);

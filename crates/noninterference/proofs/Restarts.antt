@@ -17,7 +17,7 @@ use Rattle.model.specs.declared.Interval.{Interval}
 use Rattle.model.specs.declared.Pin.{Pin}
 use Rattle.model.specs.declared.Pin.the-variants.{Nothing, At}
 use Rattle.model.specs.declared.Run.{Run}
-use Rattle.model.specs.Words.{places, entry, below, liveIndex, named, Process, process, own, withMessages, withDisk}
+use Rattle.model.specs.Words.{mostProcesses, entry, below, liveIndex, named, Process, process, own, withMessages, withDisk}
 use Rattle.model.specs.Steps.{advanced, states, member, rolledBack, vectorAfter, notLost, ownAfter, latestPin, movedPin, pinAfter, pinsAfter, recovered, recoverState}
 use Rattle.model.specs.Sound.{isNothing}
 use Rattle.model.proofs.simulation.Parts.{process-all, process-messages, process-disk, count-all}
@@ -76,10 +76,10 @@ module _ (s t : Run) (F G p : ℕ) (part : process s p ≡ process t p) (same : 
       ∙ (λ j. pin-left (vector-same j) (not-lost-same j) (part j) (rolled-same j) f)
       ∙ sym (pin-is-left t G f d))
 
-  recovered-same : ((f : ℕ) → f < places → not (isNothing (pinAfter s F p f)) ≡ not (isNothing (pinAfter t G p f))) → recovered s F p ≡ recovered t G p
+  recovered-same : ((f : ℕ) → f < mostProcesses → not (isNothing (pinAfter s F p f)) ≡ not (isNothing (pinAfter t G p f))) → recovered s F p ≡ recovered t G p
   unfolding recovered pinsAfter
   recovered-same pinned =
-      let pins : table places (pinAfter s F p) ≡ table places (pinAfter t G p) = table-same places (pinAfter s F p) (pinAfter t G p) (λ f lt. pin-same f (pinned f lt)) in
+      let pins : table mostProcesses (pinAfter s F p) ≡ table mostProcesses (pinAfter t G p) = table-same mostProcesses (pinAfter s F p) (pinAfter t G p) (λ f lt. pin-same f (pinned f lt)) in
       process-eq (recovered s F p) (recovered t G p)
       vector-same
       pins
@@ -110,12 +110,12 @@ module _ (owned : ℕ) (s t : Run) (fs : Fit s) (ft : Fit t) (a : Alike owned s 
     unfolding restart
     index-same = ap (λ (x : Restart). x .index) restart-same
 
-    pinned-same : (f : ℕ) → f < places → not (isNothing (pinAfter s F p f)) ≡ not (isNothing (pinAfter t G p f))
+    pinned-same : (f : ℕ) → f < mostProcesses → not (isNothing (pinAfter s F p f)) ≡ not (isNothing (pinAfter t G p f))
     unfolding restart
     pinned-same f lt =
-        sym (getD-table places (λ f. not (isNothing (pinAfter s F p f))) f false lt)
+        sym (getD-table mostProcesses (λ f. not (isNothing (pinAfter s F p f))) f false lt)
         ∙ ap (λ (x : Restart). getD (x .pinned) f false) restart-same
-        ∙ getD-table places (λ f. not (isNothing (pinAfter t G p f))) f false lt
+        ∙ getD-table mostProcesses (λ f. not (isNothing (pinAfter t G p f))) f false lt
 
     member-same : member s F p ≡ member t G p
     member-same = one (member s F p) (member t G p) (

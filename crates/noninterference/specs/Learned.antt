@@ -15,7 +15,7 @@ use Rattle.model.specs.declared.Interval.{Interval}
 use Rattle.model.specs.declared.Message.{Message}
 use Rattle.model.specs.declared.Run.{Run}
 use Rattle.model.specs.declared.StartAnswer.the-variants.{Started}
-use Rattle.model.specs.Words.{places, mostUnderWay, inSet}
+use Rattle.model.specs.Words.{mostProcesses, mostUnderWay, inSet}
 use Rattle.model.specs.Steps.{found, member, pinAfter}
 use Rattle.model.specs.Sound.{isNothing}
 use Rattle.model.specs.Refusals.{pastBlocks, forcesOver}
@@ -94,7 +94,7 @@ pub record Restart : Type 0 where
   pub pinned : List Bool
 
 unfoldable pub restart : Run → ℕ → ℕ → Restart
-restart s F p = record { index = member s F p .index .0; pinned = table places (λ f. not (isNothing (pinAfter s F p f))) }
+restart s F p = record { index = member s F p .index .0; pinned = table mostProcesses (λ f. not (isNothing (pinAfter s F p f))) }
 
 unfoldable pub restarts : ℕ → Run → ℕ → List Restart
 restarts owned s F = table (s .count) (λ p. pick (owns owned (s .count) p) (restart s F p) (record { index = 0; pinned = [] }))

@@ -11,7 +11,7 @@ use Rattle.laws.specs.Choice.{pick}
 use Rattle.model.specs.declared.Checkpoint.{Checkpoint}
 use Rattle.model.specs.declared.Interval.{Interval}
 use Rattle.model.specs.declared.Run.{Run}
-use Rattle.model.specs.Words.{places, entry, comesBefore, process}
+use Rattle.model.specs.Words.{mostProcesses, entry, comesBefore, process}
 use Rattle.histories.specs.History.{Lists, checkpoints}
 use Rattle.whole_runs.specs.Outcomes.{startOutcome}
 use Rattle.whole_runs.specs.Calls.{stateAfter, transcript}
@@ -50,7 +50,7 @@ passed {x = x} (suc k) t f m = elim (joined (passing k t f) (pick (t k) (f k ∷
     last false m = absurd (List·Memᴰ·not-nil m)
 
 -- A kept checkpoint in the state is a state of the run.
-module _ (r : Ideal) (v : Inv r) (few : r .n ≤ places) where
+module _ (r : Ideal) (v : Inv r) (few : r .n ≤ mostProcesses) where
   live-entry : (p f : ℕ) → p < r .n → f < r .n → entry (process (stateOf r) p .vector) f ≡ record { 0 = r .vector p (r .own p) f }
   unfolding processOf
   live-entry p f hp hf = rw (process-is r p few hp) (entry-is (r .n) (r .vector p (r .own p)) f few hf)
@@ -62,7 +62,7 @@ module _ (r : Ideal) (v : Inv r) (few : r .n ≤ places) where
       rw (w .2) (w .1, entry-is (r .n) (r .vector p (w .0)) f few hf)
 
 -- Of a state and a history that stand for one run.
-module _ (r : Ideal) (v : Inv r) (few : r .n ≤ places) (w : Sources r) (h : Surviving) (same : h .lists ≡ r .events) where
+module _ (r : Ideal) (v : Inv r) (few : r .n ≤ mostProcesses) (w : Sources r) (h : Surviving) (same : h .lists ≡ r .events) where
   own-is : (p : ℕ) → checkpoints (h .lists p) ≡ r .own p
   own-is p = ap (λ (l : Lists). checkpoints (l p)) same ∙ sym (v .counted p)
 

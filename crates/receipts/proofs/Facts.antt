@@ -6,16 +6,16 @@ use Prim.Native.Nat.{ℕ, _≤_, _<_}
 use native.Mathlib.Omega.{arith}
 use lib.ListN.{getD}
 use Rattle.model.specs.declared.Run.{Run}
-use Rattle.model.specs.Words.{places}
+use Rattle.model.specs.Words.{mostProcesses}
 use Rattle.model.specs.Sound.{sound}
 use Rattle.model.specs.laws.Sound.{sound-state}
 
 module _ (s : Run) (h : sound s ≡ true) where
   -- there is a place for each process of the run
-  pub place : (p : ℕ) → p < s .count → p < places
+  pub place : (p : ℕ) → p < s .count → p < mostProcesses
   place p lt = omega (arith, sound-state s h .count-most)
 
   module _ (p : ℕ) (lt : p < s .count) where
     -- no more checkpoints are kept than there are places
-    pub held-places : getD (s .held) p 0 ≤ places
+    pub held-places : getD (s .held) p 0 ≤ mostProcesses
     held-places = omega (arith, sound-state s h .processes p lt .held-most, sound-state s h .count-most)

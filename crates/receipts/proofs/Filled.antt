@@ -16,7 +16,7 @@ use Rattle.laws.specs.Truth.{and-left, and-right, and-out}
 use Rattle.model.specs.declared.Interval.{Interval}
 use Rattle.model.specs.declared.Checkpoint.{Checkpoint}
 use Rattle.model.specs.declared.Run.{Run}
-use Rattle.model.specs.Words.{places, zeroVector, noCheckpoint, process, underWay}
+use Rattle.model.specs.Words.{mostProcesses, zeroVector, noCheckpoint, process, underWay}
 use Rattle.model.specs.Sound.{zeroFrom, unusedCheckpoint, sound}
 use Rattle.model.specs.laws.Sound.{sound-state}
 use Rattle.receipts.specs.Sized.{Sized}
@@ -40,7 +40,7 @@ module _ {A : Type 0} (t : A → Bool) (x : A) where
       rw size (ap (λ (r : List A). y ∷ r) rest)
 
 -- An unused vector is the vector of zeros, where it has 16 entries,
-pub zero-vector : (v : List Interval) → zeroFrom 0 v ≡ true → length v ≡ places → v ≡ zeroVector
+pub zero-vector : (v : List Interval) → zeroFrom 0 v ≡ true → length v ≡ mostProcesses → v ≡ zeroVector
 unfolding zeroFrom placed
 zero-vector v e n =
     filled (λ x. eqb (x .0) 0) (record { 0 = 0 }) 0 v e (λ j lt q. ap (λ (k : ℕ). record { 0 = k }) (eqb-true (getD v j (record { 0 = 0 }) .0) 0 q))
@@ -49,11 +49,11 @@ zero-vector v e n =
     zero-entry : Interval
     zero-entry = record { 0 = 0 }
 
-    size : length v - 0 ≡ places
+    size : length v - 0 ≡ mostProcesses
     size = omega (arith, n)
 
 -- and so are an unused checkpoint and an unused message.
-pub zero-checkpoint : (c : Checkpoint) → unusedCheckpoint c ≡ true → length (c .vector) ≡ places → c ≡ noCheckpoint
+pub zero-checkpoint : (c : Checkpoint) → unusedCheckpoint c ≡ true → length (c .vector) ≡ mostProcesses → c ≡ noCheckpoint
 unfolding unusedCheckpoint
 zero-checkpoint c e n =
     let d = and-out _ (eqb (c .blocks) 0) e in
@@ -73,7 +73,7 @@ module _ (s : Run) (size : Sized s) (h : sound s ≡ true) where
 
   -- the row of the kept checkpoints of a process, and how many they are
   module _ (p : ℕ) (lt : p < s .count) where
-    pub row-filled : getD (s .kept .0) p [] ≡ placed places noCheckpoint (process s p .kept)
+    pub row-filled : getD (s .kept .0) p [] ≡ placed mostProcesses noCheckpoint (process s p .kept)
     unfolding process
     row-filled =
         filled unusedCheckpoint noCheckpoint (getD (s .held) p 0) (getD (s .kept .0) p []) (sound-state s h .processes p lt .row-unused)

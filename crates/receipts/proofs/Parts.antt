@@ -11,7 +11,7 @@ use Rattle.model.specs.declared.Interval.{Interval}
 use Rattle.model.specs.declared.Pin.{Pin}
 use Rattle.model.specs.declared.Checkpoint.{Checkpoint}
 use Rattle.model.specs.declared.Run.{Run}
-use Rattle.model.specs.Words.{places, noCheckpoint, process, withProcess}
+use Rattle.model.specs.Words.{mostProcesses, noCheckpoint, process, withProcess}
 use Rattle.model.specs.Sound.{sound}
 use Rattle.receipts.specs.Sized.{Sized}
 use Rattle.receipts.proofs.Filled.{row-filled, row-many}
@@ -40,7 +40,7 @@ unfolding withMark
 mark-back s i = λ j. withParts s (s .vectors .0) (s .pins .0) (set-getD (s .sent) i false j) (s .kept .0) (s .held)
 
 module _ (s : Run) (h : sound s ≡ true) (size : Sized s) (i : ℕ) (lt : i < s .count) where
-  kept-back : set (s .kept .0) i (placed places noCheckpoint (process s i .kept)) ≡ s .kept .0
+  kept-back : set (s .kept .0) i (placed mostProcesses noCheckpoint (process s i .kept)) ≡ s .kept .0
   kept-back = ap (λ (l : List Checkpoint). set (s .kept .0) i l) (sym (row-filled s size h i lt)) ∙ set-getD (s .kept .0) i []
 
   held-back : set (s .held) i (length (process s i .kept)) ≡ s .held

@@ -5,17 +5,17 @@ use mathlib.Core.List.{[]}
 use Prim.Native.Nat.{ℕ, _<_}
 use lib.ListN.{length, getD}
 use Rattle.model.specs.declared.Run.{Run}
-use Rattle.model.specs.Words.{places, mostUnderWay, noCheckpoint, noMessage}
+use Rattle.model.specs.Words.{mostProcesses, mostUnderWay, noCheckpoint, noMessage}
 
 pub record Sized (s : Run) : Type 0 where
-  pub vectors : length (s .vectors .0) ≡ places
-  pub vector-row : (p : ℕ) → p < places → length (getD (s .vectors .0) p []) ≡ places
-  pub pins : length (s .pins .0) ≡ places
-  pub pin-row : (p : ℕ) → p < places → length (getD (s .pins .0) p []) ≡ places
-  pub sent : length (s .sent) ≡ places
-  pub kept : length (s .kept .0) ≡ places
-  pub kept-row : (p : ℕ) → p < places → length (getD (s .kept .0) p []) ≡ places
-  pub stored : (p k : ℕ) → p < places → k < places → length (getD (getD (s .kept .0) p []) k noCheckpoint .vector) ≡ places
-  pub held : length (s .held) ≡ places
+  pub vectors : length (s .vectors .0) ≡ mostProcesses
+  pub vector-row : (p : ℕ) → p < mostProcesses → length (getD (s .vectors .0) p []) ≡ mostProcesses
+  pub pins : length (s .pins .0) ≡ mostProcesses
+  pub pin-row : (p : ℕ) → p < mostProcesses → length (getD (s .pins .0) p []) ≡ mostProcesses
+  pub sent : length (s .sent) ≡ mostProcesses
+  pub kept : length (s .kept .0) ≡ mostProcesses
+  pub kept-row : (p : ℕ) → p < mostProcesses → length (getD (s .kept .0) p []) ≡ mostProcesses
+  pub stored : (p k : ℕ) → p < mostProcesses → k < mostProcesses → length (getD (getD (s .kept .0) p []) k noCheckpoint .vector) ≡ mostProcesses
+  pub held : length (s .held) ≡ mostProcesses
   pub messages : length (s .messages) ≡ mostUnderWay
-  pub carried : (k : ℕ) → k < mostUnderWay → length (getD (s .messages) k noMessage .vector) ≡ places
+  pub carried : (k : ℕ) → k < mostUnderWay → length (getD (s .messages) k noMessage .vector) ≡ mostProcesses

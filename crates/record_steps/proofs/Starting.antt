@@ -16,7 +16,7 @@ use Rattle.model.specs.declared.Refusal.{Refusal}
 use Rattle.model.specs.declared.Refusal.the-variants.{BufferTooShort}
 use Rattle.model.specs.declared.StartAnswer.{StartAnswer}
 use Rattle.model.specs.declared.StartAnswer.the-variants.{Refused}
-use Rattle.model.specs.Words.{ones, places}
+use Rattle.model.specs.Words.{ones, mostProcesses}
 use Rattle.model.specs.Steps.{startState}
 use Rattle.model.specs.Refusals.{firstOf, startRefusal}
 use Rattle.model.specs.laws.Refusals.{by-refusal}
@@ -25,7 +25,7 @@ use Rattle.whole_runs.proofs.whole.Reached.{refused-number}
 use Rattle.listing.specs.declared.Summary.{Summary}
 use Rattle.listing.specs.Said.{reportIn}
 use Rattle.recording.specs.Recording.{unwritten, appended, recording, recordedStart}
-use Rattle.words.specs.Layout.{size, runOf}
+use Rattle.words.specs.Layout.{stateSize, runOf}
 use Rattle.in_place.specs.Starting.{startRefusalIn, startOutcomeIn}
 use Rattle.recorder_in_place.specs.Recorded.{recordedStartIn}
 use Rattle.record_machine.specs.Recorded.{lent, startNumber, refusedLine}
@@ -36,8 +36,8 @@ use Rattle.record_steps.proofs.Arriving.{bounds}
 
 refusal-same : (n : ℕ) → startRefusalIn 6464 n ones ≡ startRefusal n ones
 unfolding startRefusalIn startRefusal firstOf
-refusal-same n = by-bool (leb 1 n && leb n places)
-    (λ h. rw (h, le-ltb (length ones) n (leb-true n places (and-right (leb 1 n) (leb n places) h))) refl)
+refusal-same n = by-bool (leb 1 n && leb n mostProcesses)
+    (λ h. rw (h, le-ltb (length ones) n (leb-true n mostProcesses (and-right (leb 1 n) (leb n mostProcesses) h))) refl)
     (λ h. rw h refl)
 
 outcome-same : (n : ℕ) → startOutcomeIn 6464 n ones ≡ startOutcome n ones

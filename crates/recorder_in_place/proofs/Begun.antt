@@ -22,7 +22,7 @@ use Rattle.whole_runs.specs.Outcomes.{Outcome, startReport}
 use Rattle.whole_runs.proofs.whole.Reached.{refused-number}
 use Rattle.recording.specs.Recording.{Recorded, unwritten, appended}
 use Rattle.words.specs.Clean.{Clean}
-use Rattle.words.specs.Layout.{size, runOf}
+use Rattle.words.specs.Layout.{stateSize, runOf}
 use Rattle.in_place.specs.Starting.{zeros, startRefusalIn, startOutcomeIn, startWords}
 use Rattle.in_place.proofs.Starting.{zeros-run, zeros-clean, accepted-size, start-length}
 use Rattle.recorder_bytes.proofs.Leaves.{leaves-all, leaves-written}
@@ -63,9 +63,9 @@ Said w n counts buffer place v answer bytes next =
     × ((v ≡ recordedStartWords w n counts buffer) × (length w ≡ 6464 → Clean v)))))
 
 -- A start of no process makes words of the right number zero, and leaves others, as any refused start does.
-none-words : (w counts : List ℕ) → length w ≡ size → startWords w 0 counts ≡ zeros
+none-words : (w counts : List ℕ) → length w ≡ stateSize → startWords w 0 counts ≡ zeros
 unfolding startWords startRefusalIn firstOf
-none-words w counts long = rw (eq-eqb (length w) size long)
+none-words w counts long = rw (eq-eqb (length w) stateSize long)
 
 module _ (w : List ℕ) (n : ℕ) (counts buffer : List ℕ) (place : ℕ) where
   none-refused : startRefusalIn (length w) 0 counts ≡ some CountOutsideRange
@@ -111,7 +111,7 @@ module _ (w : List ℕ) (n : ℕ) (counts buffer : List ℕ) (place : ℕ) where
   pub said-short : {u v : List ℕ} → startRefusalIn (length w) n counts ≡ none → length buffer ≡ 0 → u ≡ startWords w n counts → v ≡ startWords u 0 counts
       → Said w n counts buffer place v (Refused BufferTooShort) buffer place
   said-short {u} {v} ok empty e f =
-      let long : length w ≡ size = accepted-size (length w) n counts ok in
+      let long : length w ≡ stateSize = accepted-size (length w) n counts ok in
       let z : v ≡ zeros = f ∙ none-words u counts (ap length e ∙ start-length w n counts ∙ long) in
       let l = leaves-all _ _ _ _ (short-is ok empty) in
       (ap runOf z ∙ zeros-run ∙ l .run, (l .answer, (l .buffer, (l .place, (z ∙ sym (none-words w counts long) ∙ sym (short-words empty), λ h. rw z zeros-clean)))))

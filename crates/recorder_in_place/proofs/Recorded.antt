@@ -22,7 +22,7 @@ use Rattle.whole_runs.specs.Calls.{Call}
 use Rattle.recording.specs.Recording.{Recorded, unwritten, appended, recording, recordedStart, Tape, begun, tapeAfter, RecordingReplays}
 use Rattle.recording.proofs.Recording.{recording-replays}
 use Rattle.words.specs.Clean.{Clean}
-use Rattle.words.specs.Layout.{size, runOf}
+use Rattle.words.specs.Layout.{stateSize, runOf}
 use Rattle.in_place.specs.Starting.{startRefusalIn, startOutcomeIn, startWords, StartsTheSame}
 use Rattle.in_place.proofs.Judging.{starts-the-same}
 use Rattle.in_place.proofs.Starting.{accepted-size, accepted-long, start-run, start-clean}

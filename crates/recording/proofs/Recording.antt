@@ -27,7 +27,7 @@ use Rattle.model.specs.declared.Event.the-variants.{Checkpoint, Send, Deliver, 
 use Rattle.model.specs.declared.Refusal.{Refusal}
 use Rattle.model.specs.declared.Refusal.the-variants.{BufferTooShort}
 use Rattle.model.specs.declared.StartAnswer.the-variants as start-answer
-use Rattle.model.specs.Words.{places, basic, forced, ones, process, failed}
+use Rattle.model.specs.Words.{mostProcesses, basic, forced, ones, process, failed}
 use Rattle.model.specs.Steps.{Deletion, startState, checkpointDeletions, forces, deliverDeletions, lineOf, recoverDeletions}
 use Rattle.model.specs.Sound.{isBlockCount, sound}
 use Rattle.model.specs.Refusals.{number, firstOf, startRefusal, shortDeletions, shortLine, checkpointRefusal, deliverRefusal, lineRefusal, recoverRefusal}
@@ -111,7 +111,7 @@ pub record Alike (n : ℕ) (s : Run) (c d : Call) : Type 0 where
   pub reply : handed n (call s d .reply) ≡ handed n (call s c .reply)
 
 module _ (r : Ideal) (v : Inv r) (fit : Limits r) where
-  few : r .n ≤ places
+  few : r .n ≤ mostProcesses
   few = fit .few-processes
 
   -- The pairs that a call hands out have room in a list that it accepts.
@@ -466,10 +466,10 @@ replay-accepted : (n : ℕ) (s : Run) (l : List EventReply) → map (handed n) (
 replay-accepted n s l e h = sym (none-handed n (repliesOf s (traceOf l))) ∙ ap noneRefused e ∙ entries-refused n l ∙ h
 
 -- A start with block counts 1 is the start of a replay.
-one-of : (n p : ℕ) → n ≤ places → p < n → getD ones p 0 ≡ 1
+one-of : (n p : ℕ) → n ≤ mostProcesses → p < n → getD ones p 0 ≡ 1
 one-of n p few lt = getD-replicate 16 p 1 0 (omega arith)
 
-one-start : (n : ℕ) (counts : List ℕ) → n ≤ places → OneEach n counts → startState n counts ≡ startState n ones
+one-start : (n : ℕ) (counts : List ℕ) → n ≤ mostProcesses → OneEach n counts → startState n counts ≡ startState n ones
 unfolding OneEach
 one-start n counts few one = same-start n counts ones (λ p lt. one p lt ∙ sym (one-of n p few lt))
 

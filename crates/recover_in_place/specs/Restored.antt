@@ -12,7 +12,7 @@ use Rattle.laws.specs.Lists.{select, table}
 use Rattle.model.specs.declared.Interval.{Interval}
 use Rattle.model.specs.declared.Pin.{Pin}
 use Rattle.model.specs.declared.Checkpoint.{Checkpoint}
-use Rattle.model.specs.Words.{places, named, Process}
+use Rattle.model.specs.Words.{mostProcesses, named, Process}
 use Rattle.model.specs.Steps.{advanced}
 use Rattle.words.specs.Layout.{word, heldAt, markAt, blocksAt, partAt, pinsAt, storedAt, intervalOf, rowIn, vectorIn, pinsIn, markIn}
 use Rattle.line_words.specs.Restored.{knownRow, foundIn}
@@ -33,7 +33,7 @@ restoredOwn w p past = pick (ltb 0 past && goesBack w p past) (intervalOf (word 
 
 -- A place at n or above has no member. The entry that the words hold there is of no use: no pin is for it (`pin-is` of proofs/Recovery).
 unfoldable pub ownsAfter : List ℕ → List ℕ → List Interval
-ownsAfter w pasts = table places (λ p. restoredOwn w p (getD pasts p 0))
+ownsAfter w pasts = table mostProcesses (λ p. restoredOwn w p (getD pasts p 0))
 
 -- "a pin for f whose vector entry is not own(f) becomes none. In a rolled-back process a pin whose entry is own(f) names the latest checkpoint with entry f below own(f)
 -- among those kept before the call and not lost": these are in the places up to the member's.

@@ -6,16 +6,16 @@ use mathlib.Core.List.{List}
 use Prim.Native.Nat.{ℕ, _≤_}
 use borrow.Author.Tests.{eq-eqb, le-leb}
 use Rattle.listing.specs.Lines.{longestLine}
-use Rattle.words.specs.Layout.{size}
+use Rattle.words.specs.Layout.{stateSize}
 use Rattle.machines.specs.declared.Request as requests
 use Rattle.machines.specs.Machines.{Answer, stepped}
 use Rattle.machines.specs.Forms.{Asks}
 use Rattle.replay_machine.specs.Replaying.{State, asks, replaying}
 use Rattle.replay_machine.specs.Standing.{leastInput, roomy}
 
-pub large-enough : (words input out : ℕ) → words ≡ size → leastInput ≤ input → longestLine ≤ out → roomy words input out ≡ true
+pub large-enough : (words input out : ℕ) → words ≡ stateSize → leastInput ≤ input → longestLine ≤ out → roomy words input out ≡ true
 unfolding roomy
-large-enough words input out w i o = rw (eq-eqb words size w, le-leb leastInput input i, le-leb longestLine out o)
+large-enough words input out w i o = rw (eq-eqb words stateSize w, le-leb leastInput input i, le-leb longestLine out o)
 
 module _ (size room size′ room′ : ℕ) (same-size : size′ ≡ size) (same-room : room′ ≡ room) where
   pub stepped-alike : (s t : State) (a : Answer) → t ≡ stepped (replaying size′ room′) s a → t ≡ stepped (replaying size room) s a

@@ -6,14 +6,14 @@ ghost use mathlib.Core.Path.{_≡_};
 ghost use Prim.Native.Nat.{_≤_};
 ghost use lib.ListN.{length};
 ghost use Rattle.listing.specs.Lines.{longestLine};
-ghost use Rattle.words.specs.Layout.{size};
+ghost use Rattle.words.specs.Layout.{stateSize};
 ghost use Rattle.machines.specs.Machines.{Ended};
 ghost use Rattle.replay_machine.specs.Replaying.{replaying};
 ghost use Rattle.replay_machine.specs.Standing.{numbers, leastInput, stateOf};
 
 // Each request is obeyed, and what came of it handed back, until the machine stops.
 fn drive(words: &mut [u16], memory: &mut [u64], input: &mut [u8], out: &mut [u8]) -> Request
-    requires { ⌜ (numbers ≤ length (now memory)) × (length (now words) ≡ size) × (leastInput ≤ length (now input)) × (longestLine ≤ length (now out)) ⌝ }
+    requires { ⌜ (numbers ≤ length (now memory)) × (length (now words) ≡ stateSize) × (leastInput ≤ length (now input)) × (longestLine ≤ length (now out)) ⌝ }
     ensures { λ r. ⌜ Ended (replaying (length (now (input .entry))) (length (now (out .entry)))) (stateOf (now (words .exit)) (now (memory .exit)) (now (input .exit)) (now (out .exit))) ⌝ }
 {
     let mut request = replay_machine::step::begin(words, memory, input, out);

@@ -12,23 +12,23 @@ use Rattle.laws.specs.Choice.{pick, by-bool, by-eq, pick-same}
 use Rattle.laws.specs.Truth.{and-left, and-right}
 use Rattle.whole_runs.specs.Listing.{mostRecords}
 use Rattle.listing.specs.Lines.{longestLine}
-use Rattle.words.specs.Layout.{size}
+use Rattle.words.specs.Layout.{stateSize}
 use Rattle.replay_machine.specs.declared.place.Place.{Place}
 use Rattle.replay_machine.specs.Replaying.{State, starting, counted, opening, reading, printing, ending, failing, stopped}
 use Rattle.replay_machine.specs.Standing.{leastInput, bitOf, placeIn, roomy, inside, byPhase, stateIn, betweenIn, plainPlace, textPlace, Holds, Lies}
 
 module _ (words input out : ℕ) (h : roomy words input out ≡ true) where
-  pub roomy-words : words ≡ size
+  pub roomy-words : words ≡ stateSize
   unfolding roomy
-  roomy-words = eqb-true words size (and-left (eqb words size) (leb leastInput input && leb longestLine out) h)
+  roomy-words = eqb-true words stateSize (and-left (eqb words stateSize) (leb leastInput input && leb longestLine out) h)
 
   pub roomy-input : 8 ≤ input
   unfolding roomy
-  roomy-input = leb-true leastInput input (and-left (leb leastInput input) (leb longestLine out) (and-right (eqb words size) (leb leastInput input && leb longestLine out) h))
+  roomy-input = leb-true leastInput input (and-left (leb leastInput input) (leb longestLine out) (and-right (eqb words stateSize) (leb leastInput input && leb longestLine out) h))
 
   pub roomy-out : longestLine ≤ out
   unfolding roomy
-  roomy-out = leb-true longestLine out (and-right (leb leastInput input) (leb longestLine out) (and-right (eqb words size) (leb leastInput input && leb longestLine out) h))
+  roomy-out = leb-true longestLine out (and-right (leb leastInput input) (leb longestLine out) (and-right (eqb words stateSize) (leb leastInput input && leb longestLine out) h))
 
 -- The numbers that lie inside.
 pub record Inside (p : Place) (input out : ℕ) : Type 0 where

@@ -21,7 +21,7 @@ use Rattle.model.specs.Refusals.{startRefusal, firstOf}
 use Rattle.model.specs.Steps.{startState}
 use Rattle.whole_runs.specs.Outcomes.{Outcome, startOutcome}
 use Rattle.whole_runs.specs.Listing.{mostRecords}
-use Rattle.words.specs.Layout.{size, runOf}
+use Rattle.words.specs.Layout.{stateSize, runOf}
 use Rattle.in_place.specs.Starting.{startRefusalIn, startOutcomeIn, StartsTheSame}
 use Rattle.in_place.proofs.Judging.{starts-the-same}
 use Rattle.replay_machine.specs.declared.place.Place.{Place}
@@ -38,7 +38,7 @@ started-not-refused w e = absurd (let z : _≡_ {A = ℕ} 0 1 = cc in omega arit
 refusal-same : (w x : Refusal) → start-answer.Refused w ≡ start-answer.Refused x → w ≡ x
 refusal-same w x e = cc
 
-module _ (many n : ℕ) (whole : many ≡ size) where
+module _ (many n : ℕ) (whole : many ≡ stateSize) where
   same-start : startOutcomeIn many n ones ≡ startOutcome n ones
   unfolding StartsTheSame startOutcomeIn startRefusalIn startOutcome startRefusal firstOf
   same-start = by-bool (leb n 16)

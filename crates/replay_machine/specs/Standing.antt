@@ -12,7 +12,7 @@ use Rattle.model.specs.declared.Run.{Run}
 use Rattle.whole_runs.specs.Listing.{mostRecords}
 use Rattle.whole_runs.specs.WholeRuns.{Reachable}
 use Rattle.listing.specs.Lines.{longestLine}
-use Rattle.words.specs.Layout.{size, runOf}
+use Rattle.words.specs.Layout.{stateSize, runOf}
 use Rattle.replay_in_place.specs.declared.block.Progress.{Progress}
 use Rattle.replay_in_place.specs.Taken.{blockOutcome}
 use Rattle.replay_machine.specs.declared.place.Place.{Place}
@@ -70,7 +70,7 @@ betweenIn p words input = record { all = p .all; done = p .count; run = runOf wo
 
 -- There is room for the words of a run, for what is read, and for the longest line.
 unfoldable pub roomy : ℕ → ℕ → ℕ → Bool
-roomy words input out = eqb words size && (leb leastInput input && leb longestLine out)
+roomy words input out = eqb words stateSize && (leb leastInput input && leb longestLine out)
 
 -- The numbers lie inside the lists. But while lines are written, less than a record is held, at the front.
 unfoldable pub inside : Place → ℕ → ℕ → Bool

@@ -19,7 +19,7 @@ use Rattle.laws.specs.Tables.{gather-same, table-same, length-table}
 use Rattle.model.specs.declared.Run.{Run}
 use Rattle.model.specs.declared.Checkpoint.{Checkpoint}
 use Rattle.model.specs.declared.Refusal.the-variants.{ListTooShort}
-use Rattle.model.specs.Words.{places, process}
+use Rattle.model.specs.Words.{mostProcesses, process}
 use Rattle.model.specs.Steps.{Deletion, listed}
 use Rattle.model.specs.Sound.{sound}
 use Rattle.model.specs.Refusals.{firstOf}
@@ -74,7 +74,7 @@ listed-length : (p : ℕ) (l : List Checkpoint) → length (listed p l) ≡ leng
 unfolding listed
 listed-length p l = length-map {B = Deletion} l (λ c. record { process = p; index = c .index })
 
-module _ (r : Ideal) (h : Surviving) (v : Inv r) (g : Agrees h r) (few : r .n ≤ places) where
+module _ (r : Ideal) (h : Surviving) (v : Inv r) (g : Agrees h r) (few : r .n ≤ mostProcesses) where
   -- What a process keeps, by the state and by the history.
   live-of : (p : ℕ) → liveOf h p ≡ r .own p
   live-of p = ap (λ (l : Lists). checkpoints (l p)) (g .lists) ∙ sym (v .counted p)

@@ -12,7 +12,7 @@ use Rattle.laws.specs.Rows.{by-lt}
 use Rattle.model.specs.declared.Message.{Message}
 use Rattle.model.specs.declared.Disk.{Disk}
 use Rattle.model.specs.declared.Run.{Run}
-use Rattle.model.specs.Words.{places, noCheckpoint, Process, process, withProcess, withMessages, withDisk}
+use Rattle.model.specs.Words.{mostProcesses, noCheckpoint, Process, process, withProcess, withMessages, withDisk}
 use Rattle.words.proofs.View.{placed-at, placed-past}
 
 pub length-take-most : {A : Type 0} (i : ℕ) (l : List A) → length (take i l) ≤ i
@@ -42,13 +42,13 @@ module _ (s : Run) (small : Small s) where
   small-process i P few = record {
     count-some = small .count-some;
     count-few = small .count-few;
-    rows = length-set (s .kept .0) i (placed places noCheckpoint (P .kept)) ∙ small .rows;
+    rows = length-set (s .kept .0) i (placed mostProcesses noCheckpoint (P .kept)) ∙ small .rows;
     causes = λ p k lt less. by-eq p i
-        (λ e. rw (e, getD-set-same (s .kept .0) i (placed places noCheckpoint (P .kept)) [] (omega (arith, small .rows, small .count-few)))
+        (λ e. rw (e, getD-set-same (s .kept .0) i (placed mostProcesses noCheckpoint (P .kept)) [] (omega (arith, small .rows, small .count-few)))
         (by-lt k (length (P .kept))
-        (λ under. rw (placed-at places noCheckpoint (P .kept) k under) (few (omega arith) k under less))
-        (λ past. rw (placed-past places noCheckpoint (P .kept) k past less) (omega arith))))
-        (λ ne. rw (getD-set-other (s .kept .0) i p (placed places noCheckpoint (P .kept)) [] ne) (small .causes p k lt less));
+        (λ under. rw (placed-at mostProcesses noCheckpoint (P .kept) k under) (few (omega arith) k under less))
+        (λ past. rw (placed-past mostProcesses noCheckpoint (P .kept) k past less) (omega arith))))
+        (λ ne. rw (getD-set-other (s .kept .0) i p (placed mostProcesses noCheckpoint (P .kept)) [] ne) (small .causes p k lt less));
   }
 
   -- The checkpoints of a process.

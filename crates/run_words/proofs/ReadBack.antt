@@ -24,7 +24,7 @@ use Rattle.model.specs.declared.Pin.the-variants.{Nothing, At}
 use Rattle.model.specs.declared.Checkpoint.{Checkpoint}
 use Rattle.model.specs.declared.Message.{Message}
 use Rattle.model.specs.declared.Run.{Run}
-use Rattle.model.specs.Words.{places, mostUnderWay, entry, zeroVector, noPins, noCheckpoint, noMessage, pastEnd}
+use Rattle.model.specs.Words.{mostProcesses, mostUnderWay, entry, zeroVector, noPins, noCheckpoint, noMessage, pastEnd}
 use Rattle.model.specs.Sound.{zeroFrom, isNothing, nothingFrom, unusedCheckpoint, unusedMessage}
 use Rattle.words.specs.Layout.{word, countOf, heldAt, partAt, pinsAt, indexAt, storedAt, highAt, carriedAt, indexOf, pinOf, vectorIn, pinsIn, markIn, checkpointIn, isKeptIn, keptIn, messageIn, isMessage, messagesIn, ofProcesses, decoded, endFits, runOf}
 use Rattle.words.proofs.Reading.{index-back, pin-back, wide2-back}
@@ -194,7 +194,7 @@ module _ (v : List ℕ) (s : Run) (h : Holds v s) (z : Sized s) (fit : fitsWords
         let a = and-out (zeroFrom 0 (getD (s .vectors .0) p [])) (nothingFrom 0 (getD (s .pins .0) p [])) (b .0) in
         (a .0, a .1, eqb-true (getD (s .held) p 0) 0 (b .1), not-true (getD (s .sent) p false) (c .1))
 
-    kept-unused : getD (s .kept .0) p [] ≡ replicate places noCheckpoint
+    kept-unused : getD (s .kept .0) p [] ≡ replicate mostProcesses noCheckpoint
     unfolding placeFits
     kept-unused = table-is pastEnd (getD (s .kept .0) p []) 16 (λ k. noCheckpoint) (z .kept-row p room)
         (λ k less. zero-checkpoint (stored s p k) (rw (le-ltb k (getD (s .held) p 0) (omega (arith, unused-row .2))) at (place-fits p k room less)) (z .stored p k room less))
@@ -269,7 +269,7 @@ module _ (v : List ℕ) (s : Run) (h : Holds v s) (z : Sized s) (fit : fitsWords
     vectors = record { 0 = rows-back [] (s .vectors .0) (λ p. vectorIn v (partAt p)) zeroVector (z .vectors) vector-row (λ p le room. zero-vector (getD (s .vectors .0) p []) (unused-row p le room .0) (z .vector-row p room)) j };
     pins = record { 0 = rows-back [] (s .pins .0) (λ p. pinsIn v (pinsAt p)) noPins (z .pins) pins-row (λ p le room. no-pins (getD (s .pins .0) p []) (unused-row p le room .1) (z .pin-row p room)) j };
     sent = rows-back false (s .sent) (markIn v) false (z .sent) mark-row (λ p le room. unused-row p le room .3) j;
-    kept = record { 0 = rows-back [] (s .kept .0) (keptIn v) (replicate places noCheckpoint) (z .kept) kept-row kept-unused j };
+    kept = record { 0 = rows-back [] (s .kept .0) (keptIn v) (replicate mostProcesses noCheckpoint) (z .kept) kept-row kept-unused j };
     held = rows-back 0 (s .held) (λ p. word v (heldAt p)) 0 (z .held) (λ p lt room. sym (there p lt room .held)) (λ p le room. unused-row p le room .2) j;
     messages = messages-back j;
     underway = h .underway j;

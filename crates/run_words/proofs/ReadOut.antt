@@ -16,14 +16,14 @@ use Rattle.model.specs.declared.Vectors.{Vectors}
 use Rattle.model.specs.declared.Pins.{Pins}
 use Rattle.model.specs.declared.Kept.{Kept}
 use Rattle.model.specs.declared.Run.{Run}
-use Rattle.model.specs.Words.{places, mostUnderWay, zeroVector, noPins, noCheckpoint, noMessage, blank}
+use Rattle.model.specs.Words.{mostProcesses, mostUnderWay, zeroVector, noPins, noCheckpoint, noMessage, blank}
 use Rattle.words.specs.Layout.{word, wide2, wide4, countOf, heldAt, partAt, pinsAt, causeAt, vectorIn, pinsIn, markIn, checkpointIn, isKeptIn, keptIn, messagesIn, ofProcesses, decoded, fits, runOf}
 use Rattle.words.proofs.View.{run-fits, run-unfit, count-is, row-is}
 use Rattle.run_words.specs.Readable.{Readable, afterSend, afterLose}
 
 pub read-ends : (w : List ℕ) → Readable w → (vectors : Vectors) (pins : Pins) (sent : List Bool) (kept : Kept) (held : List ℕ) (messages : List Message) (last : ℕ) (disk : Disk) (n many : ℕ)
     → vectors ≡ record { 0 = ofProcesses w (λ p. vectorIn w (partAt p)) zeroVector } → pins ≡ record { 0 = ofProcesses w (λ p. pinsIn w (pinsAt p)) noPins }
-    → sent ≡ ofProcesses w (markIn w) false → kept ≡ record { 0 = ofProcesses w (keptIn w) (replicate places noCheckpoint) }
+    → sent ≡ ofProcesses w (markIn w) false → kept ≡ record { 0 = ofProcesses w (keptIn w) (replicate mostProcesses noCheckpoint) }
     → held ≡ ofProcesses w (λ p. word w (heldAt p)) 0 → messages ≡ placed mostUnderWay noMessage (messagesIn w) → last ≡ wide2 w 2 → disk ≡ record { written = wide4 w 4; deleted = wide4 w 8 }
     → n ≡ word w 0 → many ≡ word w 1
     → record { count = n; vectors = vectors; pins = pins; sent = sent; kept = kept; held = held; messages = messages; underway = many; last = last; disk = disk } ≡ runOf w

@@ -20,7 +20,7 @@ use Rattle.laws.specs.Tables.{length-table, getD-table, table-is, table-same, t
 use Rattle.laws.specs.Update.{upd, upd-same, upd-other}
 use Rattle.model.specs.declared.Checkpoint.{Checkpoint}
 use Rattle.model.specs.declared.Message.{Message}
-use Rattle.model.specs.Words.{places, noCheckpoint, noMessage}
+use Rattle.model.specs.Words.{mostProcesses, noCheckpoint, noMessage}
 use Rattle.laws.specs.Truth.{and-out}
 use Rattle.words.specs.Layout.{word, heldAt, indexAt, countOf, checkpointIn, isKeptIn, keptIn, messageIn, isMessage, ofProcesses}
 
@@ -112,17 +112,17 @@ module _ (w : List ℕ) where
         rw (a, b) (none-place unused (ltb (16 * (q / 16) + q % 16) q) ∙ sym (none-place unused (ltb (16 * (q / 16) + q % 16) (q + 1)))))
         (λ ne. same-place q j i ne)))
 
-  pub so-far-all : (n : ℕ) → n ≡ countOf w → n ≤ 16 → soFar (16 * n) ≡ ofProcesses w (keptIn w) (replicate places noCheckpoint)
+  pub so-far-all : (n : ℕ) → n ≡ countOf w → n ≤ 16 → soFar (16 * n) ≡ ofProcesses w (keptIn w) (replicate mostProcesses noCheckpoint)
   unfolding soFar keptIn
-  so-far-all n e few = table-same 16 (λ p. table 16 (placeAt (16 * n) p)) (λ p. pick (ltb p (countOf w)) (table 16 (λ k. pick (isKeptIn w p k) (checkpointIn w p k) noCheckpoint)) (replicate places noCheckpoint))
+  so-far-all n e few = table-same 16 (λ p. table 16 (placeAt (16 * n) p)) (λ p. pick (ltb p (countOf w)) (table 16 (λ k. pick (isKeptIn w p k) (checkpointIn w p k) noCheckpoint)) (replicate mostProcesses noCheckpoint))
       (λ p lt. by-lt p n
       (λ less. table-same 16 (placeAt (16 * n) p) (λ k. pick (isKeptIn w p k) (checkpointIn w p k) noCheckpoint)
       (λ k under. ap (λ (b : Bool). pick (b && isKeptIn w p k) (checkpointIn w p k) noCheckpoint) (lt-ltb (16 * p + k) (16 * n) (omega arith)))
-      ∙ sym (ap (λ (b : Bool). pick b (table 16 (λ k. pick (isKeptIn w p k) (checkpointIn w p k) noCheckpoint)) (replicate places noCheckpoint)) (lt-ltb p (countOf w) (omega arith))))
+      ∙ sym (ap (λ (b : Bool). pick b (table 16 (λ k. pick (isKeptIn w p k) (checkpointIn w p k) noCheckpoint)) (replicate mostProcesses noCheckpoint)) (lt-ltb p (countOf w) (omega arith))))
       (λ le. table-same 16 (placeAt (16 * n) p) (λ k. noCheckpoint)
       (λ k under. ap (λ (b : Bool). pick (b && isKeptIn w p k) (checkpointIn w p k) noCheckpoint) (le-ltb (16 * p + k) (16 * n) (omega arith)))
       ∙ sym (table-replicate 16 noCheckpoint)
-      ∙ sym (ap (λ (b : Bool). pick b (table 16 (λ k. pick (isKeptIn w p k) (checkpointIn w p k) noCheckpoint)) (replicate places noCheckpoint)) (le-ltb p (countOf w) (omega arith)))))
+      ∙ sym (ap (λ (b : Bool). pick b (table 16 (λ k. pick (isKeptIn w p k) (checkpointIn w p k) noCheckpoint)) (replicate mostProcesses noCheckpoint)) (le-ltb p (countOf w) (omega arith)))))
 
   -- A place in use has an index.
   pub kept-some : (p k : ℕ) → isKeptIn w p k ≡ true → 1 ≤ word w (indexAt p k)

@@ -14,7 +14,7 @@ use Rattle.model.specs.declared.Checkpoint.{Checkpoint}
 use Rattle.model.specs.declared.Message.{Message}
 use Rattle.model.specs.declared.Disk.{Disk}
 use Rattle.model.specs.declared.Run.{Run}
-use Rattle.model.specs.Words.{places, pastEnd}
+use Rattle.model.specs.Words.{mostProcesses, pastEnd}
 use Rattle.words.specs.Layout.{heldAt, markAt, blocksAt, partAt, pinsAt, indexAt, causeAt, storedAt, lowAt, highAt, senderAt, receiverAt, carriedAt}
 use Rattle.words.specs.Puts.{Put, puts, one, vectorPut, puts2, puts4}
 use Rattle.run_words.specs.Fits.{pastMessages, indexFits, messageFits}
@@ -25,7 +25,7 @@ pinWord Nothing = 0
 pinWord (At a) = pick (indexFits a) (a .0 + 1) 0
 
 abbrev pub pinsPut : ℕ → List Pin → Put
-pinsPut at pins = record { at = at; size = places; fill = λ f. pinWord (getD pins f Nothing) }
+pinsPut at pins = record { at = at; size = mostProcesses; fill = λ f. pinWord (getD pins f Nothing) }
 
 unfoldable pub markWord : Bool → ℕ
 markWord mark = pick mark 1 0
@@ -49,7 +49,7 @@ abbrev pub processPuts : ℕ → List Interval → List Pin → ℕ → Bool →
 processPuts p vector pins held mark = vectorPut (partAt p) vector ∷ pinsPut (pinsAt p) pins ∷ one (heldAt p) held ∷ one (markAt p) (markWord mark) ∷ []
 
 unfoldable pub rowFilled : ℕ → ℕ → List Interval → List Pin → ℕ → Bool → List ℕ → List ℕ
-rowFilled p n vector pins held mark w = pick (ltb p n && leb held places) (puts w (processPuts p vector pins held mark)) w
+rowFilled p n vector pins held mark w = pick (ltb p n && leb held mostProcesses) (puts w (processPuts p vector pins held mark)) w
 
 unfoldable pub rowsFilled : ℕ → List (List Interval) → List (List Pin) → List ℕ → List Bool → ℕ → List ℕ → List ℕ
 rowsFilled n vectors pins held sent p w = rowFilled p n (getD vectors p []) (getD pins p []) (getD held p 0) (getD sent p false) w

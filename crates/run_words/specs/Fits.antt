@@ -14,7 +14,7 @@ use Rattle.model.specs.declared.Pin.the-variants.{Nothing, At}
 use Rattle.model.specs.declared.Checkpoint.{Checkpoint}
 use Rattle.model.specs.declared.Message.{Message}
 use Rattle.model.specs.declared.Run.{Run}
-use Rattle.model.specs.Words.{places, mostUnderWay, pastEnd}
+use Rattle.model.specs.Words.{mostProcesses, mostUnderWay, pastEnd}
 use Rattle.model.specs.Sound.{zeroFrom, nothingFrom, unusedCheckpoint, unusedMessage}
 
 -- What a read past the end of the messages gives, in the declared types.
@@ -44,7 +44,7 @@ placeFits k held blocks c = pick (ltb k held) (checkpointFits blocks c) (unusedC
 -- in the row of a process at n and above,
 unfoldable pub rowFits : ℕ → ℕ → List Interval → List Pin → ℕ → Bool → Bool
 rowFits p n vector pins held mark = pick (ltb p n)
-    (leb held places && allBelow places (λ f. pinFits (getD pins f Nothing)))
+    (leb held mostProcesses && allBelow mostProcesses (λ f. pinFits (getD pins f Nothing)))
     (zeroFrom 0 vector && nothingFrom 0 pins && eqb held 0 && not mark)
 
 -- and behind the messages under way.
@@ -56,14 +56,14 @@ unfoldable pub keptFits : List (List Checkpoint) → List ℕ → Bool
 keptFits kept held = allBelow 256 (λ q. placeFits (q % 16) (getD held (q / 16) 0) (getD (getD kept (q / 16) []) 0 pastEnd .blocks) (getD (getD kept (q / 16) []) (q % 16) pastEnd))
 
 unfoldable pub rowsFit : ℕ → List (List Interval) → List (List Pin) → List ℕ → List Bool → Bool
-rowsFit n vectors pins held sent = allBelow places (λ p. rowFits p n (getD vectors p []) (getD pins p []) (getD held p 0) (getD sent p false))
+rowsFit n vectors pins held sent = allBelow mostProcesses (λ p. rowFits p n (getD vectors p []) (getD pins p []) (getD held p 0) (getD sent p false))
 
 unfoldable pub messagesFit : ℕ → List Message → Bool
 messagesFit many messages = allBelow mostUnderWay (λ k. oneFits k many (getD messages k pastMessages))
 
 unfoldable pub fitsWords : Run → Bool
 fitsWords s =
-    leb (s .count) places && leb (s .underway) mostUnderWay
+    leb (s .count) mostProcesses && leb (s .underway) mostUnderWay
     && keptFits (s .kept .0) (s .held)
     && rowsFit (s .count) (s .vectors .0) (s .pins .0) (s .held) (s .sent)
     && messagesFit (s .underway) (s .messages)

@@ -9,7 +9,7 @@ use lib.Dec.{eqb}
 use lib.ListN.{length, getD, take}
 use Rattle.laws.specs.Lists.{table}
 use Rattle.laws.specs.Search.{allBelow}
-use Rattle.words.specs.Layout.{size}
+use Rattle.words.specs.Layout.{stateSize}
 use Rattle.saved.specs.Castagnoli.{crc32c}
 
 unfoldable pub heading : List ℕ
@@ -41,7 +41,7 @@ unfoldable pub wordIn : List ℕ → ℕ → ℕ
 wordIn bytes k = getD bytes (10 + 2 * k) 0 + 256 * getD bytes (11 + 2 * k) 0
 
 unfoldable pub wordsIn : List ℕ → List ℕ
-wordsIn bytes = table size (wordIn bytes)
+wordsIn bytes = table stateSize (wordIn bytes)
 
 unfoldable pub sumIn : List ℕ → ℕ
 sumIn bytes = getD bytes 12_938 0 + 256 * getD bytes 12_939 0 + 65_536 * getD bytes 12_940 0 + 16_777_216 * getD bytes 12_941 0

@@ -13,7 +13,7 @@ use Rattle.model.specs.declared.Refusal.the-variants.{UnsoundState}
 use Rattle.model.specs.Sound.{sound}
 use Rattle.model.specs.Refusals.{unsound}
 use Rattle.whole_runs.specs.Outcomes.{refusing, accepting}
-use Rattle.words.specs.Layout.{size, runOf}
+use Rattle.words.specs.Layout.{stateSize, runOf}
 use Rattle.readers.specs.Readings.{Reading, reading, short}
 use Rattle.saved.specs.Castagnoli.{Bytes}
 use Rattle.saved.specs.Format.{savedSize, savedBytes, wordsIn, isWhole}
@@ -33,7 +33,7 @@ notLoaded lent = record { report = refusing UnsoundState; list = lent }
 
 unfoldable pub loadedInto : Option (List ℕ) → List ℕ → Reading
 loadedInto none lent = notLoaded lent
-loadedInto (some w) lent = pick (eqb (length lent) size) (record { report = accepting none 0; list = w }) (notLoaded lent)
+loadedInto (some w) lent = pick (eqb (length lent) stateSize) (record { report = accepting none 0; list = w }) (notLoaded lent)
 
 unfoldable pub loading : List ℕ → List ℕ → Reading
 loading bytes lent = loadedInto (loadedWords bytes) lent

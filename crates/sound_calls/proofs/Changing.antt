@@ -25,7 +25,7 @@ use Rattle.model.specs.declared.Checkpoint.{Checkpoint}
 use Rattle.model.specs.declared.Message.{Message}
 use Rattle.model.specs.declared.Disk.{Disk}
 use Rattle.model.specs.declared.Run.{Run}
-use Rattle.model.specs.Words.{places, mostUnderWay, mostMessages, mostBlocks, entry, lastStored, names, named, Process, blocksOf, zeroVector, noCheckpoint, noMessage, process, withProcess, own, underWay, withMessages, withDisk}
+use Rattle.model.specs.Words.{mostProcesses, mostUnderWay, mostMessages, mostBlocks, entry, lastStored, names, named, Process, blocksOf, zeroVector, noCheckpoint, noMessage, process, withProcess, own, underWay, withMessages, withDisk}
 use Rattle.model.specs.Sound.{within, ascending, pinSound, messageSound, zeroFrom, unusedCheckpoint, unusedMessage, nothingFrom, recordSound, keptBlocks, sound}
 use Rattle.model.specs.laws.Sound.{SoundProcess, SoundState, sound-state}
 use Rattle.receipts.specs.Sized.{Sized}
@@ -126,11 +126,11 @@ within-at t v h f lt = leb-true (entry v f .0) (own t f .0) (all-out (t .count) 
 
 -- The part of process p, by itself.
 module _ (s : Run) (size : Sized s) (whole : sound s ≡ true) (p : ℕ) (lt : p < s .count) where
-  vector-size : length (process s p .vector) ≡ places
+  vector-size : length (process s p .vector) ≡ mostProcesses
   unfolding process
   vector-size = size .vector-row p (place s whole p lt)
 
-  pins-size : length (process s p .pins) ≡ places
+  pins-size : length (process s p .pins) ≡ mostProcesses
   unfolding process
   pins-size = size .pin-row p (place s whole p lt)
 
@@ -166,7 +166,7 @@ module _ (s : Run) (size : Sized s) (whole : sound s ≡ true) (i : ℕ) (inside
   abbrev pub then-state : Run
   then-state = withDisk (withProcess s i Q) D
 
-  row-there : i < places
+  row-there : i < mostProcesses
   row-there = place s whole i inside
 
   part-own : process (withDisk (withProcess s i Q) D) i ≡ Q
@@ -175,21 +175,21 @@ module _ (s : Run) (size : Sized s) (whole : sound s ≡ true) (i : ℕ) (inside
     getD-set-same (s .vectors .0) i (Q .vector) [] (omega (arith, size .vectors, row-there)),
     getD-set-same (s .pins .0) i (Q .pins) [] (omega (arith, size .pins, row-there)),
     getD-set-same (s .sent) i (Q .mark) false (omega (arith, size .sent, row-there)),
-    getD-set-same (s .kept .0) i (placed places noCheckpoint (Q .kept)) [] (omega (arith, size .kept, row-there)),
+    getD-set-same (s .kept .0) i (placed mostProcesses noCheckpoint (Q .kept)) [] (omega (arith, size .kept, row-there)),
     getD-set-same (s .held) i (length (Q .kept)) 0 (omega (arith, size .held, row-there)),
-    take-placed places noCheckpoint (Q .kept),
+    take-placed mostProcesses noCheckpoint (Q .kept),
   )
 
   held-own : getD (withDisk (withProcess s i Q) D .held) i 0 ≡ length (Q .kept)
   unfolding withProcess withDisk
   held-own = getD-set-same (s .held) i (length (Q .kept)) 0 (omega (arith, size .held, row-there))
 
-  unused-own : length (Q .kept) ≤ places → every unusedCheckpoint (drop (getD (withDisk (withProcess s i Q) D .held) i 0) (getD (withDisk (withProcess s i Q) D .kept .0) i [])) ≡ true
+  unused-own : length (Q .kept) ≤ mostProcesses → every unusedCheckpoint (drop (getD (withDisk (withProcess s i Q) D .held) i 0) (getD (withDisk (withProcess s i Q) D .kept .0) i [])) ≡ true
   unfolding withProcess withDisk
   unused-own few = rw (
     getD-set-same (s .held) i (length (Q .kept)) 0 (omega (arith, size .held, row-there)),
-    getD-set-same (s .kept .0) i (placed places noCheckpoint (Q .kept)) [] (omega (arith, size .kept, row-there)),
-  ) (placed-unused unusedCheckpoint places noCheckpoint (Q .kept) no-checkpoint few)
+    getD-set-same (s .kept .0) i (placed mostProcesses noCheckpoint (Q .kept)) [] (omega (arith, size .kept, row-there)),
+  ) (placed-unused unusedCheckpoint mostProcesses noCheckpoint (Q .kept) no-checkpoint few)
 
   module _ (p : ℕ) (ne : p ≡ i → ⊥) where
     part-other : process (withDisk (withProcess s i Q) D) p ≡ process s p
@@ -198,7 +198,7 @@ module _ (s : Run) (size : Sized s) (whole : sound s ≡ true) (i : ℕ) (inside
       getD-set-other (s .vectors .0) i p (Q .vector) [] ne,
       getD-set-other (s .pins .0) i p (Q .pins) [] ne,
       getD-set-other (s .sent) i p (Q .mark) false ne,
-      getD-set-other (s .kept .0) i p (placed places noCheckpoint (Q .kept)) [] ne,
+      getD-set-other (s .kept .0) i p (placed mostProcesses noCheckpoint (Q .kept)) [] ne,
       getD-set-other (s .held) i p (length (Q .kept)) 0 ne,
     )
 
@@ -212,7 +212,7 @@ module _ (s : Run) (size : Sized s) (whole : sound s ≡ true) (i : ℕ) (inside
 
     row-other : getD (withDisk (withProcess s i Q) D .kept .0) p [] ≡ getD (s .kept .0) p []
     unfolding withProcess withDisk
-    row-other = getD-set-other (s .kept .0) i p (placed places noCheckpoint (Q .kept)) [] ne
+    row-other = getD-set-other (s .kept .0) i p (placed mostProcesses noCheckpoint (Q .kept)) [] ne
 
   count-then : withDisk (withProcess s i Q) D .count ≡ s .count
   unfolding withProcess withDisk
@@ -300,7 +300,7 @@ module _ (s : Run) (size : Sized s) (whole : sound s ≡ true) (i : ℕ) (inside
             vectors-behind = rw (drop-set-lt (s .count) (s .vectors .0) i (Q .vector) inside) (h .vectors-behind);
             pins-behind = rw (drop-set-lt (s .count) (s .pins .0) i (Q .pins) inside) (h .pins-behind);
             sent-behind = rw (drop-set-lt (s .count) (s .sent) i (Q .mark) inside) (h .sent-behind);
-            kept-behind = rw (drop-set-lt (s .count) (s .kept .0) i (placed places noCheckpoint (Q .kept)) inside) (h .kept-behind);
+            kept-behind = rw (drop-set-lt (s .count) (s .kept .0) i (placed mostProcesses noCheckpoint (Q .kept)) inside) (h .kept-behind);
             held-behind = rw (drop-set-lt (s .count) (s .held) i (length (Q .kept)) inside) (h .held-behind);
             carried-unused = h .carried-unused;
             messages-unused = h .messages-unused;

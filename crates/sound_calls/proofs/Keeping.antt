@@ -24,7 +24,7 @@ use Rattle.model.specs.declared.CheckpointIndex.{CheckpointIndex}
 use Rattle.model.specs.declared.Pin.{Pin}
 use Rattle.model.specs.declared.Pin.the-variants.{Nothing, At}
 use Rattle.model.specs.declared.Checkpoint.{Checkpoint}
-use Rattle.model.specs.Words.{places, entry, below, liveIndex, lastStored, names, named, Process, noCheckpoint, blockCount}
+use Rattle.model.specs.Words.{mostProcesses, entry, below, liveIndex, lastStored, names, named, Process, noCheckpoint, blockCount}
 use Rattle.model.specs.Steps.{settled, advanced, storing, checkpointed, takenEntry, takenVector, takenPin, takenPins, takenIn}
 use Rattle.model.specs.Sound.{ascending, pinSound, zeroFrom, isNothing, nothingFrom, causeSound, isBlockCount, recordSound}
 use Rattle.words.proofs.Ascending.{selected-passes}
@@ -39,8 +39,8 @@ every-then t u (x ∷ l) h e = let q = and-out (t x) (every t l) e in and-both (
 -- What holds of the part of process p among n, where W says which vectors have no entry above an own entry, before what no pin names is deleted. The block count is
 -- that of part B.
 pub record Loose (n : ℕ) (W : List Interval → Bool) (p : ℕ) (B P : Process) : Type 0 where
-  pub vector-long : length (P .vector) ≡ places
-  pub pins-long : length (P .pins) ≡ places
+  pub vector-long : length (P .vector) ≡ mostProcesses
+  pub pins-long : length (P .pins) ≡ mostProcesses
   pub own-some : 1 ≤ entry (P .vector) p .0
   pub current-within : W (P .vector) ≡ true
   pub stored-within : every (λ c. W (c .vector)) (P .kept) ≡ true
@@ -159,7 +159,7 @@ record-out B c e =
     (and-right a (isBlockCount (c .blocks)) (q .0), eqb-true (c .blocks) (blockCount B) (q .1))
 
 -- A checkpoint is stored.
-module _ (n : ℕ) (U W : List Interval → Bool) (i cause : ℕ) (P : Process) (h : Loose n U i P P) (inside : i < n) (few : n ≤ places)
+module _ (n : ℕ) (U W : List Interval → Bool) (i cause : ℕ) (P : Process) (h : Loose n U i P P) (inside : i < n) (few : n ≤ mostProcesses)
     (rise : (v : List Interval) → U v ≡ true → W v ≡ true) (new : W (advanced i (P .vector)) ≡ true) (caused : (1 ≤ cause) × (cause ≤ 2)) where
   own-entry : entry (advanced i (P .vector)) i .0 ≡ entry (P .vector) i .0 + 1
   unfolding advanced
@@ -213,7 +213,7 @@ module _ (n : ℕ) (U W : List Interval → Bool) (i cause : ℕ) (P : Process) 
       }
 
 -- A carried vector is taken in.
-module _ (n : ℕ) (W : List Interval → Bool) (i : ℕ) (carried : List Interval) (B P : Process) (h : Loose n W i B P) (inside : i < n) (few : n ≤ places)
+module _ (n : ℕ) (W : List Interval → Bool) (i : ℕ) (carried : List Interval) (B P : Process) (h : Loose n W i B P) (inside : i < n) (few : n ≤ mostProcesses)
     (zeros : zeroFrom n carried ≡ true) (low : entry carried i .0 ≤ entry (P .vector) i .0) (new : W (takenVector (P .vector) carried) ≡ true) where
   no-higher : (k : ℕ) → n ≤ k → below (entry (P .vector) k) (entry carried k) ≡ false
   no-higher k le = by-lt k (length carried)
@@ -224,7 +224,7 @@ module _ (n : ℕ) (W : List Interval → Bool) (i : ℕ) (carried : List Interv
   unfolding takenVector takenEntry
   own-same = getD-table 16 (takenEntry (P .vector) carried) i (record { 0 = 0 }) (omega arith) ∙ rw (le-ltb (entry (P .vector) i .0) (entry carried i .0) low)
 
-  pin-at : (k : ℕ) → k < places → pinSound (P .kept) (getD (P .pins) k Nothing) ≡ true
+  pin-at : (k : ℕ) → k < mostProcesses → pinSound (P .kept) (getD (P .pins) k Nothing) ≡ true
   pin-at k lt = every-at _ (P .pins) k Nothing (omega (arith, h .pins-long)) (h .pins-kept)
 
   pub taken-loose : Loose n W i B (takenIn i carried P)
@@ -291,7 +291,7 @@ record-same : (X Y : Process) → blockCount X ≡ blockCount Y → (c : Checkpo
 unfolding recordSound
 record-same X Y e c = rw e
 
-module _ (n : ℕ) (W : List Interval → Bool) (i : ℕ) (B P : Process) (h : Loose n W i B P) (inside : i < n) (few : n ≤ places) where
+module _ (n : ℕ) (W : List Interval → Bool) (i : ℕ) (B P : Process) (h : Loose n W i B P) (inside : i < n) (few : n ≤ mostProcesses) where
   last-named : named (P .pins) (orElse (lastOf (P .kept)) noCheckpoint) ≡ true
   unfolding named
   last-named = some-at (λ pin. names pin (orElse (lastOf (P .kept)) noCheckpoint .index)) (P .pins) i Nothing (omega (arith, h .pins-long))

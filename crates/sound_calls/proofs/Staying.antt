@@ -25,7 +25,7 @@ use Rattle.model.specs.declared.Message.{Message}
 use Rattle.model.specs.declared.Disk.{Disk}
 use Rattle.model.specs.declared.Refusal.{Refusal}
 use Rattle.model.specs.declared.Run.{Run}
-use Rattle.model.specs.Words.{places, mostUnderWay, mostMessages, mostBlocks, basic, forced, entry, below, named, Process, blocksOf, blockCount, process, withProcess, own, underWay, withMessages, withDisk}
+use Rattle.model.specs.Words.{mostProcesses, mostUnderWay, mostMessages, mostBlocks, basic, forced, entry, below, named, Process, blocksOf, blockCount, process, withProcess, own, underWay, withMessages, withDisk}
 use Rattle.model.specs.Steps.{settled, gone, billed, advanced, storing, checkpointed, checkpointState, sentMessage, marked, sendState, found, others, forces, takenEntry, takenVector, takenIn, delivered, deliverState, loseState}
 use Rattle.model.specs.Sound.{within, ascending, messageSound, zeroFrom, recordSound, sound}
 use Rattle.model.specs.Refusals.{checkpointRefusal, sendRefusal, deliverRefusal, loseRefusal}
@@ -52,11 +52,11 @@ advanced-other : (v : List Interval) (i f : ℕ) → (f ≡ i → ⊥) → entry
 unfolding advanced
 advanced-other v i f ne = getD-set-other v i f (record { 0 = entry v i .0 + 1 }) (record { 0 = 0 }) ne
 
-taken-at : (v carried : List Interval) (f : ℕ) → f < places → entry (takenVector v carried) f ≡ pick (below (entry v f) (entry carried f)) (entry carried f) (entry v f)
+taken-at : (v carried : List Interval) (f : ℕ) → f < mostProcesses → entry (takenVector v carried) f ≡ pick (below (entry v f) (entry carried f)) (entry carried f) (entry v f)
 unfolding takenVector takenEntry
 taken-at v carried f lt = getD-table 16 (takenEntry v carried) f (record { 0 = 0 }) lt
 
-taken-own : (v carried : List Interval) (i : ℕ) → i < places → entry carried i .0 ≤ entry v i .0 → entry (takenVector v carried) i ≡ entry v i
+taken-own : (v carried : List Interval) (i : ℕ) → i < mostProcesses → entry carried i .0 ≤ entry v i .0 → entry (takenVector v carried) i ≡ entry v i
 taken-own v carried i lt low = taken-at v carried i lt ∙ rw (le-ltb (entry v i .0) (entry carried i .0) low)
 
 -- These have no entry above an own entry.
@@ -66,7 +66,7 @@ advanced-within s t i v same own-most rise h = within-by t (advanced i v) (λ f 
     (λ e. rw e own-most)
     (λ ne. rw (advanced-other v i f ne) (omega (arith, within-at s v h f (omega (arith, lt, same)), rise f))))
 
-taken-within : (t : Run) (a b : List Interval) → t .count ≤ places → within t a ≡ true → within t b ≡ true → within t (takenVector a b) ≡ true
+taken-within : (t : Run) (a b : List Interval) → t .count ≤ mostProcesses → within t a ≡ true → within t b ≡ true → within t (takenVector a b) ≡ true
 taken-within t a b few p q = within-by t (takenVector a b) (λ f lt. rw (taken-at a b f (omega (arith, lt, few))) (by-bool (below (entry a f) (entry b f))
     (λ e. rw e (within-at t b q f lt))
     (λ e. rw e (within-at t a p f lt))))

@@ -18,7 +18,7 @@ use Rattle.laws.specs.Tests.{every}
 use Rattle.model.specs.declared.Interval.{Interval}
 use Rattle.model.specs.declared.Pin.the-variants.{At}
 use Rattle.model.specs.declared.Checkpoint.{Checkpoint}
-use Rattle.model.specs.Words.{places, entry, names, named, noCheckpoint, blocksOf}
+use Rattle.model.specs.Words.{mostProcesses, entry, names, named, noCheckpoint, blocksOf}
 use Rattle.model.specs.Sound.{ascending, pinSound, isNothing, nothingFrom, causeSound}
 use Rattle.words.specs.Layout.{word, countOf, blocksAt, pinsAt, causeAt, storedAt, indexOf, pinOf, vectorIn, pinsIn, checkpointIn}
 use Rattle.words.proofs.Reading.{names-word}
@@ -57,8 +57,8 @@ module _ (w : List ℕ) (p : ℕ) where
   pub pins-rest : ((f : ℕ) → f < countOf w → 1 ≤ ownIn w f) → nothingFrom (countOf w) (pinsIn w (pinsAt p)) ≡ unusedPins w p
   unfolding nothingFrom pinsIn unusedPins most
   pins-rest owned =
-      every-after isNothing (countOf w) places (λ f. pinOf (pinIn w p f))
-      ∙ all-same places (λ f. ltb f (countOf w) || isNothing (pinOf (pinIn w p f))) (λ f. not (eqb (pick (ltb f (countOf w)) (ownIn w f) 0) 0) || eqb (pinIn w p f) 0)
+      every-after isNothing (countOf w) mostProcesses (λ f. pinOf (pinIn w p f))
+      ∙ all-same mostProcesses (λ f. ltb f (countOf w) || isNothing (pinOf (pinIn w p f))) (λ f. not (eqb (pick (ltb f (countOf w)) (ownIn w f) 0) 0) || eqb (pinIn w p f) 0)
       (λ f lt. rw (nothing-word (pinIn w p f)) (by-bool (ltb f (countOf w))
       (λ e. rw (e, ne-eqb (ownIn w f) 0 (let some = owned f (ltb-true f (countOf w) e) in omega arith)))
       (λ e. rw e)))
@@ -82,20 +82,20 @@ module _ (w : List ℕ) (p : ℕ) where
         ∙ any-same h (λ k. eqb x (indexIn w p k - 1)) (λ k. eqb (suc x) (indexIn w p k)) (λ k lt. one-less x (indexIn w p k) (some k lt))
         ∙ rw (ne-eqb (suc x) 0 (omega arith))
 
-    pub pins-fit : every (pinSound (table h (checkpointIn w p))) (pinsIn w (pinsAt p)) ≡ allBelow places (pinFits w p h)
+    pub pins-fit : every (pinSound (table h (checkpointIn w p))) (pinsIn w (pinsAt p)) ≡ allBelow mostProcesses (pinFits w p h)
     unfolding pinsIn pinFits
     pins-fit =
-        every-table-is (pinSound (table h (checkpointIn w p))) places (λ f. pinOf (pinIn w p f))
-        ∙ all-same places (λ f. pinSound (table h (checkpointIn w p)) (pinOf (pinIn w p f))) (pinFits w p h) (λ f lt. pin-fits (pinIn w p f))
+        every-table-is (pinSound (table h (checkpointIn w p))) mostProcesses (λ f. pinOf (pinIn w p f))
+        ∙ all-same mostProcesses (λ f. pinSound (table h (checkpointIn w p)) (pinOf (pinIn w p f))) (pinFits w p h) (λ f lt. pin-fits (pinIn w p f))
 
     -- "every kept one is pinned"
-    pub kept-pinned : every (named (pinsIn w (pinsAt p))) (table h (checkpointIn w p)) ≡ allBelow h (λ k. anyBelow places (λ f. eqb (pinIn w p f) (indexIn w p k)))
+    pub kept-pinned : every (named (pinsIn w (pinsAt p))) (table h (checkpointIn w p)) ≡ allBelow h (λ k. anyBelow mostProcesses (λ f. eqb (pinIn w p f) (indexIn w p k)))
     unfolding named pinsIn checkpointIn
     kept-pinned =
         every-table-is (named (pinsIn w (pinsAt p))) h (checkpointIn w p)
-        ∙ all-same h (λ k. named (pinsIn w (pinsAt p)) (checkpointIn w p k)) (λ k. anyBelow places (λ f. eqb (pinIn w p f) (indexIn w p k)))
-        (λ k lt. some-table (λ pin. names pin (indexOf (indexIn w p k))) places (λ f. pinOf (pinIn w p f))
-        ∙ any-same places (λ f. names (pinOf (pinIn w p f)) (indexOf (indexIn w p k))) (λ f. eqb (pinIn w p f) (indexIn w p k)) (λ f less. names-word (pinIn w p f) (indexIn w p k) (some k lt)))
+        ∙ all-same h (λ k. named (pinsIn w (pinsAt p)) (checkpointIn w p k)) (λ k. anyBelow mostProcesses (λ f. eqb (pinIn w p f) (indexIn w p k)))
+        (λ k lt. some-table (λ pin. names pin (indexOf (indexIn w p k))) mostProcesses (λ f. pinOf (pinIn w p f))
+        ∙ any-same mostProcesses (λ f. names (pinOf (pinIn w p f)) (indexOf (indexIn w p k))) (λ f. eqb (pinIn w p f) (indexIn w p k)) (λ f less. names-word (pinIn w p f) (indexIn w p k) (some k lt)))
 
     -- Note 5: causes and block counts
     pub kept-records : 1 ≤ h → word w (blocksAt p) ≤ 65535

@@ -25,9 +25,9 @@ use Rattle.laws.specs.Tests.{every, allOf, countBelow}
 use Rattle.laws.specs.Truth.{and-left, and-right, or-none}
 use Rattle.model.specs.declared.Interval.{Interval}
 use Rattle.model.specs.declared.CheckpointIndex.{CheckpointIndex}
-use Rattle.model.specs.Words.{places, entry}
+use Rattle.model.specs.Words.{mostProcesses, entry}
 use Rattle.model.specs.Sound.{sound, causeSound}
-use Rattle.words.specs.Layout.{size, word, wide2, wide4, countOf, endOf, heldAt, blocksAt, partAt, pinsAt, causeAt, storedAt, senderAt, receiverAt, carriedAt, lowAt, highAt, intervalOf, indexOf, rowIn, vectorIn, runOf}
+use Rattle.words.specs.Layout.{stateSize, word, wide2, wide4, countOf, endOf, heldAt, blocksAt, partAt, pinsAt, causeAt, storedAt, senderAt, receiverAt, carriedAt, lowAt, highAt, intervalOf, indexOf, rowIn, vectorIn, runOf}
 use Rattle.words.proofs.Same.{vector-word, row-word}
 use Rattle.sound_rows.proofs.Ors.{or-zero, less-zero}
 use Rattle.sound_words.specs.Test.{ownIn, most, rowWithin, pinIn, unusedPins, indexIn, indexBefore, keptTests, keptFits, pinFits, countsFit, partTests, partFits, blocksIn, diskFits, numberIn, numberBefore, messageTests, messageFits, carriedFits, messagesTests, soundTests, soundIn, limitsIn}
@@ -85,7 +85,7 @@ module _ (w : List ℕ) where
       → eqb (getD more f 0) 0 ≡ (eqb (getD over f 0) 0 && leb (word w (at + f)) (most w f))
   unfolding limitsIn
   over-at at f over more v limits ev el em lt =
-      rw (em, getD-table 16 (λ f. bitOr (getD over f 0) (entry v f .0 - entry limits f .0)) f 0 lt, ev, el, vector-word w at f lt, getD-table places (λ f. intervalOf (most w f)) f (record { 0 = 0 }) lt)
+      rw (em, getD-table 16 (λ f. bitOr (getD over f 0) (entry v f .0 - entry limits f .0)) f 0 lt, ev, el, vector-word w at f lt, getD-table mostProcesses (λ f. intervalOf (most w f)) f (record { 0 = 0 }) lt)
       (or-zero (getD over f 0) (word w (at + f) - most w f) ∙ ap (λ b. eqb (getD over f 0) 0 && b) (less-zero (word w (at + f)) (most w f)))
 
   pub pins-within : (p : ℕ) (pins columns : List ℕ) (owns : List Interval) → ((k : ℕ) → word w k ≤ 65535) → pins ≡ rowIn w (pinsAt p) → owns ≡ limitsIn w
@@ -93,12 +93,12 @@ module _ (w : List ℕ) where
   unfolding unusedPins limitsIn
   pins-within p pins columns owns small ep eo ec = rw (ep, ec, eo)
       (all-same 16 (λ f. leb (getD (rowIn w (pinsAt p)) f 0) (getD (table 16 limitAt) f 0)) (λ f. not (eqb (most w f) 0) || eqb (pinIn w p f) 0)
-      (λ f lt. rw (row-word w (pinsAt p) f lt, getD-table 16 limitAt f 0 lt, getD-table places (λ f. intervalOf (most w f)) f (record { 0 = 0 }) lt) (by-bool (eqb (most w f) 0)
+      (λ f lt. rw (row-word w (pinsAt p) f lt, getD-table 16 limitAt f 0 lt, getD-table mostProcesses (λ f. intervalOf (most w f)) f (record { 0 = 0 }) lt) (by-bool (eqb (most w f) 0)
       (λ e. rw e (least (pinIn w p f)))
       (λ e. rw e (le-leb (pinIn w p f) 65535 (small (pinsAt p + f)))))))
     where
       limitAt : ℕ → ℕ
-      limitAt f = pick (eqb (entry (table places (λ f. intervalOf (most w f))) f .0) 0) 0 65535
+      limitAt f = pick (eqb (entry (table mostProcesses (λ f. intervalOf (most w f))) f .0) 0) 0 65535
 
   -- What is off in the vector and the pins of a process.
   pub rows-are : (p : ℕ) (pins columns outside first : List ℕ) (owns v : List Interval) → ((k : ℕ) → word w k ≤ 65535) → pins ≡ rowIn w (pinsAt p) → owns ≡ limitsIn w
@@ -447,7 +447,7 @@ module _ (w : List ℕ) where
   module _ (small : (k : ℕ) → word w k ≤ 65535) where
     pub size-off : (length w ≡ 6464 → ⊥) → false ≡ sound (runOf w)
     unfolding soundIn soundTests holds
-    size-off ne = part-fails (soundTests w) (test 0) (ne-eqb (length w) size ne) ∙ verdict w small
+    size-off ne = part-fails (soundTests w) (test 0) (ne-eqb (length w) stateSize ne) ∙ verdict w small
 
     module _ (n : ℕ) (is : n ≡ countOf w) where
       pub count-low : n < 1 → false ≡ sound (runOf w)
@@ -467,9 +467,9 @@ module _ (w : List ℕ) where
         unfolding soundIn soundTests holds asks allBelow
         words-whole sized low high e r er =
             let processes : (allBelow (countOf w) (countsFit w) && allBelow (countOf w) (partFits w) && diskFits w) ≡ true = rw is at (sym told ∙ not-false a e) in
-            let long : eqb (length w) size ≡ true = eq-eqb (length w) size sized in
+            let long : eqb (length w) stateSize ≡ true = eq-eqb (length w) stateSize sized in
             let some : leb 1 (countOf w) ≡ true = le-leb 1 (countOf w) (omega arith) in
-            let few : leb (countOf w) places ≡ true = le-leb (countOf w) places (omega arith) in
+            let few : leb (countOf w) mostProcesses ≡ true = le-leb (countOf w) mostProcesses (omega arith) in
             er
             ∙ fifth-left _ _ _ _ (allOf (messagesTests w)) long some few processes
             ∙ conjunction (soundTests w) (test 0 and test 1 and test 2 and (test 3 and test 4 and test 5) and test 6) refl

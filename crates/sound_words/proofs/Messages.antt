@@ -24,7 +24,7 @@ use Rattle.laws.specs.Tests.{every, allOf, countBelow}
 use Rattle.laws.specs.Truth.{and-left, and-right, and-no-right, or-in-right, or-right, never-both}
 use Rattle.model.specs.declared.Message.{Message}
 use Rattle.model.specs.declared.Run.{Run}
-use Rattle.model.specs.Words.{places, mostUnderWay, mostMessages, noMessage, underWay}
+use Rattle.model.specs.Words.{mostProcesses, mostUnderWay, mostMessages, noMessage, underWay}
 use Rattle.model.specs.Sound.{within, ascending, messageSound, zeroFrom, unusedMessage}
 use Rattle.words.specs.Layout.{word, wide2, countOf, endOf, senderAt, receiverAt, carriedAt, messageIn, isMessage, messagesIn, decoded}
 use Rattle.sound_words.specs.Test.{rowWithin, numberIn, numberBefore, messageTests, messageFits, carriedFits}

@@ -22,7 +22,7 @@ use Rattle.model.specs.declared.Pin.{Pin}
 use Rattle.model.specs.declared.Pin.the-variants.{Nothing}
 use Rattle.model.specs.declared.Checkpoint.{Checkpoint}
 use Rattle.model.specs.declared.Run.{Run}
-use Rattle.model.specs.Words.{Process, places, entry, lastStored, names, named, noCheckpoint, blockCount, process, own}
+use Rattle.model.specs.Words.{Process, mostProcesses, entry, lastStored, names, named, noCheckpoint, blockCount, process, own}
 use Rattle.model.specs.Sound.{within, ascending, keptSound, pinSound, pinsSound, zeroFrom, nothingFrom, unusedCheckpoint, rowUnused, causeSound, isBlockCount, recordSound}
 use Rattle.words.specs.Layout.{word, countOf, heldAt, blocksAt, partAt, pinsAt, causeAt, storedAt, pinOf, vectorIn, pinsIn, checkpointIn, isKeptIn, decoded}
 use Rattle.words.proofs.Reading.{names-word}
@@ -110,8 +110,8 @@ module _ (w : List ℕ) (high : countOf w ≤ 16) (p : ℕ) (lt : p < countOf w)
       ∷ allBelow held (λ k. eqb (word w (storedAt p k + p)) (indexIn w p k - 1))
       ∷ eqb (indexBefore w p held) (ownIn w p)
       ∷ eqb (pinIn w p p) (ownIn w p)
-      ∷ allBelow places (pinFits w p held)
-      ∷ allBelow held (λ k. anyBelow places (λ f. eqb (pinIn w p f) (indexIn w p k)))
+      ∷ allBelow mostProcesses (pinFits w p held)
+      ∷ allBelow held (λ k. anyBelow mostProcesses (λ f. eqb (pinIn w p f) (indexIn w p k)))
       ∷ unusedPins w p
       ∷ true
       ∷ (allBelow held (λ k. causeSound (indexIn w p k - 1) (word w (causeAt p k))) && leb 1 (word w (blocksAt p)))
@@ -121,19 +121,19 @@ module _ (w : List ℕ) (high : countOf w ≤ 16) (p : ℕ) (lt : p < countOf w)
       ≡ (allBelow held (λ k. ltb (indexBefore w p k) (indexIn w p k))
       && (allBelow held (λ k. eqb (word w (storedAt p k + p)) (indexIn w p k - 1))
       && (allBelow held (λ k. causeSound (indexIn w p k - 1) (word w (causeAt p k)))
-      && allBelow held (λ k. anyBelow places (λ f. eqb (pinIn w p f) (indexIn w p k)) && true))))
+      && allBelow held (λ k. anyBelow mostProcesses (λ f. eqb (pinIn w p f) (indexIn w p k)) && true))))
   unfolding keptFits keptTests every
   kept-apart =
       let a : ℕ → Bool = λ k. ltb (indexBefore w p k) (indexIn w p k) in
       let b : ℕ → Bool = λ k. eqb (word w (storedAt p k + p)) (indexIn w p k - 1) in
       let c : ℕ → Bool = λ k. causeSound (indexIn w p k - 1) (word w (causeAt p k)) in
-      let d : ℕ → Bool = λ k. anyBelow places (λ f. eqb (pinIn w p f) (indexIn w p k)) && true in
+      let d : ℕ → Bool = λ k. anyBelow mostProcesses (λ f. eqb (pinIn w p f) (indexIn w p k)) && true in
       all-both held a (λ k. b k && (c k && d k))
       ∙ rw (all-both held b (λ k. c k && d k), all-both held c d)
 
-  named-apart : allBelow held (λ k. anyBelow places (λ f. eqb (pinIn w p f) (indexIn w p k)) && true) ≡ allBelow held (λ k. anyBelow places (λ f. eqb (pinIn w p f) (indexIn w p k)))
+  named-apart : allBelow held (λ k. anyBelow mostProcesses (λ f. eqb (pinIn w p f) (indexIn w p k)) && true) ≡ allBelow held (λ k. anyBelow mostProcesses (λ f. eqb (pinIn w p f) (indexIn w p k)))
   named-apart =
-      let named : ℕ → Bool = λ k. anyBelow places (λ f. eqb (pinIn w p f) (indexIn w p k)) in
+      let named : ℕ → Bool = λ k. anyBelow mostProcesses (λ f. eqb (pinIn w p f) (indexIn w p k)) in
       all-same held (λ k. named k && true) named (λ k less. and-true (named k))
 
   words-all : allOf wordTests ≡ (countsFit w p && partFits w p)
@@ -148,8 +148,8 @@ module _ (w : List ℕ) (high : countOf w ≤ 16) (p : ℕ) (lt : p < countOf w)
       ∷ allBelow held (λ k. eqb (word w (storedAt p k + p)) (indexIn w p k - 1))
       ∷ eqb (indexBefore w p held) (ownIn w p)
       ∷ eqb (pinIn w p p) (ownIn w p)
-      ∷ allBelow places (pinFits w p held)
-      ∷ allBelow held (λ k. anyBelow places (λ f. eqb (pinIn w p f) (indexIn w p k)))
+      ∷ allBelow mostProcesses (pinFits w p held)
+      ∷ allBelow held (λ k. anyBelow mostProcesses (λ f. eqb (pinIn w p f) (indexIn w p k)))
       ∷ unusedPins w p
       ∷ allBelow held (λ k. causeSound (indexIn w p k - 1) (word w (causeAt p k)))
       ∷ leb 1 (word w (blocksAt p))
@@ -219,7 +219,7 @@ module _ (w : List ℕ) (high : countOf w ≤ 16) (p : ℕ) (lt : p < countOf w)
 
     pin-at : getD (pinsIn w (pinsAt p)) p Nothing ≡ pinOf (pinIn w p p)
     unfolding pinsIn
-    pin-at = getD-table places (λ f. pinOf (pinIn w p f)) p Nothing (omega arith)
+    pin-at = getD-table mostProcesses (λ f. pinOf (pinIn w p f)) p Nothing (omega arith)
 
     own-pinned : names (getD (P .pins) p Nothing) (lastStored (own s p)) ≡ eqb (pinIn w p p) (ownIn w p)
     own-pinned =

@@ -17,7 +17,7 @@ use Rattle.laws.specs.Tables.{length-table, getD-table, table-same}
 use Rattle.laws.specs.Tests.{every}
 use Rattle.model.specs.declared.Interval.{Interval}
 use Rattle.model.specs.declared.Checkpoint.{Checkpoint}
-use Rattle.model.specs.Words.{places, entry, zeroVector, noPins, noCheckpoint, process, own}
+use Rattle.model.specs.Words.{mostProcesses, entry, zeroVector, noPins, noCheckpoint, process, own}
 use Rattle.model.specs.Sound.{within, zeroFrom, unusedCheckpoint}
 use Rattle.words.specs.Layout.{word, countOf, heldAt, partAt, pinsAt, vectorIn, pinsIn, checkpointIn, isKeptIn, keptIn, ofProcesses, decoded}
 use Rattle.words.proofs.Same.{vector-word}
@@ -35,19 +35,19 @@ unfolding unusedCheckpoint zeroFrom every
 none-unused = refl
 
 -- The entries of a vector from n on.
-zero-rest : (w : List ℕ) (n at : ℕ) → zeroFrom n (vectorIn w at) ≡ allBelow places (λ f. ltb f n || eqb (word w (at + f)) 0)
+zero-rest : (w : List ℕ) (n at : ℕ) → zeroFrom n (vectorIn w at) ≡ allBelow mostProcesses (λ f. ltb f n || eqb (word w (at + f)) 0)
 unfolding zeroFrom vectorIn
-zero-rest w n at = every-after (λ (x : Interval). eqb (x .0) 0) n places (λ f. record { 0 = word w (at + f) })
+zero-rest w n at = every-after (λ (x : Interval). eqb (x .0) 0) n mostProcesses (λ f. record { 0 = word w (at + f) })
 
 module _ (w : List ℕ) (high : countOf w ≤ 16) where
   of-below : {A : Type 0} (part : ℕ → A) (unused d : A) (p : ℕ) → p < countOf w → getD (ofProcesses w part unused) p d ≡ part p
-  of-below part unused d p lt = getD-table places (λ q. pick (ltb q (countOf w)) (part q) unused) p d (omega arith) ∙ rw (lt-ltb p (countOf w) lt)
+  of-below part unused d p lt = getD-table mostProcesses (λ q. pick (ltb q (countOf w)) (part q) unused) p d (omega arith) ∙ rw (lt-ltb p (countOf w) lt)
 
   -- Nothing is in use from n on.
   pub of-after : {A : Type 0} (t : A → Bool) (part : ℕ → A) (unused : A) → t unused ≡ true → every t (drop (countOf w) (ofProcesses w part unused)) ≡ true
   of-after t part unused e = every-from t unused (countOf w) (ofProcesses w part unused)
-      (λ p from lt. let under : p < 16 = rw (length-table places (λ q. pick (ltb q (countOf w)) (part q) unused)) at lt in
-      rw (getD-table places (λ q. pick (ltb q (countOf w)) (part q) unused) p unused under, le-ltb p (countOf w) from) e)
+      (λ p from lt. let under : p < 16 = rw (length-table mostProcesses (λ q. pick (ltb q (countOf w)) (part q) unused)) at lt in
+      rw (getD-table mostProcesses (λ q. pick (ltb q (countOf w)) (part q) unused) p unused under, le-ltb p (countOf w) from) e)
 
   pub count-at : decoded w .count ≡ countOf w
   unfolding decoded
@@ -68,7 +68,7 @@ module _ (w : List ℕ) (high : countOf w ≤ 16) where
 
     pub row-at : getD (decoded w .kept .0) p [] ≡ keptIn w p
     unfolding decoded
-    row-at = of-below (keptIn w) (replicate places noCheckpoint) [] p lt
+    row-at = of-below (keptIn w) (replicate mostProcesses noCheckpoint) [] p lt
 
     kept-taken : process (decoded w) p .kept ≡ take (getD (decoded w .held) p 0) (getD (decoded w .kept .0) p [])
     unfolding process
@@ -79,7 +79,7 @@ module _ (w : List ℕ) (high : countOf w ≤ 16) where
 
     pub kept-table : word w (heldAt p) ≤ 16 → process (decoded w) p .kept ≡ table (word w (heldAt p)) (λ k. pick (isKeptIn w p k) (checkpointIn w p k) noCheckpoint)
     unfolding keptIn
-    kept-table few = kept-taken ∙ rw (held-at, row-at) (take-table (word w (heldAt p)) places place few)
+    kept-table few = kept-taken ∙ rw (held-at, row-at) (take-table (word w (heldAt p)) mostProcesses place few)
 
     -- Where no index is 0, the kept checkpoints are those that the words hold.
     pub kept-at : word w (heldAt p) ≤ 16 → allBelow (word w (heldAt p)) (λ k. not (eqb (indexIn w p k) 0)) ≡ true
@@ -91,9 +91,9 @@ module _ (w : List ℕ) (high : countOf w ≤ 16) where
     -- The places after the kept checkpoints are not in use.
     pub rest-unused : every unusedCheckpoint (drop (word w (heldAt p)) (keptIn w p)) ≡ true
     unfolding keptIn isKeptIn
-    rest-unused = every-from unusedCheckpoint noCheckpoint (word w (heldAt p)) (table places place)
-        (λ k from less. let under : k < 16 = rw (length-table places place) at less in
-        rw (getD-table places place k noCheckpoint under, le-ltb k (word w (heldAt p)) from) none-unused)
+    rest-unused = every-from unusedCheckpoint noCheckpoint (word w (heldAt p)) (table mostProcesses place)
+        (λ k from less. let under : k < 16 = rw (length-table mostProcesses place) at less in
+        rw (getD-table mostProcesses place k noCheckpoint under, le-ltb k (word w (heldAt p)) from) none-unused)
 
     pub own-at : own (decoded w) p .0 ≡ ownIn w p
     unfolding own
@@ -104,8 +104,8 @@ module _ (w : List ℕ) (high : countOf w ≤ 16) where
   unfolding within rowWithin most decoded
   row-within at =
       rw (count-at, zero-rest w (countOf w) at)
-      (ap (λ b. b && allBelow places (λ f. ltb f (countOf w) || eqb (word w (at + f)) 0)) (all-same (countOf w) (λ f. leb (entry (vectorIn w at) f .0) (own (decoded w) f .0)) (λ f. leb (word w (at + f)) (ownIn w f))
+      (ap (λ b. b && allBelow mostProcesses (λ f. ltb f (countOf w) || eqb (word w (at + f)) 0)) (all-same (countOf w) (λ f. leb (entry (vectorIn w at) f .0) (own (decoded w) f .0)) (λ f. leb (word w (at + f)) (ownIn w f))
       (λ f lt. rw (own-at f lt) (ap (λ (x : Interval). leb (x .0) (ownIn w f)) (vector-word w at f (omega arith)))))
-      ∙ all-split (countOf w) places (λ f. leb (word w (at + f)) (ownIn w f)) (λ f. eqb (word w (at + f)) 0) high
-      ∙ all-same places (λ f. pick (ltb f (countOf w)) (leb (word w (at + f)) (ownIn w f)) (eqb (word w (at + f)) 0)) (λ f. leb (word w (at + f)) (pick (ltb f (countOf w)) (ownIn w f) 0))
+      ∙ all-split (countOf w) mostProcesses (λ f. leb (word w (at + f)) (ownIn w f)) (λ f. eqb (word w (at + f)) 0) high
+      ∙ all-same mostProcesses (λ f. pick (ltb f (countOf w)) (leb (word w (at + f)) (ownIn w f)) (eqb (word w (at + f)) 0)) (λ f. leb (word w (at + f)) (pick (ltb f (countOf w)) (ownIn w f) 0))
       (λ f lt. by-bool (ltb f (countOf w)) (λ e. rw e) (λ e. rw e (sym (least (word w (at + f)))))))

@@ -19,9 +19,9 @@ use Rattle.laws.specs.Tests.{every, allOf, countBelow}
 use Rattle.laws.specs.Truth.{and-left, and-right, and-both, and-no-right}
 use Rattle.model.specs.declared.Checkpoint.{Checkpoint}
 use Rattle.model.specs.declared.Run.{Run}
-use Rattle.model.specs.Words.{places, mostUnderWay, mostMessages, mostBlocks, blocksOf, zeroVector, noPins, noCheckpoint, blank, process, own, underWay}
+use Rattle.model.specs.Words.{mostProcesses, mostUnderWay, mostMessages, mostBlocks, blocksOf, zeroVector, noPins, noCheckpoint, blank, process, own, underWay}
 use Rattle.model.specs.Sound.{sound, countSound, ownSound, within, vectorsSound, ascending, keptSound, pinsSound, messageSound, messagesSound, zeroFrom, unusedCheckpoint, unusedMessage, nothingFrom, isNothing, rowUnused, unusedSound, recordSound, keptBlocks, diskSound}
-use Rattle.words.specs.Layout.{size, word, wide2, wide4, countOf, endOf, heldAt, blocksAt, partAt, pinsAt, vectorIn, pinsIn, keptIn, markIn, messageIn, isMessage, decoded, endFits, fits, runOf}
+use Rattle.words.specs.Layout.{stateSize, word, wide2, wide4, countOf, endOf, heldAt, blocksAt, partAt, pinsAt, vectorIn, pinsIn, keptIn, markIn, messageIn, isMessage, decoded, endFits, fits, runOf}
 use Rattle.sound_words.specs.Test.{ownIn, numberIn, numberBefore, indexIn, indexBefore, keptTests, keptFits, countsFit, partTests, partFits, blocksIn, diskFits, messageFits, carriedFits, messagesTests, soundTests, soundIn}
 use Rattle.sound_words.proofs.Laws.{both-false, cons-same}
 use Rattle.sound_words.proofs.Parts as parts
@@ -58,7 +58,7 @@ module _ (w : List ℕ) (small : (k : ℕ) → word w k ≤ 65535) where
   n = countOf w
 
   -- A count outside its range.
-  count-off : (leb 1 n && leb n places) ≡ false → sound s ≡ false
+  count-off : (leb 1 n && leb n mostProcesses) ≡ false → sound s ≡ false
   unfolding sound countSound decoded
   count-off e = rw e
 
@@ -127,7 +127,7 @@ module _ (w : List ℕ) (small : (k : ℕ) → word w k ≤ 65535) where
         cons-same _ _ _ _ (parts.of-after w high (zeroFrom 0) (λ p. vectorIn w (partAt p)) zeroVector zeros)
         (cons-same _ _ _ _ (parts.of-after w high (nothingFrom 0) (λ p. pinsIn w (pinsAt p)) noPins nothings)
         (cons-same _ _ _ _ (parts.of-after w high not (markIn w) false refl)
-        (cons-same _ _ _ _ (parts.of-after w high (every unusedCheckpoint) (keptIn w) (replicate places noCheckpoint) (every-replicate unusedCheckpoint places noCheckpoint parts.none-unused))
+        (cons-same _ _ _ _ (parts.of-after w high (every unusedCheckpoint) (keptIn w) (replicate mostProcesses noCheckpoint) (every-replicate unusedCheckpoint mostProcesses noCheckpoint parts.none-unused))
         (cons-same _ _ _ _ (parts.of-after w high (eqb 0) (λ p. word w (heldAt p)) 0 refl) refl))))
 
     -- The blocks of what each process keeps, where its counts and its part fit.
@@ -166,7 +166,7 @@ module _ (w : List ℕ) (small : (k : ℕ) → word w k ≤ 65535) where
 
     counted : countSound s ≡ true
     unfolding countSound decoded
-    counted = and-both (leb 1 n) (leb n places) (le-leb 1 n low) (le-leb n places high)
+    counted = and-both (leb 1 n) (leb n mostProcesses) (le-leb 1 n low) (le-leb n mostProcesses high)
 
     module _ (short : endOf w ≤ 64) where
       abbrev messages : List Bool
@@ -226,12 +226,12 @@ module _ (w : List ℕ) (small : (k : ℕ) → word w k ≤ 65535) where
   abbrev messageWords : Bool
   messageWords = allBelow (endOf w) (messageFits w) && (allBelow (endOf w) (carriedFits w) && (eqb (countBelow (endOf w) (λ k. not (eqb (numberIn w k) 0))) (word w 1) && (leb (numberBefore w (endOf w)) (wide2 w 2) && leb (wide2 w 2) mostMessages)))
 
-  in-groups : soundIn w ≡ (fits w && ((leb 1 n && leb n places) && ((allBelow n (countsFit w) && allBelow n (partFits w)) && diskFits w && messageWords)))
+  in-groups : soundIn w ≡ (fits w && ((leb 1 n && leb n mostProcesses) && ((allBelow n (countsFit w) && allBelow n (partFits w)) && diskFits w && messageWords)))
   unfolding soundIn soundTests messagesTests fits endFits isMessage messageIn every holds each asks allBelow
   in-groups = same-tests
-      (eqb (length w) size
+      (eqb (length w) stateSize
       ∷ leb 1 n
-      ∷ leb n places
+      ∷ leb n mostProcesses
       ∷ allBelow n (countsFit w)
       ∷ allBelow n (partFits w)
       ∷ diskFits w
@@ -250,12 +250,12 @@ module _ (w : List ℕ) (small : (k : ℕ) → word w k ≤ 65535) where
 
   short-of : fits w ≡ true → endOf w ≤ 64
   unfolding fits endFits
-  short-of e = leb-true (endOf w) 64 (and-left (leb (endOf w) mostUnderWay) (eqb (endOf w) 0 || isMessage (messageIn w (endOf w - 1))) (and-right (eqb (length w) size) (endFits w) e))
+  short-of e = leb-true (endOf w) 64 (and-left (leb (endOf w) mostUnderWay) (eqb (endOf w) 0 || isMessage (messageIn w (endOf w - 1))) (and-right (eqb (length w) stateSize) (endFits w) e))
 
   -- Words that fit.
-  fitting : fits w ≡ true → ((leb 1 n && leb n places) && ((allBelow n (countsFit w) && allBelow n (partFits w)) && diskFits w && messageWords)) ≡ sound s
-  fitting f = by-bool (leb 1 n && leb n places)
-      (λ e. rw e (sym (decoded-same (leb-true 1 n (and-left (leb 1 n) (leb n places) e)) (leb-true n places (and-right (leb 1 n) (leb n places) e)) (short-of f))))
+  fitting : fits w ≡ true → ((leb 1 n && leb n mostProcesses) && ((allBelow n (countsFit w) && allBelow n (partFits w)) && diskFits w && messageWords)) ≡ sound s
+  fitting f = by-bool (leb 1 n && leb n mostProcesses)
+      (λ e. rw e (sym (decoded-same (leb-true 1 n (and-left (leb 1 n) (leb n mostProcesses) e)) (leb-true n mostProcesses (and-right (leb 1 n) (leb n mostProcesses) e)) (short-of f))))
       (λ e. rw e (sym (count-off e)))
 
   pub verdict : soundIn w ≡ sound (runOf w)

@@ -13,9 +13,9 @@ use Rattle.laws.specs.Search.{allBelow, anyBelow}
 use Rattle.laws.specs.Sums.{sumBelow}
 use Rattle.laws.specs.Tests.{allOf, countBelow}
 use Rattle.model.specs.declared.Interval.{Interval}
-use Rattle.model.specs.Words.{places, mostUnderWay, mostMessages, mostBlocks}
+use Rattle.model.specs.Words.{mostProcesses, mostUnderWay, mostMessages, mostBlocks}
 use Rattle.model.specs.Sound.{causeSound}
-use Rattle.words.specs.Layout.{size, word, wide2, wide4, countOf, endOf, heldAt, blocksAt, partAt, pinsAt, indexAt, causeAt, storedAt, lowAt, highAt, senderAt, receiverAt, carriedAt, intervalOf}
+use Rattle.words.specs.Layout.{stateSize, word, wide2, wide4, countOf, endOf, heldAt, blocksAt, partAt, pinsAt, indexAt, causeAt, storedAt, lowAt, highAt, senderAt, receiverAt, carriedAt, intervalOf}
 
 -- The own entry of process p.
 abbrev pub ownIn : List ℕ → ℕ → ℕ
@@ -26,14 +26,14 @@ unfoldable pub most : List ℕ → ℕ → ℕ
 most w f = pick (ltb f (countOf w)) (ownIn w f) 0
 
 unfoldable pub rowWithin : List ℕ → ℕ → Bool
-rowWithin w at = allBelow places (λ f. leb (word w (at + f)) (most w f))
+rowWithin w at = allBelow mostProcesses (λ f. leb (word w (at + f)) (most w f))
 
 -- The pins of process p. "unused pins .. are none": those in columns at n and above, where an entry may only be 0. Own entries are at least 1 below n.
 abbrev pub pinIn : List ℕ → ℕ → ℕ → ℕ
 pinIn w p f = word w (pinsAt p + f)
 
 unfoldable pub unusedPins : List ℕ → ℕ → Bool
-unusedPins w p = allBelow places (λ f. not (eqb (most w f) 0) || eqb (pinIn w p f) 0)
+unusedPins w p = allBelow mostProcesses (λ f. not (eqb (most w f) 0) || eqb (pinIn w p f) 0)
 
 -- The kept checkpoints of process p: the word of an index is one above the index. The one before the first counts as 0.
 abbrev pub indexIn : List ℕ → ℕ → ℕ → ℕ
@@ -49,7 +49,7 @@ keptTests w p k =
     ltb (indexBefore w p k) (indexIn w p k)
     ∷ eqb (word w (storedAt p k + p)) (indexIn w p k - 1)
     ∷ causeSound (indexIn w p k - 1) (word w (causeAt p k))
-    ∷ anyBelow places (λ f. eqb (pinIn w p f) (indexIn w p k))
+    ∷ anyBelow mostProcesses (λ f. eqb (pinIn w p f) (indexIn w p k))
     ∷ []
 
 unfoldable pub keptFits : List ℕ → ℕ → ℕ → Bool
@@ -73,7 +73,7 @@ partTests w p =
     ∷ allBelow (word w (heldAt p)) (keptFits w p)
     ∷ allBelow (word w (heldAt p)) (λ k. rowWithin w (storedAt p k))
     ∷ eqb (indexBefore w p (word w (heldAt p))) (ownIn w p)
-    ∷ allBelow places (pinFits w p (word w (heldAt p)))
+    ∷ allBelow mostProcesses (pinFits w p (word w (heldAt p)))
     ∷ []
 
 unfoldable pub partFits : List ℕ → ℕ → Bool
@@ -125,9 +125,9 @@ messagesTests w =
 -- The whole test.
 unfoldable pub soundTests : List ℕ → List Bool
 soundTests w =
-    eqb (length w) size
+    eqb (length w) stateSize
     ∷ leb 1 (countOf w)
-    ∷ leb (countOf w) places
+    ∷ leb (countOf w) mostProcesses
     ∷ allBelow (countOf w) (countsFit w)
     ∷ allBelow (countOf w) (partFits w)
     ∷ diskFits w
@@ -139,11 +139,11 @@ soundIn w = allOf (soundTests w)
 
 -- The own entries of the n processes, zero at n and above: what each entry of a vector may be at most.
 unfoldable pub limitsIn : List ℕ → List Interval
-limitsIn w = table places (λ f. intervalOf (most w f))
+limitsIn w = table mostProcesses (λ f. intervalOf (most w f))
 
 -- What is known where one part of the words is tested: their number, that of the processes, and the own entries.
 pub record Judged (w : List ℕ) (n : ℕ) (owns : List Interval) : Type 0 where
-  pub sized : length w ≡ size
+  pub sized : length w ≡ stateSize
   pub counted : n ≡ countOf w
-  pub few : n ≤ places
+  pub few : n ≤ mostProcesses
   pub limits : owns ≡ limitsIn w

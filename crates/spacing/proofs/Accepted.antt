@@ -22,7 +22,7 @@ use Rattle.model.specs.declared.Message.{Message}
 use Rattle.model.specs.declared.Run.{Run}
 use Rattle.model.specs.declared.Event.{Event}
 use Rattle.model.specs.declared.Event.the-variants.{Checkpoint, Send, Deliver}
-use Rattle.model.specs.Words.{basic, forced, places, mostUnderWay, mostMessages, mostInterval, ones, underWay}
+use Rattle.model.specs.Words.{basic, forced, mostProcesses, mostUnderWay, mostMessages, mostInterval, ones, underWay}
 use Rattle.model.specs.Steps.{startState}
 use Rattle.model.specs.Sound.{isBlockCount}
 use Rattle.model.specs.Refusals.{startRefusal}
@@ -48,13 +48,13 @@ use Rattle.spacing.specs.Spacing.{draw, generated, drawnProcess, drawnNu
 
 -- A run with block counts of 1 starts.
 pub one-block : (p : ℕ) → getD ones p 0 ≤ 1
-one-block p = by-bool (ltb p places)
-    (λ lt. omega (arith, getD-replicate {A = ℕ} places p 1 0 (ltb-true p places lt)))
-    (λ ge. omega (arith, List·getD-eq-default ones 0 {n = p} (rw (length-replicate {A = ℕ} places 1) (ltb-false p places ge))))
+one-block p = by-bool (ltb p mostProcesses)
+    (λ lt. omega (arith, getD-replicate {A = ℕ} mostProcesses p 1 0 (ltb-true p mostProcesses lt)))
+    (λ ge. omega (arith, List·getD-eq-default ones 0 {n = p} (rw (length-replicate {A = ℕ} mostProcesses 1) (ltb-false p mostProcesses ge))))
 
-pub ones-start : (n : ℕ) → 1 ≤ n → n ≤ places → startRefusal n ones ≡ none
+pub ones-start : (n : ℕ) → 1 ≤ n → n ≤ mostProcesses → startRefusal n ones ≡ none
 unfolding isBlockCount
-ones-start n pos few = start-in n ones pos few (λ p lt. rw (getD-replicate {A = ℕ} places p 1 0 (omega arith)) refl)
+ones-start n pos few = start-in n ones pos few (λ p lt. rw (getD-replicate {A = ℕ} mostProcesses p 1 0 (omega arith)) refl)
 
 -- A state that calls from a start reached: own entries are at most b, the last message number is at most m, the block counts at most 1, and no more than 15 + b
 -- blocks are written.

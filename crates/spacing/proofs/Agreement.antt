@@ -11,7 +11,7 @@ use lib.ListN.{length}
 use borrow.Author.Tests.{eq-eqb, ne-eqb, leb-true, not-false}
 use Rattle.laws.specs.Choice.{pick}
 use Rattle.laws.specs.Truth.{and-left, and-right}
-use Rattle.model.specs.Words.{places, ones}
+use Rattle.model.specs.Words.{mostProcesses, ones}
 use Rattle.model.specs.Steps.{startState}
 use Rattle.model.specs.laws.Refusals.{no-rule}
 use Rattle.whole_runs.specs.Listing.{stateAfterRecords}
@@ -48,7 +48,7 @@ pub record InRange (n k steps : ℕ) : Type 0 where
 pub trial-out : (n k steps : ℕ) → trialRefusal n k steps ≡ none → InRange n k steps
 unfolding trialRefusal
 trial-out n k steps e =
-    let x = in-range 1 places n (no-rule _ e 0) in
+    let x = in-range 1 mostProcesses n (no-rule _ e 0) in
     let y = in-range 1 1000 k (no-rule _ e 1) in
     let z = in-range 1 30000 steps (no-rule _ e 2) in
     record { some-process = x .0; few-processes = x .1; some-spacing = y .0; small-spacing = y .1; some-step = z .0; few-steps = z .1 }

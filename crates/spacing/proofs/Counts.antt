@@ -13,7 +13,7 @@ use Rattle.laws.specs.Choice.{by-bool, by-eq}
 use Rattle.laws.specs.Lists.{select}
 use Rattle.model.specs.declared.Run.{Run}
 use Rattle.model.specs.declared.Event.{Event}
-use Rattle.model.specs.Words.{places, ones}
+use Rattle.model.specs.Words.{mostProcesses, ones}
 use Rattle.model.specs.Steps.{startState}
 use Rattle.whole_runs.specs.WholeRuns.{Traced}
 use Rattle.recording.specs.Replay.{EventReply, performed}
@@ -57,10 +57,10 @@ small-start : (n seed : ℕ) → SmallTrial 0 (trialStart n seed)
 unfolding trialStart
 small-start n seed = record { deliveries = omega arith; forced = omega arith; acted = λ p. zeros p }
   where
-    zeros : (p : ℕ) → getD (replicate {A = ℕ} places 0) p 0 ≤ 0
-    zeros p = by-bool (ltb p places)
-        (λ lt. omega (arith, getD-replicate {A = ℕ} places p 0 0 (ltb-true p places lt)))
-        (λ ge. omega (arith, List·getD-eq-default (replicate {A = ℕ} places 0) 0 {n = p} (rw (length-replicate {A = ℕ} places 0) (ltb-false p places ge))))
+    zeros : (p : ℕ) → getD (replicate {A = ℕ} mostProcesses 0) p 0 ≤ 0
+    zeros p = by-bool (ltb p mostProcesses)
+        (λ lt. omega (arith, getD-replicate {A = ℕ} mostProcesses p 0 0 (ltb-true p mostProcesses lt)))
+        (λ ge. omega (arith, List·getD-eq-default (replicate {A = ℕ} mostProcesses 0) 0 {n = p} (rw (length-replicate {A = ℕ} mostProcesses 0) (ltb-false p mostProcesses ge))))
 
 small-step : (n k i : ℕ) (z : Trial) → SmallTrial i z → SmallTrial (suc i) (stepped n k z)
 unfolding stepped stepEvents

@@ -16,7 +16,7 @@ use Rattle.model.specs.declared.Event.{Event}
 use Rattle.model.specs.declared.Event.the-variants.{Checkpoint, Send, Deliver, Lose, Recover}
 use Rattle.model.specs.declared.Refusal.{Refusal}
 use Rattle.model.specs.declared.Refusal.the-variants.{TrialOutsideRange}
-use Rattle.model.specs.Words.{places, mostUnderWay, ones, process, underWay}
+use Rattle.model.specs.Words.{mostProcesses, mostUnderWay, ones, process, underWay}
 use Rattle.model.specs.Steps.{startState}
 use Rattle.model.specs.Refusals.{firstOf}
 use Rattle.model.specs.Trace.{fits}
@@ -130,7 +130,7 @@ stepped n k z =
 
 -- "A simulation has n, a spacing k .., .. steps and a 32-bit starting value": the trial before its first step, and after i of them. Block counts are 1, as in a trace run.
 unfoldable pub trialStart : ℕ → ℕ → Trial
-trialStart n seed = record { run = startState n ones; value = seed; acted = replicate places 0; deliveries = 0; forced = 0; most = 0 }
+trialStart n seed = record { run = startState n ones; value = seed; acted = replicate mostProcesses 0; deliveries = 0; forced = 0; most = 0 }
 
 unfoldable pub trialAfter : ℕ → ℕ → ℕ → ℕ → Trial
 trialAfter n k zero seed = trialStart n seed
@@ -142,7 +142,7 @@ outOfRange low high x = not (leb low x && leb x high)
 
 unfoldable pub trialRefusal : ℕ → ℕ → ℕ → Option Refusal
 trialRefusal n k steps = firstOf (
-    record { holds = outOfRange 1 places n; gives = TrialOutsideRange }
+    record { holds = outOfRange 1 mostProcesses n; gives = TrialOutsideRange }
     ∷ record { holds = outOfRange 1 1000 k; gives = TrialOutsideRange }
     ∷ record { holds = outOfRange 1 30000 steps; gives = TrialOutsideRange }
     ∷ [])

@@ -12,7 +12,7 @@ use Rattle.laws.specs.Tests.{every, same}
 use Rattle.model.specs.declared.Interval.{Interval}
 use Rattle.model.specs.declared.Pin.the-variants.{At}
 use Rattle.model.specs.declared.Run.{Run}
-use Rattle.model.specs.Words.{places, mostUnderWay, initial, basic, ones, zeroVector, noPins, blank, withProcess, withMessages, withDisk}
+use Rattle.model.specs.Words.{mostProcesses, mostUnderWay, initial, basic, ones, zeroVector, noPins, blank, withProcess, withMessages, withDisk}
 use Rattle.model.specs.Steps.{startState}
 use Rattle.model.specs.Sound.{zeroFrom, nothingFrom, unusedCheckpoint, unusedMessage}
 use Rattle.whole_runs.specs.Outcomes.{startOutcome, startReport}
@@ -68,15 +68,15 @@ argumentAsks c = eqb (pick (asksForAll (c .words) (c .argument)) 1 0) (pick (c .
 unfoldable pub ofZeros : Run → Bool
 ofZeros s =
     eqb (s .count) 0
-    && eqb (length (s .vectors .0)) places
-    && every (λ row. eqb (length row) places && zeroFrom 0 row) (s .vectors .0)
-    && eqb (length (s .pins .0)) places
-    && every (λ row. eqb (length row) places && nothingFrom 0 row) (s .pins .0)
-    && eqb (length (s .sent)) places
+    && eqb (length (s .vectors .0)) mostProcesses
+    && every (λ row. eqb (length row) mostProcesses && zeroFrom 0 row) (s .vectors .0)
+    && eqb (length (s .pins .0)) mostProcesses
+    && every (λ row. eqb (length row) mostProcesses && nothingFrom 0 row) (s .pins .0)
+    && eqb (length (s .sent)) mostProcesses
     && every not (s .sent)
-    && eqb (length (s .kept .0)) places
-    && every (λ row. eqb (length row) places && every unusedCheckpoint row) (s .kept .0)
-    && eqb (length (s .held)) places
+    && eqb (length (s .kept .0)) mostProcesses
+    && every (λ row. eqb (length row) mostProcesses && every unusedCheckpoint row) (s .kept .0)
+    && eqb (length (s .held)) mostProcesses
     && every (eqb 0) (s .held)
     && eqb (length (s .messages)) mostUnderWay
     && every unusedMessage (s .messages)
@@ -97,8 +97,8 @@ starts =
     ∷ record { count = 16; counts = ones; meets = 0 }
     ∷ record { count = 17; counts = ones; meets = 1 }
     -- Note 5: "15, at the start after 1, for a block count outside 1 to 65,535", of the first, the only and the last process
-    ∷ record { count = 0; counts = replicate places 0; meets = 1 }
-    ∷ record { count = 17; counts = replicate places 0; meets = 1 }
+    ∷ record { count = 0; counts = replicate mostProcesses 0; meets = 1 }
+    ∷ record { count = 17; counts = replicate mostProcesses 0; meets = 1 }
     ∷ record { count = 1; counts = allButOne 0 0; meets = 15 }
     ∷ record { count = 1; counts = allButOne 0 65_535; meets = 0 }
     ∷ record { count = 1; counts = allButOne 0 65_536; meets = 15 }

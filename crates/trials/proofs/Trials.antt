@@ -15,7 +15,7 @@ use Rattle.model.specs.declared.Event.{Event}
 use Rattle.model.specs.declared.Event.the-variants.{Checkpoint}
 use Rattle.model.specs.declared.StartAnswer.{StartAnswer}
 use Rattle.model.specs.declared.Refusal.the-variants.{TrialOutsideRange}
-use Rattle.model.specs.Words.{places, ones}
+use Rattle.model.specs.Words.{mostProcesses, ones}
 use Rattle.model.specs.Steps.{startState}
 use Rattle.model.specs.Sound.{sound}
 use Rattle.model.specs.laws.Refusals.{refusal-in}
@@ -122,12 +122,12 @@ module _ (n k : ℕ) (z : Trial) (p d : ℕ) (a : Action) where
 
 -- The trial before its first step, and one step more.
 pub begun-words : (n seed : ℕ) → 1 ≤ n → n ≤ 16 → (w v : List ℕ) → length w ≡ 6464 → runOf v ≡ startOutcomeIn (length w) n ones .run
-    → trialOf v (record { value = seed; acted = replicate places 0; deliveries = 0; forced = 0; most = 0 }) ≡ trialStart n seed
+    → trialOf v (record { value = seed; acted = replicate mostProcesses 0; deliveries = 0; forced = 0; most = 0 }) ≡ trialStart n seed
 unfolding trialOf trialStart StartsTheSame
 begun-words n seed pos few w v long here =
     let same : startOutcomeIn (length w) n ones ≡ startOutcome n ones = rw long (starts-the-same n ones (omega arith)) in
     let there : runOf v ≡ startState n ones = here ∙ ap (λ (o : Outcome StartAnswer). o .run) same ∙ started-state n ones (ones-start n pos few) in
-    λ j. record { run = there j; value = seed; acted = replicate places 0; deliveries = 0; forced = 0; most = 0 }
+    λ j. record { run = there j; value = seed; acted = replicate mostProcesses 0; deliveries = 0; forced = 0; most = 0 }
 
 pub none-stepped : (n k seed : ℕ) → trialStart n seed ≡ trialAfter n k 0 seed
 unfolding trialAfter

@@ -16,7 +16,7 @@ use Rattle.laws.specs.Tests.{every}
 use Rattle.laws.specs.Truth.{never-both}
 use Rattle.model.specs.declared.Run.{Run}
 use Rattle.model.specs.declared.Event.{Event}
-use Rattle.model.specs.Words.{places, ones, process}
+use Rattle.model.specs.Words.{mostProcesses, ones, process}
 use Rattle.model.specs.Steps.{startState}
 use Rattle.model.specs.Refusals.{number, startRefusal}
 use Rattle.model.specs.Trace.{decoded}
@@ -55,13 +55,13 @@ traced-record s v none = v
 traced-record s v (some e) = traced-call s v (callOf e)
 
 -- Counts of 1.
-one-of : (p : ℕ) → p < places → getD ones p 0 ≡ 1
-one-of p lt = getD-replicate places p 1 0 lt
+one-of : (p : ℕ) → p < mostProcesses → getD ones p 0 ≡ 1
+one-of p lt = getD-replicate mostProcesses p 1 0 lt
 
 one-most : (p : ℕ) → getD ones p 0 ≤ 1
-one-most p = by-bool (leb (suc p) places)
-    (λ e. omega (arith, one-of p (leb-true (suc p) places e)))
-    (λ e. let past : length ones ≤ p = omega (arith, leb-false (suc p) places e) in omega (arith, List·getD-eq-default ones 0 past))
+one-most p = by-bool (leb (suc p) mostProcesses)
+    (λ e. omega (arith, one-of p (leb-true (suc p) mostProcesses e)))
+    (λ e. let past : length ones ≤ p = omega (arith, leb-false (suc p) mostProcesses e) in omega (arith, List·getD-eq-default ones 0 past))
 
 module _ (n : ℕ) (ok : startRefusal n ones ≡ none) (calls : List Call) where
   abbrev r : Ideal
@@ -70,7 +70,7 @@ module _ (n : ℕ) (ok : startRefusal n ones ≡ none) (calls : List Call) where
   reached : Reached n (stateAfter (startOutcome n ones .run) calls) (survivingFrom n (beginning n ones) (transcript (startOutcome n ones .run) calls)) (runAfter (begun n ones) calls)
   reached = reachable-reached n ones ok calls
 
-  run-counts : (p : ℕ) → p < places → runAfter (begun n ones) calls .ledger .counts p ≡ 1
+  run-counts : (p : ℕ) → p < mostProcesses → runAfter (begun n ones) calls .ledger .counts p ≡ 1
   unfolding openLedger
   run-counts p lt = ap (λ (c : ℕ → ℕ). c p) (counts-after (begun n ones) calls) ∙ one-of p lt
 
@@ -78,7 +78,7 @@ module _ (n : ℕ) (ok : startRefusal n ones ≡ none) (calls : List Call) where
     inside : p < runAfter (begun n ones) calls .n
     inside = omega (arith, hp, ap (λ (t : Run). t .count) (reached .state), count-is r)
 
-    small : p < places
+    small : p < mostProcesses
     small = omega (arith, inside, reached .limits .few-processes)
 
     ones-kept : every (λ c. eqb (c .blocks) 1) (process (stateAfter (startOutcome n ones .run) calls) p .kept) ≡ true

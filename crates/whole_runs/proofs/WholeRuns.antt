@@ -18,7 +18,7 @@ use Rattle.model.specs.declared.Named.{Named}
 use Rattle.model.specs.declared.Run.{Run}
 use Rattle.model.specs.declared.StartAnswer.the-variants.{Started}
 use Rattle.model.specs.declared.Refusal.the-variants.{CountOutsideRange, BlockCountOutsideRange}
-use Rattle.model.specs.Words.{places, blank}
+use Rattle.model.specs.Words.{mostProcesses, blank}
 use Rattle.model.specs.Steps.{started, opening, withProcesses, startState}
 use Rattle.model.specs.Sound.{isBlockCount, sound}
 use Rattle.histories.specs.History.{checkpoints}
@@ -233,7 +233,7 @@ module _ (n : ℕ) (a b : List ℕ) (same : (p : ℕ) → p < n → getD a p 0 �
   same-refusal : startRefusal n a ≡ startRefusal n b
   unfolding startRefusal
   same-refusal = ap (λ (bad : Bool). firstOf (
-      record { holds = not (leb 1 n && leb n places); gives = CountOutsideRange }
+      record { holds = not (leb 1 n && leb n mostProcesses); gives = CountOutsideRange }
       ∷ record { holds = bad; gives = BlockCountOutsideRange }
       ∷ []))
       (any-same n (λ p. not (isBlockCount (getD a p 0))) (λ p. not (isBlockCount (getD b p 0))) (λ p lt. rw (same p lt)))

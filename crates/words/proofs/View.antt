@@ -17,8 +17,8 @@ use Rattle.laws.specs.Select.{select-length}
 use Rattle.laws.specs.Tables.{length-table, getD-table, table-is, take-placed}
 use Rattle.laws.specs.Truth.{and-out}
 use Rattle.model.specs.declared.Run.{Run}
-use Rattle.model.specs.Words.{places, mostUnderWay, zeroVector, noPins, noCheckpoint, noMessage, blank, process, own, underWay}
-use Rattle.words.specs.Layout.{size, word, wide2, wide4, countOf, endOf, heldAt, indexAt, partAt, pinsAt, intervalOf, vectorIn, pinsIn, markIn, checkpointIn, isKeptIn, keptIn, messageIn, isMessage, messagesIn, ofProcesses, decoded, endFits, fits, runOf}
+use Rattle.model.specs.Words.{mostProcesses, mostUnderWay, zeroVector, noPins, noCheckpoint, noMessage, blank, process, own, underWay}
+use Rattle.words.specs.Layout.{stateSize, word, wide2, wide4, countOf, endOf, heldAt, indexAt, partAt, pinsAt, intervalOf, vectorIn, pinsIn, markIn, checkpointIn, isKeptIn, keptIn, messageIn, isMessage, messagesIn, ofProcesses, decoded, endFits, fits, runOf}
 use Rattle.words.specs.Parts.{processIn}
 use Rattle.words.proofs.Same.{vector-word}
 
@@ -33,15 +33,15 @@ run-unfit w e = rw e
 
 pub fits-size : (w : List ℕ) → fits w ≡ true → length w ≡ 6464
 unfolding fits
-fits-size w e = eqb-true (length w) size (and-out (eqb (length w) size) (endFits w) e .0)
+fits-size w e = eqb-true (length w) stateSize (and-out (eqb (length w) stateSize) (endFits w) e .0)
 
 pub fits-end : (w : List ℕ) → fits w ≡ true → endFits w ≡ true
 unfolding fits
-fits-end w e = and-out (eqb (length w) size) (endFits w) e .1
+fits-end w e = and-out (eqb (length w) stateSize) (endFits w) e .1
 
 pub fits-by : (w : List ℕ) → length w ≡ 6464 → endFits w ≡ true → fits w ≡ true
 unfolding fits
-fits-by w a b = rw (eq-eqb (length w) size a, b)
+fits-by w a b = rw (eq-eqb (length w) stateSize a, b)
 
 pub end-most : (w : List ℕ) → endFits w ≡ true → endOf w ≤ 64
 unfolding endFits
@@ -95,7 +95,7 @@ module _ {A : Type 0} (n : ℕ) (d : A) where
       (λ more. placed-past (take h l) k (omega arith) (omega arith) ∙ sym (past k more (omega arith))))
 
 module _ (w : List ℕ) (p : ℕ) (most : word w (heldAt p) ≤ 16) where
-  pub kept-placed : placed places noCheckpoint (processIn w p .kept) ≡ keptIn w p
+  pub kept-placed : placed mostProcesses noCheckpoint (processIn w p .kept) ≡ keptIn w p
   unfolding processIn
   kept-placed = placed-front 16 noCheckpoint (keptIn w p) (word w (heldAt p)) (kept-length w p) most (kept-past w p)
 
@@ -150,7 +150,7 @@ module _ (w : List ℕ) (fit : fits w ≡ true) where
 
     pub row-is : getD (runOf w .kept .0) p [] ≡ keptIn w p
     unfolding decoded
-    row-is = ap (λ (r : Run). getD (r .kept .0) p []) (run-fits w fit) ∙ part-is w (keptIn w) (replicate places noCheckpoint) [] p lt (omega arith)
+    row-is = ap (λ (r : Run). getD (r .kept .0) p []) (run-fits w fit) ∙ part-is w (keptIn w) (replicate mostProcesses noCheckpoint) [] p lt (omega arith)
 
     pub process-is : process (runOf w) p ≡ processIn w p
     unfolding process processIn decoded
@@ -162,7 +162,7 @@ module _ (w : List ℕ) (fit : fits w ≡ true) where
           part-is w (λ q. pinsIn w (pinsAt q)) noPins [] p lt room,
           part-is w (markIn w) false false p lt room,
           part-is w (λ q. word w (heldAt q)) 0 0 p lt room,
-          part-is w (keptIn w) (replicate places noCheckpoint) [] p lt room,
+          part-is w (keptIn w) (replicate mostProcesses noCheckpoint) [] p lt room,
         ))
 
     pub own-is : own (runOf w) p ≡ intervalOf (word w (partAt p + p))

@@ -14,7 +14,7 @@ use Rattle.laws.specs.Prefixes.{placed-none}
 use Rattle.laws.specs.Tables.{table-same, table-replicate}
 use Rattle.model.specs.declared.Interval.{Interval}
 use Rattle.model.specs.declared.Pin.the-variants.{Nothing}
-use Rattle.model.specs.Words.{places, mostUnderWay, zeroVector, noPins, noCheckpoint, noMessage, blank}
+use Rattle.model.specs.Words.{mostProcesses, mostUnderWay, zeroVector, noPins, noCheckpoint, noMessage, blank}
 use Rattle.words.specs.Layout.{word, countOf, heldAt, markAt, blocksAt, partAt, pinsAt, indexAt, causeAt, storedAt, lowAt, highAt, senderAt, receiverAt, carriedAt, pinOf, vectorIn, pinsIn, markIn, checkpointIn, isKeptIn, keptIn, messagesIn, ofProcesses, decoded, endFits, fits, runOf}
 use Rattle.words.specs.Clean.{Clean}
 use Rattle.words.proofs.Same.{vector-is}
@@ -23,7 +23,7 @@ use Rattle.words.proofs.View.{run-fits, fits-by}
 module _ (w : List ℕ) (front : (k : ℕ) → 1 ≤ k → k < 48 → word w k ≡ 0) (rest : (k : ℕ) → 64 ≤ k → word w k ≡ 0) where
   zero-vector : (at : ℕ) → 64 ≤ at → vectorIn w at ≡ zeroVector
   zero-vector at low = vector-is w at zeroVector refl
-      (λ f lt. rest (at + f) (omega arith) ∙ sym (ap (λ (x : Interval). x .0) (getD-replicate places f (record { 0 = 0 }) (record { 0 = 0 }) lt)))
+      (λ f lt. rest (at + f) (omega arith) ∙ sym (ap (λ (x : Interval). x .0) (getD-replicate mostProcesses f (record { 0 = 0 }) (record { 0 = 0 }) lt)))
 
   no-pins : (at : ℕ) → 64 ≤ at → pinsIn w at ≡ noPins
   unfolding pinsIn pinOf
@@ -33,13 +33,13 @@ module _ (w : List ℕ) (front : (k : ℕ) → 1 ≤ k → k < 48 → word w k �
   unfolding markIn
   no-mark p lt = rw (front (markAt p) (omega arith) (omega arith))
 
-  none-kept : (p : ℕ) → p < 16 → keptIn w p ≡ replicate places noCheckpoint
+  none-kept : (p : ℕ) → p < 16 → keptIn w p ≡ replicate mostProcesses noCheckpoint
   unfolding keptIn isKeptIn
   none-kept p lt = table-same 16 (λ k. pick (isKeptIn w p k) (checkpointIn w p k) noCheckpoint) (λ k. noCheckpoint)
       (λ k less. rw (le-ltb k (word w (heldAt p)) (omega (arith, front (heldAt p) (omega arith) (omega arith)))))
       ∙ sym (table-replicate 16 noCheckpoint)
 
-  unused-rows : {A : Type 0} (part : ℕ → A) (unused : A) → ((p : ℕ) → p < 16 → part p ≡ unused) → ofProcesses w part unused ≡ replicate places unused
+  unused-rows : {A : Type 0} (part : ℕ → A) (unused : A) → ((p : ℕ) → p < 16 → part p ≡ unused) → ofProcesses w part unused ≡ replicate mostProcesses unused
   unused-rows part unused same = table-same 16 (λ p. pick (ltb p (countOf w)) (part p) unused) (λ p. unused)
       (λ p lt. rw (same p lt) (pick-same (ltb p (countOf w)) unused))
       ∙ sym (table-replicate 16 unused)
@@ -58,7 +58,7 @@ module _ (w : List ℕ) (front : (k : ℕ) → 1 ≤ k → k < 48 → word w k �
     unused-rows (λ p. vectorIn w (partAt p)) zeroVector (λ p lt. zero-vector (partAt p) (omega arith)),
     unused-rows (λ p. pinsIn w (pinsAt p)) noPins (λ p lt. no-pins (pinsAt p) (omega arith)),
     unused-rows (markIn w) false no-mark,
-    unused-rows (keptIn w) (replicate places noCheckpoint) none-kept,
+    unused-rows (keptIn w) (replicate mostProcesses noCheckpoint) none-kept,
     unused-rows (λ p. word w (heldAt p)) 0 (λ p lt. front (heldAt p) (omega arith) (omega arith)),
     no-messages,
     placed-none mostUnderWay noMessage,

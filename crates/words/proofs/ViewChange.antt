@@ -13,7 +13,7 @@ use Rattle.laws.specs.Lists.{select}
 use Rattle.laws.specs.Tables.{table-same, table-set}
 use Rattle.laws.specs.Update.{upd, upd-same, upd-other}
 use Rattle.model.specs.declared.Run.{Run}
-use Rattle.model.specs.Words.{places, zeroVector, noPins, noCheckpoint, withProcess, withMessages, withDisk}
+use Rattle.model.specs.Words.{mostProcesses, zeroVector, noPins, noCheckpoint, withProcess, withMessages, withDisk}
 use Rattle.words.specs.Layout.{word, wide2, wide4, countOf, endOf, heldAt, markAt, blocksAt, partAt, pinsAt, lowAt, highAt, senderAt, receiverAt, carriedAt, vectorIn, pinsIn, markIn, keptIn, messageIn, isMessage, messagesIn, ofProcesses, decoded, endFits, fits, runOf}
 use Rattle.words.specs.Parts.{processIn}
 use Rattle.words.specs.Frames.{OnlyProcess, OnlyMessages, OnlyDisk}
@@ -72,8 +72,8 @@ module _ (w v : List ℕ) (p : ℕ) (fit : fits w ≡ true) (lt : p < countOf w)
   rows-same q less ne = kept-same v w q (process-held w v p only q room less ne) (process-blocks w v p only q room less)
       (λ k low under. process-part w v p only q room less ne k (omega arith) (omega arith))
 
-  kept-changed : ofProcesses v (keptIn v) (replicate places noCheckpoint) ≡ set (ofProcesses w (keptIn w) (replicate places noCheckpoint)) p (keptIn v p)
-  kept-changed = one-changed (keptIn v) (keptIn w) (replicate places noCheckpoint) (keptIn v p) refl rows-same
+  kept-changed : ofProcesses v (keptIn v) (replicate mostProcesses noCheckpoint) ≡ set (ofProcesses w (keptIn w) (replicate mostProcesses noCheckpoint)) p (keptIn v p)
+  kept-changed = one-changed (keptIn v) (keptIn w) (replicate mostProcesses noCheckpoint) (keptIn v p) refl rows-same
 
   held-changed : ofProcesses v (λ q. word v (heldAt q)) 0 ≡ set (ofProcesses w (λ q. word w (heldAt q)) 0) p (word v (heldAt p))
   held-changed = one-changed (λ q. word v (heldAt q)) (λ q. word w (heldAt q)) 0 (word v (heldAt p)) refl (λ q less ne. process-held w v p only q room less ne)
@@ -124,7 +124,7 @@ module _ (w v : List ℕ) (only : OnlyMessages w v) where
     messages-parts (λ q. pinsIn v (pinsAt q)) (λ q. pinsIn w (pinsAt q)) noPins
         (λ q less. pins-same v w (pinsAt q) (pinsAt q) (λ f under. only .rest (pinsAt q + f) (omega arith) (omega arith))),
     messages-parts (markIn v) (markIn w) false mark-stays,
-    messages-parts (keptIn v) (keptIn w) (replicate places noCheckpoint)
+    messages-parts (keptIn v) (keptIn w) (replicate mostProcesses noCheckpoint)
         (λ q less. kept-same v w q (only .rest (heldAt q) (omega arith) (omega arith)) (only .rest (blocksAt q) (omega arith) (omega arith))
         (λ k low under. only .rest k (omega arith) (omega arith))),
     messages-parts (λ q. word v (heldAt q)) (λ q. word w (heldAt q)) 0 (λ q less. only .rest (heldAt q) (omega arith) (omega arith)),
@@ -165,7 +165,7 @@ module _ (w v : List ℕ) (only : OnlyDisk w v) where
     disk-parts (λ q. pinsIn v (pinsAt q)) (λ q. pinsIn w (pinsAt q)) noPins
         (λ q less. pins-same v w (pinsAt q) (pinsAt q) (λ f under. only .rest (pinsAt q + f) (omega arith))),
     disk-parts (markIn v) (markIn w) false (λ q less. disk-mark q),
-    disk-parts (keptIn v) (keptIn w) (replicate places noCheckpoint)
+    disk-parts (keptIn v) (keptIn w) (replicate mostProcesses noCheckpoint)
         (λ q less. kept-same v w q (only .rest (heldAt q) (omega arith)) (only .rest (blocksAt q) (omega arith)) (λ k low under. only .rest k (omega arith))),
     disk-parts (λ q. word v (heldAt q)) (λ q. word w (heldAt q)) 0 (λ q less. only .rest (heldAt q) (omega arith)),
     messages-same w v (only .rest 12 (omega arith)) (λ k low. only .rest k (omega arith)),

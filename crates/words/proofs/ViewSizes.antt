@@ -14,7 +14,7 @@ use Rattle.laws.specs.Tables.{length-table, getD-table}
 use Rattle.model.specs.declared.Checkpoint.{Checkpoint}
 use Rattle.model.specs.declared.Message.{Message}
 use Rattle.model.specs.declared.Run.{Run}
-use Rattle.model.specs.Words.{places, mostUnderWay, zeroVector, noPins, noCheckpoint, noMessage, blank}
+use Rattle.model.specs.Words.{mostProcesses, mostUnderWay, zeroVector, noPins, noCheckpoint, noMessage, blank}
 use Rattle.words.specs.Layout.{countOf, endOf, partAt, pinsAt, storedAt, carriedAt, vectorIn, pinsIn, checkpointIn, isKeptIn, keptIn, messageIn, isMessage, messagesIn, ofProcesses, decoded, fits, runOf}
 use Rattle.words.proofs.Ascending.{selected-where}
 use Rattle.words.proofs.Same.{vector-length, pins-length}
@@ -25,25 +25,25 @@ module _ (w : List ℕ) where
   of-all : (P : Run → Type 0) → (fits w ≡ true → P (decoded w)) → P (blank 0) → P (runOf w)
   of-all P one other = by-bool (fits w) (λ e. rw (run-fits w e) (one e)) (λ e. rw (run-unfit w e) other)
 
-  pub vectors-size : length (runOf w .vectors .0) ≡ places
+  pub vectors-size : length (runOf w .vectors .0) ≡ mostProcesses
   unfolding decoded blank
-  vectors-size = of-all (λ (r : Run). length (r .vectors .0) ≡ places) (λ e. length-table 16 _) refl
+  vectors-size = of-all (λ (r : Run). length (r .vectors .0) ≡ mostProcesses) (λ e. length-table 16 _) refl
 
-  pub pins-size : length (runOf w .pins .0) ≡ places
+  pub pins-size : length (runOf w .pins .0) ≡ mostProcesses
   unfolding decoded blank
-  pins-size = of-all (λ (r : Run). length (r .pins .0) ≡ places) (λ e. length-table 16 _) refl
+  pins-size = of-all (λ (r : Run). length (r .pins .0) ≡ mostProcesses) (λ e. length-table 16 _) refl
 
-  pub sent-size : length (runOf w .sent) ≡ places
+  pub sent-size : length (runOf w .sent) ≡ mostProcesses
   unfolding decoded blank
-  sent-size = of-all (λ (r : Run). length (r .sent) ≡ places) (λ e. length-table 16 _) refl
+  sent-size = of-all (λ (r : Run). length (r .sent) ≡ mostProcesses) (λ e. length-table 16 _) refl
 
-  pub kept-size : length (runOf w .kept .0) ≡ places
+  pub kept-size : length (runOf w .kept .0) ≡ mostProcesses
   unfolding decoded blank
-  kept-size = of-all (λ (r : Run). length (r .kept .0) ≡ places) (λ e. length-table 16 _) refl
+  kept-size = of-all (λ (r : Run). length (r .kept .0) ≡ mostProcesses) (λ e. length-table 16 _) refl
 
-  pub held-size : length (runOf w .held) ≡ places
+  pub held-size : length (runOf w .held) ≡ mostProcesses
   unfolding decoded blank
-  held-size = of-all (λ (r : Run). length (r .held) ≡ places) (λ e. length-table 16 _) refl
+  held-size = of-all (λ (r : Run). length (r .held) ≡ mostProcesses) (λ e. length-table 16 _) refl
 
   pub messages-size : length (runOf w .messages) ≡ mostUnderWay
   unfolding decoded blank
@@ -56,50 +56,50 @@ module _ (w : List ℕ) where
       (λ le. rw (part-past w part unused d p le lt) other)
 
   module _ (p : ℕ) (lt : p < 16) where
-    pub vector-row-size : length (getD (runOf w .vectors .0) p []) ≡ places
+    pub vector-row-size : length (getD (runOf w .vectors .0) p []) ≡ mostProcesses
     unfolding decoded blank
-    vector-row-size = of-all (λ (r : Run). length (getD (r .vectors .0) p []) ≡ places)
-        (λ e. row-fact (λ q. vectorIn w (partAt q)) zeroVector [] (λ l. length l ≡ places) (λ q. vector-length w (partAt q)) refl p lt)
-        (ap length (getD-replicate places p zeroVector [] lt))
+    vector-row-size = of-all (λ (r : Run). length (getD (r .vectors .0) p []) ≡ mostProcesses)
+        (λ e. row-fact (λ q. vectorIn w (partAt q)) zeroVector [] (λ l. length l ≡ mostProcesses) (λ q. vector-length w (partAt q)) refl p lt)
+        (ap length (getD-replicate mostProcesses p zeroVector [] lt))
 
-    pub pin-row-size : length (getD (runOf w .pins .0) p []) ≡ places
+    pub pin-row-size : length (getD (runOf w .pins .0) p []) ≡ mostProcesses
     unfolding decoded blank
-    pin-row-size = of-all (λ (r : Run). length (getD (r .pins .0) p []) ≡ places)
-        (λ e. row-fact (λ q. pinsIn w (pinsAt q)) noPins [] (λ l. length l ≡ places) (λ q. pins-length w (pinsAt q)) refl p lt)
-        (ap length (getD-replicate places p noPins [] lt))
+    pin-row-size = of-all (λ (r : Run). length (getD (r .pins .0) p []) ≡ mostProcesses)
+        (λ e. row-fact (λ q. pinsIn w (pinsAt q)) noPins [] (λ l. length l ≡ mostProcesses) (λ q. pins-length w (pinsAt q)) refl p lt)
+        (ap length (getD-replicate mostProcesses p noPins [] lt))
 
-    pub kept-row-size : length (getD (runOf w .kept .0) p []) ≡ places
+    pub kept-row-size : length (getD (runOf w .kept .0) p []) ≡ mostProcesses
     unfolding decoded blank
-    kept-row-size = of-all (λ (r : Run). length (getD (r .kept .0) p []) ≡ places)
-        (λ e. row-fact (keptIn w) (replicate places noCheckpoint) [] (λ l. length l ≡ places) (kept-length w) refl p lt)
-        (ap length (getD-replicate places p (replicate places noCheckpoint) [] lt))
+    kept-row-size = of-all (λ (r : Run). length (getD (r .kept .0) p []) ≡ mostProcesses)
+        (λ e. row-fact (keptIn w) (replicate mostProcesses noCheckpoint) [] (λ l. length l ≡ mostProcesses) (kept-length w) refl p lt)
+        (ap length (getD-replicate mostProcesses p (replicate mostProcesses noCheckpoint) [] lt))
 
     module _ (k : ℕ) (less : k < 16) where
-      one-size : (q : ℕ) → length (getD (keptIn w q) k noCheckpoint .vector) ≡ places
+      one-size : (q : ℕ) → length (getD (keptIn w q) k noCheckpoint .vector) ≡ mostProcesses
       unfolding keptIn checkpointIn
       one-size q = ap (λ (c : Checkpoint). length (c .vector)) (getD-table 16 (λ j. pick (isKeptIn w q j) (checkpointIn w q j) noCheckpoint) k noCheckpoint less)
           ∙ by-bool (isKeptIn w q k) (λ e. rw e (vector-length w (storedAt q k))) (λ e. rw e)
 
-      none-size : length (getD (replicate places noCheckpoint) k noCheckpoint .vector) ≡ places
-      none-size = ap (λ (c : Checkpoint). length (c .vector)) (getD-replicate places k noCheckpoint noCheckpoint less)
+      none-size : length (getD (replicate mostProcesses noCheckpoint) k noCheckpoint .vector) ≡ mostProcesses
+      none-size = ap (λ (c : Checkpoint). length (c .vector)) (getD-replicate mostProcesses k noCheckpoint noCheckpoint less)
 
-      pub stored-size : length (getD (getD (runOf w .kept .0) p []) k noCheckpoint .vector) ≡ places
+      pub stored-size : length (getD (getD (runOf w .kept .0) p []) k noCheckpoint .vector) ≡ mostProcesses
       unfolding decoded blank
-      stored-size = of-all (λ (r : Run). length (getD (getD (r .kept .0) p []) k noCheckpoint .vector) ≡ places)
-          (λ e. row-fact (keptIn w) (replicate places noCheckpoint) [] (λ l. length (getD l k noCheckpoint .vector) ≡ places) one-size none-size p lt)
-          (ap (λ (l : List Checkpoint). length (getD l k noCheckpoint .vector)) (getD-replicate places p (replicate places noCheckpoint) [] lt) ∙ none-size)
+      stored-size = of-all (λ (r : Run). length (getD (getD (r .kept .0) p []) k noCheckpoint .vector) ≡ mostProcesses)
+          (λ e. row-fact (keptIn w) (replicate mostProcesses noCheckpoint) [] (λ l. length (getD l k noCheckpoint .vector) ≡ mostProcesses) one-size none-size p lt)
+          (ap (λ (l : List Checkpoint). length (getD l k noCheckpoint .vector)) (getD-replicate mostProcesses p (replicate mostProcesses noCheckpoint) [] lt) ∙ none-size)
 
   -- Every carried vector.
-  under-way-size : (k : ℕ) → k < length (messagesIn w) → length (getD (messagesIn w) k noMessage .vector) ≡ places
+  under-way-size : (k : ℕ) → k < length (messagesIn w) → length (getD (messagesIn w) k noMessage .vector) ≡ mostProcesses
   unfolding messagesIn messageIn
   under-way-size k lt =
       let r = selected-where isMessage (table (endOf w) (messageIn w)) k noMessage lt in
       ap (λ (x : Message). length (x .vector)) (r .2 ∙ getD-table (endOf w) (messageIn w) (r .0) noMessage (omega (arith, r .1, length-table (endOf w) (messageIn w))))
       ∙ vector-length w (carriedAt (r .0))
 
-  pub carried-size : (k : ℕ) → k < mostUnderWay → length (getD (runOf w .messages) k noMessage .vector) ≡ places
+  pub carried-size : (k : ℕ) → k < mostUnderWay → length (getD (runOf w .messages) k noMessage .vector) ≡ mostProcesses
   unfolding decoded blank
-  carried-size k lt = of-all (λ (r : Run). length (getD (r .messages) k noMessage .vector) ≡ places)
+  carried-size k lt = of-all (λ (r : Run). length (getD (r .messages) k noMessage .vector) ≡ mostProcesses)
       (λ e. by-lt k (length (messagesIn w))
       (λ less. rw (placed-at mostUnderWay noMessage (messagesIn w) k less) (under-way-size k less))
       (λ le. rw (placed-past mostUnderWay noMessage (messagesIn w) k le lt)))

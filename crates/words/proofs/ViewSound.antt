@@ -22,7 +22,7 @@ use Rattle.model.specs.declared.Interval.{Interval}
 use Rattle.model.specs.declared.Pin.the-variants.{Nothing}
 use Rattle.model.specs.declared.Checkpoint.{Checkpoint}
 use Rattle.model.specs.declared.Message.{Message}
-use Rattle.model.specs.Words.{places, mostUnderWay, mostMessages, mostBlockCount, mostBlocks, entry, Process, noCheckpoint, noMessage, blockCount, blank, process, own, underWay}
+use Rattle.model.specs.Words.{mostProcesses, mostUnderWay, mostMessages, mostBlockCount, mostBlocks, entry, Process, noCheckpoint, noMessage, blockCount, blank, process, own, underWay}
 use Rattle.model.specs.Sound.{ascending, messageSound, unusedMessage, causeSound, isBlockCount, recordSound, sound}
 use Rattle.model.specs.laws.Sound.{SoundProcess, SoundState, sound-message, sound-state}
 use Rattle.words.specs.Layout.{word, wide2, wide4, countOf, endOf, heldAt, blocksAt, partAt, pinsAt, indexAt, storedAt, intervalOf, pinOf, vectorIn, pinsIn, checkpointIn, keptIn, messageIn, isMessage, messagesIn, fits, runOf}
@@ -42,7 +42,7 @@ pub record SoundPart (w : List ℕ) (p : ℕ) : Type 0 where
   -- which stand in their places,
   pub used : (k : ℕ) → k < word w (heldAt p) → 1 ≤ word w (indexAt p k)
   pub kept-is : processIn w p .kept ≡ table (word w (heldAt p)) (checkpointIn w p)
-  pub row-is : keptIn w p ≡ placed places noCheckpoint (table (word w (heldAt p)) (checkpointIn w p))
+  pub row-is : keptIn w p ≡ placed mostProcesses noCheckpoint (table (word w (heldAt p)) (checkpointIn w p))
   -- "indexes ascending, each one's own entry equal to its index; the last is the own entry minus 1 and the own pin names it."
   pub ascend : (j k : ℕ) → j < k → k < word w (heldAt p) → word w (indexAt p j) < word w (indexAt p k)
   pub stored-own : (k : ℕ) → k < word w (heldAt p) → word w (storedAt p k + p) + 1 ≡ word w (indexAt p k)
@@ -206,7 +206,7 @@ module _ (w : List ℕ) (h : sound (runOf w) ≡ true) where
       held-most = most-held;
       used = used-at;
       kept-is = in-table;
-      row-is = sym (kept-placed w p (omega (arith, most-held, sound-few))) ∙ ap (placed places noCheckpoint) in-table;
+      row-is = sym (kept-placed w p (omega (arith, most-held, sound-few))) ∙ ap (placed mostProcesses noCheckpoint) in-table;
       ascend = ascends;
       stored-own = owned;
       last-index = last-is-own;

@@ -15,11 +15,11 @@ use Rattle.model.specs.declared.Pin.the-variants.{Nothing, At}
 use Rattle.model.specs.declared.Checkpoint.{Checkpoint}
 use Rattle.model.specs.declared.Message.{Message}
 use Rattle.model.specs.declared.Run.{Run}
-use Rattle.model.specs.Words.{places, mostUnderWay, zeroVector, noPins, noCheckpoint, noMessage, blank}
+use Rattle.model.specs.Words.{mostProcesses, mostUnderWay, zeroVector, noPins, noCheckpoint, noMessage, blank}
 
 -- How many words a state is.
-abbrev pub size : ℕ
-size = 6464
+abbrev pub stateSize : ℕ
+stateSize = 6464
 
 -- The word at a place.
 abbrev pub word : List ℕ → ℕ → ℕ
@@ -96,13 +96,13 @@ pinOf (suc k) = At (record { 0 = k })
 
 -- A row of words, a vector and pins, by the place of their first word.
 unfoldable pub rowIn : List ℕ → ℕ → List ℕ
-rowIn w at = table places (λ f. word w (at + f))
+rowIn w at = table mostProcesses (λ f. word w (at + f))
 
 unfoldable pub vectorIn : List ℕ → ℕ → List Interval
-vectorIn w at = table places (λ f. intervalOf (word w (at + f)))
+vectorIn w at = table mostProcesses (λ f. intervalOf (word w (at + f)))
 
 unfoldable pub pinsIn : List ℕ → ℕ → List Pin
-pinsIn w at = table places (λ f. pinOf (word w (at + f)))
+pinsIn w at = table mostProcesses (λ f. pinOf (word w (at + f)))
 
 -- The sent mark of process p: set if its word is not 0.
 unfoldable pub markIn : List ℕ → ℕ → Bool
@@ -122,7 +122,7 @@ unfoldable pub isKeptIn : List ℕ → ℕ → ℕ → Bool
 isKeptIn w p k = ltb k (word w (heldAt p)) && not (eqb (word w (indexAt p k)) 0)
 
 unfoldable pub keptIn : List ℕ → ℕ → List Checkpoint
-keptIn w p = table places (λ k. pick (isKeptIn w p k) (checkpointIn w p k) noCheckpoint)
+keptIn w p = table mostProcesses (λ k. pick (isKeptIn w p k) (checkpointIn w p k) noCheckpoint)
 
 -- The message in place k. A place is in use before the end of those in use, and where the number is not 0; the messages are in the order of their places.
 unfoldable pub messageIn : List ℕ → ℕ → Message
@@ -141,7 +141,7 @@ messagesIn w = select isMessage (table (endOf w) (messageIn w))
 
 -- A part of a process below n; what the places of the others hold counts for nothing.
 abbrev pub ofProcesses : {A : Type 0} → List ℕ → (ℕ → A) → A → List A
-ofProcesses w part unused = table places (λ p. pick (ltb p (countOf w)) (part p) unused)
+ofProcesses w part unused = table mostProcesses (λ p. pick (ltb p (countOf w)) (part p) unused)
 
 -- The run that words of the right size stand for.
 unfoldable pub decoded : List ℕ → Run
@@ -150,7 +150,7 @@ decoded w = record {
   vectors = record { 0 = ofProcesses w (λ p. vectorIn w (partAt p)) zeroVector };
   pins = record { 0 = ofProcesses w (λ p. pinsIn w (pinsAt p)) noPins };
   sent = ofProcesses w (markIn w) false;
-  kept = record { 0 = ofProcesses w (keptIn w) (replicate places noCheckpoint) };
+  kept = record { 0 = ofProcesses w (keptIn w) (replicate mostProcesses noCheckpoint) };
   held = ofProcesses w (λ p. word w (heldAt p)) 0;
   messages = placed mostUnderWay noMessage (messagesIn w);
   underway = word w 1;
@@ -163,7 +163,7 @@ unfoldable pub endFits : List ℕ → Bool
 endFits w = leb (endOf w) mostUnderWay && (eqb (endOf w) 0 || isMessage (messageIn w (endOf w - 1)))
 
 unfoldable pub fits : List ℕ → Bool
-fits w = eqb (length w) size && endFits w
+fits w = eqb (length w) stateSize && endFits w
 
 -- "a state of zeros with every pin none" is what all other words stand for: it is not sound.
 unfoldable pub runOf : List ℕ → Run

@@ -4,7 +4,7 @@ use mathlib.Core.List.{List, [], _∷_}
 use Prim.Native.Nat.{ℕ, zero, suc, _+_, _/_, _%_}
 use lib.ListN.{getD, set}
 use Rattle.model.specs.declared.Interval.{Interval}
-use Rattle.model.specs.Words.{places, entry}
+use Rattle.model.specs.Words.{mostProcesses, entry}
 
 pub record Put : Type 0 where
   pub at : ℕ
@@ -25,13 +25,13 @@ abbrev pub one : ℕ → ℕ → Put
 one at x = record { at = at; size = 1; fill = λ f. x }
 
 abbrev pub rowPut : ℕ → List ℕ → Put
-rowPut at r = record { at = at; size = places; fill = λ f. getD r f 0 }
+rowPut at r = record { at = at; size = mostProcesses; fill = λ f. getD r f 0 }
 
 abbrev pub vectorPut : ℕ → List Interval → Put
-vectorPut at v = record { at = at; size = places; fill = λ f. entry v f .0 }
+vectorPut at v = record { at = at; size = mostProcesses; fill = λ f. entry v f .0 }
 
 abbrev pub zeroPut : ℕ → Put
-zeroPut at = record { at = at; size = places; fill = λ f. 0 }
+zeroPut at = record { at = at; size = mostProcesses; fill = λ f. 0 }
 
 -- A number in two words and in four, the lowest word first.
 abbrev pub puts2 : ℕ → ℕ → List Put

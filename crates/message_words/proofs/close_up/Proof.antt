@@ -5,7 +5,7 @@ use mathlib.Core.List.{List, [], _∷_}
 use native.Mathlib.Omega.{arith}
 use lib.ListN.{length, set, length-set}
 use borrow.Author.Needs.{needs}
-use Rattle.words.specs.Layout.{size}
+use Rattle.words.specs.Layout.{stateSize}
 use Rattle.words.specs.Puts.{puts, one}
 use Rattle.words.proofs.Reading.{set-is-put}
 use Rattle.message_words.specs.Places.{closing, clearedFrom, closedUp}
@@ -17,7 +17,7 @@ closed-by : (w : List ℕ) (k m : ℕ) → k ≡ m → set (clearedFrom w k (64 
 closed-by w k m e = rw e (set-is-put _ _ _)
 
 -- No more than 64 are gathered.
-few : (w : List ℕ) (k : ℕ) → length w ≡ size → k ≡ closing w 64 .many → k ≤ 64
+few : (w : List ℕ) (k : ℕ) → length w ≡ stateSize → k ≡ closing w 64 .many → k ≤ 64
 few w k long e = rw e (closing-closed w long 64 (omega arith) .many)
 
 returns : tie.Need-returns

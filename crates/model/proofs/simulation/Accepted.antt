@@ -14,7 +14,7 @@ use Rattle.laws.specs.Search.{anyBelow, any-out, any-none}
 use Rattle.laws.specs.Truth.{never-both, and-left, and-right, and-both}
 use Rattle.model.specs.declared.Message.{Message}
 use Rattle.model.specs.declared.Run.{Run}
-use Rattle.model.specs.Words.{places, mostUnderWay, mostMessages, mostInterval, mostBlocks, blockCount, process, own}
+use Rattle.model.specs.Words.{mostProcesses, mostUnderWay, mostMessages, mostInterval, mostBlocks, blockCount, process, own}
 use Rattle.model.specs.Steps.{found, forces}
 use Rattle.model.specs.Sound.{isBlockCount, sound}
 use Rattle.model.specs.Refusals.{startRefusal, shortDeletions, shortLine, absent, checkpointRefusal, sendRefusal, missing, forcesPast, forcesOver, deliverRefusal, loseRefusal, noMember, outside, lineRefusal, recoverRefusal}
@@ -34,21 +34,21 @@ not-in : (a : Bool) → a ≡ true → not a ≡ false
 not-in a e = rw e
 
 -- An accepted start has 1 to 16 processes and block counts in range.
-pub start-out : (n : ℕ) (counts : List ℕ) → startRefusal n counts ≡ none → (1 ≤ n) × (n ≤ places) × ((p : ℕ) → p < n → isBlockCount (getD counts p 0) ≡ true)
+pub start-out : (n : ℕ) (counts : List ℕ) → startRefusal n counts ≡ none → (1 ≤ n) × (n ≤ mostProcesses) × ((p : ℕ) → p < n → isBlockCount (getD counts p 0) ≡ true)
 unfolding startRefusal
 start-out n counts e =
     let fails = no-rule _ e in
     let h = not-false _ (fails 0) in (
-      leb-true 1 n (and-left (leb 1 n) (leb n places) h),
-      leb-true n places (and-right (leb 1 n) (leb n places) h),
+      leb-true 1 n (and-left (leb 1 n) (leb n mostProcesses) h),
+      leb-true n mostProcesses (and-right (leb 1 n) (leb n mostProcesses) h),
       λ p hp. not-false (isBlockCount (getD counts p 0)) (any-none n (λ p. not (isBlockCount (getD counts p 0))) (fails 1) p hp),
     )
 
 -- A start with 1 to 16 processes and block counts in range is accepted.
-pub start-in : (n : ℕ) (counts : List ℕ) → 1 ≤ n → n ≤ places → ((p : ℕ) → p < n → isBlockCount (getD counts p 0) ≡ true) → startRefusal n counts ≡ none
+pub start-in : (n : ℕ) (counts : List ℕ) → 1 ≤ n → n ≤ mostProcesses → ((p : ℕ) → p < n → isBlockCount (getD counts p 0) ≡ true) → startRefusal n counts ≡ none
 unfolding startRefusal
 start-in n counts a b fit = refusal-in _ none (
-  not-in _ (and-both _ _ (le-leb 1 n a) (le-leb n places b)),
+  not-in _ (and-both _ _ (le-leb 1 n a) (le-leb n mostProcesses b)),
   (
     by-bool (anyBelow n (λ p. not (isBlockCount (getD counts p 0))))
         (λ e. let w = any-out n (λ p. not (isBlockCount (getD counts p 0))) e in never-both (not (isBlockCount (getD counts (w .0) 0))) (w .2) (not-in _ (fit (w .0) (w .1))))

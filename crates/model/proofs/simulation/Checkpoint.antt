@@ -16,7 +16,7 @@ use Rattle.model.specs.declared.Checkpoint.{Checkpoint}
 use Rattle.model.specs.declared.Disk.{Disk}
 use Rattle.model.specs.declared.Pin.{Pin}
 use Rattle.model.specs.declared.Pin.the-variants.{Nothing, At}
-use Rattle.model.specs.Words.{basic, places, entry, liveIndex, named, Process, live, blocksOf, blockCount, process}
+use Rattle.model.specs.Words.{basic, mostProcesses, entry, liveIndex, named, Process, live, blocksOf, blockCount, process}
 use Rattle.model.specs.Steps as steps
 use Rattle.model.specs.Steps.{settled, listed, gone, deletions, billed, checkpointState, checkpointDeletions}
 use Rattle.histories.proofs.Run.{Ideal, keeps, stores, checkpointed}
@@ -33,12 +33,12 @@ use Rattle.model.proofs.simulation.Billing.{count-of, gone-blocks, bill
 use Rattle.model.proofs.simulation.Stepping.{one-part}
 
 -- The index that an accepted checkpoint answers.
-pub checkpoint-index : (r : Ideal) (i : ℕ) → r .n ≤ places → i < r .n → r .vector i (r .own i) i ≡ r .own i → live i (process (stateOf r) i) .index .0 ≡ r .own i
+pub checkpoint-index : (r : Ideal) (i : ℕ) → r .n ≤ mostProcesses → i < r .n → r .vector i (r .own i) i ≡ r .own i → live i (process (stateOf r) i) .index .0 ≡ r .own i
 unfolding checkpointOf
 checkpoint-index r i few hi self = rw (process-is r i few hi, live-is r i few hi self)
 
 -- The run says why the checkpoint is stored.
-module _ (r : Ideal) (v : Inv r) (i : ℕ) (few : r .n ≤ places) (hi : i < r .n) where
+module _ (r : Ideal) (v : Inv r) (i : ℕ) (few : r .n ≤ mostProcesses) (hi : i < r .n) where
   self : r .vector i (r .own i) i ≡ r .own i
   self = v .self i (r .own i) (omega arith)
 
@@ -53,7 +53,7 @@ module _ (r : Ideal) (v : Inv r) (i : ℕ) (few : r .n ≤ places) (hi : i < r .
 
   pins-after : set (pinsOf r i) i (At (record { 0 = r .own i })) ≡ pinsOf (checkpointed r i) i
   unfolding pinsOf pinOf
-  pins-after = table-set places _ i (At (record { 0 = r .own i })) ∙ table-same places _ _ (λ f lt. by-eq f i
+  pins-after = table-set mostProcesses _ i (At (record { 0 = r .own i })) ∙ table-same mostProcesses _ _ (λ f lt. by-eq f i
       (λ e. rw (e, upd-same {A = Pin} (λ f. pick (ltb f (r .n)) (pinOf (r .pin i f)) Nothing) i (At (record { 0 = r .own i })), checkpointed-n r i, lt-ltb i (r .n) hi, checkpointed-pin r i))
       (λ ne. rw (upd-other {A = Pin} (λ f. pick (ltb f (r .n)) (pinOf (r .pin i f)) Nothing) i (At (record { 0 = r .own i })) f ne, checkpointed-n r i, checkpointed-pin-column r i i f ne)))
 
@@ -128,7 +128,7 @@ module _ (r : Ideal) (v : Inv r) (i : ℕ) (few : r .n ≤ places) (hi : i < r .
       (λ q. rw (eq-eqb k (r .own i) q))
       (λ ne. rw (ne-eqb k (r .own i) ne, checkpointed-keeps-old r i i k (omega arith) e))
 
-  few-after : checkpointed r i .n ≤ places
+  few-after : checkpointed r i .n ≤ mostProcesses
   few-after = rw (checkpointed-n r i) few
 
   -- What a pin still names is what the run keeps.

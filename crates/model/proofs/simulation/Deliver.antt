@@ -6,7 +6,7 @@ use Prim.Native.Nat.{ℕ, _≤_, _<_}
 use native.Mathlib.Omega.{arith}
 use Rattle.laws.specs.Choice.{pick, by-bool}
 use Rattle.model.specs.declared.Disk.{Disk}
-use Rattle.model.specs.Words.{forced, places, live, blocksOf, blockCount, process}
+use Rattle.model.specs.Words.{forced, mostProcesses, live, blocksOf, blockCount, process}
 use Rattle.model.specs.Steps as steps
 use Rattle.model.specs.Steps.{settled, listed, gone, deletions, billed, deliverState, deliverDeletions, others}
 use Rattle.histories.proofs.Run.{Ideal, Ledger, keeps, checkpointed, takenBy, takenIn, forces, delivered, lost}
@@ -33,7 +33,7 @@ taken-others r m p ne = process-same r (takenIn r m) p (takenIn-n r m) (takenIn-
     (λ k f le hf. takenIn-vector r m p k f (λ a b. ne a)) (takenIn-mark r m p) (λ f hf. takenIn-pin-other r m p f ne)
     (ap (λ (l : Ledger). l .cause p) (taken-ledger r m)) (ap (λ (l : Ledger). l .counts p) (taken-ledger r m))
 
-module _ (r : Ideal) (m : ℕ) (few : r .n ≤ places) (hi : r .receiver m < r .n)
+module _ (r : Ideal) (m : ℕ) (few : r .n ≤ mostProcesses) (hi : r .receiver m < r .n)
     (self : r .vector (r .receiver m) (r .own (r .receiver m)) (r .receiver m) ≡ r .own (r .receiver m)) where
   -- Whether the answer names a forced checkpoint, and its index.
   pub deliver-forces : steps.forces (process (stateOf r) (r .receiver m)) (messageOf r m .vector) ≡ forces r m
@@ -44,7 +44,7 @@ module _ (r : Ideal) (m : ℕ) (few : r .n ≤ places) (hi : r .receiver m < r .
   deliver-index = checkpoint-index r (r .receiver m) few hi self
 
 -- The run says that a checkpoint stored now is a forced one.
-module _ (r : Ideal) (v : Inv r) (m : ℕ) (few : r .n ≤ places) (hi : r .receiver m < r .n) (asked : r .ledger .why ≡ forced) where
+module _ (r : Ideal) (v : Inv r) (m : ℕ) (few : r .n ≤ mostProcesses) (hi : r .receiver m < r .n) (asked : r .ledger .why ≡ forced) where
   abbrev i : ℕ
   i = r .receiver m
 
@@ -90,7 +90,7 @@ module _ (r : Ideal) (v : Inv r) (m : ℕ) (few : r .n ≤ places) (hi : r .rece
   forced-kept : steps.checkpointed (r .ledger .why) i (processOf r i) .kept ≡ passing (r₁ .own i) (standing r i) (checkpointOf r₁ i)
   forced-kept = rw (checkpointed-own r i) (checkpoint-kept r v i few hi)
 
-  forced-few : r₁ .n ≤ places
+  forced-few : r₁ .n ≤ mostProcesses
   forced-few = rw (checkpointed-n r i) few
 
   forced-in : r₁ .receiver m < r₁ .n

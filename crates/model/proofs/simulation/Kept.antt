@@ -16,7 +16,7 @@ use Rattle.laws.specs.Select.{lastOf-snoc}
 use Rattle.laws.specs.Elements.{any-at}
 use Rattle.laws.specs.Counting.{count-any, count-some}
 use Rattle.model.specs.declared.Checkpoint.{Checkpoint}
-use Rattle.model.specs.Words.{places, names, named}
+use Rattle.model.specs.Words.{mostProcesses, names, named}
 use Rattle.model.specs.Sound.{ascending}
 use Rattle.histories.proofs.Run.{Ideal, keeps, names as namesIn}
 use Rattle.histories.proofs.Invariant.{Inv}
@@ -56,7 +56,7 @@ unfolding keptOf
 kept-every r p u h = passing-every u (r .own p) (keeps r p) (checkpointOf r p) h
 
 -- Some pin in the list names checkpoint k exactly if k is kept.
-pub pins-name : (r : Ideal) (p k : ℕ) → r .n ≤ places → some-of (λ pin. names pin (record { 0 = k })) (pinsOf r p) ≡ keeps r p k
+pub pins-name : (r : Ideal) (p k : ℕ) → r .n ≤ mostProcesses → some-of (λ pin. names pin (record { 0 = k })) (pinsOf r p) ≡ keeps r p k
 unfolding named checkpointOf
 pins-name r p k few = named-is r p (checkpointOf r p k) few
 

@@ -11,7 +11,7 @@ use Rattle.laws.specs.Lists.{lastOf, table}
 use Rattle.laws.specs.Ranges.{all-same}
 use Rattle.laws.specs.Search.{allBelow, latest}
 use Rattle.laws.specs.Tables.{table-same}
-use Rattle.model.specs.Words.{places, entry, below, process, own, failed}
+use Rattle.model.specs.Words.{mostProcesses, entry, below, process, own, failed}
 use Rattle.model.specs.Steps as steps
 use Rattle.model.specs.Steps.{allowed, states, latestAllowed, lineOf, rolledBack}
 use Rattle.histories.proofs.Run.{Ideal, safe, member, line, rolled}
@@ -22,7 +22,7 @@ use Rattle.model.proofs.simulation.Passing.{passing-same, select-passin
 use Rattle.model.proofs.simulation.Reads.{entry-is, count-is, process-is, own-is}
 use Rattle.model.proofs.simulation.Rows.{standing, states-are}
 
-module _ (r : Ideal) (v : Inv r) (few : r .n ≤ places) (F : ℕ) where
+module _ (r : Ideal) (v : Inv r) (few : r .n ≤ mostProcesses) (F : ℕ) where
   -- The live state's own entry is its index.
   pub self : (p : ℕ) → r .vector p (r .own p) p ≡ r .own p
   self p = v .self p (r .own p) (omega arith)

@@ -14,7 +14,7 @@ use Rattle.laws.specs.Lists.{lastOf}
 use Rattle.laws.specs.Search.{latest-is, latest-none}
 use Rattle.laws.specs.Update.{upd-same, upd-other, upds}
 use Rattle.model.specs.declared.Message.{Message}
-use Rattle.model.specs.Words.{places}
+use Rattle.model.specs.Words.{mostProcesses}
 use Rattle.model.specs.Steps.{sentMessage, marked, sendState, found, others, loseState}
 use Rattle.histories.proofs.Run.{Ideal, keeps, sending, lost}
 use Rattle.histories.proofs.Invariant.{Inv}
@@ -30,7 +30,7 @@ use Rattle.model.proofs.simulation.Stepping.{one-part-still, messages-a
 pub used-number : (r : Ideal) → Inv r → (m : ℕ) → r .transit m ≡ true → m < suc (r .last)
 used-number r v m e = let w = v .underway m e in omega (arith, v .proper (r .sender m) (w .0) m (w .1) .1 .used)
 
-module _ (r : Ideal) (i j : ℕ) (few : r .n ≤ places) (hi : i < r .n) where
+module _ (r : Ideal) (i j : ℕ) (few : r .n ≤ mostProcesses) (hi : i < r .n) where
   -- Send. The part of i is as before but for its mark; the message comes last.
   send-process : marked (processOf r i) ≡ processOf (sending r i j) i
   unfolding marked processOf sending keptOf pinsOf checkpointOf keeps

@@ -15,7 +15,7 @@ use Rattle.laws.specs.Update.{upd, upd-same, upd-other}
 use Rattle.model.specs.declared.Message.{Message}
 use Rattle.model.specs.declared.Disk.{Disk}
 use Rattle.model.specs.declared.Run.{Run}
-use Rattle.model.specs.Words.{places, mostUnderWay, Process, zeroVector, noPins, noCheckpoint, noMessage, blank, process, withProcess, underWay, withMessages, withDisk}
+use Rattle.model.specs.Words.{mostProcesses, mostUnderWay, Process, zeroVector, noPins, noCheckpoint, noMessage, blank, process, withProcess, underWay, withMessages, withDisk}
 use Rattle.model.specs.Steps.{withProcesses}
 
 -- One process's part put in twice, and two processes' parts put in.
@@ -25,7 +25,7 @@ put-put s p P Q = rw (
   set-set (s .vectors .0) p (P .vector) (Q .vector),
   set-set (s .pins .0) p (P .pins) (Q .pins),
   set-set (s .sent) p (P .mark) (Q .mark),
-  set-set (s .kept .0) p (placed places noCheckpoint (P .kept)) (placed places noCheckpoint (Q .kept)),
+  set-set (s .kept .0) p (placed mostProcesses noCheckpoint (P .kept)) (placed mostProcesses noCheckpoint (Q .kept)),
   set-set (s .held) p (length (P .kept)) (length (Q .kept)),
 )
 
@@ -35,7 +35,7 @@ put-other s p q P Q ne = rw (
   set-comm (s .vectors .0) p q (P .vector) (Q .vector) ne,
   set-comm (s .pins .0) p q (P .pins) (Q .pins) ne,
   set-comm (s .sent) p q (P .mark) (Q .mark) ne,
-  set-comm (s .kept .0) p q (placed places noCheckpoint (P .kept)) (placed places noCheckpoint (Q .kept)) ne,
+  set-comm (s .kept .0) p q (placed mostProcesses noCheckpoint (P .kept)) (placed mostProcesses noCheckpoint (Q .kept)) ne,
   set-comm (s .held) p q (length (P .kept)) (length (Q .kept)) ne,
 )
 
@@ -141,7 +141,7 @@ room-put s p q Q h = record {
   vectors = omega (arith, h .vectors, length-set (s .vectors .0) q (Q .vector));
   pins = omega (arith, h .pins, length-set (s .pins .0) q (Q .pins));
   sent = omega (arith, h .sent, length-set (s .sent) q (Q .mark));
-  kept = omega (arith, h .kept, length-set (s .kept .0) q (placed places noCheckpoint (Q .kept)));
+  kept = omega (arith, h .kept, length-set (s .kept .0) q (placed mostProcesses noCheckpoint (Q .kept)));
   held = omega (arith, h .held, length-set (s .held) q (length (Q .kept)));
 }
 
@@ -150,7 +150,7 @@ unfolding withProcesses
 room-all zero f s p h = h
 room-all (suc n) f s p h = room-put (withProcesses n f s) p n (f n) (room-all n f s p h)
 
-pub room-blank : (n p : ℕ) → p < places → Room (blank n) p
+pub room-blank : (n p : ℕ) → p < mostProcesses → Room (blank n) p
 unfolding blank
 room-blank n p h = record { vectors = h; pins = h; sent = h; kept = h; held = h }
 
@@ -161,9 +161,9 @@ process-put s p P h = rw (
   getD-set-same (s .vectors .0) p (P .vector) [] (h .vectors),
   getD-set-same (s .pins .0) p (P .pins) [] (h .pins),
   getD-set-same (s .sent) p (P .mark) false (h .sent),
-  getD-set-same (s .kept .0) p (placed places noCheckpoint (P .kept)) [] (h .kept),
+  getD-set-same (s .kept .0) p (placed mostProcesses noCheckpoint (P .kept)) [] (h .kept),
   getD-set-same (s .held) p (length (P .kept)) 0 (h .held),
-  take-placed places noCheckpoint (P .kept),
+  take-placed mostProcesses noCheckpoint (P .kept),
 )
 
 process-other : (s : Run) (p q : ℕ) (Q : Process) → (p ≡ q → ⊥) → process (withProcess s q Q) p ≡ process s p
@@ -172,7 +172,7 @@ process-other s p q Q ne = rw (
   getD-set-other (s .vectors .0) q p (Q .vector) [] ne,
   getD-set-other (s .pins .0) q p (Q .pins) [] ne,
   getD-set-other (s .sent) q p (Q .mark) false ne,
-  getD-set-other (s .kept .0) q p (placed places noCheckpoint (Q .kept)) [] ne,
+  getD-set-other (s .kept .0) q p (placed mostProcesses noCheckpoint (Q .kept)) [] ne,
   getD-set-other (s .held) q p (length (Q .kept)) 0 ne,
 )
 
@@ -193,22 +193,22 @@ abbrev pub unused : Process
 unused = record { vector = zeroVector; pins = noPins; mark = false; kept = [] }
 
 -- The parts of a state of zeros, one by one: its tables are never written out.
-module _ (n p : ℕ) (h : p < places) where
+module _ (n p : ℕ) (h : p < mostProcesses) where
   blank-vector : getD (blank n .vectors .0) p [] ≡ zeroVector
   unfolding blank
-  blank-vector = getD-replicate places p zeroVector [] h
+  blank-vector = getD-replicate mostProcesses p zeroVector [] h
 
   blank-pins : getD (blank n .pins .0) p [] ≡ noPins
   unfolding blank
-  blank-pins = getD-replicate places p noPins [] h
+  blank-pins = getD-replicate mostProcesses p noPins [] h
 
   blank-mark : getD (blank n .sent) p false ≡ false
   unfolding blank
-  blank-mark = getD-replicate places p false false h
+  blank-mark = getD-replicate mostProcesses p false false h
 
   blank-held : getD (blank n .held) p 0 ≡ 0
   unfolding blank
-  blank-held = getD-replicate {A = ℕ} places p 0 0 h
+  blank-held = getD-replicate {A = ℕ} mostProcesses p 0 0 h
 
   pub process-blank : process (blank n) p ≡ unused
   unfolding process

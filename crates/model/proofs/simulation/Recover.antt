@@ -17,7 +17,7 @@ use Rattle.model.specs.declared.Interval.{Interval}
 use Rattle.model.specs.declared.Pin.the-variants.{Nothing}
 use Rattle.model.specs.declared.Checkpoint.{Checkpoint}
 use Rattle.model.specs.declared.Disk.{Disk}
-use Rattle.model.specs.Words.{places, entry, below, named, blocksOf, process, withMessages, withDisk, failed}
+use Rattle.model.specs.Words.{mostProcesses, entry, below, named, blocksOf, process, withMessages, withDisk, failed}
 use Rattle.model.specs.Steps as steps
 use Rattle.model.specs.Steps.{listed, billed, goneAt, withProcesses, latestPin, movedPin, pinsAfter, notLost, rolledBack, lostBy, stillUnderWay, recoverState, deletedAt, recoverDeletions}
 use Rattle.histories.proofs.Run.{Ideal, Failed, keeps, line, rolled, ownAfter, vectorAfter, pinAfter, outlives, recovered}
@@ -64,7 +64,7 @@ module _ (r : Ideal) (v : Inv r) (G : Failed) where
   unfolding recovered
   recovered-keeps p k e = let w = keeps-out (recovered r G) p k e in pin-after p (w .0) k (w .1) (w .2)
 
-module _ (r : Ideal) (v : Inv r) (few : r .n ≤ places) (F : ℕ) where
+module _ (r : Ideal) (v : Inv r) (few : r .n ≤ mostProcesses) (F : ℕ) where
   abbrev G : Failed
   G = failed F
 
@@ -86,7 +86,7 @@ module _ (r : Ideal) (v : Inv r) (few : r .n ≤ places) (F : ℕ) where
         ∙ last-passing (suc (line r G p)) (fitting f) (checkpointOf r p))
         ∙ latest-pin r p (latest (suc (line r G p)) (fitting f)))
 
-    moved-past : (f : ℕ) → r .n ≤ f → f < places → movedPin (stateOf r) F p f ≡ Nothing
+    moved-past : (f : ℕ) → r .n ≤ f → f < mostProcesses → movedPin (stateOf r) F p f ≡ Nothing
     unfolding movedPin latestPin lastOf
     moved-past f le hf = rw (own-after-past r v few F f le hf, not-lost-are r v few F p lt)
         (ap (λ (l : List Checkpoint). latestPin (lastOf l)) (select-passing (λ c. ltb (entry (c .vector) f .0) 0) (ownAfter r G p) (keeps r p) (checkpointOf r p)
@@ -100,18 +100,18 @@ module _ (r : Ideal) (v : Inv r) (few : r .n ≤ places) (F : ℕ) where
         (λ d. rw d (by-bool (rolled r G p) (λ e. rw e (moved-pin f hf e)) (λ e. rw e)))
         (λ d. rw d pin-none))
 
-    pin-beyond : (f : ℕ) → r .n ≤ f → f < places → steps.pinAfter (stateOf r) F p f ≡ Nothing
+    pin-beyond : (f : ℕ) → r .n ≤ f → f < mostProcesses → steps.pinAfter (stateOf r) F p f ≡ Nothing
     unfolding steps.pinAfter processOf
     pin-beyond f le hf = rw (vector-after r v few F p lt, entry-past (r .n) (vectorAfter r G p (ownAfter r G p)) f le, own-after-past r v few F f le hf, rolled-is r v few F p lt, process-is r p few lt, pin-past r p f le, moved-past f le hf)
         (by-bool (rolled r G p) (λ e. rw e) (λ e. rw e))
 
     pins-after : pinsAfter (stateOf r) F p ≡ pinsOf r′ p
     unfolding pinsAfter pinsOf recovered
-    pins-after = table-same places _ _ (λ f hf. by-bool (ltb f (r .n))
+    pins-after = table-same mostProcesses _ _ (λ f hf. by-bool (ltb f (r .n))
         (λ e. rw e (pin-at f (leb-true (suc f) (r .n) e)))
         (λ e. rw e (pin-beyond f (omega (arith, leb-false (suc f) (r .n) e)) hf)))
 
-    few-after : r′ .n ≤ places
+    few-after : r′ .n ≤ mostProcesses
     unfolding recovered
     few-after = few
 

@@ -13,7 +13,7 @@ use borrow.Author.Tests.{le-ltb, leb-true, leb-false}
 use Rattle.laws.specs.Choice.{pick, by-bool, by-eq}
 use Rattle.laws.specs.Tables.{length-table}
 use Rattle.model.specs.declared.Interval.{Interval}
-use Rattle.model.specs.Words.{places, entry, below, inSet}
+use Rattle.model.specs.Words.{mostProcesses, entry, below, inSet}
 use Rattle.model.specs.Steps.{advanced, risen, deliverRisen}
 use Rattle.model.proofs.Risen.{risen-is-exact}
 use Rattle.histories.proofs.Run.{Ideal, forces}
@@ -23,7 +23,7 @@ use Rattle.model.proofs.simulation.View.{vectorOf, processOf, messageOf
 use Rattle.model.proofs.simulation.Reads.{process-is}
 use Rattle.model.proofs.simulation.Taking.{below-is, below-past, forces-is}
 
-module _ (r : Ideal) (v : Inv r) (few : r .n ≤ places) (m : ℕ) (under : r .transit m ≡ true) where
+module _ (r : Ideal) (v : Inv r) (few : r .n ≤ mostProcesses) (m : ℕ) (under : r .transit m ≡ true) where
   abbrev i : ℕ
   i = r .receiver m
 
@@ -40,9 +40,9 @@ module _ (r : Ideal) (v : Inv r) (few : r .n ≤ places) (m : ℕ) (under : r .t
   receives : i < r .n
   receives = underway-proper r v m under .to
 
-  long : length own ≡ places
+  long : length own ≡ mostProcesses
   unfolding vectorOf
-  long = length-table places _
+  long = length-table mostProcesses _
 
   -- The own entry never rises, a forced checkpoint or not: the message carries nothing newer of its receiver.
   own-stays : below (entry own i) (entry carried i) ≡ false
@@ -76,13 +76,13 @@ module _ (r : Ideal) (v : Inv r) (few : r .n ≤ places) (m : ℕ) (under : r .t
   pub rose-small : rose < 65_536
   rose-small = rw risen-there (risen-is-exact (pick (forces r m) (advanced i own) own) carried .small)
 
-  in-places : (f : ℕ) → f < places → inSet rose f ≡ below (entry own f) (entry carried f)
+  in-places : (f : ℕ) → f < mostProcesses → inSet rose f ≡ below (entry own f) (entry carried f)
   in-places f lt = ap (λ (S : ℕ). inSet S f) risen-there ∙ risen-is-exact (pick (forces r m) (advanced i own) own) carried .exact f lt ∙ same-entry (forces r m) f
 
   pub rose-is : (f : ℕ) → f < r .n → inSet rose f ≡ ltb (known f) (r .carried m f)
   rose-is f hf = in-places f (omega arith) ∙ below-is (r .n) known (r .carried m) few f hf
 
   pub rose-past : (f : ℕ) → r .n ≤ f → inSet rose f ≡ false
-  rose-past f le = by-bool (leb (suc f) places)
-      (λ e. in-places f (leb-true (suc f) places e) ∙ below-past (r .n) known (r .carried m) few f le)
-      (λ e. ap (λ (S : ℕ). inSet S f) risen-there ∙ risen-is-exact (pick (forces r m) (advanced i own) own) carried .no-more f (omega (arith, leb-false (suc f) places e)))
+  rose-past f le = by-bool (leb (suc f) mostProcesses)
+      (λ e. in-places f (leb-true (suc f) mostProcesses e) ∙ below-past (r .n) known (r .carried m) few f le)
+      (λ e. ap (λ (S : ℕ). inSet S f) risen-there ∙ risen-is-exact (pick (forces r m) (advanced i own) own) carried .no-more f (omega (arith, leb-false (suc f) mostProcesses e)))

@@ -9,7 +9,7 @@ use Rattle.laws.specs.Choice.{by-bool}
 use Rattle.laws.specs.Lists.{select, lastOf}
 use Rattle.laws.specs.Truth.{and-no-right}
 use Rattle.laws.specs.Update.{upd, upd-same, upd-other}
-use Rattle.model.specs.Words.{places, live, own, failed}
+use Rattle.model.specs.Words.{mostProcesses, live, own, failed}
 use Rattle.model.specs.Steps as steps
 use Rattle.model.specs.Steps.{allowed, states, latestAllowed, rolledBack, notLost}
 use Rattle.histories.proofs.Run.{Ideal, Failed, keeps, line, rolled, ownAfter, vectorAfter}
@@ -66,7 +66,7 @@ module _ (r : Ideal) (v : Inv r) where
         (λ d. rw d (sym (le-ltb k (suc (line r G p)) (omega (arith, leb-false k (line r G p) d)))))))
         (λ e. rw (own-stays e, line-live r v G p e, lt-ltb k (r .own p) lt) (le-leb k (r .own p) (omega arith)))
 
-  module _ (few : r .n ≤ places) (F : ℕ) where
+  module _ (few : r .n ≤ mostProcesses) (F : ℕ) where
     -- The vector after the recovery.
     pub vector-after : (p : ℕ) → p < r .n → steps.vectorAfter (stateOf r) F p ≡ vectorOf (r .n) (vectorAfter r (failed F) p (ownAfter r (failed F) p))
     unfolding steps.vectorAfter checkpointOf processOf
@@ -79,7 +79,7 @@ module _ (r : Ideal) (v : Inv r) where
     own-after f hf = rw (vector-after f hf, entry-is (r .n) (vectorAfter r (failed F) f (ownAfter r (failed F) f)) f few hf, self-after (failed F) f)
 
     -- An unused process does not roll back and has own entry zero.
-    member-past : (f : ℕ) → r .n ≤ f → f < places → steps.member (stateOf r) F f ≡ live f unused
+    member-past : (f : ℕ) → r .n ≤ f → f < mostProcesses → steps.member (stateOf r) F f ≡ live f unused
     unfolding steps.member latestAllowed states select lastOf
     member-past f le lt = rw (process-past r f le lt) (by-bool (allowed (stateOf r) F (live f unused)) (λ e. rw e) (λ e. rw e))
 
@@ -87,11 +87,11 @@ module _ (r : Ideal) (v : Inv r) where
     unfolding live
     live-past f = rw (entry-zero f)
 
-    rolled-past : (f : ℕ) → r .n ≤ f → f < places → rolledBack (stateOf r) F f ≡ false
+    rolled-past : (f : ℕ) → r .n ≤ f → f < mostProcesses → rolledBack (stateOf r) F f ≡ false
     unfolding rolledBack
     rolled-past f le lt = rw (member-past f le lt, live-past f, own-past r f le lt)
 
-    pub own-after-past : (f : ℕ) → r .n ≤ f → f < places → steps.ownAfter (stateOf r) F f ≡ record { 0 = 0 }
+    pub own-after-past : (f : ℕ) → r .n ≤ f → f < mostProcesses → steps.ownAfter (stateOf r) F f ≡ record { 0 = 0 }
     unfolding steps.ownAfter steps.vectorAfter
     own-after-past f le lt = rw (rolled-past f le lt, process-past r f le lt) (entry-zero f)
 

@@ -21,7 +21,7 @@ use Rattle.model.specs.declared.Interval.{Interval}
 use Rattle.model.specs.declared.CheckpointIndex.{CheckpointIndex}
 use Rattle.model.specs.declared.Pin.the-variants.{Nothing}
 use Rattle.model.specs.declared.Checkpoint.{Checkpoint}
-use Rattle.model.specs.Words.{places, names, named, Process, live}
+use Rattle.model.specs.Words.{mostProcesses, names, named, Process, live}
 use Rattle.model.specs.Steps.{advanced}
 use Rattle.histories.proofs.Run as ideal
 use Rattle.histories.proofs.Run.{Ideal, keeps}
@@ -40,11 +40,11 @@ names-is none a = refl
 names-is (some k) a = refl
 
 -- A pin of the state names a checkpoint: the run keeps it.
-pub named-is : (r : Ideal) (p : ℕ) (c : Checkpoint) → r .n ≤ places → named (pinsOf r p) c ≡ keeps r p (c .index .0)
+pub named-is : (r : Ideal) (p : ℕ) (c : Checkpoint) → r .n ≤ mostProcesses → named (pinsOf r p) c ≡ keeps r p (c .index .0)
 unfolding named pinsOf keeps
 named-is r p c few =
-    some-table (λ pin. names pin (c .index)) places (λ f. pick (ltb f (r .n)) (pinOf (r .pin p f)) Nothing)
-    ∙ any-wider (r .n) places _ few (λ f le lt. rw (le-ltb f (r .n) le))
+    some-table (λ pin. names pin (c .index)) mostProcesses (λ f. pick (ltb f (r .n)) (pinOf (r .pin p f)) Nothing)
+    ∙ any-wider (r .n) mostProcesses _ few (λ f le lt. rw (le-ltb f (r .n) le))
     ∙ any-same (r .n) _ _ (λ f lt. rw (lt-ltb f (r .n) lt) (names-is (r .pin p f) (c .index)))
 
 -- Pins that agree below n keep the same.
@@ -54,7 +54,7 @@ keeps-same r r′ p k en ep = rw en (any-same (r .n) _ _ (λ f lt. rw (ep f lt))
 
 pub pins-same : (r r′ : Ideal) (p : ℕ) → r′ .n ≡ r .n → ((f : ℕ) → f < r .n → r′ .pin p f ≡ r .pin p f) → pinsOf r′ p ≡ pinsOf r p
 unfolding pinsOf
-pins-same r r′ p en ep = rw en (table-same places _ _ (λ f lt. by-bool (ltb f (r .n))
+pins-same r r′ p en ep = rw en (table-same mostProcesses _ _ (λ f lt. by-bool (ltb f (r .n))
     (λ e. rw (e, ep f (leb-true (suc f) (r .n) e)))
     (λ e. rw e)))
 
@@ -81,11 +81,11 @@ process-same r r′ p en eo ev em ep ec eb = process-eq (processOf r′ p) (proc
 -- One entry of a vector, and one pin, changed.
 pub vector-set : (n : ℕ) (v : ℕ → ℕ) (i x : ℕ) → i < n → set (vectorOf n v) i (record { 0 = x }) ≡ vectorOf n (upd v i x)
 unfolding vectorOf
-vector-set n v i x hi = table-set places _ i (record { 0 = x }) ∙ table-same places _ _ (λ f lt. by-eq f i
+vector-set n v i x hi = table-set mostProcesses _ i (record { 0 = x }) ∙ table-same mostProcesses _ _ (λ f lt. by-eq f i
     (λ e. rw (e, upd-same {A = Interval} (λ f. record { 0 = pick (ltb f n) (v f) 0 }) i (record { 0 = x }), upd-same v i x, lt-ltb i n hi))
     (λ ne. rw (upd-other {A = Interval} (λ f. record { 0 = pick (ltb f n) (v f) 0 }) i (record { 0 = x }) f ne, upd-other v i x f ne)))
 
-pub advanced-is : (n : ℕ) (v : ℕ → ℕ) (i : ℕ) → n ≤ places → i < n → advanced i (vectorOf n v) ≡ vectorOf n (upd v i (suc (v i)))
+pub advanced-is : (n : ℕ) (v : ℕ → ℕ) (i : ℕ) → n ≤ mostProcesses → i < n → advanced i (vectorOf n v) ≡ vectorOf n (upd v i (suc (v i)))
 unfolding advanced
 advanced-is n v i few hi = rw (entry-is n v i few hi, add-one (v i)) (vector-set n v i (suc (v i)) hi)
 
@@ -94,7 +94,7 @@ abbrev pub standing : Ideal → ℕ → ℕ → Bool
 standing r p k = eqb k (r .own p) || keeps r p k
 
 -- The kept checkpoints of a process and its live state, in order.
-pub states-are : (r : Ideal) (p : ℕ) → r .n ≤ places → p < r .n → r .vector p (r .own p) p ≡ r .own p
+pub states-are : (r : Ideal) (p : ℕ) → r .n ≤ mostProcesses → p < r .n → r .vector p (r .own p) p ≡ r .own p
     → keptOf r p ++ (live p (processOf r p) ∷ []) ≡ passing (suc (r .own p)) (standing r p) (checkpointOf r p)
 unfolding keptOf
 states-are r p few lt self =
@@ -107,7 +107,7 @@ states-are r p few lt self =
     (sym (passing-yes (r .own p) (standing r p) (checkpointOf r p) (rw (eq-eqb (r .own p) (r .own p) refl))))
 
 -- Once the pins have moved: of the checkpoints that pass a test, those stay that the run keeps, and the others go.
-pub settled-kept : (r : Ideal) (p k : ℕ) (t : ℕ → Bool) → r .n ≤ places → ((j : ℕ) → j < k → keeps r p j ≡ true → t j ≡ true)
+pub settled-kept : (r : Ideal) (p k : ℕ) (t : ℕ → Bool) → r .n ≤ mostProcesses → ((j : ℕ) → j < k → keeps r p j ≡ true → t j ≡ true)
     → select (named (pinsOf r p)) (passing k t (checkpointOf r p)) ≡ passing k (keeps r p) (checkpointOf r p)
 unfolding checkpointOf
 settled-kept r p k t few h = select-passing (named (pinsOf r p)) k t (checkpointOf r p) ∙ passing-same k _ _ _ _
@@ -116,7 +116,7 @@ settled-kept r p k t few h = select-passing (named (pinsOf r p)) k t (checkpoint
     (λ e. rw e (by-bool (t j) (λ d. rw d) (λ d. rw d)))))
     (λ j lt q. refl)
 
-pub settled-gone : (r : Ideal) (p k : ℕ) (t : ℕ → Bool) → r .n ≤ places
+pub settled-gone : (r : Ideal) (p k : ℕ) (t : ℕ → Bool) → r .n ≤ mostProcesses
     → select (λ c. not (named (pinsOf r p) c)) (passing k t (checkpointOf r p)) ≡ passing k (λ j. t j && not (keeps r p j)) (checkpointOf r p)
 unfolding checkpointOf
 settled-gone r p k t few = select-passing (λ c. not (named (pinsOf r p) c)) k t (checkpointOf r p) ∙ passing-same k _ _ _ _

@@ -19,7 +19,7 @@ use Rattle.laws.specs.Elements.{every-table}
 use Rattle.model.specs.declared.Pin.the-variants.{Nothing}
 use Rattle.model.specs.declared.Checkpoint.{Checkpoint}
 use Rattle.model.specs.declared.Message.{Message}
-use Rattle.model.specs.Words.{places, mostUnderWay, mostMessages, mostBlocks, entry, names, named, Process, blocksOf, noCheckpoint, process, own, underWay}
+use Rattle.model.specs.Words.{mostProcesses, mostUnderWay, mostMessages, mostBlocks, entry, names, named, Process, blocksOf, noCheckpoint, process, own, underWay}
 use Rattle.model.specs.Sound.{countSound, ownSound, within, vectorsSound, ascending, keptSound, pinSound, pinsSound, messageSound, messagesSound, recordSound, keptBlocks, diskSound, sound}
 use Rattle.histories.proofs.Run.{Ideal, keeps}
 use Rattle.histories.proofs.Rule.{keeps-in}
@@ -51,7 +51,7 @@ module _ (r : Ideal) (v : Inv r) (fit : Limits r) where
   -- "Count 1 to 16."
   pub count-sound : countSound (stateOf r) ≡ true
   unfolding countSound
-  count-sound = rw (count-is r, le-leb 1 (r .n) (fit .some-process), le-leb (r .n) places (fit .few-processes))
+  count-sound = rw (count-is r, le-leb 1 (r .n) (fit .some-process), le-leb (r .n) mostProcesses (fit .few-processes))
 
   -- "Own entries at least 1."
   pub own-sound : ownSound (stateOf r) ≡ true
@@ -134,7 +134,7 @@ module _ (r : Ideal) (v : Inv r) (fit : Limits r) where
   -- Every pin is none or names a kept checkpoint.
   pins-hold : (p : ℕ) → every (pinSound (keptOf r p)) (pinsOf r p) ≡ true
   unfolding pinsOf pinSound
-  pins-hold p = every-table (pinSound (keptOf r p)) places _ (λ f lt. by-bool (ltb f (r .n))
+  pins-hold p = every-table (pinSound (keptOf r p)) mostProcesses _ (λ f lt. by-bool (ltb f (r .n))
       (λ e. rw e (pin-sound p f (r .pin p f) (ltb-true f (r .n) e) refl))
       (λ e. rw e))
 

@@ -15,7 +15,7 @@ use Rattle.laws.specs.Truth.{never-both, and-left, and-right}
 use Rattle.laws.specs.Tests.{countBelow}
 use Rattle.laws.specs.Update.{upd, upd-same, upd-other, upd-same₁, upd-other₁}
 use Rattle.laws.specs.Counting.{count-none, count-mono}
-use Rattle.model.specs.Words.{places, mostUnderWay, mostMessages, mostBlockCount, mostBlocks}
+use Rattle.model.specs.Words.{mostProcesses, mostUnderWay, mostMessages, mostBlockCount, mostBlocks}
 use Rattle.model.specs.Sound.{causeSound, isBlockCount}
 use Rattle.histories.proofs.Run.{Ideal, Ledger, Failed, begin, openLedger, begun, keeps, stores, checkpointed, sending, forces, takenBy, takenIn, delivered, lost, outlives, recovered}
 use Rattle.histories.proofs.Invariant.{Inv}
@@ -82,13 +82,13 @@ stored-causes r v i fit a b p k hp at = by-eq p i
     (fit .causes p k hp (elim at [ inl z ↦ absurd (ne (z .0)) | inr z ↦ z ])))
 
 -- At the start nothing is under way, and what is kept is what was written.
-begin-room : (n : ℕ) (counts : List ℕ) → n ≤ places → ((p : ℕ) → p < n → isBlockCount (getD counts p 0) ≡ true) → sumBelow n (λ p. getD counts p 0) ≤ mostBlocks
+begin-room : (n : ℕ) (counts : List ℕ) → n ≤ mostProcesses → ((p : ℕ) → p < n → isBlockCount (getD counts p 0) ≡ true) → sumBelow n (λ p. getD counts p 0) ≤ mostBlocks
 unfolding isBlockCount
 begin-room n counts few fit =
     let low : sumBelow n (λ p. getD counts p 0) ≤ n * mostBlockCount = sum-le n mostBlockCount (λ p. getD counts p 0) (λ p lt. leb-true (getD counts p 0) mostBlockCount (and-right (leb 1 (getD counts p 0)) (leb (getD counts p 0) mostBlockCount) (fit p lt))) in
     omega arith
 
-fits-begin : (n : ℕ) (counts : List ℕ) → n ≤ places → ((p : ℕ) → p < n → isBlockCount (getD counts p 0) ≡ true) → Fits (begun n counts)
+fits-begin : (n : ℕ) (counts : List ℕ) → n ≤ mostProcesses → ((p : ℕ) → p < n → isBlockCount (getD counts p 0) ≡ true) → Fits (begun n counts)
 unfolding begin openLedger causeSound
 fits-begin n counts few fit = record {
   counts = fit;
@@ -100,7 +100,7 @@ fits-begin n counts few fit = record {
     zero-of : (k : ℕ) → k < 1 → k ≡ 0
     zero-of k lt = omega arith
 
-pub limits-begin : (n : ℕ) (counts : List ℕ) → 1 ≤ n → n ≤ places → ((p : ℕ) → p < n → isBlockCount (getD counts p 0) ≡ true) → Limits (begun n counts)
+pub limits-begin : (n : ℕ) (counts : List ℕ) → 1 ≤ n → n ≤ mostProcesses → ((p : ℕ) → p < n → isBlockCount (getD counts p 0) ≡ true) → Limits (begun n counts)
 unfolding begin
 limits-begin n counts a b fit = record {
   some-process = a;

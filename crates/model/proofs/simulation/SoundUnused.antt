@@ -17,7 +17,7 @@ use Rattle.laws.specs.Elements.{every-drop, every-from, every-replicate}
 use Rattle.model.specs.declared.Pin.the-variants.{Nothing}
 use Rattle.model.specs.declared.Checkpoint.{Checkpoint}
 use Rattle.model.specs.declared.Run.{Run}
-use Rattle.model.specs.Words.{places, mostUnderWay, Process, zeroVector, noPins, noCheckpoint, noMessage, blank, withProcess, underWay, withMessages, withDisk}
+use Rattle.model.specs.Words.{mostProcesses, mostUnderWay, Process, zeroVector, noPins, noCheckpoint, noMessage, blank, withProcess, underWay, withMessages, withDisk}
 use Rattle.model.specs.Steps.{withProcesses}
 use Rattle.model.specs.Sound.{zeroFrom, unusedCheckpoint, unusedMessage, isNothing, nothingFrom, rowUnused, unusedSound}
 use Rattle.histories.proofs.Run.{Ideal}
@@ -30,14 +30,14 @@ use Rattle.model.proofs.simulation.Kept.{kept-every}
 -- What a state holds of the checkpoints of one process: how many, and the row with its unused places.
 pub record Row (s : Run) (p : ℕ) (kept : List Checkpoint) : Type 0 where
   pub many : getD (s .held) p 0 ≡ length kept
-  pub row : getD (s .kept .0) p [] ≡ placed places noCheckpoint kept
+  pub row : getD (s .kept .0) p [] ≡ placed mostProcesses noCheckpoint kept
 
 -- Right after the part of p was put in.
 row-put : (s : Run) (p : ℕ) (P : Process) → Room s p → Row (withProcess s p P) p (P .kept)
 unfolding withProcess
 row-put s p P h = record {
   many = getD-set-same (s .held) p (length (P .kept)) 0 (h .held);
-  row = getD-set-same (s .kept .0) p (placed places noCheckpoint (P .kept)) [] (h .kept);
+  row = getD-set-same (s .kept .0) p (placed mostProcesses noCheckpoint (P .kept)) [] (h .kept);
 }
 
 -- The part of another process does not change it.
@@ -45,7 +45,7 @@ row-other : (s : Run) (p q : ℕ) (Q : Process) (kept : List Checkpoint) → (p 
 unfolding withProcess
 row-other s p q Q kept ne h = record {
   many = getD-set-other (s .held) q p (length (Q .kept)) 0 ne ∙ h .many;
-  row = getD-set-other (s .kept .0) q p (placed places noCheckpoint (Q .kept)) [] ne ∙ h .row;
+  row = getD-set-other (s .kept .0) q p (placed mostProcesses noCheckpoint (Q .kept)) [] ne ∙ h .row;
 }
 
 -- After the parts of all processes below n were put in.
@@ -74,19 +74,19 @@ behind-all m (suc n) f s h =
       vectors = drop-set-lt m (withProcesses n f s .vectors .0) n (f n .vector) h ∙ b .vectors;
       pins = drop-set-lt m (withProcesses n f s .pins .0) n (f n .pins) h ∙ b .pins;
       sent = drop-set-lt m (withProcesses n f s .sent) n (f n .mark) h ∙ b .sent;
-      kept = drop-set-lt m (withProcesses n f s .kept .0) n (placed places noCheckpoint (f n .kept)) h ∙ b .kept;
+      kept = drop-set-lt m (withProcesses n f s .kept .0) n (placed mostProcesses noCheckpoint (f n .kept)) h ∙ b .kept;
       held = drop-set-lt m (withProcesses n f s .held) n (length (f n .kept)) h ∙ b .held;
     }
 
 -- A vector of zeros is zero from any place on.
 zeros : (k : ℕ) → zeroFrom k zeroVector ≡ true
 unfolding zeroFrom
-zeros k = every-drop (λ x. eqb (x .0) 0) k zeroVector (every-replicate (λ x. eqb (x .0) 0) places (record { 0 = 0 }) refl)
+zeros k = every-drop (λ x. eqb (x .0) 0) k zeroVector (every-replicate (λ x. eqb (x .0) 0) mostProcesses (record { 0 = 0 }) refl)
 
 -- A row of unused pins has none.
 nothings : nothingFrom 0 noPins ≡ true
 unfolding nothingFrom isNothing
-nothings = every-replicate isNothing places Nothing refl
+nothings = every-replicate isNothing mostProcesses Nothing refl
 
 -- An unused checkpoint holds zero.
 checkpoint-unused : unusedCheckpoint noCheckpoint ≡ true
@@ -114,7 +114,7 @@ unfolding nothingFrom isNothing
 pins-behind r p = every-from isNothing Nothing (r .n) (pinsOf r p) (λ i a b. rw (pin-past r p i a))
 
 -- What the state holds of the checkpoints of process p.
-pub row-is : (r : Ideal) (p : ℕ) → r .n ≤ places → p < r .n → Row (stateOf r) p (keptOf r p)
+pub row-is : (r : Ideal) (p : ℕ) → r .n ≤ mostProcesses → p < r .n → Row (stateOf r) p (keptOf r p)
 unfolding stateOf partsOf withDisk withMessages processOf
 row-is r p few hp =
     let w = row-all (r .n) (processOf r) (blank (r .n)) p hp (room-blank (r .n) p (omega arith)) in
@@ -138,7 +138,7 @@ unfolding messagesOf messageOf
 carried-behind r = rw (underWay-is r, count-is r) (passing-every _ (suc (r .last)) (r .transit) (messageOf r) (λ m lt e. vector-behind (r .n) (r .carried m)))
 
 -- A row of the run: its vector, its pins and its stored vectors from n on, and the places behind its checkpoints.
-row-unused : (r : Ideal) (p : ℕ) → r .n ≤ places → p < r .n → rowUnused (stateOf r) p ≡ true
+row-unused : (r : Ideal) (p : ℕ) → r .n ≤ mostProcesses → p < r .n → rowUnused (stateOf r) p ≡ true
 unfolding rowUnused processOf
 row-unused r p few hp = rw (
   process-is r p few hp,
@@ -148,38 +148,38 @@ row-unused r p few hp = rw (
   vector-behind (r .n) (r .vector p (r .own p)),
   pins-behind r p,
   stored-behind r p,
-  placed-behind unusedCheckpoint places noCheckpoint (keptOf r p) checkpoint-unused,
+  placed-behind unusedCheckpoint mostProcesses noCheckpoint (keptOf r p) checkpoint-unused,
 )
 
 -- And so every row of the run.
-rows-unused : (r : Ideal) → r .n ≤ places → allBelow (stateOf r .count) (rowUnused (stateOf r)) ≡ true
+rows-unused : (r : Ideal) → r .n ≤ mostProcesses → allBelow (stateOf r .count) (rowUnused (stateOf r)) ≡ true
 rows-unused r few = all-in (stateOf r .count) (rowUnused (stateOf r)) (λ p hp. row-unused r p few (rw (count-is r) at hp))
 
 -- The vectors from row n on are zero.
 vectors-unused : (r : Ideal) → every (zeroFrom 0) (drop (stateOf r .count) (stateOf r .vectors .0)) ≡ true
 unfolding blank
-vectors-unused r = rw (count-is r, state-behind r .vectors) (every-drop (zeroFrom 0) (r .n) (replicate places zeroVector) (every-replicate (zeroFrom 0) places zeroVector (zeros 0)))
+vectors-unused r = rw (count-is r, state-behind r .vectors) (every-drop (zeroFrom 0) (r .n) (replicate mostProcesses zeroVector) (every-replicate (zeroFrom 0) mostProcesses zeroVector (zeros 0)))
 
 -- The pins from row n on are none.
 pins-unused : (r : Ideal) → every (nothingFrom 0) (drop (stateOf r .count) (stateOf r .pins .0)) ≡ true
 unfolding blank
-pins-unused r = rw (count-is r, state-behind r .pins) (every-drop (nothingFrom 0) (r .n) (replicate places noPins) (every-replicate (nothingFrom 0) places noPins nothings))
+pins-unused r = rw (count-is r, state-behind r .pins) (every-drop (nothingFrom 0) (r .n) (replicate mostProcesses noPins) (every-replicate (nothingFrom 0) mostProcesses noPins nothings))
 
 -- The sent marks from n on are not set.
 sent-unused : (r : Ideal) → every not (drop (stateOf r .count) (stateOf r .sent)) ≡ true
 unfolding blank
-sent-unused r = rw (count-is r, state-behind r .sent) (every-drop not (r .n) (replicate places false) (every-replicate not places false refl))
+sent-unused r = rw (count-is r, state-behind r .sent) (every-drop not (r .n) (replicate mostProcesses false) (every-replicate not mostProcesses false refl))
 
 -- The checkpoints from row n on are unused.
 kept-unused : (r : Ideal) → every (every unusedCheckpoint) (drop (stateOf r .count) (stateOf r .kept .0)) ≡ true
 unfolding blank
-kept-unused r = rw (count-is r, state-behind r .kept) (every-drop (every unusedCheckpoint) (r .n) (replicate places (replicate places noCheckpoint))
-    (every-replicate (every unusedCheckpoint) places (replicate places noCheckpoint) (every-replicate unusedCheckpoint places noCheckpoint checkpoint-unused)))
+kept-unused r = rw (count-is r, state-behind r .kept) (every-drop (every unusedCheckpoint) (r .n) (replicate mostProcesses (replicate mostProcesses noCheckpoint))
+    (every-replicate (every unusedCheckpoint) mostProcesses (replicate mostProcesses noCheckpoint) (every-replicate unusedCheckpoint mostProcesses noCheckpoint checkpoint-unused)))
 
 -- From row n on no checkpoint is held.
 held-unused : (r : Ideal) → every (eqb 0) (drop (stateOf r .count) (stateOf r .held)) ≡ true
 unfolding blank
-held-unused r = rw (count-is r, state-behind r .held) (every-drop (eqb 0) (r .n) (replicate places 0) (every-replicate (eqb 0) places 0 refl))
+held-unused r = rw (count-is r, state-behind r .held) (every-drop (eqb 0) (r .n) (replicate mostProcesses 0) (every-replicate (eqb 0) mostProcesses 0 refl))
 
 -- The places behind the messages under way are unused.
 messages-unused : (r : Ideal) → every unusedMessage (drop (stateOf r .underway) (stateOf r .messages)) ≡ true
@@ -187,7 +187,7 @@ unfolding stateOf partsOf withDisk withMessages
 messages-unused r = placed-behind unusedMessage mostUnderWay noMessage (messagesOf r) message-unused
 
 -- "Unused places hold zero; unused pins, in rows or columns at n and above, are none."
-pub unused-sound : (r : Ideal) → r .n ≤ places → unusedSound (stateOf r) ≡ true
+pub unused-sound : (r : Ideal) → r .n ≤ mostProcesses → unusedSound (stateOf r) ≡ true
 unfolding unusedSound
 unused-sound r few = rw (
   rows-unused r few,

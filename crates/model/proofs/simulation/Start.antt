@@ -20,7 +20,7 @@ use Rattle.model.specs.declared.Interval.{Interval}
 use Rattle.model.specs.declared.Pin.{Pin}
 use Rattle.model.specs.declared.Pin.the-variants.{Nothing, At}
 use Rattle.model.specs.declared.Run.{Run}
-use Rattle.model.specs.Words.{places, zeroVector, noPins, blank, withMessages, withDisk}
+use Rattle.model.specs.Words.{mostProcesses, zeroVector, noPins, blank, withMessages, withDisk}
 use Rattle.model.specs.Steps.{withProcesses, checkpointZero, started, opening, startState}
 use Rattle.histories.proofs.Run.{begin, openLedger, begun, keeps, names}
 use Rattle.histories.proofs.Counted.{keptIn}
@@ -32,7 +32,7 @@ use Rattle.model.proofs.simulation.Rows.{process-eq, vector-set}
 -- The vector of zeros.
 zeros : (n : ℕ) → zeroVector ≡ vectorOf n (λ f. 0)
 unfolding vectorOf
-zeros n = table-replicate {A = Interval} places (record { 0 = 0 }) ∙ table-same places _ _ (λ f lt. rw (pick-same {A = ℕ} (ltb f n) 0))
+zeros n = table-replicate {A = Interval} mostProcesses (record { 0 = 0 }) ∙ table-same mostProcesses _ _ (λ f lt. rw (pick-same {A = ℕ} (ltb f n) 0))
 
 -- What a started process has, field by field.
 module _ (n : ℕ) (counts : List ℕ) (p : ℕ) (lt : p < n) where
@@ -48,9 +48,9 @@ module _ (n : ℕ) (counts : List ℕ) (p : ℕ) (lt : p < n) where
   start-pins : set noPins p (At (record { 0 = 0 })) ≡ pinsOf (begun n counts) p
   unfolding begin pinsOf pinOf
   start-pins =
-      ap (λ (l : List Pin). set l p (At (record { 0 = 0 }))) (table-replicate {A = Pin} places Nothing)
-      ∙ table-set places _ p (At (record { 0 = 0 }))
-      ∙ table-same places _ _ (λ f hf. by-eq f p
+      ap (λ (l : List Pin). set l p (At (record { 0 = 0 }))) (table-replicate {A = Pin} mostProcesses Nothing)
+      ∙ table-set mostProcesses _ p (At (record { 0 = 0 }))
+      ∙ table-same mostProcesses _ _ (λ f hf. by-eq f p
       (λ e. rw (e, upd-same {A = Pin} (λ f. Nothing) p (At (record { 0 = 0 })), eq-eqb p p refl, lt-ltb p n lt))
       (λ ne. rw (upd-other {A = Pin} (λ f. Nothing) p (At (record { 0 = 0 })) f ne, ne-eqb p f (omega arith)) (sym (pick-same (ltb f n) Nothing))))
 

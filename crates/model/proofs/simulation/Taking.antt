@@ -14,7 +14,7 @@ use Rattle.laws.specs.Tables.{table-same}
 use Rattle.laws.specs.Update.{upds}
 use Rattle.model.specs.declared.Pin.{Pin}
 use Rattle.model.specs.declared.Pin.the-variants.{Nothing}
-use Rattle.model.specs.Words.{places, entry, below, Process}
+use Rattle.model.specs.Words.{mostProcesses, entry, below, Process}
 use Rattle.model.specs.Steps as steps
 use Rattle.model.specs.Steps.{settled, gone, takenEntry, takenVector, takenPin, takenPins}
 use Rattle.histories.proofs.Run.{Ideal, Ledger, keeps, takenBy, takenIn}
@@ -25,7 +25,7 @@ use Rattle.model.proofs.simulation.Passing.{passing-same}
 use Rattle.model.proofs.simulation.Reads.{entry-is, entry-past, vector-same, pin-is, pin-past}
 use Rattle.model.proofs.simulation.Rows.{process-eq, checkpoint-same, settled-kept, settled-gone}
 
-module _ (n : ℕ) (v w : ℕ → ℕ) (few : n ≤ places) where
+module _ (n : ℕ) (v w : ℕ → ℕ) (few : n ≤ mostProcesses) where
   -- Whether an entry is smaller than the carried one.
   pub below-is : (f : ℕ) → f < n → below (entry (vectorOf n v) f) (entry (vectorOf n w) f) ≡ ltb (v f) (w f)
   below-is f lt = rw (entry-is n v f few lt, entry-is n w f few lt)
@@ -36,7 +36,7 @@ module _ (n : ℕ) (v w : ℕ → ℕ) (few : n ≤ places) where
   -- Some carried entry is greater: it is one below n.
   pub newer-is : steps.newer (vectorOf n v) (vectorOf n w) ≡ anyBelow n (λ f. ltb (v f) (w f))
   unfolding steps.newer
-  newer-is = any-wider n places _ few (λ f le lt. below-past f le) ∙ any-same n _ _ (λ f lt. below-is f lt)
+  newer-is = any-wider n mostProcesses _ few (λ f le lt. below-past f le) ∙ any-same n _ _ (λ f lt. below-is f lt)
 
   -- The vector taken in: the greater of the two at each entry.
   taken-entry : (f : ℕ) → takenEntry (vectorOf n v) (vectorOf n w) f ≡ record { 0 = pick (ltb f n) (max (v f) (w f)) 0 }
@@ -49,7 +49,7 @@ module _ (n : ℕ) (v w : ℕ → ℕ) (few : n ≤ places) where
 
   pub taken-vector : takenVector (vectorOf n v) (vectorOf n w) ≡ vectorOf n (λ f. max (v f) (w f))
   unfolding takenVector vectorOf
-  taken-vector = table-same places _ _ (λ f lt. taken-entry f)
+  taken-vector = table-same mostProcesses _ _ (λ f lt. taken-entry f)
 
 -- Taking in leaves the ledger.
 pub taken-ledger : (r : Ideal) (m : ℕ) → takenIn r m .ledger ≡ r .ledger
@@ -57,11 +57,11 @@ unfolding takenIn takenBy
 taken-ledger r m = refl
 
 -- The delivery forces a checkpoint in the state exactly if it does in the run.
-pub forces-is : (r : Ideal) (m : ℕ) → r .n ≤ places → steps.forces (processOf r (r .receiver m)) (vectorOf (r .n) (r .carried m)) ≡ ideal.forces r m
+pub forces-is : (r : Ideal) (m : ℕ) → r .n ≤ mostProcesses → steps.forces (processOf r (r .receiver m)) (vectorOf (r .n) (r .carried m)) ≡ ideal.forces r m
 unfolding steps.forces ideal.forces ideal.newer processOf
 forces-is r m few = rw (newer-is (r .n) (r .vector (r .receiver m) (r .own (r .receiver m))) (r .carried m) few)
 
-module _ (r : Ideal) (m : ℕ) (few : r .n ≤ places) (hi : r .receiver m < r .n) where
+module _ (r : Ideal) (m : ℕ) (few : r .n ≤ mostProcesses) (hi : r .receiver m < r .n) where
   abbrev i : ℕ
   i = r .receiver m
 
@@ -89,9 +89,9 @@ module _ (r : Ideal) (m : ℕ) (few : r .n ≤ places) (hi : r .receiver m < r .
 
   pub taken-pins : takenPins i (vectorOf (r .n) v) (vectorOf (r .n) (r .carried m)) (pinsOf r i) ≡ pinsOf (takenIn r m) i
   unfolding takenPins pinsOf
-  taken-pins = rw (takenIn-n r m) (table-same places _ _ (λ f lt. taken-pin f))
+  taken-pins = rw (takenIn-n r m) (table-same mostProcesses _ _ (λ f lt. taken-pin f))
 
-  few-taken : takenIn r m .n ≤ places
+  few-taken : takenIn r m .n ≤ mostProcesses
   few-taken = rw (takenIn-n r m) few
 
   -- The stored ones are as they were.

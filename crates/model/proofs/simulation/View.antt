@@ -16,7 +16,7 @@ use Rattle.model.specs.declared.Checkpoint.{Checkpoint}
 use Rattle.model.specs.declared.Message.{Message}
 use Rattle.model.specs.declared.Disk.{Disk}
 use Rattle.model.specs.declared.Run.{Run}
-use Rattle.model.specs.Words.{places, mostUnderWay, mostMessages, mostBlocks, Process, blank, withMessages, withDisk}
+use Rattle.model.specs.Words.{mostProcesses, mostUnderWay, mostMessages, mostBlocks, Process, blank, withMessages, withDisk}
 use Rattle.model.specs.Steps.{withProcesses}
 use Rattle.model.specs.Sound.{causeSound, isBlockCount}
 use Rattle.histories.proofs.Run.{Ideal, keeps}
@@ -29,14 +29,14 @@ passing (suc k) t f = passing k t f ++ pick (t k) (f k ∷ []) []
 
 -- A vector of n entries as a list of 16, zero at n and above.
 unfoldable pub vectorOf : ℕ → (ℕ → ℕ) → List Interval
-vectorOf n v = table places (λ f. record { 0 = pick (ltb f n) (v f) 0 })
+vectorOf n v = table mostProcesses (λ f. record { 0 = pick (ltb f n) (v f) 0 })
 
 unfoldable pub pinOf : Option ℕ → Pin
 pinOf none = Nothing
 pinOf (some k) = At (record { 0 = k })
 
 unfoldable pub pinsOf : Ideal → ℕ → List Pin
-pinsOf r p = table places (λ f. pick (ltb f (r .n)) (pinOf (r .pin p f)) Nothing)
+pinsOf r p = table mostProcesses (λ f. pick (ltb f (r .n)) (pinOf (r .pin p f)) Nothing)
 
 -- State k of process p as a checkpoint: its index and its vector, and if it is stored its cause and its process's block count.
 unfoldable pub checkpointOf : Ideal → ℕ → ℕ → Checkpoint
@@ -81,7 +81,7 @@ pub record Fits (r : Ideal) : Type 0 where
 -- The limits that the refusals keep.
 pub record Limits (r : Ideal) : Type 0 where
   pub some-process : 1 ≤ r .n
-  pub few-processes : r .n ≤ places
+  pub few-processes : r .n ≤ mostProcesses
   pub few-messages : length (messagesOf r) ≤ mostUnderWay
   pub few-numbers : r .last ≤ mostMessages
   pub ledger : Fits r

@@ -14,7 +14,7 @@ use Rattle.laws.specs.Truth.{and-out}
 use Rattle.model.specs.declared.Pin.the-variants.{Nothing}
 use Rattle.model.specs.declared.Message.{Message}
 use Rattle.model.specs.declared.Run.{Run}
-use Rattle.model.specs.Words.{places, mostUnderWay, mostMessages, mostBlocks, entry, lastStored, names, named, noCheckpoint, process, own, underWay}
+use Rattle.model.specs.Words.{mostProcesses, mostUnderWay, mostMessages, mostBlocks, entry, lastStored, names, named, noCheckpoint, process, own, underWay}
 use Rattle.model.specs.Sound.{countSound, ownSound, within, vectorsSound, ascending, keptSound, pinSound, pinsSound, messageSound, messagesSound, zeroFrom, unusedCheckpoint, unusedMessage, nothingFrom, rowUnused, unusedSound, recordSound, keptBlocks, diskSound, sound}
 
 -- What a sound state holds of process p.
@@ -47,7 +47,7 @@ pub record SoundProcess (s : Run) (p : ℕ) : Type 0 where
 pub record SoundState (s : Run) : Type 0 where
   -- "Count 1 to 16."
   pub count-some : 1 ≤ s .count
-  pub count-most : s .count ≤ places
+  pub count-most : s .count ≤ mostProcesses
   pub processes : (p : ℕ) → p < s .count → SoundProcess s p
   -- "No vector (.. carried) has an entry for f above f's own current entry."
   pub carried-within : every (λ x. within s (x .vector)) (underWay s) ≡ true

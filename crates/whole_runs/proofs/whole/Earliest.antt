@@ -16,7 +16,7 @@ use Rattle.laws.specs.Tests.{some-of}
 use Rattle.model.specs.declared.Named.{Named}
 use Rattle.model.specs.declared.Refusal.{Refusal}
 use Rattle.model.specs.declared.Refusal.the-variants.{CausallyOrdered}
-use Rattle.model.specs.Words.{places, comesBefore, entry}
+use Rattle.model.specs.Words.{mostProcesses, comesBefore, entry}
 use Rattle.model.specs.Refusals.{number}
 use Rattle.whole_runs.specs.Earliest.{namedVector, greatest, someAbsent, unfit, someOrdered, earliestRefusal}
 use Rattle.whole_runs.specs.Calls.{earliest}
@@ -59,7 +59,7 @@ unfolding numberOf number
 twenty o e = rw e
 
 module _ (h : Surviving) (r : Ideal) (v : Inv r) (fit : Limits r) (g : Agrees h r) where
-  few : r .n ≤ places
+  few : r .n ≤ mostProcesses
   few = fit .few-processes
 
   -- What the history says is kept, the state keeps.

@@ -19,7 +19,7 @@ use Rattle.laws.specs.Truth.{and-both, and-no-right}
 use Rattle.model.specs.declared.Checkpoint.{Checkpoint}
 use Rattle.model.specs.declared.Named.{Named}
 use Rattle.model.specs.declared.Run.{Run}
-use Rattle.model.specs.Words.{places, entry, comesBefore, noCheckpoint, Process, process, keepsIn}
+use Rattle.model.specs.Words.{mostProcesses, entry, comesBefore, noCheckpoint, Process, process, keepsIn}
 use Rattle.model.specs.laws.Refusals.{no-rule}
 use Rattle.whole_runs.specs.Earliest.{isNamed, namedVector, greatest, someAbsent, repeats, unfit, notKept, someOrdered, earliestRefusal}
 use Rattle.histories.proofs.Run.{Ideal, keeps}
@@ -85,7 +85,7 @@ earliest-out s l lent e =
       apart = λ c d m m′. ltb-false _ _ (none-of (λ d. comesBefore (c .index) (c .process) (namedVector s d)) l d (none-of (λ c. some-of (λ d. comesBefore (c .index) (c .process) (namedVector s d)) l) l c (fails 5) m) m′);
     }
 
-module _ (r : Ideal) (v : Inv r) (few : r .n ≤ places) where
+module _ (r : Ideal) (v : Inv r) (few : r .n ≤ mostProcesses) where
   -- A process of the run keeps the named checkpoint exactly if a pin of the run names it.
   pub named-kept : (c : Named) → c .process < r .n → keepsIn (stateOf r) (c .process) (c .index .0) ≡ keeps r (c .process) (c .index .0)
   unfolding processOf

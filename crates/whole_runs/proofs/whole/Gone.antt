@@ -11,7 +11,7 @@ use Rattle.laws.specs.Front.{written-front}
 use Rattle.laws.specs.Lists.{gather}
 use Rattle.laws.specs.Select.{map-append}
 use Rattle.laws.specs.Tables.{gather-same}
-use Rattle.model.specs.Words.{places, basic, forced, failed}
+use Rattle.model.specs.Words.{mostProcesses, basic, forced, failed}
 use Rattle.model.specs.Steps.{Deletion, listed, checkpointDeletions, deliverDeletions, recoverDeletions}
 use Rattle.histories.specs.History.{Lists, checkpoints}
 use Rattle.whole_runs.specs.Outcomes.{pairs}
@@ -119,7 +119,7 @@ module _ (r r′ : Ideal) where
       empty : goneAll r r′ ≡ []
       empty = unfold goneAll in gather-none (r .n) (gonePart r r′) (λ p hp. part-none p (same p))
 
-module _ (r : Ideal) (v : Inv r) (few : r .n ≤ places) (a : Reply) (lent : List ℕ) (room : 2 * r .n * r .n ≤ length lent) where
+module _ (r : Ideal) (v : Inv r) (few : r .n ≤ mostProcesses) (a : Reply) (lent : List ℕ) (room : 2 * r .n * r .n ≤ length lent) where
   fits-one : (r′ : Ideal) (i : ℕ) → i < r .n → 2 * length (gone r r′ i) ≤ length lent
   fits-one r′ i hi = omega (arith, room-one (r .n) (length (gone r r′ i)) (omega arith) (omega (arith, kept-most r i, listed-length r i (λ k. not (keeps r′ i k)))))
 

@@ -19,7 +19,7 @@ use Rattle.laws.specs.Sums.{sumBelow, sum-same}
 use Rattle.laws.specs.Tests.{countBelow, some-of}
 use Rattle.laws.specs.Truth.{never-both, and-left, and-right, and-both, and-no-right}
 use Rattle.model.specs.declared.Checkpoint.{Checkpoint}
-use Rattle.model.specs.Words.{basic, forced, places, failed}
+use Rattle.model.specs.Words.{basic, forced, mostProcesses, failed}
 use Rattle.model.specs.Steps.{Deletion, listed, checkpointDeletions, deliverDeletions, recoverDeletions}
 use Rattle.whole_runs.specs.Outcomes.{pairs, written}
 use Rattle.whole_runs.specs.Calls.{Reply}
@@ -142,7 +142,7 @@ weigh-all r r′ = weigh-gather (r .ledger .counts) (r .n) (gone r r′) ∙ sum
 abbrev pub pairBlocks : Ideal → Reply → ℕ
 pairBlocks r reply = sumBelow (reply .report .deletions) (λ d. r .ledger .counts (getD (reply .deleted) (2 * d) 0))
 
-module _ (r : Ideal) (v : Inv r) (few : r .n ≤ places) (reply : Reply) (lent : List ℕ) (room : 2 * r .n * r .n ≤ length lent) where
+module _ (r : Ideal) (v : Inv r) (few : r .n ≤ mostProcesses) (reply : Reply) (lent : List ℕ) (room : 2 * r .n * r .n ≤ length lent) where
   module _ (i : ℕ) (hi : i < r .n) (asked : r .ledger .why ≡ basic) (answer : Answers reply lent (checkpointDeletions (stateOf r) i)) where
     these : checkpointDeletions (stateOf r) i ≡ gone r (checkpointed r i) i
     these = checkpoint-deletions r v i few hi asked

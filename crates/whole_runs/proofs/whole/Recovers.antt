@@ -9,7 +9,7 @@ use lib.ListN.{length, getD}
 use Rattle.laws.specs.Front.{getD-written}
 use Rattle.laws.specs.Lists.{table}
 use Rattle.laws.specs.Tables.{length-table, getD-table}
-use Rattle.model.specs.Words.{places, failed}
+use Rattle.model.specs.Words.{mostProcesses, failed}
 use Rattle.model.specs.Steps.{recoverDeletions, lineOf}
 use Rattle.model.specs.Refusals.{recoverRefusal}
 use Rattle.whole_runs.specs.Outcomes.{pairs, written, recoverOutcome, recoverReport}
@@ -35,7 +35,7 @@ use Rattle.whole_runs.proofs.whole.Accepted.{Step}
 use Rattle.whole_runs.proofs.whole.Listed.{recover-lists, none-cause, none-count}
 
 module _ (n : ℕ) (h : Surviving) (r : Ideal) (v : Inv r) (fit : Limits r) (memory : Memory r) (size : r .n ≡ n) (g : Agrees h r) (F : ℕ) (deleted lent : List ℕ) (e : recoverRefusal (stateOf r) F deleted lent ≡ none) where
-  few : r .n ≤ places
+  few : r .n ≤ mostProcesses
   few = fit .few-processes
 
   recover-run-state : call (stateOf r) (recover F deleted lent) .run ≡ stateOf (recovered r (failed F))

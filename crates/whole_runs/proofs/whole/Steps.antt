@@ -11,7 +11,7 @@ use lib.ListN.{length, getD}
 use Rattle.laws.specs.Choice.{by-bool}
 use Rattle.laws.specs.Search.{anyBelow}
 use Rattle.laws.specs.Sums.{sumBelow}
-use Rattle.model.specs.Words.{places, basic, forced, process, live}
+use Rattle.model.specs.Words.{mostProcesses, basic, forced, process, live}
 use Rattle.model.specs.declared.Named.{Named}
 use Rattle.histories.specs.History.{Lists}
 use Rattle.model.specs.Steps.{checkpointDeletions, deliverDeletions}
@@ -60,7 +60,7 @@ unfolding sumBelow
 blocks-none a r r′ count same = ap (λ (k : ℕ). sumBelow k (λ d. r .ledger .counts (getD (a .deleted) (2 * d) 0))) count ∙ sym (gone-none r r′ same)
 
 module _ (n : ℕ) (h : Surviving) (r : Ideal) (v : Inv r) (fit : Limits r) (memory : Memory r) (size : r .n ≡ n) (g : Agrees h r) where
-  few : r .n ≤ places
+  few : r .n ≤ mostProcesses
   few = fit .few-processes
 
   self : (i : ℕ) → r .vector i (r .own i) i ≡ r .own i

@@ -17,7 +17,7 @@ use Rattle.laws.specs.Tests.{countBelow}
 use Rattle.model.specs.declared.Named.{Named}
 use Rattle.model.specs.declared.Run.{Run}
 use Rattle.model.specs.declared.Refusal.{Refusal}
-use Rattle.model.specs.Words.{places, failed, own}
+use Rattle.model.specs.Words.{mostProcesses, failed, own}
 use Rattle.model.specs.Steps.{deliverRisen, rolledBack, rolledBackCount}
 use Rattle.histories.specs.History.{Line}
 use Rattle.model.specs.Refusals.{checkpointRefusal, sendRefusal, deliverRefusal, loseRefusal, lineRefusal, recoverRefusal}
@@ -70,7 +70,7 @@ others-rose s (line F lent) other = by-refusal (lineRefusal s F lent) (λ e. rw 
 others-rose s (earliest l lent) other = by-refusal (earliestRefusal s l lent) (λ e. rw e) (λ x e. rw e)
 
 module _ (h : Surviving) (r : Ideal) (v : Inv r) (fit : Limits r) (memory : Memory r) (g : Agrees h r) where
-  few : r .n ≤ places
+  few : r .n ≤ mostProcesses
   few = fit .few-processes
 
   own-entry : (p : ℕ) → r .vector p (r .own p) p ≡ r .own p

@@ -8,16 +8,16 @@ use native.Mathlib.Omega.{arith}
 use borrow.Author.Needs.{needs}
 use borrow.Author.Tests.{eq-eqb, ne-eqb, le-leb, lt-leb}
 use lib.ListN.{length}
-use Rattle.words.specs.Layout.{size, endOf, endFits, fits, messageIn, isMessage}
+use Rattle.words.specs.Layout.{stateSize, endOf, endFits, fits, messageIn, isMessage}
 use Rattle.console_in_place.proofs.denied.is_fit.Statement.{statement}
 use Rattle.console_in_place.proofs.denied.is_fit.Tie as tie
 
 module _ (w : List ℕ) where
-  another : (length w ≡ size → ⊥) → false ≡ fits w
+  another : (length w ≡ stateSize → ⊥) → false ≡ fits w
   unfolding fits
   another ne = rw (ne-eqb _ _ ne)
 
-  module _ (e : length w ≡ size) where
+  module _ (e : length w ≡ stateSize) where
     past : 64 < endOf w → false ≡ fits w
     unfolding fits endFits
     past far = rw (eq-eqb _ _ e, lt-leb _ _ far)

@@ -6,7 +6,7 @@ use lib.ListN.{length, length-set}
 use borrow.Author.Needs.{needs}
 use Rattle.laws.specs.Loops.{setBelow, below-none, turn-set, below-all}
 use Rattle.laws.specs.Tables.{table-replicate}
-use Rattle.words.specs.Layout.{size}
+use Rattle.words.specs.Layout.{stateSize}
 use Rattle.in_place.specs.Starting.{zeros}
 use Rattle.in_place.proofs.start.clear_all.Statement.{statement}
 use Rattle.in_place.proofs.start.clear_all.Tie as tie
@@ -29,7 +29,7 @@ returns c =
     let l = c .before .loop in
     let s = c .before .before in
     let e : l .k ≡ 6464 = omega arith in
-    l .inv .2 ∙ ap (λ (k : ℕ). setBelow k (λ q. 0) (s .args .w .now)) e ∙ below-all (λ q. 0) (s .args .w .now) size (s .pre) ∙ sym (table-replicate {A = ℕ} size 0)
+    l .inv .2 ∙ ap (λ (k : ℕ). setBelow k (λ q. 0) (s .args .w .now)) e ∙ below-all (λ q. 0) (s .args .w .now) stateSize (s .pre) ∙ sym (table-replicate {A = ℕ} stateSize 0)
 
 pub clear-all-spec : {M : Type 1} → statement M
 clear-all-spec =

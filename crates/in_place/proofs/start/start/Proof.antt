@@ -17,7 +17,7 @@ use Rattle.model.specs.declared.StartAnswer.the-variants.{Refused, Started}
 use Rattle.model.specs.Sound.{isBlockCount}
 use Rattle.model.specs.laws.Refusals.{by-refusal}
 use Rattle.whole_runs.specs.WholeRuns.{StartPromise}
-use Rattle.words.specs.Layout.{size, runOf}
+use Rattle.words.specs.Layout.{stateSize, runOf}
 use Rattle.words.specs.Clean.{Clean}
 use Rattle.in_place.specs.Starting.{zeros, startedWords, startRefusalIn, startOutcomeIn, startWords}
 use Rattle.in_place.proofs.Judging.{by-answer, started-promise}
@@ -32,15 +32,15 @@ by-refused many n counts why e = by-refusal (startRefusalIn many n counts)
     (λ other q. q ∙ ap some (let z : Refused other ≡ Refused why = rw q at e in let y : other ≡ why = cc in y))
 
 -- What the words then are, in the three ways.
-untouched-words : (w : List ℕ) (n : ℕ) (counts : List ℕ) → (length w ≡ size → ⊥) → w ≡ startWords w n counts
+untouched-words : (w : List ℕ) (n : ℕ) (counts : List ℕ) → (length w ≡ stateSize → ⊥) → w ≡ startWords w n counts
 unfolding startWords
 untouched-words w n counts ne = by-refusal (startRefusalIn (length w) n counts)
     (λ f. absurd (ne (accepted-size (length w) n counts f)))
-    (λ why q. rw (q, ne-eqb (length w) size ne) refl)
+    (λ why q. rw (q, ne-eqb (length w) stateSize ne) refl)
 
-zero-words : (w v : List ℕ) (n : ℕ) (counts : List ℕ) (why : Refusal) → length w ≡ size → startRefusalIn (length w) n counts ≡ some why → v ≡ zeros → v ≡ startWords w n counts
+zero-words : (w v : List ℕ) (n : ℕ) (counts : List ℕ) (why : Refusal) → length w ≡ stateSize → startRefusalIn (length w) n counts ≡ some why → v ≡ zeros → v ≡ startWords w n counts
 unfolding startWords
-zero-words w v n counts why long q e = rw (q, eq-eqb (length w) size long) e
+zero-words w v n counts why long q e = rw (q, eq-eqb (length w) stateSize long) e
 
 first-words : (w v : List ℕ) (n : ℕ) (counts : List ℕ) → startRefusalIn (length w) n counts ≡ none → v ≡ startedWords n counts → v ≡ startWords w n counts
 unfolding startWords

@@ -7,7 +7,7 @@ use lib.ListN.{length, set, length-set}
 use borrow.Author.Needs.{needs}
 use Rattle.laws.specs.Lists.{select, table}
 use Rattle.model.specs.declared.CheckpointIndex.{CheckpointIndex}
-use Rattle.words.specs.Layout.{size, endOf, messageIn}
+use Rattle.words.specs.Layout.{stateSize, endOf, messageIn}
 use Rattle.words.proofs.Reading.{set-is-put}
 use Rattle.message_words.specs.Places.{endBelow}
 use Rattle.message_words.proofs.Selected.{end-under}
@@ -16,7 +16,7 @@ use Rattle.line_words.proofs.Sifting.{siftedWords, is-sifted}
 use Rattle.line_words.proofs.sifted.sift.Statement.{statement}
 use Rattle.line_words.proofs.sifted.sift.Tie as tie
 
-sifted-by : (indexes : List CheckpointIndex) (w u : List ℕ) (left e : ℕ) → length w ≡ size → endOf w ≤ 64 → u ≡ siftedBelow indexes w (endOf w)
+sifted-by : (indexes : List CheckpointIndex) (w u : List ℕ) (left e : ℕ) → length w ≡ stateSize → endOf w ≤ 64 → u ≡ siftedBelow indexes w (endOf w)
     → left ≡ length (select (remains indexes) (table (endOf w) (messageIn w))) → e ≡ endBelow u (endOf w) → Sifted indexes w (set (set u 1 left) 12 e)
 sifted-by indexes w u left e long few q many h =
     let same : set (set u 1 left) 12 e ≡ siftedWords indexes w = rw (h, q, many) (simp set-is-put) in

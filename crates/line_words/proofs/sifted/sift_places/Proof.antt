@@ -12,7 +12,7 @@ use Rattle.laws.specs.Choice.{pick, by-bool}
 use Rattle.laws.specs.Lists.{select, table}
 use Rattle.model.specs.declared.CheckpointIndex.{CheckpointIndex}
 use Rattle.model.specs.declared.Message.{Message}
-use Rattle.words.specs.Layout.{size, word, senderAt, messageIn, isMessage}
+use Rattle.words.specs.Layout.{stateSize, word, senderAt, messageIn, isMessage}
 use Rattle.message_words.proofs.Selected.{select-more, select-less}
 use Rattle.line_words.specs.Sifted.{remains, siftedPlace, siftedBelow, SendersPresent}
 use Rattle.line_words.proofs.Sifting.{sifted-below}
@@ -33,7 +33,7 @@ unfolding siftedBelow table select
 none indexes w = (refl, refl)
 
 -- The next place is as it was.
-module _ (indexes : List CheckpointIndex) (w v : List ℕ) (k : ℕ) (long : length w ≡ size) (lt : k < 64) (e : v ≡ siftedBelow indexes w k) where
+module _ (indexes : List CheckpointIndex) (w v : List ℕ) (k : ℕ) (long : length w ≡ stateSize) (lt : k < 64) (e : v ≡ siftedBelow indexes w k) where
   ahead : messageIn v k ≡ messageIn w k
   ahead = rw e (sifted-below indexes w long k (omega arith) .ahead k (omega arith) lt)
 
