@@ -2,6 +2,7 @@
 use model::CheckpointAnswer;
 use model::Refusal;
 use model::Run;
+use words::WORDS;
 ghost use mathlib.Core.Path.{_≡_};
 ghost use Rattle.whole_runs.specs.Outcomes.{checkpointOutcome};
 ghost use Rattle.whole_runs.specs.Calls as made;
@@ -20,7 +21,7 @@ pub fn checkpoint(s: Run, i: usize, deleted: &mut [u16]) -> CheckpointOutcome
     ensures { λ r. ⌜ now (deleted .exit) ≡ checkpointOutcome s i (now (deleted .entry)) .deleted ⌝ }
     ensures { λ r. ⌜ StatePromise s (made.checkpoint i (now (deleted .entry))) (r .run) ⌝ }
 {
-    let mut w = [0u16; 6464];
+    let mut w = [0u16; WORDS];
     let fit = run_words::fill::fill(&mut w, s);
     let sound = super::judged::is_sound(&w, fit);
     if !sound {

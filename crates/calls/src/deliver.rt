@@ -2,6 +2,7 @@
 use model::DeliverAnswer;
 use model::Refusal;
 use model::Run;
+use words::WORDS;
 ghost use mathlib.Core.Path.{_≡_};
 ghost use Rattle.whole_runs.specs.Outcomes.{deliverOutcome};
 ghost use Rattle.whole_runs.specs.Calls as made;
@@ -23,7 +24,7 @@ pub fn deliver(s: Run, m: u32, deleted: &mut [u16]) -> DeliverOutcome
     ensures { λ r. ⌜ now (deleted .exit) ≡ deliverOutcome s m (now (deleted .entry)) .deleted ⌝ }
     ensures { λ r. ⌜ StatePromise s (made.deliver m (now (deleted .entry))) (r .run) ⌝ }
 {
-    let mut w = [0u16; 6464];
+    let mut w = [0u16; WORDS];
     let fit = run_words::fill::fill(&mut w, s);
     let sound = super::judged::is_sound(&w, fit);
     if !sound {

@@ -1,5 +1,6 @@
 // Words that were filled from a state, and whether the state is sound.
 use model::Run;
+use words::WORDS;
 ghost use mathlib.Core.Path.{_≡_};
 ghost use mathlib.Core.Bool.{_&&_};
 ghost use Rattle.model.specs.Sound.{sound};
@@ -19,7 +20,7 @@ pub(crate) fn is_sound(w: &[u16], fit: bool) -> bool
 pub fn is_sound_state(s: Run) -> bool
     ensures { λ r. ⌜ r ≡ sound s ⌝ }
 {
-    let mut w = [0u16; 6464];
+    let mut w = [0u16; WORDS];
     let fit = run_words::fill::fill(&mut w, s);
     is_sound(&w, fit)
 }

@@ -2,6 +2,7 @@
 use model::LineAnswer;
 use model::Refusal;
 use model::Run;
+use words::WORDS;
 ghost use mathlib.Core.Path.{_≡_};
 ghost use Rattle.whole_runs.specs.Outcomes.{lineOutcome};
 ghost use Rattle.whole_runs.specs.WholeRuns.{LinePromise};
@@ -22,7 +23,7 @@ pub fn line(s: Run, failed: u16, line: &mut [u16]) -> LineOutcome
     ensures { λ r. ⌜ LinePromise s failed ⌝ }
     ensures { λ r. ⌜ EmptyLinePromise s failed (now (line .entry)) (r .answer) (now (line .exit)) ⌝ }
 {
-    let mut w = [0u16; 6464];
+    let mut w = [0u16; WORDS];
     let fit = run_words::fill::fill(&mut w, s);
     let sound = super::judged::is_sound(&w, fit);
     if !sound {

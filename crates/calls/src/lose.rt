@@ -2,6 +2,7 @@
 use model::LoseAnswer;
 use model::Refusal;
 use model::Run;
+use words::WORDS;
 ghost use mathlib.Core.Path.{_≡_};
 ghost use Rattle.whole_runs.specs.Outcomes.{loseOutcome};
 ghost use Rattle.whole_runs.specs.Calls as made;
@@ -19,7 +20,7 @@ pub fn lose(s: Run, m: u32) -> LoseOutcome
     ensures { λ r. ⌜ r .answer ≡ loseOutcome s m .answer ⌝ }
     ensures { λ r. ⌜ StatePromise s (made.lose m) (r .run) ⌝ }
 {
-    let mut w = [0u16; 6464];
+    let mut w = [0u16; WORDS];
     let fit = run_words::fill::fill(&mut w, s);
     let sound = super::judged::is_sound(&w, fit);
     if !sound {

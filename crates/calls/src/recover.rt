@@ -2,6 +2,7 @@
 use model::RecoverAnswer;
 use model::Refusal;
 use model::Run;
+use words::WORDS;
 ghost use mathlib.Core.Path.{_≡_};
 ghost use Rattle.whole_runs.specs.Outcomes.{recoverOutcome};
 ghost use Rattle.whole_runs.specs.Calls as made;
@@ -27,7 +28,7 @@ pub fn recover(s: Run, failed: u16, deleted: &mut [u16], line: &mut [u16]) -> Re
     ensures { λ r. ⌜ CleanPromise s failed (now (deleted .entry)) (now (line .entry)) (r .run) ⌝ }
     ensures { λ r. ⌜ SweepPromise s failed (now (deleted .entry)) (now (line .entry)) (r .answer) (now (line .exit)) (r .run) ⌝ }
 {
-    let mut w = [0u16; 6464];
+    let mut w = [0u16; WORDS];
     let fit = run_words::fill::fill(&mut w, s);
     let sound = super::judged::is_sound(&w, fit);
     if !sound {

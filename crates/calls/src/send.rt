@@ -2,6 +2,7 @@
 use model::Refusal;
 use model::Run;
 use model::SendAnswer;
+use words::WORDS;
 ghost use mathlib.Core.Path.{_≡_};
 ghost use Rattle.whole_runs.specs.Outcomes.{sendOutcome};
 ghost use Rattle.whole_runs.specs.Calls as made;
@@ -19,7 +20,7 @@ pub fn send(s: Run, i: usize, j: usize) -> SendOutcome
     ensures { λ r. ⌜ r .answer ≡ sendOutcome s i j .answer ⌝ }
     ensures { λ r. ⌜ StatePromise s (made.send i j) (r .run) ⌝ }
 {
-    let mut w = [0u16; 6464];
+    let mut w = [0u16; WORDS];
     let fit = run_words::fill::fill(&mut w, s);
     let sound = super::judged::is_sound(&w, fit);
     if !sound {

@@ -1,6 +1,8 @@
 // Start, by value.
+use model::PROCESSES;
 use model::Run;
 use model::StartAnswer;
+use words::WORDS;
 ghost use mathlib.Core.Path.{_≡_};
 ghost use Rattle.whole_runs.specs.Outcomes.{startOutcome};
 ghost use Rattle.whole_runs.specs.WholeRuns.{StartPromise};
@@ -12,12 +14,12 @@ pub struct StartOutcome {
 
 // A run of n processes, with the block count of each: the state in which it starts. The counts at n and above are neither judged nor stored.
 // Accepted, what the returned state keeps and its blocks are right (demand 3).
-pub fn start(n: usize, counts: [u32; 16]) -> StartOutcome
+pub fn start(n: usize, counts: [u32; PROCESSES]) -> StartOutcome
     ensures { λ r. ⌜ r .run ≡ startOutcome n counts .run ⌝ }
     ensures { λ r. ⌜ r .answer ≡ startOutcome n counts .answer ⌝ }
     ensures { λ r. ⌜ StartPromise n counts (r .run) ⌝ }
 {
-    let mut w = [0u16; 6464];
+    let mut w = [0u16; WORDS];
     let answer = in_place::start::start(&mut w, n, &counts);
     let run = run_words::read::read(&w);
     StartOutcome { run, answer }

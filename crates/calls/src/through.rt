@@ -2,8 +2,10 @@
 use earliest::list::Copied;
 use model::LineAnswer;
 use model::Named;
+use model::PROCESSES;
 use model::Refusal;
 use model::Run;
+use words::WORDS;
 ghost use mathlib.Core.Path.{_≡_};
 ghost use mathlib.Core.List.{List};
 ghost use lib.ListN.{take};
@@ -22,7 +24,7 @@ fn earliest_of(s: Run, copied: Copied, line: &mut [u16]) -> EarliestOutcome
     requires { ⌜ IsCopy copied ⌝ }
     ensures { λ r. ⌜ ((l : List Named) → copied ≡ copyOf l → (r .run ≡ earliestOutcome s l (now (line .entry)) .run) × (r .answer ≡ earliestOutcome s l (now (line .entry)) .answer) × (now (line .exit) ≡ earliestOutcome s l (now (line .entry)) .line)) ⌝ }
 {
-    let mut w = [0u16; 6464];
+    let mut w = [0u16; WORDS];
     let fit = run_words::fill::fill(&mut w, s);
     let sound = super::judged::is_sound(&w, fit);
     if !sound {
@@ -53,7 +55,7 @@ pub fn earliest(s: Run, named: &[Named], line: &mut [u16]) -> EarliestOutcome
 // The same for who holds the named checkpoints at the front of an array: covered for every caller.
 pub fn earliest_among(
     s: Run,
-    named: [Named; 16],
+    named: [Named; PROCESSES],
     length: usize,
     line: &mut [u16],
 ) -> EarliestOutcome

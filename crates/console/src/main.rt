@@ -2,6 +2,7 @@
 // asks of the system, and when, is said and proved in `console_machine`, the steps in `console_steps`: this program only obeys.
 
 use machines::Request;
+use words::WORDS;
 ghost use mathlib.Core.Path.{_≡_};
 ghost use mathlib.Core.Bool.{true};
 ghost use lib.ListN.{length};
@@ -28,8 +29,8 @@ fn drive(memory: &mut [u64], words: &mut [u16], input: &mut [u8], out: &mut [u8]
 
 fn main() {
     let mut memory = [0u64; 4];
-    let mut words = [0u16; 6464];
-    let mut input = [0u8; 8];
-    let mut out = [0u8; 12000];
+    let mut words = [0u16; WORDS];
+    let mut input = [0u8; console_steps::CALL_SIZE];
+    let mut out = [0u8; console_steps::LONGEST_LINE];
     drive(&mut memory, &mut words, &mut input, &mut out);
 }

@@ -19,7 +19,7 @@ ghost use Rattle.model.specs.declared.DeliverAnswer.the-variants as delivering;
 ghost use Rattle.model.specs.declared.LoseAnswer.the-variants as losing;
 ghost use Rattle.model.specs.declared.RecoverAnswer.the-variants as recovering;
 ghost use Rattle.words.specs.Clean.{Clean};
-ghost use Rattle.words.specs.Layout.{runOf};
+ghost use Rattle.words.specs.Layout.{runOf, stateSize};
 ghost use Rattle.line_words.specs.Through.{namedIn};
 ghost use Rattle.in_place.specs.Left.{Leaves};
 ghost use Rattle.console_in_place.specs.Asked.{startAs, startWordsAs, checkpointAs, sendAs, deliverAs, loseAs, recoverAs, earliestAs};
@@ -29,7 +29,7 @@ pub fn start(role: u32, owned: u32, w: &mut [u16], n: usize, counts: &[u32]) -> 
     ensures { λ r. ⌜ r ≡ startAs role owned (now (w .entry)) n (now (counts .entry)) .answer ⌝ }
     ensures { λ r. ⌜ runOf (now (w .exit)) ≡ startAs role owned (now (w .entry)) n (now (counts .entry)) .run ⌝ }
     ensures { λ r. ⌜ now (w .exit) ≡ startWordsAs role owned (now (w .entry)) n (now (counts .entry)) ⌝ }
-    ensures { λ r. ⌜ (length (now (w .entry)) ≡ 6464 → Clean (now (w .entry)) → Clean (now (w .exit))) ⌝ }
+    ensures { λ r. ⌜ (length (now (w .entry)) ≡ stateSize → Clean (now (w .entry)) → Clean (now (w .exit))) ⌝ }
 {
     let denied = denied::is_denied(role, Operation::Start);
     if denied {

@@ -1,8 +1,10 @@
 // What is denied a caller on lent words: an operation by the table; to an owner also a process that is not its own, and a message that is not under way to one of its own.
 // Words that are not sound deny by the run that they stand for, since 25 comes before 2.
 use crate::receivers;
+use model::MESSAGES;
 use roles::Operation;
 use roles::Role;
+use words::WORDS;
 use words::places;
 ghost use mathlib.Core.Path.{_≡_};
 ghost use Prim.Native.Nat.{ℕ};
@@ -83,11 +85,11 @@ pub(crate) fn number_of(x: u16) -> usize
 pub(crate) fn is_fit(w: &[u16]) -> bool
     ensures { λ r. ⌜ r ≡ fits (now (w .entry)) ⌝ }
 {
-    if w.len() != words::WORDS {
+    if w.len() != WORDS {
         return false;
     }
     let end = number_of(w[places::END]);
-    if words::MESSAGES < end {
+    if MESSAGES < end {
         return false;
     }
     if end == 0 {

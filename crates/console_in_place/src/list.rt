@@ -15,15 +15,16 @@ ghost use lib.Seq.{sets};
 ghost use Rattle.laws.specs.Lists.{table};
 ghost use Rattle.model.specs.Sound.{sound};
 ghost use Rattle.model.specs.Steps.{listed};
+ghost use Rattle.model.specs.Words.{mostProcesses, keptPlaces};
 ghost use Rattle.whole_runs.specs.Outcomes.{pairs};
-ghost use Rattle.words.specs.Layout.{word, countOf, heldAt, indexAt, checkpointIn, runOf};
+ghost use Rattle.words.specs.Layout.{word, countOf, heldAt, indexAt, checkpointIn, runOf, stateSize};
 ghost use Rattle.roles.specs.Console.{consoleList};
 ghost use Rattle.console_in_place.specs.Asked.{listAs};
 ghost use Rattle.console_in_place.specs.Listed.{listedOf, listedBelow};
 
 // The pair of the checkpoint in place k of process p goes to the lent list from place `at` on.
 fn write_pair(w: &[u16], p: usize, k: usize, deleted: &mut [u16], at: usize)
-    requires { ⌜ (length (now w) ≡ 6464) × (p < 16) × (k < 16) × (1 ≤ word (now w) (indexAt p k)) × (at + 2 ≤ length (now deleted)) ⌝ }
+    requires { ⌜ (length (now w) ≡ stateSize) × (p < mostProcesses) × (k < mostProcesses) × (1 ≤ word (now w) (indexAt p k)) × (at + 2 ≤ length (now deleted)) ⌝ }
     ensures { λ u. ⌜ now (deleted .exit) ≡ sets (now (deleted .entry)) at (p ∷ checkpointIn (now (w .entry)) p k .index .0 ∷ []) ⌝ }
 {
     let index_at = places::index_at(p, k);
@@ -34,7 +35,7 @@ fn write_pair(w: &[u16], p: usize, k: usize, deleted: &mut [u16], at: usize)
 
 // Those of the first `held` checkpoints.
 fn write_kept(w: &[u16], p: usize, held: usize, deleted: &mut [u16], at: usize)
-    requires { ⌜ (length (now w) ≡ 6464) × (p < 16) × (held ≤ 16) × (at + 2 * held ≤ length (now deleted)) × ((k : ℕ) → k < held → 1 ≤ word (now w) (indexAt p k)) ⌝ }
+    requires { ⌜ (length (now w) ≡ stateSize) × (p < mostProcesses) × (held ≤ mostProcesses) × (at + 2 * held ≤ length (now deleted)) × ((k : ℕ) → k < held → 1 ≤ word (now w) (indexAt p k)) ⌝ }
     ensures { λ u. ⌜ now (deleted .exit) ≡ sets (now (deleted .entry)) at (pairs (listed p (table held (checkpointIn (now (w .entry)) p)))) ⌝ }
 {
     for k in 0..held {
@@ -51,7 +52,7 @@ fn write_part(
     deleted: &mut [u16],
     count: usize,
 ) -> usize
-    requires { ⌜ (sound (runOf (now w)) ≡ true) × (p < countOf (now w)) × (count ≤ 256) × (2 * count + 2 * word (now w) (heldAt p) ≤ length (now deleted)) ⌝ }
+    requires { ⌜ (sound (runOf (now w)) ≡ true) × (p < countOf (now w)) × (count ≤ keptPlaces) × (2 * count + 2 * word (now w) (heldAt p) ≤ length (now deleted)) ⌝ }
     ensures { λ r. ⌜ r ≡ length (listedOf role owned (countOf (now (w .entry))) (now (w .entry)) p) ⌝ }
     ensures { λ r. ⌜ now (deleted .exit) ≡ sets (now (deleted .entry)) (2 * count) (pairs (listedOf role owned (countOf (now (w .entry))) (now (w .entry)) p)) ⌝ }
 {

@@ -1,12 +1,14 @@
 // The receiver of a message under way, on any words: a message that is not under way to an owner's process is denied with 25, which comes before 2.
 use crate::denied;
+use model::MESSAGES;
 use words::places;
 ghost use mathlib.Core.Path.{_≡_};
 ghost use mathlib.Core.Bool.{true};
 ghost use Prim.Native.Nat.{_+_, _≤_, _<_};
 ghost use lib.ListN.{length};
 ghost use Rattle.model.specs.Steps.{found};
-ghost use Rattle.words.specs.Layout.{word, fits, runOf};
+ghost use Rattle.model.specs.Words.{mostUnderWay};
+ghost use Rattle.words.specs.Layout.{word, fits, runOf, stateSize};
 ghost use Rattle.console_in_place.specs.Receivers.{SearchedTo, foundIn, receiverIs};
 
 // The receiver of a message, and whether there is such a message.
@@ -24,7 +26,7 @@ struct Searched {
 
 // Place k, after the places before it were searched.
 fn look_at(w: &[u16], k: usize, m: u32, many: usize, before: Searched) -> Searched
-    requires { ⌜ (length (now w) ≡ 6464) × (k < 64) × (many ≡ word (now w) 1) × SearchedTo (now w) m k before ⌝ }
+    requires { ⌜ (length (now w) ≡ stateSize) × (k < mostUnderWay) × (many ≡ word (now w) 1) × SearchedTo (now w) m k before ⌝ }
     ensures { λ r. ⌜ SearchedTo (now (w .entry)) m (k + 1) r ⌝ }
 {
     let number = message_words::number_at(w, k);
@@ -49,7 +51,7 @@ fn look_at(w: &[u16], k: usize, m: u32, many: usize, before: Searched) -> Search
 
 // The first `end` places, one after the other.
 fn search(w: &[u16], end: usize, m: u32, many: usize) -> Searched
-    requires { ⌜ (length (now w) ≡ 6464) × (end ≤ 64) × (many ≡ word (now w) 1) ⌝ }
+    requires { ⌜ (length (now w) ≡ stateSize) × (end ≤ mostUnderWay) × (many ≡ word (now w) 1) ⌝ }
     ensures { λ r. ⌜ SearchedTo (now (w .entry)) m end r ⌝ }
 {
     let mut searched = Searched {
@@ -73,7 +75,7 @@ fn receiver_in(w: &[u16], m: u32) -> Receiver
     let end = denied::number_of(w[places::END]);
     let searched = search(w, end, m, many);
     let used = searched.used;
-    if (m == 0) & ((used < many) & (used < words::MESSAGES)) {
+    if (m == 0) & ((used < many) & (used < MESSAGES)) {
         return Receiver {
             found: true,
             process: 0,

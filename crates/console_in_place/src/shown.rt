@@ -2,6 +2,7 @@
 use crate::denied;
 use crate::denied::Claim;
 use model::LineAnswer;
+use model::PROCESSES;
 use model::Refusal;
 use roles::Operation;
 use roles::Role;
@@ -11,14 +12,15 @@ ghost use Prim.Native.Nat.{_≤_};
 ghost use lib.ListN.{length, getD};
 ghost use Rattle.laws.specs.Choice.{pick};
 ghost use Rattle.laws.specs.Loops.{setBelow};
+ghost use Rattle.model.specs.Words.{mostProcesses};
 ghost use Rattle.whole_runs.specs.Outcomes.{lineOutcome};
 ghost use Rattle.words.specs.Layout.{runOf};
 ghost use Rattle.roles.specs.Console.{entitledBy, shown, consoleLine};
 ghost use Rattle.console_in_place.specs.Asked.{lineAs, countsAs};
 
 // Of the first n places of a line those that the caller may see go to their places in the lent list. No other place of it changes.
-fn write_seen(line: &mut [u16], whole: [u16; 16], role: Role, owned: u32, n: usize)
-    requires { ⌜ (n ≤ 16) × (n ≤ length (now line)) ⌝ }
+fn write_seen(line: &mut [u16], whole: [u16; PROCESSES], role: Role, owned: u32, n: usize)
+    requires { ⌜ (n ≤ mostProcesses) × (n ≤ length (now line)) ⌝ }
     ensures { λ u. ⌜ now (line .exit) ≡ setBelow n (λ p. pick (entitledBy role owned n p) (getD whole p 0) (getD (now (line .entry)) p 0)) (now (line .entry)) ⌝ }
 {
     for p in 0..n {
@@ -39,7 +41,7 @@ fn seen_line(role: Role, owned: u32, w: &[u16], failed: u32, line: &mut [u16]) -
     if line.len() < n {
         return in_place::line::line(w, failed, line);
     }
-    let mut whole = [0u16; 16];
+    let mut whole = [0u16; PROCESSES];
     let answer = in_place::line::line(w, failed, &mut whole);
     match answer {
         LineAnswer::Refused(why) => LineAnswer::Refused(why),

@@ -9,7 +9,7 @@ use lib.ListN.{replicate}
 use Rattle.laws.specs.Choice.{pick}
 use Rattle.model.specs.declared.Run.{Run}
 use Rattle.model.specs.declared.Refusal.the-variants.{MalformedRecord}
-use Rattle.model.specs.Words.{ones}
+use Rattle.model.specs.Words.{ones, mostProcesses}
 use Rattle.whole_runs.specs.Outcomes.{refusing, startReport}
 use Rattle.whole_runs.specs.Calls.{checkpoint, send, deliver, lose, recover, line, earliest, Answered, answered}
 use Rattle.roles.specs.declared.Caller.{Caller}
@@ -22,7 +22,7 @@ use Rattle.console_script.specs.declared.Call.{Call}
 
 -- How many processes the lent lists are for: those of the run, 16 at most.
 unfoldable pub processes : Run → ℕ
-processes s = min 16 (s .count)
+processes s = min mostProcesses (s .count)
 
 -- The lent lists are as long as the call asks for, or one entry too short, and every entry is 0 before it: room for n entries, and for n × n pairs.
 unfoldable pub lent : Bool → ℕ → List ℕ

@@ -7,7 +7,7 @@ use Prim.Native.Nat.{ℕ, _-_}
 use lib.Dec.{eqb, leb}
 use lib.ListN.{length, getD, take}
 use Rattle.laws.specs.Choice.{pick}
-use Rattle.words.specs.Layout.{runOf}
+use Rattle.words.specs.Layout.{runOf, stateSize}
 use Rattle.machines.specs.declared.Request as requests
 use Rattle.machines.specs.declared.Request.the-variants as request
 use Rattle.machines.specs.Forms.{Asks}
@@ -18,7 +18,7 @@ use Rattle.console_steps.specs.Replied.{longestLine}
 
 -- There is room for the numbers and the words, for a call, and for the longest line.
 unfoldable pub hasRoom : ℕ → ℕ → ℕ → ℕ → Bool
-hasRoom memory words input out = leb 4 memory && (eqb words 6464 && (leb callSize input && leb longestLine out))
+hasRoom memory words input out = leb 4 memory && (eqb words stateSize && (leb callSize input && leb longestLine out))
 
 unfoldable pub marksOf : List ℕ → Marks
 marksOf memory = record { phase = getD memory 0 0; done = getD memory 1 0; kept = getD memory 2 0; size = getD memory 3 0 }

@@ -18,7 +18,14 @@ use Rattle.console_machine.specs.Made.{madeOn}
 use Rattle.console_machine.specs.Text.{answerText, callText}
 use Rattle.console_steps.specs.declared.calls.Replied.{Replied}
 
--- No line is longer: a field has a space and 20 digits at most, and there are no more of them than four, 16 entries, and two for each of 256 pairs.
+-- A field has a space and 20 digits at most; what an answer says has no more bytes than this.
+abbrev pub longestField : ℕ
+longestField = 21
+
+abbrev pub longestAnswer : ℕ
+longestAnswer = 11_200
+
+-- No line is longer: there are no more of them than four, 16 entries, and two for each of 256 pairs.
 abbrev pub longestLine : ℕ
 longestLine = 12_000
 

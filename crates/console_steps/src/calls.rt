@@ -2,15 +2,17 @@
 use console_script::Call;
 use listing::Summary;
 use listing::Value;
+use model::PROCESSES;
 use roles::ListAnswer;
 use roles::Operation;
 use roles::Role;
+use words::WORDS;
 ghost use mathlib.Core.Path.{_≡_};
 ghost use mathlib.Core.List.{List};
 ghost use Prim.Native.Nat.{ℕ};
 ghost use lib.ListN.{length};
 ghost use Rattle.listing.specs.Said.{reportIn};
-ghost use Rattle.words.specs.Layout.{runOf};
+ghost use Rattle.words.specs.Layout.{runOf, stateSize};
 ghost use Rattle.roles.specs.Console.{listReport};
 ghost use Rattle.roles.specs.declared.Operation.the-variants as operation;
 ghost use Rattle.console_in_place.specs.declared.denied.Claim.the-variants.{As};
@@ -150,29 +152,29 @@ fn counts(w: &[u16], role: u32, owned: u32, c: Call, line: &mut [u16]) -> Replie
 
 // A start on fresh words, which an accepted one puts in place of the others.
 fn start_fresh(w: &mut [u16], role: u32, owned: u32, c: Call, fresh: &mut [u16]) -> Replied
-    requires { ⌜ Claims role owned (c .caller) × (length (now w) ≡ 6464) × (length (now fresh) ≡ 6464) ⌝ }
+    requires { ⌜ Claims role owned (c .caller) × (length (now w) ≡ stateSize) × (length (now fresh) ≡ stateSize) ⌝ }
     ensures { λ r. ⌜ ((pairs line : List ℕ) → Replies operation.Start (madeWith operation.Start (runOf (now (w .entry))) c pairs line) (now (w .exit)) r pairs line) ⌝ }
 {
-    let counts = [1u32; 16];
+    let counts = [1u32; PROCESSES];
     let answer = console_in_place::calls::start(role, owned, fresh, c.process as usize, &counts);
     let said = summaries::of_start(answer);
     if said.refused == 0 {
-        readers::copy_words(fresh, 0, 6464, w);
+        readers::copy_words(fresh, 0, WORDS, w);
     }
     Replied { said, rose: 0 }
 }
 
 fn start(w: &mut [u16], role: u32, owned: u32, c: Call) -> Replied
-    requires { ⌜ Claims role owned (c .caller) × (length (now w) ≡ 6464) ⌝ }
+    requires { ⌜ Claims role owned (c .caller) × (length (now w) ≡ stateSize) ⌝ }
     ensures { λ r. ⌜ ((pairs line : List ℕ) → Replies operation.Start (madeWith operation.Start (runOf (now (w .entry))) c pairs line) (now (w .exit)) r pairs line) ⌝ }
 {
-    let mut fresh = [0u16; 6464];
+    let mut fresh = [0u16; WORDS];
     start_fresh(w, role, owned, c, &mut fresh)
 }
 
 // A call, by its operation.
 pub fn call(w: &mut [u16], c: Call, pairs: &mut [u16], line: &mut [u16]) -> Replied
-    requires { ⌜ length (now w) ≡ 6464 ⌝ }
+    requires { ⌜ length (now w) ≡ stateSize ⌝ }
     ensures { λ r. ⌜ Replies (c .operation) (madeWith (c .operation) (runOf (now (w .entry))) c (now (pairs .entry)) (now (line .entry))) (now (w .exit)) r (now (pairs .exit)) (now (line .exit)) ⌝ }
 {
     let caller = c.caller;

@@ -6,11 +6,12 @@ use crate::marks::Marks;
 use machines::Answer;
 use machines::heard;
 use machines::heard::Taken;
+use model::PROCESSES;
 ghost use mathlib.Core.Path.{_≡_};
 ghost use mathlib.Core.List.{List, []};
 ghost use Prim.Native.Nat.{ℕ, _+_, _≤_, _<_};
 ghost use lib.ListN.{length, take};
-ghost use Rattle.words.specs.Layout.{runOf};
+ghost use Rattle.words.specs.Layout.{runOf, stateSize};
 ghost use Rattle.machines.specs.Machines.{stepped};
 ghost use Rattle.machines.specs.Forms.{answerOf};
 ghost use Rattle.console_machine.specs.Text.{lineText};
@@ -44,10 +45,10 @@ fn end_refused(out: &mut [u8], number: u64, refused: u64) -> Marks
 
 // The operator's start of n processes.
 fn start(words: &mut [u16], n: u8, out: &mut [u8]) -> Marks
-    requires { ⌜ (length (now words) ≡ 6464) × (longestLine ≤ length (now out)) ⌝ }
+    requires { ⌜ (length (now words) ≡ stateSize) × (longestLine ≤ length (now out)) ⌝ }
     ensures { λ r. ⌜ ((input : List ℕ) → Arrives r (now (words .exit)) input (now (out .exit)) (begun n)) ⌝ }
 {
-    let counts = [1u32; 16];
+    let counts = [1u32; PROCESSES];
     let answer = console_in_place::calls::start(0, 0, words, n as usize, &counts);
     let said = summaries::of_start(answer);
     let refused = said.refused;
@@ -64,7 +65,7 @@ fn after_first(
     kept: usize,
     answer: Answer,
 ) -> Marks
-    requires { ⌜ (length (now words) ≡ 6464) × (8 ≤ length (now input)) × (kept ≤ 7) × (longestLine ≤ length (now out)) ⌝ }
+    requires { ⌜ (length (now words) ≡ stateSize) × (8 ≤ length (now input)) × (kept ≤ 7) × (longestLine ≤ length (now out)) ⌝ }
     ensures { λ r. ⌜ Arrives r (now (words .exit)) (now (input .entry)) (now (out .exit)) (stepped consoling Opening (answerOf answer kept (now (input .entry)))) ⌝ }
 {
     let taken = heard::read(answer, 1);
@@ -80,7 +81,7 @@ fn to_read(m: Marks) -> Marks
     requires { ⌜ m .kept ≤ 7 ⌝ }
     ensures { λ r. ⌜ ((words input out : List ℕ) → Arrives r words input out (furtherOn (betweenOf m words input))) ⌝ }
 {
-    if 9000000000000000000 <= m.done {
+    if marks::MOST_CALLS <= m.done {
         return stop();
     }
     Marks {
@@ -142,7 +143,7 @@ fn first_eight(input: &[u8]) -> [u8; 8]
 
 // Eight bytes are a call, which is made.
 fn make_call(done: u64, words: &mut [u16], input: &[u8], out: &mut [u8]) -> Marks
-    requires { ⌜ (done < mostCalls) × (length (now words) ≡ 6464) × (8 ≤ length (now input)) × (longestLine ≤ length (now out)) ⌝ }
+    requires { ⌜ (done < mostCalls) × (length (now words) ≡ stateSize) × (8 ≤ length (now input)) × (longestLine ≤ length (now out)) ⌝ }
     ensures { λ r. ⌜ Arrives r (now (words .exit)) (now (input .entry)) (now (out .exit)) (called (record { done = done; run = runOf (now (words .entry)); held = take 8 (now (input .entry)) })) ⌝ }
 {
     let bytes = first_eight(input);
@@ -158,7 +159,7 @@ fn make_call(done: u64, words: &mut [u16], input: &[u8], out: &mut [u8]) -> Mark
 
 // More bytes are read until there are eight.
 fn go_on(done: u64, held: usize, words: &mut [u16], input: &[u8], out: &mut [u8]) -> Marks
-    requires { ⌜ (done < mostCalls) × (held ≤ 8) × (length (now words) ≡ 6464) × (8 ≤ length (now input)) × (longestLine ≤ length (now out)) ⌝ }
+    requires { ⌜ (done < mostCalls) × (held ≤ 8) × (length (now words) ≡ stateSize) × (8 ≤ length (now input)) × (longestLine ≤ length (now out)) ⌝ }
     ensures { λ r. ⌜ Arrives r (now (words .exit)) (now (input .entry)) (now (out .exit)) (onward (record { done = done; run = runOf (now (words .entry)); held = take held (now (input .entry)) })) ⌝ }
 {
     if 8 <= held {
@@ -173,7 +174,7 @@ fn go_on(done: u64, held: usize, words: &mut [u16], input: &[u8], out: &mut [u8]
 }
 
 fn after_read(m: Marks, words: &mut [u16], input: &[u8], out: &mut [u8], answer: Answer) -> Marks
-    requires { ⌜ (m .done < mostCalls) × (m .kept ≤ 7) × (length (now words) ≡ 6464) × (8 ≤ length (now input)) × (longestLine ≤ length (now out)) ⌝ }
+    requires { ⌜ (m .done < mostCalls) × (m .kept ≤ 7) × (length (now words) ≡ stateSize) × (8 ≤ length (now input)) × (longestLine ≤ length (now out)) ⌝ }
     ensures { λ r. ⌜ Arrives r (now (words .exit)) (now (input .entry)) (now (out .exit)) (stepped consoling (Reading (betweenOf m (now (words .entry)) (now (input .entry)))) (answerOf answer (m .kept) (now (input .entry)))) ⌝ }
 {
     let taken = heard::read(answer, 8 - m.kept);
@@ -186,7 +187,7 @@ fn after_read(m: Marks, words: &mut [u16], input: &[u8], out: &mut [u8], answer:
 
 // The numbers of the state that an answer leads to.
 pub fn on(m: Marks, words: &mut [u16], input: &[u8], out: &mut [u8], answer: Answer) -> Marks
-    requires { ⌜ (m .done ≤ mostDone (m .phase)) × (m .kept ≤ 7) × (length (now words) ≡ 6464) × (8 ≤ length (now input)) × (longestLine ≤ length (now out)) ⌝ }
+    requires { ⌜ (m .done ≤ mostDone (m .phase)) × (m .kept ≤ 7) × (length (now words) ≡ stateSize) × (8 ≤ length (now input)) × (longestLine ≤ length (now out)) ⌝ }
     ensures { λ r. ⌜ Arrives r (now (words .exit)) (now (input .entry)) (now (out .exit)) (stepped consoling (stateIn m (now (words .entry)) (now (input .entry)) (now (out .entry))) (answerOf answer (m .kept) (now (input .entry)))) ⌝ }
 {
     let phase = m.phase;

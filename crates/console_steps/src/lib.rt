@@ -21,6 +21,7 @@ mod going;
 
 use machines::Answer;
 use machines::Request;
+use words::WORDS;
 ghost use mathlib.Core.Path.{_≡_};
 ghost use mathlib.Core.Bool.{true};
 ghost use lib.ListN.{length};
@@ -29,12 +30,10 @@ ghost use Rattle.machines.specs.Forms.{answerOf};
 ghost use Rattle.console_machine.specs.Consoling.{consoling, Opening};
 ghost use Rattle.console_steps.specs.Lent.{hasRoom, stateOf, placeOf, StandsFor};
 
-// As many entries as the state has words, as many bytes as a call, and as many as the longest line may take.
-const WORDS: usize = 6464;
+// How many bytes a caller lends: for a call (callSize in the specs of console_machine), and for the longest line (longestLine in specs/Replied).
+pub const CALL_SIZE: usize = 8;
 
-const INPUT: usize = 8;
-
-const LINE: usize = 12000;
+pub const LONGEST_LINE: usize = 12000;
 
 // Whether all that is lent is long enough.
 pub fn has_room(memory: usize, words: usize, input: usize, out: usize) -> bool
@@ -46,10 +45,10 @@ pub fn has_room(memory: usize, words: usize, input: usize, out: usize) -> bool
     if words != WORDS {
         return false;
     }
-    if input < INPUT {
+    if input < CALL_SIZE {
         return false;
     }
-    LINE <= out
+    LONGEST_LINE <= out
 }
 
 // The first state.

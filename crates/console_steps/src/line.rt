@@ -10,16 +10,17 @@ ghost use mathlib.Core.List.{[], _++_};
 ghost use mathlib.Core.Option.{some};
 ghost use Prim.Native.Nat.{_+_, _*_, _≤_};
 ghost use lib.ListN.{length};
+ghost use Rattle.model.specs.Words.{mostProcesses, mostDeletions};
 ghost use Rattle.whole_runs.specs.Listing.{decimal};
 ghost use Rattle.listing.specs.Lines.{valueIn};
 ghost use Rattle.listing.specs.Printed.{Printed};
 ghost use Rattle.console_machine.specs.Text.{fieldText, pairsText, listText, entriesText, answerText, lineText};
-ghost use Rattle.console_steps.specs.Replied.{longestLine, replyOf};
+ghost use Rattle.console_steps.specs.Replied.{longestLine, replyOf, longestField, longestAnswer};
 
 // A value and the deletions.
 fn write_valued(out: &mut [u8], at: usize, said: Summary, pairs: &[u16]) -> usize
-    requires { ⌜ at + (42 + 21 * length (now pairs)) ≤ length (now out) ⌝ }
-    ensures { λ r. ⌜ Printed (now (out .entry)) at (fieldText (valueIn (said .value)) ++ pairsText (said .deletions) (now (pairs .entry))) (now (out .exit)) r × (r ≤ at + (42 + 21 * length (now (pairs .entry)))) ⌝ }
+    requires { ⌜ at + (2 * longestField + longestField * length (now pairs)) ≤ length (now out) ⌝ }
+    ensures { λ r. ⌜ Printed (now (out .entry)) at (fieldText (valueIn (said .value)) ++ pairsText (said .deletions) (now (pairs .entry))) (now (out .exit)) r × (r ≤ at + (2 * longestField + longestField * length (now (pairs .entry)))) ⌝ }
 {
     let value = said.value;
     let valued = text::write_value(out, at, value);
@@ -28,8 +29,8 @@ fn write_valued(out: &mut [u8], at: usize, said: Summary, pairs: &[u16]) -> usiz
 
 // The forced index, the set of the entries that rose, and the deletions.
 fn write_delivered(out: &mut [u8], at: usize, said: Summary, rose: u16, pairs: &[u16]) -> usize
-    requires { ⌜ at + (63 + 21 * length (now pairs)) ≤ length (now out) ⌝ }
-    ensures { λ r. ⌜ Printed (now (out .entry)) at (fieldText (valueIn (said .value)) ++ (fieldText (some rose) ++ pairsText (said .deletions) (now (pairs .entry)))) (now (out .exit)) r × (r ≤ at + (63 + 21 * length (now (pairs .entry)))) ⌝ }
+    requires { ⌜ at + (3 * longestField + longestField * length (now pairs)) ≤ length (now out) ⌝ }
+    ensures { λ r. ⌜ Printed (now (out .entry)) at (fieldText (valueIn (said .value)) ++ (fieldText (some rose) ++ pairsText (said .deletions) (now (pairs .entry)))) (now (out .exit)) r × (r ≤ at + (3 * longestField + longestField * length (now (pairs .entry)))) ⌝ }
 {
     let value = said.value;
     let valued = text::write_value(out, at, value);
@@ -39,8 +40,8 @@ fn write_delivered(out: &mut [u8], at: usize, said: Summary, rose: u16, pairs: &
 
 // The members of the line, how many were rolled back, and the deletions.
 fn write_recovered(out: &mut [u8], at: usize, said: Summary, pairs: &[u16], line: &[u16]) -> usize
-    requires { ⌜ at + (21 * length (now line) + (42 + 21 * length (now pairs))) ≤ length (now out) ⌝ }
-    ensures { λ r. ⌜ Printed (now (out .entry)) at (entriesText (now (line .entry)) ++ (fieldText (valueIn (said .value)) ++ pairsText (said .deletions) (now (pairs .entry)))) (now (out .exit)) r × (r ≤ at + (21 * length (now (line .entry)) + (42 + 21 * length (now (pairs .entry))))) ⌝ }
+    requires { ⌜ at + (longestField * length (now line) + (2 * longestField + longestField * length (now pairs))) ≤ length (now out) ⌝ }
+    ensures { λ r. ⌜ Printed (now (out .entry)) at (entriesText (now (line .entry)) ++ (fieldText (valueIn (said .value)) ++ pairsText (said .deletions) (now (pairs .entry)))) (now (out .exit)) r × (r ≤ at + (longestField * length (now (line .entry)) + (2 * longestField + longestField * length (now (pairs .entry))))) ⌝ }
 {
     let members = text::write_entries(out, at, line);
     write_valued(out, members, said, pairs)
@@ -48,8 +49,8 @@ fn write_recovered(out: &mut [u8], at: usize, said: Summary, pairs: &[u16], line
 
 // Of a list its count is the value.
 fn write_list(out: &mut [u8], at: usize, value: Value, pairs: &[u16]) -> usize
-    requires { ⌜ at + (21 + 21 * length (now pairs)) ≤ length (now out) ⌝ }
-    ensures { λ r. ⌜ Printed (now (out .entry)) at (listText (valueIn value) (now (pairs .entry))) (now (out .exit)) r × (r ≤ at + (21 + 21 * length (now (pairs .entry)))) ⌝ }
+    requires { ⌜ at + (longestField + longestField * length (now pairs)) ≤ length (now out) ⌝ }
+    ensures { λ r. ⌜ Printed (now (out .entry)) at (listText (valueIn value) (now (pairs .entry))) (now (out .exit)) r × (r ≤ at + (longestField + longestField * length (now (pairs .entry)))) ⌝ }
 {
     match value {
         Value::Hyphen => at,
@@ -67,8 +68,8 @@ fn write_answer(
     pairs: &[u16],
     line: &[u16],
 ) -> usize
-    requires { ⌜ (length (now pairs) ≤ 512) × (length (now line) ≤ 16) × (at + 11200 ≤ length (now out)) ⌝ }
-    ensures { λ x. ⌜ Printed (now (out .entry)) at (answerText (c .operation) (c .caller) n (replyOf r (now (pairs .entry)) (now (line .entry)))) (now (out .exit)) x × (x ≤ at + 11200) ⌝ }
+    requires { ⌜ (length (now pairs) ≤ mostDeletions) × (length (now line) ≤ mostProcesses) × (at + longestAnswer ≤ length (now out)) ⌝ }
+    ensures { λ x. ⌜ Printed (now (out .entry)) at (answerText (c .operation) (c .caller) n (replyOf r (now (pairs .entry)) (now (line .entry)))) (now (out .exit)) x × (x ≤ at + longestAnswer) ⌝ }
 {
     let said = r.said;
     let value = said.value;
@@ -115,7 +116,7 @@ pub fn write_line(
     pairs: &[u16],
     line: &[u16],
 ) -> usize
-    requires { ⌜ (length (now pairs) ≤ 512) × (length (now line) ≤ 16) × (longestLine ≤ length (now out)) ⌝ }
+    requires { ⌜ (length (now pairs) ≤ mostDeletions) × (length (now line) ≤ mostProcesses) × (longestLine ≤ length (now out)) ⌝ }
     ensures { λ x. ⌜ Printed (now (out .entry)) 0 (lineText number (r .said .refused) (answerText (c .operation) (c .caller) n (replyOf r (now (pairs .entry)) (now (line .entry))))) (now (out .exit)) x × (x ≤ longestLine) ⌝ }
 {
     let said = r.said;

@@ -4,12 +4,14 @@ use crate::line;
 use crate::text;
 use console_script::Call;
 use console_script::Read;
+use model::DELETIONS;
+use model::PROCESSES;
 ghost use mathlib.Core.Path.{_≡_};
 ghost use mathlib.Core.Option.{some};
 ghost use Prim.Native.Nat.{_-_, _≤_};
 ghost use lib.ListN.{length};
 ghost use Rattle.laws.specs.Choice.{pick};
-ghost use Rattle.words.specs.Layout.{runOf};
+ghost use Rattle.words.specs.Layout.{runOf, stateSize};
 ghost use Rattle.console_script.specs.Script.{callOf};
 ghost use Rattle.console_machine.specs.Made.{processes, lentLine, lentPairs};
 ghost use Rattle.console_steps.specs.Replied.{longestLine, Makes};
@@ -19,7 +21,7 @@ fn processes(w: &[u16]) -> usize
     ensures { λ r. ⌜ r ≡ processes (runOf (now (w .entry))) ⌝ }
 {
     let count = console_in_place::denied::count_of(w);
-    text::least(16, count)
+    text::least(PROCESSES, count)
 }
 
 // A length, or one less.
@@ -45,7 +47,7 @@ fn make_with(
     line: &mut [u16],
     out: &mut [u8],
 ) -> usize
-    requires { ⌜ (length (now w) ≡ 6464) × (n ≡ processes (runOf (now w))) × (now pairs ≡ lentPairs (runOf (now w)) c) × (now line ≡ lentLine (runOf (now w)) c) × (longestLine ≤ length (now out)) ⌝ }
+    requires { ⌜ (length (now w) ≡ stateSize) × (n ≡ processes (runOf (now w))) × (now pairs ≡ lentPairs (runOf (now w)) c) × (now line ≡ lentLine (runOf (now w)) c) × (longestLine ≤ length (now out)) ⌝ }
     ensures { λ r. ⌜ Makes (runOf (now (w .entry))) number (some c) (now (w .exit)) (now (out .exit)) r ⌝ }
 {
     let replied = calls::call(w, c, pairs, line);
@@ -54,14 +56,14 @@ fn make_with(
 
 // The lists have room for n entries and for n × n pairs, or are one entry too short, and every entry is 0.
 fn make_asked(w: &mut [u16], number: u64, c: Call, out: &mut [u8]) -> usize
-    requires { ⌜ (length (now w) ≡ 6464) × (longestLine ≤ length (now out)) ⌝ }
+    requires { ⌜ (length (now w) ≡ stateSize) × (longestLine ≤ length (now out)) ⌝ }
     ensures { λ r. ⌜ Makes (runOf (now (w .entry))) number (some c) (now (w .exit)) (now (out .exit)) r ⌝ }
 {
     let n = processes(w);
     let room = cut(2 * n * n, c.short);
     let members = cut(n, c.short);
-    let mut pairs = [0u16; 512];
-    let mut line = [0u16; 16];
+    let mut pairs = [0u16; DELETIONS];
+    let mut line = [0u16; PROCESSES];
     make_with(
         w,
         number,
@@ -75,7 +77,7 @@ fn make_asked(w: &mut [u16], number: u64, c: Call, out: &mut [u8]) -> usize
 
 // Eight bytes of a script. What is no call is refused with 14.
 pub fn make(w: &mut [u16], number: u64, bytes: [u8; 8], out: &mut [u8]) -> usize
-    requires { ⌜ (length (now w) ≡ 6464) × (longestLine ≤ length (now out)) ⌝ }
+    requires { ⌜ (length (now w) ≡ stateSize) × (longestLine ≤ length (now out)) ⌝ }
     ensures { λ r. ⌜ Makes (runOf (now (w .entry))) number (callOf bytes) (now (w .exit)) (now (out .exit)) r ⌝ }
 {
     let read = console_script::next_of(8, bytes);

@@ -25,6 +25,12 @@ pub const FAILING: u64 = 5;
 
 pub const STOPPED: u64 = 0;
 
+// No script is so long (mostCalls in the specs of console_machine).
+pub const MOST_CALLS: u64 = 9000000000000000000;
+
+// The last of them, counted from 0.
+const LAST_CALL: u64 = MOST_CALLS - 1;
+
 // A phase in which no calls are counted.
 pub fn at(phase: u64, size: usize) -> Marks
     ensures { λ r. ⌜ r ≡ record { phase = phase; done = 0; kept = 0; size = size } ⌝ }
@@ -41,9 +47,9 @@ fn most_done(phase: u64) -> u64
     ensures { λ r. ⌜ r ≡ mostDone phase ⌝ }
 {
     if phase == READING {
-        return 8999999999999999999;
+        return LAST_CALL;
     }
-    9000000000000000000
+    MOST_CALLS
 }
 
 // Whether the numbers are those of a state.

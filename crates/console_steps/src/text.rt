@@ -6,6 +6,7 @@ ghost use mathlib.Core.Path.{_≡_};
 ghost use mathlib.Core.Option.{some};
 ghost use Prim.Native.Nat.{_+_, _*_, _≤_, min};
 ghost use lib.ListN.{length};
+ghost use Rattle.console_steps.specs.Replied.{longestField};
 ghost use Rattle.listing.specs.Lines.{valueIn};
 ghost use Rattle.listing.specs.Printed.{Printed};
 ghost use Rattle.console_machine.specs.Text.{fieldText, pairsText, entriesText, memberSaid, membersText};
@@ -22,24 +23,24 @@ pub fn least(x: usize, y: usize) -> usize
 
 // A value after a space, or a hyphen where there is none.
 pub fn write_value(out: &mut [u8], at: usize, value: Value) -> usize
-    requires { ⌜ at + 21 ≤ length (now out) ⌝ }
-    ensures { λ r. ⌜ Printed (now (out .entry)) at (fieldText (valueIn value)) (now (out .exit)) r × (r ≤ at + 21) ⌝ }
+    requires { ⌜ at + longestField ≤ length (now out) ⌝ }
+    ensures { λ r. ⌜ Printed (now (out .entry)) at (fieldText (valueIn value)) (now (out .exit)) r × (r ≤ at + longestField) ⌝ }
 {
     let spaced = listing::write_byte(out, at, b' ');
     listing::write_value(out, spaced, value)
 }
 
 pub fn write_field(out: &mut [u8], at: usize, x: u64) -> usize
-    requires { ⌜ at + 21 ≤ length (now out) ⌝ }
-    ensures { λ r. ⌜ Printed (now (out .entry)) at (fieldText (some x)) (now (out .exit)) r × (r ≤ at + 21) ⌝ }
+    requires { ⌜ at + longestField ≤ length (now out) ⌝ }
+    ensures { λ r. ⌜ Printed (now (out .entry)) at (fieldText (some x)) (now (out .exit)) r × (r ≤ at + longestField) ⌝ }
 {
     write_value(out, at, Value::Number(x))
 }
 
 // How many pairs, and each of them that the list has.
 pub fn write_pairs(out: &mut [u8], at: usize, count: usize, pairs: &[u16]) -> usize
-    requires { ⌜ at + (21 + 21 * length (now pairs)) ≤ length (now out) ⌝ }
-    ensures { λ r. ⌜ Printed (now (out .entry)) at (pairsText count (now (pairs .entry))) (now (out .exit)) r × (r ≤ at + (21 + 21 * length (now (pairs .entry)))) ⌝ }
+    requires { ⌜ at + (longestField + longestField * length (now pairs)) ≤ length (now out) ⌝ }
+    ensures { λ r. ⌜ Printed (now (out .entry)) at (pairsText count (now (pairs .entry))) (now (out .exit)) r × (r ≤ at + (longestField + longestField * length (now (pairs .entry)))) ⌝ }
 {
     let counted = write_field(out, at, count as u64);
     let shown = least(count, pairs.len() / 2);
@@ -61,8 +62,8 @@ fn member(caller: Caller, n: usize, p: usize, x: u16) -> Value
 
 // The places of a line list after a line call.
 pub fn write_members(out: &mut [u8], at: usize, caller: Caller, n: usize, line: &[u16]) -> usize
-    requires { ⌜ at + 21 * length (now line) ≤ length (now out) ⌝ }
-    ensures { λ r. ⌜ Printed (now (out .entry)) at (membersText caller n 0 (now (line .entry))) (now (out .exit)) r × (r ≤ at + 21 * length (now (line .entry))) ⌝ }
+    requires { ⌜ at + longestField * length (now line) ≤ length (now out) ⌝ }
+    ensures { λ r. ⌜ Printed (now (out .entry)) at (membersText caller n 0 (now (line .entry))) (now (out .exit)) r × (r ≤ at + longestField * length (now (line .entry))) ⌝ }
 {
     let mut place = at;
     let mut p = 0;
@@ -78,8 +79,8 @@ pub fn write_members(out: &mut [u8], at: usize, caller: Caller, n: usize, line: 
 
 // The entries of a line list, all of which were written: an operator sees them all.
 pub fn write_entries(out: &mut [u8], at: usize, line: &[u16]) -> usize
-    requires { ⌜ at + 21 * length (now line) ≤ length (now out) ⌝ }
-    ensures { λ r. ⌜ Printed (now (out .entry)) at (entriesText (now (line .entry))) (now (out .exit)) r × (r ≤ at + 21 * length (now (line .entry))) ⌝ }
+    requires { ⌜ at + longestField * length (now line) ≤ length (now out) ⌝ }
+    ensures { λ r. ⌜ Printed (now (out .entry)) at (entriesText (now (line .entry))) (now (out .exit)) r × (r ≤ at + longestField * length (now (line .entry))) ⌝ }
 {
     let role = Role::Operator;
     let caller = Caller { role, owned: 0 };

@@ -10,15 +10,15 @@ use Rattle.laws.specs.Choice.{pick}
 use Rattle.laws.specs.Loops.{iter, iter-none, iter-more}
 use Rattle.decision.specs.declared.crossing.Least.{Least}
 use Rattle.decision.specs.declared.crossing.Near.{Near}
-use Rattle.decision.specs.Rows.{entryAt}
+use Rattle.decision.specs.Rows.{entryAt, tableSize, mostRows}
 
 -- Every row that a message names is in the table.
 pub record Sized (last : ℕ) (vectors from to : List ℕ) : Type 0 where
-  pub room : 65792 ≤ length vectors
+  pub room : tableSize ≤ length vectors
   pub sends : last ≤ length from
   pub receipts : last ≤ length to
-  pub from-row : (m : ℕ) → m < last → getD from m 0 < 4112
-  pub to-row : (m : ℕ) → m < last → getD to m 0 ≤ 4112
+  pub from-row : (m : ℕ) → m < last → getD from m 0 < mostRows
+  pub to-row : (m : ℕ) → m < last → getD to m 0 ≤ mostRows
 
 -- What the state that ends the receiver's interval knows of f.
 abbrev pub knownAt : List ℕ → List ℕ → ℕ → ℕ → ℕ

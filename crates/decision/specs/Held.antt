@@ -5,30 +5,32 @@ use mathlib.Core.Path.{_≡_}
 use mathlib.Core.List.{List}
 use Prim.Native.Nat.{ℕ, suc, _-_, _≤_, _<_}
 use lib.ListN.{length, getD}
+use Rattle.model.specs.Words.{mostProcesses}
 use Rattle.histories.specs.History.{sent, received, Lists, checkpoints}
 use Rattle.patterns.specs.Paths.{StandsIn, FirstBreaking}
 use Rattle.patterns.proofs.Trail.{Trail, Right}
 use Rattle.patterns.specs.declared.Verdict.{Verdict}
 use Rattle.patterns.specs.declared.Verdict.the-variants.{Refused, Trackable, Breaks}
 use Rattle.patterns.specs.Paths as paths
-use Rattle.decision.specs.Rows.{entryAt}
+use Rattle.patterns.specs.Patterns.{mostJudged}
+use Rattle.decision.specs.Rows.{entryAt, tableSize, mostRows}
 
 -- The interval of a row: its own entry.
 abbrev pub intervalOf : List ℕ → List ℕ → ℕ → ℕ
 intervalOf vectors process r = entryAt vectors r (getD process r 0)
 
 pub record Held (n : ℕ) (lists : Lists) (vector : ℕ → ℕ → ℕ → ℕ) (rows last : ℕ) (vectors process from to : List ℕ) : Type 0 where
-  pub few : n ≤ 16
-  pub room : 65792 ≤ length vectors
-  pub places : 4112 ≤ length process
-  pub sends : 4096 ≤ length from
-  pub receipts : 4096 ≤ length to
-  pub most-rows : rows ≤ 4112
-  pub most-messages : last ≤ 4096
+  pub few : n ≤ mostProcesses
+  pub room : tableSize ≤ length vectors
+  pub places : mostRows ≤ length process
+  pub sends : mostJudged ≤ length from
+  pub receipts : mostJudged ≤ length to
+  pub most-rows : rows ≤ mostRows
+  pub most-messages : last ≤ mostJudged
   -- each row is a state, with its vector
   pub owner : (r : ℕ) → r < rows → getD process r 0 < n
   pub state : (r : ℕ) → r < rows → intervalOf vectors process r ≤ checkpoints (lists (getD process r 0))
-  pub vector-is : (r f : ℕ) → r < rows → f < 16 → entryAt vectors r f ≡ vector (getD process r 0) (intervalOf vectors process r) f
+  pub vector-is : (r f : ℕ) → r < rows → f < mostProcesses → entryAt vectors r f ≡ vector (getD process r 0) (intervalOf vectors process r) f
   -- each state has a row, and those of a process ascend
   pub there : (p k : ℕ) → p < n → 1 ≤ k → k ≤ checkpoints (lists p) → (r : ℕ) × (r < rows) × (getD process r 0 ≡ p) × (intervalOf vectors process r ≡ k)
   pub ascends : (r x : ℕ) → r < x → x < rows → getD process r 0 ≡ getD process x 0 → intervalOf vectors process r < intervalOf vectors process x

@@ -8,18 +8,19 @@ use native.Mathlib.Omega.{arith}
 use lib.Dec.{eqb, ltb, leb}
 use lib.ListN.{length, getD, set}
 use Rattle.laws.specs.Choice.{pick}
+use Rattle.model.specs.Words.{mostProcesses}
 use Rattle.decision.specs.declared.reach.Pass.{Pass}
-use Rattle.decision.specs.Rows.{entryAt}
+use Rattle.decision.specs.Rows.{entryAt, mostRows}
 
 -- Every row that a message names has its process.
 pub record Linked (last : ℕ) (process from to : List ℕ) : Type 0 where
-  pub places : 4112 ≤ length process
+  pub places : mostRows ≤ length process
   pub sends : last ≤ length from
   pub receipts : last ≤ length to
-  pub from-row : (m : ℕ) → m < last → getD from m 0 < 4112
-  pub to-row : (m : ℕ) → m < last → getD to m 0 ≤ 4112
-  pub sender : (m : ℕ) → m < last → getD process (getD from m 0) 0 < 16
-  pub receiver : (m : ℕ) → m < last → (getD to m 0 ≡ 0 → ⊥) → getD process (getD to m 0 - 1) 0 < 16
+  pub from-row : (m : ℕ) → m < last → getD from m 0 < mostRows
+  pub to-row : (m : ℕ) → m < last → getD to m 0 ≤ mostRows
+  pub sender : (m : ℕ) → m < last → getD process (getD from m 0) 0 < mostProcesses
+  pub receiver : (m : ℕ) → m < last → (getD to m 0 ≡ 0 → ⊥) → getD process (getD to m 0 - 1) 0 < mostProcesses
 
 -- The process of a message's send, and of its receipt.
 abbrev pub senderOf : List ℕ → List ℕ → ℕ → ℕ
@@ -48,14 +49,14 @@ passed-one process from to (suc m) p h = let e : suc m - 1 ≡ m = omega arith i
 
 -- Row r of process q is one of those to begin with, or a message from a row that is reached leads to it.
 pub data ReachedRow (last : ℕ) (process from to start : List ℕ) : ℕ → ℕ → Type 0 where
-  begins : {q : ℕ} → q < 16 → ReachedRow last process from to start q (getD start q 0)
+  begins : {q : ℕ} → q < mostProcesses → ReachedRow last process from to start q (getD start q 0)
   leads : {r m : ℕ} → m < last → (getD to m 0 ≡ 0 → ⊥) → ReachedRow last process from to start (senderOf process from m) r → r ≤ getD from m 0
       → ReachedRow last process from to start (receiverOf process to m) (getD to m 0 - 1)
 
 pub record Closure (last : ℕ) (process from to start r : List ℕ) : Type 0 where
-  pub size : length r ≡ 16
+  pub size : length r ≡ mostProcesses
   pub lower : (q : ℕ) → getD r q 0 ≤ getD start q 0
-  pub sound : (q : ℕ) → q < 16 → ReachedRow last process from to start q (getD r q 0)
+  pub sound : (q : ℕ) → q < mostProcesses → ReachedRow last process from to start q (getD r q 0)
   pub closed : (m : ℕ) → m < last → (getD to m 0 ≡ 0 → ⊥) → getD r (senderOf process from m) 0 ≤ getD from m 0 → getD r (receiverOf process to m) 0 ≤ getD to m 0 - 1
 
 -- The first row of p whose own entry is above k.

@@ -14,62 +14,73 @@ use Rattle.laws.specs.Lists.{table}
 use Rattle.laws.specs.Loops.{iter, iter-none, iter-more, either}
 use Rattle.laws.specs.Tables.{length-table, getD-table}
 use Rattle.model.specs.declared.Interval.{Interval}
+use Rattle.model.specs.Words.{mostProcesses}
+
+-- A row for each process and one for each record; the entries of so many rows; the number of no row.
+abbrev pub mostRows : ℕ
+mostRows = 4112
+
+abbrev pub tableSize : ℕ
+tableSize = 65_792
+
+abbrev pub noRow : ℕ
+noRow = 65_535
 
 -- Entry f of row r.
 abbrev pub entryAt : List ℕ → ℕ → ℕ → ℕ
-entryAt t r f = getD t (16 * r + f) 0
+entryAt t r f = getD t (mostProcesses * r + f) 0
 
 -- Row r of the table.
 unfoldable pub rowOf : List ℕ → ℕ → List Interval
-rowOf t r = table 16 (λ f. record { 0 = getD t (16 * r + f) 0 })
+rowOf t r = table mostProcesses (λ f. record { 0 = getD t (mostProcesses * r + f) 0 })
 
 -- The table with the first n entries of v in row r, and with all 16.
 unfoldable pub putFirst : ℕ → List ℕ → ℕ → List Interval → List ℕ
-putFirst n t r v = iter n (λ f u. set u (16 * r + f) (getD v f (record { 0 = 0 }) .0)) t
+putFirst n t r v = iter n (λ f u. set u (mostProcesses * r + f) (getD v f (record { 0 = 0 }) .0)) t
 
 unfoldable pub putRow : List ℕ → ℕ → List Interval → List ℕ
-putRow t r v = putFirst 16 t r v
+putRow t r v = putFirst mostProcesses t r v
 
 -- The row that is put is v, and every other row stays.
 module _ (t : List ℕ) (r : ℕ) (v : List Interval) where
   first-length : (n : ℕ) → length (putFirst n t r v) ≡ length t
   unfolding putFirst iter
   first-length zero = refl
-  first-length (suc n) = length-set (putFirst n t r v) (16 * r + n) (getD v n (record { 0 = 0 }) .0) ∙ first-length n
+  first-length (suc n) = length-set (putFirst n t r v) (mostProcesses * r + n) (getD v n (record { 0 = 0 }) .0) ∙ first-length n
 
-  first-other : (n x : ℕ) → n ≤ 16 → (x < 16 * r) ⊎ (16 * r + 16 ≤ x) → getD (putFirst n t r v) x 0 ≡ getD t x 0
+  first-other : (n x : ℕ) → n ≤ mostProcesses → (x < mostProcesses * r) ⊎ (mostProcesses * r + mostProcesses ≤ x) → getD (putFirst n t r v) x 0 ≡ getD t x 0
   unfolding putFirst iter
   first-other zero x h o = refl
   first-other (suc n) x h o =
-      let ne : x ≡ 16 * r + n → ⊥ = λ e. either o (λ l. omega arith) (λ l. omega arith) in
-      getD-set-other (putFirst n t r v) (16 * r + n) x (getD v n (record { 0 = 0 }) .0) 0 ne ∙ first-other n x (omega arith) o
+      let ne : x ≡ mostProcesses * r + n → ⊥ = λ e. either o (λ l. omega arith) (λ l. omega arith) in
+      getD-set-other (putFirst n t r v) (mostProcesses * r + n) x (getD v n (record { 0 = 0 }) .0) 0 ne ∙ first-other n x (omega arith) o
 
-  first-same : (n f : ℕ) → f < n → 16 * r + n ≤ length t → getD (putFirst n t r v) (16 * r + f) 0 ≡ getD v f (record { 0 = 0 }) .0
+  first-same : (n f : ℕ) → f < n → mostProcesses * r + n ≤ length t → getD (putFirst n t r v) (mostProcesses * r + f) 0 ≡ getD v f (record { 0 = 0 }) .0
   unfolding putFirst iter
   first-same zero f h b = absurd (omega arith)
   first-same (suc n) f h b = by-eq f n
-      (λ e. rw e (getD-set-same (putFirst n t r v) (16 * r + n) (getD v n (record { 0 = 0 }) .0) 0 (omega (arith, first-length n))))
-      (λ ne. getD-set-other (putFirst n t r v) (16 * r + n) (16 * r + f) (getD v n (record { 0 = 0 }) .0) 0 (λ e. ne (omega arith)) ∙ first-same n f (omega arith) (omega arith))
+      (λ e. rw e (getD-set-same (putFirst n t r v) (mostProcesses * r + n) (getD v n (record { 0 = 0 }) .0) 0 (omega (arith, first-length n))))
+      (λ ne. getD-set-other (putFirst n t r v) (mostProcesses * r + n) (mostProcesses * r + f) (getD v n (record { 0 = 0 }) .0) 0 (λ e. ne (omega arith)) ∙ first-same n f (omega arith) (omega arith))
 
   pub put-none : t ≡ putFirst 0 t r v
   unfolding putFirst
-  put-none = iter-none (λ f u. set u (16 * r + f) (getD v f (record { 0 = 0 }) .0)) t
+  put-none = iter-none (λ f u. set u (mostProcesses * r + f) (getD v f (record { 0 = 0 }) .0)) t
 
-  pub put-more : (n : ℕ) (u : List ℕ) → u ≡ putFirst n t r v → set u (16 * r + n) (getD v n (record { 0 = 0 }) .0) ≡ putFirst (n + 1) t r v
+  pub put-more : (n : ℕ) (u : List ℕ) → u ≡ putFirst n t r v → set u (mostProcesses * r + n) (getD v n (record { 0 = 0 }) .0) ≡ putFirst (n + 1) t r v
   unfolding putFirst
-  put-more n u e = iter-more (λ f u. set u (16 * r + f) (getD v f (record { 0 = 0 }) .0)) t u n _ e refl
+  put-more n u e = iter-more (λ f u. set u (mostProcesses * r + f) (getD v f (record { 0 = 0 }) .0)) t u n _ e refl
 
   pub put-length : length (putRow t r v) ≡ length t
   unfolding putRow
-  put-length = first-length 16
+  put-length = first-length mostProcesses
 
-  pub put-same : (f : ℕ) → f < 16 → 16 * r + 16 ≤ length t → entryAt (putRow t r v) r f ≡ getD v f (record { 0 = 0 }) .0
+  pub put-same : (f : ℕ) → f < mostProcesses → mostProcesses * r + mostProcesses ≤ length t → entryAt (putRow t r v) r f ≡ getD v f (record { 0 = 0 }) .0
   unfolding putRow
-  put-same f h b = first-same 16 f h b
+  put-same f h b = first-same mostProcesses f h b
 
-  pub put-other : (x f : ℕ) → f < 16 → (x ≡ r → ⊥) → entryAt (putRow t r v) x f ≡ entryAt t x f
+  pub put-other : (x f : ℕ) → f < mostProcesses → (x ≡ r → ⊥) → entryAt (putRow t r v) x f ≡ entryAt t x f
   unfolding putRow
-  put-other x f h ne = first-other 16 (16 * x + f) (omega arith) (by-bool (ltb x r)
+  put-other x f h ne = first-other mostProcesses (mostProcesses * x + f) (omega arith) (by-bool (ltb x r)
       (λ e. inl (omega (arith, ltb-true x r e)))
       (λ e. let l = ltb-false x r e in let lt : r < x = omega (arith, apart) in inr (omega arith)))
     where
@@ -77,10 +88,10 @@ module _ (t : List ℕ) (r : ℕ) (v : List Interval) where
       apart e = ne (sym e)
 
 -- Entry f of a row that is read.
-pub row-entry : (t : List ℕ) (r f : ℕ) → f < 16 → getD (rowOf t r) f (record { 0 = 0 }) ≡ record { 0 = entryAt t r f }
+pub row-entry : (t : List ℕ) (r f : ℕ) → f < mostProcesses → getD (rowOf t r) f (record { 0 = 0 }) ≡ record { 0 = entryAt t r f }
 unfolding rowOf
-row-entry t r f h = getD-table 16 (λ f. record { 0 = getD t (16 * r + f) 0 }) f (record { 0 = 0 }) h
+row-entry t r f h = getD-table mostProcesses (λ f. record { 0 = getD t (mostProcesses * r + f) 0 }) f (record { 0 = 0 }) h
 
-pub row-length : (t : List ℕ) (r : ℕ) → length (rowOf t r) ≡ 16
+pub row-length : (t : List ℕ) (r : ℕ) → length (rowOf t r) ≡ mostProcesses
 unfolding rowOf
-row-length t r = length-table {A = Interval} 16 (λ f. record { 0 = getD t (16 * r + f) 0 })
+row-length t r = length-table {A = Interval} mostProcesses (λ f. record { 0 = getD t (mostProcesses * r + f) 0 })

@@ -1,6 +1,7 @@
 // The near end: which received messages cross, and the least that a receiver's state knows where one does.
 ghost use mathlib.Core.Path.{_≡_};
 ghost use Prim.Native.Nat.{_≤_, _<_};
+ghost use Rattle.model.specs.Words.{mostProcesses};
 ghost use Rattle.decision.specs.Crossings.{Sized, crossingOf, lesserOf, leastCrossing, NearEnd};
 
 // Whether a message crosses, and the least entry that the receiver's state of one that does has.
@@ -18,7 +19,7 @@ pub struct Near {
 
 // The message in place m crosses for f: the state that ends its receiver's interval knows less of f than the one that ends its sender's.
 fn crossing(vectors: &[u16], from: &[u16], to: &[u16], last: usize, m: usize, f: usize) -> Least
-    requires { ⌜ (m < last) × (f < 16) × Sized last (now vectors) (now from) (now to) ⌝ }
+    requires { ⌜ (m < last) × (f < mostProcesses) × Sized last (now vectors) (now from) (now to) ⌝ }
     ensures { λ r. ⌜ r ≡ crossingOf (now (vectors .entry)) (now (from .entry)) (now (to .entry)) f m ⌝ }
 {
     let t = to[m];
@@ -61,7 +62,7 @@ fn lesser(a: Least, b: Least) -> Least
 }
 
 fn least_crossing(vectors: &[u16], from: &[u16], to: &[u16], last: usize, f: usize) -> Least
-    requires { ⌜ (f < 16) × Sized last (now vectors) (now from) (now to) ⌝ }
+    requires { ⌜ (f < mostProcesses) × Sized last (now vectors) (now from) (now to) ⌝ }
     ensures { λ r. ⌜ r ≡ leastCrossing (now (vectors .entry)) (now (from .entry)) (now (to .entry)) f last ⌝ }
 {
     let mut least = Least {
@@ -76,7 +77,7 @@ fn least_crossing(vectors: &[u16], from: &[u16], to: &[u16], last: usize, f: usi
 }
 
 pub fn near_end(vectors: &[u16], from: &[u16], to: &[u16], last: usize, n: usize) -> Near
-    requires { ⌜ (n ≤ 16) × Sized last (now vectors) (now from) (now to) ⌝ }
+    requires { ⌜ (n ≤ mostProcesses) × Sized last (now vectors) (now from) (now to) ⌝ }
     ensures { λ r. ⌜ NearEnd (now (vectors .entry)) (now (from .entry)) (now (to .entry)) last n r ⌝ }
 {
     for f in 0..n {

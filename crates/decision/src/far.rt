@@ -1,7 +1,10 @@
 // The far end: the first process whose least reached row does not know the near end.
+use crate::NO_ROW;
+use model::PROCESSES;
 ghost use mathlib.Core.Path.{_≡_};
 ghost use Prim.Native.Nat.{_+_, _*_, _≤_, _<_};
 ghost use lib.ListN.{length};
+ghost use Rattle.model.specs.Words.{mostProcesses};
 ghost use Rattle.decision.specs.Far.{Reaching, FarEnd};
 
 pub struct Far {
@@ -11,13 +14,13 @@ pub struct Far {
 }
 
 // The first process whose least reached row does not know the near end, and that row's own entry.
-pub fn far_end(vectors: &[u16], reach: [u16; 16], n: usize, p: usize, k: u16) -> Far
-    requires { ⌜ (n ≤ 16) × (p < 16) × Reaching (now vectors) reach ⌝ }
+pub fn far_end(vectors: &[u16], reach: [u16; PROCESSES], n: usize, p: usize, k: u16) -> Far
+    requires { ⌜ (n ≤ mostProcesses) × (p < mostProcesses) × Reaching (now vectors) reach ⌝ }
     ensures { λ r. ⌜ FarEnd (now (vectors .entry)) reach n p k r ⌝ }
 {
     for q in 0..n {
         let r = reach[q];
-        if r != 65535 {
+        if r != NO_ROW {
             let row = r as usize;
             let known = super::flat::entry(vectors, row, p);
             if known <= k {

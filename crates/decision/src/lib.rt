@@ -14,8 +14,12 @@ pub mod reach;
 pub mod far;
 
 use model::CheckpointIndex;
+use model::PROCESSES;
 use patterns::Verdict;
 ghost use Rattle.decision.specs.Held.{Holds, Judges};
+
+// No row of a process was reached: no row has this number.
+pub const NO_ROW: u16 = 65535;
 
 // No message crosses: trackable. Else the near end, and what its closure reaches first without knowing it.
 pub fn decide(
@@ -37,7 +41,7 @@ pub fn decide(
     let p = near.process;
     let k = near.index;
     let first = reach::first_row(vectors, process, rows, p, k);
-    let mut start = [65535u16; 16];
+    let mut start = [NO_ROW; PROCESSES];
     start[p] = first as u16;
     let all = reach::closure(start, process, from, to, last);
     let far = far::far_end(vectors, all, n, p, k);

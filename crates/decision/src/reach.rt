@@ -1,19 +1,21 @@
 // The closure: the least row of each process that a zigzag path from the near end reaches.
+use model::PROCESSES;
 ghost use mathlib.Core.Path.{_≡_};
 ghost use mathlib.Core.Bool.{false};
 ghost use Prim.Native.Nat.{_+_, _*_, _≤_, _<_};
 ghost use lib.ListN.{length};
+ghost use Rattle.model.specs.Words.{mostProcesses};
 ghost use Rattle.decision.specs.Reach.{Linked, loweredBy, relaxedBy, passed, Closure, FirstRow};
 
 // The least row reached of each process, 65535 for none, and whether this pass lowered one.
 pub struct Pass {
-    pub reach: [u16; 16],
+    pub reach: [u16; PROCESSES],
     pub changed: bool,
 }
 
 // The first row of p whose own entry is above k; `rows` if there is none.
 pub fn first_row(vectors: &[u16], process: &[u16], rows: usize, p: usize, k: u16) -> usize
-    requires { ⌜ (p < 16) × (16 * rows ≤ length (now vectors)) × (rows ≤ length (now process)) ⌝ }
+    requires { ⌜ (p < mostProcesses) × (mostProcesses * rows ≤ length (now vectors)) × (rows ≤ length (now process)) ⌝ }
     ensures { λ r. ⌜ FirstRow (now (vectors .entry)) (now (process .entry)) rows p k r ⌝ }
 {
     let mut r = 0;
@@ -32,7 +34,7 @@ pub fn first_row(vectors: &[u16], process: &[u16], rows: usize, p: usize, k: u16
 
 // What is reached once a message leads from row a of process s to row b of process q.
 fn lowered(old: Pass, s: usize, q: usize, a: u16, b: u16) -> Pass
-    requires { ⌜ (s < 16) × (q < 16) ⌝ }
+    requires { ⌜ (s < mostProcesses) × (q < mostProcesses) ⌝ }
     ensures { λ r. ⌜ r ≡ loweredBy s q a b old ⌝ }
 {
     let mut reach = old.reach;
@@ -65,7 +67,13 @@ fn relaxed(old: Pass, process: &[u16], from: &[u16], to: &[u16], last: usize, m:
 }
 
 // One pass over the messages, highest number first.
-fn pass_over(reach: [u16; 16], process: &[u16], from: &[u16], to: &[u16], last: usize) -> Pass
+fn pass_over(
+    reach: [u16; PROCESSES],
+    process: &[u16],
+    from: &[u16],
+    to: &[u16],
+    last: usize,
+) -> Pass
     requires { ⌜ Linked last (now process) (now from) (now to) ⌝ }
     ensures { λ r. ⌜ r ≡ passed (now (process .entry)) (now (from .entry)) (now (to .entry)) last (record { reach = reach; changed = false }) ⌝ }
 {
@@ -83,13 +91,13 @@ fn pass_over(reach: [u16; 16], process: &[u16], from: &[u16], to: &[u16], last: 
 
 // Passes until one lowers nothing.
 pub fn closure(
-    reach: [u16; 16],
+    reach: [u16; PROCESSES],
     process: &[u16],
     from: &[u16],
     to: &[u16],
     last: usize,
-) -> [u16; 16]
-    requires { ⌜ (length reach ≡ 16) × Linked last (now process) (now from) (now to) ⌝ }
+) -> [u16; PROCESSES]
+    requires { ⌜ (length reach ≡ mostProcesses) × Linked last (now process) (now from) (now to) ⌝ }
     ensures { λ r. ⌜ Closure last (now (process .entry)) (now (from .entry)) (now (to .entry)) reach r ⌝ }
 {
     let mut p = pass_over(reach, process, from, to, last);

@@ -2,16 +2,18 @@
 // proved by hand: one copies an element out, one walks the list and hands each element on to a covered function. Every list will do, however long.
 use model::CheckpointIndex;
 use model::Named;
+use model::PROCESSES;
 ghost use mathlib.Core.Path.{_≡_};
 ghost use Prim.Native.Nat.{_+_, _<_, _≤_, _^_, max};
 ghost use lib.Dec.{ltb};
 ghost use lib.ListN.{length, getD, set, take};
 ghost use Rattle.laws.specs.Choice.{pick};
+ghost use Rattle.model.specs.Words.{mostProcesses};
 ghost use Rattle.earliest.specs.Copying.{noNamed, nothingCopied, withElement, copyOf};
 
 // What is copied out of a list: its first 16 elements, how many elements it has, and the greatest process that one of them names.
 pub struct Copied {
-    pub named: [Named; 16],
+    pub named: [Named; PROCESSES],
     pub length: usize,
     pub process: usize,
 }
@@ -24,7 +26,7 @@ fn nothing_copied() -> Copied
         process: 0,
         index: CheckpointIndex(0),
     };
-    let named = [none; 16];
+    let named = [none; PROCESSES];
     Copied {
         named,
         length: 0,
@@ -39,10 +41,10 @@ fn greater(a: usize, b: usize) -> usize
 }
 
 // An element at its place, if that is one of the first 16.
-fn placed(named: [Named; 16], at: usize, c: Named) -> [Named; 16]
-    ensures { λ r. ⌜ r ≡ pick (ltb at 16) (set named at c) named ⌝ }
+fn placed(named: [Named; PROCESSES], at: usize, c: Named) -> [Named; PROCESSES]
+    ensures { λ r. ⌜ r ≡ pick (ltb at mostProcesses) (set named at c) named ⌝ }
 {
-    if at < 16 {
+    if at < PROCESSES {
         let mut next = named;
         next[at] = c;
         return next;
@@ -88,8 +90,8 @@ pub fn copy_out(list: &[Named]) -> Copied
 }
 
 // The same of the first m elements of an array, which has 16.
-fn copy_some(named: [Named; 16], m: usize) -> Copied
-    requires { ⌜ m ≤ 16 ⌝ }
+fn copy_some(named: [Named; PROCESSES], m: usize) -> Copied
+    requires { ⌜ m ≤ mostProcesses ⌝ }
     ensures { λ r. ⌜ r ≡ copyOf (take m named) ⌝ }
 {
     let mut copied = nothing_copied();
@@ -101,11 +103,11 @@ fn copy_some(named: [Named; 16], m: usize) -> Copied
 }
 
 // A list that stands at the front of an array: covered for every caller.
-pub fn copy_front(named: [Named; 16], length: usize) -> Copied
+pub fn copy_front(named: [Named; PROCESSES], length: usize) -> Copied
     ensures { λ r. ⌜ r ≡ copyOf (take length named) ⌝ }
 {
-    if length < 16 {
+    if length < PROCESSES {
         return copy_some(named, length);
     }
-    copy_some(named, 16)
+    copy_some(named, PROCESSES)
 }

@@ -1,11 +1,13 @@
 // Each call of the library on the state behind the call before it, with lists of a given length that hold zeros. What comes back is the state and
 // the number of the answer: 0 if the call is accepted, else the refusal number. A deletion list of 512 entries and a line list of 16 do for every run.
+use model::DELETIONS;
 use model::Disk;
+use model::PROCESSES;
 use model::Run;
 ghost use Prim.Native.Nat.{_≤_};
 ghost use mathlib.Core.Path.{_≡_};
 ghost use lib.ListN.{replicate, take};
-ghost use Rattle.model.specs.Words.{ones};
+ghost use Rattle.model.specs.Words.{ones, mostDeletions, mostProcesses};
 ghost use Rattle.whole_runs.specs.Outcomes.{startOutcome, checkpointOutcome, sendOutcome, deliverOutcome, recoverOutcome, startReport, checkpointReport, sendReport, deliverReport, recoverReport};
 
 // The state behind a call, and the number of its answer.
@@ -15,7 +17,7 @@ pub struct After {
 }
 
 // A start with these block counts.
-pub(crate) fn start_with(n: usize, counts: [u32; 16]) -> After
+pub(crate) fn start_with(n: usize, counts: [u32; PROCESSES]) -> After
     ensures { λ r. ⌜ (r .run ≡ startOutcome n counts .run) × (r .refused ≡ startReport (startOutcome n counts .answer) .refused) ⌝ }
 {
     let outcome = calls::start::start(n, counts);
@@ -30,7 +32,7 @@ pub(crate) fn start_with(n: usize, counts: [u32; 16]) -> After
 pub(crate) fn start(n: usize) -> After
     ensures { λ r. ⌜ (r .run ≡ startOutcome n ones .run) × (r .refused ≡ startReport (startOutcome n ones .answer) .refused) ⌝ }
 {
-    start_with(n, [1; 16])
+    start_with(n, [1; PROCESSES])
 }
 
 // The same state with other blocks written and deleted, put in by hand: a state that no call need have returned.
@@ -42,10 +44,10 @@ pub(crate) fn forged(before: After, written: u64, deleted: u64) -> After {
 }
 
 pub(crate) fn checkpoint(before: After, i: usize, length: usize) -> After
-    requires { ⌜ length ≤ 512 ⌝ }
-    ensures { λ r. ⌜ (r .run ≡ checkpointOutcome (before .run) i (take length (replicate 512 0)) .run) × (r .refused ≡ checkpointReport (checkpointOutcome (before .run) i (take length (replicate 512 0)) .answer) .refused) ⌝ }
+    requires { ⌜ length ≤ mostDeletions ⌝ }
+    ensures { λ r. ⌜ (r .run ≡ checkpointOutcome (before .run) i (take length (replicate mostDeletions 0)) .run) × (r .refused ≡ checkpointReport (checkpointOutcome (before .run) i (take length (replicate mostDeletions 0)) .answer) .refused) ⌝ }
 {
-    let mut deleted = [0u16; 512];
+    let mut deleted = [0u16; DELETIONS];
     let outcome = calls::checkpoint::checkpoint(before.run, i, &mut deleted[..length]);
     let run = outcome.run;
     let answer = outcome.answer;
@@ -66,10 +68,10 @@ pub(crate) fn send(before: After, i: usize, j: usize) -> After
 }
 
 pub(crate) fn deliver(before: After, m: u32, length: usize) -> After
-    requires { ⌜ length ≤ 512 ⌝ }
-    ensures { λ r. ⌜ (r .run ≡ deliverOutcome (before .run) m (take length (replicate 512 0)) .run) × (r .refused ≡ deliverReport (deliverOutcome (before .run) m (take length (replicate 512 0)) .answer) .refused) ⌝ }
+    requires { ⌜ length ≤ mostDeletions ⌝ }
+    ensures { λ r. ⌜ (r .run ≡ deliverOutcome (before .run) m (take length (replicate mostDeletions 0)) .run) × (r .refused ≡ deliverReport (deliverOutcome (before .run) m (take length (replicate mostDeletions 0)) .answer) .refused) ⌝ }
 {
-    let mut deleted = [0u16; 512];
+    let mut deleted = [0u16; DELETIONS];
     let outcome = calls::deliver::deliver(before.run, m, &mut deleted[..length]);
     let run = outcome.run;
     let answer = outcome.answer;
@@ -79,12 +81,12 @@ pub(crate) fn deliver(before: After, m: u32, length: usize) -> After
 }
 
 pub(crate) fn recover(before: After, failed: u16, length: usize, members: usize) -> After
-    requires { ⌜ length ≤ 512 ⌝ }
-    requires { ⌜ members ≤ 16 ⌝ }
-    ensures { λ r. ⌜ (r .run ≡ recoverOutcome (before .run) failed (take length (replicate 512 0)) (take members (replicate 16 0)) .run) × (r .refused ≡ recoverReport (recoverOutcome (before .run) failed (take length (replicate 512 0)) (take members (replicate 16 0)) .answer) .refused) ⌝ }
+    requires { ⌜ length ≤ mostDeletions ⌝ }
+    requires { ⌜ members ≤ mostProcesses ⌝ }
+    ensures { λ r. ⌜ (r .run ≡ recoverOutcome (before .run) failed (take length (replicate mostDeletions 0)) (take members (replicate mostProcesses 0)) .run) × (r .refused ≡ recoverReport (recoverOutcome (before .run) failed (take length (replicate mostDeletions 0)) (take members (replicate mostProcesses 0)) .answer) .refused) ⌝ }
 {
-    let mut deleted = [0u16; 512];
-    let mut line = [0u16; 16];
+    let mut deleted = [0u16; DELETIONS];
+    let mut line = [0u16; PROCESSES];
     let outcome = calls::recover::recover(
         before.run,
         failed,
@@ -102,7 +104,7 @@ pub(crate) fn recover(before: After, failed: u16, length: usize, members: usize)
 pub(crate) fn checkpoints(before: After, i: usize, times: usize) -> After {
     let mut s = before;
     for k in 0..times {
-        s = checkpoint(s, i, 512);
+        s = checkpoint(s, i, DELETIONS);
     }
     s
 }

@@ -4,7 +4,10 @@ use crate::act;
 use crate::act::After;
 use crate::facts;
 use crate::say;
+use model::DELETIONS;
+use model::PROCESSES;
 ghost use Prim.Native.Nat.{_<_, _≤_};
+ghost use Rattle.model.specs.Words.{mostProcesses};
 
 fn step(number: u64, after: After) -> After {
     say::title(b"step", number);
@@ -15,27 +18,27 @@ fn step(number: u64, after: After) -> After {
 // Two processes with block counts 3 and 5; those of no process are 0. Process 1 stores a forced checkpoint, goes back behind a later one, and stores it again.
 pub(crate) fn disk_1() {
     say::title(b"disk", 1);
-    let mut counts = [0u32; 16];
+    let mut counts = [0u32; PROCESSES];
     counts[0] = 3;
     counts[1] = 5;
     let start = step(0, act::start_with(2, counts));
     let first = step(1, act::send(start, 1, 0));
     let second = step(2, act::send(first, 0, 1));
-    let third = step(3, act::deliver(second, 2, 512));
-    let fourth = step(4, act::checkpoint(third, 1, 512));
-    let fifth = step(5, act::recover(fourth, 1, 512, 16));
-    let sixth = step(6, act::checkpoint(fifth, 1, 512));
-    let seventh = step(7, act::deliver(sixth, 1, 512));
-    let eighth = step(8, act::checkpoint(seventh, 0, 512));
-    let ninth = step(9, act::recover(eighth, 0, 512, 16));
+    let third = step(3, act::deliver(second, 2, DELETIONS));
+    let fourth = step(4, act::checkpoint(third, 1, DELETIONS));
+    let fifth = step(5, act::recover(fourth, 1, DELETIONS, PROCESSES));
+    let sixth = step(6, act::checkpoint(fifth, 1, DELETIONS));
+    let seventh = step(7, act::deliver(sixth, 1, DELETIONS));
+    let eighth = step(8, act::checkpoint(seventh, 0, DELETIONS));
+    let ninth = step(9, act::recover(eighth, 0, DELETIONS, PROCESSES));
     facts::lines(ninth.run);
 }
 
 // A start of n processes in which p has this block count and all others have 1.
 fn count(n: usize, p: usize, blocks: u32)
-    requires { ⌜ p < 16 ⌝ }
+    requires { ⌜ p < mostProcesses ⌝ }
 {
-    let mut counts = [1u32; 16];
+    let mut counts = [1u32; PROCESSES];
     counts[p] = blocks;
     let done = act::start_with(n, counts);
     say::text(b"count");
@@ -48,7 +51,7 @@ fn count(n: usize, p: usize, blocks: u32)
 }
 
 fn counts(n: usize, p: usize)
-    requires { ⌜ p < 16 ⌝ }
+    requires { ⌜ p < mostProcesses ⌝ }
 {
     count(n, p, 0);
     count(n, p, 65535);
@@ -57,7 +60,7 @@ fn counts(n: usize, p: usize)
 
 // 1 comes before 15.
 fn outside(n: usize) {
-    let done = act::start_with(n, [0; 16]);
+    let done = act::start_with(n, [0; PROCESSES]);
     say::heading(b"outside", n as u64);
     say::value(done.refused as u64);
     say::end();
@@ -65,7 +68,7 @@ fn outside(n: usize) {
 
 // Two processes with block counts 1 and 65,535.
 fn two() -> After {
-    let mut counts = [1u32; 16];
+    let mut counts = [1u32; PROCESSES];
     counts[1] = 65535;
     act::start_with(2, counts)
 }
@@ -74,7 +77,7 @@ fn two() -> After {
 fn sum(number: u64, written: u64, deleted: u64) {
     let start = two();
     let set = act::forged(start, written, deleted);
-    let done = act::checkpoint(set, 0, 512);
+    let done = act::checkpoint(set, 0, DELETIONS);
     say::heading(b"sum", number);
     say::value(done.refused as u64);
     say::end();
@@ -102,11 +105,11 @@ fn near(left: u64)
     let second = act::send(first, 0, 1);
     let written = 1000000000000000 - left;
     let set = act::forged(second, written, written - 65536);
-    let basic = act::checkpoint(set, 1, 512);
+    let basic = act::checkpoint(set, 1, DELETIONS);
     say::heading(b"basic", left);
     say::value(basic.refused as u64);
     say::end();
-    let forced = act::deliver(set, 2, 512);
+    let forced = act::deliver(set, 2, DELETIONS);
     say::heading(b"forced", left);
     say::value(forced.refused as u64);
     say::end();
@@ -117,11 +120,11 @@ fn full() {
     let start = two();
     let sent = act::send(start, 0, 1);
     let set = act::forged(sent, 1000000000000000, 999999999934464);
-    let unforced = act::deliver(set, 1, 512);
+    let unforced = act::deliver(set, 1, DELETIONS);
     say::answer(b"unforced 0", unforced.refused);
-    let swept = act::recover(set, 0, 512, 16);
+    let swept = act::recover(set, 0, DELETIONS, PROCESSES);
     say::answer(b"recovered 0", swept.refused);
-    let recovered = act::recover(set, 1, 512, 16);
+    let recovered = act::recover(set, 1, DELETIONS, PROCESSES);
     say::answer(b"recovered 1", recovered.refused);
 }
 
@@ -130,7 +133,7 @@ fn own(entry: u64, times: usize) {
     let start = act::start(1);
     let high = act::checkpoints(start, 0, times);
     let set = act::forged(high, 1000000000000000, 999999999999999);
-    let done = act::checkpoint(set, 0, 512);
+    let done = act::checkpoint(set, 0, DELETIONS);
     say::heading(b"own", entry);
     say::value(done.refused as u64);
     say::end();

@@ -3,16 +3,19 @@
 use crate::act::After;
 use crate::say;
 use model::Checkpoint;
+use model::DELETIONS;
 use model::Disk;
 use model::Interval;
 use model::Kept;
 use model::LineAnswer;
+use model::PROCESSES;
 use model::Pin;
 use model::Pins;
 use model::RecoverAnswer;
 use model::Run;
 use model::Vectors;
 ghost use Prim.Native.Nat.{_<_, _≤_};
+ghost use Rattle.model.specs.Words.{mostProcesses, keptPlaces};
 
 // A count, where there are places for so many: nothing is printed past them.
 fn within(places: usize, count: usize) -> usize
@@ -21,8 +24,8 @@ fn within(places: usize, count: usize) -> usize
     if count < places { count } else { places }
 }
 
-fn entries(row: [Interval; 16], n: usize)
-    requires { ⌜ n ≤ 16 ⌝ }
+fn entries(row: [Interval; PROCESSES], n: usize)
+    requires { ⌜ n ≤ mostProcesses ⌝ }
 {
     for f in 0..n {
         let e = row[f];
@@ -32,8 +35,8 @@ fn entries(row: [Interval; 16], n: usize)
 }
 
 fn vector(all: Vectors, p: usize, n: usize)
-    requires { ⌜ p < 16 ⌝ }
-    requires { ⌜ n ≤ 16 ⌝ }
+    requires { ⌜ p < mostProcesses ⌝ }
+    requires { ⌜ n ≤ mostProcesses ⌝ }
 {
     let rows = rows::squares::vector_rows(all);
     say::heading(b"vector", p as u64);
@@ -47,8 +50,8 @@ fn pin(at: Pin) {
     }
 }
 
-fn named(row: [Pin; 16], n: usize)
-    requires { ⌜ n ≤ 16 ⌝ }
+fn named(row: [Pin; PROCESSES], n: usize)
+    requires { ⌜ n ≤ mostProcesses ⌝ }
 {
     for f in 0..n {
         let at = row[f];
@@ -58,16 +61,16 @@ fn named(row: [Pin; 16], n: usize)
 }
 
 fn pins(all: Pins, p: usize, n: usize)
-    requires { ⌜ p < 16 ⌝ }
-    requires { ⌜ n ≤ 16 ⌝ }
+    requires { ⌜ p < mostProcesses ⌝ }
+    requires { ⌜ n ≤ mostProcesses ⌝ }
 {
     let rows = rows::squares::pin_rows(all);
     say::heading(b"pins", p as u64);
     named(rows[p], n);
 }
 
-fn stored(row: [Checkpoint; 16], held: usize)
-    requires { ⌜ held ≤ 16 ⌝ }
+fn stored(row: [Checkpoint; PROCESSES], held: usize)
+    requires { ⌜ held ≤ mostProcesses ⌝ }
 {
     for k in 0..held {
         let c = row[k];
@@ -77,8 +80,8 @@ fn stored(row: [Checkpoint; 16], held: usize)
     say::end();
 }
 
-fn causes(row: [Checkpoint; 16], held: usize)
-    requires { ⌜ held ≤ 16 ⌝ }
+fn causes(row: [Checkpoint; PROCESSES], held: usize)
+    requires { ⌜ held ≤ mostProcesses ⌝ }
 {
     for k in 0..held {
         let c = row[k];
@@ -87,8 +90,8 @@ fn causes(row: [Checkpoint; 16], held: usize)
     say::end();
 }
 
-fn counts(row: [Checkpoint; 16], held: usize)
-    requires { ⌜ held ≤ 16 ⌝ }
+fn counts(row: [Checkpoint; PROCESSES], held: usize)
+    requires { ⌜ held ≤ mostProcesses ⌝ }
 {
     for k in 0..held {
         let c = row[k];
@@ -99,8 +102,8 @@ fn counts(row: [Checkpoint; 16], held: usize)
 
 // What process p keeps: indexes, causes and block counts.
 fn kept(all: Kept, p: usize, held: usize)
-    requires { ⌜ p < 16 ⌝ }
-    requires { ⌜ held ≤ 16 ⌝ }
+    requires { ⌜ p < mostProcesses ⌝ }
+    requires { ⌜ held ≤ mostProcesses ⌝ }
 {
     let rows = rows::squares::kept_rows(all);
     say::heading(b"kept", p as u64);
@@ -113,13 +116,13 @@ fn kept(all: Kept, p: usize, held: usize)
 
 // The five lines of process p.
 fn process(s: Run, p: usize)
-    requires { ⌜ p < 16 ⌝ }
+    requires { ⌜ p < mostProcesses ⌝ }
 {
-    let n = within(16, s.count);
+    let n = within(PROCESSES, s.count);
     let held = s.held;
     vector(s.vectors, p, n);
     pins(s.pins, p, n);
-    kept(s.kept, p, within(16, held[p]));
+    kept(s.kept, p, within(PROCESSES, held[p]));
 }
 
 // Blocks written and blocks deleted.
@@ -131,7 +134,7 @@ fn blocks(disk: Disk) {
 }
 
 fn processes(s: Run) {
-    let n = within(16, s.count);
+    let n = within(PROCESSES, s.count);
     for p in 0..n {
         process(s, p);
     }
@@ -142,8 +145,8 @@ pub(crate) fn wide(x: u16) -> u64 {
 }
 
 // The indexes of a line, as a line or recover call wrote them.
-fn indexes(words: &[u8], failed: u16, line: &[u16; 16], n: usize)
-    requires { ⌜ n ≤ 16 ⌝ }
+fn indexes(words: &[u8], failed: u16, line: &[u16; PROCESSES], n: usize)
+    requires { ⌜ n ≤ mostProcesses ⌝ }
 {
     say::heading(words, failed as u64);
     for p in 0..n {
@@ -154,8 +157,8 @@ fn indexes(words: &[u8], failed: u16, line: &[u16; 16], n: usize)
 
 // The line for one failed set, and whether the run has this set.
 fn line(s: Run, failed: u16) -> bool {
-    let n = within(16, s.count);
-    let mut line = [0u16; 16];
+    let n = within(PROCESSES, s.count);
+    let mut line = [0u16; PROCESSES];
     let outcome = calls::line::line(s, failed, &mut line);
     let answer = outcome.answer;
     match answer {
@@ -185,10 +188,10 @@ pub(crate) fn state(after: After) {
 // The facts of the disks: what each process keeps, and the blocks written and deleted.
 pub(crate) fn disks(after: After) {
     let s = after.run;
-    let n = within(16, s.count);
+    let n = within(PROCESSES, s.count);
     let held = s.held;
     for p in 0..n {
-        kept(s.kept, p, within(16, held[p]));
+        kept(s.kept, p, within(PROCESSES, held[p]));
     }
     blocks(s.disk);
 }
@@ -202,7 +205,7 @@ fn of_delivery(words: &[u8], m: u32, x: u64) {
 
 // A delivery with the number of its answer and the set of the entries that rose, and the state behind it.
 pub(crate) fn deliver(before: After, m: u32) -> After {
-    let mut deleted = [0u16; 512];
+    let mut deleted = [0u16; DELETIONS];
     let outcome = calls::deliver::deliver(before.run, m, &mut deleted);
     let run = outcome.run;
     let answer = outcome.answer;
@@ -220,8 +223,8 @@ fn pair(process: u16, index: u16) {
     say::number(index as u64);
 }
 
-fn pairs(deleted: &[u16; 512], count: usize)
-    requires { ⌜ count ≤ 256 ⌝ }
+fn pairs(deleted: &[u16; DELETIONS], count: usize)
+    requires { ⌜ count ≤ keptPlaces ⌝ }
 {
     for k in 0..count {
         pair(deleted[2 * k], deleted[2 * k + 1]);
@@ -229,7 +232,7 @@ fn pairs(deleted: &[u16; 512], count: usize)
 }
 
 // How many processes rolled back, how many deletions there were, and each of them.
-fn recovery(failed: u16, answer: RecoverAnswer, deleted: &[u16; 512]) {
+fn recovery(failed: u16, answer: RecoverAnswer, deleted: &[u16; DELETIONS]) {
     say::heading(b"recover", failed as u64);
     match answer {
         RecoverAnswer::Refused(_) => {}
@@ -245,9 +248,9 @@ fn recovery(failed: u16, answer: RecoverAnswer, deleted: &[u16; 512]) {
 // A recovery with what it wrote and answered, and the state behind it.
 pub(crate) fn recover(before: After, failed: u16) -> After {
     let s = before.run;
-    let n = within(16, s.count);
-    let mut deleted = [0u16; 512];
-    let mut line = [0u16; 16];
+    let n = within(PROCESSES, s.count);
+    let mut deleted = [0u16; DELETIONS];
+    let mut line = [0u16; PROCESSES];
     let outcome = calls::recover::recover(s, failed, &mut deleted, &mut line);
     let run = outcome.run;
     let answer = outcome.answer;

@@ -2,7 +2,10 @@
 use crate::act;
 use crate::act::After;
 use crate::say;
+use model::DELETIONS;
+use model::PROCESSES;
 ghost use Prim.Native.Nat.{_≤_};
+ghost use Rattle.model.specs.Words.{mostDeletions, mostProcesses};
 
 // "Count 0 and 17: 1. Count 1 and 16: accepted."
 fn start(n: usize) {
@@ -23,7 +26,7 @@ fn with_list(call: &[u8], n: usize, length: usize, refused: u8) {
 }
 
 fn checkpoint(n: usize, length: usize)
-    requires { ⌜ length ≤ 512 ⌝ }
+    requires { ⌜ length ≤ mostDeletions ⌝ }
 {
     let start = act::start(n);
     let done = act::checkpoint(start, 0, length);
@@ -31,7 +34,7 @@ fn checkpoint(n: usize, length: usize)
 }
 
 fn deliver(n: usize, length: usize)
-    requires { ⌜ length ≤ 512 ⌝ }
+    requires { ⌜ length ≤ mostDeletions ⌝ }
 {
     let start = act::start(n);
     let sent = act::send(start, 0, 1);
@@ -40,18 +43,18 @@ fn deliver(n: usize, length: usize)
 }
 
 fn recover(n: usize, length: usize)
-    requires { ⌜ length ≤ 512 ⌝ }
+    requires { ⌜ length ≤ mostDeletions ⌝ }
 {
     let start = act::start(n);
-    let done = act::recover(start, 1, length, 16);
+    let done = act::recover(start, 1, length, PROCESSES);
     with_list(b"recover", n, length, done.refused);
 }
 
 fn line(n: usize, length: usize)
-    requires { ⌜ length ≤ 16 ⌝ }
+    requires { ⌜ length ≤ mostProcesses ⌝ }
 {
     let start = act::start(n);
-    let mut line = [0u16; 16];
+    let mut line = [0u16; PROCESSES];
     let outcome = calls::line::line(start.run, 1, &mut line[..length]);
     let answer = outcome.answer;
     let said = summaries::of_line(answer);
@@ -59,10 +62,10 @@ fn line(n: usize, length: usize)
 }
 
 fn recover_line(n: usize, length: usize)
-    requires { ⌜ length ≤ 16 ⌝ }
+    requires { ⌜ length ≤ mostProcesses ⌝ }
 {
     let start = act::start(n);
-    let done = act::recover(start, 1, 512, length);
+    let done = act::recover(start, 1, DELETIONS, length);
     with_list(b"recoverline", n, length, done.refused);
 }
 
@@ -126,7 +129,7 @@ fn own_entries() {
     let start = act::start(1);
     let last = act::checkpoints(start, 0, 65534);
     say::answer(b"own 65534", last.refused);
-    let more = act::checkpoint(last, 0, 512);
+    let more = act::checkpoint(last, 0, DELETIONS);
     say::answer(b"own 65535", more.refused);
 }
 
@@ -136,7 +139,7 @@ fn forced(times: usize) -> u8 {
     let high = act::checkpoints(start, 1, times);
     let marked = act::send(high, 1, 0);
     let sent = act::send(marked, 0, 1);
-    let done = act::deliver(sent, 2, 512);
+    let done = act::deliver(sent, 2, DELETIONS);
     done.refused
 }
 
@@ -145,10 +148,10 @@ fn quiet() -> u8 {
     let start = act::start(2);
     let first = act::send(start, 0, 1);
     let second = act::send(first, 0, 1);
-    let known = act::deliver(second, 1, 512);
+    let known = act::deliver(second, 1, DELETIONS);
     let high = act::checkpoints(known, 1, 65534);
     let marked = act::send(high, 1, 0);
-    let done = act::deliver(marked, 2, 512);
+    let done = act::deliver(marked, 2, DELETIONS);
     done.refused
 }
 

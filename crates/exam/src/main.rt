@@ -2,6 +2,8 @@
 // answered and left, one fact a line; of each delivery that a case is about the set of entries that rose, too (document 02, Note 1). The independent oracle
 // prints the same text (`oracle --cases`, laid out above `print` in its cases.rs); the tests compare the two.
 use crate::act::After;
+use model::DELETIONS;
+use model::PROCESSES;
 
 // say.rt: text on standard output
 mod say;
@@ -34,9 +36,9 @@ fn cases_1_to_3() -> After {
     let first = act::send(start, 0, 1);
     let second = facts::deliver(first, 1);
     facts::state(second);
-    let third = act::checkpoint(second, 1, 512);
+    let third = act::checkpoint(second, 1, DELETIONS);
     case(2, third);
-    let fourth = act::checkpoint(third, 0, 512);
+    let fourth = act::checkpoint(third, 0, DELETIONS);
     case(3, fourth);
     fourth
 }
@@ -50,7 +52,7 @@ fn cases_4_to_6(fourth: After) {
     say::title(b"case", 5);
     let eighth = facts::deliver(seventh, 3);
     facts::state(eighth);
-    let ninth = act::recover(eighth, 1, 512, 16);
+    let ninth = act::recover(eighth, 1, DELETIONS, PROCESSES);
     case(6, ninth);
 }
 
@@ -108,7 +110,7 @@ fn lost_2() {
     say::title(b"lost", 2);
     let start = act::start(2);
     let first = act::send(start, 0, 1);
-    let stored = act::checkpoint(first, 0, 512);
+    let stored = act::checkpoint(first, 0, DELETIONS);
     let second = act::send(stored, 0, 1);
     let recovered = facts::recover(second, 1);
     let missing = facts::deliver(recovered, 2);
@@ -121,10 +123,10 @@ fn sweep_0() {
     say::title(b"sweep", 0);
     let start = act::start(2);
     let first = act::send(start, 0, 1);
-    let second = act::checkpoint(first, 1, 512);
-    let third = act::deliver(second, 1, 512);
-    let fourth = act::checkpoint(third, 1, 512);
-    let fifth = act::checkpoint(fourth, 0, 512);
+    let second = act::checkpoint(first, 1, DELETIONS);
+    let third = act::deliver(second, 1, DELETIONS);
+    let fourth = act::checkpoint(third, 1, DELETIONS);
+    let fifth = act::checkpoint(fourth, 0, DELETIONS);
     let sixth = act::send(fifth, 0, 1);
     let swept = facts::recover(sixth, 0);
     facts::state(swept);

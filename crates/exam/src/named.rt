@@ -4,11 +4,13 @@ use crate::act::After;
 use crate::facts;
 use crate::say;
 use model::CheckpointIndex;
+use model::DELETIONS;
 use model::Named;
+use model::PROCESSES;
 
 // A list of named checkpoints at the front of an array, and its length.
 pub struct NamedList {
-    pub named: [Named; 16],
+    pub named: [Named; PROCESSES],
     pub length: usize,
 }
 
@@ -17,14 +19,14 @@ fn none() -> NamedList {
         process: 0,
         index: CheckpointIndex(0),
     };
-    let named = [zero; 16];
+    let named = [zero; PROCESSES];
     NamedList { named, length: 0 }
 }
 
 // The list with one more behind the others, where there is a place.
 fn and(list: NamedList, process: usize, index: u16) -> NamedList {
     let at = list.length;
-    if 16 <= at {
+    if PROCESSES <= at {
         return list;
     }
     let c = Named {
@@ -87,7 +89,7 @@ fn elements(list: NamedList) {
 }
 
 // The first three indexes of a line.
-fn indexes(line: &[u16; 16]) {
+fn indexes(line: &[u16; PROCESSES]) {
     say::value(facts::wide(line[0]));
     say::value(facts::wide(line[1]));
     say::value(facts::wide(line[2]));
@@ -98,7 +100,7 @@ fn show(s: After, number: u64, list: NamedList) {
     say::heading(b"named", number);
     elements(list);
     let named = list.named;
-    let mut line = [0u16; 16];
+    let mut line = [0u16; PROCESSES];
     let outcome = calls::through::earliest_among(s.run, named, list.length, &mut line);
     let answer = outcome.answer;
     let said = summaries::of_line(answer);
@@ -115,16 +117,16 @@ fn show(s: After, number: u64, list: NamedList) {
 fn shown() -> After {
     let start = act::start(3);
     let a = act::send(start, 0, 1);
-    let b = act::deliver(a, 1, 512);
+    let b = act::deliver(a, 1, DELETIONS);
     let c = act::send(b, 1, 2);
-    let d = act::checkpoint(c, 1, 512);
-    let e = act::deliver(d, 2, 512);
-    let f = act::checkpoint(e, 2, 512);
+    let d = act::checkpoint(c, 1, DELETIONS);
+    let e = act::deliver(d, 2, DELETIONS);
+    let f = act::checkpoint(e, 2, DELETIONS);
     let g = act::send(f, 1, 2);
-    let h = act::deliver(g, 3, 512);
-    let i = act::checkpoint(h, 2, 512);
-    let j = act::checkpoint(i, 0, 512);
-    act::checkpoint(j, 0, 512)
+    let h = act::deliver(g, 3, DELETIONS);
+    let i = act::checkpoint(h, 2, DELETIONS);
+    let j = act::checkpoint(i, 0, DELETIONS);
+    act::checkpoint(j, 0, DELETIONS)
 }
 
 // Lists that the call accepts.
@@ -192,7 +194,7 @@ fn lines_of_2() {
 }
 
 fn lines_of_16() {
-    let mut whole = [0u16; 16];
+    let mut whole = [0u16; PROCESSES];
     with_line(16, 16, &mut whole);
     let mut less = [0u16; 15];
     with_line(16, 15, &mut less);

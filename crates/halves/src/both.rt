@@ -1,4 +1,6 @@
 // What is judged of both halves, the set and the result buffer before any record: 1, 3, 12, 23, 7, 13, 17, in this order.
+use crate::MOST_OF_HALF;
+use model::PROCESSES;
 use model::Refusal;
 use verdicts::Verdict;
 ghost use mathlib.Core.Path.{_≡_};
@@ -21,6 +23,9 @@ pub(crate) fn count_of(half: &[u8]) -> usize
     trace::wide(half[0]) as usize
 }
 
+// The greatest count, as the first byte of a half says it.
+const MOST: u8 = PROCESSES as u8;
+
 // A count outside 1 to 16. A half without a first byte is judged later.
 fn bad_count(half: &[u8]) -> bool
     ensures { λ r. ⌜ r ≡ badCount (now (half .entry)) ⌝ }
@@ -28,7 +33,7 @@ fn bad_count(half: &[u8]) -> bool
     if half.len() == 0 {
         return false;
     }
-    half[0] == 0 || 16 < half[0]
+    half[0] == 0 || MOST < half[0]
 }
 
 // A result buffer shorter than both halves together.
@@ -58,7 +63,7 @@ fn too_many(half: &[u8]) -> bool
     if half.len() == 0 {
         return false;
     }
-    4096 < (half.len() - 1) / 4
+    MOST_OF_HALF < (half.len() - 1) / 4
 }
 
 // The first of the rules that holds.

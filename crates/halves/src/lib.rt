@@ -19,6 +19,11 @@ ghost use mathlib.Core.Path.{_≡_};
 ghost use Rattle.merges.specs.Halves.{OrdersAgree};
 ghost use Rattle.merges.specs.Merge.{mergeOutcome, MergePromise};
 
+// "17": "more than 4,096 records" of a half (mostOfHalf in the specs of merges); the log has room for both.
+pub const MOST_OF_HALF: usize = 4096;
+
+const LOG: usize = 2 * MOST_OF_HALF;
+
 // The merged trace stands at the front of `result`, and the rest of it is as it was; with a refusal all of it is. Bit p of `set` says that process p
 // belongs to the first half; a set that 16 bits do not hold has a bit at n or above in every run. Both halves' orders are kept, a replay of the result is
 // the run of the merged calls, and any other order whose records are all accepted ends the same. No limit of a run is judged: the rule can put 65 messages
@@ -32,7 +37,7 @@ pub fn merge<'a>(first: &'a [u8], second: &'a [u8], set: u32, result: &mut [u8])
     match judged {
         Verdict::Refused(r) => MergeAnswer::Refused(r),
         Verdict::Accepted => {
-            let mut log = [0; 8192];
+            let mut log = [0; LOG];
             let n = both::count_of(first);
             let taken = taking::take_all(first, second, n, set, &mut log);
             match taken {

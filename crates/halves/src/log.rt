@@ -4,6 +4,7 @@ ghost use mathlib.Core.Path.{_≡_};
 ghost use Prim.Native.Nat.{_+_, _*_, _≤_, _<_};
 ghost use lib.ListN.{length};
 ghost use lib.Seq.{sets};
+ghost use Rattle.merges.specs.Merge.{mostOfHalf};
 ghost use Rattle.model.specs.Trace.{bytesOf};
 ghost use Rattle.halves.specs.Log.{tallied, tallyOf, bytesUpTo};
 
@@ -18,14 +19,14 @@ pub struct Tally {
 
 // One record more.
 fn tally_word(t: Tally, word: u32, sender: u32, count: u32) -> Tally
-    requires { ⌜ (t .own < 8192) × (t .all < 8192) ⌝ }
+    requires { ⌜ (t .own < 2 * mostOfHalf) × (t .all < 2 * mostOfHalf) ⌝ }
     ensures { λ r. ⌜ r ≡ tallied t word sender count ⌝ }
 {
-    if word / 536870912 != 1 {
+    if word / trace::KIND != 1 {
         return t;
     }
     let all = t.all + 1;
-    if word / 33554432 % 16 != sender {
+    if word / trace::ARGUMENTS % trace::PROCESS_NAMES != sender {
         return Tally {
             own: t.own,
             all,
@@ -39,7 +40,7 @@ fn tally_word(t: Tally, word: u32, sender: u32, count: u32) -> Tally
             own,
             all,
             number: all,
-            receiver: word % 33554432,
+            receiver: word % trace::ARGUMENTS,
         };
     }
     Tally {
@@ -52,7 +53,7 @@ fn tally_word(t: Tally, word: u32, sender: u32, count: u32) -> Tally
 
 // The tally of the records taken, for send `count` of process `sender`.
 pub(crate) fn tally_all(log: &[u32], taken: usize, sender: u32, count: u32) -> Tally
-    requires { ⌜ (taken ≤ length (now log)) × (taken ≤ 8192) ⌝ }
+    requires { ⌜ (taken ≤ length (now log)) × (taken ≤ 2 * mostOfHalf) ⌝ }
     ensures { λ r. ⌜ r ≡ tallyOf (now (log .entry)) taken sender count ⌝ }
 {
     let mut t = Tally {

@@ -5,13 +5,17 @@ ghost use mathlib.Core.Path.{_≡_};
 ghost use mathlib.Core.List.{List};
 ghost use mathlib.Core.Logic.{_⊎_};
 ghost use mathlib.Core.Option.{some};
-ghost use Prim.Native.Nat.{ℕ, _/_, _^_, _≤_};
+ghost use Prim.Native.Nat.{_*_, ℕ, _/_, _^_, _≤_};
 ghost use lib.ListN.{length};
 ghost use Rattle.model.specs.Trace.{fields, ifZero};
+ghost use Rattle.model.specs.Words.{mostProcesses};
 ghost use Rattle.merges.specs.Halves.{HalfEvent, sendTo, checkpointAt};
-ghost use Rattle.merges.specs.Merge.{inHalf, halfEventOf};
+ghost use Rattle.merges.specs.Merge.{inHalf, halfEventOf, mostOfHalf};
 ghost use Rattle.halves.specs.Log.{Logged};
 ghost use Rattle.halves.specs.Taking.{Judges, messageOf};
+
+// "4 bits of sender, then 21 bits of that sender's running count": how many such counts there are.
+pub const COUNTS: u32 = 2097152;
 
 // Why a record is refused, or its word in the merged trace.
 pub enum Judged {
@@ -42,7 +46,7 @@ fn in_half(set: u32, side: bool, p: usize) -> bool
 
 // A checkpoint: 14, 4 and 23.
 fn judge_checkpoint(n: usize, set: u32, side: bool, process: usize, argument: u32) -> Judged
-    requires { ⌜ n ≤ 16 ⌝ }
+    requires { ⌜ n ≤ mostProcesses ⌝ }
     ensures { λ r. ⌜ ((l : List HalfEvent) → Judges n set side l (ifZero argument (checkpointAt process)) r) ⌝ }
 {
     if argument != 0 {
@@ -52,7 +56,7 @@ fn judge_checkpoint(n: usize, set: u32, side: bool, process: usize, argument: u3
         return Judged::Refused(Refusal::NoSuchProcess);
     }
     if in_half(set, side, process) {
-        Judged::Taken(process as u32 * 33554432)
+        Judged::Taken(process as u32 * trace::ARGUMENTS)
     } else {
         Judged::Refused(Refusal::HalvesMismatch)
     }
@@ -60,7 +64,7 @@ fn judge_checkpoint(n: usize, set: u32, side: bool, process: usize, argument: u3
 
 // A send: 4, 5 and 23.
 fn judge_send(n: usize, set: u32, side: bool, process: usize, argument: u32) -> Judged
-    requires { ⌜ n ≤ 16 ⌝ }
+    requires { ⌜ n ≤ mostProcesses ⌝ }
     ensures { λ r. ⌜ ((l : List HalfEvent) → Judges n set side l (some (sendTo process argument)) r) ⌝ }
 {
     if n <= process {
@@ -74,7 +78,7 @@ fn judge_send(n: usize, set: u32, side: bool, process: usize, argument: u32) -> 
         return Judged::Refused(Refusal::SenderIsReceiver);
     }
     if in_half(set, side, process) {
-        Judged::Taken(536870912 + process as u32 * 33554432 + argument)
+        Judged::Taken(trace::KIND + process as u32 * trace::ARGUMENTS + argument)
     } else {
         Judged::Refused(Refusal::HalvesMismatch)
     }
@@ -90,15 +94,15 @@ fn judge_message(
     log: &[u32],
     taken: usize,
 ) -> Judged
-    requires { ⌜ (kind ≤ 3) × (taken ≤ length (now log)) × (taken ≤ 8192) ⌝ }
+    requires { ⌜ (kind ≤ 3) × (taken ≤ length (now log)) × (taken ≤ 2 * mostOfHalf) ⌝ }
     ensures { λ r. ⌜ ((kind ≡ 2) ⊎ (kind ≡ 3) → (n : ℕ) (l : List HalfEvent) → Logged l (now (log .entry)) → taken ≡ length l → Judges n set side l (ifZero process (messageOf kind argument)) r) ⌝ }
 {
     if process != 0 {
         return Judged::Refused(Refusal::MalformedRecord);
     }
-    let t = log::tally_all(log, taken, argument / 2097152, argument % 2097152);
+    let t = log::tally_all(log, taken, argument / COUNTS, argument % COUNTS);
     if in_half(set, side, t.receiver as usize) {
-        Judged::Taken(kind * 536870912 + t.number)
+        Judged::Taken(kind * trace::KIND + t.number)
     } else {
         Judged::Refused(Refusal::HalvesMismatch)
     }
@@ -113,7 +117,7 @@ pub(crate) fn judge(
     log: &[u32],
     taken: usize,
 ) -> Judged
-    requires { ⌜ (n ≤ 16) × (length (now part) ≡ 4) × (taken ≤ length (now log)) × (taken ≤ 8192) ⌝ }
+    requires { ⌜ (n ≤ mostProcesses) × (length (now part) ≡ 4) × (taken ≤ length (now log)) × (taken ≤ 2 * mostOfHalf) ⌝ }
     ensures { λ r. ⌜ ((l : List HalfEvent) → Logged l (now (log .entry)) → taken ≡ length l → Judges n set side l (halfEventOf (fields (now (part .entry)))) r) ⌝ }
 {
     let r = trace::read_fields(part);

@@ -2,6 +2,7 @@
 use crate::log;
 use crate::record;
 use model::Refusal;
+use record::COUNTS;
 use record::Judged;
 use verdicts::Verdict;
 ghost use mathlib.Core.Path.{_≡_};
@@ -11,7 +12,9 @@ ghost use Prim.Native.Nat.{_+_, _*_, _-_, _/_, _%_, _≤_};
 ghost use lib.Dec.{leb};
 ghost use lib.ListN.{length};
 ghost use Rattle.laws.specs.Choice.{pick};
+ghost use Rattle.model.specs.Words.{mostProcesses};
 ghost use Rattle.merges.specs.Halves.{HalfEvent, messageNumber};
+ghost use Rattle.merges.specs.Merge.{mostOfHalf};
 ghost use Rattle.trace.specs.Answers.{recordAt};
 ghost use Rattle.halves.specs.Log.{Logged};
 ghost use Rattle.halves.specs.Taking.{stepOf, readyAt, Steps, Takes};
@@ -25,16 +28,16 @@ pub enum Step {
 
 // Whether the message that an argument names was sent.
 fn is_sent(argument: u32, log: &[u32], taken: usize) -> bool
-    requires { ⌜ (taken ≤ length (now log)) × (taken ≤ 8192) ⌝ }
+    requires { ⌜ (taken ≤ length (now log)) × (taken ≤ 2 * mostOfHalf) ⌝ }
     ensures { λ r. ⌜ ((l : List HalfEvent) → Logged l (now (log .entry)) → taken ≡ length l → r ≡ leb 1 (messageNumber l (argument / 2097152) (argument % 2097152))) ⌝ }
 {
-    let t = log::tally_all(log, taken, argument / 2097152, argument % 2097152);
+    let t = log::tally_all(log, taken, argument / COUNTS, argument % COUNTS);
     1 <= t.number
 }
 
 // Whether a half has a record left behind `at` of them, and it is ready.
 fn ready_at(half: &[u8], at: usize, log: &[u32], taken: usize) -> bool
-    requires { ⌜ (1 + 4 * at ≤ length (now half)) × (taken ≤ length (now log)) × (taken ≤ 8192) ⌝ }
+    requires { ⌜ (1 + 4 * at ≤ length (now half)) × (taken ≤ length (now log)) × (taken ≤ 2 * mostOfHalf) ⌝ }
     ensures { λ r. ⌜ (r ≡ true → length (recordAt (now (half .entry)) (1 + 4 * at)) ≡ 4) ⌝ }
     ensures { λ r. ⌜ ((l : List HalfEvent) → Logged l (now (log .entry)) → taken ≡ length l → r ≡ readyAt l (now (half .entry)) at) ⌝ }
 {
@@ -92,7 +95,7 @@ fn take_next<'a>(
     b: usize,
     log: &[u32],
 ) -> Step
-    requires { ⌜ (n ≤ 16) × (1 + 4 * a ≤ length (now first)) × (1 + 4 * b ≤ length (now second)) × (a + b ≤ length (now log)) × (a + b ≤ 8192) ⌝ }
+    requires { ⌜ (n ≤ mostProcesses) × (1 + 4 * a ≤ length (now first)) × (1 + 4 * b ≤ length (now second)) × (a + b ≤ length (now log)) × (a + b ≤ 2 * mostOfHalf) ⌝ }
     ensures { λ r. ⌜ ((l : List HalfEvent) → Logged l (now (log .entry)) → a + b ≡ length l → Steps n set l (now (first .entry)) (now (second .entry)) a b r) ⌝ }
 {
     if ready_at(first, a, log, a + b) {
@@ -114,8 +117,8 @@ pub(crate) fn take_all<'a>(
     set: u32,
     log: &mut [u32],
 ) -> Verdict
-    requires { ⌜ (n ≤ 16) × (1 ≤ length (now first)) × (1 ≤ length (now second)) ⌝ }
-    requires { ⌜ ((length (now first) - 1) / 4 + (length (now second) - 1) / 4 ≤ length (now log)) × (length (now log) ≤ 8192) ⌝ }
+    requires { ⌜ (n ≤ mostProcesses) × (1 ≤ length (now first)) × (1 ≤ length (now second)) ⌝ }
+    requires { ⌜ ((length (now first) - 1) / 4 + (length (now second) - 1) / 4 ≤ length (now log)) × (length (now log) ≤ 2 * mostOfHalf) ⌝ }
     ensures { λ r. ⌜ Takes n set (now (first .entry)) (now (second .entry)) ((length (now (first .entry)) - 1) / 4 + (length (now (second .entry)) - 1) / 4) (now (log .exit)) r ⌝ }
 {
     let total = (first.len() - 1) / 4 + (second.len() - 1) / 4;

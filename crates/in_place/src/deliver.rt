@@ -2,6 +2,7 @@
 use message_words::Found;
 use model::DeliverAnswer;
 use model::Interval;
+use model::PROCESSES;
 use model::Refusal;
 use verdicts::Verdict;
 use words::places;
@@ -11,14 +12,14 @@ ghost use Prim.Native.Nat.{suc, _*_, _≤_, _<_};
 ghost use lib.ListN.{length};
 ghost use Rattle.laws.specs.Choice.{pick};
 ghost use Rattle.model.specs.declared.Refusal.{Refusal};
-ghost use Rattle.model.specs.Words.{liveIndex, process};
+ghost use Rattle.model.specs.Words.{liveIndex, process, mostProcesses};
 ghost use Rattle.model.specs.Steps.{forces};
 ghost use Rattle.model.specs.Sound.{sound};
 ghost use Rattle.verdicts.specs.declared.Verdict.the-variants.{Accepted};
 ghost use Rattle.whole_runs.specs.Outcomes.{deliverOutcome};
 ghost use Rattle.whole_runs.specs.Calls as made;
 ghost use Rattle.whole_runs.specs.WholeRuns.{StatePromise};
-ghost use Rattle.words.specs.Layout.{countOf, markIn, messageIn, runOf};
+ghost use Rattle.words.specs.Layout.{countOf, markIn, messageIn, runOf, stateSize};
 ghost use Rattle.message_words.specs.Places.{placeOf};
 ghost use Rattle.in_place.specs.Left.{Leaves};
 ghost use Rattle.in_place.specs.Storing.{storingVerdict};
@@ -51,7 +52,7 @@ fn answer_of(forced: bool, own: Interval, count: usize) -> DeliverAnswer
 
 // Whether process i has sent since its last checkpoint.
 fn has_sent(w: &[u16], i: usize) -> bool
-    requires { ⌜ (length (now w) ≡ 6464) × (i < 16) ⌝ }
+    requires { ⌜ (length (now w) ≡ stateSize) × (i < mostProcesses) ⌝ }
     ensures { λ r. ⌜ r ≡ markIn (now (w .entry)) i ⌝ }
 {
     w[places::MARKS + i] != 0
@@ -74,7 +75,7 @@ fn take_from(
     k: usize,
     i: usize,
     forced: bool,
-    carried: [Interval; 16],
+    carried: [Interval; PROCESSES],
     deleted: &mut [u16],
 ) -> Delivered
     requires { ⌜ (sound (runOf (now w)) ≡ true) × (placeOf (now w) (messageIn (now w) k .number) ≡ suc k) × (2 * countOf (now w) * countOf (now w) ≤ length (now deleted)) ⌝ }

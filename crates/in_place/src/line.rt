@@ -1,6 +1,7 @@
 // The line for a failed set: the index of every process's member goes into the lent list. Nothing else changes.
 use model::CheckpointIndex;
 use model::LineAnswer;
+use model::PROCESSES;
 use model::Refusal;
 use verdicts::Verdict;
 use words::places;
@@ -16,14 +17,15 @@ ghost use Rattle.model.specs.Sound.{sound};
 ghost use Rattle.model.specs.Steps.{lineOf};
 ghost use Rattle.model.specs.declared.LineAnswer.the-variants.{Refused, Written};
 ghost use Rattle.model.specs.declared.Refusal.the-variants.{UnsoundState};
+ghost use Rattle.model.specs.Words.{mostProcesses};
 ghost use Rattle.whole_runs.specs.Outcomes.{lineOutcome};
 ghost use Rattle.whole_runs.specs.Sweep.{EmptyLinePromise};
 ghost use Rattle.whole_runs.specs.WholeRuns.{LinePromise};
 ghost use Rattle.words.specs.Layout.{countOf, runOf};
 
 // The indexes of n members go to the front of the lent list.
-pub fn write_line(line: &mut [u16], indexes: [CheckpointIndex; 16], n: usize)
-    requires { ⌜ (n ≤ 16) × (n ≤ length (now line)) ⌝ }
+pub fn write_line(line: &mut [u16], indexes: [CheckpointIndex; PROCESSES], n: usize)
+    requires { ⌜ (n ≤ mostProcesses) × (n ≤ length (now line)) ⌝ }
     ensures { λ u. ⌜ now (line .exit) ≡ sets (now (line .entry)) 0 (table n (λ p. getD indexes p (record { 0 = 0 }) .0)) ⌝ }
 {
     for p in 0..n {
@@ -39,7 +41,7 @@ fn line_within(w: &[u16], n: usize, failed: u32, line: &mut [u16]) -> LineAnswer
     ensures { λ r. ⌜ now (line .exit) ≡ pick (noMember (runOf (now (w .entry))) failed) (now (line .entry)) (sets (now (line .entry)) 0 (lineOf (runOf (now (w .entry))) failed)) ⌝ }
 {
     let limits = line_words::line::limits_of(w, n, failed);
-    let mut table = [0u16; 16];
+    let mut table = [0u16; PROCESSES];
     let pasts: &mut [u16] = &mut table;
     let all = line_words::line::find_members(w, n, limits, pasts);
     if !all {

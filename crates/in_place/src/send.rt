@@ -10,6 +10,7 @@ ghost use Prim.Native.Nat.{_+_, _<_};
 ghost use Rattle.model.specs.Sound.{sound};
 ghost use Rattle.model.specs.declared.Refusal.{Refusal};
 ghost use Rattle.model.specs.declared.SendAnswer.the-variants.{Refused};
+ghost use Rattle.model.specs.Words.{mostUnderWay, mostMessages};
 ghost use Rattle.whole_runs.specs.Outcomes.{sendOutcome};
 ghost use Rattle.whole_runs.specs.Calls as made;
 ghost use Rattle.whole_runs.specs.WholeRuns.{StatePromise};
@@ -22,7 +23,7 @@ const SET: u16 = 1;
 
 // The message is put after the others. Its number is the result.
 fn put_sent(w: &mut [u16], i: usize, j: usize) -> u32
-    requires { ⌜ (sound (runOf (now w)) ≡ true) × (i < countOf (now w)) × (j < countOf (now w)) × (word (now w) 1 < 64) × (wide2 (now w) 2 < 1000000) ⌝ }
+    requires { ⌜ (sound (runOf (now w)) ≡ true) × (i < countOf (now w)) × (j < countOf (now w)) × (word (now w) 1 < mostUnderWay) × (wide2 (now w) 2 < mostMessages) ⌝ }
     ensures { λ r. ⌜ (now (w .exit) ≡ sentWords (now (w .entry)) i j) × (r ≡ wide2 (now (w .entry)) 2 + 1) ⌝ }
 {
     message_words::make_room(w);

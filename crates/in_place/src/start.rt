@@ -1,6 +1,9 @@
 // Start: each process stores checkpoint 0 with a vector of zeros, its own entry is then 1, and its own pin names checkpoint 0.
+use model::MOST_BLOCK_COUNT;
+use model::PROCESSES;
 use model::Refusal;
 use model::StartAnswer;
+use words::WORDS;
 use words::places;
 ghost use mathlib.Core.Path.{_≡_};
 ghost use mathlib.Core.Bool.{true};
@@ -11,8 +14,9 @@ ghost use Rattle.laws.specs.Search.{allBelow};
 ghost use Rattle.laws.specs.Sums.{sumBelow};
 ghost use Rattle.model.specs.Sound.{isBlockCount};
 ghost use Rattle.model.specs.declared.StartAnswer.the-variants.{Started};
+ghost use Rattle.model.specs.Words.{mostProcesses};
 ghost use Rattle.whole_runs.specs.WholeRuns.{StartPromise};
-ghost use Rattle.words.specs.Layout.{runOf};
+ghost use Rattle.words.specs.Layout.{runOf, stateSize};
 ghost use Rattle.words.specs.Clean.{Clean};
 ghost use Rattle.in_place.specs.Starting.{zeros, withCounts, withFirsts, startedWords, startOutcomeIn, startWords};
 
@@ -20,10 +24,10 @@ ghost use Rattle.in_place.specs.Starting.{zeros, withCounts, withFirsts,
 const FIRST: u16 = 1;
 
 fn clear_all(w: &mut [u16])
-    requires { ⌜ length (now w) ≡ 6464 ⌝ }
+    requires { ⌜ length (now w) ≡ stateSize ⌝ }
     ensures { λ u. ⌜ now (w .exit) ≡ zeros ⌝ }
 {
-    for k in 0..words::WORDS {
+    for k in 0..WORDS {
         w[k] = 0;
     }
 }
@@ -32,7 +36,7 @@ fn clear_all(w: &mut [u16])
 fn is_block_count(count: u32) -> bool
     ensures { λ r. ⌜ r ≡ isBlockCount count ⌝ }
 {
-    (1 <= count) & (count <= 65535)
+    (1 <= count) & (count <= MOST_BLOCK_COUNT)
 }
 
 // Each of the first n is a block count.
@@ -51,7 +55,7 @@ fn are_block_counts(counts: &[u32], n: usize) -> bool
 
 // The blocks of n checkpoints, one of each process.
 fn sum_of(counts: &[u32], n: usize) -> u64
-    requires { ⌜ (n ≤ 16) × (n ≤ length (now counts)) ⌝ }
+    requires { ⌜ (n ≤ mostProcesses) × (n ≤ length (now counts)) ⌝ }
     ensures { λ r. ⌜ r ≡ sumBelow n (λ p. getD (now (counts .entry)) p 0) ⌝ }
 {
     let mut sum: u64 = 0;
@@ -63,7 +67,7 @@ fn sum_of(counts: &[u32], n: usize) -> u64
 }
 
 fn put_counts(w: &mut [u16], counts: &[u32], n: usize)
-    requires { ⌜ (length (now w) ≡ 6464) × (n ≤ 16) × (n ≤ length (now counts)) × (allBelow n (λ p. isBlockCount (getD (now counts) p 0)) ≡ true) ⌝ }
+    requires { ⌜ (length (now w) ≡ stateSize) × (n ≤ mostProcesses) × (n ≤ length (now counts)) × (allBelow n (λ p. isBlockCount (getD (now counts) p 0)) ≡ true) ⌝ }
     ensures { λ u. ⌜ now (w .exit) ≡ withCounts (now (w .entry)) (now (counts .entry)) n ⌝ }
 {
     for p in 0..n {
@@ -74,7 +78,7 @@ fn put_counts(w: &mut [u16], counts: &[u32], n: usize)
 
 // Checkpoint 0 of each process.
 fn put_firsts(w: &mut [u16], n: usize)
-    requires { ⌜ (length (now w) ≡ 6464) × (n ≤ 16) ⌝ }
+    requires { ⌜ (length (now w) ≡ stateSize) × (n ≤ mostProcesses) ⌝ }
     ensures { λ u. ⌜ now (w .exit) ≡ withFirsts (now (w .entry)) n ⌝ }
 {
     for p in 0..n {
@@ -86,7 +90,7 @@ fn put_firsts(w: &mut [u16], n: usize)
 }
 
 fn put_started(w: &mut [u16], n: usize, counts: &[u32])
-    requires { ⌜ (now w ≡ zeros) × (n ≤ 16) × (n ≤ length (now counts)) × (allBelow n (λ p. isBlockCount (getD (now counts) p 0)) ≡ true) ⌝ }
+    requires { ⌜ (now w ≡ zeros) × (n ≤ mostProcesses) × (n ≤ length (now counts)) × (allBelow n (λ p. isBlockCount (getD (now counts) p 0)) ≡ true) ⌝ }
     ensures { λ u. ⌜ now (w .exit) ≡ startedWords n (now (counts .entry)) ⌝ }
 {
     let written = sum_of(counts, n);
@@ -103,10 +107,10 @@ fn answer_of(many: usize, n: usize, counts: &[u32]) -> StartAnswer
     if n < 1 {
         return StartAnswer::Refused(Refusal::CountOutsideRange);
     }
-    if words::PROCESSES < n {
+    if PROCESSES < n {
         return StartAnswer::Refused(Refusal::CountOutsideRange);
     }
-    if many != words::WORDS {
+    if many != WORDS {
         return StartAnswer::Refused(Refusal::UnsoundState);
     }
     if counts.len() < n {
@@ -125,12 +129,12 @@ pub fn start(w: &mut [u16], n: usize, counts: &[u32]) -> StartAnswer
     ensures { λ r. ⌜ r ≡ startOutcomeIn (length (now (w .entry))) n (now (counts .entry)) .answer ⌝ }
     ensures { λ r. ⌜ runOf (now (w .exit)) ≡ startOutcomeIn (length (now (w .entry))) n (now (counts .entry)) .run ⌝ }
     ensures { λ r. ⌜ now (w .exit) ≡ startWords (now (w .entry)) n (now (counts .entry)) ⌝ }
-    ensures { λ r. ⌜ (length (now (w .entry)) ≡ 6464 → Clean (now (w .exit))) ⌝ }
+    ensures { λ r. ⌜ (length (now (w .entry)) ≡ stateSize → Clean (now (w .exit))) ⌝ }
     ensures { λ r. ⌜ (r ≡ Started → StartPromise n (now (counts .entry)) (runOf (now (w .exit)))) ⌝ }
 {
     let many = w.len();
     let answer = answer_of(many, n, counts);
-    if many != words::WORDS {
+    if many != WORDS {
         return answer;
     }
     clear_all(w);

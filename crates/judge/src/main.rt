@@ -26,7 +26,7 @@ fn drive(memory: &mut [u64], input: &mut [u8], out: &mut [u8]) -> Request
 
 fn main() {
     let mut memory = [0u64; 2];
-    let mut input = [0u8; 16389];
-    let mut out = [0u8; 96];
+    let mut input = [0u8; judge_machine::MOST_READ];
+    let mut out = [0u8; judge_machine::LONGEST_VERDICT];
     drive(&mut memory, &mut input, &mut out);
 }

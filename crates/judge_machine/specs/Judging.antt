@@ -7,6 +7,7 @@ use Prim.Native.Nat.{ℕ, _+_, _-_, _≤_, _<_}
 use lib.Dec.{eqb, ltb, leb}
 use lib.ListN.{length}
 use Rattle.laws.specs.Choice.{pick}
+use Rattle.model.specs.Words.{mostProcesses}
 use Rattle.machines.specs.Machines.{Request, Count, Argument, Open, Read, Write, Say, Fail, Stop, Answer, Number, Bytes, End, Done, Failed, Machine, Exchange, asked, exchanges, stateAfter, writtenOf, saidOf, readOf}
 use Rattle.patterns.specs.Verdicts.{verdict}
 use Rattle.judge_machine.specs.Text.{verdictText}
@@ -18,7 +19,7 @@ mostRead = 16389
 -- No byte that follows can change the verdict: the first byte is no count of processes, or there are more records than a trace may have.
 unfoldable pub settled : List ℕ → Bool
 settled [] = false
-settled (n ∷ l) = ltb n 1 || (ltb 16 n || leb mostRead (length (n ∷ l)))
+settled (n ∷ l) = ltb n 1 || (ltb mostProcesses n || leb mostRead (length (n ∷ l)))
 
 -- "judge: standard input" and "judge: standard output", byte by byte: what is said to have failed.
 abbrev pub inputName : List ℕ

@@ -7,6 +7,7 @@ use mathlib.Core.Option.{Option, none, some}
 use Prim.Native.Nat.{ℕ, _<_}
 use lib.Dec.{eqb}
 use Rattle.laws.specs.Choice.{pick}
+use Rattle.model.specs.Words.{mostProcesses}
 use Rattle.whole_runs.specs.Listing.{lineFeed}
 use Rattle.listing.specs.Lines.{pairText}
 use Rattle.programs.specs.Texts.{figureText, refusedName}
@@ -37,7 +38,7 @@ verdictText v = reportText (judgeReport v)
 unfoldable pub Small : Verdict → Type 0
 Small (Refused why) = Unit {0}
 Small Trackable = Unit {0}
-Small (Breaks p k q x) = (p < 16) × (q < 16)
+Small (Breaks p k q x) = (p < mostProcesses) × (q < mostProcesses)
 
 -- No line is longer.
 abbrev pub longestVerdict : ℕ

@@ -8,6 +8,8 @@ use machines::Answer;
 use machines::Request;
 use machines::heard;
 use machines::heard::Taken;
+use model::PROCESSES;
+use patterns::MOST_JUDGED;
 ghost use mathlib.Core.Path.{_≡_};
 ghost use mathlib.Core.List.{List, []};
 ghost use Prim.Native.Nat.{ℕ, _≤_};
@@ -16,6 +18,7 @@ ghost use Rattle.machines.specs.Machines.{stepped};
 ghost use Rattle.machines.specs.Forms.{answerOf};
 ghost use Rattle.judge_machine.specs.Judging.{mostRead, wanted, settled, Reading, Telling, Failing, Stopped, telling, onward, judging};
 ghost use Rattle.judge_machine.specs.Words.{Roomy, lacksRoom, stateOf, placeOf, StandsFor};
+ghost use Rattle.judge_machine.specs.Text.{longestVerdict};
 
 // The phases. Every other number stands for a machine that has stopped.
 const READING: u64 = 0;
@@ -26,6 +29,15 @@ const FAILING: u64 = 2;
 
 const STOPPED: u64 = 3;
 
+// How many bytes a caller lends: for the first byte and one record more than a trace may have (mostRead in specs/Judging), and for the longest line (longestVerdict in
+// specs/Text).
+pub const MOST_READ: usize = 1 + 4 * (MOST_JUDGED + 1);
+
+pub const LONGEST_VERDICT: usize = 96;
+
+// The greatest count of processes, as the first byte says it.
+const MOST: u8 = PROCESSES as u8;
+
 // Whether one of the lent lists is too short for every run.
 pub fn lacks_room(memory: usize, input: usize, out: usize) -> bool
     ensures { λ r. ⌜ r ≡ lacksRoom memory input out ⌝ }
@@ -33,10 +45,10 @@ pub fn lacks_room(memory: usize, input: usize, out: usize) -> bool
     if memory < 2 {
         return true;
     }
-    if input < 16389 {
+    if input < MOST_READ {
         return true;
     }
-    out < 96
+    out < LONGEST_VERDICT
 }
 
 fn put(memory: &mut [u64], phase: u64, count: usize)
@@ -63,7 +75,7 @@ fn wanted(held: usize) -> usize
     if held == 0 {
         return 1;
     }
-    16389 - held
+    MOST_READ - held
 }
 
 // More bytes are asked for, after those that were read.
@@ -89,7 +101,7 @@ fn tell(memory: &mut [u64], input: &[u8], out: &mut [u8], held: usize) -> Reques
 
 // What failed is said.
 fn fail(memory: &mut [u64], input: &[u8], out: &mut [u8], name: &[u8]) -> Request
-    requires { ⌜ Roomy (length (now memory)) (length (now input)) (length (now out)) × (length (now name) ≤ 96) ⌝ }
+    requires { ⌜ Roomy (length (now memory)) (length (now input)) (length (now out)) × (length (now name) ≤ longestVerdict) ⌝ }
     ensures { λ r. ⌜ StandsFor (now (memory .exit)) (now (input .entry)) (now (out .exit)) r (Failing (now (name .entry))) ⌝ }
 {
     let size = programs::text::write_word(out, 0, name);
@@ -108,10 +120,10 @@ fn is_settled(input: &[u8], held: usize) -> bool
     if input[0] < 1 {
         return true;
     }
-    if 16 < input[0] {
+    if MOST < input[0] {
         return true;
     }
-    16389 <= held
+    MOST_READ <= held
 }
 
 // More bytes are read unless the verdict is settled.
@@ -179,7 +191,7 @@ pub fn step(memory: &mut [u64], input: &[u8], out: &mut [u8], answer: Answer) ->
     let phase = memory[0];
     let count = memory[1] as usize;
     if phase == READING {
-        if 16389 < count {
+        if MOST_READ < count {
             return stop(memory);
         }
         return after_read(memory, input, out, count, answer);

@@ -5,12 +5,13 @@ use programs::text::write_refused;
 use programs::text::write_word;
 ghost use Prim.Native.Nat.{_≤_, _<_};
 ghost use lib.ListN.{length};
+ghost use Rattle.model.specs.Words.{mostProcesses};
 ghost use Rattle.listing.specs.Printed.{Printed};
 ghost use Rattle.patterns.specs.declared.Verdict.the-variants.{Breaks};
 ghost use Rattle.judge_machine.specs.Text.{verdictText, longestVerdict, Small};
 
 fn write_breaks(out: &mut [u8], p: usize, k: CheckpointIndex, q: usize, x: CheckpointIndex) -> usize
-    requires { ⌜ (longestVerdict ≤ length (now out)) × (p < 16) × (q < 16) ⌝ }
+    requires { ⌜ (longestVerdict ≤ length (now out)) × (p < mostProcesses) × (q < mostProcesses) ⌝ }
     ensures { λ r. ⌜ Printed (now (out .entry)) 0 (verdictText (Breaks p k q x)) (now (out .exit)) r ⌝ }
 {
     let near = k.0;

@@ -7,11 +7,12 @@ use mathlib.Core.Option.{Option, none, some}
 use Prim.Native.Nat.{ℕ, suc, _+_, _*_, _≤_, _<_}
 use lib.ListN.{length, getD, drop}
 use Rattle.model.specs.declared.Event.{Event}
+use Rattle.model.specs.Words.{mostProcesses, mostUnderWay}
 use Rattle.histories.specs.History.{sent, checkpoints}
-use Rattle.patterns.specs.Patterns.{Pattern, empty, countUnderWay, recordRefusal, taken, readFrom, refused, whole}
+use Rattle.patterns.specs.Patterns.{Pattern, empty, countUnderWay, recordRefusal, taken, readFrom, refused, whole, mostJudged}
 use Rattle.patterns.specs.Paths.{eventAt}
 use Rattle.patterns.proofs.Trail.{Trail, Right}
-use Rattle.decision.specs.Rows.{entryAt}
+use Rattle.decision.specs.Rows.{entryAt, tableSize, mostRows}
 use Rattle.decision.specs.Held.{intervalOf, Held}
 use Rattle.judge_trace.specs.declared.reading.Progress.{Progress}
 use Rattle.judge_trace.specs.declared.reading.Taking.{Taking}
@@ -36,7 +37,7 @@ pub record Waits (n : ℕ) (t : Pattern) (tr : Trail) (T : Tables) (y : ℕ) : T
   pub mark : getD (T .passing) y 0 ≡ suc (t .receiver (suc y))
   pub receiver : t .receiver (suc y) < n
   pub not-got : getD (T .to) y 0 ≡ 0
-  pub carried : (f : ℕ) → f < 16 → entryAt (T .carried) y f ≡ tr .carried (suc y) f
+  pub carried : (f : ℕ) → f < mostProcesses → entryAt (T .carried) y f ≡ tr .carried (suc y) f
   pub was-sent : (p : ℕ) × (i : ℕ) × (eventAt (tr .lists p) i ≡ some (sent (suc y)))
 
 pub record Kept (n read : ℕ) (t : Pattern) (tr : Trail) (s : Progress) (T : Tables) : Type 0 where
@@ -49,21 +50,21 @@ pub record Kept (n read : ℕ) (t : Pattern) (tr : Trail) (s : Progress) (T : Ta
   pub row-there : (p : ℕ) → p < n → getD (s .current) p 0 < s .rows
   pub row-own : (p : ℕ) → p < n → getD (T .process) (getD (s .current) p 0) 0 ≡ p
   pub row-live : (p : ℕ) → p < n → intervalOf (T .vectors) (T .process) (getD (s .current) p 0) ≡ checkpoints (tr .lists p)
-  pub places : length (s .current) ≡ 16
+  pub places : length (s .current) ≡ mostProcesses
   -- no more rows and messages than records
   pub few-rows : s .rows ≤ n + read
   pub few-messages : s .last ≤ read
   -- the messages under way
   pub carriers : 65536 ≤ length (T .carried)
-  pub marks : 4096 ≤ length (T .passing)
+  pub marks : mostJudged ≤ length (T .passing)
   pub counted : s .underway ≡ countUnderWay t
-  pub most : s .underway ≤ 64
+  pub most : s .underway ≤ mostUnderWay
   pub marked : (m : ℕ) → t .underway m ≡ isUnderWay (T .passing) (s .last) m
   pub waits : (y : ℕ) → t .underway (suc y) ≡ true → Waits n t tr T y
 
 -- A record may be read: fewer than 4,096 were.
 abbrev pub Ready : ℕ → Progress → Tables → Type 0
-Ready n s T = (read : ℕ) × (t : Pattern) × (tr : Trail) × (read < 4096) × Kept n read t tr s T
+Ready n s T = (read : ℕ) × (t : Pattern) × (tr : Trail) × (read < mostJudged) × Kept n read t tr s T
 
 -- What a record leaves behind the pattern t: the refusal that it has there, or the tables of the pattern with it.
 unfoldable pub AfterRecord : ℕ → ℕ → Pattern → Option Event → Taking → Progress → Tables → Type 0
@@ -72,16 +73,16 @@ AfterRecord n read t e Taken next T = (recordRefusal n t e ≡ none) × ((tr : T
 
 -- The same, whatever pattern the tables held.
 unfoldable pub Reads : ℕ → Progress → Tables → Option Event → Step → Tables → Type 0
-Reads n s T e r T' = (read : ℕ) (t : Pattern) (tr : Trail) → read < 4096 → Kept n read t tr s T → AfterRecord n read t e (r .answer) (r .next) T'
+Reads n s T e r T' = (read : ℕ) (t : Pattern) (tr : Trail) → read < mostJudged → Kept n read t tr s T → AfterRecord n read t e (r .answer) (r .next) T'
 
 -- The tables have room for every trace that is judged.
 pub record Sized (T : Tables) : Type 0 where
-  pub vectors : 65792 ≤ length (T .vectors)
-  pub process : 4112 ≤ length (T .process)
+  pub vectors : tableSize ≤ length (T .vectors)
+  pub process : mostRows ≤ length (T .process)
   pub carried : 65536 ≤ length (T .carried)
-  pub passing : 4096 ≤ length (T .passing)
-  pub from : 4096 ≤ length (T .from)
-  pub to : 4096 ≤ length (T .to)
+  pub passing : mostJudged ≤ length (T .passing)
+  pub from : mostJudged ≤ length (T .from)
+  pub to : mostJudged ≤ length (T .to)
 
 -- After `read` records of a trace none is refused, and the tables hold their pattern.
 pub record Reached (n : ℕ) (trace : List ℕ) (read : ℕ) (s : Progress) (T : Tables) : Type 0 where

@@ -11,10 +11,11 @@ use native.Mathlib.Omega.{arith}
 use lib.ListN.{length, getD, set, replicate, length-set, length-replicate, getD-replicate}
 use lib.Seq.{getD-set-same, getD-set-other}
 use Rattle.laws.specs.Choice.{pick, by-bool, by-eq}
+use Rattle.patterns.specs.Patterns.{mostJudged}
 use Rattle.model.specs.declared.Interval.{Interval}
 use Rattle.model.specs.declared.Refusal.{Refusal}
 use Rattle.model.specs.declared.Refusal.the-variants.{NoSuchProcess, NotUnderWay, IntervalsUsed}
-use Rattle.model.specs.Words.{entry, ones, mostInterval}
+use Rattle.model.specs.Words.{entry, ones, mostInterval, mostProcesses, mostUnderWay, mostMessages}
 use Rattle.model.specs.Steps.{advanced, takenVector, started}
 use Rattle.model.specs.Refusals.{firstOf}
 use Rattle.whole_runs.specs.Outcomes.{judged}
@@ -22,7 +23,7 @@ use Rattle.verdicts.specs.declared.Verdict.{Verdict}
 use Rattle.verdicts.specs.declared.Verdict.the-variants as verdict
 use Rattle.verdicts.specs.Verdicts.{refusalOf, sendVerdict}
 use Rattle.verdicts.proofs.Cases.{accepted-send}
-use Rattle.decision.specs.Rows.{rowOf, putRow, entryAt, put-same, put-other, put-length}
+use Rattle.decision.specs.Rows.{rowOf, putRow, entryAt, put-same, put-other, put-length, tableSize, mostRows}
 use Rattle.judge_trace.specs.declared.reading.Progress.{Progress}
 use Rattle.judge_trace.specs.declared.reading.Taking.{Taking}
 use Rattle.judge_trace.specs.declared.reading.Taking.the-variants.{Refused, Taken}
@@ -57,11 +58,11 @@ tableBy o old new = judged o (λ why. old) new
 
 -- A checkpoint. The tables have room for one more row.
 pub record Roomy (n : ℕ) (s : Progress) (vectors process : List ℕ) : Type 0 where
-  pub few : n ≤ 16
-  pub room : 65792 ≤ length vectors
-  pub places : 4112 ≤ length process
-  pub rows : s .rows < 4112
-  pub current : (p : ℕ) → p < n → getD (s .current) p 0 < 4112
+  pub few : n ≤ mostProcesses
+  pub room : tableSize ≤ length vectors
+  pub places : mostRows ≤ length process
+  pub rows : s .rows < mostRows
+  pub current : (p : ℕ) → p < n → getD (s .current) p 0 < mostRows
 
 unfoldable pub withRow : Progress → ℕ → Progress
 withRow s i = record { rows = s .rows + 1; current = set (s .current) i (s .rows); underway = s .underway; last = s .last }
@@ -91,13 +92,13 @@ unfolding checkpointRefusal firstOf
 checkpoint-absent n s i vectors h = rw (le-leb n i h)
 
 module _ (n : ℕ) (s : Progress) (i : ℕ) (vectors : List ℕ) (v : List Interval) (is : v ≡ rowOf vectors (getD (s .current) i 0)) (h : i < n) where
-  pub checkpoint-full : 65535 ≤ entry v i .0 → checkpointRefusal n s i vectors ≡ some IntervalsUsed
+  pub checkpoint-full : mostInterval ≤ entry v i .0 → checkpointRefusal n s i vectors ≡ some IntervalsUsed
   unfolding checkpointRefusal firstOf
-  checkpoint-full e = rw (lt-leb n i h, le-leb 65535 (liveEntry s i vectors) (omega (arith, e, ap (λ (w : List Interval). entry w i .0) is)))
+  checkpoint-full e = rw (lt-leb n i h, le-leb mostInterval (liveEntry s i vectors) (omega (arith, e, ap (λ (w : List Interval). entry w i .0) is)))
 
-  pub checkpoint-free : entry v i .0 < 65535 → checkpointRefusal n s i vectors ≡ none
+  pub checkpoint-free : entry v i .0 < mostInterval → checkpointRefusal n s i vectors ≡ none
   unfolding checkpointRefusal firstOf
-  checkpoint-free e = rw (lt-leb n i h, lt-leb 65535 (liveEntry s i vectors) (omega (arith, e, ap (λ (w : List Interval). entry w i .0) is)))
+  checkpoint-free e = rw (lt-leb n i h, lt-leb mostInterval (liveEntry s i vectors) (omega (arith, e, ap (λ (w : List Interval). entry w i .0) is)))
 
 module _ (n : ℕ) (s : Progress) (i : ℕ) (vectors process : List ℕ) where
   pub checkpoint-refused : (why : Refusal) → checkpointRefusal n s i vectors ≡ some why
@@ -120,15 +121,15 @@ withMessage s = record { rows = s .rows; current = s .current; underway = s .und
 
 -- The tables have room for one more message.
 pub record SendRoom (n : ℕ) (s : Progress) (vectors carried passing from to : List ℕ) : Type 0 where
-  pub few : n ≤ 16
-  pub room : 65792 ≤ length vectors
+  pub few : n ≤ mostProcesses
+  pub room : tableSize ≤ length vectors
   pub carriers : 65536 ≤ length carried
-  pub marks : 4096 ≤ length passing
-  pub sends : 4096 ≤ length from
-  pub receipts : 4096 ≤ length to
-  pub underway : s .underway ≤ 64
-  pub last : s .last < 4096
-  pub current : (p : ℕ) → p < n → getD (s .current) p 0 < 4112
+  pub marks : mostJudged ≤ length passing
+  pub sends : mostJudged ≤ length from
+  pub receipts : mostJudged ≤ length to
+  pub underway : s .underway ≤ mostUnderWay
+  pub last : s .last < mostJudged
+  pub current : (p : ℕ) → p < n → getD (s .current) p 0 < mostRows
 
 unfoldable pub sentCarried : List ℕ → ℕ → ℕ → List ℕ → List ℕ
 sentCarried vectors row place carried = putRow carried place (rowOf vectors row)
@@ -149,7 +150,7 @@ unfoldable pub sendTo : ℕ → Progress → ℕ → ℕ → List ℕ → List �
 sendTo n s i j to = tableBy (sendRefusal n s i j) to (set to (s .last) 0)
 
 -- A send that is not refused; and the two ends of a send, by the answer of `send_refusal`.
-pub send-free : (n : ℕ) (s : Progress) (i j : ℕ) → sendRefusal n s i j ≡ none → (i < n) × (j < n) × (s .underway < 64) × (s .last < 1000000)
+pub send-free : (n : ℕ) (s : Progress) (i j : ℕ) → sendRefusal n s i j ≡ none → (i < n) × (j < n) × (s .underway < mostUnderWay) × (s .last < mostMessages)
 unfolding sendRefusal
 send-free n s i j e = accepted-send i j n (s .underway) (s .last) (accepted _ e)
   where
@@ -259,14 +260,14 @@ module _ (s : Progress) (f g : Found) (is : f ≡ g) (passing : List ℕ) where
 
 -- A delivery. Its tables have the rows that it names.
 pub record DeliverRoom (s : Progress) (m : ℕ) (vectors carried passing to : List ℕ) : Type 0 where
-  pub room : 65792 ≤ length vectors
+  pub room : tableSize ≤ length vectors
   pub carriers : 65536 ≤ length carried
-  pub marks : 4096 ≤ length passing
-  pub receipts : 4096 ≤ length to
-  pub last : s .last ≤ 4096
-  pub place : foundIn passing (s .last) m .found ≡ true → foundIn passing (s .last) m .place < 4096
-  pub receiver : foundIn passing (s .last) m .found ≡ true → foundIn passing (s .last) m .receiver < 16
-  pub current : foundIn passing (s .last) m .found ≡ true → getD (s .current) (foundIn passing (s .last) m .receiver) 0 < 4112
+  pub marks : mostJudged ≤ length passing
+  pub receipts : mostJudged ≤ length to
+  pub last : s .last ≤ mostJudged
+  pub place : foundIn passing (s .last) m .found ≡ true → foundIn passing (s .last) m .place < mostJudged
+  pub receiver : foundIn passing (s .last) m .found ≡ true → foundIn passing (s .last) m .receiver < mostProcesses
+  pub current : foundIn passing (s .last) m .found ≡ true → getD (s .current) (foundIn passing (s .last) m .receiver) 0 < mostRows
 
 -- The vectors once the state of a row has taken in what a message carries.
 unfoldable pub receiptVectors : List ℕ → ℕ → List Interval → List ℕ
@@ -301,23 +302,23 @@ module _ (s : Progress) (f g : Found) (is : f ≡ g) (vectors carried to : List 
 -- The start.
 -- Below n, row p is the first state of process p, and its live row.
 pub record FirstRows (n : ℕ) (vectors process current : List ℕ) : Type 0 where
-  pub size : length current ≡ 16
-  pub vector : (p f : ℕ) → p < n → f < 16 → entryAt vectors p f ≡ pick (eqb p f) 1 0
+  pub size : length current ≡ mostProcesses
+  pub vector : (p f : ℕ) → p < n → f < mostProcesses → entryAt vectors p f ≡ pick (eqb p f) 1 0
   pub owner : (p : ℕ) → p < n → getD process p 0 ≡ p
   pub live : (p : ℕ) → p < n → getD current p 0 ≡ p
 
 -- Entry f of the first vector of p.
-pub first-entry : (p f : ℕ) → p < 16 → f < 16 → entry (started ones p .vector) f .0 ≡ pick (eqb p f) 1 0
+pub first-entry : (p f : ℕ) → p < mostProcesses → f < mostProcesses → entry (started ones p .vector) f .0 ≡ pick (eqb p f) 1 0
 unfolding started
 first-entry p f lp lf = by-eq f p
-    (λ e. rw (e, eq-eqb p p refl) (ap (λ (x : Interval). x .0) (getD-set-same (replicate 16 (record { 0 = 0 })) p (record { 0 = 1 }) (record { 0 = 0 }) (omega (arith, length-replicate {A = Interval} 16 (record { 0 = 0 }))))))
+    (λ e. rw (e, eq-eqb p p refl) (ap (λ (x : Interval). x .0) (getD-set-same (replicate mostProcesses (record { 0 = 0 })) p (record { 0 = 1 }) (record { 0 = 0 }) (omega (arith, length-replicate {A = Interval} mostProcesses (record { 0 = 0 }))))))
     (λ ne. rw (ne-eqb p f (λ e. ne (sym e)))
-    (ap (λ (x : Interval). x .0) (getD-set-other (replicate 16 (record { 0 = 0 })) p f (record { 0 = 1 }) (record { 0 = 0 }) ne ∙ getD-replicate 16 f (record { 0 = 0 }) (record { 0 = 0 }) lf)))
+    (ap (λ (x : Interval). x .0) (getD-set-other (replicate mostProcesses (record { 0 = 0 })) p f (record { 0 = 1 }) (record { 0 = 0 }) ne ∙ getD-replicate mostProcesses f (record { 0 = 0 }) (record { 0 = 0 }) lf)))
 
-pub first-none : (vectors process : List ℕ) → FirstRows 0 vectors process (replicate 16 0)
-first-none vectors process = record { size = length-replicate {A = ℕ} 16 0; vector = λ p f h. absurd (omega arith); owner = λ p h. absurd (omega arith); live = λ p h. absurd (omega arith) }
+pub first-none : (vectors process : List ℕ) → FirstRows 0 vectors process (replicate mostProcesses 0)
+first-none vectors process = record { size = length-replicate {A = ℕ} mostProcesses 0; vector = λ p f h. absurd (omega arith); owner = λ p h. absurd (omega arith); live = λ p h. absurd (omega arith) }
 
-pub first-more : (p : ℕ) (vectors process current : List ℕ) (w : List Interval) → p < 16 → 65792 ≤ length vectors → 4112 ≤ length process
+pub first-more : (p : ℕ) (vectors process current : List ℕ) (w : List Interval) → p < mostProcesses → tableSize ≤ length vectors → mostRows ≤ length process
     → w ≡ started ones p .vector → FirstRows p vectors process current → FirstRows (p + 1) (putRow vectors p w) (set process p p) (set current p p)
 first-more p vectors process current w lp room places e h = record {
   size = length-set current p p ∙ h .size;
@@ -328,7 +329,7 @@ first-more p vectors process current w lp room places e h = record {
   live = λ q lq. by-eq q p (λ d. rw d (getD-set-same current p p 0 (omega (arith, h .size)))) (λ ne. getD-set-other current p q p 0 ne ∙ h .live q (omega arith));
 }
 
-pub first-turn : (p : ℕ) (vectors process current : List ℕ) (w : List Interval) (vectors' : List ℕ) → p < 16 → 65792 ≤ length vectors → 4112 ≤ length process
+pub first-turn : (p : ℕ) (vectors process current : List ℕ) (w : List Interval) (vectors' : List ℕ) → p < mostProcesses → tableSize ≤ length vectors → mostRows ≤ length process
     → w ≡ started ones p .vector → FirstRows p vectors process current → vectors' ≡ putRow vectors p w
     → (length vectors' ≡ length vectors) × FirstRows (p + 1) vectors' (set process p p) (set current p p)
 first-turn p vectors process current w vectors' lp room places e h d = (ap length d ∙ put-length vectors p w, rw d (first-more p vectors process current w lp room places e h))

@@ -3,12 +3,21 @@
 // reading.rt: a trace is read into the tables
 mod reading;
 
+use model::PROCESSES;
 use model::Refusal;
+use patterns::MOST_JUDGED;
 use patterns::Verdict;
 use reading::Taking;
 ghost use mathlib.Core.Path.{_≡_};
 ghost use Rattle.patterns.specs.Verdicts.{verdict};
 ghost use Rattle.judge_trace.specs.Kept.{tables, Sized};
+
+// A row for each process and one for each record; the entries of so many vectors; those of the vectors that messages carry.
+const ROWS: usize = MOST_JUDGED + PROCESSES;
+
+const VECTORS: usize = PROCESSES * ROWS;
+
+const CARRIED: usize = PROCESSES * MOST_JUDGED;
 
 fn wide(byte: u8) -> usize
     ensures { λ r. ⌜ r ≡ byte ⌝ }
@@ -37,11 +46,11 @@ fn judge_beside(
     if n < 1 {
         return Verdict::Refused(Refusal::CountOutsideRange);
     }
-    if 16 < n {
+    if PROCESSES < n {
         return Verdict::Refused(Refusal::CountOutsideRange);
     }
     let count = (size - 1) / 4;
-    if 4096 < count {
+    if MOST_JUDGED < count {
         return Verdict::Refused(Refusal::TooManyRecords);
     }
     let r = reading::read_all(vectors, process, carried, passing, from, to, trace, n);
@@ -61,12 +70,12 @@ fn judge_beside(
 pub fn judge(trace: &[u8]) -> Verdict
     ensures { λ r. ⌜ r ≡ verdict (now (trace .entry)) ⌝ }
 {
-    let mut vectors = [0u16; 65792];
-    let mut process = [0u16; 4112];
-    let mut carried = [0u16; 65536];
-    let mut passing = [0u16; 4096];
-    let mut from = [0u16; 4096];
-    let mut to = [0u16; 4096];
+    let mut vectors = [0u16; VECTORS];
+    let mut process = [0u16; ROWS];
+    let mut carried = [0u16; CARRIED];
+    let mut passing = [0u16; MOST_JUDGED];
+    let mut from = [0u16; MOST_JUDGED];
+    let mut to = [0u16; MOST_JUDGED];
     judge_beside(
         trace,
         &mut vectors,

@@ -2,6 +2,7 @@
 // its process. Message m has place m - 1 in the others: `carried` has the vector that it carries, `passing` its receiver and 1 while it is under way, else 0, `from`
 // the row of its send, and `to` the row of its receipt and 1, or 0.
 use model::Event;
+use model::PROCESSES;
 use model::Refusal;
 use trace::Decoded;
 use verdicts::Verdict;
@@ -9,7 +10,9 @@ ghost use mathlib.Core.Path.{_≡_};
 ghost use mathlib.Core.Option.{some};
 ghost use Prim.Native.Nat.{_+_, _*_, _≤_, _<_};
 ghost use lib.ListN.{length};
-ghost use Rattle.decision.specs.Rows.{rowOf};
+ghost use Rattle.patterns.specs.Patterns.{mostJudged};
+ghost use Rattle.model.specs.Words.{mostProcesses, mostUnderWay};
+ghost use Rattle.decision.specs.Rows.{rowOf, mostRows, tableSize};
 ghost use Rattle.trace.specs.Answers.{eventIn};
 ghost use Rattle.judge_trace.specs.Kept.{tables, Sized, Ready, Reads, ReadsAll};
 ghost use Rattle.judge_trace.specs.Readings.{refusedStep, takenStep, refusalIn, withRow, Roomy, checkpointStep, checkpointVectors, checkpointProcess, sendRefusal, withMessage, SendRoom, sentCarried, sendStep, sendCarried, sendPassing, sendFrom, sendTo, foundIn, withoutOne, dropStep, dropPassing, receiptVectors, DeliverRoom, deliverVectors, deliverTo, FirstRows};
@@ -19,7 +22,7 @@ pub struct Progress {
     // how many rows are used
     pub rows: usize,
     // the row of each process's live state
-    pub current: [u16; 16],
+    pub current: [u16; PROCESSES],
     // how many messages are under way
     pub underway: usize,
     // how many messages were sent
@@ -61,7 +64,7 @@ fn take(s: Progress) -> Step
 
 // Process i has a new live row.
 fn with_row(s: Progress, i: usize) -> Progress
-    requires { ⌜ (i < 16) × (s .rows < 4112) ⌝ }
+    requires { ⌜ (i < mostProcesses) × (s .rows < mostRows) ⌝ }
     ensures { λ r. ⌜ r ≡ withRow s i ⌝ }
 {
     let mut current = s.current;
@@ -106,7 +109,7 @@ fn read_checkpoint(
 
 // Whether a send is refused, and why.
 fn send_refusal(s: Progress, n: usize, i: usize, receiver: usize) -> Taking
-    requires { ⌜ s .last < 4096 ⌝ }
+    requires { ⌜ s .last < mostJudged ⌝ }
     ensures { λ r. ⌜ refusalIn r ≡ sendRefusal n s i receiver ⌝ }
 {
     let verdict = verdicts::send_verdict(i, receiver, n, s.underway, s.last as u32);
@@ -118,7 +121,7 @@ fn send_refusal(s: Progress, n: usize, i: usize, receiver: usize) -> Taking
 
 // One message more.
 fn with_message(s: Progress) -> Progress
-    requires { ⌜ (s .underway ≤ 64) × (s .last < 4096) ⌝ }
+    requires { ⌜ (s .underway ≤ mostUnderWay) × (s .last < mostJudged) ⌝ }
     ensures { λ r. ⌜ r ≡ withMessage s ⌝ }
 {
     let underway = s.underway;
@@ -132,7 +135,7 @@ fn with_message(s: Progress) -> Progress
 
 // The vector that a message carries: that of its sender's live row.
 fn put_carried(vectors: &[u16], carried: &mut [u16], row: usize, place: usize)
-    requires { ⌜ (16 * row + 16 ≤ length (now vectors)) × (16 * place + 16 ≤ length (now carried)) ⌝ }
+    requires { ⌜ (mostProcesses * row + mostProcesses ≤ length (now vectors)) × (mostProcesses * place + mostProcesses ≤ length (now carried)) ⌝ }
     ensures { λ _. ⌜ now (carried .exit) ≡ sentCarried (now (vectors .entry)) row place (now (carried .entry)) ⌝ }
 {
     let v = decision::flat::row_at(vectors, row);
@@ -221,7 +224,7 @@ fn without_one(s: Progress) -> Progress
 }
 
 fn read_lose(passing: &mut [u16], s: Progress, m: u32) -> Step
-    requires { ⌜ (s .last ≤ 4096) × (s .last ≤ length (now passing)) ⌝ }
+    requires { ⌜ (s .last ≤ mostJudged) × (s .last ≤ length (now passing)) ⌝ }
     ensures { λ r. ⌜ r ≡ dropStep s (foundIn (now (passing .entry)) (s .last) m) ⌝ }
     ensures { λ r. ⌜ now (passing .exit) ≡ dropPassing (foundIn (now (passing .entry)) (s .last) m) (now (passing .entry)) ⌝ }
 {
@@ -239,7 +242,7 @@ fn read_lose(passing: &mut [u16], s: Progress, m: u32) -> Step
 // The receiver's live row takes in what the message in this place carries: the greater of each two entries. No line of the judge tells the set of the entries that
 // rose, so it is not made here (Note 3's steps, which make it, are those of a run's own deliveries).
 fn put_receipt(vectors: &mut [u16], carried: &[u16], row: usize, place: usize)
-    requires { ⌜ (16 * row + 16 ≤ length (now vectors)) × (16 * place + 16 ≤ length (now carried)) ⌝ }
+    requires { ⌜ (mostProcesses * row + mostProcesses ≤ length (now vectors)) × (mostProcesses * place + mostProcesses ≤ length (now carried)) ⌝ }
     ensures { λ _. ⌜ now (vectors .exit) ≡ receiptVectors (now (vectors .entry)) row (rowOf (now (carried .entry)) place) ⌝ }
 {
     let own = decision::flat::row_at(vectors, row);
@@ -279,12 +282,12 @@ fn read_deliver(
 
 // The rows of the first intervals: process p has row p.
 fn first_rows(vectors: &mut [u16], process: &mut [u16], n: usize) -> Progress
-    requires { ⌜ (n ≤ 16) × (65792 ≤ length (now vectors)) × (4112 ≤ length (now process)) ⌝ }
+    requires { ⌜ (n ≤ mostProcesses) × (tableSize ≤ length (now vectors)) × (mostRows ≤ length (now process)) ⌝ }
     ensures { λ r. ⌜ FirstRows n (now (vectors .exit)) (now (process .exit)) (r .current) ⌝ }
     ensures { λ r. ⌜ (length (now (vectors .exit)) ≡ length (now (vectors .entry))) × (length (now (process .exit)) ≡ length (now (process .entry))) ⌝ }
     ensures { λ r. ⌜ (r .rows ≡ n) × (r .underway ≡ 0) × (r .last ≡ 0) ⌝ }
 {
-    let mut current = [0u16; 16];
+    let mut current = [0u16; PROCESSES];
     for p in 0..n {
         let v = rows::start::first_vector(p);
         decision::flat::put_row(vectors, p, v);
@@ -357,7 +360,7 @@ pub(crate) fn read_all(
     n: usize,
 ) -> Step
     requires { ⌜ Sized (tables (now vectors) (now process) (now carried) (now passing) (now from) (now to)) ⌝ }
-    requires { ⌜ (n ≤ 16) × (1 ≤ length (now trace)) × (length (now trace) ≤ 16388) ⌝ }
+    requires { ⌜ (n ≤ mostProcesses) × (1 ≤ length (now trace)) × (length (now trace) ≤ 4 * mostJudged + 4) ⌝ }
     ensures { λ r. ⌜ ReadsAll n (now (trace .entry)) r (tables (now (vectors .exit)) (now (process .exit)) (now (carried .exit)) (now (passing .exit)) (now (from .exit)) (now (to .exit))) ⌝ }
 {
     let mut s = first_rows(vectors, process, n);

@@ -18,7 +18,7 @@ ghost use Rattle.whole_runs.specs.Clean.{CleanPromise};
 ghost use Rattle.whole_runs.specs.Sweep.{EmptyLinePromise, SweepPromise};
 ghost use Rattle.answers.specs.Codes.{startCode, checkpointCode, sendCode, deliverCode, loseCode, lineCode, recoverCode};
 ghost use Rattle.words.specs.Clean.{Clean};
-ghost use Rattle.words.specs.Layout.{runOf};
+ghost use Rattle.words.specs.Layout.{runOf, stateSize};
 ghost use Rattle.line_words.specs.Through.{namedIn};
 ghost use Rattle.in_place.specs.Left.{Leaves};
 ghost use Rattle.in_place.specs.Starting.{startOutcomeIn, startWords};
@@ -37,7 +37,7 @@ pub extern "C" fn lemidrosy_start(words: &mut [u16], n: usize, counts: &[u32]) -
     ensures { λ r. ⌜ r ≡ startCode (startOutcomeIn (length (now (words .entry))) n (now (counts .entry)) .answer) ⌝ }
     ensures { λ r. ⌜ runOf (now (words .exit)) ≡ startOutcomeIn (length (now (words .entry))) n (now (counts .entry)) .run ⌝ }
     ensures { λ r. ⌜ now (words .exit) ≡ startWords (now (words .entry)) n (now (counts .entry)) ⌝ }
-    ensures { λ r. ⌜ (length (now (words .entry)) ≡ 6464 → Clean (now (words .exit))) ⌝ }
+    ensures { λ r. ⌜ (length (now (words .entry)) ≡ stateSize → Clean (now (words .exit))) ⌝ }
     ensures { λ r. ⌜ (startOutcomeIn (length (now (words .entry))) n (now (counts .entry)) .answer ≡ Started → StartPromise n (now (counts .entry)) (runOf (now (words .exit)))) ⌝ }
 {
     let answer = in_place::start::start(words, n, counts);

@@ -13,7 +13,7 @@ ghost use Rattle.model.specs.declared.LoseAnswer.the-variants as losing;
 ghost use Rattle.model.specs.declared.RecoverAnswer.the-variants as recovering;
 ghost use Rattle.answers.specs.Codes.{Fits, startCode, checkpointCode, sendCode, deliverCode, loseCode, lineCode, recoverCode};
 ghost use Rattle.words.specs.Clean.{Clean};
-ghost use Rattle.words.specs.Layout.{runOf};
+ghost use Rattle.words.specs.Layout.{runOf, stateSize};
 ghost use Rattle.line_words.specs.Through.{namedIn};
 ghost use Rattle.in_place.specs.Left.{Leaves};
 ghost use Rattle.roles.specs.Console.{listReport};
@@ -43,7 +43,7 @@ pub extern "C" fn lemidrosy_console_start(
     ensures { λ r. ⌜ r ≡ startCode (startAs role owned (now (words .entry)) n (now (counts .entry)) .answer) ⌝ }
     ensures { λ r. ⌜ runOf (now (words .exit)) ≡ startAs role owned (now (words .entry)) n (now (counts .entry)) .run ⌝ }
     ensures { λ r. ⌜ now (words .exit) ≡ startWordsAs role owned (now (words .entry)) n (now (counts .entry)) ⌝ }
-    ensures { λ r. ⌜ (length (now (words .entry)) ≡ 6464 → Clean (now (words .entry)) → Clean (now (words .exit))) ⌝ }
+    ensures { λ r. ⌜ (length (now (words .entry)) ≡ stateSize → Clean (now (words .entry)) → Clean (now (words .exit))) ⌝ }
 {
     let answer = console_in_place::calls::start(role, owned, words, n, counts);
     answers::of_start(answer)

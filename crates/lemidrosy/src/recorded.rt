@@ -13,7 +13,7 @@ ghost use Rattle.model.specs.declared.LoseAnswer.the-variants as losing;
 ghost use Rattle.model.specs.declared.RecoverAnswer.the-variants as recovering;
 ghost use Rattle.answers.specs.Codes.{startCode, checkpointCode, sendCode, deliverCode, loseCode, lineCode, recoverCode};
 ghost use Rattle.words.specs.Clean.{Clean};
-ghost use Rattle.words.specs.Layout.{runOf};
+ghost use Rattle.words.specs.Layout.{runOf, stateSize};
 ghost use Rattle.line_words.specs.Through.{namedIn};
 ghost use Rattle.in_place.specs.Left.{Leaves};
 ghost use Rattle.lemidrosy.specs.Recording.{startAt, startWordsAt, checkpointAt, sendAt, deliverAt, loseAt, lineAt, recoverAt, earliestAt};
@@ -35,7 +35,7 @@ pub extern "C" fn lemidrosy_record_start(
     ensures { λ r. ⌜ now (buffer .exit) ≡ startAt (now (words .entry)) n (now (counts .entry)) (now (buffer .entry)) (now (place .entry)) .buffer ⌝ }
     ensures { λ r. ⌜ now (place .exit) ≡ startAt (now (words .entry)) n (now (counts .entry)) (now (buffer .entry)) (now (place .entry)) .places ⌝ }
     ensures { λ r. ⌜ now (words .exit) ≡ startWordsAt (now (words .entry)) n (now (counts .entry)) (now (buffer .entry)) (now (place .entry)) ⌝ }
-    ensures { λ r. ⌜ (length (now (words .entry)) ≡ 6464 → 1 ≤ length (now (place .entry)) → Clean (now (words .exit))) ⌝ }
+    ensures { λ r. ⌜ (length (now (words .entry)) ≡ stateSize → 1 ≤ length (now (place .entry)) → Clean (now (words .exit))) ⌝ }
 {
     if place.len() == 0 {
         return NO_PLACE;

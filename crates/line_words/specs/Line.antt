@@ -48,7 +48,7 @@ abbrev pub OwnSome : ℕ → List ℕ → Type 0
 OwnSome n w = (p : ℕ) → p < n → 1 ≤ word w (partAt p + p)
 
 abbrev pub HeldMost : ℕ → List ℕ → Type 0
-HeldMost n w = (p : ℕ) → p < n → word w (heldAt p) ≤ 16
+HeldMost n w = (p : ℕ) → p < n → word w (heldAt p) ≤ mostProcesses
 
 abbrev pub KeptUsed : ℕ → List ℕ → Type 0
 KeptUsed p w = (k : ℕ) → k < word w (heldAt p) → 1 ≤ word w (indexAt p k)

@@ -10,7 +10,7 @@ use Rattle.laws.specs.Choice.{pick}
 use Rattle.laws.specs.Lists.{select}
 use Rattle.model.specs.declared.CheckpointIndex.{CheckpointIndex}
 use Rattle.model.specs.declared.Message.{Message}
-use Rattle.model.specs.Words.{entry}
+use Rattle.model.specs.Words.{entry, mostProcesses}
 use Rattle.words.specs.Layout.{word, wide2, senderAt, messageIn, isMessage, messagesIn, endFits}
 use Rattle.words.specs.Frames.{OnlyMessages}
 use Rattle.words.specs.Clean.{CleanMessages}
@@ -34,7 +34,7 @@ siftedBelow indexes w (suc k) = siftedPlace indexes (siftedBelow indexes w k) k
 
 -- What the functions rely on: the messages in the first places have senders that a row has room for.
 abbrev pub SendersPresent : ℕ → List ℕ → Type 0
-SendersPresent n w = (k : ℕ) → k < n → isMessage (messageIn w k) ≡ true → word w (senderAt k) < 16
+SendersPresent n w = (k : ℕ) → k < n → isMessage (messageIn w k) ≡ true → word w (senderAt k) < mostProcesses
 
 -- v is what is left of w where the lost messages are no longer under way.
 pub record Sifted (indexes : List CheckpointIndex) (w v : List ℕ) : Type 0 where

@@ -12,7 +12,7 @@ use Rattle.laws.specs.Loops.{setBelow}
 use Rattle.laws.specs.Search.{allBelow, anyBelow}
 use Rattle.model.specs.declared.Named.{Named}
 use Rattle.model.specs.Words.{mostProcesses}
-use Rattle.words.specs.Layout.{word, heldAt, indexAt, storedAt}
+use Rattle.words.specs.Layout.{word, heldAt, indexAt, storedAt, stateSize}
 use Rattle.line_words.specs.declared.through.Starts.{Starts}
 use Rattle.line_words.specs.Line.{KeptUsed}
 
@@ -61,10 +61,10 @@ greatestIn w starts p (suc k) = max (greatestIn w starts p k) (word w (getD star
 
 -- What the functions rely on: the processes that m pairs name are there, with at most 16 checkpoints; the vectors lie within the words.
 abbrev pub Present : ℕ → List ℕ → Type 0
-Present m l = (k : ℕ) → k < m → processOf l k < 16
+Present m l = (k : ℕ) → k < m → processOf l k < mostProcesses
 
 abbrev pub Searched : ℕ → List ℕ → List ℕ → Type 0
-Searched m l w = (k : ℕ) → k < m → (processOf l k < 16) × (word w (heldAt (processOf l k)) ≤ 16) × KeptUsed (processOf l k) w
+Searched m l w = (k : ℕ) → k < m → (processOf l k < mostProcesses) × (word w (heldAt (processOf l k)) ≤ mostProcesses) × KeptUsed (processOf l k) w
 
 abbrev pub InWords : List ℕ → ℕ → Type 0
-InWords starts m = (k : ℕ) → k < m → getD starts k 0 + 16 ≤ 6464
+InWords starts m = (k : ℕ) → k < m → getD starts k 0 + mostProcesses ≤ stateSize

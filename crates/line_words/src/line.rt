@@ -1,12 +1,14 @@
 // The line's member of a process. Its states are the checkpoints that it keeps, in their places, and after them the live state.
 use model::CheckpointIndex;
 use model::Interval;
+use model::PROCESSES;
 use words::places;
 ghost use mathlib.Core.Path.{_≡_};
 ghost use Prim.Native.Nat.{_+_, _-_, _≤_, _<_};
 ghost use lib.ListN.{length, replicate};
 ghost use Rattle.laws.specs.Choice.{pick};
-ghost use Rattle.words.specs.Layout.{word, heldAt, partAt};
+ghost use Rattle.model.specs.Words.{mostProcesses};
+ghost use Rattle.words.specs.Layout.{word, heldAt, partAt, stateSize};
 ghost use Rattle.line_words.specs.Line.{limitsIn, pastKept, pastLatest, hasMembers, pastsIn, indexIn, indexesIn, OwnSome, HeldMost, KeptUsed, AllUsed, AllFound};
 
 // The greatest entry for a process that a state may have: "less than f's current own entry" where it has failed. Where it has not, no entry is above the own entry.
@@ -18,11 +20,11 @@ fn limit_of(failed: bool, own: Interval) -> Interval
 }
 
 // The limit of each entry; bit f of the failed set stands for process f, which is one of n.
-pub fn limits_of(w: &[u16], n: usize, failed: u32) -> [Interval; 16]
-    requires { ⌜ (length (now w) ≡ 6464) × (n ≤ 16) × OwnSome n (now w) ⌝ }
+pub fn limits_of(w: &[u16], n: usize, failed: u32) -> [Interval; PROCESSES]
+    requires { ⌜ (length (now w) ≡ stateSize) × (n ≤ mostProcesses) × OwnSome n (now w) ⌝ }
     ensures { λ r. ⌜ r ≡ limitsIn (now (w .entry)) n failed ⌝ }
 {
-    let mut limits = [Interval(0); 16];
+    let mut limits = [Interval(0); PROCESSES];
     let mut left = failed;
     for f in 0..n {
         let own = words::interval_of(w[places::PARTS + places::PART * f + f]);
@@ -34,8 +36,8 @@ pub fn limits_of(w: &[u16], n: usize, failed: u32) -> [Interval; 16]
 }
 
 // One above the place of the latest of the first `held` kept checkpoints that is within the limits, 0 if there is none.
-fn latest_kept(w: &[u16], p: usize, held: usize, limits: [Interval; 16]) -> usize
-    requires { ⌜ (length (now w) ≡ 6464) × (p < 16) × (held ≤ 16) ⌝ }
+fn latest_kept(w: &[u16], p: usize, held: usize, limits: [Interval; PROCESSES]) -> usize
+    requires { ⌜ (length (now w) ≡ stateSize) × (p < mostProcesses) × (held ≤ mostProcesses) ⌝ }
     ensures { λ r. ⌜ r ≡ pastKept (now (w .entry)) limits p held ⌝ }
 {
     let mut past = held;
@@ -54,8 +56,8 @@ fn latest_kept(w: &[u16], p: usize, held: usize, limits: [Interval; 16]) -> usiz
 }
 
 // One above the place of the latest state that is within the limits, 0 if there is none. The live state is tried first.
-fn latest_allowed(w: &[u16], p: usize, limits: [Interval; 16]) -> usize
-    requires { ⌜ (length (now w) ≡ 6464) × (p < 16) × (word (now w) (heldAt p) ≤ 16) ⌝ }
+fn latest_allowed(w: &[u16], p: usize, limits: [Interval; PROCESSES]) -> usize
+    requires { ⌜ (length (now w) ≡ stateSize) × (p < mostProcesses) × (word (now w) (heldAt p) ≤ mostProcesses) ⌝ }
     ensures { λ r. ⌜ r ≡ pastLatest (now (w .entry)) limits p ⌝ }
 {
     let held = w[places::HELD + p] as usize;
@@ -69,8 +71,8 @@ fn latest_allowed(w: &[u16], p: usize, limits: [Interval; 16]) -> usize
 
 // One above the place of the member of each of n processes goes into the lent table, which holds zeros. The result says whether the line rule accepts a state of each.
 // The table is lent, and then read place by place: a table by value is copied as rows, and such a copy waits for the stores of its places.
-pub fn find_members(w: &[u16], n: usize, limits: [Interval; 16], pasts: &mut [u16]) -> bool
-    requires { ⌜ (length (now w) ≡ 6464) × (n ≤ 16) × HeldMost n (now w) × (now pasts ≡ replicate 16 0) ⌝ }
+pub fn find_members(w: &[u16], n: usize, limits: [Interval; PROCESSES], pasts: &mut [u16]) -> bool
+    requires { ⌜ (length (now w) ≡ stateSize) × (n ≤ mostProcesses) × HeldMost n (now w) × (now pasts ≡ replicate mostProcesses 0) ⌝ }
     ensures { λ r. ⌜ r ≡ hasMembers (now (w .entry)) n limits ⌝ }
     ensures { λ r. ⌜ now (pasts .exit) ≡ pastsIn (now (w .entry)) n limits ⌝ }
 {
@@ -85,7 +87,7 @@ pub fn find_members(w: &[u16], n: usize, limits: [Interval; 16], pasts: &mut [u1
 
 // The index of the state of process p in the place before this one.
 fn index_in(w: &[u16], p: usize, past: usize) -> CheckpointIndex
-    requires { ⌜ (length (now w) ≡ 6464) × (p < 16) × (1 ≤ past) × (word (now w) (heldAt p) ≤ 16) × (1 ≤ word (now w) (partAt p + p)) × KeptUsed p (now w) ⌝ }
+    requires { ⌜ (length (now w) ≡ stateSize) × (p < mostProcesses) × (1 ≤ past) × (word (now w) (heldAt p) ≤ mostProcesses) × (1 ≤ word (now w) (partAt p + p)) × KeptUsed p (now w) ⌝ }
     ensures { λ r. ⌜ r ≡ indexIn (now (w .entry)) p past ⌝ }
 {
     let held = w[places::HELD + p] as usize;
@@ -97,11 +99,11 @@ fn index_in(w: &[u16], p: usize, past: usize) -> CheckpointIndex
 }
 
 // The indexes of the members of n processes, 0 at n and above.
-pub fn indexes_of(w: &[u16], n: usize, pasts: &[u16]) -> [CheckpointIndex; 16]
-    requires { ⌜ (length (now w) ≡ 6464) × (n ≤ 16) × OwnSome n (now w) × HeldMost n (now w) × AllUsed n (now w) × AllFound n (now pasts) ⌝ }
+pub fn indexes_of(w: &[u16], n: usize, pasts: &[u16]) -> [CheckpointIndex; PROCESSES]
+    requires { ⌜ (length (now w) ≡ stateSize) × (n ≤ mostProcesses) × OwnSome n (now w) × HeldMost n (now w) × AllUsed n (now w) × AllFound n (now pasts) ⌝ }
     ensures { λ r. ⌜ r ≡ indexesIn (now (w .entry)) n (now (pasts .entry)) ⌝ }
 {
-    let mut indexes = [CheckpointIndex(0); 16];
+    let mut indexes = [CheckpointIndex(0); PROCESSES];
     for p in 0..n {
         let past = pasts[p] as usize;
         let index = index_in(w, p, past);

@@ -1,5 +1,6 @@
 // The earliest consistent line through named checkpoints (document 02, Note 8), of which each process keeps one at most. They are pairs of numbers in a lent slice:
 // process, index, process, index, and so on. Numbers of which one is left over are no pairs, and name nothing.
+use model::PROCESSES;
 use words::places;
 ghost use mathlib.Core.Path.{_≡_};
 ghost use mathlib.Core.Bool.{_||_};
@@ -9,7 +10,8 @@ ghost use lib.ListN.{length, getD};
 ghost use lib.Seq.{sets};
 ghost use Rattle.laws.specs.Lists.{table};
 ghost use Rattle.laws.specs.Search.{anyBelow};
-ghost use Rattle.words.specs.Layout.{word, heldAt};
+ghost use Rattle.model.specs.Words.{mostProcesses};
+ghost use Rattle.words.specs.Layout.{word, heldAt, stateSize};
 ghost use Rattle.line_words.specs.Line.{KeptUsed};
 ghost use Rattle.line_words.specs.Through.{pairCount, processOf, indexOf, amongFirst, twiceIn, startOf, startsIn, beforeSome, greatestIn, Present, Searched, InWords};
 
@@ -22,7 +24,7 @@ pub fn pair_count(length: usize) -> usize
 
 // One of m pairs names a process that is not below n.
 pub fn names_absent(named: &[u32], m: usize, n: usize) -> bool
-    requires { ⌜ (2 * m ≤ length (now named)) × (n ≤ 16) ⌝ }
+    requires { ⌜ (2 * m ≤ length (now named)) × (n ≤ mostProcesses) ⌝ }
     ensures { λ r. ⌜ r ≡ anyBelow m (λ k. leb n (processOf (now (named .entry)) k)) ⌝ }
 {
     let most = n as u32;
@@ -83,7 +85,7 @@ fn is_index(word: u16, index: u32) -> bool
 
 // Where the vector of the checkpoint of process p with this index starts, 0 if p does not keep it.
 fn find_start(w: &[u16], p: usize, index: u32) -> usize
-    requires { ⌜ (length (now w) ≡ 6464) × (p < 16) × (word (now w) (heldAt p) ≤ 16) × KeptUsed p (now w) ⌝ }
+    requires { ⌜ (length (now w) ≡ stateSize) × (p < mostProcesses) × (word (now w) (heldAt p) ≤ mostProcesses) × KeptUsed p (now w) ⌝ }
     ensures { λ r. ⌜ r ≡ startOf (now (w .entry)) p index (word (now (w .entry)) (heldAt p)) ⌝ }
 {
     let held = w[places::HELD + p] as usize;
@@ -100,14 +102,14 @@ fn find_start(w: &[u16], p: usize, index: u32) -> usize
 // Where the vectors of the checkpoints that m pairs name start. `all` says whether each is kept.
 pub struct Starts {
     pub all: bool,
-    pub starts: [u16; 16],
+    pub starts: [u16; PROCESSES],
 }
 
 pub fn find_starts(w: &[u16], named: &[u32], m: usize) -> Starts
-    requires { ⌜ (length (now w) ≡ 6464) × (2 * m ≤ length (now named)) × (m ≤ 16) × Searched m (now named) (now w) ⌝ }
+    requires { ⌜ (length (now w) ≡ stateSize) × (2 * m ≤ length (now named)) × (m ≤ mostProcesses) × Searched m (now named) (now w) ⌝ }
     ensures { λ r. ⌜ r ≡ startsIn (now (w .entry)) (now (named .entry)) m ⌝ }
 {
-    let mut starts = [0u16; 16];
+    let mut starts = [0u16; PROCESSES];
     let mut all = true;
     for k in 0..m {
         let start = find_start(w, named[2 * k] as usize, named[2 * k + 1]);
@@ -118,8 +120,8 @@ pub fn find_starts(w: &[u16], named: &[u32], m: usize) -> Starts
 }
 
 // Checkpoint `index` of process p comes causally before one of m states, whose vectors start at these words.
-fn is_before_some(w: &[u16], p: usize, index: u32, starts: [u16; 16], m: usize) -> bool
-    requires { ⌜ (length (now w) ≡ 6464) × (p < 16) × (m ≤ 16) × InWords starts m ⌝ }
+fn is_before_some(w: &[u16], p: usize, index: u32, starts: [u16; PROCESSES], m: usize) -> bool
+    requires { ⌜ (length (now w) ≡ stateSize) × (p < mostProcesses) × (m ≤ mostProcesses) × InWords starts m ⌝ }
     ensures { λ r. ⌜ r ≡ beforeSome (now (w .entry)) starts m p index ⌝ }
 {
     let mut any = false;
@@ -131,8 +133,8 @@ fn is_before_some(w: &[u16], p: usize, index: u32, starts: [u16; 16], m: usize) 
 }
 
 // One of the checkpoints that m pairs name comes causally before one of them.
-pub fn is_ordered(w: &[u16], named: &[u32], starts: [u16; 16], m: usize) -> bool
-    requires { ⌜ (length (now w) ≡ 6464) × (2 * m ≤ length (now named)) × (m ≤ 16) × Present m (now named) × InWords starts m ⌝ }
+pub fn is_ordered(w: &[u16], named: &[u32], starts: [u16; PROCESSES], m: usize) -> bool
+    requires { ⌜ (length (now w) ≡ stateSize) × (2 * m ≤ length (now named)) × (m ≤ mostProcesses) × Present m (now named) × InWords starts m ⌝ }
     ensures { λ r. ⌜ r ≡ anyBelow m (λ k. beforeSome (now (w .entry)) starts m (processOf (now (named .entry)) k) (indexOf (now (named .entry)) k)) ⌝ }
 {
     let mut any = false;
@@ -144,8 +146,8 @@ pub fn is_ordered(w: &[u16], named: &[u32], starts: [u16; 16], m: usize) -> bool
 }
 
 // The greatest of the entries for p of m vectors.
-fn greatest_entry(w: &[u16], p: usize, starts: [u16; 16], m: usize) -> u16
-    requires { ⌜ (length (now w) ≡ 6464) × (p < 16) × (m ≤ 16) × InWords starts m ⌝ }
+fn greatest_entry(w: &[u16], p: usize, starts: [u16; PROCESSES], m: usize) -> u16
+    requires { ⌜ (length (now w) ≡ stateSize) × (p < mostProcesses) × (m ≤ mostProcesses) × InWords starts m ⌝ }
     ensures { λ r. ⌜ r ≡ greatestIn (now (w .entry)) starts p m ⌝ }
 {
     let mut most = 0;
@@ -159,8 +161,8 @@ fn greatest_entry(w: &[u16], p: usize, starts: [u16; 16], m: usize) -> u16
 }
 
 // At each of n processes the greatest of the entries for it goes into the lent list.
-pub fn write_greatest(w: &[u16], starts: [u16; 16], m: usize, n: usize, line: &mut [u16])
-    requires { ⌜ (length (now w) ≡ 6464) × (m ≤ 16) × InWords starts m × (n ≤ 16) × (n ≤ length (now line)) ⌝ }
+pub fn write_greatest(w: &[u16], starts: [u16; PROCESSES], m: usize, n: usize, line: &mut [u16])
+    requires { ⌜ (length (now w) ≡ stateSize) × (m ≤ mostProcesses) × InWords starts m × (n ≤ mostProcesses) × (n ≤ length (now line)) ⌝ }
     ensures { λ u. ⌜ now (line .exit) ≡ sets (now (line .entry)) 0 (table n (λ p. greatestIn (now (w .entry)) starts p m)) ⌝ }
 {
     for p in 0..n {

@@ -8,6 +8,9 @@ ghost use Rattle.whole_runs.specs.Listing.{decimal, valueText, deletionsText, a
 ghost use Rattle.listing.specs.Lines.{valueIn, replyOf, pairText, refusalLine};
 ghost use Rattle.listing.specs.Printed.{Room, Printed};
 
+// No line of a record has more bytes (longestLine in specs/Lines).
+pub const LONGEST_LINE: usize = 3102;
+
 // The value of a line: a hyphen where there is none.
 pub enum Value {
     Hyphen,

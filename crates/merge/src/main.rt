@@ -27,7 +27,7 @@ fn drive(memory: &mut [u64], input: &mut [u8], out: &mut [u8]) -> Request
 
 fn main() {
     let mut memory = [0u64; 7];
-    let mut input = [0u8; 131072];
-    let mut out = [0u8; 32784];
+    let mut input = [0u8; merge_machine::LONGEST_WORD];
+    let mut out = [0u8; merge_machine::LONGEST_TRACE];
     drive(&mut memory, &mut input, &mut out);
 }

@@ -17,7 +17,7 @@ mostCounted = 9_000_000_000_000_000_000
 
 -- How many bytes are held of a half of so many.
 unfoldable pub heldSize : ℕ → ℕ
-heldSize total = pick (leb total 16392) total (16389 + (total - 1) % 4)
+heldSize total = pick (leb total mostKept) total (16389 + (total - 1) % 4)
 
 unfoldable pub heldOf : List ℕ → List ℕ
 heldOf file = take (heldSize (length file)) file

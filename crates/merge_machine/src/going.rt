@@ -1,10 +1,15 @@
 // How the machine goes on: the numbers of the state that an answer leads to. The buffers are those of the state with them.
 use crate::marks;
+use crate::marks::LONGEST_NAME;
+use crate::marks::LONGEST_WORD;
+use crate::marks::MOST_COUNTED;
 use crate::marks::Marks;
+use crate::marks::SECOND_HALF;
 use machines::Answer;
 use machines::heard;
 use machines::heard::Taken;
 use model::MergeAnswer;
+use programs::numbers::NO_NUMBER;
 ghost use mathlib.Core.List.{List};
 ghost use Prim.Native.Nat.{ℕ, _+_, _≤_, _<_};
 ghost use lib.ListN.{length};
@@ -54,7 +59,7 @@ fn set_named(word: &[u8], out: &mut [u8]) -> Marks
     ensures { λ r. ⌜ ((input : List ℕ) → longestWord ≤ length input → Arrives r input (now (out .exit)) (afterSet (Bytes (now (word .entry))))) ⌝ }
 {
     let set = programs::numbers::number_in(word);
-    if set == 4294967297 {
+    if set == NO_NUMBER {
         return say(out, b"usage: merge FIRST SECOND SET > TRACE\n");
     }
     Marks {
@@ -72,7 +77,7 @@ fn after_set(input: &[u8], out: &mut [u8], answer: Answer) -> Marks
     requires { ⌜ (longestWord ≤ length (now input)) × (longestTrace ≤ length (now out)) ⌝ }
     ensures { λ r. ⌜ Leads r (now (input .entry)) (now (out .exit)) Setting answer 0 ⌝ }
 {
-    let taken = heard::word(answer, 131072);
+    let taken = heard::word(answer, LONGEST_WORD);
     match taken {
         Taken::Brought(size) => set_named(&input[..size], out),
         Taken::Ended => say(out, b"usage: merge FIRST SECOND SET > TRACE\n"),
@@ -129,7 +134,7 @@ fn after_name(m: Marks, input: &[u8], out: &mut [u8], answer: Answer) -> Marks
     requires { ⌜ Fits m × (longestWord ≤ length (now input)) × (longestTrace ≤ length (now out)) ⌝ }
     ensures { λ r. ⌜ Leads r (now (input .entry)) (now (out .exit)) (Naming (stageOf m (now (input .entry)))) answer (nameAt (m .half)) ⌝ }
 {
-    let taken = heard::word(answer, 4096);
+    let taken = heard::word(answer, LONGEST_NAME);
     match taken {
         Taken::Brought(size) => open_file(m, input, out, size),
         Taken::Ended => fail_unnamed(m, out),
@@ -195,9 +200,14 @@ fn end_half(m: Marks, count: usize, input: &[u8], out: &mut [u8]) -> Marks
             size: 0,
         };
     }
-    let end = 4096 + m.first;
-    let last = 24584 + held;
-    show(&input[4096..end], &input[24584..last], m.set as u32, out)
+    let end = LONGEST_NAME + m.first;
+    let last = SECOND_HALF + held;
+    show(
+        &input[LONGEST_NAME..end],
+        &input[SECOND_HALF..last],
+        m.set as u32,
+        out,
+    )
 }
 
 // So many bytes of a half were read.
@@ -205,7 +215,7 @@ fn go_on(m: Marks, count: usize, input: &[u8], out: &mut [u8]) -> Marks
     requires { ⌜ Fits m × (longestWord ≤ length (now input)) × (longestTrace ≤ length (now out)) ⌝ }
     ensures { λ r. ⌜ Arrives r (now (input .entry)) (now (out .exit)) (onwardOf m count (now (input .entry))) ⌝ }
 {
-    if count < 9000000000000000000 {
+    if count < MOST_COUNTED {
         return read_more(m, count);
     }
     end_half(m, count, input, out)

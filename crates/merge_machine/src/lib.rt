@@ -16,6 +16,11 @@ ghost use Rattle.machines.specs.Forms.{answerOf};
 ghost use Rattle.merge_machine.specs.Merging.{Counting, merging};
 ghost use Rattle.merge_machine.specs.Words.{Roomy, lacksRoom, stateOf, placeOf, StandsFor};
 
+// How many bytes a caller lends: for the longest word, and for both halves in one trace (longestTrace in specs/Words).
+pub const LONGEST_WORD: usize = marks::LONGEST_WORD;
+
+pub const LONGEST_TRACE: usize = 2 * marks::MOST_KEPT;
+
 // Whether one of the lent lists is too short for every run.
 pub fn lacks_room(memory: usize, input: usize, out: usize) -> bool
     ensures { λ r. ⌜ r ≡ lacksRoom memory input out ⌝ }
@@ -23,10 +28,10 @@ pub fn lacks_room(memory: usize, input: usize, out: usize) -> bool
     if memory < 7 {
         return true;
     }
-    if input < 131072 {
+    if input < LONGEST_WORD {
         return true;
     }
-    out < 32784
+    out < LONGEST_TRACE
 }
 
 // The first state.

@@ -1,9 +1,12 @@
 // The numbers that a caller lends for the state, read and put.
+use halves::MOST_OF_HALF;
 use machines::Request;
+use programs::numbers::GREATEST;
 ghost use mathlib.Core.Path.{_≡_};
-ghost use Prim.Native.Nat.{_≤_};
+ghost use Prim.Native.Nat.{_+_, _*_, _≤_};
 ghost use lib.ListN.{length};
-ghost use Rattle.merge_machine.specs.Held.{heldSize, wanted};
+ghost use Rattle.merge_machine.specs.Held.{heldSize, wanted, mostKept};
+ghost use Rattle.merge_machine.specs.Merging.{longestName};
 ghost use Rattle.merge_machine.specs.Words.{marksOf, atPhase, inBounds, nameAt, halfAt, readTo, wordAt, asksFor};
 
 // The phase; 0 for the first half, every other number for the second; the set; how many bytes are held of the first half; how long the name of the file is; how many
@@ -36,6 +39,25 @@ pub const FAILING: u64 = 8;
 
 pub const STOPPED: u64 = 0;
 
+// The bytes of the longest word that the system hands to a program, and of the longest name of a file (longestWord, longestName in specs/Merging).
+pub const LONGEST_WORD: usize = 131072;
+
+pub const LONGEST_NAME: usize = 4096;
+
+// The bytes of a first byte and of one record more than a half may have.
+const TOO_MANY_RECORDS: usize = 1 + 4 * (MOST_OF_HALF + 1);
+
+// So many bytes of a half are kept at most (mostKept in specs/Held): those, and what may be left over.
+pub const MOST_KEPT: usize = TOO_MANY_RECORDS + 3;
+
+// Where the second file's name stands, after the first one and what is kept of the first half; and the second half.
+const SECOND_NAME: usize = LONGEST_NAME + MOST_KEPT;
+
+pub const SECOND_HALF: usize = SECOND_NAME + LONGEST_NAME;
+
+// A half is read no further than this (mostCounted in specs/Held).
+pub const MOST_COUNTED: usize = 9000000000000000000;
+
 // A phase that is about no file.
 pub fn at(phase: u64, size: usize) -> Marks
     ensures { λ r. ⌜ r ≡ atPhase phase size ⌝ }
@@ -55,16 +77,16 @@ pub fn at(phase: u64, size: usize) -> Marks
 pub fn in_bounds(m: Marks, out: usize) -> bool
     ensures { λ r. ⌜ r ≡ inBounds m out ⌝ }
 {
-    if 4294967295 < m.set {
+    if GREATEST < m.set {
         return false;
     }
-    if 16392 < m.first {
+    if MOST_KEPT < m.first {
         return false;
     }
-    if 4096 < m.name {
+    if LONGEST_NAME < m.name {
         return false;
     }
-    if 9000000000000000000 <= m.count {
+    if MOST_COUNTED <= m.count {
         return false;
     }
     m.size <= out
@@ -109,27 +131,27 @@ fn word_at(half: u64) -> usize
 
 // The place of a file's name.
 pub fn name_at(half: u64) -> usize
-    ensures { λ r. ⌜ (r ≡ nameAt half) × (r ≤ 20488) ⌝ }
+    ensures { λ r. ⌜ (r ≡ nameAt half) × (r ≤ longestName + mostKept) ⌝ }
 {
     if half == 0 {
         return 0;
     }
-    20488
+    SECOND_NAME
 }
 
 // The place of its bytes,
 fn half_at(half: u64) -> usize
-    ensures { λ r. ⌜ (r ≡ halfAt half) × (r ≤ 24584) ⌝ }
+    ensures { λ r. ⌜ (r ≡ halfAt half) × (r ≤ 2 * longestName + mostKept) ⌝ }
 {
-    name_at(half) + 4096
+    name_at(half) + LONGEST_NAME
 }
 
 // and of those that come next.
 fn read_to(half: u64, count: usize) -> usize
     ensures { λ r. ⌜ r ≡ readTo half count ⌝ }
 {
-    if 16392 < count {
-        return half_at(half) + 16392;
+    if MOST_KEPT < count {
+        return half_at(half) + MOST_KEPT;
     }
     half_at(half) + count
 }
@@ -138,20 +160,20 @@ fn read_to(half: u64, count: usize) -> usize
 pub fn wanted(total: usize) -> usize
     ensures { λ r. ⌜ r ≡ wanted total ⌝ }
 {
-    if total < 16392 {
-        return 16392 - total;
+    if total < MOST_KEPT {
+        return MOST_KEPT - total;
     }
-    16392
+    MOST_KEPT
 }
 
 // How many bytes are held of a half of so many.
 pub fn held_size(total: usize) -> usize
-    ensures { λ r. ⌜ (r ≡ heldSize total) × (r ≤ 16392) ⌝ }
+    ensures { λ r. ⌜ (r ≡ heldSize total) × (r ≤ mostKept) ⌝ }
 {
-    if total <= 16392 {
+    if total <= MOST_KEPT {
         return total;
     }
-    16389 + (total - 1) % 4
+    TOO_MANY_RECORDS + (total - 1) % 4
 }
 
 // What the machine asks for.
@@ -161,8 +183,8 @@ pub fn request(m: Marks) -> Request
     let phase = m.phase;
     match phase {
         COUNTING => Request::Count,
-        SETTING => Request::Argument(3, 0, 131072),
-        NAMING => Request::Argument(word_at(m.half), name_at(m.half), 4096),
+        SETTING => Request::Argument(3, 0, LONGEST_WORD),
+        NAMING => Request::Argument(word_at(m.half), name_at(m.half), LONGEST_NAME),
         OPENING => Request::Open(m.name),
         READING => Request::Read(read_to(m.half, m.count), wanted(m.count)),
         WRITING => Request::Write(m.size),

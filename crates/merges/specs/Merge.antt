@@ -129,12 +129,16 @@ unfoldable pub badCount : List ℕ → Bool
 badCount [] = false
 badCount (n ∷ l) = not (leb 1 n && leb n mostProcesses)
 
--- 13: "one to three bytes left over". 17: "more than 4,096 records".
+-- 13: "one to three bytes left over".
 abbrev pub leftOver : List ℕ → Bool
 leftOver half = not (eqb (length (behindCount half) % 4) 0)
 
+-- 17: "more than 4,096 records".
+abbrev pub mostOfHalf : ℕ
+mostOfHalf = 4096
+
 abbrev pub tooMany : List ℕ → Bool
-tooMany half = ltb 4096 (length (behindCount half) / 4)
+tooMany half = ltb mostOfHalf (length (behindCount half) / 4)
 
 -- What is judged before any record. "Number 3 covers a result buffer shorter than both halves together, 7 the set (judged only after 1, 12 and 23 have
 -- passed both halves), 13, and after it 17, each half". "23, right after 12, for unequal counts".

@@ -7,6 +7,7 @@ use lib.Dec.{eqb}
 use Rattle.laws.specs.Choice.{pick}
 use Rattle.model.specs.declared.Interval.{Interval}
 use Rattle.model.specs.declared.Message.{Message}
+use Rattle.model.specs.Words.{mostUnderWay}
 use Rattle.words.specs.Layout.{word, endOf, lowAt, highAt, senderAt, receiverAt, carriedAt, messageIn, isMessage}
 use Rattle.message_words.specs.declared.Found.{Found}
 use Rattle.message_words.specs.declared.Found.the-variants.{Nothing, At}
@@ -78,12 +79,12 @@ clearedFrom w from (suc k) = cleared (clearedFrom w from k) (from + k)
 -- The used places of all 64 closed up.
 unfoldable pub closedUp : List ℕ → List ℕ
 closedUp w =
-    let c = closing w 64 in
-    puts (clearedFrom (c .words) (c .many) (64 - c .many)) (one 12 (c .many) ∷ [])
+    let c = closing w mostUnderWay in
+    puts (clearedFrom (c .words) (c .many) (mostUnderWay - c .many)) (one 12 (c .many) ∷ [])
 
 -- Words with a place left after those in use.
 unfoldable pub withRoom : List ℕ → List ℕ
-withRoom w = pick (eqb (endOf w) 64) (closedUp w) w
+withRoom w = pick (eqb (endOf w) mostUnderWay) (closedUp w) w
 
 -- A message put after those under way.
 unfoldable pub putLast : List ℕ → Message → List ℕ

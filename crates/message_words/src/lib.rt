@@ -1,5 +1,6 @@
 // The messages under way, in 64 places of the words. A place is in use before the end of those in use, and where its number is not 0; no function looks at another
 // place. A message that is received or lost leaves its place unused and no other moves, until a send finds the last place taken: then the messages close up.
+use model::MESSAGES;
 use model::Message;
 use words::places;
 ghost use mathlib.Core.Path.{_≡_};
@@ -8,7 +9,8 @@ ghost use mathlib.Core.Bool.{_&&_};
 ghost use lib.Dec.{eqb, ltb};
 ghost use lib.ListN.{length};
 ghost use Rattle.laws.specs.Choice.{pick};
-ghost use Rattle.words.specs.Layout.{word, endOf, messageIn, isMessage};
+ghost use Rattle.model.specs.Words.{mostUnderWay, mostProcesses};
+ghost use Rattle.words.specs.Layout.{word, endOf, messageIn, isMessage, stateSize};
 ghost use Rattle.words.specs.Puts.{puts};
 ghost use Rattle.message_words.specs.Places.{placeOf, foundAt, endBelow, messagePuts, cleared, takenOut, movedTo, closing, clearedFrom, closedUp, withRoom, putLast};
 
@@ -19,6 +21,9 @@ pub enum Found {
 }
 
 // A word as a number of 32 bits.
+// The end of the places in use where all of them are.
+const LAST_PLACE: u16 = MESSAGES as u16;
+
 fn wide(x: u16) -> u32
     ensures { λ r. ⌜ (r ≡ x) × (r < 65536) ⌝ }
 {
@@ -27,7 +32,7 @@ fn wide(x: u16) -> u32
 
 // The number in a place, 0 where the place is not used.
 pub fn number_at(w: &[u16], k: usize) -> u32
-    requires { ⌜ (length (now w) ≡ 6464) × (k < 64) ⌝ }
+    requires { ⌜ (length (now w) ≡ stateSize) × (k < mostUnderWay) ⌝ }
     ensures { λ r. ⌜ r ≡ messageIn (now (w .entry)) k .number ⌝ }
 {
     let low = wide(w[places::LOWS + k]);
@@ -36,7 +41,7 @@ pub fn number_at(w: &[u16], k: usize) -> u32
 }
 
 pub fn is_used(w: &[u16], k: usize) -> bool
-    requires { ⌜ (length (now w) ≡ 6464) × (k < 64) ⌝ }
+    requires { ⌜ (length (now w) ≡ stateSize) × (k < mostUnderWay) ⌝ }
     ensures { λ r. ⌜ r ≡ isMessage (messageIn (now (w .entry)) k) ⌝ }
 {
     number_at(w, k) != 0
@@ -45,7 +50,7 @@ pub fn is_used(w: &[u16], k: usize) -> bool
 // One above the place k where it has the number, which comes as its two words; 0 where it has another. Words are compared, and not numbers, since a register holds
 // more of them.
 fn hit(low: u16, high: u16, sought_low: u16, sought_high: u16, k: u16) -> u16
-    requires { ⌜ k < 64 ⌝ }
+    requires { ⌜ k < mostUnderWay ⌝ }
     ensures { λ r. ⌜ r ≡ pick (eqb low «sought_low» && eqb high «sought_high») (k + 1) 0 ⌝ }
 {
     if (low == sought_low) & (high == sought_high) {
@@ -63,7 +68,7 @@ fn greater(a: u16, b: u16) -> u16
 
 // The place of message m. A place that is not in use has the number 0, which no message has.
 pub fn place_of(w: &[u16], m: u32) -> Found
-    requires { ⌜ (length (now w) ≡ 6464) × (endOf (now w) ≤ 64) ⌝ }
+    requires { ⌜ (length (now w) ≡ stateSize) × (endOf (now w) ≤ mostUnderWay) ⌝ }
     ensures { λ r. ⌜ r ≡ foundAt (placeOf (now (w .entry)) m) ⌝ }
 {
     if m == 0 {
@@ -90,7 +95,7 @@ pub fn place_of(w: &[u16], m: u32) -> Found
 }
 
 fn put(w: &mut [u16], k: usize, x: Message)
-    requires { ⌜ (length (now w) ≡ 6464) × (k < 64) × (x .sender < 16) × (x .receiver < 16) ⌝ }
+    requires { ⌜ (length (now w) ≡ stateSize) × (k < mostUnderWay) × (x .sender < mostProcesses) × (x .receiver < mostProcesses) ⌝ }
     ensures { λ u. ⌜ now (w .exit) ≡ puts (now (w .entry)) (messagePuts k x) ⌝ }
 {
     let number = x.number;
@@ -99,24 +104,24 @@ fn put(w: &mut [u16], k: usize, x: Message)
     w[places::HIGHS + k] = (number / 65536) as u16;
     w[places::SENDERS + k] = x.sender as u16;
     w[places::RECEIVERS + k] = x.receiver as u16;
-    words::put_vector(w, places::CARRIED + 16 * k, vector);
+    words::put_vector(w, places::CARRIED + places::ROW * k, vector);
 }
 
 // The place is not in use any more, and holds zero.
 pub fn clear(w: &mut [u16], k: usize)
-    requires { ⌜ (length (now w) ≡ 6464) × (k < 64) ⌝ }
+    requires { ⌜ (length (now w) ≡ stateSize) × (k < mostUnderWay) ⌝ }
     ensures { λ u. ⌜ now (w .exit) ≡ cleared (now (w .entry)) k ⌝ }
 {
     w[places::LOWS + k] = 0;
     w[places::HIGHS + k] = 0;
     w[places::SENDERS + k] = 0;
     w[places::RECEIVERS + k] = 0;
-    words::clear_row(w, places::CARRIED + 16 * k);
+    words::clear_row(w, places::CARRIED + places::ROW * k);
 }
 
 // One past the last place in use before `from`.
 pub fn end_before(w: &[u16], from: usize) -> usize
-    requires { ⌜ (length (now w) ≡ 6464) × (from ≤ 64) ⌝ }
+    requires { ⌜ (length (now w) ≡ stateSize) × (from ≤ mostUnderWay) ⌝ }
     ensures { λ r. ⌜ r ≡ endBelow (now (w .entry)) from ⌝ }
 {
     let mut end = from;
@@ -132,7 +137,7 @@ pub fn end_before(w: &[u16], from: usize) -> usize
 
 // The message in this place is no longer under way.
 pub fn take_out(w: &mut [u16], k: usize)
-    requires { ⌜ (length (now w) ≡ 6464) × (endOf (now w) ≤ 64) × (k < 64) × (1 ≤ word (now w) 1) ⌝ }
+    requires { ⌜ (length (now w) ≡ stateSize) × (endOf (now w) ≤ mostUnderWay) × (k < mostUnderWay) × (1 ≤ word (now w) 1) ⌝ }
     ensures { λ u. ⌜ now (w .exit) ≡ takenOut (now (w .entry)) k ⌝ }
 {
     let many = w[places::UNDER_WAY];
@@ -145,23 +150,23 @@ pub fn take_out(w: &mut [u16], k: usize)
 
 // What stands in one place goes to another.
 fn move_to(w: &mut [u16], from: usize, to: usize)
-    requires { ⌜ (length (now w) ≡ 6464) × (from < 64) × (to < 64) ⌝ }
+    requires { ⌜ (length (now w) ≡ stateSize) × (from < mostUnderWay) × (to < mostUnderWay) ⌝ }
     ensures { λ u. ⌜ now (w .exit) ≡ movedTo (now (w .entry)) from to ⌝ }
 {
     let number = number_at(w, from);
     let sender = w[places::SENDERS + from];
     let receiver = w[places::RECEIVERS + from];
-    let row = words::vector_at(w, places::CARRIED + 16 * from);
+    let row = words::vector_at(w, places::CARRIED + places::ROW * from);
     w[places::LOWS + to] = (number % 65536) as u16;
     w[places::HIGHS + to] = (number / 65536) as u16;
     w[places::SENDERS + to] = sender;
     w[places::RECEIVERS + to] = receiver;
-    words::put_vector(w, places::CARRIED + 16 * to, row);
+    words::put_vector(w, places::CARRIED + places::ROW * to, row);
 }
 
 // How many messages stand in a place.
 fn one_if_used(w: &[u16], k: usize) -> usize
-    requires { ⌜ (length (now w) ≡ 6464) × (k < 64) ⌝ }
+    requires { ⌜ (length (now w) ≡ stateSize) × (k < mostUnderWay) ⌝ }
     ensures { λ r. ⌜ r ≡ pick (isMessage (messageIn (now (w .entry)) k)) 1 0 ⌝ }
 {
     let used = is_used(w, k);
@@ -170,11 +175,11 @@ fn one_if_used(w: &[u16], k: usize) -> usize
 
 // The messages move to the first places, one after the other, with no branch: which places are used cannot be foreseen. The result says how many they are.
 fn gather(w: &mut [u16]) -> usize
-    requires { ⌜ length (now w) ≡ 6464 ⌝ }
-    ensures { λ r. ⌜ (now (w .exit) ≡ closing (now (w .entry)) 64 .words) × (r ≡ closing (now (w .entry)) 64 .many) ⌝ }
+    requires { ⌜ length (now w) ≡ stateSize ⌝ }
+    ensures { λ r. ⌜ (now (w .exit) ≡ closing (now (w .entry)) mostUnderWay .words) × (r ≡ closing (now (w .entry)) mostUnderWay .many) ⌝ }
 {
     let mut to = 0;
-    for k in 0..64 {
+    for k in 0..MESSAGES {
         let one = one_if_used(w, k);
         move_to(w, k, to);
         to += one;
@@ -183,17 +188,17 @@ fn gather(w: &mut [u16]) -> usize
 }
 
 fn clear_from(w: &mut [u16], from: usize)
-    requires { ⌜ (length (now w) ≡ 6464) × (from ≤ 64) ⌝ }
-    ensures { λ u. ⌜ now (w .exit) ≡ clearedFrom (now (w .entry)) from (64 - from) ⌝ }
+    requires { ⌜ (length (now w) ≡ stateSize) × (from ≤ mostUnderWay) ⌝ }
+    ensures { λ u. ⌜ now (w .exit) ≡ clearedFrom (now (w .entry)) from (mostUnderWay - from) ⌝ }
 {
-    for k in from..64 {
+    for k in from..MESSAGES {
         clear(w, k);
     }
 }
 
 // No unused place is left between the messages.
 fn close_up(w: &mut [u16])
-    requires { ⌜ length (now w) ≡ 6464 ⌝ }
+    requires { ⌜ length (now w) ≡ stateSize ⌝ }
     ensures { λ u. ⌜ now (w .exit) ≡ closedUp (now (w .entry)) ⌝ }
 {
     let many = gather(w);
@@ -203,17 +208,17 @@ fn close_up(w: &mut [u16])
 
 // A place is left after those in use.
 pub fn make_room(w: &mut [u16])
-    requires { ⌜ length (now w) ≡ 6464 ⌝ }
+    requires { ⌜ length (now w) ≡ stateSize ⌝ }
     ensures { λ u. ⌜ now (w .exit) ≡ withRoom (now (w .entry)) ⌝ }
 {
-    if w[places::END] == 64 {
+    if w[places::END] == LAST_PLACE {
         close_up(w);
     }
 }
 
 // A message goes after the others.
 pub fn put_last(w: &mut [u16], x: Message)
-    requires { ⌜ (length (now w) ≡ 6464) × (endOf (now w) < 64) × (word (now w) 1 < 64) × (x .sender < 16) × (x .receiver < 16) ⌝ }
+    requires { ⌜ (length (now w) ≡ stateSize) × (endOf (now w) < mostUnderWay) × (word (now w) 1 < mostUnderWay) × (x .sender < mostProcesses) × (x .receiver < mostProcesses) ⌝ }
     ensures { λ u. ⌜ now (w .exit) ≡ putLast (now (w .entry)) x ⌝ }
 {
     let end = w[places::END];

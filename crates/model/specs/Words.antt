@@ -50,6 +50,14 @@ mostBlockCount = 65_535
 abbrev pub mostBlocks : ℕ
 mostBlocks = 1_000_000_000_000_000
 
+-- Each of n processes keeps at most n checkpoints: so many have a place, and so many can be deleted.
+abbrev pub keptPlaces : ℕ
+keptPlaces = 256
+
+-- "3: deletion list below 2 × n × n entries": so many do for every run.
+abbrev pub mostDeletions : ℕ
+mostDeletions = 512
+
 -- Note 5: "a trace run uses 1": the block counts of its start.
 abbrev pub ones : List ℕ
 ones = replicate mostProcesses 1

@@ -1,6 +1,30 @@
 // The types of the state, the answers and the events. Document 01's words and the rules of one call are definitions in specs/, the theorems about them are in
 // proofs/. What a call's outcome is, lists of calls and the surviving history stand in the crate whole_runs.
 
+// The limits, each once. specs/Words has every one of them under the same sentence, by the name in parentheses. That the two are equal follows from the contracts: a call
+// equals its definition, so it goes by the definition's number.
+//
+// "A run has n processes, 1 to 16, numbered from 0." (mostProcesses) A row has so many places, whatever n is.
+pub const PROCESSES: usize = 16;
+
+// "At most 64 messages are under way." (mostUnderWay)
+pub const MESSAGES: usize = 64;
+
+// "Message numbers run from 1 to 1,000,000" (mostMessages)
+pub const LAST_MESSAGE: u32 = 1000000;
+
+// "Vector entries are 0 to 65,535." (mostInterval)
+pub const LAST_INTERVAL: u16 = 65535;
+
+// Note 5: "block counts from 1 to 65,535" (mostBlockCount)
+pub const MOST_BLOCK_COUNT: u32 = 65535;
+
+// Note 5: "16 .. for a stored checkpoint that would take written past 1,000,000,000,000,000" (mostBlocks)
+pub const MOST_BLOCKS: u64 = 1000000000000000;
+
+// "3: deletion list below 2 × n × n entries": so many do for every run (mostDeletions).
+pub const DELETIONS: usize = 2 * PROCESSES * PROCESSES;
+
 // An interval's number. "An interval number is never read as a checkpoint index": the two are types of their own.
 pub struct Interval(pub u16);
 
@@ -16,7 +40,7 @@ pub enum Pin {
 // A stored checkpoint: its index, the dependency vector that it was stored with, its cause and its process's block count (Note 5).
 pub struct Checkpoint {
     pub index: CheckpointIndex,
-    pub vector: [Interval; 16],
+    pub vector: [Interval; PROCESSES],
     // 0 initial, 1 basic, 2 forced
     pub cause: u8,
     pub blocks: u16,
@@ -27,16 +51,16 @@ pub struct Message {
     pub number: u32,
     pub sender: usize,
     pub receiver: usize,
-    pub vector: [Interval; 16],
+    pub vector: [Interval; PROCESSES],
 }
 
 // "The vectors form a square of n rows of n entries, and so do the pins." Each square stands alone in a struct of its own.
-pub struct Vectors(pub [[Interval; 16]; 16]);
+pub struct Vectors(pub [[Interval; PROCESSES]; PROCESSES]);
 
-pub struct Pins(pub [[Pin; 16]; 16]);
+pub struct Pins(pub [[Pin; PROCESSES]; PROCESSES]);
 
 // Row p: the checkpoints that process p keeps, ascending.
-pub struct Kept(pub [[Checkpoint; 16]; 16]);
+pub struct Kept(pub [[Checkpoint; PROCESSES]; PROCESSES]);
 
 // A checkpoint as a caller names it: a process, and the index of a checkpoint that it keeps.
 pub struct Named {
@@ -59,12 +83,12 @@ pub struct Run {
     // row p: the pins of p, one for each process
     pub pins: Pins,
     // the sent mark of each process: it has sent since its last checkpoint
-    pub sent: [bool; 16],
+    pub sent: [bool; PROCESSES],
     pub kept: Kept,
     // how many checkpoints each process keeps
-    pub held: [usize; 16],
+    pub held: [usize; PROCESSES],
     // the messages under way, ascending by number
-    pub messages: [Message; 64],
+    pub messages: [Message; MESSAGES],
     // how many messages are under way
     pub underway: usize,
     // the last message number used

@@ -1,6 +1,7 @@
 // The ends of a trace: what is left over behind its last whole record, and a trace of no bytes.
 use crate::line;
 use model::Refusal;
+use whole_runs::MOST_RECORDS;
 ghost use mathlib.Core.Bool.{Bool};
 ghost use mathlib.Core.List.{[]};
 ghost use Prim.Native.Nat.{_≤_, _<_};
@@ -18,7 +19,7 @@ pub fn end(done: u64, rest: &[u8], out: &mut [u8]) -> usize
     if rest.len() == 0 {
         return 0;
     }
-    if done < 1000000000 {
+    if done < MOST_RECORDS {
         return line::refuse(done + 1, Refusal::LeftOverBytes, out);
     }
     0

@@ -4,7 +4,7 @@ use model::Refusal;
 ghost use mathlib.Core.Path.{_≡_};
 ghost use Prim.Native.Nat.{_+_, _*_, _≤_};
 ghost use lib.ListN.{length};
-ghost use Rattle.whole_runs.specs.Listing.{lineText, refusalText, goesOn};
+ghost use Rattle.whole_runs.specs.Listing.{lineText, refusalText, goesOn, mostRecords};
 ghost use Rattle.listing.specs.Lines.{replyOf, longestLine};
 ghost use Rattle.listing.specs.Printed.{Printed};
 ghost use Rattle.whole_runs.proofs.Sizes.{Small};
@@ -12,7 +12,7 @@ ghost use Rattle.listing.specs.Said.{reportIn};
 
 // A line whose numbers are small.
 pub fn print(said: Summary, deleted: &[u16], number: u64, out: &mut [u8], at: usize) -> usize
-    requires { ⌜ Small (reportIn said) × (2 * said .deletions ≤ length (now deleted)) × (number ≤ 1000000000) × (at + longestLine ≤ length (now out)) ⌝ }
+    requires { ⌜ Small (reportIn said) × (2 * said .deletions ≤ length (now deleted)) × (number ≤ mostRecords) × (at + longestLine ≤ length (now out)) ⌝ }
     ensures { λ r. ⌜ Printed (now (out .entry)) at (lineText number (replyOf said (now (deleted .entry)))) (now (out .exit)) r × (r ≤ length (now (out .entry))) ⌝ }
 {
     listing::write_line(out, at, number, said, deleted)
@@ -20,7 +20,7 @@ pub fn print(said: Summary, deleted: &[u16], number: u64, out: &mut [u8], at: us
 
 // The line of a refusal that belongs to the trace and to no call.
 pub fn refuse(number: u64, why: Refusal, out: &mut [u8]) -> usize
-    requires { ⌜ (number ≤ 1000000000) × (longestLine ≤ length (now out)) ⌝ }
+    requires { ⌜ (number ≤ mostRecords) × (longestLine ≤ length (now out)) ⌝ }
     ensures { λ r. ⌜ Printed (now (out .entry)) 0 (refusalText number why) (now (out .exit)) r × (r ≤ length (now (out .entry))) ⌝ }
 {
     let refused = summaries::number_of(why);

@@ -9,7 +9,7 @@ use Rattle.laws.specs.Lists.{select, table}
 use Rattle.model.specs.declared.Interval.{Interval}
 use Rattle.model.specs.declared.CheckpointIndex.{CheckpointIndex}
 use Rattle.model.specs.declared.Pin.{Pin}
-use Rattle.model.specs.Words.{named}
+use Rattle.model.specs.Words.{named, mostProcesses}
 use Rattle.words.specs.Layout.{word, indexAt, causeAt, storedAt, rowIn, checkpointIn}
 use Rattle.words.specs.Puts.{Put, puts, one, rowPut, vectorPut, zeroPut}
 
@@ -46,19 +46,19 @@ pub record OnlyKept (w : List ℕ) (p : ℕ) (v : List ℕ) : Type 0 where
 pub record SamePlace (w : List ℕ) (p k : ℕ) (v : List ℕ) (j : ℕ) : Type 0 where
   pub index : word v (indexAt p j) ≡ word w (indexAt p k)
   pub cause : word v (causeAt p j) ≡ word w (causeAt p k)
-  pub vector : (f : ℕ) → f < 16 → word v (storedAt p j + f) ≡ word w (storedAt p k + f)
+  pub vector : (f : ℕ) → f < mostProcesses → word v (storedAt p j + f) ≡ word w (storedAt p k + f)
 
 pub record ZeroPlace (w : List ℕ) (p k : ℕ) : Type 0 where
   pub index : word w (indexAt p k) ≡ 0
   pub cause : word w (causeAt p k) ≡ 0
-  pub vector : (f : ℕ) → f < 16 → word w (storedAt p k + f) ≡ 0
+  pub vector : (f : ℕ) → f < mostProcesses → word w (storedAt p k + f) ≡ 0
 
 -- v is w with the places from one up to another made unused.
 pub record Cleared (w : List ℕ) (p from to : ℕ) (v : List ℕ) : Type 0 where
   pub only : OnlyKept w p v
   pub before : (k : ℕ) → k < from → SamePlace w p k v k
   pub zero : (k : ℕ) → from ≤ k → k < to → ZeroPlace v p k
-  pub after : (k : ℕ) → to ≤ k → k < 16 → SamePlace w p k v k
+  pub after : (k : ℕ) → to ≤ k → k < mostProcesses → SamePlace w p k v k
 
 -- v is w with those of the first n checkpoints that a pin names moved to the first places, which are `stay`; the places from n on are as they were.
 pub record Split (w : List ℕ) (p n : ℕ) (pins : List Pin) (v : List ℕ) (stay : ℕ) : Type 0 where
@@ -66,7 +66,7 @@ pub record Split (w : List ℕ) (p n : ℕ) (pins : List Pin) (v : List ℕ) (st
   pub most : stay ≤ n
   pub front : table stay (checkpointIn v p) ≡ select (named pins) (table n (checkpointIn w p))
   pub used : Used v p stay
-  pub after : (k : ℕ) → n ≤ k → k < 16 → SamePlace w p k v k
+  pub after : (k : ℕ) → n ≤ k → k < mostProcesses → SamePlace w p k v k
 
 -- The same, where the places between are unused.
 pub record Collected (w : List ℕ) (p n : ℕ) (pins : List Pin) (v : List ℕ) (stay : ℕ) : Type 0 where
@@ -75,4 +75,4 @@ pub record Collected (w : List ℕ) (p n : ℕ) (pins : List Pin) (v : List ℕ)
   pub front : table stay (checkpointIn v p) ≡ select (named pins) (table n (checkpointIn w p))
   pub used : Used v p stay
   pub zero : (k : ℕ) → stay ≤ k → k < n → ZeroPlace v p k
-  pub after : (k : ℕ) → n ≤ k → k < 16 → SamePlace w p k v k
+  pub after : (k : ℕ) → n ≤ k → k < mostProcesses → SamePlace w p k v k

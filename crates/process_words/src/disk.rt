@@ -4,12 +4,13 @@ ghost use mathlib.Core.Path.{_≡_};
 ghost use Prim.Native.Nat.{_+_, _*_, _≤_};
 ghost use lib.ListN.{length};
 ghost use Rattle.laws.specs.Choice.{pick};
+ghost use Rattle.model.specs.Words.{mostBlocks, keptPlaces};
 ghost use Rattle.words.specs.Frames.{OnlyDisk};
-ghost use Rattle.words.specs.Layout.{wide4};
+ghost use Rattle.words.specs.Layout.{wide4, stateSize};
 
 // A checkpoint of `blocks` blocks is stored if `stores`.
 fn bill_stored(w: &mut [u16], stores: bool, blocks: u16)
-    requires { ⌜ (length (now w) ≡ 6464) × (wide4 (now w) 4 ≤ 1000000000000000) ⌝ }
+    requires { ⌜ (length (now w) ≡ stateSize) × (wide4 (now w) 4 ≤ mostBlocks) ⌝ }
     ensures { λ u. ⌜ OnlyDisk (now (w .entry)) (now (w .exit)) ⌝ }
     ensures { λ u. ⌜ (wide4 (now (w .exit)) 4 ≡ wide4 (now (w .entry)) 4 + pick stores blocks 0) × (wide4 (now (w .exit)) 8 ≡ wide4 (now (w .entry)) 8) ⌝ }
 {
@@ -21,7 +22,7 @@ fn bill_stored(w: &mut [u16], stores: bool, blocks: u16)
 
 // `gone` checkpoints of `blocks` blocks each are deleted.
 fn bill_deleted(w: &mut [u16], gone: usize, blocks: u16)
-    requires { ⌜ (length (now w) ≡ 6464) × (wide4 (now w) 8 ≤ 1000000000000000) × (gone ≤ 256) ⌝ }
+    requires { ⌜ (length (now w) ≡ stateSize) × (wide4 (now w) 8 ≤ mostBlocks) × (gone ≤ keptPlaces) ⌝ }
     ensures { λ u. ⌜ OnlyDisk (now (w .entry)) (now (w .exit)) ⌝ }
     ensures { λ u. ⌜ (wide4 (now (w .exit)) 4 ≡ wide4 (now (w .entry)) 4) × (wide4 (now (w .exit)) 8 ≡ wide4 (now (w .entry)) 8 + gone * blocks) ⌝ }
 {
@@ -33,7 +34,7 @@ fn bill_deleted(w: &mut [u16], gone: usize, blocks: u16)
 
 // One more is stored if `stores`, and `gone` are deleted.
 pub fn bill(w: &mut [u16], stores: bool, gone: usize, blocks: u16)
-    requires { ⌜ (length (now w) ≡ 6464) × (wide4 (now w) 4 ≤ 1000000000000000) × (wide4 (now w) 8 ≤ 1000000000000000) × (gone ≤ 256) ⌝ }
+    requires { ⌜ (length (now w) ≡ stateSize) × (wide4 (now w) 4 ≤ mostBlocks) × (wide4 (now w) 8 ≤ mostBlocks) × (gone ≤ keptPlaces) ⌝ }
     ensures { λ u. ⌜ OnlyDisk (now (w .entry)) (now (w .exit)) ⌝ }
     ensures { λ u. ⌜ (wide4 (now (w .exit)) 4 ≡ wide4 (now (w .entry)) 4 + pick stores blocks 0) × (wide4 (now (w .exit)) 8 ≡ wide4 (now (w .entry)) 8 + gone * blocks) ⌝ }
 {

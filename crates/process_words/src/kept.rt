@@ -1,6 +1,7 @@
 // The checkpoints that one process keeps, in 16 places: those that a pin names stay, the others are deleted and handed out as pairs.
 use model::CheckpointIndex;
 use model::Interval;
+use model::PROCESSES;
 use words::places;
 ghost use mathlib.Core.Path.{_≡_};
 ghost use mathlib.Core.Bool.{not};
@@ -8,10 +9,10 @@ ghost use Prim.Native.Nat.{_+_, _*_, _≤_, _<_};
 ghost use lib.ListN.{length, set};
 ghost use lib.Seq.{sets};
 ghost use Rattle.laws.specs.Lists.{select, table};
-ghost use Rattle.model.specs.Words.{named};
+ghost use Rattle.model.specs.Words.{named, mostProcesses, mostInterval, keptPlaces, mostDeletions};
 ghost use Rattle.model.specs.Steps.{listed};
 ghost use Rattle.whole_runs.specs.Outcomes.{pairs};
-ghost use Rattle.words.specs.Layout.{checkpointIn};
+ghost use Rattle.words.specs.Layout.{checkpointIn, stateSize};
 ghost use Rattle.words.specs.Puts.{puts};
 ghost use Rattle.process_words.specs.Kept.{storedPuts, movedUp, clearedPuts, Used, AllNamed, Cleared, Split, Collected};
 ghost use Rattle.process_words.specs.Pins.{pinRow};
@@ -23,9 +24,9 @@ pub fn store(
     k: usize,
     index: CheckpointIndex,
     cause: u16,
-    vector: [Interval; 16],
+    vector: [Interval; PROCESSES],
 )
-    requires { ⌜ (length (now w) ≡ 6464) × (p < 16) × (k < 16) × (index .0 < 65535) ⌝ }
+    requires { ⌜ (length (now w) ≡ stateSize) × (p < mostProcesses) × (k < mostProcesses) × (index .0 < mostInterval) ⌝ }
     ensures { λ u. ⌜ now (w .exit) ≡ puts (now (w .entry)) (storedPuts p k index cause vector) ⌝ }
 {
     w[places::INDEXES + places::PART * p + k] = words::pin_word(index);
@@ -39,7 +40,7 @@ pub fn store(
 
 // What stands in place `from` goes to place `to`.
 fn move_up(w: &mut [u16], p: usize, from: usize, to: usize)
-    requires { ⌜ (length (now w) ≡ 6464) × (p < 16) × (from < 16) × (to < 16) ⌝ }
+    requires { ⌜ (length (now w) ≡ stateSize) × (p < mostProcesses) × (from < mostProcesses) × (to < mostProcesses) ⌝ }
     ensures { λ u. ⌜ now (w .exit) ≡ movedUp (now (w .entry)) p from to ⌝ }
 {
     let index = w[places::INDEXES + places::PART * p + from];
@@ -51,7 +52,7 @@ fn move_up(w: &mut [u16], p: usize, from: usize, to: usize)
 }
 
 fn clear(w: &mut [u16], p: usize, k: usize)
-    requires { ⌜ (length (now w) ≡ 6464) × (p < 16) × (k < 16) ⌝ }
+    requires { ⌜ (length (now w) ≡ stateSize) × (p < mostProcesses) × (k < mostProcesses) ⌝ }
     ensures { λ u. ⌜ now (w .exit) ≡ puts (now (w .entry)) (clearedPuts p k) ⌝ }
 {
     w[places::INDEXES + places::PART * p + k] = 0;
@@ -61,7 +62,7 @@ fn clear(w: &mut [u16], p: usize, k: usize)
 
 // The places from `from` up to `to` are not in use any more, and hold zero.
 fn clear_from(w: &mut [u16], p: usize, from: usize, to: usize)
-    requires { ⌜ (length (now w) ≡ 6464) × (p < 16) × (from ≤ to) × (to ≤ 16) ⌝ }
+    requires { ⌜ (length (now w) ≡ stateSize) × (p < mostProcesses) × (from ≤ to) × (to ≤ mostProcesses) ⌝ }
     ensures { λ u. ⌜ Cleared (now (w .entry)) p from to (now (w .exit)) ⌝ }
 {
     for k in from..to {
@@ -71,7 +72,7 @@ fn clear_from(w: &mut [u16], p: usize, from: usize, to: usize)
 
 // The pair of a deleted checkpoint, its process and its index, goes after those of the `gone` that were deleted before it.
 fn write_pair(deleted: &mut [u16], gone: usize, p: usize, index: CheckpointIndex)
-    requires { ⌜ (2 * gone + 2 ≤ length (now deleted)) × (p < 16) × (gone < 4096) ⌝ }
+    requires { ⌜ (2 * gone + 2 ≤ length (now deleted)) × (p < mostProcesses) × (gone < mostDeletions) ⌝ }
     ensures { λ u. ⌜ now (deleted .exit) ≡ set (set (now (deleted .entry)) (2 * gone) p) (2 * gone + 1) (index .0) ⌝ }
 {
     deleted[2 * gone] = p as u16;
@@ -79,8 +80,8 @@ fn write_pair(deleted: &mut [u16], gone: usize, p: usize, index: CheckpointIndex
 }
 
 // The first of the places from `from` up to `held` whose checkpoint no pin names; `held` if a pin names each.
-fn first_unnamed(w: &[u16], p: usize, from: usize, held: usize, pins: [u16; 16]) -> usize
-    requires { ⌜ (length (now w) ≡ 6464) × (p < 16) × (from ≤ held) × (held ≤ 16) × Used (now w) p held × AllNamed (now w) p (pinRow pins) from ⌝ }
+fn first_unnamed(w: &[u16], p: usize, from: usize, held: usize, pins: [u16; PROCESSES]) -> usize
+    requires { ⌜ (length (now w) ≡ stateSize) × (p < mostProcesses) × (from ≤ held) × (held ≤ mostProcesses) × Used (now w) p held × AllNamed (now w) p (pinRow pins) from ⌝ }
     ensures { λ r. ⌜ (from ≤ r) × (r ≤ held) × AllNamed (now (w .entry)) p (pinRow pins) r ⌝ }
 {
     let mut k = from;
@@ -101,12 +102,12 @@ fn split(
     p: usize,
     from: usize,
     held: usize,
-    pins: [u16; 16],
+    pins: [u16; PROCESSES],
     deleted: &mut [u16],
     before: usize,
 ) -> usize
-    requires { ⌜ (length (now w) ≡ 6464) × (p < 16) × (from ≤ held) × (held ≤ 16) × Used (now w) p held × AllNamed (now w) p (pinRow pins) from ⌝ }
-    requires { ⌜ (2 * before + 2 * held ≤ length (now deleted)) × (before ≤ 256) ⌝ }
+    requires { ⌜ (length (now w) ≡ stateSize) × (p < mostProcesses) × (from ≤ held) × (held ≤ mostProcesses) × Used (now w) p held × AllNamed (now w) p (pinRow pins) from ⌝ }
+    requires { ⌜ (2 * before + 2 * held ≤ length (now deleted)) × (before ≤ keptPlaces) ⌝ }
     ensures { λ r. ⌜ Split (now (w .entry)) p held (pinRow pins) (now (w .exit)) r ⌝ }
     ensures { λ r. ⌜ now (deleted .exit) ≡ sets (now (deleted .entry)) (2 * before) (pairs (listed p (select (λ c. not (named (pinRow pins) c)) (table held (checkpointIn (now (w .entry)) p))))) ⌝ }
     ensures { λ r. ⌜ held ≡ r + length (select (λ c. not (named (pinRow pins) c)) (table held (checkpointIn (now (w .entry)) p))) ⌝ }
@@ -132,12 +133,12 @@ pub fn collect(
     p: usize,
     from: usize,
     held: usize,
-    pins: [u16; 16],
+    pins: [u16; PROCESSES],
     deleted: &mut [u16],
     before: usize,
 ) -> usize
-    requires { ⌜ (length (now w) ≡ 6464) × (p < 16) × (from ≤ held) × (held ≤ 16) × Used (now w) p held × AllNamed (now w) p (pinRow pins) from ⌝ }
-    requires { ⌜ (2 * before + 2 * held ≤ length (now deleted)) × (before ≤ 256) ⌝ }
+    requires { ⌜ (length (now w) ≡ stateSize) × (p < mostProcesses) × (from ≤ held) × (held ≤ mostProcesses) × Used (now w) p held × AllNamed (now w) p (pinRow pins) from ⌝ }
+    requires { ⌜ (2 * before + 2 * held ≤ length (now deleted)) × (before ≤ keptPlaces) ⌝ }
     ensures { λ r. ⌜ Collected (now (w .entry)) p held (pinRow pins) (now (w .exit)) r ⌝ }
     ensures { λ r. ⌜ now (deleted .exit) ≡ sets (now (deleted .entry)) (2 * before) (pairs (listed p (select (λ c. not (named (pinRow pins) c)) (table held (checkpointIn (now (w .entry)) p))))) ⌝ }
     ensures { λ r. ⌜ held ≡ r + length (select (λ c. not (named (pinRow pins) c)) (table held (checkpointIn (now (w .entry)) p))) ⌝ }

@@ -1,6 +1,7 @@
 // A checkpoint of a process, and a receipt at it. The caller has refused what is to be refused.
 use model::CheckpointIndex;
 use model::Interval;
+use model::PROCESSES;
 use words::places;
 ghost use mathlib.Core.Path.{_≡_};
 ghost use mathlib.Core.Bool.{true, not};
@@ -10,12 +11,12 @@ ghost use lib.ListN.{length, getD};
 ghost use lib.Seq.{sets};
 ghost use Rattle.laws.specs.Choice.{pick};
 ghost use Rattle.laws.specs.Lists.{select, table};
-ghost use Rattle.model.specs.Words.{basic, forced, entry, named, blocksOf};
+ghost use Rattle.model.specs.Words.{basic, forced, entry, named, blocksOf, mostProcesses, mostInterval, mostBlocks};
 ghost use Rattle.model.specs.Sound.{sound};
 ghost use Rattle.model.specs.Steps.{listed, settled, gone, deletions, billed, advanced, checkpointed, takenVector, risen};
 ghost use Rattle.receipts.specs.Receipt.{vectorFirst};
 ghost use Rattle.whole_runs.specs.Outcomes.{pairs};
-ghost use Rattle.words.specs.Layout.{word, countOf, heldAt, markAt, blocksAt, partAt, pinsAt, intervalOf, vectorIn, checkpointIn, runOf};
+ghost use Rattle.words.specs.Layout.{word, countOf, heldAt, markAt, blocksAt, partAt, pinsAt, intervalOf, vectorIn, checkpointIn, runOf, stateSize};
 ghost use Rattle.words.specs.Parts.{processIn};
 ghost use Rattle.words.specs.Puts.{puts, one, vectorPut};
 ghost use Rattle.process_words.specs.Kept.{storedPuts, Used, AllNamed};
@@ -30,26 +31,26 @@ const FORCED: u16 = 2;
 
 // The own entry of process p.
 pub fn own_of(w: &[u16], p: usize) -> Interval
-    requires { ⌜ (length (now w) ≡ 6464) × (p < 16) ⌝ }
+    requires { ⌜ (length (now w) ≡ stateSize) × (p < mostProcesses) ⌝ }
     ensures { λ r. ⌜ r ≡ intervalOf (word (now (w .entry)) (partAt p + p)) ⌝ }
 {
     words::interval_of(w[places::PARTS + places::PART * p + p])
 }
 
 fn entry_then(known: Interval, own: bool) -> Interval
-    requires { ⌜ (own ≡ true → known .0 < 65535) ⌝ }
+    requires { ⌜ (own ≡ true → known .0 < mostInterval) ⌝ }
     ensures { λ r. ⌜ r .0 ≡ pick own (known .0 + 1) (known .0) ⌝ }
 {
     if own { Interval(known.0 + 1) } else { known }
 }
 
 // v with 1 added to entry i. Each entry is written, changed or not: what is put into the words as a row is read as a row without delay.
-fn advanced(v: [Interval; 16], i: usize) -> [Interval; 16]
-    requires { ⌜ (i < 16) × (entry v i .0 < 65535) ⌝ }
+fn advanced(v: [Interval; PROCESSES], i: usize) -> [Interval; PROCESSES]
+    requires { ⌜ (i < mostProcesses) × (entry v i .0 < mostInterval) ⌝ }
     ensures { λ r. ⌜ r ≡ advanced i v ⌝ }
 {
     let mut then = v;
-    for f in 0..16 {
+    for f in 0..PROCESSES {
         let known = v[f];
         let entry = entry_then(known, f == i);
         then[f] = entry;
@@ -65,9 +66,9 @@ fn store_if(
     k: usize,
     index: CheckpointIndex,
     cause: u16,
-    vector: [Interval; 16],
+    vector: [Interval; PROCESSES],
 )
-    requires { ⌜ (length (now w) ≡ 6464) × (i < 16) × (stores ≡ true → (k < 16) × (index .0 < 65535)) ⌝ }
+    requires { ⌜ (length (now w) ≡ stateSize) × (i < mostProcesses) × (stores ≡ true → (k < mostProcesses) × (index .0 < mostInterval)) ⌝ }
     ensures { λ u. ⌜ now (w .exit) ≡ pick stores (puts (now (w .entry)) (storedPuts i k index cause vector ++ one (markAt i) 0 ∷ [])) (now (w .entry)) ⌝ }
 {
     if stores {
@@ -78,7 +79,7 @@ fn store_if(
 
 // How many checkpoints a process keeps, where `stay` of the old ones stay.
 fn held_then(stores: bool, stay: usize) -> u16
-    requires { ⌜ stay ≤ 16 ⌝ }
+    requires { ⌜ stay ≤ mostProcesses ⌝ }
     ensures { λ r. ⌜ r ≡ stay + pick stores 1 0 ⌝ }
 {
     if stores { stay as u16 + 1 } else { stay as u16 }
@@ -89,17 +90,17 @@ fn held_then(stores: bool, stay: usize) -> u16
 fn settle(
     w: &mut [u16],
     i: usize,
-    pins: [u16; 16],
+    pins: [u16; PROCESSES],
     from: usize,
     stores: bool,
     index: CheckpointIndex,
     cause: u16,
-    vector: [Interval; 16],
+    vector: [Interval; PROCESSES],
     deleted: &mut [u16],
 ) -> usize
-    requires { ⌜ (length (now w) ≡ 6464) × (i < 16) × (stores ≡ true → index .0 < 65535) × (diskIn (now w) .written ≤ 1000000000000000) × (diskIn (now w) .deleted ≤ 1000000000000000) ⌝ }
-    requires { ⌜ (from ≤ word (now w) (heldAt i)) × (word (now w) (heldAt i) ≤ 16) × Used (now w) i (word (now w) (heldAt i)) × AllNamed (now w) i (pinRow pins) from ⌝ }
-    requires { ⌜ (stores ≡ true → length (select (named (pinRow pins)) (table (word (now w) (heldAt i)) (checkpointIn (now w) i))) < 16) × (2 * word (now w) (heldAt i) ≤ length (now deleted)) ⌝ }
+    requires { ⌜ (length (now w) ≡ stateSize) × (i < mostProcesses) × (stores ≡ true → index .0 < mostInterval) × (diskIn (now w) .written ≤ mostBlocks) × (diskIn (now w) .deleted ≤ mostBlocks) ⌝ }
+    requires { ⌜ (from ≤ word (now w) (heldAt i)) × (word (now w) (heldAt i) ≤ mostProcesses) × Used (now w) i (word (now w) (heldAt i)) × AllNamed (now w) i (pinRow pins) from ⌝ }
+    requires { ⌜ (stores ≡ true → length (select (named (pinRow pins)) (table (word (now w) (heldAt i)) (checkpointIn (now w) i))) < mostProcesses) × (2 * word (now w) (heldAt i) ≤ length (now deleted)) ⌝ }
     ensures { λ r. ⌜ Moves (now (w .entry)) i (settledPart (now (w .entry)) i (pinRow pins) stores (storedIn (now (w .entry)) i index cause vector)) (billed (diskIn (now (w .entry))) (pick stores (word (now (w .entry)) (blocksAt i)) 0) (r * word (now (w .entry)) (blocksAt i))) (now (w .exit)) ⌝ }
     ensures { λ r. ⌜ now (deleted .exit) ≡ sets (now (deleted .entry)) 0 (pairs (listed i (unnamedIn (now (w .entry)) i (pinRow pins)))) ⌝ }
     ensures { λ r. ⌜ r ≡ length (unnamedIn (now (w .entry)) i (pinRow pins)) ⌝ }
@@ -116,7 +117,7 @@ fn settle(
 
 // Process i takes a checkpoint. The pins that do not move name each of its checkpoints but the last, which the own pin named. The result says how many are deleted.
 pub fn checkpoint(w: &mut [u16], i: usize, deleted: &mut [u16]) -> usize
-    requires { ⌜ (sound (runOf (now w)) ≡ true) × (i < countOf (now w)) × (word (now w) (partAt i + i) < 65535) × (2 * countOf (now w) * countOf (now w) ≤ length (now deleted)) ⌝ }
+    requires { ⌜ (sound (runOf (now w)) ≡ true) × (i < countOf (now w)) × (word (now w) (partAt i + i) < mostInterval) × (2 * countOf (now w) * countOf (now w) ≤ length (now deleted)) ⌝ }
     ensures { λ r. ⌜ Moves (now (w .entry)) i (settled (checkpointed basic i (processIn (now (w .entry)) i))) (billed (diskIn (now (w .entry))) (word (now (w .entry)) (blocksAt i)) (blocksOf (gone (checkpointed basic i (processIn (now (w .entry)) i))))) (now (w .exit)) ⌝ }
     ensures { λ r. ⌜ now (deleted .exit) ≡ sets (now (deleted .entry)) 0 (pairs (deletions i (checkpointed basic i (processIn (now (w .entry)) i)))) ⌝ }
     ensures { λ r. ⌜ r ≡ length (deletions i (checkpointed basic i (processIn (now (w .entry)) i))) ⌝ }
@@ -138,7 +139,7 @@ pub struct Received {
 
 // The own pin that the entries that rise are given: that of the checkpoint which is stored first, if one is.
 fn own_pin(stores: bool, old: u16, index: CheckpointIndex) -> u16
-    requires { ⌜ (stores ≡ true → index .0 < 65535) ⌝ }
+    requires { ⌜ (stores ≡ true → index .0 < mostInterval) ⌝ }
     ensures { λ r. ⌜ r ≡ pick stores (index .0 + 1) old ⌝ }
 {
     if stores { words::pin_word(index) } else { old }
@@ -149,10 +150,10 @@ fn take_vector(
     w: &mut [u16],
     i: usize,
     stores: bool,
-    vector: [Interval; 16],
-    carried: [Interval; 16],
+    vector: [Interval; PROCESSES],
+    carried: [Interval; PROCESSES],
 ) -> u16
-    requires { ⌜ (length (now w) ≡ 6464) × (i < 16) × (vector ≡ vectorIn (now w) (partAt i)) × (stores ≡ true → entry vector i .0 < 65535) ⌝ }
+    requires { ⌜ (length (now w) ≡ stateSize) × (i < mostProcesses) × (vector ≡ vectorIn (now w) (partAt i)) × (stores ≡ true → entry vector i .0 < mostInterval) ⌝ }
     ensures { λ r. ⌜ now (w .exit) ≡ puts (now (w .entry)) (vectorPut (partAt i) (takenVector (vectorFirst stores i vector) carried) ∷ []) ⌝ }
     ensures { λ r. ⌜ r ≡ risen (vectorFirst stores i vector) carried ⌝ }
 {
@@ -167,10 +168,10 @@ pub fn receive(
     w: &mut [u16],
     i: usize,
     stores: bool,
-    carried: [Interval; 16],
+    carried: [Interval; PROCESSES],
     deleted: &mut [u16],
 ) -> Received
-    requires { ⌜ (sound (runOf (now w)) ≡ true) × (i < countOf (now w)) × (stores ≡ true → word (now w) (partAt i + i) < 65535) × (2 * countOf (now w) * countOf (now w) ≤ length (now deleted)) ⌝ }
+    requires { ⌜ (sound (runOf (now w)) ≡ true) × (i < countOf (now w)) × (stores ≡ true → word (now w) (partAt i + i) < mostInterval) × (2 * countOf (now w) * countOf (now w) ≤ length (now deleted)) ⌝ }
     ensures { λ r. ⌜ Moves (now (w .entry)) i (settled (received i stores carried (processIn (now (w .entry)) i))) (billed (diskIn (now (w .entry))) (pick stores (word (now (w .entry)) (blocksAt i)) 0) (blocksOf (gone (received i stores carried (processIn (now (w .entry)) i))))) (now (w .exit)) ⌝ }
     ensures { λ r. ⌜ r .rose ≡ risen (vectorFirst stores i (vectorIn (now (w .entry)) (partAt i))) carried ⌝ }
     ensures { λ r. ⌜ now (deleted .exit) ≡ sets (now (deleted .entry)) 0 (pairs (deletions i (received i stores carried (processIn (now (w .entry)) i)))) ⌝ }

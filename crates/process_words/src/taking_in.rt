@@ -1,11 +1,12 @@
 // Taking a carried vector in (document 02, Notes 1 and 3): a step for each entry, ascending.
 use model::Interval;
+use model::PROCESSES;
 ghost use mathlib.Core.Path.{_≡_};
 ghost use mathlib.Core.List.{[], _∷_};
 ghost use Prim.Native.Nat.{_+_, _^_, _≤_, _<_};
 ghost use lib.ListN.{length};
 ghost use Rattle.laws.specs.Choice.{pick};
-ghost use Rattle.model.specs.Words.{below};
+ghost use Rattle.model.specs.Words.{below, mostProcesses};
 ghost use Rattle.model.specs.Steps.{takenVector, risen};
 ghost use Rattle.words.specs.Layout.{vectorIn};
 ghost use Rattle.words.specs.Puts.{puts, one, vectorPut};
@@ -20,7 +21,7 @@ fn greater(own: Interval, carried: Interval) -> Interval
 
 // What entry f adds to the set: its bit, worth 2 to the power f, if it rises.
 fn bit_if_risen(own: Interval, carried: Interval, f: usize) -> u16
-    requires { ⌜ f < 16 ⌝ }
+    requires { ⌜ f < mostProcesses ⌝ }
     ensures { λ r. ⌜ r ≡ pick (below own carried) (2 ^ f) 0 ⌝ }
 {
     if own.0 < carried.0 { 1u16 << f } else { 0 }
@@ -28,8 +29,8 @@ fn bit_if_risen(own: Interval, carried: Interval, f: usize) -> u16
 
 // The step for entry f: the entry takes the greater of the two, and its bit comes to the set if it rises. It is handed the vector, at its place in the words, and
 // the set as they stand, and no older vector.
-fn take_entry(w: &mut [u16], at: usize, rose: u16, carried: [Interval; 16], f: usize) -> u16
-    requires { ⌜ (at + 16 ≤ length (now w)) × (f < 16) × (rose < 2 ^ f) ⌝ }
+fn take_entry(w: &mut [u16], at: usize, rose: u16, carried: [Interval; PROCESSES], f: usize) -> u16
+    requires { ⌜ (at + mostProcesses ≤ length (now w)) × (f < mostProcesses) × (rose < 2 ^ f) ⌝ }
     ensures { λ r. ⌜ now (w .exit) ≡ puts (now (w .entry)) (one (at + f) (takenWord (now (w .entry)) at carried f) ∷ []) ⌝ }
     ensures { λ r. ⌜ (r ≡ rose + risenBit (now (w .entry)) at carried f) × (r < 2 ^ (f + 1)) ⌝ }
 {
@@ -41,13 +42,13 @@ fn take_entry(w: &mut [u16], at: usize, rose: u16, carried: [Interval; 16], f: u
 }
 
 // The vector at a place takes the carried one in. The result is the set of the entries that rose.
-pub fn take_in(w: &mut [u16], at: usize, carried: [Interval; 16]) -> u16
-    requires { ⌜ at + 16 ≤ length (now w) ⌝ }
+pub fn take_in(w: &mut [u16], at: usize, carried: [Interval; PROCESSES]) -> u16
+    requires { ⌜ at + mostProcesses ≤ length (now w) ⌝ }
     ensures { λ r. ⌜ now (w .exit) ≡ puts (now (w .entry)) (vectorPut at (takenVector (vectorIn (now (w .entry)) at) carried) ∷ []) ⌝ }
     ensures { λ r. ⌜ r ≡ risen (vectorIn (now (w .entry)) at) carried ⌝ }
 {
     let mut rose: u16 = 0;
-    for f in 0..16 {
+    for f in 0..PROCESSES {
         let more = take_entry(w, at, rose, carried, f);
         rose = more;
     }

@@ -2,25 +2,34 @@
 ghost use mathlib.Core.Path.{_≡_};
 ghost use mathlib.Core.Option.{Option};
 ghost use Prim.Native.Nat.{ℕ, _≤_};
-ghost use Rattle.programs.specs.Numbers.{grown, standsFor, numberIn, atMost};
+ghost use Rattle.programs.specs.Numbers.{grown, standsFor, numberIn, atMost, noNumber};
+
+// The greatest number of 32 bits; what stands for every greater one, and for a word that is no number (tooGreat, noNumber in specs/Numbers).
+pub const GREATEST: u64 = 4294967295;
+
+pub const TOO_GREAT: u64 = GREATEST + 1;
+
+pub const NO_NUMBER: u64 = GREATEST + 2;
+
+const CLAMPED: u32 = GREATEST as u32;
 
 // One digit more, whatever the value stands for.
 fn append(value: u64, byte: u8) -> u64
-    requires { ⌜ value ≤ 4294967297 ⌝ }
-    ensures { λ r. ⌜ ((word : Option ℕ) → value ≡ standsFor word → r ≡ standsFor (grown word byte)) × (r ≤ 4294967297) ⌝ }
+    requires { ⌜ value ≤ noNumber ⌝ }
+    ensures { λ r. ⌜ ((word : Option ℕ) → value ≡ standsFor word → r ≡ standsFor (grown word byte)) × (r ≤ noNumber) ⌝ }
 {
     if byte < 48 {
-        return 4294967297;
+        return NO_NUMBER;
     }
     if 57 < byte {
-        return 4294967297;
+        return NO_NUMBER;
     }
-    if 4294967295 < value {
+    if GREATEST < value {
         return value;
     }
     let next = value * 10 + (byte - 48) as u64;
-    if 4294967295 < next {
-        return 4294967296;
+    if GREATEST < next {
+        return TOO_GREAT;
     }
     next
 }
@@ -29,7 +38,7 @@ pub fn number_in(word: &[u8]) -> u64
     ensures { λ r. ⌜ r ≡ numberIn (now (word .entry)) ⌝ }
 {
     if word.len() == 0 {
-        return 4294967297;
+        return NO_NUMBER;
     }
     let mut value: u64 = 0;
     let mut i = 0;
@@ -45,5 +54,5 @@ pub fn number_in(word: &[u8]) -> u64
 pub fn clamped(x: u64) -> u32
     ensures { λ r. ⌜ r ≡ atMost x ⌝ }
 {
-    if 4294967295 < x { 4294967295 } else { x as u32 }
+    if GREATEST < x { CLAMPED } else { x as u32 }
 }

@@ -4,6 +4,7 @@ use answers::code_of;
 use listing::Summary;
 use listing::Value;
 use message_words::Found;
+use model::MESSAGES;
 use model::Refusal;
 use words::places;
 ghost use mathlib.Core.Path.{_≡_};
@@ -16,9 +17,10 @@ ghost use lib.Seq.{sets};
 ghost use Rattle.laws.specs.Choice.{pick};
 ghost use Rattle.laws.specs.Lists.{table};
 ghost use Rattle.model.specs.Sound.{sound};
+ghost use Rattle.model.specs.Words.{mostProcesses, mostUnderWay};
 ghost use Rattle.whole_runs.specs.Outcomes.{refusing, accepting};
 ghost use Rattle.answers.specs.Codes.{coded};
-ghost use Rattle.words.specs.Layout.{word, countOf, endOf, heldAt, indexAt, checkpointIn, messageIn, isMessage, messagesIn, runOf};
+ghost use Rattle.words.specs.Layout.{word, countOf, endOf, heldAt, indexAt, checkpointIn, messageIn, isMessage, messagesIn, runOf, stateSize};
 ghost use Rattle.readers.specs.Readings.{numbersReading, vectorReading, pinsReading, storedNumbers, keptReading, sentNumbers, messagesReading, carriedReading};
 ghost use Rattle.readers.specs.Written.{numbersIn, wordsFrom, rowReading, threeStored, threeOf, messagesBelow};
 
@@ -100,7 +102,7 @@ fn put_three(out: &mut [u32], at: usize, x: u32, y: u32, z: u32)
 
 // The checkpoint in place k of process p, after k others.
 fn write_checkpoint(w: &[u16], p: usize, k: usize, out: &mut [u32])
-    requires { ⌜ (length (now w) ≡ 6464) × (p < 16) × (k < 16) × (1 ≤ word (now w) (indexAt p k)) × (3 * k + 3 ≤ length (now out)) ⌝ }
+    requires { ⌜ (length (now w) ≡ stateSize) × (p < mostProcesses) × (k < mostProcesses) × (1 ≤ word (now w) (indexAt p k)) × (3 * k + 3 ≤ length (now out)) ⌝ }
     ensures { λ u. ⌜ now (out .exit) ≡ sets (now (out .entry)) (3 * k) (threeStored (checkpointIn (now (w .entry)) p k)) ⌝ }
 {
     let index_at = places::index_at(p, k);
@@ -115,7 +117,7 @@ fn write_checkpoint(w: &[u16], p: usize, k: usize, out: &mut [u32])
 
 // The first `held` checkpoints in the places of process p, three numbers each.
 fn write_kept(w: &[u16], p: usize, held: usize, out: &mut [u32])
-    requires { ⌜ (length (now w) ≡ 6464) × (p < 16) × (held ≤ 16) × (3 * held ≤ length (now out)) × ((k : ℕ) → k < held → 1 ≤ word (now w) (indexAt p k)) ⌝ }
+    requires { ⌜ (length (now w) ≡ stateSize) × (p < mostProcesses) × (held ≤ mostProcesses) × (3 * held ≤ length (now out)) × ((k : ℕ) → k < held → 1 ≤ word (now w) (indexAt p k)) ⌝ }
     ensures { λ u. ⌜ now (out .exit) ≡ sets (now (out .entry)) 0 (storedNumbers (table held (checkpointIn (now (w .entry)) p))) ⌝ }
 {
     for k in 0..held {
@@ -125,7 +127,7 @@ fn write_kept(w: &[u16], p: usize, held: usize, out: &mut [u32])
 
 // The message in place k, if there is one, after `many` others. The result says how many they are then.
 pub(crate) fn write_message(w: &[u16], k: usize, many: usize, out: &mut [u32]) -> usize
-    requires { ⌜ (length (now w) ≡ 6464) × (k < 64) × (many < 64) × (192 ≤ length (now out)) ⌝ }
+    requires { ⌜ (length (now w) ≡ stateSize) × (k < mostUnderWay) × (many < mostUnderWay) × (3 * mostUnderWay ≤ length (now out)) ⌝ }
     ensures { λ r. ⌜ now (out .exit) ≡ pick (isMessage (messageIn (now (w .entry)) k)) (sets (now (out .entry)) (3 * many) (threeOf (messageIn (now (w .entry)) k))) (now (out .entry)) ⌝ }
     ensures { λ r. ⌜ r ≡ pick (isMessage (messageIn (now (w .entry)) k)) (many + 1) many ⌝ }
 {
@@ -143,7 +145,7 @@ pub(crate) fn write_message(w: &[u16], k: usize, many: usize, out: &mut [u32]) -
 
 // The messages in the places before the end, three numbers each.
 fn write_messages(w: &[u16], end: usize, out: &mut [u32]) -> usize
-    requires { ⌜ (length (now w) ≡ 6464) × (end ≤ 64) × (192 ≤ length (now out)) ⌝ }
+    requires { ⌜ (length (now w) ≡ stateSize) × (end ≤ mostUnderWay) × (3 * mostUnderWay ≤ length (now out)) ⌝ }
     ensures { λ r. ⌜ now (out .exit) ≡ sets (now (out .entry)) 0 (sentNumbers (messagesBelow (now (w .entry)) end)) ⌝ }
     ensures { λ r. ⌜ r ≡ length (messagesBelow (now (w .entry)) end) ⌝ }
 {
@@ -156,7 +158,7 @@ fn write_messages(w: &[u16], end: usize, out: &mut [u32]) -> usize
 }
 
 fn write_numbers(w: &[u16], out: &mut [u64])
-    requires { ⌜ (length (now w) ≡ 6464) × (5 ≤ length (now out)) ⌝ }
+    requires { ⌜ (length (now w) ≡ stateSize) × (5 ≤ length (now out)) ⌝ }
     ensures { λ u. ⌜ now (out .exit) ≡ sets (now (out .entry)) 0 (numbersIn (now (w .entry))) ⌝ }
 {
     let n = wide(w[places::COUNT]);
@@ -245,7 +247,7 @@ pub fn messages_on(w: &[u16], messages: &mut [u32]) -> u64
     ensures { λ r. ⌜ r ≡ coded (messagesReading (runOf (now (w .entry))) (now (messages .entry)) .report) 0 ⌝ }
     ensures { λ r. ⌜ now (messages .exit) ≡ messagesReading (runOf (now (w .entry))) (now (messages .entry)) .list ⌝ }
 {
-    if messages.len() < THREE * words::MESSAGES {
+    if messages.len() < THREE * MESSAGES {
         return refused(Refusal::ListTooShort);
     }
     let end = end_in(w);

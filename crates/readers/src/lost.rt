@@ -6,6 +6,8 @@ use crate::end_in;
 use crate::refused;
 use crate::write_message;
 use model::CheckpointIndex;
+use model::MESSAGES;
+use model::PROCESSES;
 use model::Refusal;
 ghost use mathlib.Core.Path.{_≡_};
 ghost use mathlib.Core.Bool.{true, false, _&&_};
@@ -15,8 +17,9 @@ ghost use lib.ListN.{length};
 ghost use lib.Seq.{sets};
 ghost use Rattle.laws.specs.Choice.{pick};
 ghost use Rattle.model.specs.Sound.{sound};
+ghost use Rattle.model.specs.Words.{mostProcesses, mostUnderWay};
 ghost use Rattle.answers.specs.Codes.{coded};
-ghost use Rattle.words.specs.Layout.{word, countOf, senderAt, messageIn, isMessage, runOf};
+ghost use Rattle.words.specs.Layout.{word, countOf, senderAt, messageIn, isMessage, runOf, stateSize};
 ghost use Rattle.line_words.specs.Sifted.{lostTo, SendersPresent};
 ghost use Rattle.readers.specs.Readings.{sentNumbers, lostReading};
 ghost use Rattle.readers.specs.Written.{threeOf, lostBelow};
@@ -26,10 +29,10 @@ fn write_if_lost(
     w: &[u16],
     k: usize,
     many: usize,
-    indexes: [CheckpointIndex; 16],
+    indexes: [CheckpointIndex; PROCESSES],
     out: &mut [u32],
 ) -> usize
-    requires { ⌜ (length (now w) ≡ 6464) × (k < 64) × (many < 64) × (192 ≤ length (now out)) × (isMessage (messageIn (now w) k) ≡ true → word (now w) (senderAt k) < 16) ⌝ }
+    requires { ⌜ (length (now w) ≡ stateSize) × (k < mostUnderWay) × (many < mostUnderWay) × (3 * mostUnderWay ≤ length (now out)) × (isMessage (messageIn (now w) k) ≡ true → word (now w) (senderAt k) < mostProcesses) ⌝ }
     ensures { λ r. ⌜ now (out .exit) ≡ pick (isMessage (messageIn (now (w .entry)) k) && lostTo indexes (messageIn (now (w .entry)) k)) (sets (now (out .entry)) (3 * many) (threeOf (messageIn (now (w .entry)) k))) (now (out .entry)) ⌝ }
     ensures { λ r. ⌜ r ≡ pick (isMessage (messageIn (now (w .entry)) k) && lostTo indexes (messageIn (now (w .entry)) k)) (many + 1) many ⌝ }
 {
@@ -45,8 +48,13 @@ fn write_if_lost(
 }
 
 // The lost ones in the places before the end, three numbers each.
-fn write_lost(w: &[u16], end: usize, indexes: [CheckpointIndex; 16], out: &mut [u32]) -> usize
-    requires { ⌜ (length (now w) ≡ 6464) × (end ≤ 64) × (192 ≤ length (now out)) × SendersPresent end (now w) ⌝ }
+fn write_lost(
+    w: &[u16],
+    end: usize,
+    indexes: [CheckpointIndex; PROCESSES],
+    out: &mut [u32],
+) -> usize
+    requires { ⌜ (length (now w) ≡ stateSize) × (end ≤ mostUnderWay) × (3 * mostUnderWay ≤ length (now out)) × SendersPresent end (now w) ⌝ }
     ensures { λ r. ⌜ now (out .exit) ≡ sets (now (out .entry)) 0 (sentNumbers (lostBelow indexes (now (w .entry)) end)) ⌝ }
     ensures { λ r. ⌜ r ≡ length (lostBelow indexes (now (w .entry)) end) ⌝ }
 {
@@ -60,12 +68,12 @@ fn write_lost(w: &[u16], end: usize, indexes: [CheckpointIndex; 16], out: &mut [
 
 // A failed set that is within the run: they are written if the line rule accepts a state of each process.
 fn lost_within(w: &[u16], n: usize, failed: u32, messages: &mut [u32]) -> u64
-    requires { ⌜ (sound (runOf (now w)) ≡ true) × (n ≡ countOf (now w)) × (leb (2 ^ n) failed ≡ false) × (192 ≤ length (now messages)) ⌝ }
+    requires { ⌜ (sound (runOf (now w)) ≡ true) × (n ≡ countOf (now w)) × (leb (2 ^ n) failed ≡ false) × (3 * mostUnderWay ≤ length (now messages)) ⌝ }
     ensures { λ r. ⌜ r ≡ coded (lostReading (runOf (now (w .entry))) failed (now (messages .entry)) .report) 0 ⌝ }
     ensures { λ r. ⌜ now (messages .exit) ≡ lostReading (runOf (now (w .entry))) failed (now (messages .entry)) .list ⌝ }
 {
     let limits = line_words::line::limits_of(w, n, failed);
-    let mut table = [0u16; 16];
+    let mut table = [0u16; PROCESSES];
     let pasts: &mut [u16] = &mut table;
     let all = line_words::line::find_members(w, n, limits, pasts);
     if !all {
@@ -83,7 +91,7 @@ pub fn lost_on(w: &[u16], failed: u32, messages: &mut [u32]) -> u64
     ensures { λ r. ⌜ r ≡ coded (lostReading (runOf (now (w .entry))) failed (now (messages .entry)) .report) 0 ⌝ }
     ensures { λ r. ⌜ now (messages .exit) ≡ lostReading (runOf (now (w .entry))) failed (now (messages .entry)) .list ⌝ }
 {
-    if messages.len() < THREE * words::MESSAGES {
+    if messages.len() < THREE * MESSAGES {
         return refused(Refusal::ListTooShort);
     }
     let n = count_in(w);

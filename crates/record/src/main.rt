@@ -3,6 +3,7 @@
 // `record_machine`, the steps in `record_steps`: this program only obeys.
 
 use machines::Request;
+use words::WORDS;
 ghost use mathlib.Core.Path.{_≡_};
 ghost use mathlib.Core.Bool.{true};
 ghost use lib.ListN.{length};
@@ -35,9 +36,9 @@ fn drive(
 
 fn main() {
     let mut memory = [0u64; 6];
-    let mut words = [0u16; 6464];
-    let mut input = [0u8; 4099];
-    let mut out = [0u8; 67584];
-    let mut lines = [0u8; 67584];
+    let mut words = [0u16; WORDS];
+    let mut input = [0u8; record_steps::INPUT_SIZE];
+    let mut out = [0u8; record_steps::BLOCK_LINES];
+    let mut lines = [0u8; record_steps::BLOCK_LINES];
     drive(&mut memory, &mut words, &mut input, &mut out, &mut lines);
 }

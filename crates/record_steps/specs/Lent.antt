@@ -8,7 +8,7 @@ use Prim.Native.Nat.{ℕ, _-_, _*_, min}
 use lib.Dec.{eqb, leb}
 use lib.ListN.{length, getD, take}
 use Rattle.laws.specs.Choice.{pick}
-use Rattle.words.specs.Layout.{runOf}
+use Rattle.words.specs.Layout.{runOf, stateSize}
 use Rattle.machines.specs.declared.Request as requests
 use Rattle.machines.specs.declared.Request.the-variants as request
 use Rattle.machines.specs.Forms.{Asks}
@@ -17,9 +17,16 @@ use Rattle.record_steps.specs.declared.marks.Marks.{Marks}
 use Rattle.record_steps.specs.Played.{blockLines}
 use Rattle.record_machine.specs.Machine.{Position, State, counting, naming, beginning, writing, saying, reading, ending, failing, stopped, ask, longestWord, blockBytes}
 
+-- As many bytes as are kept of a record, and a word or a block after them; and as many as the longest trace has (`longEnough`).
+abbrev pub inputSize : ℕ
+inputSize = 4_099
+
+abbrev pub longestTrace : ℕ
+longestTrace = 4_000_000_001
+
 -- There is room for the numbers and the words, for what is kept with a word or a block after it, for what a block records, and for what is said of it.
 unfoldable pub hasRoom : ℕ → ℕ → ℕ → ℕ → ℕ → Bool
-hasRoom memory words input out lines = leb 6 memory && (eqb words 6464 && (leb 4099 input && (leb blockLines out && leb blockLines lines)))
+hasRoom memory words input out lines = leb 6 memory && (eqb words stateSize && (leb inputSize input && (leb blockLines out && leb blockLines lines)))
 
 unfoldable pub marksOf : List ℕ → Marks
 marksOf memory = record {
@@ -34,7 +41,7 @@ marksOf memory = record {
 -- The numbers are those of a state: no more is left than the longest buffer has, no more records were taken than a replay takes, no whole record is kept, and what is to be
 -- written and said stands in the buffers.
 unfoldable pub inBounds : Marks → ℕ → Bool
-inBounds m out = leb (m .left) 4000000001 && (leb (m .done) mostRecords && (leb (m .kept) 3 && (leb (m .size) out && leb (m .told) blockLines)))
+inBounds m out = leb (m .left) longestTrace && (leb (m .done) mostRecords && (leb (m .kept) 3 && (leb (m .size) out && leb (m .told) blockLines)))
 
 abbrev pub positionOf : Marks → List ℕ → List ℕ → Position
 positionOf m words input = record { standing = record { run = runOf words; left = m .left; done = m .done }; rest = take (m .kept) input }

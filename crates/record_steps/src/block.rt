@@ -4,9 +4,11 @@ use crate::text;
 ghost use mathlib.Core.Path.{_≡_};
 ghost use Prim.Native.Nat.{_+_, _*_, _≤_};
 ghost use lib.ListN.{length};
+ghost use Rattle.whole_runs.specs.Listing.{mostRecords};
 ghost use Rattle.trace.specs.Answers.{eventIn};
 ghost use Rattle.words.specs.Layout.{runOf};
 ghost use Rattle.record_machine.specs.Records.{Standing};
+ghost use Rattle.record_machine.specs.Machine.{blockBytes};
 ghost use Rattle.record_steps.specs.Played.{longestLine, blockLines, placeFor, TakesOne, TakesAll};
 
 // How many bytes of the buffer are left and how many records were taken; how many bytes were recorded, and how many are said.
@@ -29,7 +31,7 @@ fn place_for(left: u64, at: usize, end: usize) -> usize
 
 // One record, which is the four bytes of `part`.
 fn take_one(w: &mut [u16], t: Taken, part: &[u8], out: &mut [u8], lines: &mut [u8]) -> Taken
-    requires { ⌜ (t .size + 4 ≤ length (now out)) × (t .told + longestLine ≤ length (now lines)) × (t .done ≤ 1000000000) × (t .size ≤ 4096) ⌝ }
+    requires { ⌜ (t .size + 4 ≤ length (now out)) × (t .told + longestLine ≤ length (now lines)) × (t .done ≤ mostRecords) × (t .size ≤ blockBytes) ⌝ }
     ensures { λ r. ⌜ TakesOne (runOf (now (w .entry))) t (eventIn (now (part .entry))) (now (out .entry)) (now (lines .entry)) (runOf (now (w .exit))) r (now (out .exit)) (now (lines .exit)) ⌝ }
 {
     let place = place_for(t.left, t.size, out.len());
@@ -54,7 +56,7 @@ pub fn take_all(
     out: &mut [u8],
     lines: &mut [u8],
 ) -> Taken
-    requires { ⌜ (length (now block) ≤ 4096) × (4096 ≤ length (now out)) × (blockLines ≤ length (now lines)) × (4 * done + length (now block) ≤ 4000000000) ⌝ }
+    requires { ⌜ (length (now block) ≤ blockBytes) × (blockBytes ≤ length (now out)) × (blockLines ≤ length (now lines)) × (4 * done + length (now block) ≤ 4 * mostRecords) ⌝ }
     ensures { λ r. ⌜ TakesAll (runOf (now (w .entry))) left done (now (block .entry)) (length (now (out .entry))) (length (now (lines .entry))) (runOf (now (w .exit))) r (now (out .exit)) (now (lines .exit)) ⌝ }
 {
     let mut t = Taken {

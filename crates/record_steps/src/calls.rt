@@ -1,5 +1,7 @@
 // A record's call through the recorder, on the words, with a buffer and the place that its next byte goes to.
+use model::DELETIONS;
 use model::Event;
+use model::PROCESSES;
 use trace::Decoded;
 ghost use mathlib.Core.Path.{_≡_};
 ghost use mathlib.Core.Option.{some};
@@ -17,7 +19,7 @@ pub struct Played {
 fn checkpoint(w: &mut [u16], i: usize, buffer: &mut [u8], place: usize) -> Played
     ensures { λ r. ⌜ Plays (runOf (now (w .entry))) (now (buffer .entry)) place (some (event.Checkpoint i)) (runOf (now (w .exit))) (now (buffer .exit)) r ⌝ }
 {
-    let mut deleted = [0u16; 512];
+    let mut deleted = [0u16; DELETIONS];
     let recorded = recorder_in_place::checkpoint(w, i, &mut deleted, buffer, place);
     let answer = recorded.answer;
     let said = summaries::of_checkpoint(answer);
@@ -42,7 +44,7 @@ fn send(w: &mut [u16], i: usize, j: usize, buffer: &mut [u8], place: usize) -> P
 fn deliver(w: &mut [u16], m: u32, buffer: &mut [u8], place: usize) -> Played
     ensures { λ r. ⌜ Plays (runOf (now (w .entry))) (now (buffer .entry)) place (some (event.Deliver m)) (runOf (now (w .exit))) (now (buffer .exit)) r ⌝ }
 {
-    let mut deleted = [0u16; 512];
+    let mut deleted = [0u16; DELETIONS];
     let recorded = recorder_in_place::deliver(w, m, &mut deleted, buffer, place);
     let answer = recorded.answer;
     let said = summaries::of_deliver(answer);
@@ -67,8 +69,8 @@ fn lose(w: &mut [u16], m: u32, buffer: &mut [u8], place: usize) -> Played
 fn recover(w: &mut [u16], failed: u32, buffer: &mut [u8], place: usize) -> Played
     ensures { λ r. ⌜ Plays (runOf (now (w .entry))) (now (buffer .entry)) place (some (event.Recover failed)) (runOf (now (w .exit))) (now (buffer .exit)) r ⌝ }
 {
-    let mut deleted = [0u16; 512];
-    let mut line = [0u16; 16];
+    let mut deleted = [0u16; DELETIONS];
+    let mut line = [0u16; PROCESSES];
     let recorded = recorder_in_place::recover(w, failed, &mut deleted, &mut line, buffer, place);
     let answer = recorded.answer;
     let said = summaries::of_recover(answer);

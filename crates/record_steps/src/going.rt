@@ -1,4 +1,5 @@
 // How the machine goes on: the numbers of the state that an answer leads to. The words and buffers are those of the state with them.
+use crate::LONGEST_WORD;
 use crate::block;
 use crate::marks;
 use crate::marks::Marks;
@@ -6,18 +7,22 @@ use crate::text;
 use machines::Answer;
 use machines::heard;
 use machines::heard::Taken;
+use model::PROCESSES;
+use whole_runs::MOST_RECORDS;
 ghost use mathlib.Core.Path.{_≡_};
 ghost use mathlib.Core.Bool.{true};
 ghost use mathlib.Core.List.{List};
 ghost use Prim.Native.Nat.{ℕ, _+_, _-_, _*_, _≤_, min};
 ghost use lib.ListN.{length, take};
+ghost use Rattle.whole_runs.specs.Listing.{mostRecords};
+ghost use Rattle.words.specs.Layout.{stateSize};
 ghost use Rattle.programs.specs.Numbers.{numberIn};
 ghost use Rattle.machines.specs.Machines.{stepped};
 ghost use Rattle.machines.specs.Forms.{answerOf};
 ghost use Rattle.record_machine.specs.Recorded.{refusedLine, endLine};
-ghost use Rattle.record_machine.specs.Machine.{machine, counting, naming, beginning, writing, saying, reading, ending, failing, stopped, sized, begun, toRead, toSay, toEnd, blockTaken};
+ghost use Rattle.record_machine.specs.Machine.{machine, counting, naming, beginning, writing, saying, reading, ending, failing, stopped, sized, begun, toRead, toSay, toEnd, blockTaken, blockBytes};
 ghost use Rattle.record_steps.specs.Played.{longestLine, blockLines};
-ghost use Rattle.record_steps.specs.Lent.{inBounds, positionOf, stateIn, Arrives};
+ghost use Rattle.record_steps.specs.Lent.{inBounds, positionOf, stateIn, Arrives, inputSize, longestTrace};
 
 fn stop() -> Marks
     ensures { λ r. ⌜ ((words input out lines : List ℕ) → Arrives r words input out lines stopped) ⌝ }
@@ -73,6 +78,9 @@ fn end_refused(out: &mut [u8], number: u64, x: u64) -> Marks
     }
 }
 
+// The largest buffer that an argument may ask for (largestBuffer in the specs of record_machine).
+const LARGEST_BUFFER: u64 = 1048576;
+
 fn after_count(out: &mut [u8], answer: Answer) -> Marks
     requires { ⌜ blockLines ≤ length (now out) ⌝ }
     ensures { λ r. ⌜ ((words input lines : List ℕ) (at : ℕ) → Arrives r words input (now (out .exit)) lines (stepped machine counting (answerOf answer at input))) ⌝ }
@@ -80,7 +88,7 @@ fn after_count(out: &mut [u8], answer: Answer) -> Marks
     match answer {
         Answer::Number(count) => {
             if count < 2 {
-                return marks::at(marks::BEGINNING, 4000000001);
+                return marks::at(marks::BEGINNING, marks::LONGEST_TRACE);
             }
             if count == 2 {
                 return marks::at(marks::NAMING, 0);
@@ -100,17 +108,17 @@ fn size_named(word: &[u8], out: &mut [u8]) -> Marks
     ensures { λ r. ⌜ ((words input lines : List ℕ) → Arrives r words input (now (out .exit)) lines (sized (numberIn (now (word .entry))))) ⌝ }
 {
     let size = programs::numbers::number_in(word);
-    if 1048576 < size {
+    if LARGEST_BUFFER < size {
         return end_with(out, b"usage: record [BYTES], at most 1048576\n");
     }
     marks::at(marks::BEGINNING, size)
 }
 
 fn after_word(input: &[u8], out: &mut [u8], kept: usize, answer: Answer) -> Marks
-    requires { ⌜ (4099 ≤ length (now input)) × (kept ≤ 3) × (blockLines ≤ length (now out)) ⌝ }
+    requires { ⌜ (inputSize ≤ length (now input)) × (kept ≤ 3) × (blockLines ≤ length (now out)) ⌝ }
     ensures { λ r. ⌜ ((words lines : List ℕ) → Arrives r words (now (input .entry)) (now (out .exit)) lines (stepped machine naming (answerOf answer kept (now (input .entry))))) ⌝ }
 {
-    let taken = heard::word(answer, 4096);
+    let taken = heard::word(answer, LONGEST_WORD);
     match taken {
         Taken::Brought(size) => {
             let end = kept + size;
@@ -132,10 +140,10 @@ fn least(left: u64) -> usize
 
 // The start, in a buffer of so many bytes: its first byte is the count.
 fn start(words: &mut [u16], n: u8, left: u64, out: &mut [u8]) -> Marks
-    requires { ⌜ (length (now words) ≡ 6464) × (blockLines ≤ length (now out)) × (left ≤ 4000000001) ⌝ }
+    requires { ⌜ (length (now words) ≡ stateSize) × (blockLines ≤ length (now out)) × (left ≤ longestTrace) ⌝ }
     ensures { λ r. ⌜ ((input lines : List ℕ) → Arrives r (now (words .exit)) input (now (out .exit)) lines (begun left n)) ⌝ }
 {
-    let counts = [1u32; 16];
+    let counts = [1u32; PROCESSES];
     let room = least(left);
     let started = recorder_in_place::start(words, n as usize, &counts, &mut out[..room], 0);
     let answer = started.answer;
@@ -162,7 +170,7 @@ fn after_first(
     kept: usize,
     answer: Answer,
 ) -> Marks
-    requires { ⌜ (length (now words) ≡ 6464) × (4099 ≤ length (now input)) × (kept ≤ 3) × (blockLines ≤ length (now out)) × (left ≤ 4000000001) ⌝ }
+    requires { ⌜ (length (now words) ≡ stateSize) × (inputSize ≤ length (now input)) × (kept ≤ 3) × (blockLines ≤ length (now out)) × (left ≤ longestTrace) ⌝ }
     ensures { λ r. ⌜ ((lines : List ℕ) → Arrives r (now (words .exit)) (now (input .entry)) (now (out .exit)) lines (stepped machine (beginning left) (answerOf answer kept (now (input .entry))))) ⌝ }
 {
     let taken = heard::read(answer, 1);
@@ -175,10 +183,10 @@ fn after_first(
 
 // "The program ends after record 1,000,000,000 and reads nothing past it."
 fn to_read(m: Marks) -> Marks
-    requires { ⌜ (m .left ≤ 4000000001) × (m .done ≤ 1000000000) × (m .kept ≤ 3) ⌝ }
+    requires { ⌜ (m .left ≤ longestTrace) × (m .done ≤ mostRecords) × (m .kept ≤ 3) ⌝ }
     ensures { λ r. ⌜ ((words input out lines : List ℕ) → Arrives r words input out lines (toRead (positionOf m words input))) ⌝ }
 {
-    if 1000000000 <= m.done {
+    if MOST_RECORDS <= m.done {
         return stop();
     }
     Marks {
@@ -193,7 +201,7 @@ fn to_read(m: Marks) -> Marks
 
 // The lines that are left to say are put to the front of `out`.
 fn to_say(m: Marks, out: &mut [u8], lines: &[u8]) -> Marks
-    requires { ⌜ (m .left ≤ 4000000001) × (m .done ≤ 1000000000) × (m .kept ≤ 3) × (m .told ≤ length (now lines)) × (m .told ≤ length (now out)) ⌝ }
+    requires { ⌜ (m .left ≤ longestTrace) × (m .done ≤ mostRecords) × (m .kept ≤ 3) × (m .told ≤ length (now lines)) × (m .told ≤ length (now out)) ⌝ }
     ensures { λ r. ⌜ ((words input : List ℕ) → Arrives r words input (now (out .exit)) (now (lines .entry)) (toSay (take (m .told) (now (lines .entry))) (positionOf m words input))) ⌝ }
 {
     let told = m.told;
@@ -212,7 +220,7 @@ fn to_say(m: Marks, out: &mut [u8], lines: &[u8]) -> Marks
 }
 
 fn after_write(m: Marks, out: &mut [u8], lines: &[u8], answer: Answer) -> Marks
-    requires { ⌜ (m .left ≤ 4000000001) × (m .done ≤ 1000000000) × (m .kept ≤ 3) × (m .told ≤ blockLines) × (blockLines ≤ length (now lines)) × (blockLines ≤ length (now out)) ⌝ }
+    requires { ⌜ (m .left ≤ longestTrace) × (m .done ≤ mostRecords) × (m .kept ≤ 3) × (m .told ≤ blockLines) × (blockLines ≤ length (now lines)) × (blockLines ≤ length (now out)) ⌝ }
     ensures { λ r. ⌜ ((words input : List ℕ) (at : ℕ) → Arrives r words input (now (out .exit)) (now (lines .entry)) (stepped machine (writing (take (m .size) (now (out .entry))) (take (m .told) (now (lines .entry))) (positionOf m words input)) (answerOf answer at input))) ⌝ }
 {
     if heard::is_done(answer) {
@@ -223,7 +231,7 @@ fn after_write(m: Marks, out: &mut [u8], lines: &[u8], answer: Answer) -> Marks
 
 // What is left over at the end of the input is said.
 fn to_end(m: Marks, out: &mut [u8]) -> Marks
-    requires { ⌜ (m .done ≤ 1000000000) × (m .kept ≤ 3) × (blockLines ≤ length (now out)) ⌝ }
+    requires { ⌜ (m .done ≤ mostRecords) × (m .kept ≤ 3) × (blockLines ≤ length (now out)) ⌝ }
     ensures { λ r. ⌜ ((words input lines : List ℕ) → m .kept ≤ length input → Arrives r words input (now (out .exit)) lines (toEnd (endLine (m .done) (take (m .kept) input)))) ⌝ }
 {
     if m.kept == 0 {
@@ -241,7 +249,7 @@ fn take_block(
     lines: &mut [u8],
     size: usize,
 ) -> Marks
-    requires { ⌜ (m .left ≤ 4000000001) × (m .done ≤ 1000000000) × (m .kept ≤ 3) × (m .kept + size ≤ min 4096 (4 * (1000000000 - m .done))) × (4099 ≤ length (now input)) × (blockLines ≤ length (now out)) × (blockLines ≤ length (now lines)) ⌝ }
+    requires { ⌜ (m .left ≤ longestTrace) × (m .done ≤ mostRecords) × (m .kept ≤ 3) × (m .kept + size ≤ min blockBytes (4 * (mostRecords - m .done))) × (inputSize ≤ length (now input)) × (blockLines ≤ length (now out)) × (blockLines ≤ length (now lines)) ⌝ }
     ensures { λ r. ⌜ Arrives r (now (words .exit)) (now (input .exit)) (now (out .exit)) (now (lines .exit)) (blockTaken (positionOf m (now (words .entry)) (now (input .entry)) .standing) (take (m .kept + size) (now (input .entry)))) ⌝ }
 {
     let end = m.kept + size;
@@ -271,7 +279,7 @@ fn after_read(
     lines: &mut [u8],
     answer: Answer,
 ) -> Marks
-    requires { ⌜ (m .left ≤ 4000000001) × (m .done ≤ 1000000000) × (m .kept ≤ 3) × (4099 ≤ length (now input)) × (blockLines ≤ length (now out)) × (blockLines ≤ length (now lines)) ⌝ }
+    requires { ⌜ (m .left ≤ longestTrace) × (m .done ≤ mostRecords) × (m .kept ≤ 3) × (inputSize ≤ length (now input)) × (blockLines ≤ length (now out)) × (blockLines ≤ length (now lines)) ⌝ }
     ensures { λ r. ⌜ Arrives r (now (words .exit)) (now (input .exit)) (now (out .exit)) (now (lines .exit)) (stepped machine (reading (positionOf m (now (words .entry)) (now (input .entry)))) (answerOf answer (m .kept) (now (input .entry)))) ⌝ }
 {
     let most = marks::most_to_read(m.done, m.kept);
@@ -292,7 +300,7 @@ pub fn on(
     lines: &mut [u8],
     answer: Answer,
 ) -> Marks
-    requires { ⌜ (m .left ≤ 4000000001) × (m .done ≤ 1000000000) × (m .kept ≤ 3) × (m .told ≤ blockLines) × (length (now words) ≡ 6464) × (4099 ≤ length (now input)) × (blockLines ≤ length (now out)) × (blockLines ≤ length (now lines)) ⌝ }
+    requires { ⌜ (m .left ≤ longestTrace) × (m .done ≤ mostRecords) × (m .kept ≤ 3) × (m .told ≤ blockLines) × (length (now words) ≡ stateSize) × (inputSize ≤ length (now input)) × (blockLines ≤ length (now out)) × (blockLines ≤ length (now lines)) ⌝ }
     ensures { λ r. ⌜ Arrives r (now (words .exit)) (now (input .exit)) (now (out .exit)) (now (lines .exit)) (stepped machine (stateIn m (now (words .entry)) (now (input .entry)) (now (out .entry)) (now (lines .entry))) (answerOf answer (m .kept) (now (input .entry)))) ⌝ }
 {
     let phase = m.phase;

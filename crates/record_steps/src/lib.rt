@@ -18,6 +18,7 @@ mod going;
 
 use machines::Answer;
 use machines::Request;
+use words::WORDS;
 ghost use mathlib.Core.Path.{_≡_};
 ghost use mathlib.Core.Bool.{true};
 ghost use lib.ListN.{length};
@@ -26,12 +27,19 @@ ghost use Rattle.machines.specs.Forms.{answerOf};
 ghost use Rattle.record_machine.specs.Machine.{machine, counting};
 ghost use Rattle.record_steps.specs.Lent.{hasRoom, stateOf, placeOf, StandsFor};
 
-// As many entries as the state has words, and as many bytes as a word or a block, and its lines, may take.
-const WORDS: usize = 6464;
+// The bytes of the longest word that is looked at, and of a block (longestWord, blockBytes in the specs of record_machine).
+const LONGEST_WORD: usize = 4096;
 
-const INPUT: usize = 4099;
+const BLOCK_BYTES: usize = 4096;
 
-const LINES: usize = 67584;
+// No line of a record is longer (longestLine in specs/Played).
+const LONGEST_LINE: usize = 66;
+
+// How many bytes a caller lends: for a word or a block after what is kept of a record (inputSize in specs/Lent), and for the lines of a block (blockLines in
+// specs/Played).
+pub const INPUT_SIZE: usize = BLOCK_BYTES + 3;
+
+pub const BLOCK_LINES: usize = LONGEST_LINE * (BLOCK_BYTES / 4);
 
 pub fn has_room(memory: usize, words: usize, input: usize, out: usize, lines: usize) -> bool
     ensures { λ r. ⌜ r ≡ hasRoom memory words input out lines ⌝ }
@@ -42,13 +50,13 @@ pub fn has_room(memory: usize, words: usize, input: usize, out: usize, lines: us
     if words != WORDS {
         return false;
     }
-    if input < INPUT {
+    if input < INPUT_SIZE {
         return false;
     }
-    if out < LINES {
+    if out < BLOCK_LINES {
         return false;
     }
-    LINES <= lines
+    BLOCK_LINES <= lines
 }
 
 // The first state.

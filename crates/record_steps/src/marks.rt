@@ -1,8 +1,14 @@
 // The numbers that a caller lends for the state, read and put.
+use crate::BLOCK_BYTES;
+use crate::BLOCK_LINES;
+use crate::LONGEST_WORD;
 use machines::Request;
+use whole_runs::MOST_RECORDS;
 ghost use mathlib.Core.Path.{_≡_};
 ghost use Prim.Native.Nat.{_-_, _*_, _≤_, min};
 ghost use lib.ListN.{length};
+ghost use Rattle.record_machine.specs.Machine.{blockBytes};
+ghost use Rattle.whole_runs.specs.Listing.{mostRecords};
 ghost use Rattle.record_steps.specs.Lent.{marksOf, inBounds, asksFor};
 
 // The phase; how many bytes of the buffer are left, and how many records were taken; how many bytes of `input` are kept, how many of `out` are asked for, and how many of
@@ -34,6 +40,11 @@ pub const FAILING: u64 = 8;
 
 pub const STOPPED: u64 = 0;
 
+// The bytes of the longest trace: its first byte and every record that a replay takes.
+pub const LONGEST_TRACE: u64 = 1 + 4 * MOST_RECORDS;
+
+const WHOLE_BLOCK: u64 = BLOCK_BYTES as u64;
+
 // A phase in which nothing is counted but the bytes of the buffer.
 pub fn at(phase: u64, left: u64) -> Marks
     ensures { λ r. ⌜ r ≡ record { phase = phase; left = left; done = 0; kept = 0; size = 0; told = 0 } ⌝ }
@@ -52,10 +63,10 @@ pub fn at(phase: u64, left: u64) -> Marks
 pub fn in_bounds(m: Marks, out: usize) -> bool
     ensures { λ r. ⌜ r ≡ inBounds m out ⌝ }
 {
-    if 4000000001 < m.left {
+    if LONGEST_TRACE < m.left {
         return false;
     }
-    if 1000000000 < m.done {
+    if MOST_RECORDS < m.done {
         return false;
     }
     if 3 < m.kept {
@@ -64,7 +75,7 @@ pub fn in_bounds(m: Marks, out: usize) -> bool
     if out < m.size {
         return false;
     }
-    m.told <= 67584
+    m.told <= BLOCK_LINES
 }
 
 pub fn read(memory: &[u64]) -> Marks
@@ -95,12 +106,12 @@ pub fn put(memory: &mut [u64], m: Marks)
 
 // How many bytes are asked for after those that are kept: no block is larger than 4,096 bytes, and none reaches past record 1,000,000,000.
 pub fn most_to_read(done: u64, kept: usize) -> usize
-    requires { ⌜ (done ≤ 1000000000) × (kept ≤ 3) ⌝ }
-    ensures { λ r. ⌜ r ≡ min 4096 (4 * (1000000000 - done)) - kept ⌝ }
+    requires { ⌜ (done ≤ mostRecords) × (kept ≤ 3) ⌝ }
+    ensures { λ r. ⌜ r ≡ min blockBytes (4 * (mostRecords - done)) - kept ⌝ }
 {
-    let end = 4 * (1000000000 - done);
-    if 4096 < end {
-        return 4096 - kept;
+    let end = 4 * (MOST_RECORDS - done);
+    if WHOLE_BLOCK < end {
+        return BLOCK_BYTES - kept;
     }
     let last = end as usize;
     if last < kept {
@@ -111,13 +122,13 @@ pub fn most_to_read(done: u64, kept: usize) -> usize
 
 // What the machine asks for.
 pub fn request(m: Marks) -> Request
-    requires { ⌜ (m .done ≤ 1000000000) × (m .kept ≤ 3) ⌝ }
+    requires { ⌜ (m .done ≤ mostRecords) × (m .kept ≤ 3) ⌝ }
     ensures { λ r. ⌜ r ≡ asksFor m ⌝ }
 {
     let phase = m.phase;
     match phase {
         1 => Request::Count,
-        2 => Request::Argument(1, m.kept, 4096),
+        2 => Request::Argument(1, m.kept, LONGEST_WORD),
         3 => Request::Read(m.kept, 1),
         4 => Request::Write(m.size),
         5 => Request::Say(m.size),

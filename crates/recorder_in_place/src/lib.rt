@@ -18,7 +18,7 @@ ghost use lib.ListN.{length};
 ghost use Rattle.model.specs.declared.Refusal.{Refusal};
 ghost use Rattle.recording.specs.Recording.{recordedCheckpoint, recordedSend, recordedDeliver, recordedLose, recordedLine, recordedRecover, recordedEarliest};
 ghost use Rattle.words.specs.Clean.{Clean};
-ghost use Rattle.words.specs.Layout.{runOf};
+ghost use Rattle.words.specs.Layout.{runOf, stateSize};
 ghost use Rattle.line_words.specs.Through.{namedIn};
 ghost use Rattle.in_place.specs.Left.{Leaves};
 ghost use Rattle.recorder_in_place.specs.Recorded.{recordedStartIn, recordedStartWords};
@@ -76,7 +76,7 @@ pub fn start(
     ensures { λ r. ⌜ now (buffer .exit) ≡ recordedStartIn (length (now (w .entry))) n (now (counts .entry)) (now (buffer .entry)) place .buffer ⌝ }
     ensures { λ r. ⌜ r .place ≡ recordedStartIn (length (now (w .entry))) n (now (counts .entry)) (now (buffer .entry)) place .place ⌝ }
     ensures { λ r. ⌜ now (w .exit) ≡ recordedStartWords (now (w .entry)) n (now (counts .entry)) (now (buffer .entry)) ⌝ }
-    ensures { λ r. ⌜ (length (now (w .entry)) ≡ 6464 → Clean (now (w .exit))) ⌝ }
+    ensures { λ r. ⌜ (length (now (w .entry)) ≡ stateSize → Clean (now (w .exit))) ⌝ }
 {
     let answer = in_place::start::start(w, n, counts);
     let done = accepted::start(answer);

@@ -1,12 +1,15 @@
 // What a call answers where the buffer has no room for its record: its own refusal, else 21. "A refused call writes no byte", and the words and the lent lists keep every
 // entry: so the call is made on a copy of the words, with lists of its own. A refusal looks at the length of a lent list alone, and 512 entries, or 16, are as good as more.
 use model::CheckpointAnswer;
+use model::DELETIONS;
 use model::DeliverAnswer;
 use model::LoseAnswer;
+use model::PROCESSES;
 use model::RecoverAnswer;
 use model::Refusal;
 use model::SendAnswer;
 use recorder_bytes::accepted;
+use words::WORDS;
 ghost use mathlib.Core.Path.{_≡_};
 ghost use mathlib.Core.Bool.{true};
 ghost use mathlib.Core.List.{List};
@@ -18,11 +21,6 @@ ghost use Rattle.model.specs.Sound.{sound};
 ghost use Rattle.whole_runs.specs.Outcomes.{judged};
 ghost use Rattle.words.specs.Layout.{runOf};
 
-// As many entries as any call needs: of a list of deletions, and of a line.
-const DELETIONS: usize = 512;
-
-const MEMBERS: usize = 16;
-
 fn least(a: usize, b: usize) -> usize
     ensures { λ r. ⌜ (r ≡ min a b) × (r ≤ b) ⌝ }
 {
@@ -32,12 +30,12 @@ fn least(a: usize, b: usize) -> usize
     b
 }
 
-fn copy_of(w: &[u16]) -> [u16; 6464]
+fn copy_of(w: &[u16]) -> [u16; WORDS]
     requires { ⌜ sound (runOf (now w)) ≡ true ⌝ }
     ensures { λ r. ⌜ r ≡ now (w .entry) ⌝ }
 {
-    let mut copy = [0u16; 6464];
-    readers::copy_words(w, 0, words::WORDS, &mut copy);
+    let mut copy = [0u16; WORDS];
+    readers::copy_words(w, 0, WORDS, &mut copy);
     copy
 }
 
@@ -49,7 +47,7 @@ pub fn checkpoint(w: &[u16], i: usize, size: usize) -> CheckpointAnswer
         return CheckpointAnswer::Refused(Refusal::UnsoundState);
     }
     let mut copy = copy_of(w);
-    let mut deleted = [0u16; 512];
+    let mut deleted = [0u16; DELETIONS];
     let entries = least(size, DELETIONS);
     let answer = in_place::checkpoint::checkpoint_on(&mut copy, i, &mut deleted[..entries]);
     let done = accepted::checkpoint(answer);
@@ -83,7 +81,7 @@ pub fn deliver(w: &[u16], m: u32, size: usize) -> DeliverAnswer
         return DeliverAnswer::Refused(Refusal::UnsoundState);
     }
     let mut copy = copy_of(w);
-    let mut deleted = [0u16; 512];
+    let mut deleted = [0u16; DELETIONS];
     let entries = least(size, DELETIONS);
     let delivered = in_place::deliver::deliver_on(&mut copy, m, &mut deleted[..entries]);
     let answer = delivered.answer;
@@ -118,10 +116,10 @@ pub fn recover(w: &[u16], failed: u32, size: usize, members: usize) -> RecoverAn
         return RecoverAnswer::Refused(Refusal::UnsoundState);
     }
     let mut copy = copy_of(w);
-    let mut deleted = [0u16; 512];
-    let mut line = [0u16; 16];
+    let mut deleted = [0u16; DELETIONS];
+    let mut line = [0u16; PROCESSES];
     let entries = least(size, DELETIONS);
-    let places = least(members, MEMBERS);
+    let places = least(members, PROCESSES);
     let answer = recover_in_place::recover_on(
         &mut copy,
         failed,

@@ -10,7 +10,7 @@ use Rattle.laws.specs.Sums.{sumBelow}
 use Rattle.model.specs.declared.Interval.{Interval}
 use Rattle.model.specs.declared.Checkpoint.{Checkpoint}
 use Rattle.model.specs.declared.Disk.{Disk}
-use Rattle.model.specs.Words.{Process, blocksOf, withDisk}
+use Rattle.model.specs.Words.{Process, blocksOf, withDisk, mostProcesses}
 use Rattle.model.specs.Steps.{Deletion, listed, billed, withProcesses}
 use Rattle.words.specs.Clean.{Clean}
 use Rattle.words.specs.Layout.{word, endOf, fits, runOf}
@@ -42,6 +42,6 @@ pub record Restored (w pasts : List ℕ) (owns : List Interval) (k : ℕ) (v : L
   pub disk : diskIn v ≡ diskThen w pasts owns k
   pub front : (q : ℕ) → q < 4 → word v q ≡ word w q
   pub end : endOf v ≡ endOf w
-  pub later : (q : ℕ) → k ≤ q → q < 16 → SameProcess w v q
+  pub later : (q : ℕ) → k ≤ q → q < mostProcesses → SameProcess w v q
   pub mail : (q : ℕ) → 5184 ≤ q → word v q ≡ word w q
   pub clean : Clean w → Clean v

@@ -12,7 +12,7 @@ use Rattle.laws.specs.Lists.{select, table}
 use Rattle.model.specs.declared.Interval.{Interval}
 use Rattle.model.specs.declared.Pin.{Pin}
 use Rattle.model.specs.declared.Checkpoint.{Checkpoint}
-use Rattle.model.specs.Words.{mostProcesses, named, Process}
+use Rattle.model.specs.Words.{mostProcesses, named, Process, mostInterval}
 use Rattle.model.specs.Steps.{advanced}
 use Rattle.words.specs.Layout.{word, heldAt, markAt, blocksAt, partAt, pinsAt, storedAt, intervalOf, rowIn, vectorIn, pinsIn, markIn}
 use Rattle.line_words.specs.Restored.{knownRow, foundIn}
@@ -59,10 +59,10 @@ restoredGone w p past owns = unnamedIn w p (pinRow (restoredPins w p past owns))
 -- What the functions rely on: the member's place is there, and 1 can be added to its own entry.
 abbrev pub Returns : List ℕ → ℕ → ℕ → Type 0
 Returns w p past =
-    (word w (heldAt p) ≤ 16) × (1 ≤ past) × (past ≤ word w (heldAt p) + 1) × (past ≤ word w (heldAt p) → word w (storedAt p (past - 1) + p) < 65535)
+    (word w (heldAt p) ≤ mostProcesses) × (1 ≤ past) × (past ≤ word w (heldAt p) + 1) × (past ≤ word w (heldAt p) → word w (storedAt p (past - 1) + p) < mostInterval)
 
 abbrev pub AllReturn : List ℕ → List ℕ → Type 0
-AllReturn pasts w = (16 ≤ length pasts) × ((p : ℕ) → p < 16 → 1 ≤ getD pasts p 0 → Returns w p (getD pasts p 0))
+AllReturn pasts w = (mostProcesses ≤ length pasts) × ((p : ℕ) → p < mostProcesses → 1 ≤ getD pasts p 0 → Returns w p (getD pasts p 0))
 
 -- Each kept checkpoint has an index, and a pin names it.
 abbrev pub Restorable : List ℕ → ℕ → ℕ → Type 0

@@ -1,6 +1,7 @@
 // The recovery of a failed set: each process goes back to its member of the line, its pins are moved and what no pin names is deleted; the messages that were sent up
 // to the line stay under way. For the empty set nobody goes back: it is a sweep.
 use model::Interval;
+use model::PROCESSES;
 use model::RecoverAnswer;
 use model::Refusal;
 use verdicts::Verdict;
@@ -15,6 +16,7 @@ ghost use Rattle.laws.specs.Tests.{countBelow};
 ghost use Rattle.model.specs.Sound.{sound};
 ghost use Rattle.model.specs.declared.Refusal.{Refusal};
 ghost use Rattle.model.specs.declared.RecoverAnswer.the-variants.{Refused};
+ghost use Rattle.model.specs.Words.{mostProcesses};
 ghost use Rattle.verdicts.specs.declared.Verdict.the-variants.{Accepted};
 ghost use Rattle.verdicts.specs.Verdicts.{recoveryVerdict};
 ghost use Rattle.whole_runs.specs.Outcomes.{pairs, recoverOutcome};
@@ -22,7 +24,7 @@ ghost use Rattle.whole_runs.specs.Calls as made;
 ghost use Rattle.whole_runs.specs.Clean.{CleanPromise};
 ghost use Rattle.whole_runs.specs.Sweep.{SweepPromise};
 ghost use Rattle.whole_runs.specs.WholeRuns.{LinePromise, StatePromise};
-ghost use Rattle.words.specs.Layout.{countOf, runOf};
+ghost use Rattle.words.specs.Layout.{countOf, runOf, stateSize};
 ghost use Rattle.recover_in_place.specs.Restored.{goesBack};
 ghost use Rattle.in_place.specs.Left.{Leaves};
 ghost use Rattle.recover_in_place.specs.Recovering.{lossesThen, AllRestorable, Restored};
@@ -32,7 +34,7 @@ pub mod process;
 
 // 1 if the member of process p, in the place before this one, is a kept checkpoint: the process goes back to it.
 fn one_if_back(w: &[u16], p: usize, past: u16) -> usize
-    requires { ⌜ (length (now w) ≡ 6464) × (p < 16) ⌝ }
+    requires { ⌜ (length (now w) ≡ stateSize) × (p < mostProcesses) ⌝ }
     ensures { λ r. ⌜ r ≡ pick (goesBack (now (w .entry)) p past) 1 0 ⌝ }
 {
     if past <= w[places::HELD + p] { 1 } else { 0 }
@@ -40,7 +42,7 @@ fn one_if_back(w: &[u16], p: usize, past: u16) -> usize
 
 // How many of n processes go back.
 fn count_back(w: &[u16], n: usize, pasts: &[u16]) -> usize
-    requires { ⌜ (length (now w) ≡ 6464) × (n ≤ 16) × (n ≤ length (now pasts)) ⌝ }
+    requires { ⌜ (length (now w) ≡ stateSize) × (n ≤ mostProcesses) × (n ≤ length (now pasts)) ⌝ }
     ensures { λ r. ⌜ r ≡ countBelow n (λ p. goesBack (now (w .entry)) p (getD (now (pasts .entry)) p 0)) ⌝ }
 {
     let mut back = 0;
@@ -57,7 +59,7 @@ fn restore_all(
     w: &mut [u16],
     n: usize,
     pasts: &[u16],
-    owns: [Interval; 16],
+    owns: [Interval; PROCESSES],
     deleted: &mut [u16],
 ) -> usize
     requires { ⌜ (sound (runOf (now w)) ≡ true) × (n ≡ countOf (now w)) × (2 * n * n ≤ length (now deleted)) × AllRestorable n (now pasts) (now w) ⌝ }
@@ -91,7 +93,7 @@ fn recover_within(
     ensures { λ r. ⌜ Leaves (now (w .entry)) (now (w .exit)) ⌝ }
 {
     let limits = line_words::line::limits_of(w, n, failed);
-    let mut table = [0u16; 16];
+    let mut table = [0u16; PROCESSES];
     let pasts: &mut [u16] = &mut table;
     let all = line_words::line::find_members(w, n, limits, pasts);
     if !all {

@@ -2,6 +2,7 @@
 // `all`. What it asks of the system, and when, is said and proved in `replay_machine`: this program only obeys.
 
 use machines::Request;
+use words::WORDS;
 ghost use mathlib.Core.Path.{_≡_};
 ghost use Prim.Native.Nat.{_≤_};
 ghost use lib.ListN.{length};
@@ -29,7 +30,7 @@ fn drive(words: &mut [u16], memory: &mut [u64], input: &mut [u8], out: &mut [u8]
 }
 
 fn main() {
-    let mut words = [0u16; 6464];
+    let mut words = [0u16; WORDS];
     let mut memory = [0u64; 6];
     let mut input = [0u8; 65536];
     let mut out = [0u8; 65536];

@@ -1,11 +1,16 @@
 // The whole records of a block, as many as are taken. A block is records alone: the first byte of a trace is not in it.
 use crate::record;
+use listing::LONGEST_LINE;
+use model::DELETIONS;
+use model::PROCESSES;
+use whole_runs::MOST_RECORDS;
 ghost use mathlib.Core.Path.{_≡_};
 ghost use mathlib.Core.Bool.{true};
 ghost use Prim.Native.Nat.{_≤_};
 ghost use lib.ListN.{length};
 ghost use lib.Seq.{sets};
 ghost use Rattle.model.specs.Sound.{sound};
+ghost use Rattle.model.specs.Words.{mostProcesses, mostDeletions};
 ghost use Rattle.whole_runs.specs.WholeRuns.{Reachable};
 ghost use Rattle.words.specs.Layout.{runOf};
 ghost use Rattle.in_place.specs.Left.{Leaves};
@@ -17,17 +22,6 @@ pub struct Progress {
     pub written: usize,
     pub going: bool,
 }
-
-// No line has more bytes.
-const LONGEST_LINE: usize = 3102;
-
-// "The program ends after record 1,000,000,000"
-const MOST_RECORDS: u64 = 1000000000;
-
-// What a recovery of 16 processes may have to write: 16 deletions of each, two numbers each, and 16 indexes.
-const DELETIONS: usize = 512;
-
-const INDEXES: usize = 16;
 
 fn is_left(block: &[u8], taken: usize) -> bool
     ensures { λ r. ⌜ r ≡ isLeft (now (block .entry)) taken ⌝ }
@@ -79,7 +73,7 @@ fn replay_beside(
     deleted: &mut [u16],
     line: &mut [u16],
 ) -> Progress
-    requires { ⌜ (tested ≡ sound (runOf (now w))) × (reached ≡ true → Reachable (runOf (now w))) × (length (now deleted) ≡ 512) × (length (now line) ≡ 16) ⌝ }
+    requires { ⌜ (tested ≡ sound (runOf (now w))) × (reached ≡ true → Reachable (runOf (now w))) × (length (now deleted) ≡ mostDeletions) × (length (now line) ≡ mostProcesses) ⌝ }
     ensures { λ r. ⌜ r .taken ≡ blockOutcome all done (runOf (now (w .entry))) (now (block .entry)) (length (now (out .entry))) .taken ⌝ }
     ensures { λ r. ⌜ (r .written ≡ length (blockOutcome all done (runOf (now (w .entry))) (now (block .entry)) (length (now (out .entry))) .lines)) × (r .written ≤ length (now (out .entry))) ⌝ }
     ensures { λ r. ⌜ r .going ≡ blockOutcome all done (runOf (now (w .entry))) (now (block .entry)) (length (now (out .entry))) .going ⌝ }
@@ -128,7 +122,7 @@ fn replay_from(
 {
     let mut deletions = [0u16; DELETIONS];
     let deleted: &mut [u16] = &mut deletions;
-    let mut indexes = [0u16; INDEXES];
+    let mut indexes = [0u16; PROCESSES];
     let line: &mut [u16] = &mut indexes;
     replay_beside(w, tested, reached, all, done, block, out, deleted, line)
 }

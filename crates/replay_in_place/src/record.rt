@@ -11,6 +11,7 @@ ghost use Prim.Native.Nat.{ℕ};
 ghost use lib.ListN.{length};
 ghost use Rattle.model.specs.declared.Event.the-variants as event;
 ghost use Rattle.model.specs.Sound.{sound};
+ghost use Rattle.model.specs.Words.{mostDeletions, mostProcesses};
 ghost use Rattle.whole_runs.specs.Outcomes.{refusing};
 ghost use Rattle.whole_runs.specs.WholeRuns.{Reachable};
 ghost use Rattle.trace.specs.Answers.{eventRead};
@@ -32,7 +33,7 @@ fn refuse(why: Refusal, still: bool) -> Applied
 }
 
 fn checkpoint(w: &mut [u16], i: usize, deleted: &mut [u16]) -> Applied
-    requires { ⌜ (sound (runOf (now w)) ≡ true) × (length (now deleted) ≡ 512) ⌝ }
+    requires { ⌜ (sound (runOf (now w)) ≡ true) × (length (now deleted) ≡ mostDeletions) ⌝ }
     ensures { λ r. ⌜ Performs (runOf (now (w .entry))) (some (event.Checkpoint i)) (runOf (now (w .exit))) (r .said) (now (deleted .exit)) ⌝ }
     ensures { λ r. ⌜ r .sound ≡ sound (runOf (now (w .exit))) ⌝ }
     ensures { λ r. ⌜ Leaves (now (w .entry)) (now (w .exit)) ⌝ }
@@ -54,7 +55,7 @@ fn send(w: &mut [u16], i: usize, j: usize) -> Applied
 }
 
 fn deliver(w: &mut [u16], m: u32, deleted: &mut [u16]) -> Applied
-    requires { ⌜ (sound (runOf (now w)) ≡ true) × (length (now deleted) ≡ 512) ⌝ }
+    requires { ⌜ (sound (runOf (now w)) ≡ true) × (length (now deleted) ≡ mostDeletions) ⌝ }
     ensures { λ r. ⌜ Performs (runOf (now (w .entry))) (some (event.Deliver m)) (runOf (now (w .exit))) (r .said) (now (deleted .exit)) ⌝ }
     ensures { λ r. ⌜ r .sound ≡ sound (runOf (now (w .exit))) ⌝ }
     ensures { λ r. ⌜ Leaves (now (w .entry)) (now (w .exit)) ⌝ }
@@ -97,7 +98,7 @@ fn recover(
     deleted: &mut [u16],
     line: &mut [u16],
 ) -> Applied
-    requires { ⌜ (sound (runOf (now w)) ≡ true) × (reached ≡ true → Reachable (runOf (now w))) × (length (now deleted) ≡ 512) × (length (now line) ≡ 16) ⌝ }
+    requires { ⌜ (sound (runOf (now w)) ≡ true) × (reached ≡ true → Reachable (runOf (now w))) × (length (now deleted) ≡ mostDeletions) × (length (now line) ≡ mostProcesses) ⌝ }
     ensures { λ r. ⌜ Performs (runOf (now (w .entry))) (some (event.Recover failed)) (runOf (now (w .exit))) (r .said) (now (deleted .exit)) ⌝ }
     ensures { λ r. ⌜ r .sound ≡ sound (runOf (now (w .exit))) ⌝ }
     ensures { λ r. ⌜ Leaves (now (w .entry)) (now (w .exit)) ⌝ }
@@ -116,7 +117,7 @@ fn event_on(
     deleted: &mut [u16],
     line: &mut [u16],
 ) -> Applied
-    requires { ⌜ (sound (runOf (now w)) ≡ true) × (reached ≡ true → Reachable (runOf (now w))) × (length (now deleted) ≡ 512) × (length (now line) ≡ 16) ⌝ }
+    requires { ⌜ (sound (runOf (now w)) ≡ true) × (reached ≡ true → Reachable (runOf (now w))) × (length (now deleted) ≡ mostDeletions) × (length (now line) ≡ mostProcesses) ⌝ }
     ensures { λ r. ⌜ Performs (runOf (now (w .entry))) (some e) (runOf (now (w .exit))) (r .said) (now (deleted .exit)) ⌝ }
     ensures { λ r. ⌜ r .sound ≡ sound (runOf (now (w .exit))) ⌝ }
     ensures { λ r. ⌜ Leaves (now (w .entry)) (now (w .exit)) ⌝ }
@@ -140,7 +141,7 @@ pub fn apply(
     deleted: &mut [u16],
     line: &mut [u16],
 ) -> Applied
-    requires { ⌜ (still ≡ sound (runOf (now w))) × (reached ≡ true → Reachable (runOf (now w))) × (length (now deleted) ≡ 512) × (length (now line) ≡ 16) ⌝ }
+    requires { ⌜ (still ≡ sound (runOf (now w))) × (reached ≡ true → Reachable (runOf (now w))) × (length (now deleted) ≡ mostDeletions) × (length (now line) ≡ mostProcesses) ⌝ }
     ensures { λ r. ⌜ Performs (runOf (now (w .entry))) (eventRead d) (runOf (now (w .exit))) (r .said) (now (deleted .exit)) ⌝ }
     ensures { λ r. ⌜ r .sound ≡ sound (runOf (now (w .exit))) ⌝ }
     ensures { λ r. ⌜ Leaves (now (w .entry)) (now (w .exit)) ⌝ }

@@ -1,15 +1,17 @@
 // The buffer that blocks of a trace are read into: how far it may be filled, and the bytes that stay in it from one block to the next.
+use whole_runs::MOST_RECORDS;
 ghost use mathlib.Core.Path.{_≡_};
 ghost use Prim.Native.Nat.{_-_, _*_, _≤_, min};
 ghost use lib.ListN.{length, take, drop};
 ghost use lib.Seq.{sets};
+ghost use Rattle.whole_runs.specs.Listing.{mostRecords};
 
 // How far a buffer of `size` bytes may be filled where `done` records were taken: never past the last record that a replay takes.
 pub fn fill_to(done: u64, size: usize) -> usize
-    requires { ⌜ done ≤ 1000000000 ⌝ }
-    ensures { λ r. ⌜ r ≡ min size (4 * (1000000000 - done)) ⌝ }
+    requires { ⌜ done ≤ mostRecords ⌝ }
+    ensures { λ r. ⌜ r ≡ min size (4 * (mostRecords - done)) ⌝ }
 {
-    let left = (4 * (1000000000 - done)) as usize;
+    let left = (4 * (MOST_RECORDS - done)) as usize;
     if size < left { size } else { left }
 }
 

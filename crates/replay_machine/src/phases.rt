@@ -5,14 +5,16 @@ use crate::records;
 use machines::Answer;
 use machines::heard;
 use machines::heard::Taken;
+use model::PROCESSES;
 use model::StartAnswer;
 ghost use mathlib.Core.Path.{_≡_};
 ghost use mathlib.Core.Bool.{true};
-ghost use Prim.Native.Nat.{_+_, _≤_, _<_};
+ghost use Prim.Native.Nat.{_+_, _*_, _≤_, _<_};
 ghost use lib.ListN.{length};
 ghost use Rattle.laws.specs.Tests.{same};
 ghost use Rattle.model.specs.Words.{ones};
 ghost use Rattle.model.specs.Refusals.{startRefusal};
+ghost use Rattle.whole_runs.specs.Listing.{mostRecords};
 ghost use Rattle.whole_runs.specs.WholeRuns.{Reachable};
 ghost use Rattle.words.specs.Layout.{runOf};
 ghost use Rattle.machines.specs.Machines.{heardRead, heardDone, heardCount, heardWord, brought, isNumber};
@@ -59,7 +61,7 @@ fn begin_run(n: u8, all: bool, words: &mut [u16], input: &[u8], out: &mut [u8]) 
     requires { ⌜ roomy (length (now words)) (length (now input)) (length (now out)) ≡ true ⌝ }
     ensures { λ r. ⌜ stateIn r (now (words .exit)) (now (input .entry)) (now (out .exit)) ≡ m.begun all n (startRefusal n ones) ⌝ }
 {
-    let counts = [1u32; 16];
+    let counts = [1u32; PROCESSES];
     let answer = in_place::start::start(words, n as usize, &counts);
     match answer {
         StartAnswer::Refused(why) => {
@@ -132,7 +134,7 @@ pub(crate) fn after_first(
 
 // So many bytes more are held.
 fn with_more(p: Place, more: usize) -> Place
-    requires { ⌜ (p .held < 4) × (more < 4000000004) ⌝ }
+    requires { ⌜ (p .held < 4) × (more < 4 * mostRecords + 4) ⌝ }
     ensures { λ r. ⌜ r ≡ holding p more ⌝ }
 {
     Place {

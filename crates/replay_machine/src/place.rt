@@ -1,4 +1,7 @@
 // The numbers of a state: in which phase it is, and what it knows there.
+use listing::LONGEST_LINE;
+use whole_runs::MOST_RECORDS;
+use words::WORDS;
 ghost use mathlib.Core.Path.{_≡_};
 ghost use Prim.Native.Nat.{_≤_};
 ghost use lib.ListN.{length};
@@ -34,13 +37,8 @@ pub const STOPPED: u64 = 7;
 // How many numbers a caller lends.
 pub const NUMBERS: usize = 6;
 
-// The least buffer for what is read, and for lines.
+// The least buffer for what is read.
 pub const LEAST_INPUT: usize = 8;
-
-pub const LONGEST_LINE: usize = 3102;
-
-// "The program ends after record 1,000,000,000"
-pub const MOST_RECORDS: u64 = 1000000000;
 
 const RECORD: usize = 4;
 
@@ -85,7 +83,7 @@ pub fn store(memory: &mut [u64], p: Place)
 pub fn is_roomy(words: usize, input: usize, out: usize) -> bool
     ensures { λ r. ⌜ r ≡ roomy words input out ⌝ }
 {
-    if words != words::WORDS {
+    if words != WORDS {
         return false;
     }
     if input < LEAST_INPUT {

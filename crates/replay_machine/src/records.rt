@@ -2,6 +2,7 @@
 use crate::place;
 use crate::place::Place;
 use replay_in_place::block::Progress;
+use whole_runs::MOST_RECORDS;
 ghost use mathlib.Core.Path.{_≡_};
 ghost use mathlib.Core.Bool.{true};
 ghost use Prim.Native.Nat.{_+_, _≤_};
@@ -82,7 +83,7 @@ pub(crate) fn take(
         return with_text(place::ENDING, made.written);
     }
     let count = p.count + taken as u64;
-    if place::MOST_RECORDS <= count {
+    if MOST_RECORDS <= count {
         return with_text(place::ENDING, made.written);
     }
     Place {

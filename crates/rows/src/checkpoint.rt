@@ -2,10 +2,16 @@
 use model::Checkpoint;
 use model::CheckpointIndex;
 use model::Interval;
+use model::PROCESSES;
 ghost use mathlib.Core.Path.{_≡_};
 
 // Its cause is why it is stored (0 initial, 1 basic, 2 forced), `blocks` its process's block count.
-pub fn stored(index: CheckpointIndex, vector: [Interval; 16], cause: u8, blocks: u16) -> Checkpoint
+pub fn stored(
+    index: CheckpointIndex,
+    vector: [Interval; PROCESSES],
+    cause: u8,
+    blocks: u16,
+) -> Checkpoint
     ensures { λ r. ⌜ r ≡ record { index = index; vector = vector; cause = cause; blocks = blocks } ⌝ }
 {
     Checkpoint {

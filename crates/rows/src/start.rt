@@ -2,25 +2,26 @@
 use model::Checkpoint;
 use model::CheckpointIndex;
 use model::Interval;
+use model::PROCESSES;
 use model::Pin;
 ghost use mathlib.Core.Path.{_≡_};
 ghost use mathlib.Core.List.{List};
 ghost use Prim.Native.Nat.{ℕ, _<_};
-ghost use Rattle.model.specs.Words.{zeroVector, noPins, noCheckpoint};
+ghost use Rattle.model.specs.Words.{zeroVector, noPins, noCheckpoint, mostProcesses};
 ghost use Rattle.model.specs.Steps.{started};
 
-pub fn zero_vector() -> [Interval; 16]
+pub fn zero_vector() -> [Interval; PROCESSES]
     ensures { λ r. ⌜ r ≡ zeroVector ⌝ }
 {
     let zero = Interval(0);
-    [zero; 16]
+    [zero; PROCESSES]
 }
 
-pub fn no_pins() -> [Pin; 16]
+pub fn no_pins() -> [Pin; PROCESSES]
     ensures { λ r. ⌜ r ≡ noPins ⌝ }
 {
     let none = Pin::Nothing;
-    [none; 16]
+    [none; PROCESSES]
 }
 
 // What an unused place of a row of kept checkpoints holds.
@@ -32,8 +33,8 @@ pub fn no_checkpoint() -> Checkpoint
 }
 
 // The vector of process p, one of 16: its own entry is 1, the others are 0.
-pub fn first_vector(p: usize) -> [Interval; 16]
-    requires { ⌜ p < 16 ⌝ }
+pub fn first_vector(p: usize) -> [Interval; PROCESSES]
+    requires { ⌜ p < mostProcesses ⌝ }
     ensures { λ r. ⌜ ((counts : List ℕ) → r ≡ started counts p .vector) ⌝ }
 {
     let mut v = zero_vector();

@@ -1,11 +1,12 @@
 // Dependency vectors: what a checkpoint and a receipt do to one, and which checkpoint is the last one stored.
 use model::CheckpointIndex;
 use model::Interval;
+use model::PROCESSES;
 ghost use mathlib.Core.Path.{_≡_};
 ghost use Prim.Native.Nat.{_+_, _<_, _≤_};
 ghost use Rattle.laws.specs.Choice.{pick};
 ghost use Rattle.model.specs.declared.Interval.{Interval};
-ghost use Rattle.model.specs.Words.{entry, below, lastStored, liveIndex};
+ghost use Rattle.model.specs.Words.{entry, below, lastStored, liveIndex, mostProcesses, mostInterval};
 ghost use Rattle.model.specs.Steps.{advanced, newer, takenVector};
 
 // The last stored checkpoint of a process whose own entry is `own`. This is the one place where an interval's number becomes a checkpoint's index.
@@ -30,8 +31,8 @@ pub fn live_index(own: Interval) -> CheckpointIndex
 }
 
 // v with 1 added to entry i. The caller has refused a checkpoint at 65,535.
-pub fn advanced(v: [Interval; 16], i: usize) -> [Interval; 16]
-    requires { ⌜ (i < 16) × (entry v i .0 < 65535) ⌝ }
+pub fn advanced(v: [Interval; PROCESSES], i: usize) -> [Interval; PROCESSES]
+    requires { ⌜ (i < mostProcesses) × (entry v i .0 < mostInterval) ⌝ }
     ensures { λ r. ⌜ r ≡ advanced i v ⌝ }
 {
     let own = v[i];
@@ -41,11 +42,11 @@ pub fn advanced(v: [Interval; 16], i: usize) -> [Interval; 16]
 }
 
 // Some carried entry is greater than the own one.
-pub fn is_newer(own: [Interval; 16], carried: [Interval; 16]) -> bool
+pub fn is_newer(own: [Interval; PROCESSES], carried: [Interval; PROCESSES]) -> bool
     ensures { λ r. ⌜ r ≡ newer own carried ⌝ }
 {
     let mut any = false;
-    for f in 0..16 {
+    for f in 0..PROCESSES {
         if own[f].0 < carried[f].0 {
             any = true;
         }
@@ -61,11 +62,11 @@ fn greater(own: Interval, carried: Interval) -> Interval
 }
 
 // The greater of two vectors at each entry. Every turn stores its entry, changed or not: such a loop takes several entries at a time.
-pub fn greatest(a: [Interval; 16], b: [Interval; 16]) -> [Interval; 16]
+pub fn greatest(a: [Interval; PROCESSES], b: [Interval; PROCESSES]) -> [Interval; PROCESSES]
     ensures { λ r. ⌜ r ≡ takenVector a b ⌝ }
 {
     let mut most = a;
-    for f in 0..16 {
+    for f in 0..PROCESSES {
         let x = a[f];
         let y = b[f];
         let z = greater(x, y);

@@ -14,7 +14,7 @@ use Rattle.model.specs.declared.Checkpoint.{Checkpoint}
 use Rattle.model.specs.declared.Message.{Message}
 use Rattle.model.specs.declared.Disk.{Disk}
 use Rattle.model.specs.declared.Run.{Run}
-use Rattle.model.specs.Words.{mostProcesses, pastEnd}
+use Rattle.model.specs.Words.{mostProcesses, pastEnd, mostUnderWay, keptPlaces}
 use Rattle.words.specs.Layout.{heldAt, markAt, blocksAt, partAt, pinsAt, indexAt, causeAt, storedAt, lowAt, highAt, senderAt, receiverAt, carriedAt}
 use Rattle.words.specs.Puts.{Put, puts, one, vectorPut, puts2, puts4}
 use Rattle.run_words.specs.Fits.{pastMessages, indexFits, messageFits}
@@ -42,7 +42,7 @@ abbrev pub blocksPut : ℕ → List (List Checkpoint) → Put
 blocksPut p kept = one (blocksAt p) (getD (getD kept p []) 0 pastEnd .blocks)
 
 unfoldable pub keptFilled : List (List Checkpoint) → List ℕ → ℕ → List ℕ → List ℕ
-keptFilled kept held q w = placeFilled (q / 16) (q % 16) (getD held (q / 16) 0) (getD (getD kept (q / 16) []) (q % 16) pastEnd) (puts w (blocksPut (q / 16) kept ∷ []))
+keptFilled kept held q w = placeFilled (q / mostProcesses) (q % mostProcesses) (getD held (q / mostProcesses) 0) (getD (getD kept (q / mostProcesses) []) (q % mostProcesses) pastEnd) (puts w (blocksPut (q / mostProcesses) kept ∷ []))
 
 -- What else process p has.
 abbrev pub processPuts : ℕ → List Interval → List Pin → ℕ → Bool → List Put
@@ -73,7 +73,7 @@ numberPuts n many last disk =
 
 unfoldable pub filled : Run → List ℕ → List ℕ
 filled s w = puts
-    (iter 64 (messagesFilled (s .underway) (s .messages))
-    (iter 16 (rowsFilled (s .count) (s .vectors .0) (s .pins .0) (s .held) (s .sent))
-    (iter 256 (keptFilled (s .kept .0) (s .held)) w)))
+    (iter mostUnderWay (messagesFilled (s .underway) (s .messages))
+    (iter mostProcesses (rowsFilled (s .count) (s .vectors .0) (s .pins .0) (s .held) (s .sent))
+    (iter keptPlaces (keptFilled (s .kept .0) (s .held)) w)))
     (numberPuts (s .count) (s .underway) (s .last) (s .disk))

@@ -14,7 +14,7 @@ use Rattle.model.specs.declared.Pin.the-variants.{Nothing, At}
 use Rattle.model.specs.declared.Checkpoint.{Checkpoint}
 use Rattle.model.specs.declared.Message.{Message}
 use Rattle.model.specs.declared.Run.{Run}
-use Rattle.model.specs.Words.{mostProcesses, mostUnderWay, pastEnd}
+use Rattle.model.specs.Words.{mostProcesses, mostUnderWay, pastEnd, mostInterval, keptPlaces}
 use Rattle.model.specs.Sound.{zeroFrom, nothingFrom, unusedCheckpoint, unusedMessage}
 
 -- What a read past the end of the messages gives, in the declared types.
@@ -23,7 +23,7 @@ pastMessages = record { number = 0; sender = 0; receiver = 0; vector = [] }
 
 -- "numbers that are too wide": the word of a checkpoint's index is one above it, and a word is at most 65,535,
 unfoldable pub indexFits : CheckpointIndex → Bool
-indexFits a = not (eqb (a .0) 65_535)
+indexFits a = not (eqb (a .0) mostInterval)
 
 unfoldable pub pinFits : Pin → Bool
 pinFits Nothing = true
@@ -53,7 +53,7 @@ oneFits k many x = pick (ltb k many) (messageFits x) (unusedMessage x)
 
 -- The same of all places of kept checkpoints, of all rows, of all places of messages: place k of process p is number 16 p + k.
 unfoldable pub keptFits : List (List Checkpoint) → List ℕ → Bool
-keptFits kept held = allBelow 256 (λ q. placeFits (q % 16) (getD held (q / 16) 0) (getD (getD kept (q / 16) []) 0 pastEnd .blocks) (getD (getD kept (q / 16) []) (q % 16) pastEnd))
+keptFits kept held = allBelow keptPlaces (λ q. placeFits (q % mostProcesses) (getD held (q / mostProcesses) 0) (getD (getD kept (q / mostProcesses) []) 0 pastEnd .blocks) (getD (getD kept (q / mostProcesses) []) (q % mostProcesses) pastEnd))
 
 unfoldable pub rowsFit : ℕ → List (List Interval) → List (List Pin) → List ℕ → List Bool → Bool
 rowsFit n vectors pins held sent = allBelow mostProcesses (λ p. rowFits p n (getD vectors p []) (getD pins p []) (getD held p 0) (getD sent p false))

@@ -5,14 +5,15 @@ use mathlib.Core.Bool.{true}
 use mathlib.Core.List.{List}
 use Prim.Native.Nat.{ℕ, _≤_, _<_}
 use Rattle.model.specs.declared.Run.{Run}
+use Rattle.model.specs.Words.{mostProcesses}
 use Rattle.words.specs.Layout.{word, countOf, causeAt, isKeptIn, fits}
 
 pub record Readable (w : List ℕ) : Type 0 where
   pub fit : fits w ≡ true
   -- A state has rows for 16 processes,
-  pub few : countOf w ≤ 16
+  pub few : countOf w ≤ mostProcesses
   -- and a cause is a number of 8 bits.
-  pub causes : (p k : ℕ) → p < countOf w → k < 16 → isKeptIn w p k ≡ true → word w (causeAt p k) < 256
+  pub causes : (p k : ℕ) → p < countOf w → k < mostProcesses → isKeptIn w p k ≡ true → word w (causeAt p k) < 256
 
 -- What a send and what a loss changes of a run s, taken from the run r after it.
 unfoldable pub afterSend : Run → Run → Run

@@ -4,7 +4,10 @@ use model::Checkpoint;
 use model::CheckpointIndex;
 use model::Disk;
 use model::Interval;
+use model::LAST_INTERVAL;
+use model::MESSAGES;
 use model::Message;
+use model::PROCESSES;
 use model::Pin;
 use model::Run;
 use words::places;
@@ -18,19 +21,20 @@ ghost use Rattle.laws.specs.Loops.{iter};
 ghost use Rattle.laws.specs.Search.{allBelow};
 ghost use Rattle.model.specs.declared.Pin.the-variants.{Nothing};
 ghost use Rattle.model.specs.Sound.{zeroFrom, isNothing, nothingFrom, unusedCheckpoint, unusedMessage};
-ghost use Rattle.words.specs.Layout.{runOf};
+ghost use Rattle.model.specs.Words.{mostProcesses, mostUnderWay, keptPlaces};
+ghost use Rattle.words.specs.Layout.{runOf, stateSize};
 ghost use Rattle.words.specs.Puts.{puts};
 ghost use Rattle.run_words.specs.Fits.{indexFits, pinFits, messageFits, placeFits, keptFits, rowFits, rowsFit, oneFits, messagesFit, fitsWords};
 ghost use Rattle.run_words.specs.Filled.{pinWord, pinsPut, markWord, checkpointPuts, placeFilled, keptFilled, processPuts, rowFilled, rowsFilled, messagePuts, oneFilled, messagesFilled, numberPuts};
 
 // The index that no word is one above.
-const NO_WORD: u16 = 65535;
+const NO_WORD: u16 = LAST_INTERVAL;
 
 // One above the greatest word.
 const WORD: usize = 65536;
 
 // How many places the kept checkpoints of all processes have.
-const PLACES: usize = 256;
+const PLACES: usize = PROCESSES * PROCESSES;
 
 fn is_index_fit(index: CheckpointIndex) -> bool
     ensures { λ r. ⌜ r ≡ indexFits index ⌝ }
@@ -62,12 +66,12 @@ fn word_of_pin(pin: Pin) -> u16
     }
 }
 
-fn put_pins(w: &mut [u16], at: usize, pins: [Pin; 16]) -> bool
-    requires { ⌜ at + 16 ≤ length (now w) ⌝ }
-    ensures { λ r. ⌜ (r ≡ allBelow 16 (λ f. pinFits (getD pins f Nothing))) × (now (w .exit) ≡ puts (now (w .entry)) (pinsPut at pins ∷ [])) ⌝ }
+fn put_pins(w: &mut [u16], at: usize, pins: [Pin; PROCESSES]) -> bool
+    requires { ⌜ at + mostProcesses ≤ length (now w) ⌝ }
+    ensures { λ r. ⌜ (r ≡ allBelow mostProcesses (λ f. pinFits (getD pins f Nothing))) × (now (w .exit) ≡ puts (now (w .entry)) (pinsPut at pins ∷ [])) ⌝ }
 {
     let mut all = true;
-    for f in 0..words::PROCESSES {
+    for f in 0..PROCESSES {
         let pin = pins[f];
         let x = word_of_pin(pin);
         w[at + f] = x;
@@ -78,11 +82,11 @@ fn put_pins(w: &mut [u16], at: usize, pins: [Pin; 16]) -> bool
 }
 
 // What has to be zero is gathered with `|` in one word: a processor then tests several words at a time.
-fn is_zero(vector: [Interval; 16]) -> bool
+fn is_zero(vector: [Interval; PROCESSES]) -> bool
     ensures { λ r. ⌜ r ≡ zeroFrom 0 vector ⌝ }
 {
     let mut any: u16 = 0;
-    for f in 0..words::PROCESSES {
+    for f in 0..PROCESSES {
         let x = vector[f];
         any = any | x.0;
     }
@@ -98,11 +102,11 @@ fn is_nothing(pin: Pin) -> bool
     }
 }
 
-fn are_nothing(pins: [Pin; 16]) -> bool
+fn are_nothing(pins: [Pin; PROCESSES]) -> bool
     ensures { λ r. ⌜ r ≡ nothingFrom 0 pins ⌝ }
 {
     let mut all = true;
-    for f in 0..words::PROCESSES {
+    for f in 0..PROCESSES {
         let pin = pins[f];
         let nothing = is_nothing(pin);
         all = all & nothing;
@@ -120,7 +124,7 @@ fn is_unused(c: Checkpoint) -> bool
 }
 
 fn put_checkpoint(w: &mut [u16], p: usize, k: usize, c: Checkpoint)
-    requires { ⌜ (length (now w) ≡ 6464) × (p < 16) × (k < 16) × (indexFits (c .index) ≡ true) ⌝ }
+    requires { ⌜ (length (now w) ≡ stateSize) × (p < mostProcesses) × (k < mostProcesses) × (indexFits (c .index) ≡ true) ⌝ }
     ensures { λ u. ⌜ now (w .exit) ≡ puts (now (w .entry)) (checkpointPuts p k c) ⌝ }
 {
     let index = c.index;
@@ -136,7 +140,7 @@ fn put_checkpoint(w: &mut [u16], p: usize, k: usize, c: Checkpoint)
 }
 
 fn put_place(w: &mut [u16], p: usize, k: usize, c: Checkpoint, held: usize, blocks: u16) -> bool
-    requires { ⌜ (length (now w) ≡ 6464) × (p < 16) × (k < 16) ⌝ }
+    requires { ⌜ (length (now w) ≡ stateSize) × (p < mostProcesses) × (k < mostProcesses) ⌝ }
     ensures { λ r. ⌜ (r ≡ placeFits k held blocks c) × (now (w .exit) ≡ placeFilled p k held c (now (w .entry))) ⌝ }
 {
     if k < held {
@@ -150,14 +154,18 @@ fn put_place(w: &mut [u16], p: usize, k: usize, c: Checkpoint, held: usize, bloc
     is_unused(c)
 }
 
-fn put_kept(w: &mut [u16], kept: [[Checkpoint; 16]; 16], held: [usize; 16]) -> bool
-    requires { ⌜ length (now w) ≡ 6464 ⌝ }
-    ensures { λ r. ⌜ (r ≡ keptFits kept held) × (now (w .exit) ≡ iter 256 (keptFilled kept held) (now (w .entry))) ⌝ }
+fn put_kept(
+    w: &mut [u16],
+    kept: [[Checkpoint; PROCESSES]; PROCESSES],
+    held: [usize; PROCESSES],
+) -> bool
+    requires { ⌜ length (now w) ≡ stateSize ⌝ }
+    ensures { λ r. ⌜ (r ≡ keptFits kept held) × (now (w .exit) ≡ iter keptPlaces (keptFilled kept held) (now (w .entry))) ⌝ }
 {
     let mut all = true;
     for q in 0..PLACES {
-        let p = q / 16;
-        let k = q % 16;
+        let p = q / PROCESSES;
+        let k = q % PROCESSES;
         let c = kept[p][k];
         let first = kept[p][0];
         w[places::BLOCKS + p] = first.blocks;
@@ -176,13 +184,13 @@ fn mark_word(mark: bool) -> u16
 fn put_process(
     w: &mut [u16],
     p: usize,
-    vector: [Interval; 16],
-    pins: [Pin; 16],
+    vector: [Interval; PROCESSES],
+    pins: [Pin; PROCESSES],
     held: usize,
     mark: bool,
 ) -> bool
-    requires { ⌜ (length (now w) ≡ 6464) × (p < 16) × (held ≤ 16) ⌝ }
-    ensures { λ r. ⌜ (r ≡ allBelow 16 (λ f. pinFits (getD pins f Nothing))) × (now (w .exit) ≡ puts (now (w .entry)) (processPuts p vector pins held mark)) ⌝ }
+    requires { ⌜ (length (now w) ≡ stateSize) × (p < mostProcesses) × (held ≤ mostProcesses) ⌝ }
+    ensures { λ r. ⌜ (r ≡ allBelow mostProcesses (λ f. pinFits (getD pins f Nothing))) × (now (w .exit) ≡ puts (now (w .entry)) (processPuts p vector pins held mark)) ⌝ }
 {
     words::put_vector(w, places::PARTS + places::PART * p, vector);
     let fit = put_pins(w, places::PINS + places::PART * p, pins);
@@ -196,16 +204,16 @@ fn put_row(
     w: &mut [u16],
     p: usize,
     n: usize,
-    vector: [Interval; 16],
-    pins: [Pin; 16],
+    vector: [Interval; PROCESSES],
+    pins: [Pin; PROCESSES],
     held: usize,
     mark: bool,
 ) -> bool
-    requires { ⌜ (length (now w) ≡ 6464) × (p < 16) ⌝ }
+    requires { ⌜ (length (now w) ≡ stateSize) × (p < mostProcesses) ⌝ }
     ensures { λ r. ⌜ (r ≡ rowFits p n vector pins held mark) × (now (w .exit) ≡ rowFilled p n vector pins held mark (now (w .entry))) ⌝ }
 {
     if p < n {
-        if words::PROCESSES < held {
+        if PROCESSES < held {
             return false;
         }
         return put_process(w, p, vector, pins, held, mark);
@@ -218,16 +226,16 @@ fn put_row(
 fn put_rows(
     w: &mut [u16],
     n: usize,
-    vectors: [[Interval; 16]; 16],
-    pins: [[Pin; 16]; 16],
-    held: [usize; 16],
-    sent: [bool; 16],
+    vectors: [[Interval; PROCESSES]; PROCESSES],
+    pins: [[Pin; PROCESSES]; PROCESSES],
+    held: [usize; PROCESSES],
+    sent: [bool; PROCESSES],
 ) -> bool
-    requires { ⌜ length (now w) ≡ 6464 ⌝ }
-    ensures { λ r. ⌜ (r ≡ rowsFit n vectors pins held sent) × (now (w .exit) ≡ iter 16 (rowsFilled n vectors pins held sent) (now (w .entry))) ⌝ }
+    requires { ⌜ length (now w) ≡ stateSize ⌝ }
+    ensures { λ r. ⌜ (r ≡ rowsFit n vectors pins held sent) × (now (w .exit) ≡ iter mostProcesses (rowsFilled n vectors pins held sent) (now (w .entry))) ⌝ }
 {
     let mut all = true;
-    for p in 0..words::PROCESSES {
+    for p in 0..PROCESSES {
         let vector = vectors[p];
         let row = pins[p];
         let mark = sent[p];
@@ -252,7 +260,7 @@ fn is_message_unused(x: Message) -> bool
 }
 
 fn put_message(w: &mut [u16], k: usize, x: Message)
-    requires { ⌜ (length (now w) ≡ 6464) × (k < 64) × (x .sender < 65536) × (x .receiver < 65536) ⌝ }
+    requires { ⌜ (length (now w) ≡ stateSize) × (k < mostUnderWay) × (x .sender < 65536) × (x .receiver < 65536) ⌝ }
     ensures { λ u. ⌜ now (w .exit) ≡ puts (now (w .entry)) (messagePuts k x) ⌝ }
 {
     let number = x.number;
@@ -265,7 +273,7 @@ fn put_message(w: &mut [u16], k: usize, x: Message)
 }
 
 fn put_one(w: &mut [u16], k: usize, x: Message, many: usize) -> bool
-    requires { ⌜ (length (now w) ≡ 6464) × (k < 64) ⌝ }
+    requires { ⌜ (length (now w) ≡ stateSize) × (k < mostUnderWay) ⌝ }
     ensures { λ r. ⌜ (r ≡ oneFits k many x) × (now (w .exit) ≡ oneFilled k many x (now (w .entry))) ⌝ }
 {
     if k < many {
@@ -279,12 +287,12 @@ fn put_one(w: &mut [u16], k: usize, x: Message, many: usize) -> bool
     is_message_unused(x)
 }
 
-fn put_messages(w: &mut [u16], messages: [Message; 64], many: usize) -> bool
-    requires { ⌜ length (now w) ≡ 6464 ⌝ }
-    ensures { λ r. ⌜ (r ≡ messagesFit many messages) × (now (w .exit) ≡ iter 64 (messagesFilled many messages) (now (w .entry))) ⌝ }
+fn put_messages(w: &mut [u16], messages: [Message; MESSAGES], many: usize) -> bool
+    requires { ⌜ length (now w) ≡ stateSize ⌝ }
+    ensures { λ r. ⌜ (r ≡ messagesFit many messages) × (now (w .exit) ≡ iter mostUnderWay (messagesFilled many messages) (now (w .entry))) ⌝ }
 {
     let mut all = true;
-    for k in 0..words::MESSAGES {
+    for k in 0..MESSAGES {
         let x = messages[k];
         let fit = put_one(w, k, x, many);
         all = all & fit;
@@ -293,7 +301,7 @@ fn put_messages(w: &mut [u16], messages: [Message; 64], many: usize) -> bool
 }
 
 fn put_numbers(w: &mut [u16], n: usize, many: usize, last: u32, disk: Disk)
-    requires { ⌜ (length (now w) ≡ 6464) × (n ≤ 16) × (many ≤ 64) ⌝ }
+    requires { ⌜ (length (now w) ≡ stateSize) × (n ≤ mostProcesses) × (many ≤ mostUnderWay) ⌝ }
     ensures { λ u. ⌜ now (w .exit) ≡ puts (now (w .entry)) (numberPuts n many last disk) ⌝ }
 {
     w[places::COUNT] = n as u16;
@@ -305,16 +313,16 @@ fn put_numbers(w: &mut [u16], n: usize, many: usize, last: u32, disk: Disk)
 }
 
 pub fn fill(w: &mut [u16], s: Run) -> bool
-    requires { ⌜ length (now w) ≡ 6464 ⌝ }
+    requires { ⌜ length (now w) ≡ stateSize ⌝ }
     ensures { λ r. ⌜ r ≡ fitsWords s ⌝ }
     ensures { λ r. ⌜ (r ≡ true → runOf (now (w .exit)) ≡ s) ⌝ }
 {
     let n = s.count;
-    if words::PROCESSES < n {
+    if PROCESSES < n {
         return false;
     }
     let many = s.underway;
-    if words::MESSAGES < many {
+    if MESSAGES < many {
         return false;
     }
     let sent = s.sent;

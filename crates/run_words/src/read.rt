@@ -2,7 +2,9 @@
 use model::Checkpoint;
 use model::Disk;
 use model::Interval;
+use model::MESSAGES;
 use model::Message;
+use model::PROCESSES;
 use model::Pin;
 use model::Run;
 use words::places;
@@ -11,17 +13,17 @@ ghost use mathlib.Core.Bool.{false};
 ghost use Prim.Native.Nat.{_+_, _≤_, _<_};
 ghost use lib.ListN.{length};
 ghost use Rattle.laws.specs.Lists.{placed};
-ghost use Rattle.model.specs.Words.{mostUnderWay, zeroVector, noPins, noMessage};
-ghost use Rattle.words.specs.Layout.{word, wide4, countOf, endOf, heldAt, partAt, pinsAt, indexAt, causeAt, vectorIn, pinsIn, markIn, checkpointIn, isKeptIn, messageIn, messagesIn, ofProcesses, runOf};
+ghost use Rattle.model.specs.Words.{mostUnderWay, zeroVector, noPins, noMessage, mostProcesses};
+ghost use Rattle.words.specs.Layout.{word, wide4, countOf, endOf, heldAt, partAt, pinsAt, indexAt, causeAt, vectorIn, pinsIn, markIn, checkpointIn, isKeptIn, messageIn, messagesIn, ofProcesses, runOf, stateSize};
 ghost use Rattle.run_words.specs.Readable.{Readable, afterSend, afterLose};
 
-fn pins_at(w: &[u16], at: usize) -> [Pin; 16]
-    requires { ⌜ at + 16 ≤ length (now w) ⌝ }
+fn pins_at(w: &[u16], at: usize) -> [Pin; PROCESSES]
+    requires { ⌜ at + mostProcesses ≤ length (now w) ⌝ }
     ensures { λ r. ⌜ r ≡ pinsIn (now (w .entry)) at ⌝ }
 {
     let none = Pin::Nothing;
-    let mut pins = [none; 16];
-    for f in 0..words::PROCESSES {
+    let mut pins = [none; PROCESSES];
+    for f in 0..PROCESSES {
         let pin = words::pin_of(w[at + f]);
         pins[f] = pin;
     }
@@ -43,7 +45,7 @@ fn cause_of(x: u16) -> u8
 }
 
 fn checkpoint_at(w: &[u16], p: usize, k: usize) -> Checkpoint
-    requires { ⌜ (length (now w) ≡ 6464) × (p < 16) × (k < 16) × (1 ≤ word (now w) (indexAt p k)) × (word (now w) (causeAt p k) < 256) ⌝ }
+    requires { ⌜ (length (now w) ≡ stateSize) × (p < mostProcesses) × (k < mostProcesses) × (1 ≤ word (now w) (indexAt p k)) × (word (now w) (causeAt p k) < 256) ⌝ }
     ensures { λ r. ⌜ r ≡ checkpointIn (now (w .entry)) p k ⌝ }
 {
     let index = words::index_of(w[places::INDEXES + places::PART * p + k]);
@@ -58,7 +60,7 @@ fn checkpoint_at(w: &[u16], p: usize, k: usize) -> Checkpoint
 }
 
 fn is_kept(w: &[u16], p: usize, k: usize) -> bool
-    requires { ⌜ (length (now w) ≡ 6464) × (p < 16) × (k < 16) ⌝ }
+    requires { ⌜ (length (now w) ≡ stateSize) × (p < mostProcesses) × (k < mostProcesses) ⌝ }
     ensures { λ r. ⌜ r ≡ isKeptIn (now (w .entry)) p k ⌝ }
 {
     let held = number_of(w[places::HELD + p]);
@@ -66,7 +68,7 @@ fn is_kept(w: &[u16], p: usize, k: usize) -> bool
 }
 
 fn message_at(w: &[u16], k: usize) -> Message
-    requires { ⌜ (length (now w) ≡ 6464) × (k < 64) ⌝ }
+    requires { ⌜ (length (now w) ≡ stateSize) × (k < mostUnderWay) ⌝ }
     ensures { λ r. ⌜ r ≡ messageIn (now (w .entry)) k ⌝ }
 {
     let number = message_words::number_at(w, k);
@@ -93,12 +95,12 @@ fn no_message() -> Message
     }
 }
 
-fn messages_of(w: &[u16], end: usize) -> [Message; 64]
-    requires { ⌜ (length (now w) ≡ 6464) × (end ≡ endOf (now w)) × (end ≤ 64) ⌝ }
+fn messages_of(w: &[u16], end: usize) -> [Message; MESSAGES]
+    requires { ⌜ (length (now w) ≡ stateSize) × (end ≡ endOf (now w)) × (end ≤ mostUnderWay) ⌝ }
     ensures { λ r. ⌜ r ≡ placed mostUnderWay noMessage (messagesIn (now (w .entry))) ⌝ }
 {
     let none = no_message();
-    let mut messages = [none; 64];
+    let mut messages = [none; MESSAGES];
     let mut many = 0;
     for k in 0..end {
         let x = message_at(w, k);
@@ -110,12 +112,12 @@ fn messages_of(w: &[u16], end: usize) -> [Message; 64]
     messages
 }
 
-fn vectors_of(w: &[u16], n: usize) -> [[Interval; 16]; 16]
-    requires { ⌜ (length (now w) ≡ 6464) × (n ≡ countOf (now w)) × (n ≤ 16) ⌝ }
+fn vectors_of(w: &[u16], n: usize) -> [[Interval; PROCESSES]; PROCESSES]
+    requires { ⌜ (length (now w) ≡ stateSize) × (n ≡ countOf (now w)) × (n ≤ mostProcesses) ⌝ }
     ensures { λ r. ⌜ r ≡ ofProcesses (now (w .entry)) (λ p. vectorIn (now (w .entry)) (partAt p)) zeroVector ⌝ }
 {
     let zeros = rows::start::zero_vector();
-    let mut vectors = [zeros; 16];
+    let mut vectors = [zeros; PROCESSES];
     for p in 0..n {
         let vector = words::vector_at(w, places::PARTS + places::PART * p);
         vectors[p] = vector;
@@ -123,12 +125,12 @@ fn vectors_of(w: &[u16], n: usize) -> [[Interval; 16]; 16]
     vectors
 }
 
-fn pins_of(w: &[u16], n: usize) -> [[Pin; 16]; 16]
-    requires { ⌜ (length (now w) ≡ 6464) × (n ≡ countOf (now w)) × (n ≤ 16) ⌝ }
+fn pins_of(w: &[u16], n: usize) -> [[Pin; PROCESSES]; PROCESSES]
+    requires { ⌜ (length (now w) ≡ stateSize) × (n ≡ countOf (now w)) × (n ≤ mostProcesses) ⌝ }
     ensures { λ r. ⌜ r ≡ ofProcesses (now (w .entry)) (λ p. pinsIn (now (w .entry)) (pinsAt p)) noPins ⌝ }
 {
     let none = rows::start::no_pins();
-    let mut pins = [none; 16];
+    let mut pins = [none; PROCESSES];
     for p in 0..n {
         let row = pins_at(w, places::PINS + places::PART * p);
         pins[p] = row;
@@ -136,11 +138,11 @@ fn pins_of(w: &[u16], n: usize) -> [[Pin; 16]; 16]
     pins
 }
 
-fn held_of(w: &[u16], n: usize) -> [usize; 16]
-    requires { ⌜ (length (now w) ≡ 6464) × (n ≡ countOf (now w)) × (n ≤ 16) ⌝ }
+fn held_of(w: &[u16], n: usize) -> [usize; PROCESSES]
+    requires { ⌜ (length (now w) ≡ stateSize) × (n ≡ countOf (now w)) × (n ≤ mostProcesses) ⌝ }
     ensures { λ r. ⌜ r ≡ ofProcesses (now (w .entry)) (λ p. word (now (w .entry)) (heldAt p)) 0 ⌝ }
 {
-    let mut held = [0usize; 16];
+    let mut held = [0usize; PROCESSES];
     for p in 0..n {
         let many = number_of(w[places::HELD + p]);
         held[p] = many;
@@ -148,11 +150,11 @@ fn held_of(w: &[u16], n: usize) -> [usize; 16]
     held
 }
 
-fn marks_of(w: &[u16], n: usize) -> [bool; 16]
-    requires { ⌜ (length (now w) ≡ 6464) × (n ≡ countOf (now w)) × (n ≤ 16) ⌝ }
+fn marks_of(w: &[u16], n: usize) -> [bool; PROCESSES]
+    requires { ⌜ (length (now w) ≡ stateSize) × (n ≡ countOf (now w)) × (n ≤ mostProcesses) ⌝ }
     ensures { λ r. ⌜ r ≡ ofProcesses (now (w .entry)) (markIn (now (w .entry))) false ⌝ }
 {
-    let mut sent = [false; 16];
+    let mut sent = [false; PROCESSES];
     for p in 0..n {
         sent[p] = w[places::MARKS + p] != 0;
     }
@@ -160,7 +162,7 @@ fn marks_of(w: &[u16], n: usize) -> [bool; 16]
 }
 
 fn disk_of(w: &[u16]) -> Disk
-    requires { ⌜ length (now w) ≡ 6464 ⌝ }
+    requires { ⌜ length (now w) ≡ stateSize ⌝ }
     ensures { λ r. ⌜ r ≡ record { written = wide4 (now (w .entry)) 4; deleted = wide4 (now (w .entry)) 8 } ⌝ }
 {
     let written = words::wide4(w, places::WRITTEN);
@@ -185,12 +187,12 @@ pub fn read(w: &[u16]) -> Run
     let last = words::wide2(w, places::LAST);
     let underway = number_of(w[places::UNDER_WAY]);
     let none = rows::start::no_checkpoint();
-    let mut row = [none; 16];
-    row[end % 16] = none;
-    let mut table = [row; 16];
-    for q in 0..16 * n {
-        let p = q / 16;
-        let k = q % 16;
+    let mut row = [none; PROCESSES];
+    row[end % PROCESSES] = none;
+    let mut table = [row; PROCESSES];
+    for q in 0..PROCESSES * n {
+        let p = q / PROCESSES;
+        let k = q % PROCESSES;
         let used = is_kept(w, p, k);
         if used {
             let c = checkpoint_at(w, p, k);

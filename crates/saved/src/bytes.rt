@@ -5,14 +5,15 @@ ghost use mathlib.Core.List.{[], _∷_};
 ghost use Prim.Native.Nat.{_+_, _*_, _≤_, _<_};
 ghost use lib.ListN.{length};
 ghost use lib.Seq.{sets};
-ghost use Rattle.saved.specs.Format.{heading, wordBytes, sumBytes, savedBytes, wordIn, wordsIn, sumIn, hasHeading, hasSum, isWhole};
+ghost use Rattle.words.specs.Layout.{stateSize};
+ghost use Rattle.saved.specs.Format.{heading, wordBytes, sumBytes, savedBytes, wordIn, wordsIn, sumIn, hasHeading, hasSum, isWhole, savedSize, summedSize};
 
 // How many bytes the heading has, how many the checksum is of, and how many there are.
 const HEADING: usize = 10;
 
-const SUMMED: usize = 12938;
+const SUMMED: usize = HEADING + 2 * WORDS;
 
-pub const SAVED: usize = 12942;
+pub const SAVED: usize = SUMMED + 4;
 
 // What a byte more is worth.
 const BYTE: u16 = 256;
@@ -30,7 +31,7 @@ fn wider(byte: u8) -> u32
 }
 
 // "LEMIDROS" and the version, 1.
-fn heading_bytes() -> [u8; 10]
+fn heading_bytes() -> [u8; HEADING]
     ensures { λ r. ⌜ r ≡ heading ⌝ }
 {
     [76, 69, 77, 73, 68, 82, 79, 83, 1, 0]
@@ -56,7 +57,7 @@ fn write_word(bytes: &mut [u8], at: usize, x: u16)
 }
 
 fn write_words(w: &[u16], bytes: &mut [u8])
-    requires { ⌜ (length (now w) ≡ 6464) × (12942 ≤ length (now bytes)) ⌝ }
+    requires { ⌜ (length (now w) ≡ stateSize) × (savedSize ≤ length (now bytes)) ⌝ }
     ensures { λ u. ⌜ now (bytes .exit) ≡ sets (now (bytes .entry)) 10 (wordBytes (now (w .entry))) ⌝ }
 {
     for k in 0..WORDS {
@@ -66,8 +67,8 @@ fn write_words(w: &[u16], bytes: &mut [u8])
 }
 
 fn write_sum(bytes: &mut [u8], sum: u32)
-    requires { ⌜ 12942 ≤ length (now bytes) ⌝ }
-    ensures { λ u. ⌜ now (bytes .exit) ≡ sets (now (bytes .entry)) 12938 (sumBytes sum) ⌝ }
+    requires { ⌜ savedSize ≤ length (now bytes) ⌝ }
+    ensures { λ u. ⌜ now (bytes .exit) ≡ sets (now (bytes .entry)) summedSize (sumBytes sum) ⌝ }
 {
     let second = sum / 256;
     let third = second / 256;
@@ -79,7 +80,7 @@ fn write_sum(bytes: &mut [u8], sum: u32)
 
 // The words go to the front of the lent bytes as they are saved.
 pub fn write_saved(w: &[u16], bytes: &mut [u8])
-    requires { ⌜ (length (now w) ≡ 6464) × (12942 ≤ length (now bytes)) ⌝ }
+    requires { ⌜ (length (now w) ≡ stateSize) × (savedSize ≤ length (now bytes)) ⌝ }
     ensures { λ u. ⌜ now (bytes .exit) ≡ sets (now (bytes .entry)) 0 (savedBytes (now (w .entry))) ⌝ }
 {
     write_heading(bytes);
@@ -89,7 +90,7 @@ pub fn write_saved(w: &[u16], bytes: &mut [u8])
 }
 
 fn has_heading(bytes: &[u8]) -> bool
-    requires { ⌜ 12942 ≤ length (now bytes) ⌝ }
+    requires { ⌜ savedSize ≤ length (now bytes) ⌝ }
     ensures { λ r. ⌜ r ≡ hasHeading (now (bytes .entry)) ⌝ }
 {
     let first = heading_bytes();
@@ -102,7 +103,7 @@ fn has_heading(bytes: &[u8]) -> bool
 }
 
 fn sum_in(bytes: &[u8]) -> u32
-    requires { ⌜ 12942 ≤ length (now bytes) ⌝ }
+    requires { ⌜ savedSize ≤ length (now bytes) ⌝ }
     ensures { λ r. ⌜ r ≡ sumIn (now (bytes .entry)) ⌝ }
 {
     let low = wider(bytes[SUMMED]) + 256 * wider(bytes[SUMMED + 1]);
@@ -134,11 +135,11 @@ fn word_in(bytes: &[u8], k: usize) -> u16
 }
 
 // The words that the bytes hold.
-pub fn words_in(bytes: &[u8]) -> [u16; 6464]
-    requires { ⌜ length (now bytes) ≡ 12942 ⌝ }
+pub fn words_in(bytes: &[u8]) -> [u16; WORDS]
+    requires { ⌜ length (now bytes) ≡ savedSize ⌝ }
     ensures { λ r. ⌜ r ≡ wordsIn (now (bytes .entry)) ⌝ }
 {
-    let mut w = [0u16; 6464];
+    let mut w = [0u16; WORDS];
     for k in 0..WORDS {
         let x = word_in(bytes, k);
         w[k] = x;

@@ -3,6 +3,7 @@ use model::Refusal;
 use readers::copy_words;
 use readers::counted;
 use readers::refused;
+use words::WORDS;
 ghost use mathlib.Core.Path.{_≡_};
 ghost use Rattle.answers.specs.Codes.{coded};
 ghost use Rattle.saved.specs.Saving.{saving, loading};
@@ -33,7 +34,7 @@ pub fn load(bytes: &[u8], w: &mut [u16]) -> u64
     ensures { λ r. ⌜ r ≡ coded (loading (now (bytes .entry)) (now (w .entry)) .report) 0 ⌝ }
     ensures { λ r. ⌜ now (w .exit) ≡ loading (now (bytes .entry)) (now (w .entry)) .list ⌝ }
 {
-    if w.len() != words::WORDS {
+    if w.len() != WORDS {
         return refused(Refusal::UnsoundState);
     }
     let whole = crate::bytes::is_whole(bytes);
@@ -45,6 +46,6 @@ pub fn load(bytes: &[u8], w: &mut [u16]) -> u64
     if !sound {
         return refused(Refusal::UnsoundState);
     }
-    copy_words(&held, 0, words::WORDS, w);
+    copy_words(&held, 0, WORDS, w);
     0
 }

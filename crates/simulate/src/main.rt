@@ -27,7 +27,7 @@ fn drive(memory: &mut [u64], input: &mut [u8], out: &mut [u8]) -> Request
 
 fn main() {
     let mut memory = [0u64; 8];
-    let mut input = [0u8; 65536];
-    let mut out = [0u8; 260];
+    let mut input = [0u8; simulate_machine::LONGEST_WORD];
+    let mut out = [0u8; simulate_machine::LONGEST_TEXT];
     drive(&mut memory, &mut input, &mut out);
 }

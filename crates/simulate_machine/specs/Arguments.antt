@@ -7,8 +7,9 @@ use lib.Dec.{eqb, ltb}
 use lib.ListN.{length, getD, take, drop}
 use Rattle.laws.specs.Choice.{pick}
 use Rattle.laws.specs.Loops.{iter}
+use Rattle.model.specs.Words.{mostProcesses}
 use Rattle.programs.specs.Numbers.{noNumber, numberIn}
-use Rattle.spacing.specs.Spacing.{outOfRange}
+use Rattle.spacing.specs.Spacing.{outOfRange, mostSpacing, mostSteps}
 use Rattle.simulate_machine.specs.declared.words.Spacings.{Spacings}
 use Rattle.simulate_machine.specs.declared.words.Numbers.{Numbers}
 
@@ -33,7 +34,7 @@ isWrong n s steps seed = eqb n noNumber || eqb (s .from) noNumber || eqb (s .to)
 
 -- A table is refused: n, a spacing or the steps are out of range, or the first spacing is above the last.
 unfoldable pub isRefused : ℕ → ℕ → ℕ → ℕ → Bool
-isRefused n from to steps = outOfRange 1 16 n || outOfRange 1 1000 from || outOfRange 1 1000 to || outOfRange 1 30000 steps || ltb to from
+isRefused n from to steps = outOfRange 1 mostProcesses n || outOfRange 1 mostSpacing from || outOfRange 1 mostSpacing to || outOfRange 1 mostSteps steps || ltb to from
 
 -- The numbers of the words, before any word is known and with one word more: word 1 is n, word 2 the spacings, word 3 the steps, word 4 the starting value.
 abbrev pub noNumbers : Numbers

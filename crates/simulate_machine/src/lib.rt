@@ -21,6 +21,7 @@ ghost use mathlib.Core.List.{List};
 ghost use Prim.Native.Nat.{ℕ, _≤_};
 ghost use lib.ListN.{length, getD, take};
 ghost use Rattle.laws.specs.Choice.{pick};
+ghost use Rattle.spacing.specs.Spacing.{mostSpacing};
 ghost use Rattle.machines.specs.Machines.{brought, stepped};
 ghost use Rattle.machines.specs.Forms.{answerOf, takenOf, Between};
 ghost use Rattle.simulate_machine.specs.Text.{longestText, trialOf};
@@ -40,6 +41,13 @@ const FAILING: u64 = 8;
 
 const STOPPED: u64 = 9;
 
+// How many bytes a caller lends: for the longest word that is looked at (longestWord in specs/Simulating), and for the longest text (longestText in specs/Text).
+pub const LONGEST_WORD: usize = 65536;
+
+pub const LONGEST_TEXT: usize = 260;
+
+const LAST_SPACING: u64 = spacing::MOST_SPACING as u64;
+
 // Whether one of the lent lists is too short for every run.
 pub fn lacks_room(memory: usize, input: usize, out: usize) -> bool
     ensures { λ r. ⌜ r ≡ lacksRoom memory input out ⌝ }
@@ -47,10 +55,10 @@ pub fn lacks_room(memory: usize, input: usize, out: usize) -> bool
     if memory < 8 {
         return true;
     }
-    if input < 65536 {
+    if input < LONGEST_WORD {
         return true;
     }
-    out < 260
+    out < LONGEST_TEXT
 }
 
 fn flag(b: bool) -> u64
@@ -107,7 +115,7 @@ fn ask_word(memory: &mut [u64], input: &[u8], out: &[u8], i: usize, k: Numbers) 
     ensures { λ r. ⌜ StandsFor (now (memory .exit)) (now (input .entry)) (now (out .entry)) r (Asking i k) ⌝ }
 {
     put(memory, i as u64, 0, k);
-    Request::Argument(i, 0, 65536)
+    Request::Argument(i, 0, LONGEST_WORD)
 }
 
 // The front of the buffer is the last text.
@@ -121,7 +129,7 @@ fn tell(memory: &mut [u64], input: &[u8], out: &[u8], size: usize) -> Request
 
 // The front of the buffer is a line of a table; these rows follow.
 fn tabulate(memory: &mut [u64], input: &[u8], out: &[u8], size: usize, k: Numbers) -> Request
-    requires { ⌜ Roomy (length (now memory)) (length (now input)) (length (now out)) × (size ≤ longestText) × (k .spacings .to ≤ 1000) ⌝ }
+    requires { ⌜ Roomy (length (now memory)) (length (now input)) (length (now out)) × (size ≤ longestText) × (k .spacings .to ≤ mostSpacing) ⌝ }
     ensures { λ r. ⌜ StandsFor (now (memory .exit)) (now (input .entry)) (now (out .entry)) r (Tabling (take size (now (out .entry))) k) ⌝ }
 {
     put(memory, TABLING, size, k);
@@ -208,7 +216,7 @@ fn decide(memory: &mut [u64], input: &[u8], out: &mut [u8], k: Numbers) -> Reque
 
 // The row of the spacing that is next, unless it is past the last.
 fn next_row(memory: &mut [u64], input: &[u8], out: &mut [u8], k: Numbers) -> Request
-    requires { ⌜ Roomy (length (now memory)) (length (now input)) (length (now out)) × (k .spacings .to ≤ 1000) ⌝ }
+    requires { ⌜ Roomy (length (now memory)) (length (now input)) (length (now out)) × (k .spacings .to ≤ mostSpacing) ⌝ }
     ensures { λ r. ⌜ StandsFor (now (memory .exit)) (now (input .entry)) (now (out .exit)) r (nextRow k) ⌝ }
 {
     let spacings = k.spacings;
@@ -263,7 +271,7 @@ fn after_word(
     requires { ⌜ Roomy (length (now memory)) (length (now input)) (length (now out)) × (1 ≤ i) × (i ≤ 4) ⌝ }
     ensures { λ r. ⌜ StandsFor (now (memory .exit)) (now (input .entry)) (now (out .exit)) r (stepped simulating (Asking i k) (answerOf answer 0 (now (input .entry)))) ⌝ }
 {
-    let size = size_of(heard::word(answer, 65536));
+    let size = size_of(heard::word(answer, LONGEST_WORD));
     let numbers = words::with_word(i, k, &input[..size]);
     if i < 4 {
         return ask_word(memory, input, out, i + 1, numbers);
@@ -290,7 +298,7 @@ fn after_line(
     k: Numbers,
     answer: Answer,
 ) -> Request
-    requires { ⌜ Roomy (length (now memory)) (length (now input)) (length (now out)) × (k .spacings .to ≤ 1000) ⌝ }
+    requires { ⌜ Roomy (length (now memory)) (length (now input)) (length (now out)) × (k .spacings .to ≤ mostSpacing) ⌝ }
     ensures { λ r. ⌜ ((text : List ℕ) → StandsFor (now (memory .exit)) (now (input .entry)) (now (out .exit)) r (stepped simulating (Tabling text k) (answerOf answer 0 (now (input .entry))))) ⌝ }
 {
     if heard::is_done(answer) {
@@ -306,7 +314,7 @@ fn go_on(memory: &mut [u64], input: &[u8], out: &mut [u8], answer: Answer) -> Re
 {
     let k = kept(memory);
     let spacings = k.spacings;
-    if 1000 < spacings.to {
+    if LAST_SPACING < spacings.to {
         return stop(memory);
     }
     after_line(memory, input, out, k, answer)

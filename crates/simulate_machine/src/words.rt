@@ -1,5 +1,10 @@
 // The words that the program is started with: numbers (`programs::numbers`), and a spacing or two with a hyphen between.
+use model::PROCESSES;
+use programs::numbers::GREATEST;
+use programs::numbers::NO_NUMBER;
 use programs::numbers::number_in;
+use spacing::MOST_SPACING;
+use spacing::MOST_STEPS;
 ghost use mathlib.Core.Path.{_≡_};
 ghost use Prim.Native.Nat.{_≤_};
 ghost use lib.ListN.{length};
@@ -74,21 +79,21 @@ pub fn spacings_in(word: &[u8]) -> Spacings
 pub fn is_wrong(n: u64, spacings: Spacings, steps: u64, seed: u64) -> bool
     ensures { λ r. ⌜ r ≡ isWrong n spacings steps seed ⌝ }
 {
-    (n == 4294967297)
-        | (spacings.from == 4294967297)
-        | (spacings.to == 4294967297)
-        | (steps == 4294967297)
-        | (4294967295 < seed)
+    (n == NO_NUMBER)
+        | (spacings.from == NO_NUMBER)
+        | (spacings.to == NO_NUMBER)
+        | (steps == NO_NUMBER)
+        | (GREATEST < seed)
 }
 
 // Whether a table is refused.
 pub fn is_refused(n: u64, from: u64, to: u64, steps: u64) -> bool
     ensures { λ r. ⌜ r ≡ isRefused n from to steps ⌝ }
 {
-    let count = spacing::figures::is_outside(1, 16, n as usize);
-    let first = spacing::figures::is_outside(1, 1000, from as usize);
-    let last = spacing::figures::is_outside(1, 1000, to as usize);
-    let length = spacing::figures::is_outside(1, 30000, steps as usize);
+    let count = spacing::figures::is_outside(1, PROCESSES, n as usize);
+    let first = spacing::figures::is_outside(1, MOST_SPACING, from as usize);
+    let last = spacing::figures::is_outside(1, MOST_SPACING, to as usize);
+    let length = spacing::figures::is_outside(1, MOST_STEPS, steps as usize);
     count | first | last | length | (to < from)
 }
 

@@ -1,6 +1,7 @@
 // Tests of rows of 16 words, as a sound state asks for them. What has to be zero is gathered with `|` in one word, and there is no exit within a row: a
 // processor then tests several words at a time.
 use model::Interval;
+use model::PROCESSES;
 ghost use mathlib.Core.Path.{_≡_};
 ghost use Prim.Native.Nat.{_-_};
 ghost use mathlib.Core.Bool.{_&&_};
@@ -10,7 +11,7 @@ ghost use lib.ListN.{getD};
 ghost use Rattle.laws.specs.Choice.{pick};
 ghost use Rattle.laws.specs.Lists.{table};
 ghost use Rattle.laws.specs.Search.{allBelow, anyBelow};
-ghost use Rattle.model.specs.Words.{entry};
+ghost use Rattle.model.specs.Words.{entry, mostProcesses};
 
 // A word with all its bits set.
 const ONES: u16 = 65535;
@@ -23,11 +24,11 @@ fn excess(x: u16, limit: u16) -> u16
 }
 
 // No entry of a vector is above its limit.
-pub fn is_within(vector: [Interval; 16], limits: [Interval; 16]) -> bool
-    ensures { λ r. ⌜ r ≡ allBelow 16 (λ f. leb (entry vector f .0) (entry limits f .0)) ⌝ }
+pub fn is_within(vector: [Interval; PROCESSES], limits: [Interval; PROCESSES]) -> bool
+    ensures { λ r. ⌜ r ≡ allBelow mostProcesses (λ f. leb (entry vector f .0) (entry limits f .0)) ⌝ }
 {
     let mut over: u16 = 0;
-    for f in 0..words::PROCESSES {
+    for f in 0..PROCESSES {
         let x = vector[f];
         let limit = limits[f];
         let more = excess(x.0, limit.0);
@@ -37,11 +38,15 @@ pub fn is_within(vector: [Interval; 16], limits: [Interval; 16]) -> bool
 }
 
 // What is over the limits, with one vector more: a word stays 0 where the entry is within its limit.
-pub fn over_by(over: [u16; 16], vector: [Interval; 16], limits: [Interval; 16]) -> [u16; 16]
-    ensures { λ r. ⌜ r ≡ table 16 (λ f. bitOr (getD over f 0) (entry vector f .0 - entry limits f .0)) ⌝ }
+pub fn over_by(
+    over: [u16; PROCESSES],
+    vector: [Interval; PROCESSES],
+    limits: [Interval; PROCESSES],
+) -> [u16; PROCESSES]
+    ensures { λ r. ⌜ r ≡ table mostProcesses (λ f. bitOr (getD over f 0) (entry vector f .0 - entry limits f .0)) ⌝ }
 {
     let mut then = over;
-    for f in 0..words::PROCESSES {
+    for f in 0..PROCESSES {
         let x = vector[f];
         let limit = limits[f];
         let more = excess(x.0, limit.0);
@@ -51,11 +56,11 @@ pub fn over_by(over: [u16; 16], vector: [Interval; 16], limits: [Interval; 16]) 
 }
 
 // By how much each word of a row is above its limit.
-pub fn row_over(row: [u16; 16], limits: [u16; 16]) -> [u16; 16]
-    ensures { λ r. ⌜ r ≡ table 16 (λ f. getD row f 0 - getD limits f 0) ⌝ }
+pub fn row_over(row: [u16; PROCESSES], limits: [u16; PROCESSES]) -> [u16; PROCESSES]
+    ensures { λ r. ⌜ r ≡ table mostProcesses (λ f. getD row f 0 - getD limits f 0) ⌝ }
 {
     let mut over = row;
-    for f in 0..words::PROCESSES {
+    for f in 0..PROCESSES {
         let more = excess(row[f], limits[f]);
         over[f] = more;
     }
@@ -69,11 +74,11 @@ fn ones_unless_zero(x: u16) -> u16
 }
 
 // The limits of a row that has to be 0 wherever a vector is.
-pub fn limits_where(vector: [Interval; 16]) -> [u16; 16]
-    ensures { λ r. ⌜ r ≡ table 16 (λ f. pick (eqb (entry vector f .0) 0) 0 65535) ⌝ }
+pub fn limits_where(vector: [Interval; PROCESSES]) -> [u16; PROCESSES]
+    ensures { λ r. ⌜ r ≡ table mostProcesses (λ f. pick (eqb (entry vector f .0) 0) 0 65535) ⌝ }
 {
-    let mut limits = [0u16; 16];
-    for f in 0..words::PROCESSES {
+    let mut limits = [0u16; PROCESSES];
+    for f in 0..PROCESSES {
         let x = vector[f];
         let limit = ones_unless_zero(x.0);
         limits[f] = limit;
@@ -88,11 +93,11 @@ fn ones_if_same(a: u16, b: u16) -> u16
 }
 
 // Some word of a row is x.
-pub fn is_among(row: [u16; 16], x: u16) -> bool
-    ensures { λ r. ⌜ r ≡ anyBelow 16 (λ f. eqb (getD row f 0) x) ⌝ }
+pub fn is_among(row: [u16; PROCESSES], x: u16) -> bool
+    ensures { λ r. ⌜ r ≡ anyBelow mostProcesses (λ f. eqb (getD row f 0) x) ⌝ }
 {
     let mut any: u16 = 0;
-    for f in 0..words::PROCESSES {
+    for f in 0..PROCESSES {
         let here = ones_if_same(row[f], x);
         any = any | here;
     }
@@ -106,11 +111,11 @@ fn unless_same(kept: u16, a: u16, b: u16) -> u16
 }
 
 // What is left of a row where another row is x: 0 there.
-pub fn without(left: [u16; 16], row: [u16; 16], x: u16) -> [u16; 16]
-    ensures { λ r. ⌜ r ≡ table 16 (λ f. pick (eqb (getD row f 0) x) 0 (getD left f 0)) ⌝ }
+pub fn without(left: [u16; PROCESSES], row: [u16; PROCESSES], x: u16) -> [u16; PROCESSES]
+    ensures { λ r. ⌜ r ≡ table mostProcesses (λ f. pick (eqb (getD row f 0) x) 0 (getD left f 0)) ⌝ }
 {
     let mut then = left;
-    for f in 0..words::PROCESSES {
+    for f in 0..PROCESSES {
         let here = unless_same(left[f], row[f], x);
         then[f] = here;
     }
@@ -118,22 +123,22 @@ pub fn without(left: [u16; 16], row: [u16; 16], x: u16) -> [u16; 16]
 }
 
 // Every word of a row is 0.
-pub fn is_zero(row: [u16; 16]) -> bool
-    ensures { λ r. ⌜ r ≡ allBelow 16 (λ f. eqb (getD row f 0) 0) ⌝ }
+pub fn is_zero(row: [u16; PROCESSES]) -> bool
+    ensures { λ r. ⌜ r ≡ allBelow mostProcesses (λ f. eqb (getD row f 0) 0) ⌝ }
 {
     let mut any: u16 = 0;
-    for f in 0..words::PROCESSES {
+    for f in 0..PROCESSES {
         any = any | row[f];
     }
     any == 0
 }
 
 // Every word of two rows is 0.
-pub fn are_zero(a: [u16; 16], b: [u16; 16]) -> bool
-    ensures { λ r. ⌜ r ≡ allBelow 16 (λ f. eqb (getD a f 0) 0 && eqb (getD b f 0) 0) ⌝ }
+pub fn are_zero(a: [u16; PROCESSES], b: [u16; PROCESSES]) -> bool
+    ensures { λ r. ⌜ r ≡ allBelow mostProcesses (λ f. eqb (getD a f 0) 0 && eqb (getD b f 0) 0) ⌝ }
 {
     let mut any: u16 = 0;
-    for f in 0..words::PROCESSES {
+    for f in 0..PROCESSES {
         any = any | (a[f] | b[f]);
     }
     any == 0

@@ -1,6 +1,9 @@
 // Whether the words that a caller lends stand for a sound state (document 01, "A sound state", with Note 5's clauses). What stands in a place that is not in use counts
 // for nothing and is not looked at. A row of 16 words is tested with no exit on the way (`sound_rows`); a row that fails ends the test.
 use model::Interval;
+use model::MOST_BLOCKS;
+use model::PROCESSES;
+use words::WORDS;
 use words::places;
 ghost use mathlib.Core.Path.{_≡_};
 ghost use mathlib.Core.Bool.{_&&_};
@@ -9,7 +12,8 @@ ghost use lib.Dec.{eqb, leb};
 ghost use lib.ListN.{length};
 ghost use Rattle.laws.specs.Search.{allBelow};
 ghost use Rattle.model.specs.Sound.{sound};
-ghost use Rattle.words.specs.Layout.{word, wide4, countOf, heldAt, blocksAt, runOf};
+ghost use Rattle.model.specs.Words.{mostProcesses, mostBlocks};
+ghost use Rattle.words.specs.Layout.{word, wide4, countOf, heldAt, blocksAt, runOf, stateSize};
 ghost use Rattle.sound_words.specs.Test.{limitsIn, Judged, countsFit, partFits, diskFits};
 
 // process.rt: one process, its vector, its pins and what it keeps
@@ -18,15 +22,12 @@ mod process;
 // under_way.rt: the messages under way
 mod under_way;
 
-// What the blocks written may be at most.
-const MOST_BLOCKS: u64 = 1000000000000000;
-
 // The own entries of the n processes, zero at n and above.
-fn own_entries(w: &[u16], n: usize) -> [Interval; 16]
-    requires { ⌜ (length (now w) ≡ 6464) × (n ≡ countOf (now w)) × (n ≤ 16) ⌝ }
+fn own_entries(w: &[u16], n: usize) -> [Interval; PROCESSES]
+    requires { ⌜ (length (now w) ≡ stateSize) × (n ≡ countOf (now w)) × (n ≤ mostProcesses) ⌝ }
     ensures { λ r. ⌜ r ≡ limitsIn (now (w .entry)) ⌝ }
 {
-    let mut owns = [Interval(0); 16];
+    let mut owns = [Interval(0); PROCESSES];
     for f in 0..n {
         let at = places::part_at(f) + f;
         let own = words::interval_of(w[at]);
@@ -37,8 +38,8 @@ fn own_entries(w: &[u16], n: usize) -> [Interval; 16]
 
 // Written is the blocks of all kept checkpoints plus blocks deleted, and is within the bound of 16. No sum of two free numbers is made: it might wrap around.
 fn is_balanced(w: &[u16], kept: u64) -> bool
-    requires { ⌜ length (now w) ≡ 6464 ⌝ }
-    ensures { λ r. ⌜ r ≡ (eqb (wide4 (now (w .entry)) 4) (kept + wide4 (now (w .entry)) 8) && leb (wide4 (now (w .entry)) 4) 1000000000000000) ⌝ }
+    requires { ⌜ length (now w) ≡ stateSize ⌝ }
+    ensures { λ r. ⌜ r ≡ (eqb (wide4 (now (w .entry)) 4) (kept + wide4 (now (w .entry)) 8) && leb (wide4 (now (w .entry)) 4) mostBlocks) ⌝ }
 {
     let written = words::wide4(w, places::WRITTEN);
     let deleted = words::wide4(w, places::DELETED);
@@ -59,7 +60,7 @@ fn wide(x: u16) -> u64
 
 // The blocks of what process p keeps, each of its block count.
 fn blocks_kept(w: &[u16], p: usize) -> u64
-    requires { ⌜ (length (now w) ≡ 6464) × (p < 16) × (word (now w) (heldAt p) ≤ 16) ⌝ }
+    requires { ⌜ (length (now w) ≡ stateSize) × (p < mostProcesses) × (word (now w) (heldAt p) ≤ mostProcesses) ⌝ }
     ensures { λ r. ⌜ (r ≡ word (now (w .entry)) (heldAt p) * word (now (w .entry)) (blocksAt p)) × (r ≤ 1048560) ⌝ }
 {
     let held_at = places::held_at(p);
@@ -70,7 +71,7 @@ fn blocks_kept(w: &[u16], p: usize) -> u64
 }
 
 // Each of the n processes is sound, and so is the sum of their blocks.
-fn are_processes_sound(w: &[u16], n: usize, owns: [Interval; 16]) -> bool
+fn are_processes_sound(w: &[u16], n: usize, owns: [Interval; PROCESSES]) -> bool
     requires { ⌜ Judged (now w) n owns ⌝ }
     ensures { λ r. ⌜ r ≡ (allBelow n (countsFit (now (w .entry))) && allBelow n (partFits (now (w .entry))) && diskFits (now (w .entry))) ⌝ }
 {
@@ -91,14 +92,14 @@ fn are_processes_sound(w: &[u16], n: usize, owns: [Interval; 16]) -> bool
 pub fn is_sound(w: &[u16]) -> bool
     ensures { λ r. ⌜ r ≡ sound (runOf (now (w .entry))) ⌝ }
 {
-    if w.len() != words::WORDS {
+    if w.len() != WORDS {
         return false;
     }
     let n = process::number_of(w[places::COUNT]);
     if n < 1 {
         return false;
     }
-    if words::PROCESSES < n {
+    if PROCESSES < n {
         return false;
     }
     let owns = own_entries(w, n);

@@ -1,6 +1,7 @@
 // What a sound state asks of one process.
 use model::CheckpointIndex;
 use model::Interval;
+use model::PROCESSES;
 use words::places;
 ghost use mathlib.Core.Path.{_≡_};
 ghost use mathlib.Core.Bool.{_&&_};
@@ -10,9 +11,9 @@ ghost use lib.ListN.{length, getD};
 ghost use Rattle.laws.specs.Choice.{pick};
 ghost use Rattle.laws.specs.Lists.{table};
 ghost use Rattle.laws.specs.Search.{allBelow};
-ghost use Rattle.model.specs.Words.{entry};
+ghost use Rattle.model.specs.Words.{entry, mostProcesses};
 ghost use Rattle.model.specs.Sound.{causeSound};
-ghost use Rattle.words.specs.Layout.{word, countOf, partAt, pinsAt, causeAt, storedAt, rowIn};
+ghost use Rattle.words.specs.Layout.{word, countOf, partAt, pinsAt, causeAt, storedAt, rowIn, stateSize};
 ghost use Rattle.sound_words.specs.Test.{ownIn, rowWithin, pinIn, unusedPins, indexIn, indexBefore, keptFits, pinFits, countsFit, partFits, limitsIn, Judged};
 
 // What the cause of a checkpoint may be at most.
@@ -47,7 +48,7 @@ fn is_cause_sound(cause: u16, index: CheckpointIndex) -> bool
 // The numbers of the kept checkpoint in place k, the word of whose index is x: it is later than the one before, whose word is `before`, its own entry is its index, and
 // its cause goes with it.
 fn is_kept_numbered(w: &[u16], p: usize, k: usize, x: u16, before: u16) -> bool
-    requires { ⌜ (length (now w) ≡ 6464) × (p < 16) × (k < 16) ⌝ }
+    requires { ⌜ (length (now w) ≡ stateSize) × (p < mostProcesses) × (k < mostProcesses) ⌝ }
     ensures { λ r. ⌜ r ≡ (ltb before x && eqb (word (now (w .entry)) (storedAt p k + p)) (x - 1) && causeSound (x - 1) (word (now (w .entry)) (causeAt p k))) ⌝ }
 {
     if x <= before {
@@ -62,8 +63,8 @@ fn is_kept_numbered(w: &[u16], p: usize, k: usize, x: u16, before: u16) -> bool
 }
 
 // The kept checkpoint in place k, the word of whose index is x: its numbers, and a pin that names it.
-fn is_kept_sound(w: &[u16], p: usize, k: usize, x: u16, before: u16, pins: [u16; 16]) -> bool
-    requires { ⌜ (length (now w) ≡ 6464) × (p < 16) × (k < 16) × (x ≡ indexIn (now w) p k) × (before ≡ indexBefore (now w) p k) × (pins ≡ rowIn (now w) (pinsAt p)) ⌝ }
+fn is_kept_sound(w: &[u16], p: usize, k: usize, x: u16, before: u16, pins: [u16; PROCESSES]) -> bool
+    requires { ⌜ (length (now w) ≡ stateSize) × (p < mostProcesses) × (k < mostProcesses) × (x ≡ indexIn (now w) p k) × (before ≡ indexBefore (now w) p k) × (pins ≡ rowIn (now w) (pinsAt p)) ⌝ }
     ensures { λ r. ⌜ r ≡ keptFits (now (w .entry)) p k ⌝ }
 {
     let numbered = is_kept_numbered(w, p, k, x, before);
@@ -75,11 +76,17 @@ fn is_kept_sound(w: &[u16], p: usize, k: usize, x: u16, before: u16, pins: [u16;
 
 // The checkpoints that process p keeps, one after the other: each is sound, the last is the last one stored, each pin names one of them or none, and no entry
 // of theirs is above the own one there. What is off is gathered in rows, from `first` on, and tested once.
-fn are_kept_sound(w: &[u16], p: usize, held: usize, owns: [Interval; 16], first: [u16; 16]) -> bool
-    requires { ⌜ (length (now w) ≡ 6464) × (p < 16) × (held ≤ 16) × (owns ≡ limitsIn (now w)) × (1 ≤ ownIn (now w) p) ⌝ }
+fn are_kept_sound(
+    w: &[u16],
+    p: usize,
+    held: usize,
+    owns: [Interval; PROCESSES],
+    first: [u16; PROCESSES],
+) -> bool
+    requires { ⌜ (length (now w) ≡ stateSize) × (p < mostProcesses) × (held ≤ mostProcesses) × (owns ≡ limitsIn (now w)) × (1 ≤ ownIn (now w) p) ⌝ }
     ensures { λ r. ⌜ r ≡ (allBelow held (keptFits (now (w .entry)) p)
         && eqb (indexBefore (now (w .entry)) p held) (ownIn (now (w .entry)) p)
-        && ((allBelow 16 (λ f. eqb (getD first f 0) 0) && allBelow held (λ k. rowWithin (now (w .entry)) (storedAt p k))) && allBelow 16 (pinFits (now (w .entry)) p held))) ⌝ }
+        && ((allBelow mostProcesses (λ f. eqb (getD first f 0) 0) && allBelow held (λ k. rowWithin (now (w .entry)) (storedAt p k))) && allBelow mostProcesses (pinFits (now (w .entry)) p held))) ⌝ }
 {
     let pins_at = places::pins_at(p);
     let pins = words::row_at(w, pins_at);
@@ -112,7 +119,7 @@ fn are_kept_sound(w: &[u16], p: usize, held: usize, owns: [Interval; 16], first:
 
 // "Each process keeps 1 to n checkpoints"; its block count is at least 1, its own entry too, and its own pin names the last one stored.
 fn are_numbers_sound(w: &[u16], p: usize, n: usize) -> bool
-    requires { ⌜ (length (now w) ≡ 6464) × (n ≡ countOf (now w)) × (p < 16) ⌝ }
+    requires { ⌜ (length (now w) ≡ stateSize) × (n ≡ countOf (now w)) × (p < mostProcesses) ⌝ }
     ensures { λ r. ⌜ r ≡ (countsFit (now (w .entry)) p && leb 1 (ownIn (now (w .entry)) p) && eqb (pinIn (now (w .entry)) p p) (ownIn (now (w .entry)) p)) ⌝ }
 {
     let held_at = places::held_at(p);
@@ -128,9 +135,14 @@ fn are_numbers_sound(w: &[u16], p: usize, n: usize) -> bool
 }
 
 // What is off in the vector and the pins of process p: 0 where the entry is not above the own one and the pin not above what it may be at most, in `columns`.
-fn rows_off(w: &[u16], p: usize, owns: [Interval; 16], columns: [u16; 16]) -> [u16; 16]
-    requires { ⌜ (length (now w) ≡ 6464) × (p < 16) × (owns ≡ limitsIn (now w)) × (columns ≡ table 16 (λ f. pick (eqb (entry owns f .0) 0) 0 65535)) ⌝ }
-    ensures { λ r. ⌜ allBelow 16 (λ f. eqb (getD r f 0) 0) ≡ (rowWithin (now (w .entry)) (partAt p) && unusedPins (now (w .entry)) p) ⌝ }
+fn rows_off(
+    w: &[u16],
+    p: usize,
+    owns: [Interval; PROCESSES],
+    columns: [u16; PROCESSES],
+) -> [u16; PROCESSES]
+    requires { ⌜ (length (now w) ≡ stateSize) × (p < mostProcesses) × (owns ≡ limitsIn (now w)) × (columns ≡ table mostProcesses (λ f. pick (eqb (entry owns f .0) 0) 0 65535)) ⌝ }
+    ensures { λ r. ⌜ allBelow mostProcesses (λ f. eqb (getD r f 0) 0) ≡ (rowWithin (now (w .entry)) (partAt p) && unusedPins (now (w .entry)) p) ⌝ }
 {
     let vector_at = places::part_at(p);
     let vector = words::vector_at(w, vector_at);
@@ -140,8 +152,14 @@ fn rows_off(w: &[u16], p: usize, owns: [Interval; 16], columns: [u16; 16]) -> [u
     sound_rows::over_by(outside, vector, owns)
 }
 
-pub fn is_sound(w: &[u16], p: usize, n: usize, owns: [Interval; 16], columns: [u16; 16]) -> bool
-    requires { ⌜ Judged (now w) n owns × (p < n) × (columns ≡ table 16 (λ f. pick (eqb (entry owns f .0) 0) 0 65535)) ⌝ }
+pub fn is_sound(
+    w: &[u16],
+    p: usize,
+    n: usize,
+    owns: [Interval; PROCESSES],
+    columns: [u16; PROCESSES],
+) -> bool
+    requires { ⌜ Judged (now w) n owns × (p < n) × (columns ≡ table mostProcesses (λ f. pick (eqb (entry owns f .0) 0) 0 65535)) ⌝ }
     ensures { λ r. ⌜ r ≡ (countsFit (now (w .entry)) p && partFits (now (w .entry)) p) ⌝ }
 {
     let numbers = are_numbers_sound(w, p, n);

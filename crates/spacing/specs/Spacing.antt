@@ -136,15 +136,22 @@ unfoldable pub trialAfter : ℕ → ℕ → ℕ → ℕ → Trial
 trialAfter n k zero seed = trialStart n seed
 trialAfter n k (suc i) seed = stepped n k (trialAfter n k i seed)
 
--- "a spacing k of 1 to 1,000, 1 to 30,000 steps"; "22 for a count, spacing or step number out of range".
+-- "a spacing k of 1 to 1,000, 1 to 30,000 steps"
+abbrev pub mostSpacing : ℕ
+mostSpacing = 1000
+
+abbrev pub mostSteps : ℕ
+mostSteps = 30_000
+
+-- "22 for a count, spacing or step number out of range".
 unfoldable pub outOfRange : ℕ → ℕ → ℕ → Bool
 outOfRange low high x = not (leb low x && leb x high)
 
 unfoldable pub trialRefusal : ℕ → ℕ → ℕ → Option Refusal
 trialRefusal n k steps = firstOf (
     record { holds = outOfRange 1 mostProcesses n; gives = TrialOutsideRange }
-    ∷ record { holds = outOfRange 1 1000 k; gives = TrialOutsideRange }
-    ∷ record { holds = outOfRange 1 30000 steps; gives = TrialOutsideRange }
+    ∷ record { holds = outOfRange 1 mostSpacing k; gives = TrialOutsideRange }
+    ∷ record { holds = outOfRange 1 mostSteps steps; gives = TrialOutsideRange }
     ∷ [])
 
 unfoldable pub trialReport : TrialAnswer → Report

@@ -3,7 +3,8 @@ ghost use mathlib.Core.Path.{_≡_};
 ghost use mathlib.Core.Bool.{_&&_};
 ghost use Prim.Native.Nat.{_*_, _%_, _≤_, _<_};
 ghost use lib.Dec.{eqb};
-ghost use Rattle.spacing.specs.Spacing.{generated, draw, chosenReceiver, isDue};
+ghost use Rattle.model.specs.Words.{mostProcesses};
+ghost use Rattle.spacing.specs.Spacing.{generated, draw, chosenReceiver, isDue, mostSteps};
 
 // The remainder of a product by two to the 32.
 fn low_product(a: u32, b: u32) -> u32
@@ -28,8 +29,8 @@ pub fn draw_of(x: u32) -> u32
 
 // "p sends to p + 1 + ((d div 2) mod (n − 1)), the sum taken modulo n"
 pub fn chosen_receiver(n: usize, p: usize, d: u32) -> usize
-    requires { ⌜ (2 ≤ n) × (n ≤ 16) × (p < n) ⌝ }
-    ensures { λ r. ⌜ (r ≡ chosenReceiver n p d) × (r < 16) ⌝ }
+    requires { ⌜ (2 ≤ n) × (n ≤ mostProcesses) × (p < n) ⌝ }
+    ensures { λ r. ⌜ (r ≡ chosenReceiver n p d) × (r < mostProcesses) ⌝ }
 {
     let half = (d / 2) as usize;
     (p + 1 + half % (n - 1)) % n
@@ -37,7 +38,7 @@ pub fn chosen_receiver(n: usize, p: usize, d: u32) -> usize
 
 // Whether a process takes a checkpoint: "After each k of its own sends and deliveries". It had done `acted` of them before this step, and did `more` in it, one or none.
 pub fn is_due(k: u32, acted: u32, more: u32) -> bool
-    requires { ⌜ (1 ≤ k) × (acted ≤ 30000) ⌝ }
+    requires { ⌜ (1 ≤ k) × (acted ≤ mostSteps) ⌝ }
     ensures { λ r. ⌜ r ≡ (eqb more 1 && isDue k acted) ⌝ }
 {
     (more == 1) & ((acted + 1) % k == 0)

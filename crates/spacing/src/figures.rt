@@ -1,7 +1,7 @@
 // The numbers of a result.
 ghost use mathlib.Core.Path.{_≡_};
 ghost use Prim.Native.Nat.{_≤_, max};
-ghost use Rattle.spacing.specs.Spacing.{outOfRange, quotientOf, remainderOf};
+ghost use Rattle.spacing.specs.Spacing.{outOfRange, quotientOf, remainderOf, mostSteps};
 
 // Whether a parameter of a simulation is out of its range.
 pub fn is_outside(low: usize, high: usize, x: usize) -> bool
@@ -18,7 +18,7 @@ pub fn greater(a: usize, b: usize) -> usize
 
 // "1,000 × forced divided by deliveries as quotient and remainder, both 0 without deliveries"
 pub fn quotient_of(forced: u32, deliveries: u32) -> u32
-    requires { ⌜ forced ≤ 30000 ⌝ }
+    requires { ⌜ forced ≤ mostSteps ⌝ }
     ensures { λ r. ⌜ r ≡ quotientOf forced deliveries ⌝ }
 {
     if deliveries == 0 {
@@ -29,7 +29,7 @@ pub fn quotient_of(forced: u32, deliveries: u32) -> u32
 }
 
 pub fn remainder_of(forced: u32, deliveries: u32) -> u32
-    requires { ⌜ forced ≤ 30000 ⌝ }
+    requires { ⌜ forced ≤ mostSteps ⌝ }
     ensures { λ r. ⌜ r ≡ remainderOf forced deliveries ⌝ }
 {
     if deliveries == 0 {

@@ -1,6 +1,8 @@
 // A record on a state by value: the call that it stands for.
 use listing::Summary;
+use model::DELETIONS;
 use model::Event;
+use model::PROCESSES;
 use model::Refusal;
 use model::Run;
 use trace::Decoded;
@@ -50,9 +52,9 @@ fn event(s: Run, e: Event, deleted: &mut [u16], line: &mut [u16]) -> Applied {
 }
 
 pub(crate) fn apply(s: Run, d: Decoded) -> Applied {
-    let mut deletions = [0u16; 512];
+    let mut deletions = [0u16; DELETIONS];
     let deleted: &mut [u16] = &mut deletions;
-    let mut indexes = [0u16; 16];
+    let mut indexes = [0u16; PROCESSES];
     let line: &mut [u16] = &mut indexes;
     match d {
         Decoded::Malformed => answered(s, summaries::refused(Refusal::MalformedRecord)),

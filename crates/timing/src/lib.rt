@@ -1,10 +1,12 @@
 // The calls by value, for bench/run to time: one call made many times on one full state of 16 processes, and the records of a trace as calls. They stand apart from
 // `timing_in_place`: the calls by value are made of the calls in place, and a function with callers in both is compiled otherwise than it is for either.
+use model::PROCESSES;
 use model::Run;
 ghost use mathlib.Core.Path.{_≡_};
 ghost use mathlib.Core.Bool.{true};
 ghost use Prim.Native.Nat.{_+_, _*_, _≤_, _<_};
 ghost use lib.ListN.{length};
+ghost use Rattle.whole_runs.specs.Listing.{mostRecords};
 
 // full.rt: the state that the calls are made on
 mod full;
@@ -15,7 +17,7 @@ mod exported;
 // by_value.rt: a record on a state by value
 mod by_value;
 
-const MOST_RECORDS: usize = 1000000000;
+const MOST_RECORDS: usize = whole_runs::MOST_RECORDS as usize;
 
 // One call, so many times: 0 if the last was accepted and left a sound state, else a refusal number. The letters: b start (begin), c checkpoint, s send, d deliver,
 // l lose, i line, r recover; any other number the test of soundness alone.
@@ -44,7 +46,7 @@ pub fn one_if(accepted: bool) -> u64
 
 // A record is left, and it is not after the last that a replay takes.
 pub fn takes_next(trace: &[u8], taken: usize) -> bool
-    ensures { λ r. ⌜ (r ≡ true → (taken < 1000000000) × (4 * taken + 5 ≤ length (now (trace .entry)))) ⌝ }
+    ensures { λ r. ⌜ (r ≡ true → (taken < mostRecords) × (4 * taken + 5 ≤ length (now (trace .entry)))) ⌝ }
 {
     if MOST_RECORDS <= taken {
         return false;
@@ -72,6 +74,6 @@ fn apply_by_value(s: Run, trace: &[u8]) -> u64 {
 // The same from a start of n processes on, with block counts of 1.
 #[no_mangle]
 pub extern "C" fn timing_by_value(n: usize, trace: &[u8]) -> u64 {
-    let started = calls::start::start(n, [1; 16]);
+    let started = calls::start::start(n, [1; PROCESSES]);
     apply_by_value(started.run, trace)
 }

@@ -1,11 +1,20 @@
 // The records of a trace: the part of the trace that a record is, the event that it stands for, and the record of an event.
 use model::Event;
 use model::Fields;
+use model::PROCESSES;
 ghost use mathlib.Core.Path.{_≡_};
 ghost use Prim.Native.Nat.{_≤_, _<_};
 ghost use lib.ListN.{length};
 ghost use Rattle.model.specs.Trace.{word, fields, ifZero, eventOf, fieldsOf, wordOf, bytesOf};
 ghost use Rattle.trace.specs.Answers.{recordAt, fieldsRead, eventIn, eventRead, recordOf};
+
+// "kind 3 bits, process 4 bits, argument 25 bits": how many arguments there are, how many processes a record can name, which are those of the largest run, and what a
+// kind is worth.
+pub const ARGUMENTS: u32 = 33554432;
+
+pub const PROCESS_NAMES: u32 = PROCESSES as u32;
+
+pub const KIND: u32 = PROCESS_NAMES * ARGUMENTS;
 
 // What a part of a trace is found to be.
 pub enum Decoded {
@@ -55,9 +64,9 @@ fn fields_in(part: &[u8]) -> Fields
 {
     let w = word_in(part);
     Fields {
-        kind: w / 536870912,
-        process: (w / 33554432 % 16) as usize,
-        argument: w % 33554432,
+        kind: w / KIND,
+        process: (w / ARGUMENTS % PROCESS_NAMES) as usize,
+        argument: w % ARGUMENTS,
     }
 }
 
@@ -148,7 +157,7 @@ fn word_of(r: Fields) -> u32
     requires { ⌜ (r .kind ≤ 4) × (r .process < 16) × (r .argument < 33554432) ⌝ }
     ensures { λ w. ⌜ w ≡ wordOf r ⌝ }
 {
-    r.kind * 536870912 + r.process as u32 * 33554432 + r.argument
+    r.kind * KIND + r.process as u32 * ARGUMENTS + r.argument
 }
 
 fn bytes_of(w: u32) -> [u8; 4]
@@ -167,8 +176,8 @@ pub fn encode(e: Event) -> Encoded
     ensures { λ r. ⌜ r ≡ recordOf e ⌝ }
 {
     let r = fields_of(e);
-    if r.process < 16 {
-        if r.argument < 33554432 {
+    if r.process < PROCESSES {
+        if r.argument < ARGUMENTS {
             return Encoded {
                 fits: true,
                 bytes: bytes_of(word_of(r)),

@@ -11,10 +11,11 @@ use Rattle.model.specs.declared.Event.{Event}
 use Rattle.model.specs.declared.Message.{Message}
 use Rattle.model.specs.declared.DeliverAnswer.{DeliverAnswer}
 use Rattle.model.specs.declared.DeliverAnswer.the-variants.{Refused, Received, Forced}
+use Rattle.model.specs.Words.{mostProcesses}
 use Rattle.recording.specs.Replay.{stateAfterEvents, performed}
 use Rattle.words.specs.Layout.{runOf}
 use Rattle.spacing.specs.Trial.{Trial}
-use Rattle.spacing.specs.Spacing.{deliveriesIn, forcedIn, trialAfter}
+use Rattle.spacing.specs.Spacing.{deliveriesIn, forcedIn, trialAfter, mostSteps}
 use Rattle.trials.specs.declared.Tally.{Tally}
 use Rattle.trials.specs.declared.Action.{Action}
 use Rattle.trials.specs.declared.Found.{Found}
@@ -53,4 +54,4 @@ foundIn (some x) = record { found = true; number = x .number }
 
 -- A trial after fewer than 30,000 steps.
 unfoldable pub Underway : ℕ → ℕ → Trial → Type 0
-Underway n k z = (1 ≤ n) × (n ≤ 16) × (1 ≤ k) × (i : ℕ) × (seed : ℕ) × (i < 30000) × (z ≡ trialAfter n k i seed)
+Underway n k z = (1 ≤ n) × (n ≤ mostProcesses) × (1 ≤ k) × (i : ℕ) × (seed : ℕ) × (i < mostSteps) × (z ≡ trialAfter n k i seed)

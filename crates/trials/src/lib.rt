@@ -1,9 +1,15 @@
 // Document 02, Note 10, "Trying a checkpoint spacing": the simulation itself. Every event of a step is a call in place, on words that stand for a state which calls
 // reached; what a step chooses and what is counted is in `spacing`.
+use model::DELETIONS;
 use model::DeliverAnswer;
+use model::MESSAGES;
+use model::PROCESSES;
 use model::Refusal;
+use spacing::MOST_SPACING;
+use spacing::MOST_STEPS;
 use spacing::TrialAnswer;
 use spacing::TrialResult;
+use words::WORDS;
 use words::places;
 ghost use mathlib.Core.Path.{_≡_};
 ghost use mathlib.Core.Bool.{true};
@@ -14,16 +20,17 @@ ghost use lib.ListN.{length};
 ghost use Rattle.laws.specs.Choice.{pick};
 ghost use Rattle.model.specs.declared.Event.the-variants.{Checkpoint, Deliver};
 ghost use Rattle.model.specs.Sound.{sound};
+ghost use Rattle.model.specs.Words.{mostProcesses};
 ghost use Rattle.recording.specs.Replay.{stateAfterEvents};
-ghost use Rattle.words.specs.Layout.{countOf, runOf};
-ghost use Rattle.spacing.specs.Spacing.{oldestTo, sends, action, mostKept, stepped, trialStart, trialAfter, trialRefusal, figures, noFigures, simulated, AgreesWithReplay};
+ghost use Rattle.words.specs.Layout.{countOf, runOf, stateSize};
+ghost use Rattle.spacing.specs.Spacing.{oldestTo, sends, action, mostKept, stepped, trialStart, trialAfter, trialRefusal, figures, noFigures, simulated, AgreesWithReplay, mostSteps};
 ghost use Rattle.trials.specs.Steps.{after, actionOf, forcedBy, foundIn, trialOf, Underway};
 
 // What a trial has between two steps beside its state, which the words stand for: the generator's last value, how many sends and deliveries of its own each process
 // has done, and the figures so far.
 struct Tally {
     value: u32,
-    acted: [u32; 16],
+    acted: [u32; PROCESSES],
     deliveries: u32,
     forced: u32,
     most: usize,
@@ -59,7 +66,7 @@ fn deliver(w: &mut [u16], number: u32) -> Action
     ensures { λ r. ⌜ runOf (now (w .exit)) ≡ after (runOf (now (w .entry))) (some (Deliver number)) ⌝ }
     ensures { λ r. ⌜ r ≡ actionOf (runOf (now (w .entry))) (some (Deliver number)) ⌝ }
 {
-    let mut deleted = [0u16; 512];
+    let mut deleted = [0u16; DELETIONS];
     let delivered = in_place::deliver::deliver_on(w, number, &mut deleted);
     let answer = delivered.answer;
     let forced = forced_by(answer);
@@ -83,7 +90,7 @@ fn nothing() -> Action
 
 // "Otherwise, if n is at least 2 and fewer than 64 are under way, p sends"
 fn send(w: &mut [u16], n: usize, p: usize, d: u32) -> Action
-    requires { ⌜ (sound (runOf (now w)) ≡ true) × (n ≤ 16) × (p < n) ⌝ }
+    requires { ⌜ (sound (runOf (now w)) ≡ true) × (n ≤ mostProcesses) × (p < n) ⌝ }
     ensures { λ r. ⌜ runOf (now (w .exit)) ≡ after (runOf (now (w .entry))) (sends n (runOf (now (w .entry))) p d) ⌝ }
     ensures { λ r. ⌜ r ≡ actionOf (runOf (now (w .entry))) (sends n (runOf (now (w .entry))) p d) ⌝ }
 {
@@ -91,7 +98,7 @@ fn send(w: &mut [u16], n: usize, p: usize, d: u32) -> Action
         return nothing();
     }
     let many = w[places::UNDER_WAY] as usize;
-    if words::MESSAGES <= many {
+    if MESSAGES <= many {
         return nothing();
     }
     let to = spacing::draws::chosen_receiver(n, p, d);
@@ -127,7 +134,7 @@ fn oldest_to(w: &[u16], p: usize) -> Found
 
 // "If a message to p is under way and d is even, the oldest is delivered. Otherwise .."
 fn act(w: &mut [u16], n: usize, p: usize, d: u32) -> Action
-    requires { ⌜ (sound (runOf (now w)) ≡ true) × (n ≤ 16) × (p < n) ⌝ }
+    requires { ⌜ (sound (runOf (now w)) ≡ true) × (n ≤ mostProcesses) × (p < n) ⌝ }
     ensures { λ r. ⌜ runOf (now (w .exit)) ≡ after (runOf (now (w .entry))) (action n (runOf (now (w .entry))) p d) ⌝ }
     ensures { λ r. ⌜ r ≡ actionOf (runOf (now (w .entry))) (action n (runOf (now (w .entry))) p d) ⌝ }
 {
@@ -147,7 +154,7 @@ fn rest(w: &mut [u16], p: usize, due: bool)
     ensures { λ u. ⌜ runOf (now (w .exit)) ≡ stateAfterEvents (runOf (now (w .entry))) (pick due (Checkpoint p ∷ []) []) ⌝ }
 {
     if due {
-        let mut deleted = [0u16; 512];
+        let mut deleted = [0u16; DELETIONS];
         let answer = in_place::checkpoint::checkpoint_on(w, p, &mut deleted);
     }
 }
@@ -197,14 +204,14 @@ fn step(w: &mut [u16], z: Tally, n: usize, k: u32) -> Tally
 
 // The trial before its first step.
 fn begin(w: &mut [u16], n: usize, seed: u32) -> Tally
-    requires { ⌜ (1 ≤ n) × (n ≤ 16) × (length (now w) ≡ 6464) ⌝ }
+    requires { ⌜ (1 ≤ n) × (n ≤ mostProcesses) × (length (now w) ≡ stateSize) ⌝ }
     ensures { λ r. ⌜ trialOf (now (w .exit)) r ≡ trialStart n seed ⌝ }
 {
-    let counts = [1u32; 16];
+    let counts = [1u32; PROCESSES];
     let answer = in_place::start::start(w, n, &counts);
     Tally {
         value: seed,
-        acted: [0; 16],
+        acted: [0; PROCESSES],
         deliveries: 0,
         forced: 0,
         most: 0,
@@ -213,7 +220,7 @@ fn begin(w: &mut [u16], n: usize, seed: u32) -> Tally
 
 // So many steps.
 fn run_steps(w: &mut [u16], n: usize, k: u32, steps: u32, seed: u32) -> Tally
-    requires { ⌜ (1 ≤ n) × (n ≤ 16) × (1 ≤ k) × (steps ≤ 30000) × (length (now w) ≡ 6464) ⌝ }
+    requires { ⌜ (1 ≤ n) × (n ≤ mostProcesses) × (1 ≤ k) × (steps ≤ mostSteps) × (length (now w) ≡ stateSize) ⌝ }
     ensures { λ r. ⌜ trialOf (now (w .exit)) r ≡ trialAfter n k steps seed ⌝ }
 {
     let mut z = begin(w, n, seed);
@@ -228,7 +235,7 @@ fn run_steps(w: &mut [u16], n: usize, k: u32, steps: u32, seed: u32) -> Tally
 
 // The five figures of a trial.
 fn result_of(z: Tally) -> TrialResult
-    requires { ⌜ z .forced ≤ 30000 ⌝ }
+    requires { ⌜ z .forced ≤ mostSteps ⌝ }
     ensures { λ r. ⌜ ((w : List ℕ) → r ≡ figures (trialOf w z)) ⌝ }
 {
     let quotient = spacing::figures::quotient_of(z.forced, z.deliveries);
@@ -264,16 +271,16 @@ pub fn simulate(n: usize, spacing: u32, steps: u32, seed: u32) -> TrialResult
     ensures { λ r. ⌜ r ≡ simulated n spacing steps seed ⌝ }
     ensures { λ r. ⌜ (trialRefusal n spacing steps ≡ none → AgreesWithReplay n spacing steps seed) ⌝ }
 {
-    if spacing::figures::is_outside(1, 16, n) {
+    if spacing::figures::is_outside(1, PROCESSES, n) {
         return refuse(Refusal::TrialOutsideRange);
     }
-    if spacing::figures::is_outside(1, 1000, spacing as usize) {
+    if spacing::figures::is_outside(1, MOST_SPACING, spacing as usize) {
         return refuse(Refusal::TrialOutsideRange);
     }
-    if spacing::figures::is_outside(1, 30000, steps as usize) {
+    if spacing::figures::is_outside(1, MOST_STEPS, steps as usize) {
         return refuse(Refusal::TrialOutsideRange);
     }
-    let mut w = [0u16; 6464];
+    let mut w = [0u16; WORDS];
     let z = run_steps(&mut w, n, spacing, steps, seed);
     result_of(z)
 }

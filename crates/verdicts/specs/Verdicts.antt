@@ -8,7 +8,7 @@ use lib.Dec.{eqb, ltb, leb}
 use Rattle.laws.specs.Choice.{pick}
 use Rattle.model.specs.declared.Refusal.{Refusal}
 use Rattle.model.specs.declared.Refusal.the-variants.{NoSuchProcess, SenderIsReceiver, NoSuchFailedProcess, TooManyUnderWay, MessageNumbersUsed}
-use Rattle.model.specs.Words.{mostBlocks}
+use Rattle.model.specs.Words.{mostBlocks, mostUnderWay, mostMessages}
 use Rattle.verdicts.specs.declared.Verdict.{Verdict}
 use Rattle.verdicts.specs.declared.Verdict.the-variants.{Accepted, Refused}
 
@@ -27,8 +27,8 @@ sendVerdict i j n underway last =
     pick (leb n i) (Refused NoSuchProcess)
     (pick (leb n j) (Refused NoSuchProcess)
     (pick (eqb i j) (Refused SenderIsReceiver)
-    (pick (leb 64 underway) (Refused TooManyUnderWay)
-    (pick (leb 1000000 last) (Refused MessageNumbersUsed)
+    (pick (leb mostUnderWay underway) (Refused TooManyUnderWay)
+    (pick (leb mostMessages last) (Refused MessageNumbersUsed)
     Accepted))))
 
 -- A line or a recovery for failed set F in a run of n processes, whether somebody failed or nobody.

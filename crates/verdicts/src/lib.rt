@@ -1,11 +1,16 @@
 // Whether a call is refused, and why, by the counts of a state, what the call names and how long the lists are that it is lent: the tests that several functions ask. The calls of the library, the replay of
 // a trace and the judge of a foreign one ask the same.
 use model::Interval;
+use model::LAST_INTERVAL;
+use model::LAST_MESSAGE;
+use model::MESSAGES;
+use model::MOST_BLOCKS;
 use model::Refusal;
 ghost use mathlib.Core.Path.{_≡_};
 ghost use mathlib.Core.Bool.{_||_};
 ghost use Prim.Native.Nat.{_*_, _≤_, _^_};
 ghost use lib.Dec.{leb, ltb};
+ghost use Rattle.model.specs.Words.{mostInterval, mostProcesses};
 ghost use Rattle.verdicts.specs.Verdicts.{pastMost, sendVerdict, recoveryVerdict};
 
 pub enum Verdict {
@@ -15,16 +20,16 @@ pub enum Verdict {
 
 // The own entry is that of the last interval: no checkpoint can follow.
 pub fn is_last_interval(own: Interval) -> bool
-    ensures { λ r. ⌜ r ≡ leb 65535 (own .0) ⌝ }
+    ensures { λ r. ⌜ r ≡ leb mostInterval (own .0) ⌝ }
 {
-    65535 <= own.0
+    LAST_INTERVAL <= own.0
 }
 
 // One more checkpoint of `blocks` blocks would take the blocks written past the bound. The difference is tested: no sum of a free number is made.
 pub fn is_past_bound(written: u64, blocks: u16) -> bool
     ensures { λ r. ⌜ r ≡ pastMost written blocks ⌝ }
 {
-    1000000000000000 - (blocks as u64) < written
+    MOST_BLOCKS - (blocks as u64) < written
 }
 
 // Whether a send is refused, and why, where `underway` messages are under way and `last` is the last number used.
@@ -40,10 +45,10 @@ pub fn send_verdict(sender: usize, receiver: usize, n: usize, underway: usize, l
     if sender == receiver {
         return Verdict::Refused(Refusal::SenderIsReceiver);
     }
-    if 64 <= underway {
+    if MESSAGES <= underway {
         return Verdict::Refused(Refusal::TooManyUnderWay);
     }
-    if 1000000 <= last {
+    if LAST_MESSAGE <= last {
         return Verdict::Refused(Refusal::MessageNumbersUsed);
     }
     Verdict::Accepted
@@ -73,7 +78,7 @@ pub fn recovery_verdict(failed: u32, n: usize) -> Verdict
 
 // A deletion list has room for two numbers of each checkpoint that n processes keep, at most n each.
 pub fn are_deletions_short(length: usize, n: usize) -> bool
-    requires { ⌜ n ≤ 16 ⌝ }
+    requires { ⌜ n ≤ mostProcesses ⌝ }
     ensures { λ r. ⌜ r ≡ ltb length (2 * n * n) ⌝ }
 {
     length < 2 * n * n
@@ -88,7 +93,7 @@ pub fn is_line_short(length: usize, n: usize) -> bool
 
 // One of the two is too short.
 pub fn is_too_short(deleted: usize, line: usize, n: usize) -> bool
-    requires { ⌜ n ≤ 16 ⌝ }
+    requires { ⌜ n ≤ mostProcesses ⌝ }
     ensures { λ r. ⌜ r ≡ (ltb deleted (2 * n * n) || ltb line n) ⌝ }
 {
     let short = are_deletions_short(deleted, n);

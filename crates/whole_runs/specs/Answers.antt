@@ -14,7 +14,7 @@ use Rattle.laws.specs.Lists.{table, gather}
 use Rattle.laws.specs.Search.{anyBelow}
 use Rattle.laws.specs.Tests.{countBelow, some-of}
 use Rattle.model.specs.declared.Named.{Named}
-use Rattle.model.specs.Words.{inSet, failed}
+use Rattle.model.specs.Words.{inSet, failed, mostBlocks, mostProcesses, mostBlockCount, mostInterval, mostUnderWay, mostMessages}
 use Rattle.histories.specs.History.{sent, Line, checkpoints, behind, beforeCheckpoint, Consistent, before, ComesBefore}
 use Rattle.whole_runs.specs.Calls.{Call, checkpoint, send, deliver, lose, recover, line, earliest, Exchange}
 use Rattle.whole_runs.specs.Earliest.{someAbsent, unfit}
@@ -46,14 +46,14 @@ tooShort n deleted = ltb (length deleted) (2 * n * n)
 
 -- One more checkpoint of p "would take written past 1,000,000,000,000,000".
 abbrev pub pastBound : Surviving → ℕ → Bool
-pastBound h p = ltb 1_000_000_000_000_000 (h .written + h .counts p)
+pastBound h p = ltb mostBlocks (h .written + h .counts p)
 
 -- "1: start with a count outside 1 to 16." Note 5: "15, at the start after 1, for a block count outside 1 to 65,535"; "those at n and above are neither judged
 -- nor stored".
 unfoldable pub startReasons : ℕ → List ℕ → List Reason
 startReasons n counts =
-    record { holds = ltb n 1 || ltb 16 n; number = 1 }
-    ∷ record { holds = anyBelow n (λ p. ltb (getD counts p 0) 1 || ltb 65_535 (getD counts p 0)); number = 15 }
+    record { holds = ltb n 1 || ltb mostProcesses n; number = 1 }
+    ∷ record { holds = anyBelow n (λ p. ltb (getD counts p 0) 1 || ltb mostBlockCount (getD counts p 0)); number = 15 }
     ∷ []
 
 -- "4: process not below n. 5: sender is receiver." "7: failed set has a bit at n or above. 8: message not under way.
@@ -67,19 +67,19 @@ unfoldable pub reasons : ℕ → Surviving → Bool → Bool → Call → List R
 reasons n h forcing ordered (checkpoint i deleted) =
     record { holds = tooShort n deleted; number = 3 }
     ∷ record { holds = leb n i; number = 4 }
-    ∷ record { holds = leb 65_535 (liveOf h i); number = 11 }
+    ∷ record { holds = leb mostInterval (liveOf h i); number = 11 }
     ∷ record { holds = pastBound h i; number = 16 }
     ∷ []
 reasons n h forcing ordered (send i j) =
     record { holds = leb n i || leb n j; number = 4 }
     ∷ record { holds = eqb i j; number = 5 }
-    ∷ record { holds = leb 64 (countUnderWay h); number = 9 }
-    ∷ record { holds = leb 1_000_000 (h .sends); number = 10 }
+    ∷ record { holds = leb mostUnderWay (countUnderWay h); number = 9 }
+    ∷ record { holds = leb mostMessages (h .sends); number = 10 }
     ∷ []
 reasons n h forcing ordered (deliver m deleted) =
     record { holds = tooShort n deleted; number = 3 }
     ∷ record { holds = not (h .underway m); number = 8 }
-    ∷ record { holds = forcing && leb 65_535 (liveOf h (h .receiver m)); number = 11 }
+    ∷ record { holds = forcing && leb mostInterval (liveOf h (h .receiver m)); number = 11 }
     ∷ record { holds = forcing && pastBound h (h .receiver m); number = 16 }
     ∷ []
 reasons n h forcing ordered (lose m) = record { holds = not (h .underway m); number = 8 } ∷ []

@@ -13,7 +13,7 @@ use Rattle.model.specs.declared.Event.{Event}
 use Rattle.model.specs.declared.Event.the-variants.{Checkpoint, Send, Deliver, Lose, Recover}
 use Rattle.model.specs.declared.Refusal.{Refusal}
 use Rattle.model.specs.declared.Refusal.the-variants.{NoFirstByte, LeftOverBytes, MalformedRecord}
-use Rattle.model.specs.Words.{ones}
+use Rattle.model.specs.Words.{ones, mostDeletions, mostProcesses}
 use Rattle.model.specs.Refusals.{startRefusal}
 use Rattle.model.specs.Steps.{startState}
 use Rattle.model.specs.Trace.{decoded}
@@ -69,11 +69,11 @@ refusalText record-number r = lineText record-number (record { report = refusing
 
 -- The call that an event asks for, with lent lists that are long enough for 16 processes.
 unfoldable pub callOf : Event → Call
-callOf (Checkpoint i) = checkpoint i (replicate 512 0)
+callOf (Checkpoint i) = checkpoint i (replicate mostDeletions 0)
 callOf (Send i j) = send i j
-callOf (Deliver m) = deliver m (replicate 512 0)
+callOf (Deliver m) = deliver m (replicate mostDeletions 0)
 callOf (Lose m) = lose m
-callOf (Recover F) = recover F (replicate 512 0) (replicate 16 0)
+callOf (Recover F) = recover F (replicate mostDeletions 0) (replicate mostProcesses 0)
 
 -- One record: the state after it, and the reply that its line prints. "14: .. given before any other number for that record."
 unfoldable pub perform : Run → Option Event → Answered

@@ -2,21 +2,20 @@
 // and put into them. Callers pass all the words and a place, so that one borrow serves every function. A row has 16 words whatever the count of processes.
 use model::CheckpointIndex;
 use model::Interval;
+use model::MESSAGES;
+use model::PROCESSES;
 use model::Pin;
 ghost use mathlib.Core.Path.{_≡_};
 ghost use Prim.Native.Nat.{_+_, _≤_, _<_};
 ghost use mathlib.Core.List.{[], _∷_};
 ghost use lib.ListN.{length};
 ghost use Rattle.model.specs.declared.Pin.the-variants.{At};
+ghost use Rattle.model.specs.Words.{mostInterval, mostProcesses};
 ghost use Rattle.words.specs.Layout.{intervalOf, indexOf, pinOf, rowIn, vectorIn, wide2, wide4};
 ghost use Rattle.words.specs.Puts.{puts, rowPut, vectorPut, zeroPut, puts2, puts4};
 
-// How many words a state is, how many processes and messages under way it has room for.
-pub const WORDS: usize = 6464;
-
-pub const PROCESSES: usize = 16;
-
-pub const MESSAGES: usize = 64;
+// How many words a state is: 6,464 (stateSize in specs/Layout).
+pub const WORDS: usize = places::CARRIED + places::ROW * MESSAGES;
 
 // places.rt: where each thing stands
 pub mod places;
@@ -47,17 +46,17 @@ pub fn pin_of(x: u16) -> Pin
 
 // The word of a pin, or of a kept checkpoint, by its index.
 pub fn pin_word(index: CheckpointIndex) -> u16
-    requires { ⌜ index .0 < 65535 ⌝ }
+    requires { ⌜ index .0 < mostInterval ⌝ }
     ensures { λ r. ⌜ (r ≡ index .0 + 1) × (pinOf r ≡ At index) × (indexOf r ≡ index) ⌝ }
 {
     index.0 + 1
 }
 
-pub fn row_at(w: &[u16], at: usize) -> [u16; 16]
-    requires { ⌜ at + 16 ≤ length (now w) ⌝ }
+pub fn row_at(w: &[u16], at: usize) -> [u16; PROCESSES]
+    requires { ⌜ at + mostProcesses ≤ length (now w) ⌝ }
     ensures { λ r. ⌜ r ≡ rowIn (now (w .entry)) at ⌝ }
 {
-    let mut r = [0u16; 16];
+    let mut r = [0u16; PROCESSES];
     for f in 0..PROCESSES {
         let x = w[at + f];
         r[f] = x;
@@ -65,11 +64,11 @@ pub fn row_at(w: &[u16], at: usize) -> [u16; 16]
     r
 }
 
-pub fn vector_at(w: &[u16], at: usize) -> [Interval; 16]
-    requires { ⌜ at + 16 ≤ length (now w) ⌝ }
+pub fn vector_at(w: &[u16], at: usize) -> [Interval; PROCESSES]
+    requires { ⌜ at + mostProcesses ≤ length (now w) ⌝ }
     ensures { λ r. ⌜ r ≡ vectorIn (now (w .entry)) at ⌝ }
 {
-    let mut v = [Interval(0); 16];
+    let mut v = [Interval(0); PROCESSES];
     for f in 0..PROCESSES {
         let x = interval_of(w[at + f]);
         v[f] = x;
@@ -110,8 +109,8 @@ pub fn wide4(w: &[u16], at: usize) -> u64
     a + 65536 * b + 4294967296 * c + 281474976710656 * d
 }
 
-pub fn put_row(w: &mut [u16], at: usize, r: [u16; 16])
-    requires { ⌜ at + 16 ≤ length (now w) ⌝ }
+pub fn put_row(w: &mut [u16], at: usize, r: [u16; PROCESSES])
+    requires { ⌜ at + mostProcesses ≤ length (now w) ⌝ }
     ensures { λ u. ⌜ now (w .exit) ≡ puts (now (w .entry)) (rowPut at r ∷ []) ⌝ }
 {
     for f in 0..PROCESSES {
@@ -120,8 +119,8 @@ pub fn put_row(w: &mut [u16], at: usize, r: [u16; 16])
     }
 }
 
-pub fn put_vector(w: &mut [u16], at: usize, v: [Interval; 16])
-    requires { ⌜ at + 16 ≤ length (now w) ⌝ }
+pub fn put_vector(w: &mut [u16], at: usize, v: [Interval; PROCESSES])
+    requires { ⌜ at + mostProcesses ≤ length (now w) ⌝ }
     ensures { λ u. ⌜ now (w .exit) ≡ puts (now (w .entry)) (vectorPut at v ∷ []) ⌝ }
 {
     for f in 0..PROCESSES {
@@ -131,7 +130,7 @@ pub fn put_vector(w: &mut [u16], at: usize, v: [Interval; 16])
 }
 
 pub fn clear_row(w: &mut [u16], at: usize)
-    requires { ⌜ at + 16 ≤ length (now w) ⌝ }
+    requires { ⌜ at + mostProcesses ≤ length (now w) ⌝ }
     ensures { λ u. ⌜ now (w .exit) ≡ puts (now (w .entry)) (zeroPut at ∷ []) ⌝ }
 {
     for f in 0..PROCESSES {

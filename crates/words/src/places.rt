@@ -1,7 +1,13 @@
-// Where each thing stands, as specs/Layout has it: the number of its first word.
+// Where each thing stands, as specs/Layout has it: the number of its first word. The functions say so, and a wrong number here would fail them.
+use model::MESSAGES;
+use model::PROCESSES;
 ghost use mathlib.Core.Path.{_≡_};
 ghost use Prim.Native.Nat.{_<_};
+ghost use Rattle.model.specs.Words.{mostProcesses, mostUnderWay};
 ghost use Rattle.words.specs.Layout.{heldAt, markAt, blocksAt, partAt, pinsAt, indexAt, causeAt, storedAt, lowAt, highAt, senderAt, receiverAt, carriedAt};
+
+// How many words a row is: one for each process that a run may have.
+pub const ROW: usize = PROCESSES;
 
 // The numbers that a run has once.
 pub const COUNT: usize = 0;
@@ -16,126 +22,124 @@ pub const DELETED: usize = 8;
 
 pub const END: usize = 12;
 
-// Those that each process has.
+// A row of each number that a process has once, from word 16 on.
 pub const HELD: usize = 16;
 
-pub const MARKS: usize = 32;
+pub const MARKS: usize = HELD + ROW;
 
-pub const BLOCKS: usize = 48;
+pub const BLOCKS: usize = MARKS + ROW;
 
-pub const PARTS: usize = 64;
+// The parts of the processes: each has a row of its vector, of its pins, of indexes and of causes, and a row for each of the checkpoints that it may keep.
+pub const PARTS: usize = BLOCKS + ROW;
 
-pub const PART: usize = 320;
+pub const PART: usize = 4 * ROW + PROCESSES * ROW;
 
 // Within the part of process 0.
-pub const PINS: usize = 80;
+pub const PINS: usize = PARTS + ROW;
 
-pub const INDEXES: usize = 96;
+pub const INDEXES: usize = PINS + ROW;
 
-pub const CAUSES: usize = 112;
+pub const CAUSES: usize = INDEXES + ROW;
 
-pub const STORED: usize = 128;
+pub const STORED: usize = CAUSES + ROW;
 
 // The messages.
-pub const LOWS: usize = 5184;
+pub const LOWS: usize = PARTS + PROCESSES * PART;
 
-pub const HIGHS: usize = 5248;
+pub const HIGHS: usize = LOWS + MESSAGES;
 
-pub const SENDERS: usize = 5312;
+pub const SENDERS: usize = HIGHS + MESSAGES;
 
-pub const RECEIVERS: usize = 5376;
+pub const RECEIVERS: usize = SENDERS + MESSAGES;
 
-pub const CARRIED: usize = 5440;
-
-// How many words a row is.
-pub const ROW: usize = 16;
+pub const CARRIED: usize = RECEIVERS + MESSAGES;
 
 pub fn held_at(p: usize) -> usize
-    requires { ⌜ p < 16 ⌝ }
+    requires { ⌜ p < mostProcesses ⌝ }
     ensures { λ r. ⌜ r ≡ heldAt p ⌝ }
 {
     HELD + p
 }
 
 pub fn mark_at(p: usize) -> usize
-    requires { ⌜ p < 16 ⌝ }
+    requires { ⌜ p < mostProcesses ⌝ }
     ensures { λ r. ⌜ r ≡ markAt p ⌝ }
 {
     MARKS + p
 }
 
 pub fn blocks_at(p: usize) -> usize
-    requires { ⌜ p < 16 ⌝ }
+    requires { ⌜ p < mostProcesses ⌝ }
     ensures { λ r. ⌜ r ≡ blocksAt p ⌝ }
 {
     BLOCKS + p
 }
 
 pub fn part_at(p: usize) -> usize
-    requires { ⌜ p < 16 ⌝ }
+    requires { ⌜ p < mostProcesses ⌝ }
     ensures { λ r. ⌜ r ≡ partAt p ⌝ }
 {
     PARTS + PART * p
 }
 
 pub fn pins_at(p: usize) -> usize
-    requires { ⌜ p < 16 ⌝ }
+    requires { ⌜ p < mostProcesses ⌝ }
     ensures { λ r. ⌜ r ≡ pinsAt p ⌝ }
 {
     PINS + PART * p
 }
 
 pub fn index_at(p: usize, k: usize) -> usize
-    requires { ⌜ (p < 16) × (k < 16) ⌝ }
+    requires { ⌜ (p < mostProcesses) × (k < mostProcesses) ⌝ }
     ensures { λ r. ⌜ r ≡ indexAt p k ⌝ }
 {
     INDEXES + PART * p + k
 }
 
 pub fn cause_at(p: usize, k: usize) -> usize
-    requires { ⌜ (p < 16) × (k < 16) ⌝ }
+    requires { ⌜ (p < mostProcesses) × (k < mostProcesses) ⌝ }
     ensures { λ r. ⌜ r ≡ causeAt p k ⌝ }
 {
     CAUSES + PART * p + k
 }
 
 pub fn stored_at(p: usize, k: usize) -> usize
-    requires { ⌜ (p < 16) × (k < 16) ⌝ }
+    requires { ⌜ (p < mostProcesses) × (k < mostProcesses) ⌝ }
     ensures { λ r. ⌜ r ≡ storedAt p k ⌝ }
 {
     STORED + PART * p + ROW * k
 }
 
 pub fn low_at(k: usize) -> usize
-    requires { ⌜ k < 64 ⌝ }
+    requires { ⌜ k < mostUnderWay ⌝ }
     ensures { λ r. ⌜ r ≡ lowAt k ⌝ }
 {
     LOWS + k
 }
 
 pub fn high_at(k: usize) -> usize
-    requires { ⌜ k < 64 ⌝ }
+    requires { ⌜ k < mostUnderWay ⌝ }
     ensures { λ r. ⌜ r ≡ highAt k ⌝ }
 {
     HIGHS + k
 }
 
 pub fn sender_at(k: usize) -> usize
-    requires { ⌜ k < 64 ⌝ }
+    requires { ⌜ k < mostUnderWay ⌝ }
     ensures { λ r. ⌜ r ≡ senderAt k ⌝ }
 {
     SENDERS + k
 }
 
 pub fn receiver_at(k: usize) -> usize
-    requires { ⌜ k < 64 ⌝ }
+    requires { ⌜ k < mostUnderWay ⌝ }
     ensures { λ r. ⌜ r ≡ receiverAt k ⌝ }
 {
     RECEIVERS + k
 }
 
 pub fn carried_at(k: usize) -> usize
-    requires { ⌜ k < 64 ⌝ }
+    requires { ⌜ k < mostUnderWay ⌝ }
     ensures { λ r. ⌜ r ≡ carriedAt k ⌝ }
 {
     CARRIED + ROW * k

@@ -1,13 +1,15 @@
 // One process after a recovery.
 use model::Interval;
+use model::PROCESSES;
 use words::places;
 ghost use mathlib.Core.Path.{_≡_};
 ghost use Prim.Native.Nat.{_+_, _*_, _≤_, _<_};
 ghost use lib.ListN.{length};
 ghost use lib.Seq.{sets};
 ghost use Rattle.model.specs.Steps.{listed, billed};
+ghost use Rattle.model.specs.Words.{mostProcesses, mostBlocks, keptPlaces};
 ghost use Rattle.whole_runs.specs.Outcomes.{pairs};
-ghost use Rattle.words.specs.Layout.{word, heldAt, blocksAt};
+ghost use Rattle.words.specs.Layout.{word, heldAt, blocksAt, stateSize};
 ghost use Rattle.process_words.specs.Kept.{Used};
 ghost use Rattle.process_words.specs.Moves.{diskIn, Moves};
 ghost use Rattle.process_words.specs.Pins.{pinRow};
@@ -16,10 +18,16 @@ ghost use Rattle.recover_in_place.specs.Restored.{restoredPart, restored
 
 // Process p has these pins: what none of them names is deleted, and its pairs go after those of the `before` that were deleted before. The result says how many are
 // deleted.
-fn settle(w: &mut [u16], p: usize, pins: [u16; 16], deleted: &mut [u16], before: usize) -> usize
-    requires { ⌜ (length (now w) ≡ 6464) × (p < 16) × (diskIn (now w) .written ≤ 1000000000000000) × (diskIn (now w) .deleted ≤ 1000000000000000) ⌝ }
-    requires { ⌜ (word (now w) (heldAt p) ≤ 16) × Used (now w) p (word (now w) (heldAt p)) ⌝ }
-    requires { ⌜ (2 * before + 2 * word (now w) (heldAt p) ≤ length (now deleted)) × (before ≤ 256) ⌝ }
+fn settle(
+    w: &mut [u16],
+    p: usize,
+    pins: [u16; PROCESSES],
+    deleted: &mut [u16],
+    before: usize,
+) -> usize
+    requires { ⌜ (length (now w) ≡ stateSize) × (p < mostProcesses) × (diskIn (now w) .written ≤ mostBlocks) × (diskIn (now w) .deleted ≤ mostBlocks) ⌝ }
+    requires { ⌜ (word (now w) (heldAt p) ≤ mostProcesses) × Used (now w) p (word (now w) (heldAt p)) ⌝ }
+    requires { ⌜ (2 * before + 2 * word (now w) (heldAt p) ≤ length (now deleted)) × (before ≤ keptPlaces) ⌝ }
     ensures { λ r. ⌜ Moves (now (w .entry)) p (namedPart (now (w .entry)) p (pinRow pins)) (billed (diskIn (now (w .entry))) 0 (r * word (now (w .entry)) (blocksAt p))) (now (w .exit)) ⌝ }
     ensures { λ r. ⌜ now (deleted .exit) ≡ sets (now (deleted .entry)) (2 * before) (pairs (listed p (unnamedIn (now (w .entry)) p (pinRow pins)))) ⌝ }
     ensures { λ r. ⌜ r ≡ length (unnamedIn (now (w .entry)) p (pinRow pins)) ⌝ }
@@ -38,13 +46,13 @@ fn restore_stored(
     w: &mut [u16],
     p: usize,
     past: usize,
-    owns: [Interval; 16],
+    owns: [Interval; PROCESSES],
     deleted: &mut [u16],
     before: usize,
 ) -> usize
-    requires { ⌜ (length (now w) ≡ 6464) × (p < 16) × (diskIn (now w) .written ≤ 1000000000000000) × (diskIn (now w) .deleted ≤ 1000000000000000) ⌝ }
+    requires { ⌜ (length (now w) ≡ stateSize) × (p < mostProcesses) × (diskIn (now w) .written ≤ mostBlocks) × (diskIn (now w) .deleted ≤ mostBlocks) ⌝ }
     requires { ⌜ (past ≤ word (now w) (heldAt p)) × Restorable (now w) p past ⌝ }
-    requires { ⌜ (2 * before + 2 * word (now w) (heldAt p) ≤ length (now deleted)) × (before ≤ 256) ⌝ }
+    requires { ⌜ (2 * before + 2 * word (now w) (heldAt p) ≤ length (now deleted)) × (before ≤ keptPlaces) ⌝ }
     ensures { λ r. ⌜ Moves (now (w .entry)) p (restoredPart (now (w .entry)) p past owns) (billed (diskIn (now (w .entry))) 0 (r * word (now (w .entry)) (blocksAt p))) (now (w .exit)) ⌝ }
     ensures { λ r. ⌜ now (deleted .exit) ≡ sets (now (deleted .entry)) (2 * before) (pairs (listed p (restoredGone (now (w .entry)) p past owns))) ⌝ }
     ensures { λ r. ⌜ r ≡ length (restoredGone (now (w .entry)) p past owns) ⌝ }
@@ -61,13 +69,13 @@ fn restore_live(
     w: &mut [u16],
     p: usize,
     past: usize,
-    owns: [Interval; 16],
+    owns: [Interval; PROCESSES],
     deleted: &mut [u16],
     before: usize,
 ) -> usize
-    requires { ⌜ (length (now w) ≡ 6464) × (p < 16) × (diskIn (now w) .written ≤ 1000000000000000) × (diskIn (now w) .deleted ≤ 1000000000000000) ⌝ }
+    requires { ⌜ (length (now w) ≡ stateSize) × (p < mostProcesses) × (diskIn (now w) .written ≤ mostBlocks) × (diskIn (now w) .deleted ≤ mostBlocks) ⌝ }
     requires { ⌜ (word (now w) (heldAt p) < past) × Restorable (now w) p past ⌝ }
-    requires { ⌜ (2 * before + 2 * word (now w) (heldAt p) ≤ length (now deleted)) × (before ≤ 256) ⌝ }
+    requires { ⌜ (2 * before + 2 * word (now w) (heldAt p) ≤ length (now deleted)) × (before ≤ keptPlaces) ⌝ }
     ensures { λ r. ⌜ Moves (now (w .entry)) p (restoredPart (now (w .entry)) p past owns) (billed (diskIn (now (w .entry))) 0 (r * word (now (w .entry)) (blocksAt p))) (now (w .exit)) ⌝ }
     ensures { λ r. ⌜ now (deleted .exit) ≡ sets (now (deleted .entry)) (2 * before) (pairs (listed p (restoredGone (now (w .entry)) p past owns))) ⌝ }
     ensures { λ r. ⌜ r ≡ length (restoredGone (now (w .entry)) p past owns) ⌝ }
@@ -88,13 +96,13 @@ pub fn restore(
     w: &mut [u16],
     p: usize,
     past: usize,
-    owns: [Interval; 16],
+    owns: [Interval; PROCESSES],
     deleted: &mut [u16],
     before: usize,
 ) -> usize
-    requires { ⌜ (length (now w) ≡ 6464) × (p < 16) × (diskIn (now w) .written ≤ 1000000000000000) × (diskIn (now w) .deleted ≤ 1000000000000000) ⌝ }
+    requires { ⌜ (length (now w) ≡ stateSize) × (p < mostProcesses) × (diskIn (now w) .written ≤ mostBlocks) × (diskIn (now w) .deleted ≤ mostBlocks) ⌝ }
     requires { ⌜ Restorable (now w) p past ⌝ }
-    requires { ⌜ (2 * before + 2 * word (now w) (heldAt p) ≤ length (now deleted)) × (before ≤ 256) ⌝ }
+    requires { ⌜ (2 * before + 2 * word (now w) (heldAt p) ≤ length (now deleted)) × (before ≤ keptPlaces) ⌝ }
     ensures { λ r. ⌜ Moves (now (w .entry)) p (restoredPart (now (w .entry)) p past owns) (billed (diskIn (now (w .entry))) 0 (r * word (now (w .entry)) (blocksAt p))) (now (w .exit)) ⌝ }
     ensures { λ r. ⌜ now (deleted .exit) ≡ sets (now (deleted .entry)) (2 * before) (pairs (listed p (restoredGone (now (w .entry)) p past owns))) ⌝ }
     ensures { λ r. ⌜ r ≡ length (restoredGone (now (w .entry)) p past owns) ⌝ }
