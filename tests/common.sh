@@ -5,7 +5,7 @@
 # For the tests of the suites themselves (tests/suites/run), from the environment:
 #     PROGRAMS   the folder of the programs, in the place of target/bin
 #     ORACLE     the folder of the oracle's program, in the place of tests/oracle/target/release
-#     FEW        so many inputs by seed, and of every long list of cases the first and the last
+#     FEW        that many inputs by seed, and of every long list of cases the first and the last
 #     AT_ONCE    a suite ends with its first failure
 # A suite tells the programs that it starts in which part it is: PART.
 set -u
@@ -116,7 +116,7 @@ same() {
     return 1
 }
 
-# seeds COUNT COMMAND PROGRAM..: so many inputs by seed, on which this command of the oracle holds PROGRAM to it
+# seeds COUNT COMMAND PROGRAM..: that many inputs by seed, on which this command of the oracle holds PROGRAM to it
 seeds() {
     local count=${FEW:-$1} soak=$2
     shift 2

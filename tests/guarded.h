@@ -22,7 +22,7 @@ static struct buffer {
 
 static unsigned char filling[64 * 65536];
 
-// So many buffers, with so many pages each.
+// That many buffers, with that many pages each.
 static void make_buffers(const size_t *pages, int count) {
     size_t page = (size_t)sysconf(_SC_PAGESIZE);
     memset(filling, FILLING, sizeof filling);

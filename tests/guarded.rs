@@ -16,7 +16,7 @@ pub fn lent<T: Copy>(buffer: c_int, list: &[T], how: u64) -> *mut T {
     if list.is_empty() && how & 1 == 0 {
         return std::ptr::null_mut();
     }
-    // Safety: the buffer has room for so many bytes, and nobody else writes it.
+    // Safety: the buffer has room for that many bytes, and nobody else writes it.
     unsafe {
         let to = lend(buffer, std::mem::size_of_val(list), how & 6 != 6).cast::<T>();
         std::ptr::copy_nonoverlapping(list.as_ptr(), to, list.len());

@@ -34,7 +34,7 @@ enum {
     LEMIDROSY_FIGURES = 5,     /* what lemidrosy_simulate writes */
     LEMIDROSY_SAVED = 12942,   /* the bytes of a saved state */
     LEMIDROSY_LINE = 3102,     /* the bytes of a record's line, at most: a text with less room takes no record */
-    LEMIDROSY_PROGRESS = 3     /* what lemidrosy_replay writes beside the text */
+    LEMIDROSY_PROGRESS = 3     /* what lemidrosy_replay writes besides the text */
 };
 
 /* An answer is one number with fields, the same for every call:
@@ -120,7 +120,7 @@ uint64_t lemidrosy_lose(uint16_t *words, size_t words_length, uint32_t message);
    is its own entry. The set is judged with all its 32 bits. Refused with 2, 3 or 7. */
 uint64_t lemidrosy_line(const uint16_t *words, size_t words_length, uint32_t failed, uint16_t *line, size_t line_length);
 
-/* Everyone goes back to the line for a failed set, bit p of which stands for process p; the value is how many rolled back. The n indexes of the line go to the one list,
+/* Every process goes back to the line for a failed set, bit p of which stands for process p; the value is how many rolled back. The n indexes of the line go to the one list,
    which has room for n; what is deleted goes to the other, which has room for 2 n n entries, as pairs of a process and an index. The messages stay under way that were sent
    up to the line. With an empty set it is a sweep: nobody rolls back, and what no failure would use is deleted. Refused with 2, 3 or 7. */
 uint64_t lemidrosy_recover(uint16_t *words, size_t words_length, uint32_t failed, uint16_t *deleted, size_t deleted_length, uint16_t *line, size_t line_length);
@@ -138,8 +138,8 @@ uint64_t lemidrosy_earliest(const uint16_t *words, size_t words_length, const ui
 uint64_t lemidrosy_replay(uint16_t *words, size_t words_length, bool all, uint64_t done, const uint8_t *records, size_t records_length, uint8_t *text, size_t text_length, uint64_t *progress, size_t progress_length);
 
 /* The recorder: each of these calls once more, with a buffer that is lent and a list with the place that its next byte goes to (of the list the first entry counts). The
-   buffer is a trace: its first byte is n, which the start writes, wherever the place was; behind it stand the records of the accepted calls, four bytes each, in their order,
-   and the place is then behind the last of them. A line request writes none. The call answers, leaves and is refused as it is without the recorder; besides with 3, before any
+   buffer is a trace: its first byte is n, which the start writes, wherever the place was; after it stand the records of the accepted calls, four bytes each, in their order,
+   and the place is then after the last of them. A line request writes none. The call answers, leaves and is refused as it is without the recorder; besides with 3, before any
    other number, where no place is lent (then a start, too, leaves every word), and with 21, after every other number, where the buffer has too few bytes from the place on.
    A refused call changes no byte and no place. A replay of the buffer up to the place, from a start with the same block counts, ends in the same state and answers the same. */
 uint64_t lemidrosy_record_start(uint16_t *words, size_t words_length, size_t n, const uint32_t *counts, size_t counts_length, uint8_t *buffer, size_t buffer_length, uint64_t *place, size_t place_length);
@@ -240,10 +240,10 @@ enum lemidrosy_request {
 /* An answer is a kind and a number. Every other kind, and an answer that does not fit the request, stands for a call that failed. */
 enum lemidrosy_answered {
     LEMIDROSY_ANSWER_FAILED = 0,
-    LEMIDROSY_ANSWER_BYTES = 1,     /* so many bytes were brought: by READ one at least, by ARGUMENT the whole word, which may be empty */
+    LEMIDROSY_ANSWER_BYTES = 1,     /* that many bytes were brought: by READ one at least, by ARGUMENT the whole word, which may be empty */
     LEMIDROSY_ANSWER_END = 2,       /* of READ: there are no more bytes */
     LEMIDROSY_ANSWER_DONE = 3,      /* of WRITE, SAY, FAIL and OPEN */
-    LEMIDROSY_ANSWER_NUMBER = 4     /* of COUNT: so many words */
+    LEMIDROSY_ANSWER_NUMBER = 4     /* of COUNT: that many words */
 };
 
 /* Each machine has two functions. The one begins: 0, and the first request; 3 if a list is too short, or the words are not as many as a run has: then nothing is written.
@@ -304,7 +304,7 @@ uint64_t lemidrosy_merge_step(uint64_t *memory, size_t memory_length, const uint
 
 /* The program simulate. It asks for how many words it was started with, for words 1 to 4 (N, SPACING or FROM-TO, STEPS, SEED), and to write a text, or a table line by
    line. For every list of answers it is proved that what is to be written is the front of the text of the numbers in those words, the figures, the table or `refused 22`,
-   and all of it where nothing failed; that the usage is said where there are not four words or one of them is wrong, what failed is said, and nothing else; and that it
+   and all of it where nothing failed; that the usage is reported where there are not four words or one of them is wrong, what failed is reported, and nothing else; and that it
    ends. Eight numbers of memory, 65,536 bytes of input or more and 260 bytes of out or more. A step takes 20 KB of stack. */
 enum {
     LEMIDROSY_SIMULATE_MEMORY = 8,
@@ -333,7 +333,7 @@ uint64_t lemidrosy_console_step(uint16_t *words, size_t words_length, uint64_t *
    40 KB of stack. */
 uint64_t lemidrosy_merge(const uint8_t *first, size_t first_length, const uint8_t *second, size_t second_length, uint32_t set, uint8_t *trace, size_t trace_length);
 
-/* A simulation of n processes (1 to 16), each of which takes a checkpoint after so many sends and deliveries of its own (1 to 1,000), for so many steps (1 to 30,000), with
+/* A simulation of n processes (1 to 16), each of which takes a checkpoint after the given number of sends and deliveries of its own (1 to 1,000), for that many steps (1 to 30,000), with
    a starting value. Five figures go to the list: the deliveries, the forced checkpoints, the most checkpoints that a process kept after any step, and 1,000 times the forced
    ones divided by the deliveries, as quotient and remainder. Refused with 3 (fewer than five entries), then with 22. It takes 20 KB of stack. */
 uint64_t lemidrosy_simulate(size_t n, uint32_t spacing, uint32_t steps, uint32_t seed, uint64_t *figures, size_t figures_length);
@@ -344,7 +344,7 @@ uint64_t lemidrosy_simulate(size_t n, uint32_t spacing, uint32_t steps, uint32_t
 /* The bytes of the state go to the front of the lent ones; the value is how many they are. Refused with 2, or with 3 if fewer than 12,942 are lent. */
 uint64_t lemidrosy_save(const uint16_t *words, size_t words_length, uint8_t *bytes, size_t bytes_length);
 
-/* Bytes, any at all: where they are a saved sound state, and nothing behind it, the words are those that were saved. Refused with 2 otherwise, or if not 6,464 words are
+/* Bytes, any at all: where they are a saved sound state, and nothing after it, the words are those that were saved. Refused with 2 otherwise, or if not 6,464 words are
    lent: then no word is written. No change of up to four bytes in a row is overlooked: proved. It takes 13 KB of stack. */
 uint64_t lemidrosy_load(const uint8_t *bytes, size_t bytes_length, uint16_t *words, size_t words_length);
 
@@ -352,11 +352,11 @@ uint64_t lemidrosy_load(const uint8_t *bytes, size_t bytes_length, uint16_t *wor
    refusal, or below 0 the system's error, -ENOENT and so on. */
 
 /* Stores the state at the path. Until it stands there whole, on the disk, the old file does: a crash, a full disk or an error in between leaves that, and a crash may
-   leave a file beside it whose name ends in .new, which counts for nothing. A file that was there is replaced with its mode kept; a symbolic link is replaced itself. Two
+   leave a file next to it whose name ends in .new, which counts for nothing. A file that was there is replaced with its mode kept; a symbolic link is replaced itself. Two
    stores at a time leave one of the two states. An error after the new file has its name (the folder does not reach the disk) is the one that leaves the new state. */
 int lemidrosy_store_file(const char *path, const uint16_t *words);
 
-/* Loads the state of a file. Refused with 2 where the file is no saved sound state, or has anything behind it; then, and with an error, no word is written. */
+/* Loads the state of a file. Refused with 2 where the file is no saved sound state, or has anything after it; then, and with an error, no word is written. */
 int lemidrosy_load_file(const char *path, uint16_t *words);
 
 #ifdef __cplusplus

@@ -14,7 +14,7 @@
 #include <sys/stat.h>
 #include <unistd.h>
 
-/* What a new file's name has behind the name that it is to get, at most. */
+/* What a new file's name has after the name that it is to get, at most. */
 enum { BEHIND = 48, ATTEMPTS = 1000 };
 
 static int write_all(int file, const uint8_t *bytes, size_t many) {

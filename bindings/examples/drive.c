@@ -1,4 +1,4 @@
-/* drive PROGRAM [WORD..]: judge, replay, record, merge, simulate or console as a machine, driven with this program's own files. What is read, written and said, the machine decides. The status is
+/* drive PROGRAM [WORD..]: judge, replay, record, merge, simulate or console as a machine, driven with this program's own files. What is read, written and reported, the machine decides. The status is
    3 if the system failed. */
 #define _POSIX_C_SOURCE 200809L
 #include "lemidrosy.h"
@@ -102,7 +102,7 @@ static struct answer opened(size_t size, int *source) {
     return done(file >= 0);
 }
 
-/* Does what the machine asks for. The words are those that it was started with, from its name on, and a null pointer behind them. */
+/* Does what the machine asks for. The words are those that it was started with, from its name on, and a null pointer after them. */
 static struct answer obey(char **started, size_t count, int *source) {
     size_t size = (size_t)request[1];
     uint8_t *place = input + request[2];

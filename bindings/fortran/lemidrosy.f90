@@ -506,7 +506,7 @@ contains
         sound = c_is_sound(words, length_of(words))
     end function
 
-    ! A run of n processes begins, each with a block count for its checkpoints; counts behind the first n are not looked at.
+    ! A run of n processes begins, each with a block count for its checkpoints; counts after the first n are not looked at.
     ! Refused with 1, 2 (not 6,464 words: then nothing is written), 3 (fewer than n counts) or 15.
     function lemidrosy_start(words, n, counts) result(answer)
         integer(c_int16_t), contiguous, intent(inout) :: words(:)
@@ -900,7 +900,7 @@ contains
 
     ! Records of a trace, four bytes each and without its first byte, as calls on the words; done says how many were before them.
     ! Their lines go to the text, and to the list how many records were taken, how many letters were written, and 1 if the replay
-    ! goes on. It stops behind a refusal, unless all are asked for, behind record 1,000,000,000, and where the longest line, 3,102
+    ! goes on. It stops after a refusal, unless all are asked for, after record 1,000,000,000, and where the longest line, 3,102
     ! letters, might not fit any more. Refused with 3 if the list has fewer than three entries.
     function lemidrosy_replay(words, all, done, records, text, progress) result(answer)
         integer(c_int16_t), contiguous, intent(inout) :: words(:)
@@ -1029,7 +1029,7 @@ contains
         room = min(size(list, kind=c_size_t), int(most, c_size_t))
     end function
 
-    ! So many entries of 16 bits without a sign go to the front of a list.
+    ! That many entries of 16 bits without a sign go to the front of a list.
     pure subroutine write_front(many, from, list)
         integer, intent(in) :: many
         integer(c_int16_t), intent(in) :: from(:)

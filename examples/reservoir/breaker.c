@@ -1,6 +1,6 @@
 /* breaker: runs the job again and again, kills its processes at random moments, and checks after every committed call that nothing is wrong.
 
-       breaker FOLDER KILLS SEED [N..]    until so many kills, each run with one of these numbers of processes, or with any from 2 to 16; with 0 kills, one run for each
+       breaker FOLDER KILLS SEED [N..]    until that many kills, each run with one of these numbers of processes, or with any from 2 to 16; with 0 kills, one run for each
 
    It starts the processes as start.c does and looks on through a socket to each. FOLDER/recoveries gets a line for each recovery: processes, spacing, how many failed, how
    many went back, how many steps were lost by all of them and by one at most, and how many would be with coordinated checkpoints as often as a worker takes one, with
@@ -166,7 +166,7 @@ static void hear(uint32_t k) {
     }
 }
 
-/* The steps that coordinated checkpoints every so many steps would lose: everyone goes back to the last one that all have reached. */
+/* The steps that coordinated checkpoints every so many steps would lose: every process goes back to the last one that all have reached. */
 static uint64_t lost_if_coordinated(uint32_t every) {
     uint32_t least = progress[0];
     uint64_t lost = 0;
@@ -474,7 +474,7 @@ static void end_run(void) {
     sum.steps_done += (uint64_t)STEPS * job.n;
 }
 
-/* One run, with a strike every so many committed calls on average, until so many kills in all. */
+/* One run, with a strike every so many committed calls on average, until that many kills in all. */
 static void run(uint64_t kills, uint32_t calls) {
     double when = 0, room = 0;
     uint32_t countdown = calls == 0 ? 0 : 1 + below(4 * calls);

@@ -107,7 +107,7 @@ static void remove_others(const char *path, bool (*stays)(const char *)) {
 /* Removes the checkpoints that the committed words do not keep: what a kill or a full disk has left. */
 static void tidy(void) { remove_others(path_of("checkpoints"), is_checkpoint); }
 
-/* Who looks on is told that a call is committed and its deletions are made, and has the time to look. */
+/* An onlooker is told that a call is committed and its deletions are made, and has the time to look. */
 static void tell(void) {
     uint32_t at[LEMIDROSY_PROCESSES];
     char seen;
@@ -185,7 +185,7 @@ static void reply_kind(uint32_t process, uint32_t kind, uint32_t index) {
     reply(process, &message);
 }
 
-/* The arguments of a call, and behind them those of the recorder. */
+/* The arguments of a call, and after them those of the recorder. */
 #define RECORDED(...) __VA_ARGS__, trace, sizeof trace, &next.place, 1
 
 static bool send_message(uint32_t process) {

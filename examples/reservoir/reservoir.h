@@ -13,8 +13,8 @@ enum { PATH = 256 };              /* room for the name of a file */
 struct job {
     const char *folder;            /* where words, trace, field and checkpoints stand */
     uint32_t n, steps;             /* how many processes and steps */
-    uint32_t spacing;              /* a worker takes a checkpoint after so many sends and receipts of its own */
-    uint32_t loss, sweep;          /* one message of so many is lost, and a sweep comes after so many calls; 0: never */
+    uint32_t spacing;              /* a worker takes a checkpoint after that many sends and receipts of its own */
+    uint32_t loss, sweep;          /* one message of that many is lost, and a sweep comes after that many calls; 0: never */
     pid_t starter;                 /* who started everyone: nobody outlives it */
     int watch;                     /* a socket to whoever looks on after each committed call, or -1 */
 };

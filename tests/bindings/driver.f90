@@ -51,7 +51,7 @@ contains
         has = at <= line_length
     end function
 
-    ! Where the next word of the line ends, and where the one behind it begins.
+    ! Where the next word of the line ends, and where the one after it begins.
     subroutine take_word(first, last)
         integer, intent(out) :: first, last
 
@@ -148,7 +148,7 @@ contains
         value = index('0123456789abcdef', letter) - 1
     end function
 
-    ! A number, or a hyphen, behind a space.
+    ! A number, or a hyphen, after a space.
     subroutine say(number)
         integer(c_int64_t), intent(in) :: number
 
@@ -174,7 +174,7 @@ contains
         end do
     end subroutine
 
-    ! Numbers in groups of so many.
+    ! Numbers in groups of that many.
     subroutine say_groups(numbers, many)
         integer(c_int32_t), intent(in) :: numbers(:)
         integer, intent(in) :: many

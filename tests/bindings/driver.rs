@@ -34,7 +34,7 @@ fn main() -> io::Result<()> {
     output.flush()
 }
 
-/// What is said behind the 0 of an accepted call.
+/// What is said after the 0 of an accepted call.
 fn answer(run: &mut Run, call: &str, words: &[&str]) -> io::Result<Result<String, Refusal>> {
     match call {
         "dump" => return dump(run, words[0]).map(Ok),

@@ -34,7 +34,7 @@ class Pieces(io.RawIOBase):
 
 
 class Full(io.BytesIO):
-    """It takes so many writes, then no more; any number with `-`. A write takes five bytes less than it is handed, where there are as many."""
+    """It takes that many writes, then no more; any number with `-`. A write takes five bytes less than it is handed, where there are as many."""
 
     def __init__(self, writes):
         super().__init__()

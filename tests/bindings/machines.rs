@@ -32,7 +32,7 @@ impl Read for Pieces {
     }
 }
 
-/// It takes so many writes, then no more. A write takes five bytes less than it is handed, where there are as many.
+/// It takes that many writes, then no more. A write takes five bytes less than it is handed, where there are as many.
 struct Full {
     data: Vec<u8>,
     left: usize,

@@ -72,7 +72,7 @@ const MET: [&str; 9] = [
     "a forged state",
 ];
 
-/// In a run of at least so many calls, each is met at least so many times.
+/// In a run of at least that many calls, each is met at least that many times.
 const MANY: u64 = 10_000;
 const LEAST: u64 = 10;
 
@@ -81,7 +81,7 @@ struct Held {
     met: [u64; MET.len()],
 }
 
-/// The arguments of a call beside the words.
+/// The arguments of a call besides the words.
 struct Asked {
     all: bool,
     done: u64,
@@ -301,7 +301,7 @@ fn asked(draws: &mut Draws, words: &[u16]) -> Asked {
 }
 
 /// A sound state that no calls leave, and a block whose first recovery leaves it
-/// not sound: a process goes back behind an interval of it that another one, which
+/// not sound: a process rolls back past an interval that another one, which
 /// stays live, still knows. Calls would have told that one of the failed process.
 fn torn(held: &mut Held, draws: &mut Draws) -> Result<(), String> {
     let n = 3 + draws.place(14);
@@ -416,7 +416,7 @@ fn whole(held: &mut Held, draws: &mut Draws) -> Result<(), String> {
     }
 }
 
-/// Makes at least so many calls by seed. Says what was met, or the first
+/// Makes at least that many calls by seed. Says what was met, or the first
 /// difference; true if there is none.
 #[no_mangle]
 pub extern "C" fn hold_blocks(seed: u64, count: u64) -> bool {

@@ -18,7 +18,7 @@ uint64_t lemidrosy_replay(uint16_t *words, size_t size, bool all, uint64_t done,
     (void)all;
     return right_replay(words, size, true, done, records, many, text, room, progress, numbers);
 }
-#elif WAY == 3 // a byte of the text behind the lines is written
+#elif WAY == 3 // a byte of the text after the lines is written
 uint64_t lemidrosy_replay(uint16_t *words, size_t size, bool all, uint64_t done, const uint8_t *records, size_t many, uint8_t *text, size_t room, uint64_t *progress, size_t numbers) {
     uint64_t answer = right_replay(words, size, all, done, records, many, text, room, progress, numbers);
     if (answer == 0 && progress[1] < room)

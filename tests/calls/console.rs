@@ -15,7 +15,7 @@ extern "C" {
     fn console_from_c(call: *const Lent, role: u32, owned: u32) -> u64;
 }
 
-/// In a run of at least so many calls, every number is met at least so many
+/// In a run of at least that many calls, every number is met at least that many
 /// times.
 const MANY: u64 = 200_000;
 const LEAST: u64 = 10;
@@ -133,7 +133,7 @@ impl Library for Console {
     }
 }
 
-/// Makes so many calls by seed. Says what was met, or the first difference; true
+/// Makes that many calls by seed. Says what was met, or the first difference; true
 /// if there is none.
 #[no_mangle]
 pub extern "C" fn hold_console(seed: u64, count: u64) -> bool {

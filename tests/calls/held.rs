@@ -84,7 +84,7 @@ fn take_all_back(more: &[c_int]) -> Result<(), String> {
 }
 
 /// Says how often each call met each of its numbers; with `least`, each has to be
-/// met so many times.
+/// met that many times.
 fn tell<const N: usize>(
     calls: &[(&str, &[usize])],
     met: &[[u64; N]],
@@ -233,12 +233,12 @@ unsafe fn call_from_rust(c: &Lent) -> u64 {
     }
 }
 
-/// In a run of at least so many calls, everything that can be met is met at
-/// least so many times.
+/// In a run of at least that many calls, everything that can be met is met at
+/// least that many times.
 const MANY: u64 = 1_000_000;
 const LEAST: u64 = 10;
 
-/// Makes so many calls by seed. Says what was met, or the first difference; true
+/// Makes that many calls by seed. Says what was met, or the first difference; true
 /// if there is none.
 #[no_mangle]
 pub extern "C" fn hold_calls(seed: u64, count: u64) -> bool {

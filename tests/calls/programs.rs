@@ -48,12 +48,12 @@ const PROGRAMS: [(&str, &[usize]); 3] = [
     ("simulate", &[0, 3, 22]),
 ];
 
-/// In a run of at least so many calls of each, every number is met at least so
+/// In a run of at least that many calls of each, every number is met at least that
 /// many times.
 const MANY: u64 = 3000;
 const LEAST: u64 = 5;
 
-/// Makes so many calls of each by seed. Says what was met, or the first
+/// Makes that many calls of each by seed. Says what was met, or the first
 /// difference; true if there is none.
 #[no_mangle]
 pub extern "C" fn hold_programs(seed: u64, count: u64) -> bool {

@@ -28,7 +28,7 @@ const BYTES: c_int = 5;
 const LIST_TOO_SHORT: u64 = 3;
 const BUFFER_TOO_SHORT: u64 = 21;
 
-/// In a run of at least so many calls, every number is met at least so many
+/// In a run of at least that many calls, every number is met at least that many
 /// times.
 const MANY: u64 = 200_000;
 const LEAST: u64 = 10;
@@ -199,7 +199,7 @@ impl Library for Recorder {
     }
 }
 
-/// Makes so many calls by seed. Says what was met, or the first difference; true
+/// Makes that many calls by seed. Says what was met, or the first difference; true
 /// if there is none.
 #[no_mangle]
 pub extern "C" fn hold_recorded(seed: u64, count: u64) -> bool {

@@ -158,7 +158,7 @@ static uint32_t stored(void) {
     return k;
 }
 
-// How many files there are beside the state's.
+// How many files there are besides the state's.
 static long beside(void) {
     long many = 0;
     DIR *all = opendir(folder);
@@ -287,7 +287,7 @@ static void broken_files(void) {
     same("a folder", lemidrosy_load_file(folder, words), -EISDIR);
 }
 
-// A store in which this step fails: the old state is there, and nothing beside it.
+// A store in which this step fails: the old state is there, and nothing else.
 static void failed(const char *what, char letter, int error) {
     same("a store", store(1), 0);
     watch();

@@ -59,7 +59,7 @@ const MET: [&str; 9] = [
     "another number of words",
 ];
 
-/// In a run of at least so many calls, each is met at least so many times.
+/// In a run of at least that many calls, each is met at least that many times.
 const MANY: u64 = 10_000;
 const LEAST: u64 = 10;
 
@@ -305,7 +305,7 @@ fn all(held: &mut Held, seed: u64, count: u64) -> Result<(), String> {
     Ok(())
 }
 
-/// Makes at least so many calls by seed. Says what was met, or the first
+/// Makes at least that many calls by seed. Says what was met, or the first
 /// difference; true if there is none.
 #[no_mangle]
 pub extern "C" fn hold_saved(seed: u64, count: u64) -> bool {

@@ -26,7 +26,7 @@ uint64_t lemidrosy_save(const uint16_t *words, size_t size, uint8_t *bytes, size
         bytes[0] ^= 1;
     return answer;
 }
-#elif WAY == 4 // the byte behind the saved ones is written
+#elif WAY == 4 // the byte after the saved ones is written
 uint64_t right_save(const uint16_t *, size_t, uint8_t *, size_t);
 uint64_t lemidrosy_save(const uint16_t *words, size_t size, uint8_t *bytes, size_t room) {
     uint64_t answer = right_save(words, size, bytes, room);
@@ -34,7 +34,7 @@ uint64_t lemidrosy_save(const uint16_t *words, size_t size, uint8_t *bytes, size
         bytes[SAVED] ^= 1;
     return answer;
 }
-#elif WAY == 5 // what stands behind a saved state is not looked at
+#elif WAY == 5 // what follows a saved state is not looked at
 uint64_t right_load(const uint8_t *, size_t, uint16_t *, size_t);
 uint64_t lemidrosy_load(const uint8_t *bytes, size_t many, uint16_t *words, size_t size) {
     return right_load(bytes, many > SAVED ? SAVED : many, words, size);
@@ -55,7 +55,7 @@ uint64_t lemidrosy_load(const uint8_t *bytes, size_t many, uint16_t *words, size
         words[15] ^= 1;
     return answer;
 }
-#elif WAY == 8 // the byte behind the lent ones is read
+#elif WAY == 8 // the byte after the lent ones is read
 uint64_t right_load(const uint8_t *, size_t, uint16_t *, size_t);
 uint64_t lemidrosy_load(const uint8_t *bytes, size_t many, uint16_t *words, size_t size) {
     if (many > 0)

@@ -37,7 +37,7 @@ class Source:
         self._count = 0
 
     def read(self, size: int) -> bytes:
-        """As many bytes as are there, at most so many."""
+        """As many bytes as are there, at most that many."""
         if self._file is None:
             self._file = opened(self._name, self._kind.name)
             self.progress = Progress(self._file.size() // self._kind.size, self._kind.unit)

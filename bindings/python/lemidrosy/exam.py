@@ -108,7 +108,7 @@ def made(run: Run, *calls: Tuple[Any, ...]) -> Run:
 
 
 def stored(run: Run, process: int, times: int) -> Run:
-    """The run after so many checkpoints of a process."""
+    """The run after that many checkpoints of a process."""
     return made(run, *[("checkpoint", process)] * times)
 
 

@@ -35,7 +35,7 @@ _numbers = ctypes.POINTER(c_uint32)
 _sums = ctypes.POINTER(c_uint64)
 _bytes = ctypes.POINTER(c_uint8)
 
-# What the machines are lent, and beside it a step's answer and the request.
+# What the machines are lent, and with it a step's answer and the request.
 _JUDGE = _MERGE = _SIMULATE = (_sums, c_size_t, _bytes, c_size_t, _bytes, c_size_t)
 _REPLAY = _CONSOLE = (_words, c_size_t, _sums, c_size_t, _bytes, c_size_t, _bytes, c_size_t)
 _RECORD = (_sums, c_size_t, _words, c_size_t, _bytes, c_size_t, _bytes, c_size_t, _bytes, c_size_t)

@@ -91,7 +91,7 @@ class Readable(Protocol):
     """What a machine's bytes are read from: a binary file, or anything that reads likewise."""
 
     def read(self, __size: int) -> Optional[bytes]:
-        """As many bytes as are there, at most so many; none at the end."""
+        """As many bytes as are there, at most that many; none at the end."""
 
 
 class Writable(Protocol):

@@ -17,7 +17,7 @@ _PROCESS, _ARGUMENT = 15, 0x1FFFFFF
 _FAILED = 24
 """The highest bit of an argument."""
 _SENDER_BITS = 21
-"""In a half, a sender stands above so many bits of its running count."""
+"""In a half, a sender stands above that many bits of its running count."""
 _COUNT = (1 << _SENDER_BITS) - 1
 
 

@@ -40,7 +40,7 @@ pub struct Replayed {
     pub taken: usize,
     /// Their lines, as the program `replay` prints them.
     pub lines: String,
-    /// Whether the replay goes on behind them.
+    /// Whether the replay goes on after them.
     pub goes_on: bool,
 }
 
@@ -103,7 +103,7 @@ pub fn accepted(answer: u64) -> Result<Answer, Refusal> {
     }
 }
 
-/// So many pairs of a process and an index.
+/// That many pairs of a process and an index.
 fn pairs(list: &[u16], many: usize) -> Vec<Checkpoint> {
     let pairs = list.chunks_exact(2).take(many);
     pairs.map(|pair| (usize::from(pair[0]), pair[1])).collect()

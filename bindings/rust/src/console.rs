@@ -1,4 +1,4 @@
-//! A run behind a console, where each caller may do what its role allows.
+//! A run with a console in front of it, where each caller may do what its role allows.
 
 use crate::answers::{accepted, Delivered, Recovered, Stored};
 use crate::library::{self, Asker};

@@ -44,7 +44,7 @@ pub use refusal::Refusal;
 pub use run::Run;
 pub use trace::{judge, merge, simulate, Figures, Verdict};
 
-/// A checkpoint, or the live state behind the last one: a process and an index.
+/// A checkpoint, or the live state after the last one: a process and an index.
 pub type Checkpoint = (usize, u16);
 
 /// The words of a state.

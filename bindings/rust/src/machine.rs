@@ -31,13 +31,13 @@ pub enum Request<'a> {
 /// What came of a request. One that does not fit it counts as [`Answered::Failed`].
 #[derive(Clone, Copy, Debug, PartialEq, Eq)]
 pub enum Answered {
-    /// So many bytes were brought.
+    /// That many bytes were brought.
     Bytes(usize),
     /// There are no more bytes.
     End,
     /// It is written, said or opened.
     Done,
-    /// So many words.
+    /// That many words.
     Number(usize),
     /// The system could not do it.
     Failed,
@@ -54,7 +54,7 @@ enum Program {
     Console,
 }
 
-/// A program of the library that asks for one thing at a time and takes what came of it: [`drive`] obeys it with files. What is read, written and said, the machine decides.
+/// A program of the library that asks for one thing at a time and takes what came of it: [`drive`] obeys it with files. What is read, written and reported, the machine decides.
 ///
 /// ```
 /// use lemidrosy::{Answered, Machine, Request};
@@ -77,7 +77,7 @@ pub struct Machine {
 }
 
 impl Machine {
-    /// A machine that has begun, with so many numbers, words and bytes lent.
+    /// A machine that has begun, with that many numbers, words and bytes lent.
     fn begun(program: Program, sizes: [usize; 5]) -> Machine {
         let [memory, words, input, out, lines] = sizes;
         let mut machine = Machine {

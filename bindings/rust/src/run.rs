@@ -116,8 +116,8 @@ impl Run {
         Ok(answer.threes(&list, message))
     }
 
-    /// Records of a trace, four bytes each and without its first byte, as calls on the state; `done` says how many were before them. It stops behind a refusal, unless
-    /// `all` is asked for, and behind record 1,000,000,000; bytes that are left over are not looked at.
+    /// Records of a trace, four bytes each and without its first byte, as calls on the state; `done` says how many were before them. It stops after a refusal, unless
+    /// `all` is asked for, and after record 1,000,000,000; bytes that are left over are not looked at.
     ///
     /// ```
     /// # use lemidrosy::{Refusal, Run};

@@ -70,7 +70,7 @@ pub struct Figures {
     pub remainder: u64,
 }
 
-/// Tries a checkpoint spacing: n processes, of which each takes a checkpoint after so many of its sends and deliveries, run so many steps; the seed is the starting value
+/// Tries a checkpoint spacing: n processes, of which each takes a checkpoint after the given number of its sends and deliveries, run that many steps; the seed is the starting value
 /// of what is drawn.
 ///
 /// Refused: `TrialOutsideRange` where n is not from 1 to 16, the spacing not from 1 to 1,000 or the steps not from 1 to 30,000.

@@ -17,7 +17,7 @@ ghost use Rattle.listing.specs.Said.{reportIn};
 ghost use Rattle.whole_runs.specs.Outcomes.{startReport, checkpointReport, sendReport, deliverReport, loseReport, lineReport, recoverReport};
 ghost use Rattle.answers.specs.Codes.{valueCode, coded, Fits, startCode, checkpointCode, sendCode, deliverCode, loseCode, lineCode, recoverCode};
 
-// What one deletion, a value that is there, each one of the value and each one of the set that rose are worth.
+// The weights of the fields: of one deletion, of there being a value, of the value, and of the set that rose.
 const DELETION: u64 = 256;
 
 const GIVEN: u64 = 8388608;

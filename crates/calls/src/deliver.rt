@@ -8,7 +8,7 @@ ghost use Rattle.whole_runs.specs.Outcomes.{deliverOutcome};
 ghost use Rattle.whole_runs.specs.Calls as made;
 ghost use Rattle.whole_runs.specs.WholeRuns.{StatePromise};
 
-// What a deliver call returns beside the lent list. `rose` is the set of the receiver's entries that rose, bit f for entry f; 0 with a refusal.
+// What a deliver call returns besides the lent list. `rose` is the set of the receiver's entries that rose, bit f for entry f; 0 with a refusal.
 pub struct DeliverOutcome {
     pub run: Run,
     pub answer: DeliverAnswer,

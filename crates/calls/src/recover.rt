@@ -15,7 +15,7 @@ pub struct RecoverOutcome {
     pub answer: RecoverAnswer,
 }
 
-// Everyone goes back to the line for a failed set: its indexes go to the front of the one lent list, what is deleted to the front of the other.
+// Every process goes back to the line for a failed set: its indexes go to the front of the one lent list, what is deleted to the front of the other.
 // Wherever calls from an accepted start led to s, the line is right, and so is what s and the returned state keep (demand 3); if the call is accepted,
 // the returned state keeps a checkpoint exactly if some failure would use it (Note 6). Wherever s is sound, a recovery for the empty set rolls nobody back (Note 4).
 pub fn recover(s: Run, failed: u16, deleted: &mut [u16], line: &mut [u16]) -> RecoverOutcome

@@ -46,7 +46,7 @@ take-none : {A : Type 0} (k : ℕ) → _≡_ {A = List A} (take k []) []
 take-none zero = refl
 take-none (suc k) = refl
 
--- Of places that all hold the same, so many: none passes, or the last one does.
+-- Of that many places that all hold the same: none passes, or the last one does.
 module _ {A : Type 0} (t : A → Bool) (x : A) where
   none-passes : t x ≡ false → (r k : ℕ) → select t (take k (replicate r x)) ≡ []
   unfolding select
@@ -138,7 +138,7 @@ module _ (w : List ℕ) (m : ℕ) where
       (λ full. rw (full, take-front (front k) (messageIn w k ∷ []) many (ltb-false (length (front k)) many full)) (below-is k))))
       (λ e. rw (e, select-less isMessage k (messageIn w) e) (below-is k))
 
-  -- Of all messages, and of the zeros behind them.
+  -- Of all messages, and of the zeros after them.
   module _ (fit : fits w ≡ true) where
     abbrev all : List Message
     all = front (endOf w)

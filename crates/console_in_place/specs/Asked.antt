@@ -44,12 +44,12 @@ claimOf k = pick (eqb k 0) (As Operator) (pick (eqb k 1) (As JobOwner) (pick (eq
 unfoldable pub NumberedByPlace : Type 0
 NumberedByPlace = (r : Role) → claimOf (rolePlace r) ≡ As r
 
--- The outcome for who claims a role, with the set of its processes; of no role "25, before every other".
+-- The outcome for a caller that claims a role, with the set of its processes; for no role "25, before every other".
 unfoldable pub asked : {A : Type 0} → Claim → ℕ → Outcome A → (Caller → Outcome A) → Outcome A
 asked Unknown owned refusal call = refusal
 asked (As r) owned refusal call = call (record { role = r; owned = owned })
 
--- Whether who claims a role is denied, by a test of callers.
+-- Whether a caller that claims a role is denied, by a test of callers.
 unfoldable pub deniedAs : Claim → ℕ → (Caller → Bool) → Bool
 deniedAs Unknown owned test = true
 deniedAs (As r) owned test = test (record { role = r; owned = owned })

@@ -1,4 +1,4 @@
--- The message with a number that the run of any words has under way: those in the used places, in order, so many as are said to be under way. Where more are said to be
+-- The message with a number that the run of any words has under way: those in the used places, in order, as many as are said to be under way. Where more are said to be
 -- than there are, the run's table holds zeros there, which have the number 0.
 -- Assumes nothing.
 use mathlib.Core.Path.{_≡_}

@@ -104,7 +104,7 @@ pub fn lose(role: u32, owned: u32, w: &mut [u16], m: u32) -> LoseAnswer
     in_place::lose::lose(w, m)
 }
 
-// Everyone goes back to the line for a failed set, or the run is swept: for an operator alone.
+// Every process goes back to the line for a failed set, or the run is swept: for an operator alone.
 pub fn recover(
     role: u32,
     owned: u32,

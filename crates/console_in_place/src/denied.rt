@@ -1,4 +1,4 @@
-// What is denied a caller on lent words: an operation by the table; to an owner also a process that is not its own, and a message that is not under way to one of its own.
+// What a caller is denied on lent words: an operation by the table; an owner also a process that is not its own, and a message that is not under way to one of its own.
 // Words that are not sound deny by the run that they stand for, since 25 comes before 2.
 use crate::receivers;
 use model::MESSAGES;
@@ -64,7 +64,7 @@ fn is_own(owned: u32, n: usize, p: usize) -> bool
     has_bit(owned, p)
 }
 
-// Process p is one that the caller's operations may concern: each an operator's, its own an owner's.
+// Process p is one that the caller's operations may concern: any process for an operator, its own for an owner.
 pub fn is_entitled(role: Role, owned: u32, n: usize, p: usize) -> bool
     ensures { λ r. ⌜ r ≡ entitledBy role owned n p ⌝ }
 {
@@ -136,7 +136,7 @@ pub fn is_process_denied(role: u32, owned: u32, operation: Operation, w: &[u16],
     }
 }
 
-// A message is one that the caller's operations may concern: each an operator's, an owner's those under way to its own processes.
+// A message is one that the caller's operations may concern: any message for an operator, those under way to its own processes for an owner.
 fn is_message_entitled(role: Role, owned: u32, w: &[u16], m: u32) -> bool
     ensures { λ r. ⌜ r ≡ entitledMessageBy role owned (runOf (now (w .entry)) .count) (found (runOf (now (w .entry))) m) ⌝ }
 {

@@ -81,7 +81,7 @@ fn write_list(w: &[u16], role: Role, owned: u32, n: usize, deleted: &mut [u16]) 
     count
 }
 
-// The list of who has this role.
+// The list for a caller with this role.
 fn list_as(role: Role, owned: u32, w: &[u16], deleted: &mut [u16]) -> ListAnswer
     ensures { λ r. ⌜ r ≡ consoleList (record { role = role; owned = owned }) (runOf (now (w .entry))) (now (deleted .entry)) .answer ⌝ }
     ensures { λ r. ⌜ now (deleted .exit) ≡ consoleList (record { role = role; owned = owned }) (runOf (now (w .entry))) (now (deleted .entry)) .deleted ⌝ }

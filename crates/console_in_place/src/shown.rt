@@ -52,7 +52,7 @@ fn seen_line(role: Role, owned: u32, w: &[u16], failed: u32, line: &mut [u16]) -
     }
 }
 
-// The line of who has this role.
+// The line for a caller with this role.
 fn line_as(role: Role, owned: u32, w: &[u16], failed: u32, line: &mut [u16]) -> LineAnswer
     ensures { λ r. ⌜ r ≡ consoleLine (record { role = role; owned = owned }) (runOf (now (w .entry))) failed (now (line .entry)) .answer ⌝ }
     ensures { λ r. ⌜ now (line .exit) ≡ consoleLine (record { role = role; owned = owned }) (runOf (now (w .entry))) failed (now (line .entry)) .line ⌝ }

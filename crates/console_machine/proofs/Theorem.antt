@@ -23,7 +23,7 @@ use Rattle.console_machine.proofs.Ending.{consoling-ends}
 abbrev told : List Exchange → List ℕ
 told talk = writtenOf (requestsOf talk)
 
--- Nothing is said so far, nothing failed, and the input has not ended.
+-- Nothing is reported so far, nothing failed, and the input has not ended.
 record Fine (talk : List Exchange) : Type 0 where
   mute : saidOf (requestsOf talk) ≡ []
   fine : failures talk ≡ []
@@ -411,7 +411,7 @@ module _ (line : List ℕ) (b : Between) (talk : List Exchange) (h : InTelling l
       }))
       (λ e. rw e (done-write line talk facts-told (h .quiet .mute) (h .quiet .fine)))
 
--- What failed is said; then nothing more.
+-- What failed is reported; then nothing more.
 after-fail : (name : List ℕ) (talk : List Exchange) → InFailing name talk → InStopped (more talk (Fail name) Done)
 unfolding written said failure readBy isEnd
 after-fail name talk h = record {

@@ -17,7 +17,7 @@ use Rattle.console_machine.specs.Text.{callSize, firstCall, callText, li
 abbrev pub mostCalls : ℕ
 mostCalls = 9_000_000_000_000_000_000
 
--- "console: standard input" and "console: standard output", byte by byte: what is said to have failed.
+-- "console: standard input" and "console: standard output", byte by byte: what is reported as having failed.
 abbrev pub inputName : List ℕ
 inputName = 99 ∷ 111 ∷ 110 ∷ 115 ∷ 111 ∷ 108 ∷ 101 ∷ 58 ∷ 32 ∷ 115 ∷ 116 ∷ 97 ∷ 110 ∷ 100 ∷ 97 ∷ 114 ∷ 100 ∷ 32 ∷ 105 ∷ 110 ∷ 112 ∷ 117 ∷ 116 ∷ []
 
@@ -153,7 +153,7 @@ pub record Consoles (answers : List Answer) : Type 0 where
   pub reads : (most : ℕ) → ask (stateAfter consoling answers) ≡ Read most
       → (endMet (exchanges consoling answers) ≡ false) × (isOpen (readOf (exchanges consoling answers)) ≡ true) × (failures (exchanges consoling answers) ≡ [])
       × (length (readOf (exchanges consoling answers)) + most ≤ 1 + callSize * mostCalls)
-  -- what failed is said, and nothing else;
+  -- what failed is reported, and nothing else;
   pub says : saidOf (asked consoling answers) ≡ failures (exchanges consoling answers)
   -- and it has stopped after no more than 10 answers a call.
   pub stops : 10 * mostCalls + 13 < length answers → ask (stateAfter consoling answers) ≡ Stop

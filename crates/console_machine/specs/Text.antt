@@ -29,7 +29,7 @@ fieldText value = space ∷ valueText value
 unfoldable pub pairsText : ℕ → List ℕ → List ℕ
 pairsText count deleted = fieldText (some count) ++ deletionsText count deleted
 
--- Of a list its count is the value.
+-- The value of a list is its count.
 unfoldable pub listText : Option ℕ → List ℕ → List ℕ
 listText none deleted = []
 listText (some count) deleted = pairsText count deleted

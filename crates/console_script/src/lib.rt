@@ -1,5 +1,5 @@
 // A script of console calls (document 02, Note 13): a first byte, the count of processes, and calls of eight bytes each, numbers with their high byte first.
-// Which bytes are calls, and what each asks for, is said in specs/Script.
+// Which bytes are calls, and what each asks for, is defined in specs/Script.
 use roles::Caller;
 use roles::Operation;
 use roles::Role;

@@ -1,4 +1,4 @@
--- Which state an answer leads to, by what the code was told of it.
+-- Which state an answer leads to, by what the code was handed of it.
 -- Assumes nothing.
 use mathlib.Core.Path.{_≡_, refl, sym, _∙_, ap, subst}
 use mathlib.Core.Bool.{Bool, true, false}

@@ -1,4 +1,4 @@
--- The machine's state in what a caller lends: four numbers; the words of the state; the buffer that the script is read into; the buffer for what is written and said.
+-- The machine's state in what a caller lends: four numbers; the words of the state; the buffer that the script is read into; the buffer for what is written and reported.
 -- Assumes nothing.
 use mathlib.Core.Path.{_≡_}
 use mathlib.Core.Bool.{Bool, true, _&&_}
@@ -27,7 +27,7 @@ marksOf memory = record { phase = getD memory 0 0; done = getD memory 1 0; kept 
 unfoldable pub mostDone : ℕ → ℕ
 mostDone phase = pick (eqb phase 2) (mostCalls - 1) mostCalls
 
--- The numbers are those of a state: no more calls were made than the program makes, no whole call is kept, and what is to be written and said stands in the buffer.
+-- The numbers are those of a state: no more calls were made than the program makes, no whole call is kept, and what is to be written and reported stands in the buffer.
 unfoldable pub inBounds : Marks → ℕ → Bool
 inBounds m out = leb (m .done) (mostDone (m .phase)) && (leb (m .kept) 7 && leb (m .size) out)
 

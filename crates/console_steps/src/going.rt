@@ -25,7 +25,7 @@ fn stop() -> Marks
     marks::at(marks::STOPPED, 0)
 }
 
-// What failed is said.
+// What failed is reported.
 fn fail(out: &mut [u8], name: &[u8]) -> Marks
     requires { ⌜ length (now name) ≤ length (now out) ⌝ }
     ensures { λ r. ⌜ ((words input : List ℕ) → Arrives r words input (now (out .exit)) (Failing (now (name .entry)))) ⌝ }

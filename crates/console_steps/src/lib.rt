@@ -1,4 +1,4 @@
-// The program `console` as a machine, without input or output: what the system answered goes in, what to ask for next comes out. Its states are said in `console_machine`,
+// The program `console` as a machine, without input or output: what the system answered goes in, what to ask for next comes out. Its states are defined in `console_machine`,
 // with the theorem over every list of answers; which state the lent numbers and buffers stand for, in `specs/Lent`.
 
 // text.rt: the parts of a line

@@ -47,7 +47,7 @@ fn write_recovered(out: &mut [u8], at: usize, said: Summary, pairs: &[u16], line
     write_valued(out, members, said, pairs)
 }
 
-// Of a list its count is the value.
+// The value of a list is its count.
 fn write_list(out: &mut [u8], at: usize, value: Value, pairs: &[u16]) -> usize
     requires { ⌜ at + (longestField + longestField * length (now pairs)) ≤ length (now out) ⌝ }
     ensures { λ r. ⌜ Printed (now (out .entry)) at (listText (valueIn value) (now (pairs .entry))) (now (out .exit)) r × (r ≤ at + (longestField + longestField * length (now (pairs .entry)))) ⌝ }

@@ -1,4 +1,4 @@
-// The parts of a line, printed into a lent buffer from a place on: every function hands back the place behind what it printed.
+// The parts of a line, printed into a lent buffer from a place on: every function hands back the place after what it printed.
 use listing::Value;
 use roles::Caller;
 use roles::Role;

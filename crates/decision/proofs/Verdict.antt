@@ -186,7 +186,7 @@ module _ (n : ℕ) (lists : Lists) (v : Vectors lists) (s : Sources lists v) (pr
         let c = here .0 in
         omega (arith, here .1, c .crosses, present (c .p) (c .g) p (stands-le (lists (c .p)) (c .sent-in)))
 
-    -- The first row behind the near end.
+    -- The first row after the near end.
     module _ (row : ℕ) (fr : FirstRow vectors process rows p k row) where
       row-is : (row < rows) × (own row ≡ p) × (iv row ≡ suc k)
       row-is =

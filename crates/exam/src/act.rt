@@ -1,5 +1,5 @@
-// Each call of the library on the state behind the call before it, with lists of a given length that hold zeros. What comes back is the state and
-// the number of the answer: 0 if the call is accepted, else the refusal number. A deletion list of 512 entries and a line list of 16 do for every run.
+// Each call of the library on the state after the call before it, with lists of a given length that hold zeros. What comes back is the state and
+// the number of the answer: 0 if the call is accepted, else the refusal number. A deletion list of 512 entries and a line list of 16 are enough for every run.
 use model::DELETIONS;
 use model::Disk;
 use model::PROCESSES;
@@ -10,7 +10,7 @@ ghost use lib.ListN.{replicate, take};
 ghost use Rattle.model.specs.Words.{ones, mostDeletions, mostProcesses};
 ghost use Rattle.whole_runs.specs.Outcomes.{startOutcome, checkpointOutcome, sendOutcome, deliverOutcome, recoverOutcome, startReport, checkpointReport, sendReport, deliverReport, recoverReport};
 
-// The state behind a call, and the number of its answer.
+// The state after a call, and the number of its answer.
 pub struct After {
     pub run: Run,
     pub refused: u8,
@@ -100,7 +100,7 @@ pub(crate) fn recover(before: After, failed: u16, length: usize, members: usize)
     After { run, refused }
 }
 
-// So many checkpoints of process i, one after the other.
+// That many checkpoints of process i, one after the other.
 pub(crate) fn checkpoints(before: After, i: usize, times: usize) -> After {
     let mut s = before;
     for k in 0..times {

@@ -15,7 +15,7 @@ fn step(number: u64, after: After) -> After {
     after
 }
 
-// Two processes with block counts 3 and 5; those of no process are 0. Process 1 stores a forced checkpoint, goes back behind a later one, and stores it again.
+// Two processes with block counts 3 and 5; those of no process are 0. Process 1 stores a forced checkpoint, rolls back past a later one, and stores it again.
 pub(crate) fn disk_1() {
     say::title(b"disk", 1);
     let mut counts = [0u32; PROCESSES];
@@ -73,7 +73,7 @@ fn two() -> After {
     act::start_with(2, counts)
 }
 
-// A checkpoint of process 0 where so many blocks are written and deleted: the state is sound exactly if the sum is right and within the bound.
+// A checkpoint of process 0 where that many blocks are written and deleted: the state is sound exactly if the sum is right and within the bound.
 fn sum(number: u64, written: u64, deleted: u64) {
     let start = two();
     let set = act::forged(start, written, deleted);
@@ -96,7 +96,7 @@ fn sums() {
     sum(9, 0, 18446744073709486080);
 }
 
-// A checkpoint of process 1, and a delivery to it that forces one, where so many blocks are left below the bound.
+// A checkpoint of process 1, and a delivery to it that forces one, where that many blocks are left below the bound.
 fn near(left: u64)
     requires { ⌜ left ≤ 65535 ⌝ }
 {

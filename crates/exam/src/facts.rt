@@ -17,7 +17,7 @@ use model::Vectors;
 ghost use Prim.Native.Nat.{_<_, _≤_};
 ghost use Rattle.model.specs.Words.{mostProcesses, keptPlaces};
 
-// A count, where there are places for so many: nothing is printed past them.
+// A count, where there are places for that many: nothing is printed past them.
 fn within(places: usize, count: usize) -> usize
     ensures { λ r. ⌜ r ≤ places ⌝ }
 {
@@ -203,7 +203,7 @@ fn of_delivery(words: &[u8], m: u32, x: u64) {
     say::end();
 }
 
-// A delivery with the number of its answer and the set of the entries that rose, and the state behind it.
+// A delivery with the number of its answer and the set of the entries that rose, and the state after it.
 pub(crate) fn deliver(before: After, m: u32) -> After {
     let mut deleted = [0u16; DELETIONS];
     let outcome = calls::deliver::deliver(before.run, m, &mut deleted);
@@ -245,7 +245,7 @@ fn recovery(failed: u16, answer: RecoverAnswer, deleted: &[u16; DELETIONS]) {
     say::end();
 }
 
-// A recovery with what it wrote and answered, and the state behind it.
+// A recovery with what it wrote and answered, and the state after it.
 pub(crate) fn recover(before: After, failed: u16) -> After {
     let s = before.run;
     let n = within(PROCESSES, s.count);

@@ -133,7 +133,7 @@ fn own_entries() {
     say::answer(b"own 65535", more.refused);
 }
 
-// A delivery that forces a checkpoint, behind so many others.
+// A delivery that forces a checkpoint, after that many others.
 fn forced(times: usize) -> u8 {
     let start = act::start(2);
     let high = act::checkpoints(start, 1, times);

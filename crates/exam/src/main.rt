@@ -1,5 +1,5 @@
-// The exam sheet of document 01 by real calls, and cases of document 02 behind it: every case makes its calls through the crate `calls` and prints what they
-// answered and left, one fact a line; of each delivery that a case is about the set of entries that rose, too (document 02, Note 1). The independent oracle
+// The exam sheet of document 01 by real calls, and cases of document 02 after it: every case makes its calls through the crate `calls` and prints what they
+// answered and left, one fact a line; for each delivery that a case is about, also the set of entries that rose (document 02, Note 1). The independent oracle
 // prints the same text (`oracle --cases`, laid out above `print` in its cases.rs); the tests compare the two.
 use crate::act::After;
 use model::DELETIONS;
@@ -29,7 +29,7 @@ fn case(number: u64, s: After) {
     facts::state(s);
 }
 
-// Cases 1 to 6 stand along the ten-record example, each after the records that its line of the sheet names. The state after
+// Cases 1 to 6 follow the ten-record example, each after the records that its line of the sheet names. The state after
 // record 4 is handed on: case 7 goes on from it too. The title of case 1 is the first text of all: `main` writes it.
 fn cases_1_to_3() -> After {
     let start = act::start(2);
@@ -96,7 +96,7 @@ fn mark_2() {
     facts::state(quiet);
 }
 
-// What a recovery loses, each case by the number of the message that it does: process 0 sends and then rolls back, behind its send and between two of them.
+// What a recovery loses, each case by the number of the message that it does: process 0 sends and then rolls back to before its send, or to between two sends.
 fn lost_1() {
     say::title(b"lost", 1);
     let start = act::start(2);
@@ -118,7 +118,7 @@ fn lost_2() {
     facts::state(delivered);
 }
 
-// Nobody failed: a sweep that deletes, what it leaves, and behind it the delivery of a message that was under way.
+// Nobody failed: a sweep that deletes, what it leaves, and after it the delivery of a message that was under way.
 fn sweep_0() {
     say::title(b"sweep", 0);
     let start = act::start(2);

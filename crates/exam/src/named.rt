@@ -23,7 +23,7 @@ fn none() -> NamedList {
     NamedList { named, length: 0 }
 }
 
-// The list with one more behind the others, where there is a place.
+// The list with one more after the others, where there is a place.
 fn and(list: NamedList, process: usize, index: u16) -> NamedList {
     let at = list.length;
     if PROCESSES <= at {

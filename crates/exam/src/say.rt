@@ -1,8 +1,8 @@
-// Text on standard output: words, numbers, and the shapes of a line. The first write that fails is said on standard error.
+// Text on standard output: words, numbers, and the shapes of a line. The first write that fails is reported on standard error.
 use libc::EBADF;
 use libc::STDOUT_FILENO;
 
-// The first words of all, and whether they are written. If not, that is said.
+// The first words of all, and whether they are written. If not, that is reported.
 pub(crate) fn begin(words: &[u8]) -> bool {
     let written = io::write_all(STDOUT_FILENO, words);
     if !written {
@@ -11,7 +11,7 @@ pub(crate) fn begin(words: &[u8]) -> bool {
     written
 }
 
-// Says that a write failed, once: it closes standard output, and every later write fails because it is closed.
+// Reports that a write failed, once: it closes standard output, and every later write fails because it is closed.
 fn told(written: bool) {
     if !written {
         if os::errno() != EBADF {
@@ -29,7 +29,7 @@ pub(crate) fn number(x: u64) {
     told(io::print_decimal(STDOUT_FILENO, x));
 }
 
-// A value behind a space.
+// A value after a space.
 pub(crate) fn value(x: u64) {
     text(b" ");
     number(x);

@@ -43,7 +43,7 @@ unfolding countOf
 count-is [] h = absurd (h refl)
 count-is (n ∷ l) h = refl
 
--- The bytes behind it.
+-- The bytes after it.
 pub behind-is : (l : List ℕ) → length (behindCount l) ≡ length l - 1
 unfolding behindCount
 behind-is [] = refl

@@ -14,7 +14,7 @@ use Rattle.verdicts.specs.declared.Verdict.the-variants as verdict
 use Rattle.halves.specs.Log.{Logged}
 use Rattle.halves.specs.Taking.{left, Steps, Takes}
 
--- A word behind the log leaves it as it was.
+-- A word after the log leaves it as it was.
 logged-kept : (l : List HalfEvent) (log : List ℕ) (i w : ℕ) → length l ≤ i → Logged l log → Logged l (set log i w)
 unfolding Logged
 logged-kept [] log i w h g = omega arith

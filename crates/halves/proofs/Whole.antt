@@ -18,7 +18,7 @@ use Rattle.halves.specs.Taking.{left, Takes}
 use Rattle.halves.proofs.Bytes.{bytes-length, logged-bytes}
 use Rattle.halves.proofs.Rules.{behind-is}
 
--- All records of a half are left behind none of them.
+-- All records of a half are left after none of them.
 left-all : (l : List ℕ) → fieldsIn (behindCount l) ≡ left l 0
 unfolding left behindCount
 left-all [] = refl

@@ -1,4 +1,4 @@
--- The log of a merge: a word of the merged trace for each record taken, the oldest first. What is told from it and written of it.
+-- The log of a merge: a word of the merged trace for each record taken, oldest first. What is read off it, and what is written of it.
 -- Assumes nothing.
 use mathlib.Core.Path.{_≡_}
 use mathlib.Core.Bool.{true}
@@ -12,11 +12,11 @@ use Rattle.model.specs.Trace.{fieldsOf, fits, wordOf, bytesOf}
 use Rattle.merges.specs.Halves.{HalfEvent, plainEvent}
 use Rattle.halves.specs.declared.log.Tally.{Tally}
 
--- The word of record x, taken behind those of l, in the merged trace.
+-- The word of record x, taken after those of l, in the merged trace.
 unfoldable pub wordIn : List HalfEvent → HalfEvent → ℕ
 wordIn l x = wordOf (fieldsOf (plainEvent l x))
 
--- The log holds the words of the records taken, which stand here the newest first, and each fits its record.
+-- The log holds the words of the records taken, which are listed here newest first, and each fits its record.
 unfoldable pub Logged : List HalfEvent → List ℕ → Type 0
 Logged [] log = 0 ≤ length log
 Logged (x ∷ l) log = (getD log (length l) 0 ≡ wordIn l x) × (fits (plainEvent l x) ≡ true) × Logged l log

@@ -36,14 +36,14 @@ stepOf side (judged.Refused q) = step.Stopped q
 stepOf true (judged.Taken w) = step.First w
 stepOf false (judged.Taken w) = step.Second w
 
--- The records of a half behind a of them; whether there is one, and it is ready.
+-- The records of a half after a of them; whether there is one, and it is ready.
 unfoldable pub left : List ℕ → ℕ → List Fields
 left half a = fieldsIn (drop (1 + 4 * a) half)
 
 unfoldable pub readyAt : List HalfEvent → List ℕ → ℕ → Bool
 readyAt l half a = eqb (length (recordAt half (1 + 4 * a))) 4 && isReady l (fields (recordAt half (1 + 4 * a)))
 
--- The answer is right about the next record behind a records of the first half and b of the second.
+-- The answer is right about the next record after a records of the first half and b of the second.
 unfoldable pub Steps : ℕ → ℕ → List HalfEvent → List ℕ → List ℕ → ℕ → ℕ → Step → Type 0
 Steps n set l first second a b (step.Stopped q) = (k : ℕ) → takeFrom (suc k) n set l (left first a) (left second b) ≡ stopped q
 Steps n set l first second a b (step.First w) = (x : HalfEvent) × (w ≡ wordIn l x) × (fits (plainEvent l x) ≡ true) × (1 + 4 * a + 4 ≤ length first)

@@ -1,4 +1,4 @@
-// The log of a merge: for each record taken the 32 bits of its record in the merged trace (`wordOf`), the oldest first. `taken` says how many there are.
+// The log of a merge: for each record taken the 32 bits of its record in the merged trace (`wordOf`), oldest first. `taken` says how many there are.
 // Contracts speak of any list of records taken whose log it is.
 ghost use mathlib.Core.Path.{_≡_};
 ghost use Prim.Native.Nat.{_+_, _*_, _≤_, _<_};

@@ -23,7 +23,7 @@ pub enum Judged {
     Taken(u32),
 }
 
-// What is left of a set behind its first p processes.
+// What is left of a set after its first p processes.
 fn above(set: u32, p: usize) -> u32
     ensures { λ r. ⌜ r ≡ set / (2 ^ p) ⌝ }
 {

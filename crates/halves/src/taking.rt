@@ -35,7 +35,7 @@ fn is_sent(argument: u32, log: &[u32], taken: usize) -> bool
     1 <= t.number
 }
 
-// Whether a half has a record left behind `at` of them, and it is ready.
+// Whether a half has a record left after `at` of them, and it is ready.
 fn ready_at(half: &[u8], at: usize, log: &[u32], taken: usize) -> bool
     requires { ⌜ (1 + 4 * at ≤ length (now half)) × (taken ≤ length (now log)) × (taken ≤ 2 * mostOfHalf) ⌝ }
     ensures { λ r. ⌜ (r ≡ true → length (recordAt (now (half .entry)) (1 + 4 * at)) ≡ 4) ⌝ }
@@ -109,7 +109,7 @@ fn take_next<'a>(
     Step::Stopped(Refusal::NeitherReady)
 }
 
-// All records: as many turns as both halves have.
+// All records: as many iterations as both halves have records.
 pub(crate) fn take_all<'a>(
     first: &'a [u8],
     second: &'a [u8],

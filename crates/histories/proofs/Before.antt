@@ -80,7 +80,7 @@ before-new m (sent k ∷ l) fresh = by-bool (eqb k m)
     (λ e. absurd (fresh (List·Memᴰ·head (ap sent (sym (eqb-true k m e))))))
     (λ e. rw e (ap (λ (t : List HistoryEvent). sent k ∷ t) (before-new m l (λ s. fresh (List·Memᴰ·tail s)))))
 
--- A cut behind the send leaves it alone.
+-- A cut after the send leaves it alone.
 pub before-upTo : (m k : ℕ) (l : List HistoryEvent) → List·Memᴰ (sent m) (upTo k l) → before m (upTo k l) ≡ before m l
 unfolding before upTo
 before-upTo m k [] s = absurd (List·Memᴰ·not-nil s)

@@ -9,17 +9,17 @@ use native.Mathlib.Omega.{arith}
 use Rattle.histories.specs.History.{HistoryEvent, stored, sent, received, checkpoints, upTo, behind}
 use Rattle.histories.proofs.Places.{Stands, first, later, weight, stands-cons, stands-nil}
 
--- Behind a first event, what stands in the rest.
+-- After a first event, what stands in the rest.
 pub past-stored : {e : HistoryEvent} {g : ℕ} {l : List HistoryEvent} → Stands e g l → Stands e (suc g) (stored ∷ l)
 unfolding weight
 past-stored {g = g} s = let q : suc g ≡ weight stored + g = omega arith in later s q
 
--- The same behind a send.
+-- The same after a send.
 pub past-sent : {e : HistoryEvent} {g : ℕ} {l : List HistoryEvent} (m : ℕ) → Stands e g l → Stands e g (sent m ∷ l)
 unfolding weight
 past-sent {g = g} m s = let q : g ≡ weight (sent m) + g = omega arith in later s q
 
--- The same behind a receipt.
+-- The same after a receipt.
 pub past-received : {e : HistoryEvent} {g : ℕ} {l : List HistoryEvent} (m : ℕ) → Stands e g l → Stands e g (received m ∷ l)
 unfolding weight
 past-received {g = g} m s = let q : g ≡ weight (received m) + g = omega arith in later s q

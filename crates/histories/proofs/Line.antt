@@ -206,7 +206,7 @@ module _ (r : Ideal) (v : Inv r) where
         let c = upTo-out (line r F p) (r .events p) (b .1) in
         omega (arith, a .2, line-sent q (a .0) p (b .0) m (a .1) (c .0) (c .1))
 
-    -- Where a single process f failed, the member at p is the checkpoint right behind which p learnt f's current interval.
+    -- Where a single process f failed, the member at p is the checkpoint right after which p learnt f's current interval.
     pub line-at : (p f k : ℕ) → f < r .n → F f ≡ true → ((q : ℕ) → F q ≡ true → q ≡ f)
         → k < r .own p → r .vector p k f < r .own f → r .own f ≤ r .vector p (suc k) f → line r F p ≡ k
     line-at p f k hf failed alone lt low high =

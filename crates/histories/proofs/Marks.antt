@@ -1,4 +1,4 @@
--- The other half of what a sent mark says: where it is set, a send stands in the live interval, behind the last checkpoint. Each step keeps this.
+-- The other half of what a sent mark says: where it is set, a send stands in the live interval, after the last checkpoint. Each step keeps this.
 -- Assumes nothing.
 use mathlib.Core.Path.{_≡_, refl, sym, _∙_}
 use mathlib.Core.Bool.{true}

@@ -1,4 +1,4 @@
--- What the proofs about answers need of a run beside the invariant: what a set mark says, and where carried knowledge came from. Each step keeps it.
+-- What the proofs about answers need of a run besides the invariant: what a set mark says, and where carried knowledge came from. Each step keeps it.
 -- Assumes nothing.
 use Prim.Native.Nat.{ℕ}
 use Rattle.histories.proofs.Run.{Ideal, Failed, begin, checkpointed, sending, delivered, lost, recovered}

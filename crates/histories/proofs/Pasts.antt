@@ -1,4 +1,4 @@
--- The part of a list before a checkpoint, by intervals: what stands in it stands in the list with at most so many checkpoints before it.
+-- The part of a list before a checkpoint, by intervals: what stands in it stands in the list with at most that many checkpoints before it.
 -- Assumes nothing.
 use mathlib.Core.Path.{_≡_, refl, ap}
 use mathlib.Core.Logic.{inl, inr}

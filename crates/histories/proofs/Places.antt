@@ -115,7 +115,7 @@ same-received m k e = cc
 pub sent-before-stored : {m g : ℕ} (l : List HistoryEvent) → Stands (sent m) g (l ++ (stored ∷ [])) → Stands (sent m) g l
 sent-before-stored {m} l s = elim (stands-cases l stored s) [ inl w ↦ absurd (sent-stored m (w .0)) | inr z ↦ z ]
 
--- A send, behind which a receipt was added, stood there before.
+-- A send, after which a receipt was added, stood there before.
 pub sent-before-received : {m g : ℕ} (l : List HistoryEvent) (k : ℕ) → Stands (sent m) g (l ++ (received k ∷ [])) → Stands (sent m) g l
 sent-before-received {m} l k s = elim (stands-cases l (received k) s) [ inl w ↦ absurd (sent-received m k (w .0)) | inr z ↦ z ]
 
@@ -127,7 +127,7 @@ sent-or-before {m} l k s = elim (stands-cases l (sent k) s) [ inl w ↦ inl (sam
 pub received-before-stored : {m g : ℕ} (l : List HistoryEvent) → Stands (received m) g (l ++ (stored ∷ [])) → Stands (received m) g l
 received-before-stored {m} l s = elim (stands-cases l stored s) [ inl w ↦ absurd (received-stored m (w .0)) | inr z ↦ z ]
 
--- A receipt, behind which a send was added, stood there before.
+-- A receipt, after which a send was added, stood there before.
 pub received-before-sent : {m g : ℕ} (l : List HistoryEvent) (k : ℕ) → Stands (received m) g (l ++ (sent k ∷ [])) → Stands (received m) g l
 received-before-sent {m} l k s = elim (stands-cases l (sent k) s) [ inl w ↦ absurd (sent-received k m (sym (w .0))) | inr z ↦ z ]
 

@@ -65,7 +65,7 @@ takenIn-learns r m v hi =
           (λ ne. inl (takenIn-row-other r m p f ne, takenIn-pin-other r m p f ne));
     }
 
--- One such step behind another.
+-- One such step after another.
 both-learn : (r s t : Ideal) → Learns r s → Learns s t → Learns r t
 both-learn r s t a b = record {
   size = b .size ∙ a .size;

@@ -15,7 +15,7 @@ pub record Called (w : List ℕ) (c : Call) (v : List ℕ) : Type 0 where
   pub run : runOf v ≡ call (runOf w) c .run
   pub leaves : Leaves w v
 
--- The words v are what is left of w by a list of calls, the oldest first.
+-- The words v are what is left of w by a list of calls, oldest first.
 unfoldable pub CalledAll : List ℕ → List Call → List ℕ → Type 0
 CalledAll w [] v = v ≡ w
 CalledAll w (c ∷ calls) v = (u : List ℕ) × Called w c u × CalledAll u calls v

@@ -19,7 +19,7 @@ use Rattle.judge_machine.proofs.Ending.{unsettled-short, judging-ends}
 abbrev told : List Exchange → List ℕ
 told talk = pick (isWhole talk) (verdictText (verdict (readOf talk))) []
 
--- Nothing is written or said so far, and nothing failed.
+-- Nothing is written or reported so far, and nothing failed.
 record Quiet (talk : List Exchange) : Type 0 where
   silent : writtenOf (requestsOf talk) ≡ []
   mute : saidOf (requestsOf talk) ≡ []
@@ -205,7 +205,7 @@ module _ (line : List ℕ) (talk : List Exchange) (h : InTelling line talk) wher
   after-write Done = done-write
   after-write Failed = failed-write
 
--- What failed is said; then nothing more.
+-- What failed is reported; then nothing more.
 after-fail : (name : List ℕ) (talk : List Exchange) → InFailing name talk → InStopped (more talk (Fail name) Done)
 unfolding written said failure readBy isEnd
 after-fail name talk h = record {

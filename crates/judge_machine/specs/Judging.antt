@@ -12,7 +12,7 @@ use Rattle.machines.specs.Machines.{Request, Count, Argument, Open, Read, Write
 use Rattle.patterns.specs.Verdicts.{verdict}
 use Rattle.judge_machine.specs.Text.{verdictText}
 
--- The first byte and 4,097 records: no trace of so many bytes or more has a verdict other than that of its first byte, or 17.
+-- The first byte and 4,097 records: no trace of that many bytes or more has a verdict other than that of its first byte, or 17.
 abbrev pub mostRead : ℕ
 mostRead = 16389
 
@@ -21,7 +21,7 @@ unfoldable pub settled : List ℕ → Bool
 settled [] = false
 settled (n ∷ l) = ltb n 1 || (ltb mostProcesses n || leb mostRead (length (n ∷ l)))
 
--- "judge: standard input" and "judge: standard output", byte by byte: what is said to have failed.
+-- "judge: standard input" and "judge: standard output", byte by byte: what is reported as having failed.
 abbrev pub inputName : List ℕ
 inputName = 106 ∷ 117 ∷ 100 ∷ 103 ∷ 101 ∷ 58 ∷ 32 ∷ 115 ∷ 116 ∷ 97 ∷ 110 ∷ 100 ∷ 97 ∷ 114 ∷ 100 ∷ 32 ∷ 105 ∷ 110 ∷ 112 ∷ 117 ∷ 116 ∷ []
 
@@ -37,7 +37,7 @@ pub data State : Type 0 where
   Failing : List ℕ → State
   Stopped : State
 
--- How many bytes are asked for where so many were read: the first by itself, since it may settle the verdict; then all that may count.
+-- How many bytes are asked for where that many were read: the first by itself, since it may settle the verdict; then all that may count.
 unfoldable pub wanted : ℕ → ℕ
 wanted held = pick (eqb held 0) 1 (mostRead - held)
 
@@ -123,7 +123,7 @@ pub record Judges (answers : List Answer) : Type 0 where
   -- nothing is asked to be read once all that counts was read or something failed, and no more than may count;
   pub reads : (most : ℕ) → ask (stateAfter judging answers) ≡ Read most
       → (isWhole (exchanges judging answers) ≡ false) × (failures (exchanges judging answers) ≡ []) × (length (readOf (exchanges judging answers)) + most ≤ mostRead)
-  -- what failed is said, and nothing else;
+  -- what failed is reported, and nothing else;
   pub says : saidOf (asked judging answers) ≡ failures (exchanges judging answers)
   -- and after more than 16,392 answers it has stopped.
   pub stops : mostRead + 3 < length answers → ask (stateAfter judging answers) ≡ Stop

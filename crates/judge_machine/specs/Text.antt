@@ -1,4 +1,4 @@
--- The line of a verdict, by its number and its pair: `refused R`, `trackable` or `breaks P:K Q:X`, decimal, with a line feed; and what it is to tell the verdict on
+-- The line of a verdict, by its number and its pair: `refused R`, `trackable` or `breaks P:K Q:X`, decimal, with a line feed; and what it is for a line to be the verdict on
 -- a trace.
 -- Assumes nothing.
 use mathlib.Core.Path.{_≡_}

@@ -1,4 +1,4 @@
--- The machine's state in what a caller lends: two numbers, the phase and a count; the buffer that the trace is read into; the buffer for what is written and said.
+-- The machine's state in what a caller lends: two numbers, the phase and a count; the buffer that the trace is read into; the buffer for what is written and reported.
 -- Assumes nothing.
 use mathlib.Core.Path.{_≡_}
 use mathlib.Core.Bool.{Bool, _&&_, _||_}
@@ -19,7 +19,7 @@ Roomy memory input out = (2 ≤ memory) × (mostRead ≤ input) × (longestVerdi
 unfoldable pub lacksRoom : ℕ → ℕ → ℕ → Bool
 lacksRoom memory input out = ltb memory 2 || (ltb input mostRead || ltb out longestVerdict)
 
--- Phase 0: so many bytes were read. Phases 1 and 2: so many bytes are to be written, or name what failed. Everything else has stopped.
+-- Phase 0: that many bytes were read. Phases 1 and 2: that many bytes are to be written, or name what failed. Everything else has stopped.
 unfoldable pub inPhase : ℕ → ℕ → List ℕ → List ℕ → State
 inPhase phase count input out =
     pick (eqb phase 0 && leb count mostRead) (Reading (take count input))

@@ -1,4 +1,4 @@
-// The program `judge` as a machine, without input or output: what the system answered goes in, what to ask for next comes out. Its states are said in `specs/Judging`,
+// The program `judge` as a machine, without input or output: what the system answered goes in, what to ask for next comes out. Its states are defined in `specs/Judging`,
 // with the theorem over every list of answers; which state the lent numbers and buffers stand for, in `specs/Words`.
 
 // text.rt: the line of a verdict
@@ -67,7 +67,7 @@ fn stop(memory: &mut [u64]) -> Request
     Request::Stop
 }
 
-// How many bytes are asked for where so many were read.
+// How many bytes are asked for where that many were read.
 fn wanted(held: usize) -> usize
     requires { ⌜ held ≤ mostRead ⌝ }
     ensures { λ r. ⌜ r ≡ wanted held ⌝ }
@@ -88,7 +88,7 @@ fn read_more(memory: &mut [u64], input: &[u8], out: &[u8], held: usize) -> Reque
     Request::Read(held, most)
 }
 
-// The verdict on what was read is told.
+// The verdict on what was read is printed.
 fn tell(memory: &mut [u64], input: &[u8], out: &mut [u8], held: usize) -> Request
     requires { ⌜ Roomy (length (now memory)) (length (now input)) (length (now out)) × (held ≤ mostRead) ⌝ }
     ensures { λ r. ⌜ StandsFor (now (memory .exit)) (now (input .entry)) (now (out .exit)) r (telling (take held (now (input .entry)))) ⌝ }
@@ -99,7 +99,7 @@ fn tell(memory: &mut [u64], input: &[u8], out: &mut [u8], held: usize) -> Reques
     Request::Write(size)
 }
 
-// What failed is said.
+// What failed is reported.
 fn fail(memory: &mut [u64], input: &[u8], out: &mut [u8], name: &[u8]) -> Request
     requires { ⌜ Roomy (length (now memory)) (length (now input)) (length (now out)) × (length (now name) ≤ longestVerdict) ⌝ }
     ensures { λ r. ⌜ StandsFor (now (memory .exit)) (now (input .entry)) (now (out .exit)) r (Failing (now (name .entry))) ⌝ }

@@ -70,7 +70,7 @@ positive (suc y) ne = omega arith
 
 module _ (n : ℕ) (lists : Lists) (vector vector' : ℕ → ℕ → ℕ → ℕ) (rows last : ℕ) (vs process from to : List ℕ)
     (h : Held n lists vector rows last vs process from to) where
-  -- A checkpoint of i: a new row, behind all others.
+  -- A checkpoint of i: a new row, after all others.
   module _ (i : ℕ) (vs' process' : List ℕ) (li : i < n) (room : rows < 4112) (len : 65792 ≤ length vs') (len' : 4112 ≤ length process')
       (old-e : (r f : ℕ) → r < rows → f < 16 → entryAt vs' r f ≡ entryAt vs r f)
       (old-p : (r : ℕ) → r < rows → getD process' r 0 ≡ getD process r 0)

@@ -66,7 +66,7 @@ pub record Kept (n read : ℕ) (t : Pattern) (tr : Trail) (s : Progress) (T : Ta
 abbrev pub Ready : ℕ → Progress → Tables → Type 0
 Ready n s T = (read : ℕ) × (t : Pattern) × (tr : Trail) × (read < mostJudged) × Kept n read t tr s T
 
--- What a record leaves behind the pattern t: the refusal that it has there, or the tables of the pattern with it.
+-- What a record leaves after the pattern t: the refusal that it has there, or the tables of the pattern with it.
 unfoldable pub AfterRecord : ℕ → ℕ → Pattern → Option Event → Taking → Progress → Tables → Type 0
 AfterRecord n read t e (Refused why) next T = recordRefusal n t e ≡ some why
 AfterRecord n read t e Taken next T = (recordRefusal n t e ≡ none) × ((tr : Trail) × Kept n (suc read) (taken t e) tr next T)

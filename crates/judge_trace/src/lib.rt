@@ -25,7 +25,7 @@ fn wide(byte: u8) -> usize
     byte as usize
 }
 
-// A trace is judged beside its tables, whatever they hold. The refusals come in this order: 12, 1, 17, those of the records, 13.
+// A trace is judged with the lent tables, whatever they hold. The refusals come in this order: 12, 1, 17, those of the records, 13.
 fn judge_beside(
     trace: &[u8],
     vectors: &mut [u16],

@@ -15,7 +15,7 @@ use Rattle.laws.specs.Truth.{never-both}
 pub bits-all : (F : ℕ) → F ≡ F / (2 ^ 0)
 bits-all F = sym (div-one F)
 
--- Behind bit i, half of what was left is left.
+-- After bit i, half of what was left is left.
 pub bits-next : (F i r : ℕ) → r ≡ F / (2 ^ i) → r / 2 ≡ F / (2 ^ (i + 1))
 bits-next F i r e = rw (e, add-one, pow-suc) (div-div-eq-div-mul F (2 ^ i) 2)
 
@@ -68,7 +68,7 @@ module _ (t : ℕ → Bool) where
       (λ e. rw (e, pow-suc) (omega (arith, bits-less n)))
       (λ e. rw (e, pow-suc) (omega (arith, bits-less n)))
 
-  -- Before the first test there is no bit; behind test i there is one bit more to look at.
+  -- Before the first test there is no bit; after test i there is one bit more to look at.
   pub bits-zero : 0 ≡ bitsOf 0 t
   unfolding bitsOf
   bits-zero = refl

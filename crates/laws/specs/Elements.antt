@@ -18,7 +18,7 @@ pub same-test : (a b : Bool) → (a ≡ true → b ≡ true) → (b ≡ true →
 same-test true b f g = sym (f refl)
 same-test false b f g = by-bool b (λ e. g e ∙ sym e) (λ e. sym e)
 
--- Every element of two lists one behind the other.
+-- Every element of two lists one after the other.
 pub every-append : {A : Type 0} (t : A → Bool) (a b : List A) → every t a ≡ true → every t b ≡ true → every t (a ++ b) ≡ true
 unfolding every
 every-append t [] b p q = q
@@ -34,7 +34,7 @@ pub every-nil : {A : Type 0} (t : A → Bool) → every t [] ≡ true
 unfolding every
 every-nil t = refl
 
--- Every element behind a place.
+-- Every element after a place.
 pub every-drop : {A : Type 0} (t : A → Bool) (k : ℕ) (l : List A) → every t l ≡ true → every t (drop k l) ≡ true
 unfolding every
 every-drop t zero l e = e

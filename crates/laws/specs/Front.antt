@@ -7,7 +7,7 @@ use lib.ListN.{length, getD, drop, List·getD-append}
 use lib.Seq.{sets, sets-eq}
 
 module _ {A : Type 0} (l xs : List A) (fits : length xs ≤ length l) where
-  -- The list, taken apart behind what was written.
+  -- The list, taken apart after what was written.
   pub written-front : sets l 0 xs ≡ xs ++ drop (length xs) l
   written-front = let e : 0 + length xs ≡ length xs = omega arith in sets-eq xs l 0 (omega arith) ∙ rw e
 

@@ -1,4 +1,4 @@
--- Lists: the elements that pass a test, the last one, a list by its index, lists put in a row, and a list laid into a table of fixed size.
+-- Lists: the elements that pass a test, the last one, a list by its index, lists put together, and a list laid into a table of fixed size.
 use mathlib.Core.Bool.{Bool}
 use mathlib.Core.List.{List, [], _∷_, _++_}
 use mathlib.Core.Option.{Option, none, some}
@@ -26,7 +26,7 @@ unfoldable pub table : {A : Type 0} → ℕ → (ℕ → A) → List A
 table zero f = []
 table (suc n) f = table n f ++ (f n ∷ [])
 
--- the lists f 0, f 1, .., f (n - 1) one behind the other
+-- the lists f 0, f 1, .., f (n - 1) one after the other
 unfoldable pub gather : {A : Type 0} → ℕ → (ℕ → List A) → List A
 gather zero f = []
 gather (suc n) f = gather n f ++ f n

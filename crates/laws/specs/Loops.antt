@@ -1,5 +1,5 @@
--- What a loop that counts up has done after i turns, as a function of i: a list with its entries below i replaced, i numbered steps, a test of
--- every index below i. Each has its value before the first turn and the law of one more turn, where the code's count is `i + 1`.
+-- What a loop that counts up has done after i iterations, as a function of i: a list with its entries below i replaced, i numbered steps, a test of
+-- every index below i. Each has its value before the first iteration and the law of one more iteration, where the code's count is `i + 1`.
 use mathlib.Core.Path.{_≡_, refl, ap, sym, _∙_}
 use mathlib.Core.Bool.{Bool, true, false}
 use mathlib.Core.List.{List}
@@ -54,7 +54,7 @@ module _ {A : Type 0} (f : ℕ → A) (l : List A) where
       ext-getD (f 0) (setBelow n f l) (table n f) (below-length n ∙ h ∙ sym (length-table n f))
       (λ k lt. let b : k < n = rw (below-length, h) at lt in below-at n k (f 0) b (rw h b) ∙ sym (getD-table n f k (f 0) b))
 
-  -- one turn, at entry i of the list v that the turns before it have left: the entry is as it was in l, and it is written or left alone
+  -- one iteration, at entry i of the list v that the iterations before it have left: the entry is as it was in l, and it is written or left alone
   module _ (v : List A) (i : ℕ) (inv : v ≡ setBelow i f l) where
     pub turn-old : (d : A) → getD v i d ≡ getD l i d
     turn-old d = ap (λ (w : List A). getD w i d) inv ∙ below-above i i d (omega arith)

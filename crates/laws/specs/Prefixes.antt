@@ -1,4 +1,4 @@
--- What a loop over the first entries of a list has found after i turns: the list's first i entries, tested, chosen from, laid into a table or
+-- What a loop over the first entries of a list has found after i iterations: the list's first i entries, tested, chosen from, laid into a table or
 -- written to a list. Each law says what one entry more adds.
 use mathlib.Core.Path.{_≡_, refl, sym}
 use mathlib.Core.Bool.{Bool, true, false, _||_}

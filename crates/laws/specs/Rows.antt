@@ -1,4 +1,4 @@
--- What is left of a list behind a place, tested. A loop that walks a list has, after i turns, the first i elements behind it and `drop i` before
+-- What is left of a list after a place, tested. A loop that walks a list has, after i iterations, passed the first i elements and has `drop i` before
 -- it; these laws take one element off what is left, and say what is left of a list that is used up.
 use mathlib.Core.Path.{_≡_, refl, sym, _∙_}
 use mathlib.Core.Bool.{Bool, true, false, _&&_, _||_}
@@ -48,7 +48,7 @@ module _ {A : Type 0} (t : A → Bool) (l : List A) (i : ℕ) where
   unfolding every
   every-done h = rw (drop-of-length-le l h)
 
--- A turn of a loop that keeps a mark and goes on: the mark so far and the test of what is left are the test of the whole.
+-- An iteration of a loop that keeps a mark and goes on: the mark so far and the test of what is left are the test of the whole.
 module _ {A : Type 0} (t : A → Bool) (l : List A) (i : ℕ) (d : A) (h : i < length l) (mark whole : Bool) where
   pub every-turn : (mark && every t (drop i l)) ≡ whole → ((mark && t (getD l i d)) && every t (drop (i + 1) l)) ≡ whole
   every-turn inv = and-group mark (t (getD l i d)) (every t (drop (i + 1) l)) ∙ rw (← every-rest t l i d h) inv
@@ -65,7 +65,7 @@ every-at t [] k d h e = absurd (omega arith)
 every-at t (x ∷ l) zero d h e = and-left (t x) (every t l) e
 every-at t (x ∷ l) (suc k) d h e = every-at t l k d (omega arith) (and-right (t x) (every t l) e)
 
--- Every element behind a place passes: by index.
+-- Every element after a place passes: by index.
 pub every-behind : {A : Type 0} (t : A → Bool) (n : ℕ) (l : List A) (k : ℕ) (d : A) → every t (drop n l) ≡ true → n ≤ k → k < length l → t (getD l k d) ≡ true
 unfolding every
 every-behind t zero l k d e low under = every-at t l k d under e
@@ -99,7 +99,7 @@ last-take [] h d b = absurd (omega arith)
 last-take (x ∷ l) zero d b = refl
 last-take (x ∷ l) (suc h) d b = rw (last-take l h d (omega arith))
 
--- A turn of a loop that keeps a mark over all indexes and goes on.
+-- An iteration of a loop that keeps a mark over all indexes and goes on.
 pub all-turn : (t : ℕ → Bool) (i : ℕ) (mark : Bool) → mark ≡ allBelow i t → (mark && t i) ≡ allBelow (i + 1) t
 unfolding allBelow
 all-turn t i mark inv = rw (add-one, inv) (and-swap (allBelow i t) (t i))

@@ -92,7 +92,7 @@ some-table t (suc n) f =
     ∙ or-swap (some-of t (table n f)) (some-of t (f n ∷ []))
     ∙ rw (some-one t (f n), some-table t n f)
 
--- Some element of lists in a row passes: it does in one of them.
+-- Some element of lists put together passes: it does in one of them.
 pub some-gather : {A : Type 0} (t : A → Bool) (n : ℕ) (f : ℕ → List A) → some-of t (gather n f) ≡ anyBelow n (λ k. some-of t (f k))
 unfolding gather anyBelow some-of
 some-gather t zero f = refl

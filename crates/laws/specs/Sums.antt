@@ -49,7 +49,7 @@ unfolding sumBelow
 sum-front zero f = omega arith
 sum-front (suc n) f = omega (arith, sum-front n f)
 
--- The length of lists in a row.
+-- The length of lists put together.
 pub length-gather : {A : Type 0} (n : ℕ) (f : ℕ → List A) → length (gather n f) ≡ sumBelow n (λ k. length (f k))
 unfolding sumBelow gather
 length-gather zero f = refl

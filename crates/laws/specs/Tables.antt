@@ -49,7 +49,7 @@ table-set n f i x = table-is x (set (table n f) i x) n (upd f i x) (length-set (
 pub table-replicate : {A : Type 0} (n : ℕ) (x : A) → replicate n x ≡ table n (λ k. x)
 table-replicate n x = table-is x (replicate n x) n (λ k. x) (length-replicate n x) (λ i lt. getD-replicate n i x x lt)
 
--- Lists in a row agree if they agree below the bound.
+-- Lists put together agree if they agree below the bound.
 pub gather-same : {A : Type 0} (n : ℕ) (f g : ℕ → List A) → ((k : ℕ) → k < n → f k ≡ g k) → gather n f ≡ gather n g
 unfolding gather
 gather-same zero f g h = refl

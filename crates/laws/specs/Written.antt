@@ -8,12 +8,12 @@ use native.Mathlib.Omega.{arith}
 use lib.ListN.{length, set}
 use lib.Seq.{sets}
 
--- Values written behind values that were written.
+-- Values written after values that were written.
 pub sets-append : {A : Type 0} (l : List A) (i : ℕ) (xs ys : List A) → sets l i (xs ++ ys) ≡ sets (sets l i xs) (i + length xs) ys
 sets-append l i [] ys = rw add-zero
 sets-append l i (x ∷ xs) ys = sets-append (set l i x) (suc i) xs ys ∙ ap (λ (n : ℕ). sets (sets (set l i x) (suc i) xs) n ys) (omega arith)
 
--- A list l that has xs written into l₀ from `at` on, and w is the place behind them.
+-- A list l that has xs written into l₀ from `at` on, and w is the place after them.
 module _ {A : Type 0} (l₀ l : List A) (at w : ℕ) (xs : List A) (so-far : l ≡ sets l₀ at xs) (next : w ≡ at + length xs) where
   pub sets-after : (ys : List A) → sets l w ys ≡ sets l₀ at (xs ++ ys)
   sets-after ys = rw (sets-append, so-far, next)

@@ -116,7 +116,7 @@ pub extern "C" fn lemidrosy_line(words: &[u16], failed: u32, line: &mut [u16]) -
     answers::of_line(answer)
 }
 
-// Everyone goes back to the line for a failed set, bit p of which stands for process p: its n indexes go to the front of the one list, what is deleted to the front of the
+// Every process goes back to the line for a failed set, bit p of which stands for process p: its n indexes go to the front of the one list, what is deleted to the front of the
 // other, as pairs of a process and an index. The value is how many rolled back. An empty set is a sweep: nobody rolls back.
 #[no_mangle]
 pub extern "C" fn lemidrosy_recover(

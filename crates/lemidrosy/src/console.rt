@@ -139,7 +139,7 @@ pub extern "C" fn lemidrosy_console_line(
     answers::of_line(answer)
 }
 
-// Everyone goes back to the line for a failed set, or the run is swept: for an operator alone.
+// Every process goes back to the line for a failed set, or the run is swept: for an operator alone.
 #[no_mangle]
 pub extern "C" fn lemidrosy_console_recover(
     role: u32,

@@ -17,7 +17,7 @@ ghost use Rattle.patterns.specs.Verdicts.{verdict};
 ghost use Rattle.spacing.specs.Spacing.{trialRefusal, AgreesWithReplay};
 ghost use Rattle.lemidrosy.specs.Programs.{judgeCode, PairFits, mergeCode, figuresWritten, simulation};
 
-// What the fields of a pair that breaks are worth.
+// The weights of the fields of a pair that breaks.
 const PAIR: u64 = 256;
 
 const NEAR: u64 = 65536;
@@ -113,7 +113,7 @@ fn write_figures(figures: &mut [u64], result: TrialResult) -> u64
     }
 }
 
-// A simulation of n processes with a checkpoint spacing, so many steps and a starting value. Five figures go to the front of the lent list: the deliveries, the forced
+// A simulation of n processes with a checkpoint spacing, a number of steps and a starting value. Five figures go to the front of the lent list: the deliveries, the forced
 // checkpoints, the most kept at any process after any step, and 1,000 times the forced checkpoints divided by the deliveries, as quotient and remainder. They are those
 // of a replay of the same events.
 #[no_mangle]

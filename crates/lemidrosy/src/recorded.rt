@@ -1,6 +1,6 @@
 // The recorder (document 02, Note 9): each call in place once more, with the call's own arguments first, then a lent buffer and a lent list with the place that the buffer's
-// next byte goes to. The buffer is a trace: its first byte is n, behind it stand the records of the accepted calls. Refused with 21, after every other number, is a call whose
-// record has no room behind the place, and with 3, before any other number, one that is lent no place. A refused call leaves every word, entry and byte and the place as they
+// next byte goes to. The buffer is a trace: its first byte is n, after it stand the records of the accepted calls. Refused with 21, after every other number, is a call whose
+// record has no room after the place, and with 3, before any other number, one that is lent no place. A refused call leaves every word, entry and byte and the place as they
 // were; a start with a place that is refused makes the words zero. What a replay of the buffer gives is the theorem of `recorder_in_place`, specs/Recorded.
 ghost use mathlib.Core.Path.{_≡_};
 ghost use Prim.Native.Nat.{_≤_};
@@ -176,7 +176,7 @@ pub extern "C" fn lemidrosy_record_line(
     answers::of_line(answer)
 }
 
-// Everyone goes back to the line for a failed set; with an empty set a sweep.
+// Every process goes back to the line for a failed set; with an empty set a sweep.
 #[no_mangle]
 pub extern "C" fn lemidrosy_record_recover(
     words: &mut [u16],

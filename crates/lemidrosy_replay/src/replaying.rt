@@ -37,7 +37,7 @@ fn write_progress(progress: &mut [u64], step: Progress)
 }
 
 // The whole records of a block, four bytes each, applied to the words one after the other, their lines at the front of `text`; a block has no first byte. A record is
-// taken as long as the replay goes on, it is not behind record 1,000,000,000, and the longest line fits into the room that is left of `text`; `done` says how many
+// taken as long as the replay goes on, it is not past record 1,000,000,000, and the longest line fits into the room that is left of `text`; `done` says how many
 // records came before the block, and `all` whether the replay goes on after a refusal. Words that stand for no sound state refuse each record, with 14 or else with 2.
 // Wherever calls from an accepted start led to the state of the words, they lead to the one that is left, and demand 3 holds of it.
 #[no_mangle]

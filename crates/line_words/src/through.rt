@@ -15,7 +15,7 @@ ghost use Rattle.words.specs.Layout.{word, heldAt, stateSize};
 ghost use Rattle.line_words.specs.Line.{KeptUsed};
 ghost use Rattle.line_words.specs.Through.{pairCount, processOf, indexOf, amongFirst, twiceIn, startOf, startsIn, beforeSome, greatestIn, Present, Searched, InWords};
 
-// How many pairs so many numbers are.
+// How many pairs that many numbers make.
 pub fn pair_count(length: usize) -> usize
     ensures { λ r. ⌜ r ≡ pairCount length ⌝ }
 {

@@ -65,7 +65,7 @@ set-before l i p (v ∷ vs) d h = set-before (set l i v) (suc i) p vs d (omega a
 in-front : (before out : List ℕ) (p place d : ℕ) (stored : List ℕ) → place ≡ suc p → out ≡ sets before place stored → set out p d ≡ sets before p (d ∷ stored)
 in-front before out p place d stored e h = rw (h, e) (set-before before (suc p) p stored d (omega arith))
 
--- The digits of x behind `place` are stored, those of `rest` are still to come: at most `left` and one.
+-- The digits of x after `place` are stored, those of `rest` are still to come: at most `left` and one.
 pub record Storing (before : List ℕ) (at x : ℕ) (out : List ℕ) (place rest : ℕ) : Type 0 where
   pub left : ℕ
   pub stored : List ℕ
@@ -80,7 +80,7 @@ unfolding decimal
 none-stored before at x h =
     record { left = 19; stored = []; small = omega arith; all = sym (append-nil (digits 20 x)); next = refl; same-length = refl; holds = refl }
 
--- The place is behind the first digit and not past the last one.
+-- The place is after the first digit and not past the last one.
 pub between : (before : List ℕ) (at x : ℕ) (out : List ℕ) (place rest : ℕ) → Storing before at x out place rest → (at < place) × (place ≤ at + length (decimal x))
 between before at x out place rest s =
     (omega (arith, at-least-one (s .left) rest), omega (arith, ap length (s .all), length-append (digits (suc (s .left)) rest) (s .stored)))

@@ -1,4 +1,4 @@
--- Texts printed one behind the other, and the text of a deletion list by its last pair.
+-- Texts printed one after the other, and the text of a deletion list by its last pair.
 -- Assumes nothing.
 use mathlib.Core.Path.{_≡_, refl, sym, _∙_, ap}
 use mathlib.Core.List.{List, [], _∷_, _++_, append-nil, append-assoc}
@@ -15,7 +15,7 @@ use Rattle.whole_runs.specs.Listing.{digits, decimal, space, colon, lineFeed, d
 use Rattle.listing.specs.Lines.{pairText, refusalLine}
 use Rattle.listing.specs.Printed.{Room, Printed}
 
--- A text behind a text is the two together.
+-- A text after a text is the two together.
 pub then : {l m n s t : List ℕ} {at p q : ℕ} → Printed l at s m p → Printed m p t n q → Printed l at (s ++ t) n q
 then {l} {m} {n} {s} {t} {at} {p} {q} first second = record {
   next-place = omega (arith, first .next-place, second .next-place, length-append s t);
@@ -29,7 +29,7 @@ room-first l at s t h = omega (arith, length-append s t)
 pub room-rest : {l m s : List ℕ} {at p : ℕ} (t : List ℕ) → Printed l at s m p → Room l at (s ++ t) → Room m p t
 room-rest {l} {m} {s} {at} {p} t first h = omega (arith, length-append s t, first .next-place, ap length (first .holds) ∙ length-sets l at s)
 
--- The line of a record that is refused, and of one that is accepted: its 0, and what is told of it.
+-- The line of a record that is refused, and of one that is accepted: its 0, and what is printed of it.
 pub refused-line : (k : ℕ) (r : Reply) → (r .report .refused ≡ 0 → ⊥) → lineText k r ≡ refusalLine k (r .report .refused)
 unfolding lineText refusalLine
 refused-line k r h = rw (ne-eqb (r .report .refused) 0 h)

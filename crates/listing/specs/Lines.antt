@@ -17,7 +17,7 @@ valueIn (Number v) = some v
 unfoldable pub replyOf : Summary → List ℕ → Reply
 replyOf s deleted = record { report = record { refused = s .refused; value = valueIn (s .value); deletions = s .deletions }; rose = 0; deleted = deleted; line = [] }
 
--- "each as process:index", behind a space
+-- "each as process:index", after a space
 unfoldable pub pairText : ℕ → ℕ → List ℕ
 pairText p i = space ∷ (decimal p ++ (colon ∷ decimal i))
 

@@ -1,4 +1,4 @@
--- What a replayed record says: a summary and a deletion list beside the reply of the model, and the line that is printed of both.
+-- What a replayed record says: a summary and a deletion list against the reply of the model, and the line that is printed of both.
 -- Assumes nothing.
 use mathlib.Core.Path.{_≡_}
 use mathlib.Core.List.{List}

@@ -1,5 +1,5 @@
 // A record's line of text, printed into a lent buffer. Every function that writes prints one text of whole_runs's specs/Listing from a place
-// on, asks for room for that text and no more, and hands back the place behind it. proofs/Bounds says how long a line can be.
+// on, asks for room for that text and no more, and hands back the place after it. proofs/Bounds says how long a line can be.
 ghost use mathlib.Core.Path.{_≡_};
 ghost use mathlib.Core.List.{[], _∷_};
 ghost use Prim.Native.Nat.{_*_, _≤_};
@@ -17,7 +17,7 @@ pub enum Value {
     Number(u64),
 }
 
-// What a line says behind its record number: 0 or the refusal number, the value, and the count of deletions.
+// What a line says after its record number: 0 or the refusal number, the value, and the count of deletions.
 pub struct Summary {
     pub refused: u8,
     pub value: Value,
@@ -82,7 +82,7 @@ pub fn write_value(out: &mut [u8], at: usize, value: Value) -> usize
     }
 }
 
-// One deletion, as process:index behind a space.
+// One deletion, as process:index after a space.
 pub fn write_pair(out: &mut [u8], at: usize, process: u16, index: u16) -> usize
     requires { ⌜ Room (now out) at (pairText process index) ⌝ }
     ensures { λ r. ⌜ Printed (now (out .entry)) at (pairText process index) (now (out .exit)) r ⌝ }

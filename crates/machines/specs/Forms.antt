@@ -91,13 +91,13 @@ pub record Asks (r : requests.Request) (place : ℕ) (input out : List ℕ) (wan
   pub inside : Placed r (length input) (length out)
   pub there : GoesTo r place
 
--- An answer as it is taken, where bytes were asked for: so many of them, the end, or that it failed.
+-- An answer as it is taken, where bytes were asked for: that many of them, the end, or that it failed.
 unfoldable pub takenOf : takens.Taken → ℕ → List ℕ → Answer
 takenOf (taken.Brought size) at input = Bytes (take size (drop at input))
 takenOf taken.Ended at input = End
 takenOf taken.Failed at input = Failed
 
--- No more bytes than were asked for, and at least so many.
+-- No more bytes than were asked for, and at least that many.
 unfoldable pub Between : takens.Taken → ℕ → ℕ → Type 0
 Between (taken.Brought size) least most = (least ≤ size) × (size ≤ most)
 Between taken.Ended least most = Unit {0}

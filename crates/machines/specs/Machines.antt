@@ -1,4 +1,4 @@
--- A program as a machine: it asks the system for one thing at a time, and goes on by what the system answers. What it asked for and what it was told are lists, so
+-- A program as a machine: it asks the system for one thing at a time, and goes on by what the system answers. What it asked for and what it was answered are lists, so
 -- that a theorem about a program is one over every list of answers.
 -- Assumes nothing.
 use mathlib.Core.Path.{_≡_}
@@ -13,11 +13,11 @@ use Rattle.laws.specs.Choice.{pick}
 pub data Request : Type 0 where
   -- How many words the program was started with, its own name among them.
   Count : Request
-  -- Word i, the name being word 0, of at most so many bytes.
+  -- Word i, the name being word 0, of at most that many bytes.
   Argument : ℕ → ℕ → Request
   -- From now on the input is the file of this name. Until then it is standard input.
   Open : List ℕ → Request
-  -- The next bytes of the input, at most so many.
+  -- The next bytes of the input, at most that many.
   Read : ℕ → Request
   -- All of these bytes, to standard output.
   Write : List ℕ → Request
@@ -69,7 +69,7 @@ heardDone End = Failed
 heardDone Done = Done
 heardDone Failed = Failed
 
--- Whatever comes of words on standard error, they count as said.
+-- Whatever comes of words on standard error, they count as printed.
 unfoldable pub heard : Request → Answer → Answer
 heard Count a = heardCount a
 heard (Argument i most) a = heardWord most a
@@ -107,7 +107,7 @@ module _ {S : Type 0} (m : Machine S) where
   abbrev pub exchanged : S → Answer → Exchange
   exchanged s a = record { request = m .ask s; answer = heard (m .ask s) a }
 
-  -- The state after a list of answers, the oldest first.
+  -- The state after a list of answers, oldest first.
   unfoldable pub stateFrom : S → List Answer → S
   stateFrom s [] = s
   stateFrom s (a ∷ answers) = stateFrom (stepped s a) answers
@@ -142,7 +142,7 @@ written (Say text) = []
 written (Fail text) = []
 written Stop = []
 
--- those that it has said on standard error, without the system's own text;
+-- those that it has printed on standard error, without the system's own text;
 unfoldable pub said : Request → List ℕ
 said Count = []
 said (Argument i most) = []

@@ -14,7 +14,7 @@ pub enum Taken {
     Failed,
 }
 
-// The answer to `Read`, of at most so many bytes.
+// The answer to `Read`, of at most that many bytes.
 pub fn read(answer: Answer, most: usize) -> Taken
     ensures { λ r. ⌜ ((at : ℕ) (input : List ℕ) → at + most ≤ length input → heardRead most (answerOf answer at input) ≡ takenOf r at input) × Between r 1 most ⌝ }
 {
@@ -35,7 +35,7 @@ pub fn read(answer: Answer, most: usize) -> Taken
     }
 }
 
-// The answer to `Argument`, of at most so many bytes.
+// The answer to `Argument`, of at most that many bytes.
 pub fn word(answer: Answer, most: usize) -> Taken
     ensures { λ r. ⌜ ((at : ℕ) (input : List ℕ) → at + most ≤ length input → heardWord most (answerOf answer at input) ≡ takenOf r at input) × Between r 0 most ⌝ }
 {

@@ -1,5 +1,5 @@
 // What a program asks of the system and what the system answers, as numbers and places of two lent buffers: the bytes that are asked for go to a place of `input`,
-// those that are handed out are the first of `out`. Which request and answer a form stands for is said in `specs/Forms`; what a machine is, in `specs/Machines`.
+// those that are handed out are the first of `out`. Which request and answer a form stands for is defined in `specs/Forms`; what a machine is, in `specs/Machines`.
 // `obey` does what a request asks for: the only function of all programs that calls the system.
 
 // system.rt: one function for each kind of request
@@ -19,7 +19,7 @@ pub enum Request {
     Count,
     // Word number, place and most bytes.
     Argument(usize, usize, usize),
-    // The first so many bytes of `out` are the name.
+    // That many bytes at the front of `out` are the name.
     Open(usize),
     // Place and most bytes.
     Read(usize, usize),

@@ -1,5 +1,5 @@
-// One function for each kind of request: the call of the system, and what it answered. No contract can say what a call reads or writes, so these lines are for the
-// eye. Each function takes the request that it obeys as well, which says the bytes that it is about.
+// One function for each kind of request: the call of the system, and what it answered. No contract can say what a call reads or writes, so these lines have to be
+// checked by reading. Each function also takes the request that it obeys, which says which bytes it is about.
 use crate::Answer;
 use crate::Obeyed;
 use crate::Request;

@@ -1,4 +1,4 @@
--- Which state an answer leads to, by what the code was told of it.
+-- Which state an answer leads to, by what the code was handed of it.
 -- Assumes nothing.
 use mathlib.Core.Path.{_≡_, refl, sym, _∙_, ap}
 use mathlib.Core.Bool.{Bool, true, false}
@@ -151,7 +151,7 @@ module _ (half count : ℕ) (input : List ℕ) (stage : Stage) (name : List ℕ)
   unfolding onward
   onward-end h = rw (le-ltb count mostCounted h) (ap (halfRead stage) (held-part half count input))
 
--- What is said of a file, by which half it is.
+-- What is reported of a file, by which half it is.
 module _ (m : Marks) (input : List ℕ) where
   pub unnamed-first : m .half ≡ 0 → unnamed (stageOf m input) ≡ firstName
   unfolding stageOf unnamed

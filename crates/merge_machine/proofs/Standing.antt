@@ -19,7 +19,7 @@ use Rattle.halves.proofs.Rules.{behind-is}
 use Rattle.merge_machine.specs.Held.{heldSize, heldOf}
 use Rattle.merge_machine.specs.Printed.{refusing, printed}
 
--- How many bytes are held: all, or 16,389 to 16,392, as many behind whole records as of the whole.
+-- How many bytes are held: all, or 16,389 to 16,392, as many after whole records as of the whole.
 pub record Size (total : ℕ) : Type 0 where
   pub most : heldSize total ≤ 16392
   pub less : heldSize total ≤ total

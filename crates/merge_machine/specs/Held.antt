@@ -7,7 +7,7 @@ use lib.Dec.{ltb, leb}
 use lib.ListN.{length, take}
 use Rattle.laws.specs.Choice.{pick}
 
--- So many bytes of a half are kept at most; all others are only counted.
+-- At most this many bytes of a half are kept; all others are only counted.
 abbrev pub mostKept : ℕ
 mostKept = 16392
 
@@ -15,14 +15,14 @@ mostKept = 16392
 abbrev pub mostCounted : ℕ
 mostCounted = 9_000_000_000_000_000_000
 
--- How many bytes are held of a half of so many.
+-- How many bytes are held of a half of that many.
 unfoldable pub heldSize : ℕ → ℕ
 heldSize total = pick (leb total mostKept) total (16389 + (total - 1) % 4)
 
 unfoldable pub heldOf : List ℕ → List ℕ
 heldOf file = take (heldSize (length file)) file
 
--- How many bytes are asked for where so many were read: what there is room for, then as many again to be counted.
+-- How many bytes are asked for where that many were read: what there is room for, then as many again to be counted.
 unfoldable pub wanted : ℕ → ℕ
 wanted total = pick (ltb total mostKept) (mostKept - total) mostKept
 

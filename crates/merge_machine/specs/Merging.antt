@@ -1,4 +1,4 @@
--- The program `merge` as a machine: it takes the set, reads one half after the other to its end, writes the merged trace or says why there is none, and stops.
+-- The program `merge` as a machine: it takes the set, reads one half after the other to its end, writes the merged trace or reports why there is none, and stops.
 -- Assumes nothing.
 use mathlib.Core.List.{List, [], _∷_, _++_}
 use mathlib.Core.Option.{none}
@@ -44,12 +44,12 @@ pub data State : Type 0 where
   Counting : State
   -- Which set do they name?
   Setting : State
-  -- How is the file called?
+  -- What is the file's name?
   Naming : Stage → State
   Opening : Stage → List ℕ → State
   -- Its name, the bytes that are kept of it, and how many were read.
   Reading : Stage → List ℕ → List ℕ → ℕ → State
-  -- The merged trace is written, or a line is said, or what failed.
+  -- The merged trace is written, or a line is reported, or what failed.
   Writing : List ℕ → State
   Saying : List ℕ → State
   Failing : List ℕ → State
@@ -71,7 +71,7 @@ ask (Saying line) = Say line
 ask (Failing name) = Fail name
 ask Stopped = Stop
 
--- What is said of a file that has no name that the system takes,
+-- What is reported of a file that has no name that the system takes,
 unfoldable pub unnamed : Stage → List ℕ
 unnamed (FirstHalf set) = firstName
 unnamed (SecondHalf set first) = secondName

@@ -14,7 +14,7 @@ use Rattle.merge_machine.specs.Held.{mostCounted}
 use Rattle.merge_machine.specs.Printed.{printed}
 use Rattle.merge_machine.specs.Merging.{State, Stage, Naming, Opening, Reading, usage, unnamed, named, outputName, ask, merging}
 
--- What the exchanges brought so far: the word of the set; the bytes that were read of each file that was opened, the latest first; whether the latest has ended.
+-- What the exchanges brought so far: the word of the set; the bytes that were read of each file that was opened, latest first; whether the latest has ended.
 pub record Met : Type 0 where
   pub word : List ℕ
   pub files : List (List ℕ)
@@ -84,7 +84,7 @@ mergedOf (file ∷ second ∷ first ∷ files) set = []
 unfoldable pub traceOf : Met → List ℕ
 traceOf m = pick (isWhole m) (mergedOf (m .files) (decimalIn (m .word))) []
 
--- What is said of two files that are not merged, and of words that are not two files and a set.
+-- What is reported of two files that are not merged, and of words that are not two files and a set.
 unfoldable pub refusalOf : List ℕ → List ℕ → Option ℕ → List ℕ
 refusalOf first second none = []
 refusalOf first second (some set) = printed first second set .refusal
@@ -99,7 +99,7 @@ lineOf (file ∷ second ∷ first ∷ files) set = []
 pub record Merges (answers : List Answer) : Type 0 where
   -- what is asked to be written is the definition's merged trace of the two files that were read, once both have ended, and nothing before or where it is refused;
   pub writes : writtenOf (asked merging answers) ≡ traceOf (metIn nothing (exchanges merging answers))
-  -- what is said is the line of the refusal of these files, or, where none was opened, how the program is started;
+  -- what is reported is the line of the refusal of these files, or, where none was opened, how the program is started;
   pub says : (line : List ℕ) → ask (stateAfter merging answers) ≡ Say line
       → line ≡ lineOf (metIn nothing (exchanges merging answers) .files) (decimalIn (metIn nothing (exchanges merging answers) .word))
   -- nothing is asked to be read of a file that has ended.

@@ -1,4 +1,4 @@
--- The machine's state in what a caller lends: seven numbers; the buffer that words and files are read into; the buffer for what is written and said.
+-- The machine's state in what a caller lends: seven numbers; the buffer that words and files are read into; the buffer for what is written and reported.
 -- Assumes nothing.
 use mathlib.Core.Path.{_≡_}
 use mathlib.Core.Bool.{Bool, true, _&&_, _||_}
@@ -42,7 +42,7 @@ abbrev pub atPhase : ℕ → ℕ → Marks
 atPhase phase size = record { phase = phase; half = 0; set = 0; first = 0; name = 0; count = 0; size = size }
 
 -- The numbers are those of a state: the set has 32 bits, no more bytes are held or named than there is room for, a half that is read is not counted to its end, and
--- what is to be written or said stands in the buffer.
+-- what is to be written or reported stands in the buffer.
 unfoldable pub inBounds : Marks → ℕ → Bool
 inBounds m out = leb (m .set) 4294967295 && (leb (m .first) mostKept && (leb (m .name) longestName && (ltb (m .count) mostCounted && leb (m .size) out)))
 
@@ -69,7 +69,7 @@ nameOf m input = take (m .name) (drop (nameAt (m .half)) input)
 unfoldable pub keptOf : ℕ → ℕ → List ℕ → List ℕ
 keptOf half count input = take (min count mostKept) (drop (halfAt half) input)
 
--- Phases 1 and 2: the words are counted, the set is asked for. 3 to 5: a file is named, opened, read. 6 to 8: so many bytes are to be written or said, or name what
+-- Phases 1 and 2: the words are counted, the set is asked for. 3 to 5: a file is named, opened, read. 6 to 8: that many bytes are to be written or reported, or name what
 -- failed. Everything else has stopped.
 unfoldable pub stateIn : Marks → List ℕ → List ℕ → State
 stateIn m input out =
@@ -88,7 +88,7 @@ stateOf memory input out =
     pick (lacksRoom (length memory) (length input) (length out)) Stopped
     (pick (inBounds (marksOf memory) (length out)) (stateIn (marksOf memory) input out) Stopped)
 
--- A file with a name of so many bytes is opened; so many bytes of it were read; or it is read to its end.
+-- A file with a name of that many bytes is opened; that many bytes of it were read; or it is read to its end.
 abbrev pub openingOf : Marks → ℕ → List ℕ → State
 openingOf m name input = Opening (stageOf m input) (take name (drop (nameAt (m .half)) input))
 

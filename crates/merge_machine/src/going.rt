@@ -25,7 +25,7 @@ fn stop() -> Marks
     marks::at(marks::STOPPED, 0)
 }
 
-// A line is said, and then nothing more.
+// A line is reported, and then nothing more.
 fn say(out: &mut [u8], line: &[u8]) -> Marks
     requires { ⌜ length (now line) ≤ length (now out) ⌝ }
     ensures { λ r. ⌜ ((input : List ℕ) → Arrives r input (now (out .exit)) (Saying (now (line .entry)))) ⌝ }
@@ -34,7 +34,7 @@ fn say(out: &mut [u8], line: &[u8]) -> Marks
     marks::at(marks::SAYING, size)
 }
 
-// What failed is said, and then nothing more.
+// What failed is reported, and then nothing more.
 fn fail(out: &mut [u8], name: &[u8]) -> Marks
     requires { ⌜ length (now name) ≤ length (now out) ⌝ }
     ensures { λ r. ⌜ ((input : List ℕ) → Arrives r input (now (out .exit)) (Failing (now (name .entry)))) ⌝ }
@@ -111,7 +111,7 @@ fn fail_named(m: Marks, input: &[u8], out: &mut [u8]) -> Marks
     marks::at(marks::FAILING, size)
 }
 
-// The file of a name of so many bytes is opened.
+// The file of a name of that many bytes is opened.
 fn open_file(m: Marks, input: &[u8], out: &mut [u8], name: usize) -> Marks
     requires { ⌜ Fits m × (longestWord ≤ length (now input)) × (longestTrace ≤ length (now out)) × (name ≤ longestName) ⌝ }
     ensures { λ r. ⌜ Arrives r (now (input .entry)) (now (out .exit)) (openingOf m name (now (input .entry))) ⌝ }
@@ -142,7 +142,7 @@ fn after_name(m: Marks, input: &[u8], out: &mut [u8], answer: Answer) -> Marks
     }
 }
 
-// Bytes of a file are asked for, after so many.
+// Bytes of a file are asked for, after that many.
 fn read_more(m: Marks, count: usize) -> Marks
     requires { ⌜ Fits m × (count < mostCounted) ⌝ }
     ensures { λ r. ⌜ ((input out : List ℕ) → longestWord ≤ length input → Arrives r input out (readingOf m count input)) ⌝ }
@@ -210,7 +210,7 @@ fn end_half(m: Marks, count: usize, input: &[u8], out: &mut [u8]) -> Marks
     )
 }
 
-// So many bytes of a half were read.
+// That many bytes of a half were read.
 fn go_on(m: Marks, count: usize, input: &[u8], out: &mut [u8]) -> Marks
     requires { ⌜ Fits m × (longestWord ≤ length (now input)) × (longestTrace ≤ length (now out)) ⌝ }
     ensures { λ r. ⌜ Arrives r (now (input .entry)) (now (out .exit)) (onwardOf m count (now (input .entry))) ⌝ }

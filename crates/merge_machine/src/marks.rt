@@ -10,7 +10,7 @@ ghost use Rattle.merge_machine.specs.Merging.{longestName};
 ghost use Rattle.merge_machine.specs.Words.{marksOf, atPhase, inBounds, nameAt, halfAt, readTo, wordAt, asksFor};
 
 // The phase; 0 for the first half, every other number for the second; the set; how many bytes are held of the first half; how long the name of the file is; how many
-// bytes of it were read; how many are to be written or said.
+// bytes of it were read; how many are to be written or reported.
 pub struct Marks {
     pub phase: u64,
     pub half: u64,
@@ -156,7 +156,7 @@ fn read_to(half: u64, count: usize) -> usize
     half_at(half) + count
 }
 
-// How many bytes are asked for where so many were read.
+// How many bytes are asked for where that many were read.
 pub fn wanted(total: usize) -> usize
     ensures { λ r. ⌜ r ≡ wanted total ⌝ }
 {
@@ -166,7 +166,7 @@ pub fn wanted(total: usize) -> usize
     MOST_KEPT
 }
 
-// How many bytes are held of a half of so many.
+// How many bytes are held of a half of that many.
 pub fn held_size(total: usize) -> usize
     ensures { λ r. ⌜ (r ≡ heldSize total) × (r ≤ mostKept) ⌝ }
 {

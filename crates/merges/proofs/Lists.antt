@@ -1,4 +1,4 @@
--- Note 12: lists of records taken, the newest first: the numbers of their messages, the part before a send, the records of one process.
+-- Note 12: lists of records taken, newest first: the numbers of their messages, the part before a send, the records of one process.
 use mathlib.Core.Path.{_≡_, refl, sym, _∙_, ap}
 use mathlib.Core.Bool.{Bool, true, false, _&&_, _||_, not}
 use mathlib.Core.List.{List, [], _∷_, _++_, append-assoc}
@@ -153,7 +153,7 @@ pub one-more : (i j : ℕ) (l : List HalfEvent) → howMany (sendBy i) (sendTo i
 unfolding howMany sendBy
 one-more i j l = rw (eq-eqb i i refl)
 
--- The halves one behind the other are an order.
+-- The halves one after the other are an order.
 pub keeps-append : (first second : List HalfEvent) → KeepsBoth first second (first ++ second)
 unfolding KeepsBoth
 keeps-append [] [] = (refl, refl)

@@ -107,7 +107,7 @@ module _ (n : ℕ) (counts : List ℕ) (to : ℕ → ℕ → ℕ) (records : ℕ
   carriedBy zero s c = λ f. 0
   carriedBy (suc k) s c = liveOf (partAfter s (carriedBy k) (before c (records s)) .local)
 
-  -- A run after some records, the newest first.
+  -- A run after some records, newest first.
   pub record Follows (taken : List HalfEvent) (r : Ideal) : Type 0 where
     pub size : r .n ≡ n
     pub paid : r .ledger .counts ≡ begun n counts .ledger .counts

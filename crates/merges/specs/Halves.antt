@@ -48,7 +48,7 @@ unfoldable pub howMany : (HalfEvent → Bool) → List HalfEvent → ℕ
 howMany t [] = 0
 howMany t (x ∷ l) = pick (t x) (suc (howMany t l)) (howMany t l)
 
--- Records taken stand the newest first from here on. Record x, taken behind those of l, is send c of process s: "that sender's running count from 1".
+-- Records taken are listed newest first from here on. Record x, taken after those of l, is send c of process s: "that sender's running count from 1".
 unfoldable pub isSendNumber : ℕ → ℕ → HalfEvent → List HalfEvent → Bool
 isSendNumber s c x l = sendBy s x && eqb c (suc (howMany (sendBy s) l))
 
@@ -68,19 +68,19 @@ unfoldable pub receiverOf : List HalfEvent → ℕ → ℕ → ℕ
 receiverOf [] s c = 0
 receiverOf (x ∷ l) s c = pick (isSendNumber s c x l) (receives x) (receiverOf l s c)
 
--- "The result is a plain trace with run-wide numbers": the event of record x, taken behind those of l.
+-- "The result is a plain trace with run-wide numbers": the event of record x, taken after those of l.
 unfoldable pub plainEvent : List HalfEvent → HalfEvent → Event
 plainEvent l (checkpointAt p) = Checkpoint p
 plainEvent l (sendTo i j) = Send i j
 plainEvent l (deliverOf s c) = Deliver (messageNumber l s c)
 plainEvent l (loseOf s c) = Lose (messageNumber l s c)
 
--- The calls of an order, the oldest first, taken behind some records.
+-- The calls of an order, oldest first, taken after some records.
 unfoldable pub callsFrom : List HalfEvent → List HalfEvent → List Call
 callsFrom taken [] = []
 callsFrom taken (x ∷ l) = callOf (plainEvent taken x) ∷ callsFrom (x ∷ taken) l
 
--- The records taken once all of an order are taken behind some records.
+-- The records taken once all of an order are taken after some records.
 unfoldable pub newestFirst : List HalfEvent → List HalfEvent → List HalfEvent
 newestFirst taken [] = taken
 newestFirst taken (x ∷ l) = newestFirst (x ∷ taken) l

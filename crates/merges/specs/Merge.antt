@@ -42,7 +42,7 @@ halfEventOf r = pick (eqb (r .kind) 0) (ifZero (r .argument) (checkpointAt (r .p
 unfoldable pub isReady : List HalfEvent → Fields → Bool
 isReady taken r = not (eqb (r .kind) 2 || eqb (r .kind) 3) || leb 1 (messageNumber taken (namedSender r) (namedCount r))
 
--- The record that is taken next: whether it is of the first half, its fields, and what is left of both halves behind it.
+-- The record that is taken next: whether it is of the first half, its fields, and what is left of both halves after it.
 pub data Next : Type 0 where
   nextIs : Bool → Fields → List Fields → List Fields → Next
   neither : Next
@@ -83,7 +83,7 @@ recordRefusal n set ofFirst taken x = firstOf (
     ∷ record { holds = not (inHalf set ofFirst (happensAt (receiverOf taken) x)); gives = HalvesMismatch }
     ∷ [])
 
--- The records taken, the newest first, or why the merge stopped.
+-- The records taken, newest first, or why the merge stopped.
 pub data Taken : Type 0 where
   stopped : Refusal → Taken
   took : List HalfEvent → Taken
@@ -98,7 +98,7 @@ unfoldable pub onNext : ℕ → ℕ → List HalfEvent → (HalfEvent → List F
 onNext n set taken next neither = stopped NeitherReady
 onNext n set taken next (nextIs ofFirst r first second) = onRecord n set taken ofFirst (λ x. next x first second) (halfEventOf r)
 
--- As many records as are left are taken behind some.
+-- As many records as are left are taken after some.
 unfoldable pub takeFrom : ℕ → ℕ → ℕ → List HalfEvent → List Fields → List Fields → Taken
 takeFrom zero n set taken first second = took taken
 takeFrom (suc k) n set taken first second = onNext n set taken (λ x a b. takeFrom k n set (x ∷ taken) a b) (nextRecord taken first second)
@@ -153,7 +153,7 @@ mergeRefusal first second set buffer = firstOf (
     ∷ record { holds = tooMany first || tooMany second; gives = TooManyRecords }
     ∷ [])
 
--- "The result is a plain trace with run-wide numbers": the bytes of the records taken, the oldest first.
+-- "The result is a plain trace with run-wide numbers": the bytes of the records taken, oldest first.
 unfoldable pub plainBytes : List HalfEvent → List ℕ
 plainBytes [] = []
 plainBytes (x ∷ taken) = plainBytes taken ++ bytesOf (wordOf (fieldsOf (plainEvent taken x)))

@@ -1,4 +1,4 @@
--- A table of merges, for Note 12 of document 02: what is written of two halves, and for each number two halves that meet it, beside the number that comes
+-- A table of merges, for Note 12 of document 02: what is written of two halves, and for each number two halves that meet it and also the number that comes
 -- next. proofs/Merges has the theorem.
 -- Assumes nothing.
 use mathlib.Core.Bool.{Bool, _&&_}
@@ -19,7 +19,7 @@ pub record MergeCase : Type 0 where
   pub meets : ℕ
   pub writes : List ℕ
 
--- The buffer has the byte 7 everywhere before the merge; with a refusal, behind it too.
+-- The buffer has the byte 7 everywhere before the merge; with a refusal, after it too.
 unfoldable pub mergeRight : MergeCase → Bool
 mergeRight c =
     let before : List ℕ = replicate (c .room) 7 in

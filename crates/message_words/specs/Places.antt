@@ -71,7 +71,7 @@ unfoldable pub closing : List ℕ → ℕ → Closing
 closing w zero = record { words = w; many = 0 }
 closing w (suc k) = closeStep k (closing w k)
 
--- The places from one on made unused, so many.
+-- That many places, from one on, made unused.
 unfoldable pub clearedFrom : List ℕ → ℕ → ℕ → List ℕ
 clearedFrom w from zero = w
 clearedFrom w from (suc k) = cleared (clearedFrom w from k) (from + k)

@@ -1,4 +1,4 @@
--- Document 01, "A sound state", clause by clause, and behind it the clauses of Note 5.
+-- Document 01, "A sound state", clause by clause, and after it the clauses of Note 5.
 -- Assumes nothing.
 use mathlib.Core.Bool.{Bool, true, false, _&&_, not}
 use mathlib.Core.List.{List, [], _∷_, map}
@@ -86,7 +86,7 @@ isNothing (At a) = false
 unfoldable pub nothingFrom : ℕ → List Pin → Bool
 nothingFrom k pins = every isNothing (drop k pins)
 
--- In a row of the run the places at n and above are unused, and in the kept table the places behind the kept checkpoints.
+-- In a row of the run the places at n and above are unused, and in the kept table the places after the kept checkpoints.
 unfoldable pub rowUnused : Run → ℕ → Bool
 rowUnused s p =
     zeroFrom (s .count) (process s p .vector)

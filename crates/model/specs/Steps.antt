@@ -40,7 +40,7 @@ gone P = select (λ c. not (named (P .pins) c)) (P .kept)
 unfoldable pub deletions : ℕ → Process → List Deletion
 deletions p P = listed p (gone P)
 
--- Note 5: "The state also carries blocks written and blocks deleted." What they are behind a call that wrote and deleted so many.
+-- Note 5: "The state also carries blocks written and blocks deleted." What they are after a call that wrote and deleted that many.
 unfoldable pub billed : Disk → ℕ → ℕ → Disk
 billed d wrote deleted = record { written = d .written + wrote; deleted = d .deleted + deleted }
 
@@ -156,7 +156,7 @@ deliverState s x =
     withDisk (withMessages (withProcess s (x .receiver) (settled Q)) (others s (x .number)) (s .last))
     (billed (s .disk) (pick (forces P (x .vector)) (blockCount P) 0) (blocksOf (gone Q)))
 
--- Note 1: "Delivery passes it on." The entries that rose are those of the vector that takes the carried one in: behind the forced checkpoint, if there is one.
+-- Note 1: "Delivery passes it on." The entries that rose are those of the vector that takes the carried one in: after the forced checkpoint, if there is one.
 unfoldable pub deliverRisen : Run → Message → ℕ
 deliverRisen s x =
     let P = process s (x .receiver) in
@@ -229,7 +229,7 @@ recovered s F p = record {
 }
 
 -- Note 2: "a recovery loses a message exactly if its sender's entry in the carried vector is above the sender's index in the line; the others remain
--- under way with their numbers." Which ones are lost is said here alone.
+-- under way with their numbers." Which ones are lost is defined here alone.
 unfoldable pub lostBy : Run → ℕ → Message → Bool
 lostBy s F x = ltb (member s F (x .sender) .index .0) (entry (x .vector) (x .sender) .0)
 

@@ -141,7 +141,7 @@ pub enum SendAnswer {
     Sent(u32),
 }
 
-// Received: how many checkpoints were deleted. Forced: the same behind the index of the forced checkpoint.
+// Received: how many checkpoints were deleted. Forced: the same after the index of the forced checkpoint.
 pub enum DeliverAnswer {
     Refused(Refusal),
     Received(usize),

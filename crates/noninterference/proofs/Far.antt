@@ -51,7 +51,7 @@ limits-at s r (at h v) = v .limits
 pub size-at : (s : Run) (r : Ideal) → At s r → r .n ≡ 3
 size-at s r (at h v) = v .size
 
--- What the rounds keep of the run: process 1 is in interval 1 + k, and has not sent; process 0 is as at the start; nothing is under way; so many messages were sent, so
+-- What the rounds keep of the run: process 1 is in interval 1 + k, and has not sent; process 0 is as at the start; nothing is under way; that many messages were sent, so
 -- many blocks written.
 pub record Stage (r : Ideal) (k c w : ℕ) : Type 0 where
   pub own : r .own 1 ≡ 1 + k

@@ -37,7 +37,7 @@ isOwnerBy Viewer set n owned = false
 unfoldable pub isOwner : ℕ → ℕ → Caller → Bool
 isOwner owned n c = isOwnerBy (c .role) (c .owned) n owned
 
--- WHAT IT SEES of a list of console calls made one after the other from a state: all that its own calls return beside the state, in order. A reply is the number and
+-- WHAT IT SEES of a list of console calls made one after the other from a state: all that its own calls return besides the state, in order. A reply is the number and
 -- the values, the set of entries that rose, and the lent lists as they then stand.
 unfoldable pub sees : ℕ → Run → ConsoleCall → List Reply
 sees owned s k = pick (isOwner owned (s .count) (k .caller)) (consoleCall s k .reply ∷ []) []
@@ -88,7 +88,7 @@ leak owned s (list deleted) = nothing
 leak owned s (counts lent) = nothing
 
 -- What a recovery or sweep for F does to process p follows from p's own part, its member of the line, and this: which of its pins then name a checkpoint. The others'
--- intervals decide that, so it is a leak beside those that Note 13 names: the owner's later lists show what was deleted.
+-- intervals decide that, so it is a leak besides those that Note 13 names: the owner's later lists show what was deleted.
 pub record Restart : Type 0 where
   pub index : ℕ
   pub pinned : List Bool
@@ -99,7 +99,7 @@ restart s F p = record { index = member s F p .index .0; pinned = table mostProc
 unfoldable pub restarts : ℕ → Run → ℕ → List Restart
 restarts owned s F = table (s .count) (λ p. pick (owns owned (s .count) p) (restart s F p) (record { index = 0; pinned = [] }))
 
--- WHAT IS EXPOSED TO IT. A call of its own, by the set of who makes it, with what it shows of others; of another's accepted call, by an operator or by who shares a process, what it did to the
+-- WHAT IS EXPOSED TO IT. A call of its own, with the set of the caller and with what it shows of others; of another's accepted call, by an operator or by an owner who shares a process, what it did to the
 -- owner's processes: stored a checkpoint of one, sent from one, took in what arrived; and every accepted recovery or sweep. Nothing else that others do is exposed:
 -- calls for their own processes, messages sent to whomever, losses, lists, counts, lines, and whatever is refused.
 pub data Exposed : Type 0 where

@@ -1,4 +1,4 @@
-// The ends of a trace: what is left over behind its last whole record, and a trace of no bytes.
+// The ends of a trace: what is left over after its last whole record, and a trace of no bytes.
 use crate::line;
 use model::Refusal;
 use whole_runs::MOST_RECORDS;
@@ -11,7 +11,7 @@ ghost use Rattle.whole_runs.specs.Listing.{records, listing};
 ghost use Rattle.listing.specs.Lines.{longestLine};
 ghost use Rattle.listing.specs.Printed.{Printed};
 
-// "13 prints under the next record number and ends": what is left behind the last whole record prints this, and nothing behind record 1,000,000,000.
+// "13 prints under the next record number and ends": what is left after the last whole record prints this, and nothing past record 1,000,000,000.
 pub fn end(done: u64, rest: &[u8], out: &mut [u8]) -> usize
     requires { ⌜ (length (now rest) < 4) × (longestLine ≤ length (now out)) ⌝ }
     ensures { λ r. ⌜ ((all : Bool) (s : model-run.Run) → Printed (now (out .entry)) 0 (records all done s (now (rest .entry))) (now (out .exit)) r) × (r ≤ length (now (out .entry))) ⌝ }

@@ -1,4 +1,4 @@
-// A line printed into a lent buffer that has room for the longest one, and whether the replay goes on behind it.
+// A line printed into a lent buffer that has room for the longest one, and whether the replay goes on after it.
 use listing::Summary;
 use model::Refusal;
 ghost use mathlib.Core.Path.{_≡_};
@@ -27,7 +27,7 @@ pub fn refuse(number: u64, why: Refusal, out: &mut [u8]) -> usize
     listing::write_refusal(out, 0, number, refused)
 }
 
-// Whether the replay goes on behind a record whose line says this refusal number, 0 if none: "stops after printing the first refusal", unless `all` is asked for.
+// Whether the replay goes on after a record whose line says this refusal number, 0 if none: "stops after printing the first refusal", unless `all` is asked for.
 pub fn goes_on(all: bool, refused: u8) -> bool
     ensures { λ r. ⌜ r ≡ goesOn all refused ⌝ }
 {

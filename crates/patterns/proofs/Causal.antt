@@ -14,7 +14,7 @@ use Rattle.patterns.specs.Paths.{eventAt, interval, placeOf, Precedes, n
 use Rattle.patterns.proofs.Core.{Vectors, higher}
 use Rattle.patterns.proofs.Placing.{stands-at, interval-before, interval-behind, place-stored, place-le, place-rises, place-in, along}
 
--- What the proof uses beside the vectors: receipts before a send are carried by it, and what is carried or known of another process was received before.
+-- What the proof uses besides the vectors: receipts before a send are carried by it, and what is carried or known of another process was received before.
 pub record Sources (lists : Lists) (v : Vectors lists) : Type 0 where
   pub ordered : (p i j m x f : ℕ) → eventAt (lists p) j ≡ some (received x) → eventAt (lists p) i ≡ some (sent m) → j < i → v .carried x f ≤ v .carried m f
   pub arrived : (q j m : ℕ) → eventAt (lists q) j ≡ some (received m) → (p : ℕ) × (i : ℕ) × (eventAt (lists p) i ≡ some (sent m))
@@ -34,7 +34,7 @@ pub received-or-stored : {o : Option HistoryEvent} (m : ℕ) → o ≡ some (rec
 received-or-stored m d e = let z : _≡_ {A = ℕ} 0 1 = cc in omega arith
 
 module _ (lists : Lists) (v : Vectors lists) (s : Sources lists v) (a α : ℕ) (near : α < checkpoints (lists a)) where
-  -- Place j of q has the near end behind it, or is it: by its own list, or by a message that was received up to there.
+  -- Place j of q comes after the near end, or is it: by its own list, or by a message that was received up to there.
   Has : ℕ → ℕ → Type 0
   Has q j = ((q ≡ a) × (placeOf α (lists a) ≤ j)) ⊎ ((m : ℕ) × (i : ℕ) × (eventAt (lists q) i ≡ some (received m)) × (i ≤ j) × (α < v .carried m a))
 
@@ -83,7 +83,7 @@ module _ (lists : Lists) (v : Vectors lists) (s : Sources lists v) (a α : ℕ) 
   unfolding Has
   entry-by b β far w = told b β far (onto a (placeOf α (lists a)) b (placeOf β (lists b)) w (inl (refl, omega arith)))
 
-  -- A message that carries the near end was sent behind it, or behind the receipt of a message that does: so its receipt comes behind the near end.
+  -- A message that carries the near end was sent after it, or after the receipt of a message that does: so its receipt comes after the near end.
   from-carried : (bound m q j : ℕ) → m < bound → eventAt (lists q) j ≡ some (received m) → α < v .carried m a → Precedes lists a (placeOf α (lists a)) q j
   from-carried zero m q j lt e c = absurd (omega arith)
   from-carried (suc bound) m q j lt e c =

@@ -1,4 +1,4 @@
--- What ends a reading: the first record that is refused, whatever stands behind it; and a trace of more than 4,096 records, of which no more bytes need to be read.
+-- What ends a reading: the first record that is refused, whatever stands after it; and a trace of more than 4,096 records, of which no more bytes need to be read.
 -- Assumes nothing.
 use mathlib.Core.Path.{_≡_, refl}
 use mathlib.Core.List.{List, [], _∷_, _++_}
@@ -20,7 +20,7 @@ either-refused : (o : Option Refusal) (a b : Reading) (r : Refusal) → (a ≡ r
 either-refused none a b r f e = f e
 either-refused (some x) a b r f e = e
 
--- k whole records of which one is refused: the bytes behind them play no part.
+-- k whole records of which one is refused: the bytes after them play no part.
 refused-then : (k n : ℕ) (t : Pattern) (l rest : List ℕ) (r : Refusal) → length l ≡ 4 * k → readFrom n t l ≡ refused r → readFrom n t (l ++ rest) ≡ refused r
 unfolding readFrom
 refused-then k n t [] rest r h e = not-refused r t e
@@ -36,7 +36,7 @@ pub first-refusal-ends : FirstRefusalEnds
 unfolding reading
 first-refusal-ends k n l rest r counted h few e = rw (counted, le-ltb mostJudged (length (l ++ rest) / 4) few) (refused-then k n empty l rest r h e)
 
--- Behind 16,388 bytes the verdict is fixed.
+-- After 16,388 bytes the verdict is fixed.
 same-reading : (front rest : List ℕ) → 16389 ≤ length front → reading (front ++ rest) ≡ reading front
 unfolding reading
 same-reading [] rest h = absurd (omega arith)

@@ -28,7 +28,7 @@ interval-le (received m ∷ l) (suc i) = interval-le l i
 pub stands-le : {e : HistoryEvent} {g : ℕ} (l : List HistoryEvent) → StandsIn e g l → g ≤ checkpoints l
 stands-le l s = omega (arith, s .2, interval-le l (s .0))
 
--- An event at or before state k has an interval of at most k; one behind a checkpoint k has one above k.
+-- An event at or before state k has an interval of at most k; one after a checkpoint k has one above k.
 pub interval-before : (l : List HistoryEvent) (i k : ℕ) → i ≤ placeOf k l → interval l i ≤ k
 unfolding interval placeOf
 interval-before [] i k h = omega arith
@@ -64,7 +64,7 @@ place-le (stored ∷ l) (suc k) = omega (arith, place-le l k)
 place-le (sent m ∷ l) k = omega (arith, place-le l k)
 place-le (received m ∷ l) k = omega (arith, place-le l k)
 
--- The place behind the last checkpoint is the end of the list.
+-- The place after the last checkpoint is the end of the list.
 pub place-end : (l : List HistoryEvent) (k : ℕ) → checkpoints l ≤ k → placeOf k l ≡ length l
 unfolding placeOf checkpoints
 place-end [] k h = refl

@@ -86,7 +86,7 @@ module _ (bound : ℕ) (first : ℕ → Bool) (onward : ℕ → ℕ → Bool) wh
     | inr w ↦ absurd (omega (arith, w, count-le bound (Last (suc bound))))
   ]
 
-  -- So the last messages of sequences of at most so many messages are those of all sequences.
+  -- So the last messages of sequences of at most that many messages are those of all sequences.
   pub begun : (m : ℕ) → m < bound → first m ≡ true → Last bound m ≡ true
   unfolding Settled
   begun m lm e = settled m lm (last-first bound m e)

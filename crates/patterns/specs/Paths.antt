@@ -34,7 +34,7 @@ placeOf (suc k) (stored ∷ l) = suc (placeOf k l)
 placeOf k (sent m ∷ l) = suc (placeOf k l)
 placeOf k (received m ∷ l) = suc (placeOf k l)
 
--- Definition 1. "Event e causally precedes e' iff": an event is a process and a place; the place behind the last event is the live state's.
+-- Definition 1. "Event e causally precedes e' iff": an event is a process and a place; the place after the last event is the live state's.
 pub data Precedes (lists : Lists) : ℕ → ℕ → ℕ → ℕ → Type 0 where
   -- "(i)": the next event of the same process
   next : {p i : ℕ} → i < length (lists p) → Precedes lists p i p (suc i)

@@ -57,7 +57,7 @@ RightVerdict trace (Breaks a α b β) = (t : Pattern) × (reading trace ≡ whol
 abbrev pub VerdictsAreRight : Type 0
 VerdictsAreRight = (trace : List ℕ) → RightVerdict trace (verdict trace)
 
--- "the first one refused ends the reading and its number is the result": whatever bytes stand behind k records of which one is refused, left-over ones too.
+-- "the first one refused ends the reading and its number is the result": whatever bytes stand after k records of which one is refused, left-over ones too.
 abbrev pub FirstRefusalEnds : Type 0
 FirstRefusalEnds = (k n : ℕ) (records rest : List ℕ) (r : Refusal) → startRefusal n ones ≡ none → length records ≡ 4 * k → length (records ++ rest) / 4 ≤ mostJudged
     → readFrom n empty records ≡ refused r → reading (n ∷ (records ++ rest)) ≡ refused r

@@ -18,7 +18,7 @@ refusedName = 114 ∷ 101 ∷ 102 ∷ 117 ∷ 115 ∷ 101 ∷ 100 ∷ space ∷ 
 unfoldable pub refusedText : Refusal → List ℕ
 refusedText why = figureText refusedName (number why)
 
--- No number has more than 20 digits: so many bytes at most are printed behind a name, and for a refusal.
+-- No number has more than 20 digits: that many bytes at most are printed after a name, and for a refusal.
 abbrev pub longestFigure : ℕ
 longestFigure = 21
 

@@ -9,7 +9,7 @@ pub struct Brought {
     pub more: usize,
 }
 
-// One read behind the bytes held, which are as they were.
+// One read after the bytes held, which are as they were.
 pub fn read_behind(fd: i32, input: &mut [u8], held: usize) -> Brought
     requires { ⌜ held ≤ length (now input) ⌝ }
     ensures { λ r. ⌜ (held + r .more ≤ length (now (input .entry))) × (take held (now (input .exit)) ≡ take held (now (input .entry))) ⌝ }

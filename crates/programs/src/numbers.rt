@@ -50,7 +50,7 @@ pub fn number_in(word: &[u8]) -> u64
     value
 }
 
-// A number of 32 bits: the greatest for every greater one. For who judges these two alike.
+// A number of 32 bits: the greatest for every greater one. For callers to whom these two are the same.
 pub fn clamped(x: u64) -> u32
     ensures { λ r. ⌜ r ≡ atMost x ⌝ }
 {

@@ -1,4 +1,4 @@
-// Texts printed to a lent buffer from a place on: every function hands back the place behind what it printed.
+// Texts printed to a lent buffer from a place on: every function hands back the place after what it printed.
 use model::Refusal;
 ghost use Prim.Native.Nat.{_+_, _≤_};
 ghost use lib.ListN.{length};

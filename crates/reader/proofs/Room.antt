@@ -1,4 +1,4 @@
--- Whether a record has room in a trace of n bytes behind the first byte and k records: told without a product that could wrap.
+-- Whether a record has room in a trace of n bytes after the first byte and k records: decided without a product that could wrap.
 -- Assumes nothing.
 use mathlib.Core.Path.{_≡_, sym, _∙_}
 use mathlib.Core.Bool.{false}
@@ -8,7 +8,7 @@ use lib.Dec.{leb}
 use borrow.Author.Tests.{le-leb, lt-leb, leb-true, leb-false}
 use Rattle.laws.specs.Choice.{by-bool}
 
--- The bytes behind k records and the first byte's place among them.
+-- The bytes after k records and the first byte's place among them.
 pub room-counted : (n k : ℕ) → k < n / 4 → leb 5 (n - 4 * k) ≡ leb (1 + 4 * k + 4) n
 room-counted n k h =
     by-bool (leb (1 + 4 * k + 4) n)

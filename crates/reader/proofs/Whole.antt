@@ -104,7 +104,7 @@ partition l = record {
   same-state = same-state l;
 }
 
--- A reader of one trace that has taken j records, and the bytes behind it.
+-- A reader of one trace that has taken j records, and the bytes after it.
 module _ (s : RefT (List ℕ)) where
   abbrev at : ℕ → Reader
   at j = record { trace = s; taken = j }
@@ -117,7 +117,7 @@ module _ (s : RefT (List ℕ)) where
       let e : 1 + 4 * j + 4 ≡ 1 + 4 * (j + 1) = omega arith in
       drop-drop 4 (1 + 4 * j) (now s) ∙ ap (λ (m : ℕ). drop m (now s)) e
 
-  -- A record is left: one turn hands it on.
+  -- A record is left: one iteration hands it on.
   module _ (j : ℕ) (left : recordLeft (now s) j ≡ true) where
     room : 4 ≤ length (behind j)
     unfolding recordLeft
@@ -137,7 +137,7 @@ module _ (s : RefT (List ℕ)) where
     unfolding handedOn recordLeft recordAfter recordAt
     next-handed k = rw (left, next-at)
 
-  -- None is left: a turn hands on nothing and takes nothing.
+  -- None is left: an iteration hands on nothing and takes nothing.
   module _ (j : ℕ) (none-left : recordLeft (now s) j ≡ false) where
     no-room : length (behind j) < 4
     unfolding recordLeft
@@ -166,7 +166,7 @@ module _ (s : RefT (List ℕ)) where
   count-next : (j : ℕ) → recordLeft (now s) j ≡ true → length (parts (behind j)) ≡ length (parts (behind (j + 1))) + 1
   count-next j left = ap length (next-parts j left) ∙ omega arith
 
-  -- In at least as many turns as there are parts behind the reader: what is handed on, where the reader is then, and what is behind it.
+  -- In at least as many iterations as there are parts after the reader: what is handed on, where the reader is then, and what is after it.
   handed : (k j : ℕ) → length (parts (behind j)) ≤ k → handedOn k (at j) ≡ parts (behind j)
   handed zero j h =
       by-bool (recordLeft (now s) j)

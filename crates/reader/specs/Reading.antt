@@ -10,7 +10,7 @@ use Rattle.laws.specs.Choice.{pick}
 use Rattle.trace.specs.Answers.{recordAt}
 use Rattle.reader.specs.declared.Reader.{Reader}
 
--- "The first byte is n. Then records of 32 bits": the record behind the first byte and the records taken, nothing if no whole one is left.
+-- "The first byte is n. Then records of 32 bits": the record after the first byte and the records taken, nothing if no whole one is left.
 unfoldable pub recordAfter : List ℕ → ℕ → List ℕ
 recordAfter trace taken = recordAt trace (1 + 4 * taken)
 
@@ -18,11 +18,11 @@ recordAfter trace taken = recordAt trace (1 + 4 * taken)
 unfoldable pub recordLeft : List ℕ → ℕ → Bool
 recordLeft trace taken = leb (1 + 4 * taken + 4) (length trace)
 
--- The count behind the next record. Where none is left, none is taken.
+-- The count after the next record. Where none is left, none is taken.
 unfoldable pub takenAfter : List ℕ → ℕ → ℕ
 takenAfter trace taken = pick (recordLeft trace taken) (taken + 1) taken
 
--- A reader that has taken nothing, and the reader behind the next record.
+-- A reader that has taken nothing, and the reader after the next record.
 unfoldable pub newReader : RefT (List ℕ) → Reader
 newReader trace = record { trace = trace; taken = 0 }
 

@@ -16,7 +16,7 @@ use Rattle.whole_runs.specs.Listing.{perform, lineText, refusalText, mostRecord
 use Rattle.reader.specs.declared.Reader.{Reader}
 use Rattle.reader.specs.Reading.{recordAfter, recordLeft, newReader, readerAfter}
 
--- What a reader hands on in k turns, each of which takes a record if one is left; and the reader behind them.
+-- What a reader hands on in k iterations, each of which takes a record if one is left; and the reader after them.
 unfoldable pub handedOn : ℕ → Reader → List (List ℕ)
 handedOn zero r = []
 handedOn (suc k) r = pick (recordLeft (now (r .trace)) (r .taken)) (recordAfter (now (r .trace)) (r .taken) ∷ handedOn k (readerAfter r)) []
@@ -25,7 +25,7 @@ unfoldable pub turned : ℕ → Reader → Reader
 turned zero r = r
 turned (suc k) r = turned k (readerAfter r)
 
--- The four-byte parts of the bytes behind the first one, in their order, and the one to three bytes left over.
+-- The four-byte parts of the bytes after the first one, in their order, and the one to three bytes left over.
 unfoldable pub parts : List ℕ → List (List ℕ)
 parts [] = []
 parts (a ∷ []) = []
@@ -65,13 +65,13 @@ pub record Partition (l : List ℕ) : Type 0 where
   pub same-lines : (all : Bool) (done : ℕ) (s : Run) → records all done s l ≡ linesOfParts all done s (parts l) (leftOver l)
   pub same-state : (s : Run) → stateAfterRecords s l ≡ stateAfterParts s (parts l)
 
--- A reader opened on a trace, after as many turns as the trace has records or more.
+-- A reader opened on a trace, after as many iterations as the trace has records or more.
 pub record ReadsWhole (trace : RefT (List ℕ)) (k : ℕ) : Type 0 where
   -- it has handed on the parts of the trace and nothing else
   pub all-parts : handedOn k (newReader trace) ≡ parts (drop 1 (now trace))
   -- its count is how many they are
   pub counted : turned k (newReader trace) .taken ≡ length (parts (drop 1 (now trace)))
-  -- behind it are the left-over bytes
+  -- after it are the left-over bytes
   pub left-behind : drop (1 + 4 * turned k (newReader trace) .taken) (now trace) ≡ leftOver (drop 1 (now trace))
 
 -- "It hands a record on as the part of the trace with its four bytes": for every trace.

@@ -10,7 +10,7 @@ pub struct Reader<'a> {
     pub taken: usize,
 }
 
-// The part behind the first byte and the records taken. A fourth of the length bounds the count, so that no product wraps.
+// The part after the first byte and the records taken. A fourth of the length bounds the count, so that no product wraps.
 fn part_behind<'a>(trace: &'a [u8], taken: usize) -> &'a [u8]
     ensures { λ r. ⌜ now r ≡ recordAfter (now (trace .entry)) taken ⌝ }
 {
@@ -61,7 +61,7 @@ pub fn next_record<'a>(r: Reader<'a>) -> &'a [u8]
     part_behind(r.trace, r.taken)
 }
 
-// The reader behind that record: the count is one higher, or as it was where no record is left.
+// The reader after that record: the count is one higher, or as it was where no record is left.
 pub fn advance<'a>(r: Reader<'a>) -> Reader<'a>
     ensures { λ q. ⌜ q ≡ readerAfter (r .entry) ⌝ }
 {
@@ -71,7 +71,7 @@ pub fn advance<'a>(r: Reader<'a>) -> Reader<'a>
     }
 }
 
-// The same record for who holds a trace and a count: by way of the reader, and covered for every caller.
+// The same record for a caller that has a trace and a count: by way of the reader, and the prover covers it for every caller.
 pub fn record_after<'a>(trace: &'a [u8], taken: usize) -> &'a [u8]
     ensures { λ p. ⌜ now p ≡ recordAfter (now (trace .entry)) taken ⌝ }
 {

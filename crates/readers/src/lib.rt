@@ -1,5 +1,5 @@
 // What a run-time reads of the words, each by one reader: specs/Readings says what is answered and what the lent list then holds. The words stand for a sound state;
-// who exports these tests that first.
+// whoever exports these functions tests that first.
 use answers::code_of;
 use listing::Summary;
 use listing::Value;
@@ -39,7 +39,7 @@ pub fn refused(why: Refusal) -> u64
     code_of(said, 0)
 }
 
-// So many things were read; the field of the answer has 24 bits.
+// That many things were read; the field of the answer has 24 bits.
 pub fn counted(many: usize) -> u64
     requires { ⌜ many < 16777216 ⌝ }
     ensures { λ r. ⌜ r ≡ coded (accepting (some many) 0) 0 ⌝ }

@@ -28,7 +28,7 @@ counts-same P (c ∷ l) e =
     and-both (eqb (c .blocks) (blockCount P)) (every (λ c. eqb (c .blocks) (blockCount P)) l) (one .1) (counts-same P l (q .1))
 
 module _ (s : Run) (h : sound s ≡ true) where
-  -- Some of what process i keeps: so many blocks for each.
+  -- Some of what process i keeps: that many blocks for each.
   pub blocks-of-some : (i : ℕ) → i < s .count → (t : Checkpoint → Bool)
       → blocksOf (select t (process s i .kept)) ≡ length (select t (process s i .kept)) * blockCount (process s i)
   blocks-of-some i lt t =

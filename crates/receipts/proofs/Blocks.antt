@@ -15,7 +15,7 @@ use Rattle.laws.specs.Truth.{and-out}
 use Rattle.model.specs.declared.Checkpoint.{Checkpoint}
 use Rattle.model.specs.Words.{blocksOf}
 
--- Of checkpoints with the same count, so many blocks for each.
+-- Of checkpoints with the same count, that many blocks for each.
 pub blocks-equal : (count : ℕ) (l : List Checkpoint) → every (λ c. eqb (c .blocks) count) l ≡ true → blocksOf l ≡ length l * count
 unfolding blocksOf every
 blocks-equal count [] h = omega arith

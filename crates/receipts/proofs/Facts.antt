@@ -1,4 +1,4 @@
--- What follows from the clauses of a sound state: places for what it holds, and the live state behind the kept checkpoints.
+-- What follows from the clauses of a sound state: places for what it holds, and the live state after the kept checkpoints.
 -- Assumes nothing.
 use mathlib.Core.Path.{_≡_}
 use mathlib.Core.Bool.{true}

@@ -1,4 +1,4 @@
--- A sound state is full up to what it holds: behind the messages under way and behind the kept checkpoints of a process, each place is the unused one.
+-- A sound state is full up to what it holds: after the messages under way and after the kept checkpoints of a process, each place is the unused one.
 -- So a table of the state is its own used front laid into a table, and one process's part put back into the state changes nothing.
 -- Assumes nothing.
 use mathlib.Core.Path.{_≡_, refl, ap, _∙_}

@@ -1,4 +1,4 @@
--- A checkpoint is stored behind the kept ones after the own pin has moved to it: it stays, nothing else changes by its being there, and one of the 16
+-- A checkpoint is stored after the kept ones, once the own pin has moved to it: it stays, nothing else changes by its being there, and one of the 16
 -- places of the row is free for it. So a function may collect the kept ones first and store the new one then.
 -- Assumes nothing.
 use mathlib.Core.Path.{_≡_, refl, ap, _∙_}
@@ -94,13 +94,13 @@ module _ (l : List Checkpoint) (one : (pin : Pin) → length (namedBy pin l) ≤
   named-fewer (pin ∷ pins) (suc i) h e =
       omega (arith, select-or (λ c. names pin (c .index)) (λ c. some-of (λ q. names q (c .index)) pins) l, one pin, named-fewer pins i (omega arith) e)
 
--- The own pin, at place i, names checkpoint c, which is put behind others.
+-- The own pin, at place i, names checkpoint c, which is put after others.
 module _ (pins : List Pin) (i : ℕ) (c : Checkpoint) (h : i < length pins) (own-pin : getD pins i Nothing ≡ At (c .index)) where
   pub own-named : named pins c ≡ true
   unfolding named
   own-named = some-at (λ pin. names pin (c .index)) pins i Nothing h (rw own-pin (eq-eqb (c .index .0) (c .index .0) refl))
 
-  -- it stays behind those that stay
+  -- it stays after those that stay
   pub stays-behind : (l : List Checkpoint) → select (named pins) (l ++ (c ∷ [])) ≡ select (named pins) l ++ (c ∷ [])
   unfolding select
   stays-behind l = rw (select-append, own-named)

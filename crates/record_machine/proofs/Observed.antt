@@ -27,7 +27,7 @@ clash e = absurd (let z : _≡_ {A = ℕ} 0 1 = cc in omega arith)
 abbrev Settled : ℕ → List Exchange → Type 0
 Settled size talk = (more : List Exchange) → sizeAsked (talk ++ more) ≡ size
 
--- All that was written and said.
+-- All that was written and reported.
 abbrev wrote : List Exchange → List ℕ
 wrote talk = writtenOf (requestsOf talk)
 
@@ -51,7 +51,7 @@ pub record At (p : Position) (talk : List Exchange) (out lines : List ℕ) : Typ
 abbrev Over : List Exchange → Type 0
 Over talk = (size : ℕ) × Settled size talk × (wrote talk ≡ recordedTrace size (readOf talk))
 
--- Nothing was read, written or said yet.
+-- Nothing was read, written or reported yet.
 abbrev Nothing : List Exchange → Type 0
 Nothing talk = (readOf talk ≡ []) × (wrote talk ≡ []) × (told talk ≡ [])
 
@@ -89,7 +89,7 @@ module _ (talk : List Exchange) (e : Exchange) where
   read-none : readBy (e .request) (e .answer) ≡ [] → readOf more ≡ readOf talk
   read-none h = read-more ∙ ap (λ (x : List ℕ). readOf talk ++ x) h ∙ append-nil (readOf talk)
 
-  -- Some of what is to be written or said was asked for.
+  -- Some of what is to be written or reported was asked for.
   at-more : (p : Position) (out lines out′ lines′ : List ℕ) → At p talk out lines → readBy (e .request) (e .answer) ≡ [] → written (e .request) ++ out′ ≡ out → said (e .request) ++ lines′ ≡ lines
       → At p more out′ lines′
   at-more p out lines out′ lines′ w none-read o s = record {

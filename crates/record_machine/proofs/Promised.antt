@@ -62,7 +62,7 @@ said-is answers =
     ∙ said-then (requestsOf (exchanges machine answers)) (ask (stateAfter machine answers) ∷ [])
     ∙ ap (λ (x : List ℕ). saidOf (requestsOf (exchanges machine answers)) ++ x) (said-one (ask (stateAfter machine answers)))
 
--- What is said at the end of the input.
+-- What is reported at the end of the input.
 end-said : (text : List ℕ) → said (ask (toEnd text)) ≡ text
 unfolding toEnd ask said
 end-said [] = refl

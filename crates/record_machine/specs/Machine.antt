@@ -27,11 +27,11 @@ pub data State : Type 0 where
   naming : State
   -- the first byte is next; the size of the buffer
   beginning : ℕ → State
-  -- what was recorded is written, and then lines are said
+  -- what was recorded is written, and then lines are reported
   writing : List ℕ → List ℕ → Position → State
   saying : List ℕ → Position → State
   reading : Position → State
-  -- the last text is said, or that the system failed
+  -- the last text is reported, or that the system failed
   ending : List ℕ → State
   failing : List ℕ → State
   stopped : State
@@ -78,7 +78,7 @@ ask stopped = Stop
 unfoldable pub toRead : Position → State
 toRead p = pick (ltb (p .standing .done) mostRecords) (reading p) stopped
 
--- Nothing is said or written where there is nothing to say or to write.
+-- Nothing is reported or written where there is nothing to report or to write.
 unfoldable pub toSay : List ℕ → Position → State
 toSay [] p = toRead p
 toSay (b ∷ lines) p = saying (b ∷ lines) p

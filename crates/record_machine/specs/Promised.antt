@@ -34,13 +34,13 @@ sizeAsked (e ∷ talk) = pick (eqb (wordsIn (e .answer)) 2) (sizeNamed talk) lon
 pub record RecordsItsInput : Type 0 where
   -- What it asked to be written is exactly the recorded trace of the input's own calls, as far as was read.
   pub written : (answers : List Answer) → let talk = exchanges machine answers in writtenOf (asked machine answers) ≡ recordedTrace (sizeAsked talk) (readOf talk)
-  -- Whenever it asks to read, a line was said for each refused record, and nothing else;
+  -- Whenever it asks to read, a line was reported for each refused record, and nothing else;
   pub said : (answers : List Answer) (most : ℕ) → ask (stateAfter machine answers) ≡ Read most
       → let talk = exchanges machine answers in saidOf (asked machine answers) ≡ refusedLines (sizeAsked talk) (readOf talk)
   -- at the end of the input one more for left-over bytes or for want of a first byte.
   pub ended : (answers : List Answer) (most : ℕ) → ask (stateAfter machine answers) ≡ Read most
       → let talk = exchanges machine answers in said-by (ask (stepped machine (stateAfter machine answers) End)) ≡ lastLine (sizeAsked talk) (readOf talk)
-  -- A first byte that is refused is said, and nothing more is read.
+  -- A refused first byte is reported, and nothing more is read.
   pub refused : (size n : ℕ) → eqb (startNumber size n) 0 ≡ false → ask (stepped machine (beginning size) (Bytes (n ∷ []))) ≡ Say (refusedLine 0 (startNumber size n))
   -- It asks to read one byte or more, and none past record 1,000,000,000.
   pub reads : (answers : List Answer) (most : ℕ) → ask (stateAfter machine answers) ≡ Read most → (1 ≤ most) × (length (readOf (exchanges machine answers)) + most ≤ 1 + 4 * mostRecords)

@@ -1,4 +1,4 @@
--- What the recorder leaves of an input: each record's call goes through it, the start first, in one buffer of so many bytes (document 02, Note 9).
+-- What the recorder leaves of an input: each record's call goes through it, the start first, in one buffer of that many bytes (document 02, Note 9).
 -- Assumes nothing.
 use mathlib.Core.List.{List, [], _∷_, _++_}
 use mathlib.Core.Option.{Option, none, some}
@@ -29,7 +29,7 @@ callsIn (a ∷ b ∷ []) = []
 callsIn (a ∷ b ∷ c ∷ []) = []
 callsIn (a ∷ b ∷ c ∷ d ∷ l) = callIn (decoded (a ∷ b ∷ c ∷ d ∷ [])) ++ callsIn l
 
--- "a lent buffer": one of so many bytes.
+-- "a lent buffer": one of that many bytes.
 unfoldable pub lent : ℕ → List ℕ
 lent size = replicate size 0
 
@@ -66,11 +66,11 @@ recordName = 114 ∷ 101 ∷ 99 ∷ 111 ∷ 114 ∷ 100 ∷ 58 ∷ 32 ∷ 114 �
 abbrev pub refusedName : List ℕ
 refusedName = 58 ∷ 32 ∷ 114 ∷ 101 ∷ 102 ∷ 117 ∷ 115 ∷ 101 ∷ 100 ∷ 32 ∷ []
 
--- The line that is said of a refused record: which record, which number.
+-- The line that is reported of a refused record: which record, which number.
 unfoldable pub refusedLine : ℕ → ℕ → List ℕ
 refusedLine record-number x = recordName ++ (decimal record-number ++ (refusedName ++ (decimal x ++ (lineFeed ∷ []))))
 
--- Of a record that is accepted nothing is said.
+-- Of a record that is accepted nothing is reported.
 unfoldable pub lineFor : ℕ → ℕ → List ℕ
 lineFor record-number x = pick (eqb x 0) [] (refusedLine record-number x)
 
@@ -104,12 +104,12 @@ leftOver (a ∷ b ∷ []) = a ∷ b ∷ []
 leftOver (a ∷ b ∷ c ∷ []) = a ∷ b ∷ c ∷ []
 leftOver (a ∷ b ∷ c ∷ d ∷ l) = leftOver l
 
--- What is said at the end of the records, where `done` were taken: "13 prints under the next record number".
+-- What is reported at the end of the records, where `done` were taken: "13 prints under the next record number".
 unfoldable pub endLine : ℕ → List ℕ → List ℕ
 endLine done [] = []
 endLine done (a ∷ rest) = refusedLine (done + 1) (number LeftOverBytes)
 
--- What is said at the end of an input: "12: no first byte", "A bad first byte prints record number 0".
+-- What is reported at the end of an input: "12: no first byte", "A bad first byte prints record number 0".
 unfoldable pub lastLine : ℕ → List ℕ → List ℕ
 lastLine size [] = refusedLine 0 (number NoFirstByte)
 lastLine size (n ∷ l) = pick (eqb (startNumber size n) 0) (endLine (wholeRecords l) (leftOver l)) []

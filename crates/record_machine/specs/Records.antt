@@ -1,5 +1,5 @@
 -- The same, record by record, in emptied buffers: between two records the recorder is left with the state, how many bytes of the buffer are left, and how many records it
--- took. What it wrote has gone. proofs/Emptied has the theorem that nothing of what is written or said depends on that.
+-- took. What it wrote has gone. proofs/Emptied has the theorem that nothing of what is written or reported depends on that.
 -- Assumes nothing.
 use mathlib.Core.Path.{_≡_}
 use mathlib.Core.List.{List, [], _∷_, _++_}
@@ -34,7 +34,7 @@ bytesOf g o = inFront (taken g o .tape)
 unfoldable pub lineOf : Standing → Option Event → List ℕ
 lineOf g o = lineFor (g .done + 1) (taken g o .reply .report .refused)
 
--- The whole records of some bytes: where the recorder stands after them, what it wrote, and what is said of them.
+-- The whole records of some bytes: where the recorder stands after them, what it wrote, and what is reported of them.
 unfoldable pub standingAfter : Standing → List ℕ → Standing
 standingAfter g [] = g
 standingAfter g (a ∷ []) = g

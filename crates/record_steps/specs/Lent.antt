@@ -1,5 +1,5 @@
--- The machine's state in what a caller lends: six numbers; the words of the state; the buffer that the input is read into; the buffer for what is written and said; and a
--- buffer for lines that are said after what is written.
+-- The machine's state in what a caller lends: six numbers; the words of the state; the buffer that the input is read into; the buffer for what is written and reported; and a
+-- buffer for lines that are reported after what is written.
 -- Assumes nothing.
 use mathlib.Core.Path.{_≡_}
 use mathlib.Core.Bool.{Bool, true, _&&_}
@@ -24,7 +24,7 @@ inputSize = 4_099
 abbrev pub longestTrace : ℕ
 longestTrace = 4_000_000_001
 
--- There is room for the numbers and the words, for what is kept with a word or a block after it, for what a block records, and for what is said of it.
+-- There is room for the numbers and the words, for what is kept with a word or a block after it, for what a block records, and for what is reported of it.
 unfoldable pub hasRoom : ℕ → ℕ → ℕ → ℕ → ℕ → Bool
 hasRoom memory words input out lines = leb 6 memory && (eqb words stateSize && (leb inputSize input && (leb blockLines out && leb blockLines lines)))
 
@@ -39,7 +39,7 @@ marksOf memory = record {
 }
 
 -- The numbers are those of a state: no more is left than the longest buffer has, no more records were taken than a replay takes, no whole record is kept, and what is to be
--- written and said stands in the buffers.
+-- written and reported stands in the buffers.
 unfoldable pub inBounds : Marks → ℕ → Bool
 inBounds m out = leb (m .left) longestTrace && (leb (m .done) mostRecords && (leb (m .kept) 3 && (leb (m .size) out && leb (m .told) blockLines)))
 

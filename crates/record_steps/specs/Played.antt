@@ -39,7 +39,7 @@ placeFor left at end = pick (ltb left 4) end at
 abbrev pub standingOf : Run → Taken → Standing
 standingOf s t = record { run = s; left = t .left; done = t .done }
 
--- One record: what it wrote goes to `out` after what was there, what is said of it to `lines`.
+-- One record: what it wrote goes to `out` after what was there, what is reported of it to `lines`.
 pub record TakesOne (s : Run) (t : Taken) (o : Option Event) (out lines : List ℕ) (s′ : Run) (t′ : Taken) (out′ lines′ : List ℕ) : Type 0 where
   pub standing : standingOf s′ t′ ≡ standingBehind (standingOf s t) o
   pub written : out′ ≡ sets out (t .size) (bytesOf (standingOf s t) o)
@@ -49,7 +49,7 @@ pub record TakesOne (s : Run) (t : Taken) (o : Option Event) (out lines : List �
   pub told : t′ .told ≡ t .told + length (lineOf (standingOf s t) o)
   pub short : t′ .told ≤ t .told + longestLine
 
--- The records of a block: what they wrote is the front of `out`, what is said of them the front of `lines`.
+-- The records of a block: what they wrote is the front of `out`, what is reported of them the front of `lines`.
 pub record TakesAll (s : Run) (left done : ℕ) (block : List ℕ) (out lines : ℕ) (s′ : Run) (t : Taken) (out′ lines′ : List ℕ) : Type 0 where
   pub standing : standingOf s′ t ≡ standingAfter (record { run = s; left = left; done = done }) block
   pub written : take (t .size) out′ ≡ bytesAfter (record { run = s; left = left; done = done }) block

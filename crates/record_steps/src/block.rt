@@ -11,7 +11,7 @@ ghost use Rattle.record_machine.specs.Records.{Standing};
 ghost use Rattle.record_machine.specs.Machine.{blockBytes};
 ghost use Rattle.record_steps.specs.Played.{longestLine, blockLines, placeFor, TakesOne, TakesAll};
 
-// How many bytes of the buffer are left and how many records were taken; how many bytes were recorded, and how many are said.
+// How many bytes of the buffer are left and how many records were taken; how many bytes were recorded, and how many are reported.
 pub struct Taken {
     pub left: u64,
     pub done: u64,

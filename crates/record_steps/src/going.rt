@@ -30,7 +30,7 @@ fn stop() -> Marks
     marks::at(marks::STOPPED, 0)
 }
 
-// A text is said, and then nothing more.
+// A text is reported, and then nothing more.
 fn end_with(out: &mut [u8], text: &[u8]) -> Marks
     requires { ⌜ length (now text) ≤ length (now out) ⌝ }
     ensures { λ r. ⌜ ((words input lines : List ℕ) → Arrives r words input (now (out .exit)) lines (ending (now (text .entry)))) ⌝ }
@@ -46,7 +46,7 @@ fn end_with(out: &mut [u8], text: &[u8]) -> Marks
     }
 }
 
-// What failed is said, and then nothing more.
+// What failed is reported, and then nothing more.
 fn fail(out: &mut [u8], name: &[u8]) -> Marks
     requires { ⌜ length (now name) ≤ length (now out) ⌝ }
     ensures { λ r. ⌜ ((words input lines : List ℕ) → Arrives r words input (now (out .exit)) lines (failing (now (name .entry)))) ⌝ }
@@ -62,7 +62,7 @@ fn fail(out: &mut [u8], name: &[u8]) -> Marks
     }
 }
 
-// The line of a refused record is said, and then nothing more.
+// The line of a refused record is reported, and then nothing more.
 fn end_refused(out: &mut [u8], number: u64, x: u64) -> Marks
     requires { ⌜ longestLine ≤ length (now out) ⌝ }
     ensures { λ r. ⌜ ((words input lines : List ℕ) → Arrives r words input (now (out .exit)) lines (ending (refusedLine number x))) ⌝ }
@@ -138,7 +138,7 @@ fn least(left: u64) -> usize
     1
 }
 
-// The start, in a buffer of so many bytes: its first byte is the count.
+// The start, in a buffer of that many bytes: its first byte is the count.
 fn start(words: &mut [u16], n: u8, left: u64, out: &mut [u8]) -> Marks
     requires { ⌜ (length (now words) ≡ stateSize) × (blockLines ≤ length (now out)) × (left ≤ longestTrace) ⌝ }
     ensures { λ r. ⌜ ((input lines : List ℕ) → Arrives r (now (words .exit)) input (now (out .exit)) lines (begun left n)) ⌝ }
@@ -199,7 +199,7 @@ fn to_read(m: Marks) -> Marks
     }
 }
 
-// The lines that are left to say are put to the front of `out`.
+// The lines that are left to report are put to the front of `out`.
 fn to_say(m: Marks, out: &mut [u8], lines: &[u8]) -> Marks
     requires { ⌜ (m .left ≤ longestTrace) × (m .done ≤ mostRecords) × (m .kept ≤ 3) × (m .told ≤ length (now lines)) × (m .told ≤ length (now out)) ⌝ }
     ensures { λ r. ⌜ ((words input : List ℕ) → Arrives r words input (now (out .exit)) (now (lines .entry)) (toSay (take (m .told) (now (lines .entry))) (positionOf m words input))) ⌝ }
@@ -229,7 +229,7 @@ fn after_write(m: Marks, out: &mut [u8], lines: &[u8], answer: Answer) -> Marks
     fail(out, b"record: standard output")
 }
 
-// What is left over at the end of the input is said.
+// What is left over at the end of the input is reported.
 fn to_end(m: Marks, out: &mut [u8]) -> Marks
     requires { ⌜ (m .done ≤ mostRecords) × (m .kept ≤ 3) × (blockLines ≤ length (now out)) ⌝ }
     ensures { λ r. ⌜ ((words input lines : List ℕ) → m .kept ≤ length input → Arrives r words input (now (out .exit)) lines (toEnd (endLine (m .done) (take (m .kept) input)))) ⌝ }

@@ -12,7 +12,7 @@ ghost use Rattle.whole_runs.specs.Listing.{mostRecords};
 ghost use Rattle.record_steps.specs.Lent.{marksOf, inBounds, asksFor};
 
 // The phase; how many bytes of the buffer are left, and how many records were taken; how many bytes of `input` are kept, how many of `out` are asked for, and how many of
-// `lines` are still to be said.
+// `lines` are still to be reported.
 pub struct Marks {
     pub phase: u64,
     pub left: u64,

@@ -1,4 +1,4 @@
-// The line that is said of a refused record.
+// The line that is reported of a refused record.
 use programs::text::write_figure;
 use programs::text::write_word;
 ghost use Prim.Native.Nat.{_+_, _≤_};
@@ -16,7 +16,7 @@ pub fn write_refused(out: &mut [u8], at: usize, number: u64, x: u64) -> usize
     write_figure(out, numbered, b": refused ", x)
 }
 
-// Nothing is said of a record that is accepted.
+// Nothing is reported of a record that is accepted.
 pub fn write_line(out: &mut [u8], at: usize, number: u64, x: u64) -> usize
     requires { ⌜ at + longestLine ≤ length (now out) ⌝ }
     ensures { λ r. ⌜ Printed (now (out .entry)) at (lineFor number x) (now (out .exit)) r × (r ≤ at + longestLine) ⌝ }

@@ -9,7 +9,7 @@ ghost use lib.Seq.{sets};
 ghost use Rattle.model.specs.Trace.{fits};
 ghost use Rattle.recording.specs.Replay.{recordBytes};
 
-// Whether a buffer of `size` bytes has room for a record behind a place: a place past the end leaves no byte.
+// Whether a buffer of `size` bytes has room for a record after a place: a place past the end leaves no byte.
 pub fn has_room(size: usize, place: usize) -> bool
     ensures { λ r. ⌜ r ≡ not (ltb (size - place) 4) ⌝ }
 {
@@ -30,7 +30,7 @@ fn put(buffer: &mut [u8], place: usize, bytes: [u8; 4])
     buffer[place + 3] = bytes[3];
 }
 
-// The record of an event goes to a place. The answer is the place behind it.
+// The record of an event goes to a place. The answer is the place after it.
 pub fn append(buffer: &mut [u8], place: usize, e: Event) -> usize
     requires { ⌜ place + 4 ≤ length (now buffer) ⌝ }
     requires { ⌜ fits e ≡ true ⌝ }

@@ -26,7 +26,7 @@ ghost use Rattle.recorder_in_place.specs.Recorded.{recordedStartIn, reco
 // without_room.rt: the answer of a call that has no room for its record
 mod without_room;
 
-// What each call returns: its answer as without the recorder, and the place behind what was written.
+// What each call returns: its answer as without the recorder, and the place after what was written.
 pub struct StartRecorded {
     pub answer: StartAnswer,
     pub place: usize,
@@ -240,7 +240,7 @@ pub fn line(
     LineRecorded { answer, place }
 }
 
-// Everyone goes back to the line for a failed set; with an empty set a sweep.
+// Every process goes back to the line for a failed set; with an empty set a sweep.
 pub fn recover(
     w: &mut [u16],
     failed: u32,

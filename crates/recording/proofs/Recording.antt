@@ -298,7 +298,7 @@ writes-accepted-alone t c h = elim (way t c) [
     nothing (inl e) = rw e
     nothing (inr e) = rw e (pick-same (eqb (recorded t c .reply .report .refused) 0) [])
 
--- What the calls behind a tape leave, and that a replay from its state says the same.
+-- What the calls after a tape leave, and that a replay from its state says the same.
 pub record Follows (n : ℕ) (t u : Tape) (l : List EventReply) : Type 0 where
   pub written : u .buffer ≡ (take (t .place) (t .buffer) ++ traceOf l) ++ drop (u .place) (t .buffer)
   pub size : length (traceOf l) ≡ 4 * length l
@@ -322,7 +322,7 @@ follows-none n t h = record {
   accepted = refl;
 }
 
--- Bytes written at a place: what stands up to behind them, and what stands further on.
+-- Bytes written at a place: what stands up to their end, and what stands further on.
 module _ (buffer bytes : List ℕ) (p : ℕ) (fitting : p + length bytes ≤ length buffer) where
   in-front : length (take p buffer ++ bytes) ≡ p + length bytes
   in-front = rw (length-append (take p buffer) bytes, length-take-le p buffer (omega arith))

@@ -100,7 +100,7 @@ pub data Accepts : Run → List Event → Type 0 where
   none-left : {s : Run} → Accepts s []
   one-more : {s : Run} {e : Event} {l : List Event} → refusal s (callOf e) ≡ none → fits e ≡ true → Accepts (call s (callOf e) .run) l → Accepts s (e ∷ l)
 
--- Two lists of events, one behind the other.
+-- Two lists of events, one after the other.
 pub state-append : (s : Run) (a b : List Event) → stateAfterEvents s (a ++ b) ≡ stateAfterEvents (stateAfterEvents s a) b
 unfolding stateAfterEvents
 state-append s [] b = refl

@@ -49,7 +49,7 @@ pub record Recorded (A : Type 0) : Type 0 where
 unfoldable pub unwritten : {A : Type 0} → Outcome A → List ℕ → ℕ → Recorded A
 unwritten outcome buffer place = record { outcome = outcome; buffer = buffer; place = place }
 
--- "appends the record": the bytes go to the place, the next place is behind them.
+-- "appends the record": the bytes go to the place, the next place is after them.
 unfoldable pub appended : {A : Type 0} → Outcome A → List ℕ → List ℕ → ℕ → Recorded A
 appended outcome bytes buffer place = record { outcome = outcome; buffer = sets buffer place bytes; place = place + length bytes }
 
@@ -164,7 +164,7 @@ WritesAcceptedAlone = (t : Tape) (c : Call) → (eqb (recorded t c .reply .repor
 unfoldable pub handed : ℕ → Reply → Reply
 handed n r = record { report = r .report; rose = r .rose; deleted = take (2 * r .report .deletions) (r .deleted); line = take n (r .line) }
 
--- The records of what was entered, one behind the other.
+-- The records of what was entered, one after the other.
 abbrev pub traceOf : List EventReply → List ℕ
 traceOf l = recordsOf (map (λ x. x .event) l)
 
@@ -190,7 +190,7 @@ pub record ReplaysTheSame (n : ℕ) (counts buffer : List ℕ) (t : Tape) (l : L
   -- and prints the lines of the recorded replies, with or without `all`
   pub printed : OneEach n counts → length l ≤ mostRecords → (all : Bool) → listing all (take (t .place) (t .buffer)) ≡ linesOf 0 (map (λ x. x .reply) l)
 
--- Note 9: for every accepted start through the writer, with any block counts and any buffer, and every list of calls behind it.
+-- Note 9: for every accepted start through the writer, with any block counts and any buffer, and every list of calls after it.
 unfoldable pub RecordingReplays : Type 0
 RecordingReplays = (n : ℕ) (counts buffer : List ℕ) → recordedStart n counts buffer .outcome .answer ≡ start-answer.Started → (calls : List Call)
     → ReplaysTheSame n counts buffer (tapeAfter (begun n counts buffer) calls) (entries (begun n counts buffer) calls)

@@ -1,5 +1,5 @@
 -- Events with their records: the state after them and their replies, once as calls and once as a replay of the records. What Notes 9 and 10 of document 02 say of
--- "the same events" is said with these.
+-- "the same events" is stated with these.
 -- Assumes nothing.
 use mathlib.Core.Bool.{Bool}
 use mathlib.Core.List.{List, [], _∷_, _++_}
@@ -20,7 +20,7 @@ use Rattle.whole_runs.specs.Listing.{mostRecords, lineText, callOf, perform, st
 unfoldable pub recordBytes : Event → List ℕ
 recordBytes e = orElse (encoded e) []
 
--- The records of events, one behind the other.
+-- The records of events, one after the other.
 unfoldable pub recordsOf : List Event → List ℕ
 recordsOf [] = []
 recordsOf (e ∷ l) = recordBytes e ++ recordsOf l

@@ -116,7 +116,7 @@ module _ (w : List ℕ) (h : sound (runOf w) ≡ true) (pasts : List ℕ) (owns 
   few : countOf w ≤ 16
   few = sound-words w h .few
 
-  -- What is deleted of a process: some of what it keeps, so many blocks for each.
+  -- What is deleted of a process: some of what it keeps, that many blocks for each.
   module _ (p : ℕ) (lt : p < countOf w) where
     chosen : goneThen w pasts owns p ≡ select (λ c. not (named (pinRow (restoredPins w p (getD pasts p 0) owns)) c)) (processIn w p .kept)
     unfolding restoredGone unnamedIn placesOf
@@ -137,7 +137,7 @@ module _ (w : List ℕ) (h : sound (runOf w) ≡ true) (pasts : List ℕ) (owns 
     gone-kept : blocksOf (goneThen w pasts owns p) ≤ blocksOf (process s p .kept)
     gone-kept = rw (chosen, sound-process-is w h p lt) (blocks-fewer (λ c. not (named (pinRow (restoredPins w p (getD pasts p 0) owns)) c)) (processIn w p .kept))
 
-  -- So many for k processes.
+  -- That many for k processes.
   pub losses-count : (k : ℕ) → length (lossesThen w pasts owns k) ≡ sumBelow k (λ p. length (listed p (goneThen w pasts owns p)))
   unfolding lossesThen
   losses-count k = length-gather k (λ p. listed p (goneThen w pasts owns p))

@@ -76,7 +76,7 @@ fn restore_all(
     gone
 }
 
-// A failed set that is within the run: everyone goes back if the line rule accepts a state of each process.
+// A failed set that is within the run: every process goes back if the line rule accepts a state of each process.
 fn recover_within(
     w: &mut [u16],
     n: usize,
@@ -135,7 +135,7 @@ pub fn recover_on(
     }
 }
 
-// Everyone goes back to the line for a failed set: its indexes go to the front of the one lent list, what is deleted to the front of the other.
+// Every process goes back to the line for a failed set: its indexes go to the front of the one lent list, what is deleted to the front of the other.
 // Wherever calls from an accepted start led to the state of the words, the line is right, and so is what the words kept and then keep (demand 3); if the call is
 // accepted, they keep a checkpoint exactly if some failure would use it (Note 6). Wherever they stand for a sound state, a recovery for the empty set rolls nobody back
 // (Note 4).

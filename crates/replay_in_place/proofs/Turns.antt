@@ -1,4 +1,4 @@
--- The turns of the loop over a block: nothing taken yet, one record more, and where it stops.
+-- The iterations of the loop over a block: nothing taken yet, one record more, and where it stops.
 -- Assumes nothing.
 use mathlib.Core.Path.{_≡_, refl, sym, _∙_, ap}
 use mathlib.Core.Bool.{Bool, true, false, _&&_}
@@ -33,7 +33,7 @@ use Rattle.listing.proofs.Texts.{then, nothing}
 use Rattle.in_place.specs.Left.{Leaves}
 use Rattle.replay_in_place.specs.Taken.{mayTake, takenOf, BlockOutcome, outcomeOf, blockOutcome, isLeft, recordIn, takesNext}
 
--- The first record of a block: it is taken, and how many behind it, or none is.
+-- The first record of a block: it is taken, and how many after it, or none is.
 pub taken-one : (all : Bool) (done : ℕ) (s : Run) (l : List ℕ) (room : ℕ) → 4 ≤ length l → mayTake done room ≡ true
     → takenOf all done s l room ≡ suc (pick (goesOn all (perform s (decoded (take 4 l)) .reply .report .refused))
     (takenOf all (done + 1) (perform s (decoded (take 4 l)) .run) (drop 4 l) (room - length (lineText (done + 1) (perform s (decoded (take 4 l)) .reply)))) 0)
@@ -122,7 +122,7 @@ record-read block taken h =
     let long : length part ≡ 4 = length-take-le 4 (drop (4 * taken) block) (omega (arith, length-drop (4 * taken) block)) in
     rw (le-leb (4 * taken + 4) (length block) h, eq-eqb (length part) 4 long)
 
--- A block that stands behind a first byte is a trace: the part is then the one that a reader of the trace hands on.
+-- A block that stands after a first byte is a trace: the part is then the one that a reader of the trace hands on.
 pub same-part : (trace : List ℕ) (taken : ℕ) → recordIn (drop 1 trace) taken ≡ recordAfter trace taken
 unfolding recordIn recordAfter recordAt
 same-part trace taken =
@@ -164,7 +164,7 @@ module _ (all : Bool) (done : ℕ) (s : Run) (block out : List ℕ) (run : Run) 
     abbrev o : Answered
     o = perform run (decoded (take 4 (drop (4 * taken) block)))
 
-    -- how many are taken behind it
+    -- how many are taken after it
     rest-then : (next-written : ℕ) → next-written ≡ written + length (lineText (done + taken + 1) (o .reply)) → (next-going : Bool) → next-going ≡ goesOn all (o .reply .report .refused)
         → takenOf all done s block (length out) ≡ taken + 1 + pick next-going (takenOf all (done + (taken + 1)) (o .run) (drop (4 * (taken + 1)) block) (length out - next-written)) 0
     rest-then next-written e next-going g =

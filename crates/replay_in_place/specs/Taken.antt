@@ -17,7 +17,7 @@ use Rattle.listing.specs.Lines.{longestLine}
 unfoldable pub mayTake : ℕ → ℕ → Bool
 mayTake done room = ltb done mostRecords && leb longestLine room
 
--- How many records of a block are taken, where `done` were taken before it and there is so much room for their lines: one more as long as a whole one is left, it may
+-- How many records of a block are taken, where `done` were taken before it and there is that much room for their lines: one more as long as a whole one is left, it may
 -- be taken, and the replay goes on. Left-over bytes are no record.
 unfoldable pub takenOf : Bool → ℕ → Run → List ℕ → ℕ → ℕ
 takenOf all done s [] room = 0
@@ -37,7 +37,7 @@ pub record BlockOutcome : Type 0 where
   pub going : Bool
   pub run : Run
 
--- The outcome of so many records.
+-- The outcome of that many records.
 unfoldable pub outcomeOf : Bool → ℕ → Run → List ℕ → ℕ → BlockOutcome
 outcomeOf all done s block taken =
     let part = take (4 * taken) block in
@@ -46,18 +46,18 @@ outcomeOf all done s block taken =
 unfoldable pub blockOutcome : Bool → ℕ → Run → List ℕ → ℕ → BlockOutcome
 blockOutcome all done s block room = outcomeOf all done s block (takenOf all done s block room)
 
--- Whether a whole record is left of a block behind those taken, and which: nothing if none is.
+-- Whether a whole record is left of a block after those taken, and which: nothing if none is.
 unfoldable pub isLeft : List ℕ → ℕ → Bool
 isLeft block taken = leb (4 * taken + 4) (length block)
 
 unfoldable pub recordIn : List ℕ → ℕ → List ℕ
 recordIn block taken = recordAt block (4 * taken)
 
--- Whether one more record of a block is taken behind those taken.
+-- Whether one more record of a block is taken after those taken.
 unfoldable pub takesNext : Bool → ℕ → List ℕ → ℕ → ℕ → Bool
 takesNext going done block taken room = going && mayTake (done + taken) room && isLeft block taken
 
--- What a caller relies on who goes on block by block, of so many records taken: they are in the block; no more are taken than a replay takes; before each there was room
+-- What a caller that goes on block by block relies on, of that many records taken: they are in the block; no more are taken than a replay takes; before each there was room
 -- for the longest line, and the replay went on; and where a record may be taken, at least one is.
 pub record Within (all : Bool) (done : ℕ) (s : Run) (block : List ℕ) (room taken : ℕ) : Type 0 where
   pub inside : 4 * taken ≤ length block

@@ -40,7 +40,7 @@ fn record_in<'a>(block: &'a [u8], taken: usize) -> &'a [u8]
     }
 }
 
-// Whether one more record is taken: the replay goes on, it is not behind the last record that a replay takes, the longest line fits into the room that is left, and a
+// Whether one more record is taken: the replay goes on, it is not past the last record that a replay takes, the longest line fits into the room that is left, and a
 // whole record is left.
 fn takes_next(going: bool, done: u64, block: &[u8], taken: usize, room: usize) -> bool
     ensures { λ r. ⌜ r ≡ takesNext going done (now (block .entry)) taken room ⌝ }
@@ -127,7 +127,7 @@ fn replay_from(
     replay_beside(w, tested, reached, all, done, block, out, deleted, line)
 }
 
-// The records of a block on any words. It stops where no whole record is left, where the longest line might not fit, behind record 1,000,000,000, and behind a refusal
+// The records of a block on any words. It stops where no whole record is left, where the longest line might not fit, after record 1,000,000,000, and after a refusal
 // unless `all` is asked for; `done` counts the records before the block. Once the words stand for no sound state each record is refused, with 14 or else with 2.
 // Wherever calls from an accepted start led to the state of the words, they lead to the state that is left (demand 3).
 pub fn replay(w: &mut [u16], all: bool, done: u64, block: &[u8], out: &mut [u8]) -> Progress

@@ -1,4 +1,4 @@
--- Bytes moved towards the front of a list, one after the other: the first k of them are written, and what lies behind them is as it was.
+-- Bytes moved towards the front of a list, one after the other: the first k of them are written, and what lies after them is as it was.
 -- Assumes nothing.
 use mathlib.Core.Path.{_≡_, refl, sym, _∙_, ap}
 use mathlib.Core.List.{List, [], _∷_}

@@ -77,7 +77,7 @@ module _ (size room : ℕ) (answers : List Answer) where
     pub so-far : (unread : List ℕ) → MayFollow talk unread → (rest : List ℕ) × (listing (wayOf talk) (readOf talk ++ unread) ≡ written ++ rest)
     -- Before more is read, the lines of all that was read are written.
     pub before-reading : (most : ℕ) → request ≡ Read most → written ≡ linesOf (wayOf talk) (readOf talk)
-    -- Where it stops and no failure was said, the whole listing is written, whatever may follow.
+    -- Where it stops and no failure was reported, the whole listing is written, whatever may follow.
     pub at-the-stop : request ≡ Stop → saidOf (asked machine answers) ≡ [] → (unread : List ℕ) → MayFollow talk unread → written ≡ listing (wayOf talk) (readOf talk ++ unread)
     -- It asks to read nothing past the end, a refusal that stops it, or record 1,000,000,000.
     pub no-further : (most : ℕ) → request ≡ Read most → (hasEnded talk ≡ false) × (goesOnAfter (wayOf talk) (readOf talk) ≡ true) × (length (readOf talk) + most ≤ 1 + 4 * mostRecords)

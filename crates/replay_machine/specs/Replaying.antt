@@ -37,7 +37,7 @@ pub data State : Type 0 where
   printing : Between → List ℕ → State
   -- The last lines.
   ending : List ℕ → State
-  -- What is said of a failure.
+  -- What is reported of a failure.
   failing : List ℕ → State
   stopped : State
 
@@ -58,7 +58,7 @@ outputText = replayText (111 ∷ 117 ∷ 116 ∷ 112 ∷ 117 ∷ 116 ∷ [])
 abbrev pub longestWord : ℕ
 longestWord = 4
 
--- Reads as much as fits into a buffer of so many bytes, and nothing past the last record that a replay takes.
+-- Reads as much as fits into a buffer of that many bytes, and nothing past the last record that a replay takes.
 unfoldable pub mostToRead : ℕ → Between → ℕ
 mostToRead size b = min size (4 * (mostRecords - b .done)) - length (b .held)
 
@@ -104,7 +104,7 @@ filled room b (Number k) = failing inputText
 filled room b Done = failing inputText
 filled room b Failed = failing inputText
 
--- What could not be written is said, and is the end.
+-- What could not be written is reported, and that is the end.
 unfoldable pub wrote : State → Answer → State
 wrote then Done = then
 wrote then (Number k) = failing outputText

@@ -132,7 +132,7 @@ pub(crate) fn after_first(
     }
 }
 
-// So many bytes more are held.
+// That many bytes more are held.
 fn with_more(p: Place, more: usize) -> Place
     requires { ⌜ (p .held < 4) × (more < 4 * mostRecords + 4) ⌝ }
     ensures { λ r. ⌜ r ≡ holding p more ⌝ }

@@ -88,7 +88,7 @@ list-is-own owned s t hs ht same lent =
     rw (refusal-same owned s t same (console-sound s hs) (console-sound t ht) lent, listed-same owned s t same)
     (same-listing (listRefusal t lent) s t lent (listedTo (owner owned) t))
 
--- Four tests and that of 16 behind them, as a checkpoint is judged (here) and as a delivery is.
+-- Four tests and that of 16 after them, as a checkpoint is judged (here) and as a delivery is.
 module _ (third fourth : Refusal) where
   abbrev five : Bool → Bool → Bool → Bool → Bool → Option Refusal
   five a b c d e = firstOf (

@@ -87,7 +87,7 @@ operationPlace Counts = 9
 unfoldable pub owns : ℕ → ℕ → ℕ → Bool
 owns owned n p = ltb p n && inSet owned p
 
--- Process p is one that the caller's operations may concern: each an operator's, its own an owner's.
+-- Process p is one that the caller's operations may concern: any process for an operator, its own for an owner.
 unfoldable pub entitledBy : Role → ℕ → ℕ → ℕ → Bool
 entitledBy Operator owned n p = true
 entitledBy JobOwner owned n p = owns owned n p

@@ -27,7 +27,7 @@ abbrev pub viewer : Caller
 viewer = record { role = Viewer; owned = 65_535 }
 
 -- What a caller asks, the number, the value, the numbers at the front of the deletion list, and the line list. Lent lists have 9 in each of their entries, and the
--- deletion list still has it behind its front.
+-- deletion list still has it after its front.
 pub record ConsoleCase : Type 0 where
   pub caller : Caller
   pub asked : Asked
@@ -103,7 +103,7 @@ consoleCases =
     ∷ meets tenant (made (earliest (at 0 0 ∷ []) (lineList 3))) 25 (lineList 3)
     ∷ []
 
--- "25, before every other": on a state that is not sound, 2 behind it.
+-- "25, before every other": on a state that is not sound, 2 after it.
 unfoldable pub unsoundCases : List ConsoleCase
 unsoundCases =
     meets viewer (list (deletionList 3)) 25 []
@@ -133,7 +133,7 @@ startCases =
     ∷ record { caller = viewer; count = 17; refused = 25 }
     ∷ []
 
--- A named leak: calls that others made in two runs of three processes, and how the owner of process 0 is answered behind each.
+-- A named leak: calls that others made in two runs of three processes, and how the owner of process 0 is answered after each.
 pub record Leak : Type 0 where
   pub one : List Call
   pub first : ConsoleCase

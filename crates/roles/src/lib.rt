@@ -23,7 +23,7 @@ pub enum Operation {
     Counts,
 }
 
-// Who calls: the role, and the set of a job owner's processes, bit p of which stands for process p. Another role's set is not looked at.
+// The caller: its role, and the set of a job owner's processes, bit p of which stands for process p. Another role's set is not looked at.
 pub struct Caller {
     pub role: Role,
     pub owned: u16,

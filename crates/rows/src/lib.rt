@@ -8,7 +8,7 @@ pub mod squares;
 // start.rt: the rows of a process at the start of a run, and what unused places hold
 pub mod start;
 
-// vector.rt: dependency vectors, and the one road from an interval to a checkpoint's index
+// vector.rt: dependency vectors, and the one function that makes a checkpoint's index of an interval's number
 pub mod vector;
 
 // checkpoint.rt: a checkpoint that is stored

@@ -61,7 +61,7 @@ fn greater(own: Interval, carried: Interval) -> Interval
     if own.0 < carried.0 { carried } else { own }
 }
 
-// The greater of two vectors at each entry. Every turn stores its entry, changed or not: such a loop takes several entries at a time.
+// The greater of two vectors at each entry. Every iteration stores its entry, changed or not: such a loop takes several entries at a time.
 pub fn greatest(a: [Interval; PROCESSES], b: [Interval; PROCESSES]) -> [Interval; PROCESSES]
     ensures { λ r. ⌜ r ≡ takenVector a b ⌝ }
 {

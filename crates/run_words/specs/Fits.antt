@@ -37,7 +37,7 @@ messageFits x = not (eqb (x .number) 0) && ltb (x .sender) 65_536 && ltb (x .rec
 unfoldable pub checkpointFits : ℕ → Checkpoint → Bool
 checkpointFits blocks c = indexFits (c .index) && eqb (c .blocks) blocks
 
--- "anything in unused places": those behind the kept checkpoints,
+-- "anything in unused places": those after the kept checkpoints,
 unfoldable pub placeFits : ℕ → ℕ → ℕ → Checkpoint → Bool
 placeFits k held blocks c = pick (ltb k held) (checkpointFits blocks c) (unusedCheckpoint c)
 
@@ -47,7 +47,7 @@ rowFits p n vector pins held mark = pick (ltb p n)
     (leb held mostProcesses && allBelow mostProcesses (λ f. pinFits (getD pins f Nothing)))
     (zeroFrom 0 vector && nothingFrom 0 pins && eqb held 0 && not mark)
 
--- and behind the messages under way.
+-- and after the messages under way.
 unfoldable pub oneFits : ℕ → ℕ → Message → Bool
 oneFits k many x = pick (ltb k many) (messageFits x) (unusedMessage x)
 

@@ -1,5 +1,5 @@
-// Words filled from a state. A state fits its words if, read back, it is the same: specs/Fits says when, and a sound one does. What is left in the words of a state that
-// does not fit is for nobody to read. One pass puts each thing and tests it, so that each is read once.
+// Words filled from a state. A state fits its words if, read back, it is the same: specs/Fits says when, and a sound one does. Nobody reads what is left in the words of a
+// state that does not fit. One pass puts each thing and tests it, so that each is read once.
 use model::Checkpoint;
 use model::CheckpointIndex;
 use model::Disk;

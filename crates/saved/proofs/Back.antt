@@ -71,7 +71,7 @@ bytes-both [] m h g k = g k
 bytes-both (x ∷ l) m h g zero = h 0
 bytes-both (x ∷ l) m h g (suc k) = bytes-both l m (λ j. h (suc j)) g k
 
--- The checksum that stands behind bytes, and what it is there for.
+-- The checksum that stands after bytes, and what it is there for.
 sum-by : (bytes : List ℕ) (x : ℕ) → drop 12938 bytes ≡ sumBytes x → sumIn bytes ≡ x
 unfolding sumIn sumBytes
 sum-by bytes x e =
@@ -153,7 +153,7 @@ module _ (bytes : List ℕ) (small : Bytes bytes) (whole : isWhole bytes ≡ tru
   unfolding wordsIn wordIn
   held k less = getD-table 6464 (wordIn bytes) k 0 less
 
-  -- Byte k behind the heading.
+  -- Byte k after the heading.
   byte-held : (k : ℕ) → k < 12928 → getD (wordBytes (wordsIn bytes)) k 0 ≡ getD bytes (10 + k) 0
   byte-held k less = by-parity k
       (λ zero. let even : k ≡ 2 * (k / 2) = omega arith in
@@ -191,7 +191,7 @@ module _ (bytes : List ℕ) (small : Bytes bytes) (whole : isWhole bytes ≡ tru
       sym (take-append-drop 12938 bytes) ∙ ap (λ (l : List ℕ). l ++ drop 12938 bytes) front-held
       ∙ ap (λ (l : List ℕ). summedBytes (wordsIn bytes) ++ l) (end-held ∙ ap sumBytes summed)
 
--- What is left of whole bytes is the same of all of them: their checksum stands behind them.
+-- What is left of whole bytes is the same for all of them: their checksum stands after them.
 number-held : (bytes : List ℕ) → length bytes ≡ 12942 → number (drop 12938 bytes) ≡ sumIn bytes
 unfolding number sumIn
 number-held bytes size =

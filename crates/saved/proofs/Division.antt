@@ -1,4 +1,4 @@
--- What is left of bytes: of bytes behind bytes, and that it has 32 bits.
+-- What is left of bytes: of bytes after bytes, and that it has 32 bits.
 -- Assumes nothing.
 use mathlib.Core.Path.{_≡_, refl}
 use mathlib.Core.List.{List, [], _∷_, _++_}

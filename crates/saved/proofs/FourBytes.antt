@@ -1,4 +1,4 @@
--- Bytes that differ within four in a row have different remainders, and so different checksums: four bytes behind a remainder are 32 steps of the division of a
+-- Bytes that differ within four in a row have different remainders, and so different checksums: four bytes after a remainder are 32 steps of the division of a
 -- number of 32 bits, and every step can be taken back.
 -- Assumes nothing.
 use mathlib.Core.Path.{_≡_, refl, sym, _∙_, ap}
@@ -82,7 +82,7 @@ unfolding iter
 bits-back zero x y h g e = e
 bits-back (suc n) x y h g e = bits-back n x y h g (bit-back (iter n (λ k. bitTaken) x) (iter n (λ k. bitTaken) y) (bits-short n x h) (bits-short n y g) e)
 
--- Eight steps, and eight steps so many times.
+-- Eight steps, and eight steps that many times.
 unfoldable pub eight : ℕ → ℕ
 eight = iter 8 (λ k. bitTaken)
 
@@ -192,7 +192,7 @@ unfoldable pub number : List ℕ → ℕ
 number [] = 0
 number (a ∷ l) = a + 256 * number l
 
--- One more than the greatest number of so many bytes.
+-- One more than the greatest number of that many bytes.
 bound : ℕ → ℕ
 bound zero = 1
 bound (suc n) = 256 * bound n
@@ -254,7 +254,7 @@ remainder-back (a ∷ l) x y h g bytes e =
     let same = remainder-back l (byteTaken x a) (byteTaken y a) (byte-short x a h (bytes 0)) (byte-short y a g (bytes 0)) (λ k. bytes (suc k)) e in
     xor-back x y a h g (eight-back (bitXor x a) (bitXor y a) (xor-short x a h (omega (arith, bytes 0))) (xor-short y a g (omega (arith, bytes 0))) (sym (byte-is x a) ∙ same ∙ byte-is y a))
 
--- Bytes that differ within four in a row, with the same before and behind them.
+-- Bytes that differ within four in a row, with the same before and after them.
 module _ (before behind l m : List ℕ) (p : Bytes before) (q : Bytes behind) (small : Bytes l) (others : Bytes m) (same : length l ≡ length m) (few : length l ≤ 4) where
   abbrev reached : ℕ
   reached = remainder ones before
@@ -278,7 +278,7 @@ module _ (before behind l m : List ℕ) (p : Bytes before) (q : Bytes behind) (s
       number-back l m small others same
       (xor-back (number l) (number m) reached one two (xor-comm (number l) reached ∙ blocks ∙ xor-comm reached (number m)))
 
--- What is left of bytes with their checksum behind them is the same of all bytes.
+-- What is left of bytes with their checksum after them is the same for all bytes.
 pub with-sum : (bytes sum : List ℕ) → Bytes bytes → Bytes sum → length sum ≡ 4 → number sum ≡ crc32c bytes → remainder ones (bytes ++ sum) ≡ eights 4 ones
 unfolding crc32c
 with-sum bytes sum p q four e =

@@ -77,7 +77,7 @@ pub heading-table : table 10 (λ q. getD heading q 0) ≡ heading
 unfolding table heading
 heading-table = refl
 
--- Words written one after the other behind the heading.
+-- Words written one after the other, after the heading.
 pub none-written : (w bytes : List ℕ) → bytes ≡ sets bytes 10 (wordBytes (take 0 w))
 unfolding wordBytes
 none-written w bytes = refl

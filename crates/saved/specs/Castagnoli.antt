@@ -1,4 +1,4 @@
--- CRC-32C: the remainder of bytes by the polynomial of Castagnoli, lowest bit first, begun with 32 ones and turned over at the end. `bitXor` is the exclusive or of two
+-- CRC-32C: the remainder of bytes by the polynomial of Castagnoli, lowest bit first, started from 32 ones and inverted at the end. `bitXor` is the exclusive or of two
 -- numbers, bit by bit. proofs/Published has the checksum's published check value.
 -- Assumes nothing.
 use mathlib.Core.List.{List, [], _∷_}
@@ -16,7 +16,7 @@ polynomial = 2_197_175_160
 abbrev pub ones : ℕ
 ones = 4_294_967_295
 
--- One bit more is divided: the lowest one goes, and where it is set the polynomial is taken off.
+-- One bit more is divided: the lowest one goes, and where it is set the polynomial is subtracted.
 unfoldable pub bitTaken : ℕ → ℕ
 bitTaken x = pick (eqb (x % 2) 0) (x / 2) (bitXor (x / 2) polynomial)
 
@@ -24,7 +24,7 @@ bitTaken x = pick (eqb (x % 2) 0) (x / 2) (bitXor (x / 2) polynomial)
 unfoldable pub byteTaken : ℕ → ℕ → ℕ
 byteTaken x byte = iter 8 (λ k. bitTaken) (bitXor x byte)
 
--- What is left of x and the bytes behind it.
+-- What is left of x and the bytes after it.
 unfoldable pub remainder : ℕ → List ℕ → ℕ
 remainder x [] = x
 remainder x (byte ∷ l) = remainder (byteTaken x byte) l

@@ -36,7 +36,7 @@ summedSize = 12_938
 abbrev pub savedSize : ℕ
 savedSize = 12_942
 
--- The words that bytes hold, and the checksum that stands behind them.
+-- The words that bytes hold, and the checksum that stands after them.
 unfoldable pub wordIn : List ℕ → ℕ → ℕ
 wordIn bytes k = getD bytes (10 + 2 * k) 0 + 256 * getD bytes (11 + 2 * k) 0
 

@@ -15,7 +15,7 @@ const SUMMED: usize = HEADING + 2 * WORDS;
 
 pub const SAVED: usize = SUMMED + 4;
 
-// What a byte more is worth.
+// The weight of one byte more.
 const BYTE: u16 = 256;
 
 fn wide(byte: u8) -> u16

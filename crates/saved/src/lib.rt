@@ -29,7 +29,7 @@ pub fn save(w: &[u16], bytes: &mut [u8]) -> u64
     counted(crate::bytes::SAVED)
 }
 
-// The words are judged where they are read to, beside the lent ones: what is refused leaves those as they were.
+// The words are read into a list of their own and judged there: where they are refused, the lent ones are as they were.
 pub fn load(bytes: &[u8], w: &mut [u16]) -> u64
     ensures { λ r. ⌜ r ≡ coded (loading (now (bytes .entry)) (now (w .entry)) .report) 0 ⌝ }
     ensures { λ r. ⌜ now (w .exit) ≡ loading (now (bytes .entry)) (now (w .entry)) .list ⌝ }

@@ -20,7 +20,7 @@ use Rattle.simulate_machine.specs.Text.{headLine, resultText, rowText, t
 use Rattle.simulate_machine.specs.Simulating.{usage, outputName, longestWord, State, Counting, Asking, Telling, Tabling, Saying, Failing, Stopped, ask, next, tabled, answered, decided, afterCount, afterWord, withoutFirst, nextRow, afterWrite, simulating, wordBy, wordOf, numbersOf, isLast, lastAsked, failure, failures, wrongWords, SimulatesAlways, StopsAfterFailure}
 use Rattle.simulate_machine.proofs.Ending.{simulating-ends, answered-table, answered-one}
 
--- What is to be said of all exchanges.
+-- What is to be reported of all exchanges.
 abbrev due : List Exchange → List ℕ
 due talk = wrongWords (lastAsked talk) (numbersOf talk) ++ failures talk
 
@@ -30,7 +30,7 @@ told talk = writtenOf (requestsOf talk)
 abbrev Front : List Exchange → Type 0
 Front talk = (rest : List ℕ) × (told talk ++ rest ≡ textOf (numbersOf talk))
 
--- Nothing is written or said so far, and nothing failed.
+-- Nothing is written or reported so far, and nothing failed.
 record Quiet (talk : List Exchange) : Type 0 where
   silent : told talk ≡ []
   mute : saidOf (requestsOf talk) ≡ []

@@ -129,7 +129,7 @@ unfoldable pub lastAsked : List Exchange → Bool
 lastAsked [] = false
 lastAsked (e ∷ talk) = isLast (e .request) || lastAsked talk
 
--- What is to be said of each exchange: a count that is not five, and a write that failed.
+-- What is to be reported of each exchange: a count that is not five, and a write that failed.
 unfoldable pub failure : Request → Answer → List ℕ
 failure Count a = pick (isNumber a 5) [] usage
 failure (Argument i most) a = []
@@ -148,7 +148,7 @@ unfoldable pub failures : List Exchange → List ℕ
 failures [] = []
 failures (e ∷ talk) = failure (e .request) (e .answer) ++ failures talk
 
--- What is to be said of the words, once all were asked for.
+-- What is to be reported of the words, once all were asked for.
 unfoldable pub wrongWords : Bool → Numbers → List ℕ
 wrongWords asked-for k = pick (asked-for && isWrong (k .n) (k .spacings) (k .steps) (k .seed)) usage []
 
@@ -159,7 +159,7 @@ pub record Simulates (answers : List Answer) : Type 0 where
   -- all of it where it has stopped and nothing failed;
   pub whole : ask (stateAfter simulating answers) ≡ Stop → failures (exchanges simulating answers) ≡ []
       → writtenOf (asked simulating answers) ≡ textOf (numbersOf (exchanges simulating answers))
-  -- the usage is said where there are not four words or one of them is wrong, what failed is said, and nothing else;
+  -- the usage is reported where there are not four words or one of them is wrong, what failed is reported, and nothing else;
   pub says : let talk = exchanges simulating answers in saidOf (asked simulating answers) ≡ wrongWords (lastAsked talk) (numbersOf talk) ++ failures talk
   -- and after more than 1,007 answers it has stopped.
   pub stops : 1007 < length answers → ask (stateAfter simulating answers) ≡ Stop

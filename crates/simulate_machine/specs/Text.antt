@@ -61,7 +61,7 @@ headLine = 35 ∷ 32 ∷ 115 ∷ 112 ∷ 97 ∷ 99 ∷ 105 ∷ 110 ∷ 103 ∷ 3
 unfoldable pub trialOf : ℕ → ℕ → ℕ → ℕ → TrialResult
 trialOf n spacing steps seed = simulated (atMost n) (atMost spacing) (atMost steps) (atMost seed)
 
--- So many rows, the first for this spacing; each spacing is one more than the last.
+-- That many rows, the first for this spacing; each spacing is one more than the last.
 unfoldable pub rowsText : ℕ → ℕ → ℕ → ℕ → ℕ → List ℕ
 rowsText n steps seed zero spacing = []
 rowsText n steps seed (suc left) spacing = rowText spacing (trialOf n spacing steps seed) ++ rowsText n steps seed left (spacing + 1)

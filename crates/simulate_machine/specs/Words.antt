@@ -1,5 +1,5 @@
 -- The machine's state in what a caller lends: eight numbers, the phase, a count and the numbers of the words; the buffer that words are asked into; the buffer for what
--- is written and said.
+-- is written and reported.
 -- Assumes nothing.
 use mathlib.Core.Path.{_≡_}
 use mathlib.Core.Bool.{Bool, _&&_, _||_}
@@ -30,7 +30,7 @@ keptIn memory = record {
   seed = getD memory 7 0;
 }
 
--- Phase 0: the words are counted. Phases 1 to 4: that word is asked for. Phases 5 to 8: the first so many bytes of `out` are written or said; in phase 6 more rows follow,
+-- Phase 0: the words are counted. Phases 1 to 4: that word is asked for. Phases 5 to 8: that many bytes at the front of `out` are written or reported; in phase 6 more rows follow,
 -- none past spacing 1,000. Everything else has stopped.
 unfoldable pub inPhase : ℕ → ℕ → Numbers → List ℕ → State
 inPhase phase count k out =

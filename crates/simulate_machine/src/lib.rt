@@ -1,4 +1,4 @@
-// The program `simulate` as a machine, without input or output: what the system answered goes in, what to ask for next comes out. Its states are said in
+// The program `simulate` as a machine, without input or output: what the system answered goes in, what to ask for next comes out. Its states are defined in
 // `specs/Simulating`, with the theorem over every list of answers; which state the lent numbers and buffers stand for, in `specs/Words`.
 
 // words.rt: the words that the program is started with
@@ -136,7 +136,7 @@ fn tabulate(memory: &mut [u64], input: &[u8], out: &[u8], size: usize, k: Number
     Request::Write(size)
 }
 
-// How the program is used is said.
+// The usage line is reported.
 fn say_usage(memory: &mut [u64], input: &[u8], out: &mut [u8]) -> Request
     requires { ⌜ Roomy (length (now memory)) (length (now input)) (length (now out)) ⌝ }
     ensures { λ r. ⌜ StandsFor (now (memory .exit)) (now (input .entry)) (now (out .exit)) r (Saying usage) ⌝ }
@@ -150,7 +150,7 @@ fn say_usage(memory: &mut [u64], input: &[u8], out: &mut [u8]) -> Request
     Request::Say(size)
 }
 
-// A write that failed is said.
+// A failed write is reported.
 fn fail(memory: &mut [u64], input: &[u8], out: &mut [u8]) -> Request
     requires { ⌜ Roomy (length (now memory)) (length (now input)) (length (now out)) ⌝ }
     ensures { λ r. ⌜ StandsFor (now (memory .exit)) (now (input .entry)) (now (out .exit)) r (Failing outputName) ⌝ }

@@ -1,4 +1,4 @@
-// What is printed of a result, to a lent buffer: every function hands back the place behind what it printed.
+// What is printed of a result, to a lent buffer: every function hands back the place after what it printed.
 use programs::text::write_figure;
 use programs::text::write_refused;
 use spacing::TrialAnswer;
@@ -39,7 +39,7 @@ pub fn write_result(out: &mut [u8], r: TrialResult) -> usize
     }
 }
 
-// A number behind a space.
+// A number after a space.
 fn write_field(out: &mut [u8], at: usize, x: u64) -> usize
     requires { ⌜ at + 21 ≤ length (now out) ⌝ }
     ensures { λ r. ⌜ Printed (now (out .entry)) at (space ∷ decimal x) (now (out .exit)) r × (r ≤ at + 21) ⌝ }

@@ -35,7 +35,7 @@ use Rattle.words.proofs.View.{placed-past}
 use Rattle.sound_calls.proofs.Assembling.{sound-in}
 use Rattle.sound_calls.proofs.Keeping.{every-then, Loose, Fine, loose-rise}
 
--- The places behind a list that is laid into a table are unused.
+-- The places after a list that is laid into a table are unused.
 placed-unused : {A : Type 0} (t : A → Bool) (n : ℕ) (d : A) (l : List A) → t d ≡ true → length l ≤ n → every t (drop (length l) (placed n d l)) ≡ true
 placed-unused t n d l h few = every-from t d (length l) (placed n d l) (λ k le lt. ap t (placed-past n d l k le (omega (arith, placed-length n d l few))) ∙ h)
 

@@ -81,7 +81,7 @@ loose-rise n U W p B P rise h = record {
   records-sound = h .records-sound;
 }
 
--- Numbers that ascend up to a last one, and one more behind it; and those that are selected.
+-- Numbers that ascend up to a last one, and one more after it; and those that are selected.
 ascending-more : (low : ℕ) (d : Checkpoint) (l : List Checkpoint) (c : Checkpoint) → ascending low (indexes l) ≡ true → low ≤ c .index .0
     → (1 ≤ length l → orElse (lastOf l) d .index .0 < c .index .0) → ascending low (indexes (l ++ (c ∷ []))) ≡ true
 unfolding ascending lastOf

@@ -86,7 +86,7 @@ stored-blocks : (cause i : ℕ) (P : Process) → blocksOf (checkpointed cause i
 unfolding checkpointed storing
 stored-blocks cause i P = blocks-more (P .kept) (storing cause i P)
 
--- Numbers that ascend, and a greater one behind them.
+-- Numbers that ascend, and a greater one after them.
 ascending-after : (low : ℕ) (l : List ℕ) (x : ℕ) → ascending low l ≡ true → every (λ y. ltb y x) l ≡ true → low ≤ x → ascending low (l ++ (x ∷ [])) ≡ true
 unfolding ascending every
 ascending-after low [] x h e le = and-both (leb low x) true (le-leb low x le) refl
@@ -129,7 +129,7 @@ module _ (s : Run) (size : Sized s) (whole : sound s ≡ true) where
       few : length (underWay s) ≤ mostUnderWay
       few = omega (arith, messages-many s size whole, sound-state s whole .underway-most)
 
-  -- one process's part changes to R, of which what no pin names is deleted, and so many blocks are written
+  -- one process's part changes to R, of which what no pin names is deleted, and that many blocks are written
   module _ (i : ℕ) (inside : i < s .count) (R : Process) (wrote : ℕ) where
     abbrev after : Run
     after = withDisk (withProcess s i (settled R)) (billed (s .disk) wrote (blocksOf (gone R)))

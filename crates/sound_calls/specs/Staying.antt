@@ -1,4 +1,4 @@
--- A sound state stays sound after every call that is no recovery, refused or accepted. Here it is said of the run that words stand for: its arrays have their sizes.
+-- A sound state stays sound after every call that is no recovery, refused or accepted. Here it is stated of the run that words stand for: its arrays have their sizes.
 -- Assumes nothing.
 use mathlib.Core.Path.{_≡_}
 use mathlib.Core.Bool.{true}

@@ -29,7 +29,7 @@ or-zero a b = same-test _ _
 pub less-zero : (x y : ℕ) → eqb (x - y) 0 ≡ leb x y
 less-zero x y = same-test _ _ (λ e. let z = eqb-true (x - y) 0 e in le-leb x y (omega arith)) (λ e. let z = leb-true x y e in eq-eqb (x - y) 0 (omega arith))
 
--- A turn of a loop that gathers.
+-- An iteration of a loop that gathers.
 pub or-turn : (t : ℕ → Bool) (f over e : ℕ) → eqb over 0 ≡ allBelow f t → eqb e 0 ≡ t f → eqb (bitOr over e) 0 ≡ allBelow (f + 1) t
 or-turn t f over e inv here = or-zero over e ∙ all-and t f (eqb over 0) (eqb e 0) inv here
 

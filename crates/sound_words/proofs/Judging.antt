@@ -54,7 +54,7 @@ fourth-left a b c d e f g = rw (e, f, g)
 pub fifth-left : (a b c d x : Bool) → a ≡ true → b ≡ true → c ≡ true → d ≡ true → x ≡ (a && b && c && d && x)
 fifth-left a b c d x e f g h = rw (e, f, g, h)
 
--- Tests over two bounds, the one within the other either way; a test beside one that does not depend on the bound.
+-- Tests over two bounds, one within the other, either way round; a test together with one that does not depend on the bound.
 all-swap : (n m : ℕ) (t : ℕ → ℕ → Bool) → allBelow n (λ f. allBelow m (λ j. t j f)) ≡ allBelow m (λ j. allBelow n (λ f. t j f))
 all-swap n m t = same-test (allBelow n (λ f. allBelow m (λ j. t j f))) (allBelow m (λ j. allBelow n (λ f. t j f)))
     (λ e. all-in m (λ j. allBelow n (λ f. t j f)) (λ j below. all-in n (λ f. t j f) (λ f lt. all-out m (λ j. t j f) (all-out n (λ f. allBelow m (λ j. t j f)) e f lt) j below)))

@@ -67,7 +67,7 @@ pub record Going (n b m : ℕ) (s : Run) : Type 0 where
   pub cheap : (p : ℕ) → ideal .ledger .counts p ≤ 1
   pub blocks : ideal .ledger .written ≤ 15 + b
 
--- An event that it accepts, with the bounds behind it.
+-- An event that it accepts, with the bounds after it.
 pub record Goes (n b m : ℕ) (s : Run) (e : Event) : Type 0 where
   pub fine : refusal s (callOf e) ≡ none
   pub fitting : fits e ≡ true
@@ -263,7 +263,7 @@ pub record Tried (n i : ℕ) (l : List Event) (z : Trial) : Type 0 where
 count-append : (t : EventReply → Bool) (a b : List EventReply) → length (select t (a ++ b)) ≡ length (select t a) + length (select t b)
 count-append t a b = ap length (select-append t a b) ∙ length-append (select t a) (select t b)
 
--- More events behind events that led to a state.
+-- More events after events that led to a state.
 module _ (s₀ s : Run) (before es : List Event) (there : stateAfterEvents s₀ before ≡ s) where
   accepts-more : Accepts s₀ before → Accepts s es → Accepts s₀ (before ++ es)
   accepts-more a b = accepts-append s₀ before es a (rw there b)

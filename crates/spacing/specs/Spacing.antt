@@ -113,7 +113,7 @@ unfoldable pub counted : List ℕ → ℕ → Option Event → List ℕ
 counted acted p none = acted
 counted acted p (some e) = set acted p (getD acted p 0 + 1)
 
--- A step: its events are calls on the state, the figures are counted from their replies, and "the most kept .. after any step" is taken behind the last of them.
+-- A step: its events are calls on the state, the figures are counted from their replies, and "the most kept .. after any step" is taken after the last of them.
 unfoldable pub stepped : ℕ → ℕ → Trial → Trial
 stepped n k z =
     let p = drawnProcess n (z .value) in

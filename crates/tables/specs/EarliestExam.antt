@@ -23,7 +23,7 @@ abbrev pub at : ℕ → ℕ → Named
 at p k = record { process = p; index = record { 0 = k } }
 
 -- Process 2 keeps 0, 1 and 2, process 1 keeps 0 and 1, process 0 keeps 2 alone. Checkpoint 1 of process 2 knows interval 1 of processes 0 and 1, checkpoint 2 of
--- process 2 knows interval 2 of process 1, and so comes behind checkpoint 1 of process 1.
+-- process 2 knows interval 2 of process 1, and so comes after checkpoint 1 of process 1.
 unfoldable pub shownState : Run
 shownState = stateAfter (startState 3 ones) (
     send 0 1

@@ -1,4 +1,4 @@
--- A table of the numbers of document 01, "Who can cause which refusal": for each number a start, a call or a trace that meets it, and beside it one at the
+-- A table of the numbers of document 01, "Who can cause which refusal": for each number a start, a call or a trace that meets it, and with it one at the
 -- limit that does not. What a refused start returns, and under which record number 13 prints. Note 11 of document 02: what is printed where a replay
 -- stops, and which words ask for all. proofs/Exam has the theorem.
 -- Assumes nothing.
@@ -43,7 +43,7 @@ pub record Stop : Type 0 where
   pub prints : List ℕ
   pub prints-all : List ℕ
 
--- Note 11: how many words the program was started with, the one behind its name, and whether they ask for all.
+-- Note 11: how many words the program was started with, the one after its name, and whether they ask for all.
 pub record Argument : Type 0 where
   pub words : ℕ
   pub argument : List ℕ
@@ -259,7 +259,7 @@ traces =
     ∷ record { bytes = 2 ∷ 0x20 ∷ []; prints = 49 ∷ 32 ∷ 49 ∷ 51 ∷ 10 ∷ [] }
     ∷ record { bytes = 2 ∷ 0x20 ∷ 0 ∷ []; prints = 49 ∷ 32 ∷ 49 ∷ 51 ∷ 10 ∷ [] }
     ∷ record { bytes = 2 ∷ 0x20 ∷ 0 ∷ 0 ∷ []; prints = 49 ∷ 32 ∷ 49 ∷ 51 ∷ 10 ∷ [] }
-    -- a whole record, "1 0 1 0", and one to three bytes behind it, "2 13"
+    -- a whole record, "1 0 1 0", and one to three bytes after it, "2 13"
     ∷ record { bytes = 2 ∷ 0x20 ∷ 0 ∷ 0 ∷ 1 ∷ []; prints = 49 ∷ 32 ∷ 48 ∷ 32 ∷ 49 ∷ 32 ∷ 48 ∷ 10 ∷ [] }
     ∷ record { bytes = 2 ∷ 0x20 ∷ 0 ∷ 0 ∷ 1 ∷ 7 ∷ []; prints = 49 ∷ 32 ∷ 48 ∷ 32 ∷ 49 ∷ 32 ∷ 48 ∷ 10 ∷ 50 ∷ 32 ∷ 49 ∷ 51 ∷ 10 ∷ [] }
     ∷ record { bytes = 2 ∷ 0x20 ∷ 0 ∷ 0 ∷ 1 ∷ 7 ∷ 7 ∷ []; prints = 49 ∷ 32 ∷ 48 ∷ 32 ∷ 49 ∷ 32 ∷ 48 ∷ 10 ∷ 50 ∷ 32 ∷ 49 ∷ 51 ∷ 10 ∷ [] }

@@ -5,7 +5,7 @@ use model::Run;
 ghost use Prim.Native.Nat.{_<_, _≤_};
 ghost use Rattle.model.specs.Words.{mostProcesses};
 
-// Each process sends to the one that stands so far behind it, around the ring.
+// Each process sends to the one that many places further around the ring.
 fn sends(s: Run, far: usize) -> Run
     requires { ⌜ far < mostProcesses ⌝ }
 {

@@ -19,7 +19,7 @@ mod by_value;
 
 const MOST_RECORDS: usize = whole_runs::MOST_RECORDS as usize;
 
-// One call, so many times: 0 if the last was accepted and left a sound state, else a refusal number. The letters: b start (begin), c checkpoint, s send, d deliver,
+// One call, a given number of times: 0 if the last was accepted and left a sound state, else a refusal number. The letters: b start (begin), c checkpoint, s send, d deliver,
 // l lose, i line, r recover; any other number the test of soundness alone.
 #[no_mangle]
 pub extern "C" fn timing_calls(call: u32, times: u32) -> u32 {

@@ -1,4 +1,4 @@
-// What bench/in_place links beside the exported calls: the records of a trace as calls in place without the test. Text is left out. The result says how many records were
+// What bench/in_place links besides the exported calls: the records of a trace as calls in place without the test. Text is left out. The result says how many records were
 // accepted, which the driver compares.
 use model::DELETIONS;
 use model::PROCESSES;

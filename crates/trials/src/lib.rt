@@ -26,7 +26,7 @@ ghost use Rattle.words.specs.Layout.{countOf, runOf, stateSize};
 ghost use Rattle.spacing.specs.Spacing.{oldestTo, sends, action, mostKept, stepped, trialStart, trialAfter, trialRefusal, figures, noFigures, simulated, AgreesWithReplay, mostSteps};
 ghost use Rattle.trials.specs.Steps.{after, actionOf, forcedBy, foundIn, trialOf, Underway};
 
-// What a trial has between two steps beside its state, which the words stand for: the generator's last value, how many sends and deliveries of its own each process
+// What a trial has between two steps besides its state, which the words stand for: the generator's last value, how many sends and deliveries of its own each process
 // has done, and the figures so far.
 struct Tally {
     value: u32,
@@ -218,7 +218,7 @@ fn begin(w: &mut [u16], n: usize, seed: u32) -> Tally
     }
 }
 
-// So many steps.
+// That many steps.
 fn run_steps(w: &mut [u16], n: usize, k: u32, steps: u32, seed: u32) -> Tally
     requires { ⌜ (1 ≤ n) × (n ≤ mostProcesses) × (1 ≤ k) × (steps ≤ mostSteps) × (length (now w) ≡ stateSize) ⌝ }
     ensures { λ r. ⌜ trialOf (now (w .exit)) r ≡ trialAfter n k steps seed ⌝ }
@@ -266,7 +266,7 @@ fn refuse(why: Refusal) -> TrialResult
     }
 }
 
-// A simulation of n processes with this spacing, so many steps and this starting value: its figures, or 22 and zeros.
+// A simulation of n processes with this spacing, this many steps and this starting value: its figures, or 22 and zeros.
 pub fn simulate(n: usize, spacing: u32, steps: u32, seed: u32) -> TrialResult
     ensures { λ r. ⌜ r ≡ simulated n spacing steps seed ⌝ }
     ensures { λ r. ⌜ (trialRefusal n spacing steps ≡ none → AgreesWithReplay n spacing steps seed) ⌝ }

@@ -17,7 +17,7 @@ unfoldable pub refusalOf : Verdict → Option Refusal
 refusalOf Accepted = none
 refusalOf (Refused why) = some why
 
--- One more checkpoint of so many blocks would take the blocks written past the bound.
+-- One more checkpoint of that many blocks would take the blocks written past the bound.
 unfoldable pub pastMost : ℕ → ℕ → Bool
 pastMost written blocks = ltb mostBlocks (written + blocks)
 

@@ -58,7 +58,7 @@ module _ (n : ℕ) (s : Run) (h : Surviving) (r : Ideal) (v : Reached n s h r) w
   reached-reported : (F p : ℕ) → p < n → reported s F p ≡ line r (failed F) p
   reached-reported F p hp = rw (v .state, line-is r (v .inv) (v .limits .few-processes) F) (getD-table (r .n) (line r (failed F)) p 0 (rw (v .size) hp))
 
-  -- A checkpoint right behind which p learnt f's current interval is in the best line for the failure of f alone.
+  -- A checkpoint right after which p learnt f's current interval is in the best line for the failure of f alone.
   pub in-best-line : (p f k : ℕ) → p < n → f < n → k < r .own p → r .vector p k f < r .own f → r .own f ≤ r .vector p (suc k) f → InBestLine n (h .lists) (2 ^ f) p k
   unfolding InBestLine
   in-best-line p f k hp hf lt low high =

@@ -1,5 +1,5 @@
 -- Replaying block by block prints what replaying the whole prints. A block is a whole number of records; where the limit of records falls
--- inside a block, its later records and all that follows print nothing. Where the replay stops at a record, nothing behind it is printed.
+-- inside a block, its later records and all that follows print nothing. Where the replay stops at a record, nothing after it is printed.
 -- Assumes nothing.
 use mathlib.Core.Path.{_≡_, refl, sym, _∙_, ap}
 use mathlib.Core.Bool.{Bool, true, _&&_}
@@ -73,7 +73,7 @@ states-by-block k s (a ∷ b ∷ c ∷ []) rest h = absurd (omega arith)
 states-by-block zero s (a ∷ b ∷ c ∷ d ∷ l) rest h = absurd (omega arith)
 states-by-block (suc k) s (a ∷ b ∷ c ∷ d ∷ l) rest h = states-by-block k (perform s (decoded (a ∷ b ∷ c ∷ d ∷ [])) .run) l rest (omega arith)
 
--- One record is a block: its line below the limit, whether the replay goes on behind it, and the state after it.
+-- One record is a block: its line below the limit, whether the replay goes on after it, and the state after it.
 pub one-line : (all : Bool) (done : ℕ) (s : Run) (r : List ℕ) → length r ≡ 4 → done < mostRecords → records all done s r ≡ lineText (done + 1) (perform s (decoded r) .reply)
 unfolding records
 one-line all done s [] h l = absurd (omega arith)
@@ -101,7 +101,7 @@ one-state s (a ∷ b ∷ c ∷ []) h = absurd (omega arith)
 one-state s (a ∷ b ∷ c ∷ d ∷ []) h = refl
 one-state s (a ∷ b ∷ c ∷ d ∷ e ∷ r) h = absurd (omega arith)
 
--- A block by its last record: the first k records of a trace, and the one behind them.
+-- A block by its last record: the first k records of a trace, and the one after them.
 module _ (k done : ℕ) (s : Run) (trace : List ℕ) (more : 4 * k + 4 ≤ length trace) where
   first-records : length (take (4 * k) trace) ≡ 4 * k
   first-records = length-take-le (4 * k) trace (omega arith)

@@ -144,7 +144,7 @@ module _ (n : ℕ) (h : Surviving) (room : (p : ℕ) → pastBound h p ≡ false
   none-is-16 b o (earliest l lent) = (λ q e. omega arith, (λ q e. omega arith, (λ q e. omega arith, (λ q e. omega arith, (λ q e. omega arith, tt)))))
 
 module _ (n : ℕ) (ok : startRefusal n ones ≡ none) where
-  -- A state that at most so many calls from the start reach.
+  -- A state that at most that many calls from the start reach.
   abbrev Within : ℕ → Run → Type 0
   Within most s = (calls : List Call) × (length calls ≤ most) × (s ≡ stateAfter (startOutcome n ones .run) calls)
 

@@ -144,7 +144,7 @@ atFront numbers lent = numbers ++ drop (length numbers) lent
 
 -- "the deleted checkpoints .. as pairs process, index, by process, then index, ascending": those in the lists before that were kept before the call
 -- and are not kept after it, both by the pairs handed out. So a pair names a checkpoint that was kept, never one that this call stores; each is
--- handed out once; and a kept checkpoint that a recovery takes from its list is among them. Which of the others go is said in Needed.
+-- handed out once; and a kept checkpoint that a recovery takes from its list is among them. Which of the others go is defined in Needed.
 unfoldable pub gonePairs : ℕ → Surviving → Surviving → List ℕ
 gonePairs n old now = gather n (λ p. gather (liveOf old p) (λ k. pick (old .kept p k && not (now .kept p k)) (p ∷ k ∷ []) []))
 
@@ -158,7 +158,7 @@ indexesOf n (recover F deleted lent) list = table n (λ p. getD list p 0)
 indexesOf n (line F lent) list = table n (λ p. getD list p 0)
 indexesOf n (earliest l lent) list = table n (λ p. getD list p 0)
 
--- "If the sent mark is set": a send stands behind the last checkpoint of p's list.
+-- "If the sent mark is set": a send stands after the last checkpoint of p's list.
 unfoldable pub SentSince : Surviving → ℕ → Type 0
 SentSince h p = (m : ℕ) × List·Memᴰ (sent m) (behind (liveOf h p - 1) (h .lists p))
 

@@ -24,7 +24,7 @@ pub data Call : Type 0 where
   -- Note 8: the named checkpoints; the line list
   earliest : List Named → List ℕ → Call
 
--- All that a call returns beside the state: its report, the set of entries that rose, and its lent lists as they then stand.
+-- All that a call returns besides the state: its report, the set of entries that rose, and its lent lists as they then stand.
 pub record Reply : Type 0 where
   pub report : Report
   pub rose : ℕ
@@ -53,7 +53,7 @@ unfoldable pub stateAfter : Run → List Call → Run
 stateAfter s [] = s
 stateAfter s (c ∷ l) = stateAfter (call s c .run) l
 
--- A call and its answer; the calls of a list with their answers, the oldest first.
+-- A call and its answer; the calls of a list with their answers, oldest first.
 pub record Exchange : Type 0 where
   pub made : Call
   pub reply : Reply

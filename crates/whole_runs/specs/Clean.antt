@@ -26,7 +26,7 @@ pub record OnlyNeededKept (n : ℕ) (lists : Lists) (kept : ℕ → ℕ → Bool
   pub used : (p k : ℕ) → p < n → kept p k ≡ true → (F : ℕ) × (1 ≤ F) × (F < 2 ^ n) × InBestLine n lists F p k
   pub kept-if-used : (p k F : ℕ) → p < n → 1 ≤ F → F < 2 ^ n → InBestLine n lists F p k → kept p k ≡ true
 
--- "straight after an accepted recovery or sweep": for every list of calls from an accepted start and an accepted recover call behind it, for any failed set, the
+-- "straight after an accepted recovery or sweep": for every list of calls from an accepted start and an accepted recover call after it, for any failed set, the
 -- empty one of a sweep too. Kept by the pairs handed out.
 unfoldable pub CleanAfterRecovery : Type 0
 CleanAfterRecovery = (n : ℕ) (counts : List ℕ) → startRefusal n counts ≡ none → (calls : List Call) (F : ℕ) (deleted lent : List ℕ)
@@ -35,7 +35,7 @@ CleanAfterRecovery = (n : ℕ) (counts : List ℕ) → startRefusal n counts ≡
     OnlyNeededKept n (h .lists) (h .kept)
 
 -- Note 6 as a recover call on the state s says it of the state t that it returns: whatever calls from an accepted start led to s, if the call is accepted, t keeps
--- a checkpoint exactly if some failure would use it, judged by the surviving history of those calls and of this one behind them.
+-- a checkpoint exactly if some failure would use it, judged by the surviving history of those calls and of this one after them.
 unfoldable pub CleanPromise : Run → ℕ → List ℕ → List ℕ → Run → Type 0
 CleanPromise s F deleted lent t = (n : ℕ) (counts : List ℕ) → startRefusal n counts ≡ none → (calls : List Call) → s ≡ stateAfter (startOutcome n counts .run) calls
     → recoverRefusal s F deleted lent ≡ none → OnlyNeededKept n (surviving n counts (transcript (startOutcome n counts .run) (calls ++ (recover F deleted lent ∷ []))) .lists) (keepsIn t)

@@ -85,7 +85,7 @@ abbrev pub mostRecords : ℕ
 mostRecords = 1_000_000_000
 
 -- Note 11: "The course exercises rely on the old way and start it with the argument `all`, which goes on as before. Any other argument, or more than
--- one, counts as none." `words` is how many words the program was started with, its own name the first of them, and `argument` is the word behind that.
+-- one, counts as none." `words` is how many words the program was started with, its own name the first of them, and `argument` is the word after that.
 unfoldable pub asksForAll : ℕ → List ℕ → Bool
 asksForAll words argument = eqb words 2 && same argument (97 ∷ 108 ∷ 108 ∷ [])
 
@@ -94,7 +94,7 @@ asksForAll words argument = eqb words 2 && same argument (97 ∷ 108 ∷ 108 ∷
 unfoldable pub goesOn : Bool → ℕ → Bool
 goesOn all refused = all || eqb refused 0
 
--- The lines of the records of a trace, where `done` records were taken before. "13 prints under the next record number and ends". Behind the record where
+-- The lines of the records of a trace, where `done` records were taken before. "13 prints under the next record number and ends". After the record where
 -- it stops nothing is judged, left-over bytes included.
 unfoldable pub records : Bool → ℕ → Run → List ℕ → List ℕ
 records all done s [] = []
@@ -107,7 +107,7 @@ records all done s (a ∷ b ∷ c ∷ d ∷ l) =
     let rest = pick (goesOn all (o .reply .report .refused)) (records all (done + 1) (o .run) l) [] in
     pick (ltb done mostRecords) (line ++ rest) []
 
--- Whether the replay goes on behind a part of a trace: it stops at no record of it.
+-- Whether the replay goes on after a part of a trace: it stops at no record of it.
 unfoldable pub goesOnBehind : Bool → Run → List ℕ → Bool
 goesOnBehind all s [] = true
 goesOnBehind all s (a ∷ []) = true

@@ -1,4 +1,4 @@
--- Which checkpoints are kept, by the places in the lists alone: what the pins of document 01 name, said without a pin, a vector or a pair handed out.
+-- Which checkpoints are kept, by the places in the lists alone: what the pins of document 01 name, defined without a pin, a vector or a pair handed out.
 -- "A pin of i for f names one kept checkpoint of i, or none. A checkpoint is kept exactly while a pin names it."
 -- Assumes nothing.
 use mathlib.Core.Logic.{_⊎_}

@@ -124,7 +124,7 @@ EarliestPromise s l lent = (n : ℕ) (counts : List ℕ) → startRefusal n coun
     → EarliestIsRight n s (surviving n counts (transcript (startOutcome n counts .run) calls)) l lent
 
 -- Demand 3 as a call c on the state s says it of the state t that it returns: whatever calls from an accepted start led to s, what t keeps and its blocks
--- are right, judged by the surviving history of those calls and of this one behind them, refused or accepted.
+-- are right, judged by the surviving history of those calls and of this one after them, refused or accepted.
 unfoldable pub StatePromise : Run → Call → Run → Type 0
 StatePromise s c t = (n : ℕ) (counts : List ℕ) → startRefusal n counts ≡ none → (calls : List Call) → s ≡ stateAfter (startOutcome n counts .run) calls →
     let h = surviving n counts (transcript (startOutcome n counts .run) (calls ++ (c ∷ []))) in

@@ -2,7 +2,7 @@
 //! give, both as lines of text: `../bindings/README.md` has the lines.
 //!
 //! What is drawn is what `calls` draws, but for lists: a binding lends them
-//! itself, so that none is too short and none is seen behind what was written.
+//! itself, so that none is too short and none is seen after what was written.
 
 use crate::calls::console::{
     outcome as console_outcome, Asked as ConsoleAsked, Asker, CONSOLE_CALLS,
@@ -52,7 +52,7 @@ enum Asked {
     Record(Call, Vec<u32>),
     RecordTrace,
     Words(Vec<u16>),
-    /// A block of records, behind so many others.
+    /// A block of records, after that many others.
     Replay(AfterRefusal, u64, Vec<u8>),
     /// To a file and from it: its words, ..
     Dump(String),
@@ -102,11 +102,11 @@ struct Tape {
 }
 
 /// How many calls a run has, more or less, and every how many runs the state is
-/// stored behind the first.
+/// stored after the first.
 const LENGTH: u64 = 200;
 const STORED: u64 = 10;
 
-/// So many calls by seed; those named in `absent` are not made.
+/// That many calls by seed; those named in `absent` are not made.
 pub fn pages(seed: u64, count: u64, absent: &[String]) -> Pages {
     let mut draws = Draws::new(seed);
     let mut writer = Writer {
@@ -672,14 +672,14 @@ fn spell_call(line: &mut String, call: Call, named: &[u32]) {
     }
 }
 
-/// Words behind others on a line.
+/// Words after others on a line.
 fn spell<T: Display>(line: &mut String, words: impl IntoIterator<Item = T>) {
     for word in words {
         line.push_str(&format!(" {word}"));
     }
 }
 
-/// Numbers in groups of so many: `P:K`.
+/// Numbers in groups of that many: `P:K`.
 fn tuples<T: Display>(numbers: &[T], many: usize) -> Vec<String> {
     let group = |group: &[T]| {
         let texts: Vec<String> = group.iter().map(T::to_string).collect();
@@ -836,7 +836,7 @@ fn leave(run: &mut Option<Run>, outcome: &Outcome) {
     }
 }
 
-/// What an accepted call says behind its 0.
+/// What an accepted call says after its 0.
 fn said(call: Call, outcome: &Outcome, count: usize) -> String {
     let lists = &outcome.lists;
     let value = outcome.answer >> 24 & 0xff_ffff;

@@ -111,7 +111,7 @@ impl Call {
     }
 }
 
-/// The lists that are lent to a call beside the words.
+/// The lists that are lent to a call besides the words.
 #[derive(Clone, Debug, PartialEq, Eq)]
 pub struct Lists {
     pub deletions: Vec<u16>,
@@ -139,7 +139,7 @@ pub struct Outcome {
     pub lists: Lists,
 }
 
-/// What an accepted call says beside 0.
+/// What an accepted call says besides 0.
 #[derive(Default)]
 struct Said {
     value: Option<u64>,
@@ -391,7 +391,7 @@ fn write<T: Copy>(what: &[T], asked: usize, list: &mut [T]) -> Result<(), u8> {
     Ok(())
 }
 
-/// So many were read.
+/// That many were read.
 fn counted(many: usize) -> Said {
     Said {
         value: Some(many as u64),

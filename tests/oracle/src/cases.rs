@@ -113,7 +113,7 @@ const DELETIONS: usize = 2 * MAX_PROCESSES * MAX_PROCESSES;
 /// delivery, and the facts of the state. n = 2 in both.
 ///
 /// * `lost 1`: send 0 to 1, recover 1, which is {0}, deliver 1. The sender
-///   rolls back behind its send.
+///   rolls back to before its send.
 /// * `lost 2`: send 0 to 1 (message 1), checkpoint 0, send 0 to 1 (message 2),
 ///   recover 1, deliver 2, deliver 1. Message 1 outlives the recovery.
 ///
@@ -133,7 +133,7 @@ const DELETIONS: usize = 2 * MAX_PROCESSES * MAX_PROCESSES;
 /// and at the end the lines of the state (`line F: ..`, as in the facts of a
 /// state). The calls are: 1 send 1 to 0 (message 1); 2 send 0 to 1 (message 2);
 /// 3 deliver 2, which forces checkpoint 1 of process 1; 4 checkpoint 1;
-/// 5 recover 1, which is {0}: process 1 goes back behind its checkpoint 2;
+/// 5 recover 1, which is {0}: process 1 rolls back past its checkpoint 2;
 /// 6 checkpoint 1, again of index 2; 7 deliver 1; 8 checkpoint 0; 9 recover 0,
 /// a sweep.
 ///
@@ -158,7 +158,7 @@ const DELETIONS: usize = 2 * MAX_PROCESSES * MAX_PROCESSES;
 /// * New run, n = 2, block counts 1 and 65,535, send 0 to 1 (message 1); with T
 ///   written and T - 65536 deleted. Each on this state: `unforced 0: R` is
 ///   deliver 1, `recovered F: R`, for F = 0, 1, recover F.
-/// * `own E: R` for E = 65534, 65535: new run, n = 1, so many times checkpoint 0
+/// * `own E: R` for E = 65534, 65535: new run, n = 1, that many times checkpoint 0
 ///   that the own entry is E; with T written and T - 1 deleted; checkpoint 0.
 ///
 /// # Earliest

@@ -266,7 +266,7 @@ const CALL: usize = 8;
 /// # Facts
 ///
 /// The number of the call from 1, then 0 or the refusal number. If it is
-/// accepted, then, each behind one space:
+/// accepted, then, each after one space:
 ///
 /// * checkpoint: index, count of deletions, each as process:index;
 /// * send: the message number;

@@ -10,7 +10,7 @@
 //!   order messages are taken, is drawn from the seed. One recovery in eight is
 //!   of nobody.
 //! * recovering: as valid, with a recovery every few records, and deliveries
-//!   behind each.
+//!   after each.
 //! * mixed: also records that a run refuses.
 //! * damaged: also records of unused kinds or with fields that must be zero
 //!   and are not, left-over bytes at the end, a bad first byte, an empty
@@ -209,7 +209,7 @@ struct Weights {
 }
 
 /// The weights of `recovering`: checkpoints and deliveries enough that messages
-/// are sent before a checkpoint, outlive a rollback and are delivered behind it.
+/// are sent before a checkpoint, outlive a rollback and are delivered after it.
 const RECOVERING: Weights = Weights {
     checkpoint: 24,
     send: 32,

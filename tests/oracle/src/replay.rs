@@ -88,7 +88,7 @@ fn list_trace<R: Read, W: Write>(
                 Ok(answer) => listing.accepted(record_number, &answer, &lists)?,
                 Err(number) => {
                     listing.refused(record_number, number)?;
-                    // What lies behind is neither judged nor read on for.
+                    // What follows is neither judged nor read.
                     if after_refusal == AfterRefusal::Stop {
                         return Ok(());
                     }
@@ -117,8 +117,8 @@ pub struct Block {
     pub left: Option<State>,
 }
 
-/// A block of records, where so many were taken before it and their lines have so
-/// much room: one is taken as long as the replay goes on, it is not behind the last
+/// A block of records, where that many were taken before it and their lines have that
+/// much room: one is taken as long as the replay goes on, it is not past the last
 /// record, the longest line fits, and a whole one is left. `state` is that of a
 /// sound state. Once it is not sound each record is refused, with 14 or else 2.
 pub fn block(

@@ -1,4 +1,4 @@
--- `halves::merge` meets its contract. Behind the first `match` both halves are such that no rule refuses them before any record (`fine`).
+-- `halves::merge` meets its contract. After the first `match` both halves are such that no rule refuses them before any record (`fine`).
 -- Assumes nothing.
 use mathlib.Core.Path.{_≡_, refl, sym, _∙_}
 use mathlib.Core.List.{List}
@@ -31,7 +31,7 @@ module _ (start : tie.Start) where
   promised : MergePromise first second (start .args .set) result × OrdersAgree
   promised = (merge-promise first second (start .args .set) result, orders-agree)
 
--- Behind the first `match`, where the halves are accepted.
+-- After the first `match`, where the halves are accepted.
 module _ (told : tie.After-enum-told) where
   abbrev start : tie.Start
   start = told .before .before .before .before .before .before

@@ -1,4 +1,4 @@
--- `listing::write_accepted` meets its contract: its five texts stand one behind the other.
+-- `listing::write_accepted` meets its contract: its five texts stand one after the other.
 -- Assumes nothing.
 use borrow.Author.Needs.{needs}
 use mathlib.Core.List.{List, [], _∷_, _++_}
@@ -18,7 +18,7 @@ from-count c = decimal (c .args .said .deletions) ++ deletionsText (c .args .sai
 abbrev from-value : tie.Start → List ℕ
 from-value c = valueText (valueIn (c .args .said .value)) ++ (space ∷ from-count c)
 
--- The room that is left behind each text.
+-- The room that is left after each text.
 room-1 : (c : tie.After-write-byte) → Room (c .write-byte .last .0) (c .write-byte .result) (from-value (c .before .before .before .before))
 unfolding acceptedText replyOf
 room-1 c = room-rest (from-value (c .before .before .before .before)) (c .write-byte .ensures) (c .before .before .before .before .pre .1)

@@ -1,4 +1,4 @@
--- `listing::write_number` meets its contract. The loop's invariant: the digits behind the place are stored, those of the rest are to come.
+-- `listing::write_number` meets its contract. The loop's invariant: the digits after the place are stored, those of the rest are to come.
 -- The measure is the rest. Assumes nothing.
 use mathlib.Core.Path.{_≡_}
 use mathlib.Core.List.{List}
@@ -32,7 +32,7 @@ start c = c .before .before .before
 still-inside : (l : List ℕ) (at byte k : ℕ) → k < length l → k < length (set l at byte)
 still-inside l at byte k h = rw length-set h
 
--- The place is behind the first digit, and not past the end of the buffer.
+-- The place is after the first digit, and not past the end of the buffer.
 room : (c : tie.At-loop Inv-loop μ-loop) → (start c .args .at < c .loop .place) × (c .loop .place ≤ length (c .loop .out))
 room c =
     let a = start c .args in

@@ -1,4 +1,4 @@
--- `listing::write_pair` meets its contract: its four texts stand one behind the other.
+-- `listing::write_pair` meets its contract: its four texts stand one after the other.
 -- Assumes nothing.
 use borrow.Author.Needs.{needs}
 use mathlib.Core.List.{[], _∷_, _++_}
@@ -10,7 +10,7 @@ use Rattle.listing.proofs.Texts.{then, room-first, room-rest}
 use Rattle.listing.proofs.write_pair.Statement.{statement}
 use Rattle.listing.proofs.write_pair.Tie as tie
 
--- The room that is left behind each text.
+-- The room that is left after each text.
 room-1 : (c : tie.After-write-byte)
     → Room (c .write-byte .last .0) (c .write-byte .result) (decimal (c .before .before .before .args .process) ++ (colon ∷ decimal (c .before .before .before .args .index)))
 unfolding pairText

@@ -73,7 +73,7 @@ pub gone-all : (r r′ : Ideal) → sumBelow (r .n) (λ p. blocksOf (passing (r 
 unfolding goneIn
 gone-all r r′ = sum-same (r .n) _ _ (λ p lt. blocks-passing r p (r .own p) _ (omega arith))
 
--- The disk after a step that stores and deletes so many blocks.
+-- The disk after a step that stores and deletes that many blocks.
 pub billed-is : (r r′ : Ideal) → Inv r → Inv r′ → Moved r r′ → Paid r r′ → keptIn r ≤ r .ledger .written → (more less : ℕ) → more ≡ newIn r r′ → less ≡ goneIn r r′
     → billed (diskOf r) more less ≡ diskOf r′
 unfolding billed diskOf

@@ -98,7 +98,7 @@ message-unused : unusedMessage noMessage ≡ true
 unfolding unusedMessage
 message-unused = zeros 0
 
--- Behind the list that was laid into a table of fixed size every place is unused.
+-- After the list that was laid into a table of fixed size every place is unused.
 placed-behind : {A : Type 0} (t : A → Bool) (size : ℕ) (x : A) (l : List A) → t x ≡ true → every t (drop (length l) (placed size x l)) ≡ true
 unfolding placed
 placed-behind t size x l e = rw (drop-append-seam l (replicate (size - length l) x)) (every-replicate t (size - length l) x e)
@@ -137,7 +137,7 @@ carried-behind : (r : Ideal) → every (λ x. zeroFrom (stateOf r .count) (x .ve
 unfolding messagesOf messageOf
 carried-behind r = rw (underWay-is r, count-is r) (passing-every _ (suc (r .last)) (r .transit) (messageOf r) (λ m lt e. vector-behind (r .n) (r .carried m)))
 
--- A row of the run: its vector, its pins and its stored vectors from n on, and the places behind its checkpoints.
+-- A row of the run: its vector, its pins and its stored vectors from n on, and the places after its checkpoints.
 row-unused : (r : Ideal) (p : ℕ) → r .n ≤ mostProcesses → p < r .n → rowUnused (stateOf r) p ≡ true
 unfolding rowUnused processOf
 row-unused r p few hp = rw (
@@ -181,7 +181,7 @@ held-unused : (r : Ideal) → every (eqb 0) (drop (stateOf r .count) (stateOf r 
 unfolding blank
 held-unused r = rw (count-is r, state-behind r .held) (every-drop (eqb 0) (r .n) (replicate mostProcesses 0) (every-replicate (eqb 0) mostProcesses 0 refl))
 
--- The places behind the messages under way are unused.
+-- The places after the messages under way are unused.
 messages-unused : (r : Ideal) → every unusedMessage (drop (stateOf r .underway) (stateOf r .messages)) ≡ true
 unfolding stateOf partsOf withDisk withMessages
 messages-unused r = placed-behind unusedMessage mostUnderWay noMessage (messagesOf r) message-unused

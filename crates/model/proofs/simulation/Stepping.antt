@@ -15,7 +15,7 @@ use Rattle.histories.proofs.Run.{Ideal}
 use Rattle.model.proofs.simulation.View.{processOf, messagesOf, diskOf, partsOf, stateOf}
 use Rattle.model.proofs.simulation.Parts.{put-one, all-all, all-agree, all-messages, all-disk, put-messages, messages-twice}
 
--- A disk put in before does not matter where another one is put in behind; where none is, it stays.
+-- A disk put in before does not matter where another one is put in after; where none is, it stays.
 disk-one : (s : Run) (d d′ : Disk) (i : ℕ) (P : Process) → withDisk (withProcess (withDisk s d) i P) d′ ≡ withDisk (withProcess s i P) d′
 unfolding withProcess withDisk
 disk-one s d d′ i P = refl

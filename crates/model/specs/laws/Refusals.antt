@@ -54,7 +54,7 @@ gives-first (t ∷ l) = by-bool (t .holds) (λ e. rw e (0, tt, refl, refl)) (λ 
 pub refusal-out : (l : List Rule) (o : Option Refusal) → firstOf l ≡ o → Gives l o
 refusal-out l o e = rw e at (gives-first l)
 
--- Behind a rule that does not hold the others decide.
+-- After a rule that does not hold the others decide.
 pub skipped : (t : Rule) (l : List Rule) → t .holds ≡ false → firstOf (t ∷ l) ≡ firstOf l
 skipped t l e = refusal-in (t ∷ l) (firstOf l) (one-more t l (firstOf l) e (gives-first l))
 

@@ -1,5 +1,5 @@
 -- `reader::next_record` meets its contract: a walk of its MIR, by hand. The reader is taken apart, and the covered function hands on the part of
--- the trace behind the count.
+-- the trace after the count.
 -- Assumes nothing.
 use mathlib.Core.Path.{_≡_, refl}
 use mathlib.Core.List.{List, [], _∷_}

@@ -1,5 +1,5 @@
 -- `reader::part_behind` meets its contract: below a fourth of the length the record's place is the callee's to judge; from there on no whole
--- record has room behind the first byte.
+-- record has room after the first byte.
 -- Assumes nothing.
 use lib.ListN.{length}
 use borrow.Author.Needs.{needs}

@@ -1,4 +1,4 @@
--- `reader::record_left` meets its contract: below a fourth of the length the bytes behind the records taken are counted; from there on a whole
+-- `reader::record_left` meets its contract: below a fourth of the length the bytes after the records taken are counted; from there on a whole
 -- record and the first byte have no room.
 -- Assumes nothing.
 use mathlib.Core.Path.{sym}

@@ -18,7 +18,7 @@ use Rattle.recover_in_place.proofs.Recovering.{no-member, recovers, all
 use Rattle.recover_in_place.proofs.recover_within.Statement.{statement}
 use Rattle.recover_in_place.proofs.recover_within.Tie as tie
 
--- Where each call stands behind the one before it.
+-- Where each call stands after the one before it.
 abbrev at-limits : tie.After-limits-of → tie.Start
 at-limits l = l .before .before .before .before .before
 

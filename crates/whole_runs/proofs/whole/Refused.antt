@@ -85,7 +85,7 @@ orderedOf r (recover F deleted lent) = false
 orderedOf r (line F lent) = false
 orderedOf r (earliest l lent) = someOrdered (stateOf r) l
 
--- A rule that does not hold gives no number. A rule and a reason that hold alike and have the same number give the same, if those behind them do.
+-- A rule that does not hold gives no number. A rule and a reason that hold alike and have the same number give the same, if those after them do.
 never : (t : Rule) (l : List Rule) (k : ℕ) → t .holds ≡ false → numberOf (firstOf l) ≡ k → numberOf (firstOf (t ∷ l)) ≡ k
 never t l k e rest = ap numberOf (skipped t l e) ∙ rest
 

@@ -1,4 +1,4 @@
--- What a reply holds beside its number and its pairs: of a refused call nothing new; of an accepted one its value and its line list, by the
+-- What a reply holds besides its number and its pairs: of a refused call nothing new; of an accepted one its value and its line list, by the
 -- surviving history, and the set of entries that rose.
 -- Assumes nothing.
 use mathlib.Core.Path.{_≡_, refl, sym, _∙_, ap}

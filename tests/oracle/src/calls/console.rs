@@ -95,7 +95,7 @@ impl Asked {
     }
 }
 
-/// What a console call must do on so many words, which stand for this state.
+/// What a console call must do on that many words, which stand for this state.
 pub fn outcome(
     size: usize,
     state: Option<&State>,

@@ -34,7 +34,7 @@ impl Draws {
         self.below(limit as u64) as usize
     }
 
-    /// Once in so many times.
+    /// Once in that many times.
     pub fn once_in(&mut self, times: u64) -> bool {
         self.below(times) == 0
     }

@@ -80,7 +80,7 @@ pub struct Tally {
 }
 
 impl Tally {
-    /// What was met fewer than so many times, of all that can be met.
+    /// What was met fewer than that many times, of all that can be met.
     pub fn missing(&self, least: u64, library: &impl Library) -> Option<String> {
         for (call, (met, (name, numbers))) in self.met.iter().zip(CALLS).enumerate() {
             if !library.has(call) {
@@ -143,7 +143,7 @@ impl Held {
 /// How many calls a run has.
 const LENGTH: u64 = 200;
 
-/// Holds a library to the oracle on so many calls by seed.
+/// Holds a library to the oracle on that many calls by seed.
 pub fn hold(library: &mut impl Library, seed: u64, count: u64) -> Result<Tally, String> {
     let mut draws = Draws::new(seed);
     let mut tally = Tally::default();

@@ -10,7 +10,7 @@ use std::io;
 use std::path::Path;
 use std::process::ExitCode;
 
-/// In a run of at least so many calls, everything that can be met is met.
+/// In a run of at least that many calls, everything that can be met is met.
 const MANY: u64 = 100_000;
 
 pub fn run(words: &[String]) -> ExitCode {

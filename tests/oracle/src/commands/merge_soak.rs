@@ -6,7 +6,7 @@
 //!
 //! Where the halves are those of a whole run, PROGRAM also merges them the other
 //! way round, and REPLAY replays the run itself and both merged traces, each
-//! with the same records behind it that show its state: recoveries of each
+//! with the same records after it that show its state: recoveries of each
 //! process, a sweep, checkpoints. If every record of two of them is accepted,
 //! the lines of these last records must be the same.
 //!
@@ -148,7 +148,7 @@ impl Soak {
         Ok(None)
     }
 
-    /// The last lines of the listing of a trace with records behind it that show
+    /// The last lines of the listing of a trace with records after it that show
     /// the state. None if a record of the trace is refused.
     fn end_of_replay(&self, trace: &[u8], file: &Path) -> io::Result<Option<String>> {
         let mut bytes = trace.to_vec();

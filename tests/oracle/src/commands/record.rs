@@ -1,5 +1,5 @@
 //! `oracle record [BYTES] < TRACE` plays a trace through a recorder (Note 9) with
-//! a buffer of so many bytes, as many as are needed if not given, and prints what
+//! a buffer of that many bytes, as many as are needed if not given, and prints what
 //! was recorded, and on standard error a line for each record that was refused.
 
 use std::io::{self, ErrorKind, Read, Write};

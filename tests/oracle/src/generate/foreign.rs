@@ -19,7 +19,7 @@ pub(super) fn drawn_records(random: &mut Random) -> u64 {
     few as u64
 }
 
-/// When a process takes a checkpoint beside those that come anyway. All but
+/// When a process takes a checkpoint besides those that come anyway. All but
 /// `Never` make a trace trackable, if they are kept.
 #[derive(Clone, Copy, PartialEq)]
 enum Rule {
@@ -33,7 +33,7 @@ enum Rule {
 /// How a run-time behaves.
 struct RunTime {
     rule: Rule,
-    /// The rule is forgotten once in so many times; 0 for never.
+    /// The rule is forgotten once in that many times; 0 for never.
     forgetful: u32,
     /// Processes below this one never forget it.
     careful: u32,

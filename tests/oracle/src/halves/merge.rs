@@ -4,7 +4,7 @@
 
 use crate::whole::Whole;
 
-/// A half has at most so many records, else 17.
+/// A half has at most that many records, else 17.
 pub const MAX_RECORDS: usize = 4096;
 
 const MAX_PROCESSES: usize = 16;

@@ -602,7 +602,7 @@ fn the_earliest_lines(section: &str) {
     assert_eq!(facts.lines().count(), 2 * 25 + 6);
 }
 
-/// The exam text from the first line behind `disk 1` on.
+/// The exam text from the first line after `disk 1` on.
 fn the_disks(text: &str) {
     let (steps, limits) = text.split_once("disk 2\n").unwrap();
     // By step: what 0 and 1 keep, the causes, blocks written and deleted.

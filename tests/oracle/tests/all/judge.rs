@@ -198,7 +198,7 @@ fn the_first_record_refused_is_the_result() {
         ((7, 15, 0x1FF_FFFF), 14),
     ];
     for (bad, number) in refused {
-        // What lies behind is not judged, left-over bytes neither.
+        // What follows is not judged, left-over bytes neither.
         let mut bytes = trace(3, &[(SEND, 0, 1), bad, (SEND, 1, 1), (7, 0, 0)]);
         assert_eq!(judge(&bytes).to_string(), format!("refused {number}"));
         bytes.push(0);

@@ -1,4 +1,4 @@
-//! All tests beside those in the sources, built once.
+//! All tests besides those in the sources, built once.
 
 mod common;
 mod console;

@@ -20,7 +20,7 @@ fn message(sender: u32, running: u32) -> u32 {
     sender << 21 | running
 }
 
-/// The merged trace, or the number. What lies behind the trace in the buffer,
+/// The merged trace, or the number. What lies after the trace in the buffer,
 /// and all of it after a refusal, is unchanged.
 fn merged(first: &[u8], second: &[u8], set: impl Into<Whole>) -> Result<Vec<u8>, u8> {
     let set: Whole = set.into();
@@ -216,7 +216,7 @@ fn the_buffer_is_judged_behind_1_alone() {
 }
 
 /// Of three processes 0 is in the first half. Each record alone in the first
-/// half, behind a send of 0 to 1 and one to 2, and a send of 1 to 0 and to 2 in
+/// half, after a send of 0 to 1 and one to 2, and a send of 1 to 0 and to 2 in
 /// the second.
 #[test]
 fn a_taken_record_is_judged_in_order() {
@@ -322,7 +322,7 @@ fn records_of(half: &[u8]) -> Vec<(u32, u32, u32)> {
 }
 
 /// The two halves that a plain trace comes from, and whether each delivery and
-/// loss is behind its send.
+/// loss is after its send.
 fn split(plain: &[u8], set: u32) -> [Vec<u8>; 2] {
     let mut halves = [vec![plain[0]], vec![plain[0]]];
     // Sender, running count and receiver, by number from 1.
@@ -362,7 +362,7 @@ fn a_merged_trace_splits_into_its_halves() {
             "seed {seed}"
         );
         both += (halves.first.len() > 1 && halves.second.len() > 1) as usize;
-        // Not just one half behind the other.
+        // Not just one half after the other.
         let first = records_of(&halves.first);
         let sends = first.iter().filter(|record| record.0 == SEND).count();
         let ahead = records_of(&plain)[..first.len().min(plain.len() / 4)].to_vec();

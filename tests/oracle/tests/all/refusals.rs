@@ -47,7 +47,7 @@ fn block_counts() {
     assert_eq!((run.written(), run.deleted()), (16 * 65_535, 0));
 }
 
-/// A run of two, whose counts are 7 and 9, with so many blocks left to write.
+/// A run of two, whose counts are 7 and 9, with that many blocks left to write.
 /// Process 1 has sent, and message 2 forces a checkpoint there.
 fn run_with_blocks_left(left: u64) -> Run {
     let mut counts = [0; 16];

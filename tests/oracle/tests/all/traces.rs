@@ -47,7 +47,7 @@ fn left_over_bytes() {
         // Also where the bytes begin a record of an unused kind.
         bytes.extend(vec![255; left]);
         assert_eq!(listing(&bytes), "1 0 1 1 0:0\n2 14\n3 13\n");
-        // Behind the stop they are not judged.
+        // After the stop they are not judged.
         assert_eq!(stopped_listing(&bytes), "1 0 1 1 0:0\n2 14\n");
     }
 }
@@ -225,7 +225,7 @@ fn a_sweep() {
     );
 }
 
-/// Hands over at most so many bytes at a time, and is interrupted in between.
+/// Hands over at most that many bytes at a time, and is interrupted in between.
 struct ShortReads<'a> {
     bytes: &'a [u8],
     most: usize,

@@ -75,7 +75,7 @@ is-copy : (l : List Named) (c : Copied) → c ≡ copyOf l → IsCopy c
 unfolding IsCopy
 is-copy l c e = (l, e)
 
--- Facts beside what is owned: one, and one beside others.
+-- Facts alongside what is owned: one, and one alongside others.
 module _ {M : Type 1} (𝓤 : URA M) where
   beside : (P F : SProp 𝓤) → ent 𝓤 (emp 𝓤) F → ent 𝓤 P (sep 𝓤 P F)
   beside P F e = via 𝓤 (sep 𝓤 (emp 𝓤) P) (emp∗ 𝓤 P) (via 𝓤 (sep 𝓤 F P) (monoL 𝓤 P e) (comm∗ 𝓤 F P))

@@ -1,5 +1,5 @@
--- `earliest::list::copy_out` meets its contract: a walk of its MIR, by hand. The loop's invariant: what is copied so far is the copy of the first k elements. Each turn
--- calls `element`, which is proved by hand, and `with_element`, which is covered; of the list a turn passes a copy of the reference on.
+-- `earliest::list::copy_out` meets its contract: a walk of its MIR, by hand. The loop's invariant: what is copied so far is the copy of the first k elements. Each iteration
+-- calls `element`, which is proved by hand, and `with_element`, which is covered; of the list an iteration passes a copy of the reference on.
 -- Assumes nothing.
 use mathlib.Core.Path.{_≡_, refl, sym, _∙_, ap, subst}
 use Prim.Native.Nat.{ℕ, zero, suc, _+_, _-_, _≤_, _<_, _^_, zero-le}
@@ -74,7 +74,7 @@ use Rattle.earliest.proofs.list.copy_out.Code.Mir as pieces
 abbrev stayed : Stays (f.ended .signature .params) (f.ended .kept)
 stayed = (stay-none-slice (0 ∷ []) tt (plain (λ _. N.the-row)) yes, tt)
 
--- the rest of a turn behind its test, which the generated MIR has under no name
+-- the rest of an iteration after its test, which the generated MIR has under no name
 abbrev more : Body
 more =
     seq (call #element (copy (place 1 []) ∷ copy (place 3 []) ∷ []) (place 6 []))
@@ -179,7 +179,7 @@ module _ {M : Type 1} (𝓤 : URA M) (H : Heap 𝓤) (A : Atoms 𝓤) (W : Given
         ∷ ‵ (fat fullShare (tyInt w64) l₃ 0 (vint w64 (j .0))) ∷ ‵ (fdies (tyInt w64) l₃) ∷ ‵ (fat fullShare T′.mir l₂ 0 (j .2)) ∷ ‵ (fdies T′.mir l₂)
         ∷ ‵ (fat fullShare slice l₁ 0 sv) ∷ ‵ (fdies slice l₁) ∷ ‵ (froom T′.mir l₀ 0) ∷ ‵ (fdies T′.mir l₀) ∷ []
 
-    -- a turn's postcondition: it ends nearer to the end of the list, or the loop is left and the rest of the body runs
+    -- an iteration's postcondition: it ends nearer to the end of the list, or the loop is left and the rest of the body runs
     abbrev Turned : Upto → Out → SProp 𝓤
     Turned j = afterTurn 𝓤 H (Below 𝓤 H A Nearer At j) (afterBlock 𝓤 H (afterSeq 𝓤 H (Wp 𝓤 H C Λ En pieces.t-4 (atReturn 𝓤 H En Post)) (atReturn 𝓤 H En Post)))
 

@@ -1,4 +1,4 @@
--- `halves::record::above` meets its contract. The loop's invariant: what is left behind the first i processes.
+-- `halves::record::above` meets its contract. The loop's invariant: what is left after the first i processes.
 -- Assumes nothing.
 use mathlib.Core.Path.{_≡_}
 use Prim.Native.Nat.{_-_, _/_, _^_, _≤_}

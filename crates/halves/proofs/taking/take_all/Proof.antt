@@ -1,4 +1,4 @@
--- `halves::taking::take_all` meets its contract. The loop's invariant: the log holds the records taken, and the merge goes on behind them.
+-- `halves::taking::take_all` meets its contract. The loop's invariant: the log holds the records taken, and the merge goes on after them.
 -- Assumes nothing.
 use mathlib.Core.Path.{_≡_, refl, _∙_}
 use Prim.Native.Nat.{_+_, _-_, _*_, _≤_}

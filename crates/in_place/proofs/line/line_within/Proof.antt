@@ -14,7 +14,7 @@ use Rattle.in_place.proofs.Lining.{some-own, most-held, all-used, membe
 use Rattle.in_place.proofs.line.line_within.Statement.{statement}
 use Rattle.in_place.proofs.line.line_within.Tie as tie
 
--- Where each call stands behind the one before it.
+-- Where each call stands after the one before it.
 abbrev at-limits : tie.After-limits-of → tie.Start
 at-limits l = l .before .before .before
 

@@ -1,4 +1,4 @@
--- `judge_machine::text::write_breaks` meets its contract: its four texts stand one behind the other.
+-- `judge_machine::text::write_breaks` meets its contract: its four texts stand one after the other.
 -- Assumes nothing.
 use borrow.Author.Needs.{needs}
 use mathlib.Core.Path.{_≡_}

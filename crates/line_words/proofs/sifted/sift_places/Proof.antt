@@ -1,4 +1,4 @@
--- `line_words::sifted::sift_places` meets its contract. The loop's invariant: the places passed so far are without the lost messages, and so many are left in them.
+-- `line_words::sifted::sift_places` meets its contract. The loop's invariant: the places passed so far are without the lost messages, and that many are left in them.
 -- Assumes nothing.
 use mathlib.Core.Path.{_≡_, refl, sym, _∙_, ap}
 use mathlib.Core.Bool.{true, false}

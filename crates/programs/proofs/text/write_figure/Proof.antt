@@ -1,4 +1,4 @@
--- `programs::text::write_figure` meets its contract: its three texts stand one behind the other.
+-- `programs::text::write_figure` meets its contract: its three texts stand one after the other.
 -- Assumes nothing.
 use borrow.Author.Needs.{needs}
 use native.Mathlib.Omega.{arith}

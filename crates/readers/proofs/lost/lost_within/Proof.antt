@@ -16,7 +16,7 @@ use Rattle.readers.proofs.Losses.{few-lost, indexes-are, lost-missing, 
 use Rattle.readers.proofs.lost.lost_within.Statement.{statement}
 use Rattle.readers.proofs.lost.lost_within.Tie as tie
 
--- Where each call stands behind the one before it.
+-- Where each call stands after the one before it.
 abbrev at-limits : tie.After-limits-of → tie.Start
 at-limits l = l .before .before .before
 

@@ -10,7 +10,7 @@ use Rattle.laws.specs.Choice.{by-bool}
 use Rattle.recorder_bytes.proofs.bytes.has_room.Statement.{statement}
 use Rattle.recorder_bytes.proofs.bytes.has_room.Tie as tie
 
--- No byte is left behind a place past the end.
+-- No byte is left after a place past the end.
 past : (size place : ℕ) → size < place → false ≡ not (ltb (size - place) 4)
 past size place h = rw (lt-ltb (size - place) 4 (omega arith))
 

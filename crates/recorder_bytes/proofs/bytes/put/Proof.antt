@@ -1,4 +1,4 @@
--- `recorder::bytes::put` meets its contract: four stores, one behind the other.
+-- `recorder::bytes::put` meets its contract: four stores, one after the other.
 -- Assumes nothing.
 use borrow.Author.Needs.{needs}
 use mathlib.Core.Path.{_≡_}

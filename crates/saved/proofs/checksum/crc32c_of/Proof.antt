@@ -1,4 +1,4 @@
--- `saved::checksum::crc32c_of` meets its contract: after k turns, what is left of the first k bytes. Assumes nothing.
+-- `saved::checksum::crc32c_of` meets its contract: after k iterations, what is left of the first k bytes. Assumes nothing.
 use Prim.Native.Nat.{ℕ, _+_, _-_, _≤_, _<_}
 use mathlib.Core.Path.{_≡_, refl, sym, _∙_, ap}
 use mathlib.Core.List.{List}

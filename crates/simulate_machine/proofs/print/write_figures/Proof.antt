@@ -1,4 +1,4 @@
--- `simulate_machine::print::write_figures` meets its contract: its five lines stand one behind the other.
+-- `simulate_machine::print::write_figures` meets its contract: its five lines stand one after the other.
 -- Assumes nothing.
 use borrow.Author.Needs.{needs}
 use Prim.Native.Nat.{_≤_}
@@ -9,7 +9,7 @@ use Rattle.simulate_machine.specs.Text.{longestText, figuresText}
 use Rattle.simulate_machine.proofs.print.write_figures.Statement.{statement}
 use Rattle.simulate_machine.proofs.print.write_figures.Tie as tie
 
--- Behind each line: how far the text has come, and that the buffer is as long as it was.
+-- After each line: how far the text has come, and that the buffer is as long as it was.
 after-1 : (c : tie.After-write-figure) → (c .write-figure .result ≤ 52) × (longestText ≤ length (c .write-figure .last .0))
 after-1 c = (omega (arith, c .write-figure .ensures .1), omega (arith, c .write-figure .kept .0, c .before .before .before .before .before .pre))
 

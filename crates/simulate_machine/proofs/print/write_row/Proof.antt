@@ -1,4 +1,4 @@
--- `simulate_machine::print::write_row` meets its contract: its seven texts stand one behind the other.
+-- `simulate_machine::print::write_row` meets its contract: its seven texts stand one after the other.
 -- Assumes nothing.
 use borrow.Author.Needs.{needs}
 use Prim.Native.Nat.{_≤_}
@@ -10,7 +10,7 @@ use Rattle.simulate_machine.specs.Text.{longestText, rowText}
 use Rattle.simulate_machine.proofs.print.write_row.Statement.{statement}
 use Rattle.simulate_machine.proofs.print.write_row.Tie as tie
 
--- Behind each number: how far the row has come, and that the buffer is as long as it was.
+-- After each number: how far the row has come, and that the buffer is as long as it was.
 after-0 : (c : tie.After-write-number) → (c .write-number .result ≤ 20) × (longestText ≤ length (c .write-number .last .0))
 after-0 c = (omega (arith, c .write-number .ensures .next-place, twenty-digits (c .before .before .before .args .spacing)), omega (arith, c .write-number .kept .0, c .before .before .before .pre))
 
