@@ -80,15 +80,6 @@ refusing s l r = record { run = s; answer = Refused r; rose = 0; deleted = []; l
 abbrev writing : Run → ℕ → List ℕ → Outcome LineAnswer
 writing s F l = record { run = s; answer = Written; rose = 0; deleted = []; line = sets l 0 (lineOf s F) }
 
--- It leaves the state.
-pub same-run : (s : Run) (F : ℕ) (l : List ℕ) → lineOutcome s F l .run ≡ s
-unfolding lineOutcome
-same-run s F l = judged-run (lineRefusal s F l)
-  where
-    judged-run : (o : Option Refusal) → judged {A = Outcome LineAnswer} o (refusing s l) (writing s F l) .run ≡ s
-    judged-run none = refl
-    judged-run (some r) = refl
-
 -- A lent list that is too short is as it was.
 pub short-line : (c : Caller) (s : Run) (F : ℕ) (lent : List ℕ) → length lent < s .count → lineOutcome s F lent .line ≡ shown c (s .count) lent (lineOutcome s F lent .line)
 unfolding lineOutcome lineRefusal firstOf

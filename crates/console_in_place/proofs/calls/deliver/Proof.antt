@@ -10,20 +10,16 @@ use Rattle.console_in_place.proofs.calls.deliver.Tie as tie
 
 returns : tie.Need-returns
 returns c =
-    let d = c .before in
-    let a = d .before .before .before .before .args in
-    rw (deliver-denied (a .role) (a .owned) (runOf (a .w .now)) (a .m) (a .deleted .now) (d .is-message-denied .ensures) (c .if1 .taken))
+    let a = c .before .before .before .before .before .args in
+    rw (deliver-denied (a .role) (a .owned) (runOf (a .w .now)) (a .m) (a .deleted .now) (c .before .is-message-denied .ensures) (c .if1 .taken))
     (refl, (refl, (refl, (refl, (λ why q. refl, same-words (a .w .now))))))
 
 returns-2 : tie.Need-returns-2
 returns-2 c =
-    let t = c .before .before .before .before in
-    let e = t .before .before .before in
-    let d = e .before in
-    let a = d .before .before .before .before .args in
-    let g = t .deliver .ensures in
+    let a = c .before .before .before .before .before .before .before .before .before .before .before .before .args in
+    let g = c .before .before .before .before .deliver .ensures in
     let h = g .1 .1 .1 .1 in
-    rw (deliver-made (a .role) (a .owned) (runOf (a .w .now)) (a .m) (a .deleted .now) (d .is-message-denied .ensures) (e .if1 .left))
+    rw (deliver-made (a .role) (a .owned) (runOf (a .w .now)) (a .m) (a .deleted .now) (c .before .before .before .before .before .before .before .before .is-message-denied .ensures) (c .before .before .before .before .before .before .before .if1 .left))
     (g .0, (g .1 .0, (g .1 .1 .0, (g .1 .1 .1 .0, (h .0, h .1 .0)))))
 
 pub deliver-spec : {M : Type 1} → statement M

@@ -10,18 +10,14 @@ use Rattle.console_in_place.proofs.calls.earliest.Tie as tie
 
 returns : tie.Need-returns
 returns c =
-    let d = c .before in
-    let a = d .before .before .before .before .args in
-    rw (earliest-denied (a .role) (a .owned) (runOf (a .w .now)) (namedIn (a .named .now)) (a .line .now) (d .is-denied .ensures (a .owned)) (c .if1 .taken)) (refl, (refl, refl))
+    let a = c .before .before .before .before .before .args in
+    rw (earliest-denied (a .role) (a .owned) (runOf (a .w .now)) (namedIn (a .named .now)) (a .line .now) (c .before .is-denied .ensures (a .owned)) (c .if1 .taken)) (refl, (refl, refl))
 
 returns-2 : tie.Need-returns-2
 returns-2 c =
-    let t = c .before .before in
-    let e = t .before .before in
-    let d = e .before in
-    let a = d .before .before .before .before .args in
-    let g = t .earliest .ensures in
-    rw (earliest-made (a .role) (a .owned) (runOf (a .w .now)) (namedIn (a .named .now)) (a .line .now) (d .is-denied .ensures (a .owned)) (e .if1 .left)) (g .0, (g .1 .0, g .1 .1 .0))
+    let a = c .before .before .before .before .before .before .before .before .before .args in
+    let g = c .before .before .earliest .ensures in
+    rw (earliest-made (a .role) (a .owned) (runOf (a .w .now)) (namedIn (a .named .now)) (a .line .now) (c .before .before .before .before .before .is-denied .ensures (a .owned)) (c .before .before .before .before .if1 .left)) (g .0, (g .1 .0, g .1 .1 .0))
 
 pub earliest-spec : {M : Type 1} → statement M
 earliest-spec = tie.close (tie.spec (λ c κs. search needs) returns (λ c κs. search needs) (λ c. search needs) returns-2)

@@ -10,20 +10,16 @@ use Rattle.console_in_place.proofs.calls.recover.Tie as tie
 
 returns : tie.Need-returns
 returns c =
-    let d = c .before in
-    let a = d .before .before .before .before .args in
-    rw (recover-denied (a .role) (a .owned) (runOf (a .w .now)) (a .failed) (a .deleted .now) (a .line .now) (d .is-denied .ensures (a .owned)) (c .if1 .taken))
+    let a = c .before .before .before .before .before .args in
+    rw (recover-denied (a .role) (a .owned) (runOf (a .w .now)) (a .failed) (a .deleted .now) (a .line .now) (c .before .is-denied .ensures (a .owned)) (c .if1 .taken))
     (refl, (refl, (refl, (refl, (λ why q. refl, same-words (a .w .now))))))
 
 returns-2 : tie.Need-returns-2
 returns-2 c =
-    let t = c .before .before .before .before .before .before in
-    let e = t .before .before .before .before in
-    let d = e .before in
-    let a = d .before .before .before .before .args in
-    let g = t .recover .ensures in
+    let a = c .before .before .before .before .before .before .before .before .before .before .before .before .before .before .before .args in
+    let g = c .before .before .before .before .before .before .recover .ensures in
     let h = g .1 .1 .1 .1 in
-    rw (recover-made (a .role) (a .owned) (runOf (a .w .now)) (a .failed) (a .deleted .now) (a .line .now) (d .is-denied .ensures (a .owned)) (e .if1 .left))
+    rw (recover-made (a .role) (a .owned) (runOf (a .w .now)) (a .failed) (a .deleted .now) (a .line .now) (c .before .before .before .before .before .before .before .before .before .before .before .is-denied .ensures (a .owned)) (c .before .before .before .before .before .before .before .before .before .before .if1 .left))
     (g .0, (g .1 .0, (g .1 .1 .0, (g .1 .1 .1 .0, (h .0, h .1 .0)))))
 
 pub recover-spec : {M : Type 1} → statement M

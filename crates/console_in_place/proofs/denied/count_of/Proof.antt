@@ -28,16 +28,14 @@ returns c = unfit (c .before .before .before .args .w .now) _ (c .before .is-fit
 
 shared-slice-read-number-of : tie.Need-shared-slice-read-number-of
 shared-slice-read-number-of c =
-    let e = c .before in
-    let w = e .before .before .before .args .w .now in
-    let size = fits-size w (fit w _ (e .before .is-fit .ensures) (e .if1 .left)) in
+    let w = c .before .before .before .before .args .w .now in
+    let size = fits-size w (fit w _ (c .before .before .is-fit .ensures) (c .before .if1 .left)) in
     search needs
 
 returns-2 : tie.Need-returns-2
 returns-2 c =
-    let e = c .before .before in
-    let w = e .before .before .before .args .w .now in
-    c .number-of .ensures ∙ sym (count-is w (fit w _ (e .before .is-fit .ensures) (e .if1 .left)))
+    let w = c .before .before .before .before .before .args .w .now in
+    c .number-of .ensures ∙ sym (count-is w (fit w _ (c .before .before .before .is-fit .ensures) (c .before .before .if1 .left)))
 
 pub count-of-spec : {M : Type 1} → statement M
 count-of-spec = tie.close (tie.spec (λ c κs. search needs) returns shared-slice-read-number-of (λ c κs. search needs) returns-2)

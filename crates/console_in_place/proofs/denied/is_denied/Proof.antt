@@ -15,8 +15,7 @@ returns c owned = rw (sym (c .before .before .claim-of .ensures), c .enum-told .
 returns-2 : tie.Need-returns-2
 unfolding deniedAs denied
 returns-2 c owned =
-    let k = c .before .before in
-    rw (sym (k .before .before .claim-of .ensures), k .claim .given .1) (ap not (c .may .ensures))
+    rw (sym (c .before .before .before .before .claim-of .ensures), c .before .before .claim .given .1) (ap not (c .may .ensures))
 
 pub is-denied-spec : {M : Type 1} → statement M
 is-denied-spec = tie.close (tie.spec (λ c κs. search needs) (λ c. search needs) (λ c. search needs) (λ c κs. search needs) returns returns-2)

@@ -32,25 +32,19 @@ module _ (w : List ℕ) where
 
 returns-2 : tie.Need-returns-2
 returns-2 c =
-    let n = c .before in
-    let l = n .before .before in
-    let w = l .before .before .args .w .now in
-    past w (l .if1 .left) (omega (arith, c .if2 .taken, n .number-of .ensures))
+    let w = c .before .before .before .before .before .args .w .now in
+    past w (c .before .before .before .if1 .left) (omega (arith, c .if2 .taken, c .before .number-of .ensures))
 
 returns-3 : tie.Need-returns-3
 returns-3 c =
-    let n = c .before .before in
-    let l = n .before .before in
-    let w = l .before .before .args .w .now in
-    empty w (l .if1 .left) (sym (n .number-of .ensures) ∙ c .if3 .taken)
+    let w = c .before .before .before .before .before .before .args .w .now in
+    empty w (c .before .before .before .before .if1 .left) (sym (c .before .before .number-of .ensures) ∙ c .if3 .taken)
 
 returns-4 : tie.Need-returns-4
 returns-4 c =
-    let x = c .before in
-    let n = x .before .before in
-    let l = n .before .before in
-    let w = l .before .before .args .w .now in
-    used w (l .if1 .left) (omega (arith, x .before .if2 .left, n .number-of .ensures)) (λ z. x .if3 .left (n .number-of .ensures ∙ z)) _ (rw (n .number-of .ensures) at (c .is-used .ensures))
+    let n = c .before .before .before in
+    let w = n .before .before .before .before .args .w .now in
+    used w (n .before .before .if1 .left) (omega (arith, c .before .before .if2 .left, n .number-of .ensures)) (λ z. c .before .if3 .left (n .number-of .ensures ∙ z)) _ (rw (n .number-of .ensures) at (c .is-used .ensures))
 
 pub is-fit-spec : {M : Type 1} → statement M
 is-fit-spec =

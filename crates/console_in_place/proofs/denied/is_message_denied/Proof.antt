@@ -14,9 +14,7 @@ returns c = rw (sym (c .before .before .claim-of .ensures), c .enum-told .given 
 returns-2 : tie.Need-returns-2
 unfolding deniedAs deniedMessage entitledMessage
 returns-2 c =
-    let m = c .before in
-    let k = m .before .before in
-    rw (sym (k .before .before .claim-of .ensures), k .claim .given .1, c .is-message-entitled .ensures, m .may .ensures) refl
+    rw (sym (c .before .before .before .before .before .claim-of .ensures), c .before .before .before .claim .given .1, c .is-message-entitled .ensures, c .before .may .ensures) refl
 
 pub is-message-denied-spec : {M : Type 1} → statement M
 is-message-denied-spec =

@@ -11,12 +11,8 @@ use Rattle.console_in_place.proofs.denied.is_message_entitled.Tie as ti
 
 returns-2 : tie.Need-returns-2
 returns-2 c =
-    let o = c .before in
-    let r = o .before in
-    let n = r .before in
-    let t = n .before in
-    let a = t .before .before .before .args in
-    rw (t .enum-told2 .given .1) (reaches-own (a .owned) (runOf (a .w .now) .count) (found (runOf (a .w .now)) (a .m)) _ _ (r .receiver-of .ensures) (rw (n .count-of .ensures) at (o .is-own .ensures)))
+    let a = c .before .before .before .before .before .before .before .args in
+    rw (c .before .before .before .before .enum-told2 .given .1) (reaches-own (a .owned) (runOf (a .w .now) .count) (found (runOf (a .w .now)) (a .m)) _ _ (c .before .before .receiver-of .ensures) (rw (c .before .before .before .count-of .ensures) at (c .before .is-own .ensures)))
 
 pub is-message-entitled-spec : {M : Type 1} → statement M
 unfolding entitledMessageBy

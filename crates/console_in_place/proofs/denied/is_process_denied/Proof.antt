@@ -14,10 +14,7 @@ returns c = rw (sym (c .before .before .claim-of .ensures), c .enum-told .given 
 returns-2 : tie.Need-returns-2
 unfolding deniedAs deniedProcess entitled
 returns-2 c =
-    let m = c .before in
-    let k = m .before .before in
-    let q = k .before .before in
-    rw (sym (q .claim-of .ensures), k .claim .given .1, sym (q .before .count-of .ensures), c .is-entitled .ensures, m .may .ensures) refl
+    rw (sym (c .before .before .before .before .before .claim-of .ensures), c .before .before .before .claim .given .1, sym (c .before .before .before .before .before .before .count-of .ensures), c .is-entitled .ensures, c .before .may .ensures) refl
 
 pub is-process-denied-spec : {M : Type 1} → statement M
 is-process-denied-spec =

@@ -16,68 +16,41 @@ use Rattle.console_in_place.proofs.list.list_as.Tie as tie
 
 returns : tie.Need-returns
 returns c =
-    let d = c .before in
-    let a = d .before .before .before .args in
-    list-denied (a .role) (a .owned) (a .w .now) (a .deleted .now) (d .may .ensures) (c .if1 .taken)
+    let a = c .before .before .before .before .args in
+    list-denied (a .role) (a .owned) (a .w .now) (a .deleted .now) (c .before .may .ensures) (c .if1 .taken)
 
 returns-2 : tie.Need-returns-2
 returns-2 c =
-    let q = c .before in
-    let e = q .before in
-    let d = e .before in
-    let a = d .before .before .before .args in
-    list-unsound (a .role) (a .owned) (a .w .now) (a .deleted .now) (d .may .ensures) (e .if1 .left) (is-unsound (runOf (a .w .now)) (q .is-sound .ensures) (c .if2 .taken))
+    let a = c .before .before .before .before .before .before .args in
+    list-unsound (a .role) (a .owned) (a .w .now) (a .deleted .now) (c .before .before .before .may .ensures) (c .before .before .if1 .left) (is-unsound (runOf (a .w .now)) (c .before .is-sound .ensures) (c .if2 .taken))
 
 shared-slice-read-number-of : tie.Need-shared-slice-read-number-of
 shared-slice-read-number-of c =
-    let f = c .before in
-    let q = f .before in
-    let w = q .before .before .before .before .before .args .w .now in
-    let size = sound-words w (is-sound (runOf w) (q .is-sound .ensures) (f .if2 .left)) .size in
+    let w = c .before .before .before .before .before .before .before .args .w .now in
+    let size = sound-words w (is-sound (runOf w) (c .before .before .is-sound .ensures) (c .before .if2 .left)) .size in
     search needs
 
 are-deletions-short-requires : tie.Need-are-deletions-short-requires
 are-deletions-short-requires c κs =
-    let f = c .before .before in
-    let q = f .before in
-    let w = q .before .before .before .before .before .args .w .now in
-    omega (arith, c .number-of .ensures, sound-words w (is-sound (runOf w) (q .is-sound .ensures) (f .if2 .left)) .few)
+    let w = c .before .before .before .before .before .before .before .before .args .w .now in
+    omega (arith, c .number-of .ensures, sound-words w (is-sound (runOf w) (c .before .before .before .is-sound .ensures) (c .before .before .if2 .left)) .few)
 
 returns-3 : tie.Need-returns-3
 returns-3 c =
-    let sh = c .before in
-    let n = sh .before in
-    let f = n .before .before in
-    let q = f .before in
-    let e = q .before in
-    let d = e .before in
-    let a = d .before .before .before .args in
-    list-short (a .role) (a .owned) (a .w .now) (a .deleted .now) (d .may .ensures) (e .if1 .left) (is-sound (runOf (a .w .now)) (q .is-sound .ensures) (f .if2 .left))
-    (sym (rw (n .number-of .ensures) at (sh .are-deletions-short .ensures)) ∙ c .if3 .taken)
+    let a = c .before .before .before .before .before .before .before .before .before .before .args in
+    list-short (a .role) (a .owned) (a .w .now) (a .deleted .now) (c .before .before .before .before .before .before .before .may .ensures) (c .before .before .before .before .before .before .if1 .left) (is-sound (runOf (a .w .now)) (c .before .before .before .before .before .is-sound .ensures) (c .before .before .before .before .if2 .left))
+    (sym (rw (c .before .before .number-of .ensures) at (c .before .are-deletions-short .ensures)) ∙ c .if3 .taken)
 
 write-list-requires : tie.Need-write-list-requires
 write-list-requires c κs =
-    let x = c .before in
-    let sh = x .before in
-    let n = sh .before in
-    let f = n .before .before in
-    let q = f .before in
-    let w = q .before .before .before .before .before .args .w .now in
-    (is-sound (runOf w) (q .is-sound .ensures) (f .if2 .left), n .number-of .ensures, ltb-false _ _ (sym (sh .are-deletions-short .ensures) ∙ x .if3 .left))
+    let w = c .before .before .before .before .before .before .before .before .before .before .before .args .w .now in
+    (is-sound (runOf w) (c .before .before .before .before .before .before .is-sound .ensures) (c .before .before .before .before .before .if2 .left), c .before .before .before .number-of .ensures, ltb-false _ _ (sym (c .before .before .are-deletions-short .ensures) ∙ c .before .if3 .left))
 
 returns-4 : tie.Need-returns-4
 returns-4 c =
-    let v = c .before .before in
-    let x = v .before .before in
-    let sh = x .before in
-    let n = sh .before in
-    let f = n .before .before in
-    let q = f .before in
-    let e = q .before in
-    let d = e .before in
-    let a = d .before .before .before .args in
-    list-made (a .role) (a .owned) (a .w .now) (a .deleted .now) (d .may .ensures) (e .if1 .left) (is-sound (runOf (a .w .now)) (q .is-sound .ensures) (f .if2 .left))
-    (sym (rw (n .number-of .ensures) at (sh .are-deletions-short .ensures)) ∙ x .if3 .left) _ _ (v .write-list .ensures .0) (v .write-list .ensures .1)
+    let a = c .before .before .before .before .before .before .before .before .before .before .before .before .before .before .args in
+    list-made (a .role) (a .owned) (a .w .now) (a .deleted .now) (c .before .before .before .before .before .before .before .before .before .before .before .may .ensures) (c .before .before .before .before .before .before .before .before .before .before .if1 .left) (is-sound (runOf (a .w .now)) (c .before .before .before .before .before .before .before .before .before .is-sound .ensures) (c .before .before .before .before .before .before .before .before .if2 .left))
+    (sym (rw (c .before .before .before .before .before .before .number-of .ensures) at (c .before .before .before .before .before .are-deletions-short .ensures)) ∙ c .before .before .before .before .if3 .left) _ _ (c .before .before .write-list .ensures .0) (c .before .before .write-list .ensures .1)
 
 pub list-as-spec : {M : Type 1} → statement M
 list-as-spec =

@@ -32,11 +32,9 @@ write-pair-requires c κs =
 
 loop-again : tie.Need-loop-again Inv-loop μ-loop
 loop-again c =
-    let t = c .before .before in
-    let i = t .before .before in
-    let l = i .before .loop in
-    let a = i .before .before .before .before .args in
-    (search needs, t .write-pair .kept .1 .1 .1 .0 ∙ l .inv .1, t .write-pair .ensures ∙ one-written (a .p) (checkpointIn (a .w .now) (a .p)) (a .deleted .now) (l .deleted) (a .at) (l .k) (l .inv .2))
+    let l = c .before .before .before .before .before .loop in
+    let a = c .before .before .before .before .before .before .before .before .args in
+    (search needs, c .before .before .write-pair .kept .1 .1 .1 .0 ∙ l .inv .1, c .before .before .write-pair .ensures ∙ one-written (a .p) (checkpointIn (a .w .now) (a .p)) (a .deleted .now) (l .deleted) (a .at) (l .k) (l .inv .2))
 
 returns : tie.Need-returns Inv-loop μ-loop
 returns c =

@@ -22,12 +22,11 @@ loop-holds c = let a = c .before .before .args in none-listed (a .role) (a .owne
 
 write-part-requires : tie.Need-write-part-requires Inv-loop μ-loop
 write-part-requires c κs =
-    let i = c .before in
-    let l = i .before .loop in
-    let s = i .before .before .before .before in
+    let l = c .before .before .loop in
+    let s = c .before .before .before .before .before in
     let a = s .args in
     let h = sound-words (a .w .now) (s .pre .0) in
-    let below : l .p < countOf (a .w .now) = omega (arith, i .loop-test .taken, s .pre .1) in
+    let below : l .p < countOf (a .w .now) = omega (arith, c .before .loop-test .taken, s .pre .1) in
     let most = h .parts (l .p) below .held-most in
     let size : 2 * countOf (a .w .now) * countOf (a .w .now) ≤ length (a .deleted .now) = rw (s .pre .1) at (s .pre .2) in (
       s .pre .0,
@@ -38,25 +37,20 @@ write-part-requires c κs =
 
 add-count : tie.Need-add-count Inv-loop μ-loop
 add-count c =
-    let t = c .before .before in
-    let i = t .before .before in
-    let l = i .before .loop in
-    let s = i .before .before .before .before in
-    let a = s .args in
-    let h = sound-words (a .w .now) (s .pre .0) in
-    let below : l .p < countOf (a .w .now) = omega (arith, i .loop-test .taken, s .pre .1) in
-    let few = sum-few (a .role) (a .owned) (countOf (a .w .now)) (a .w .now) (a .deleted .now) (l .deleted) (l .count) (l .p) (l .inv) (h .few) below (h .parts (l .p) below .held-most) _ (t .write-part .ensures .0) in
+    let l = c .before .before .before .before .before .loop in
+    let a = c .before .before .before .before .before .before .before .before .args in
+    let h = sound-words (a .w .now) (c .before .before .before .before .before .before .before .before .pre .0) in
+    let below : l .p < countOf (a .w .now) = omega (arith, c .before .before .before .before .loop-test .taken, c .before .before .before .before .before .before .before .before .pre .1) in
+    let few = sum-few (a .role) (a .owned) (countOf (a .w .now)) (a .w .now) (a .deleted .now) (l .deleted) (l .count) (l .p) (l .inv) (h .few) below (h .parts (l .p) below .held-most) _ (c .before .before .write-part .ensures .0) in
     search needs
 
 loop-again : tie.Need-loop-again Inv-loop μ-loop
 loop-again c =
     let t = c .before .before in
-    let i = t .before .before in
-    let l = i .before .loop in
-    let s = i .before .before .before .before in
-    let a = s .args in
-    let h = sound-words (a .w .now) (s .pre .0) in
-    let below : l .p < countOf (a .w .now) = omega (arith, i .loop-test .taken, s .pre .1) in
+    let l = t .before .before .before .loop in
+    let a = t .before .before .before .before .before .before .args in
+    let h = sound-words (a .w .now) (t .before .before .before .before .before .before .pre .0) in
+    let below : l .p < countOf (a .w .now) = omega (arith, t .before .before .loop-test .taken, t .before .before .before .before .before .before .pre .1) in
     let most = h .parts (l .p) below .held-most in
     one-listed (a .role) (a .owned) (countOf (a .w .now)) (a .w .now) (a .deleted .now) (l .deleted) (l .count) (l .p) (l .inv) (h .few) below most _ _
     (t .write-part .ensures .0) (t .write-part .ensures .1) (t .write-part .kept .1 .1 .1 .1 .0)
@@ -64,9 +58,8 @@ loop-again c =
 returns : tie.Need-returns Inv-loop μ-loop
 returns c =
     let l = c .before .loop in
-    let s = c .before .before .before .before in
-    let a = s .args in
-    all-listed (a .role) (a .owned) (countOf (a .w .now)) (a .w .now) (a .deleted .now) (l .deleted) (l .count) (l .p) (omega (arith, l .inv .within, c .loop-test .left, s .pre .1)) (l .inv)
+    let a = c .before .before .before .before .args in
+    all-listed (a .role) (a .owned) (countOf (a .w .now)) (a .w .now) (a .deleted .now) (l .deleted) (l .count) (l .p) (omega (arith, l .inv .within, c .loop-test .left, c .before .before .before .before .pre .1)) (l .inv)
 
 pub write-list-spec : {M : Type 1} → statement M
 write-list-spec =

@@ -18,8 +18,7 @@ index-of-requires c κs = rw (c .before .index-at .ensures) (c .before .before .
 
 slice-write-deleted-2 : tie.Need-slice-write-deleted-2
 slice-write-deleted-2 c =
-    let s = c .before .before .before .before .before in
-    rw (length-set {A = ℕ}) (omega (arith, s .pre .4))
+    rw (length-set {A = ℕ}) (omega (arith, c .before .before .before .before .before .pre .4))
 
 two : (w l : List ℕ) (at p k x : ℕ) → x ≡ indexOf (word w (indexAt p k)) .0 → set (set l at p) (at + 1) x ≡ sets l at (p ∷ checkpointIn w p k .index .0 ∷ [])
 unfolding checkpointIn
@@ -27,9 +26,8 @@ two w l at p k x e = rw (add-one at, e) refl
 
 returns : tie.Need-returns
 returns c =
-    let i = c .before .before in
-    let a = i .before .before .before .args in
-    two (a .w .now) (a .deleted .now) (a .at) (a .p) (a .k) _ (ap (λ (j : CheckpointIndex). j .0) (c .index-of .ensures ∙ ap (λ (q : ℕ). indexOf (word (a .w .now) q)) (i .index-at .ensures)))
+    let a = c .before .before .before .before .before .args in
+    two (a .w .now) (a .deleted .now) (a .at) (a .p) (a .k) _ (ap (λ (j : CheckpointIndex). j .0) (c .index-of .ensures ∙ ap (λ (q : ℕ). indexOf (word (a .w .now) q)) (c .before .before .index-at .ensures)))
 
 pub write-pair-spec : {M : Type 1} → statement M
 write-pair-spec =

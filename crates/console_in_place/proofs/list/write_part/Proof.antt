@@ -14,43 +14,34 @@ use Rattle.console_in_place.proofs.list.write_part.Tie as tie
 
 shared-slice-read-number-of : tie.Need-shared-slice-read-number-of
 shared-slice-read-number-of c =
-    let s = c .before .before .before in
-    let size = sound-words (s .args .w .now) (s .pre .0) .size in
+    let size = sound-words (c .before .before .before .args .w .now) (c .before .before .before .pre .0) .size in
     search needs
 
 returns : tie.Need-returns
 returns c =
-    let e = c .before in
-    let n = e .before in
-    let s = n .before .before .before .before in
-    let a = s .args in
-    unseen (a .role) (a .owned) _ (a .w .now) (a .p) (a .deleted .now) _ (sym (rw (n .number-of .ensures) at (e .is-entitled .ensures)) ∙ not-true _ (c .if1 .taken))
+    let a = c .before .before .before .before .before .before .args in
+    unseen (a .role) (a .owned) _ (a .w .now) (a .p) (a .deleted .now) _ (sym (rw (c .before .before .number-of .ensures) at (c .before .is-entitled .ensures)) ∙ not-true _ (c .if1 .taken))
 
 held-at-requires : tie.Need-held-at-requires
 held-at-requires c κs =
-    let s = c .before .before .before .before .before .before in
-    omega (arith, s .pre .1, sound-words (s .args .w .now) (s .pre .0) .few)
+    omega (arith, c .before .before .before .before .before .before .pre .1, sound-words (c .before .before .before .before .before .before .args .w .now) (c .before .before .before .before .before .before .pre .0) .few)
 
 mul-number-of : tie.Need-mul-number-of
 mul-number-of c =
-    let s = c .before .before .before .before .before .before .before in
-    let h = sound-words (s .args .w .now) (s .pre .0) in
-    omega (arith, c .held-at .ensures, s .pre .1, h .few)
+    let h = sound-words (c .before .before .before .before .before .before .before .args .w .now) (c .before .before .before .before .before .before .before .pre .0) in
+    omega (arith, c .held-at .ensures, c .before .before .before .before .before .before .before .pre .1, h .few)
 
 shared-slice-read-number-of-2 : tie.Need-shared-slice-read-number-of-2
 shared-slice-read-number-of-2 c =
-    let s = c .before .before .before .before .before .before .before .before in
-    let h = sound-words (s .args .w .now) (s .pre .0) in
-    omega (arith, c .before .held-at .ensures, s .pre .1, h .few, h .size)
+    let h = sound-words (c .before .before .before .before .before .before .before .before .args .w .now) (c .before .before .before .before .before .before .before .before .pre .0) in
+    omega (arith, c .before .held-at .ensures, c .before .before .before .before .before .before .before .before .pre .1, h .few, h .size)
 
 write-kept-requires : tie.Need-write-kept-requires
 write-kept-requires c κs =
-    let m = c .before in
-    let h = m .before .before in
-    let s = h .before .before .before .before .before .before .before in
+    let s = c .before .before .before .before .before .before .before .before .before .before in
     let known = sound-words (s .args .w .now) (s .pre .0) in
     let part = known .parts (s .args .p) (s .pre .1) in
-    let held = m .number-of2 .ensures ∙ ap (word (s .args .w .now)) (h .held-at .ensures) in (
+    let held = c .before .number-of2 .ensures ∙ ap (word (s .args .w .now)) (c .before .before .before .held-at .ensures) in (
       known .size,
       omega (arith, s .pre .1, known .few),
       omega (arith, held, part .held-most, known .few),
@@ -60,14 +51,9 @@ write-kept-requires c κs =
 
 returns-2 : tie.Need-returns-2
 returns-2 c =
-    let k = c .before .before in
-    let m = k .before .before in
-    let h = m .before .before in
-    let e = h .before in
-    let n = e .before .before in
-    let a = n .before .before .before .before .args in
-    let held = m .number-of2 .ensures ∙ ap (word (a .w .now)) (h .held-at .ensures) in
-    let g = seen (a .role) (a .owned) _ (a .w .now) (a .p) (a .deleted .now) _ _ (sym (rw (n .number-of .ensures) at (e .before .is-entitled .ensures)) ∙ not-false _ (e .if1 .left)) (rw held at (k .write-kept .ensures)) in
+    let a = c .before .before .before .before .before .before .before .before .before .before .before .before .before .args in
+    let held = c .before .before .before .before .number-of2 .ensures ∙ ap (word (a .w .now)) (c .before .before .before .before .before .before .held-at .ensures) in
+    let g = seen (a .role) (a .owned) _ (a .w .now) (a .p) (a .deleted .now) _ _ (sym (rw (c .before .before .before .before .before .before .before .before .before .number-of .ensures) at (c .before .before .before .before .before .before .before .before .is-entitled .ensures)) ∙ not-false _ (c .before .before .before .before .before .before .before .if1 .left)) (rw held at (c .before .before .write-kept .ensures)) in
     (held ∙ g .0, g .1)
 
 pub write-part-spec : {M : Type 1} → statement M

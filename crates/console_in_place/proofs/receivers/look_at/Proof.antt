@@ -13,44 +13,33 @@ use Rattle.console_in_place.proofs.receivers.look_at.Tie as tie
 
 returns : tie.Need-returns
 returns c =
-    let x = c .before in
-    let s = x .before .before in
-    let a = s .args in
-    one-unused (a .w .now) (a .m) (a .k) (a .before) (s .pre .3) (sym (x .number-at .ensures) ∙ c .if1 .taken)
+    let a = c .before .before .before .args in
+    one-unused (a .w .now) (a .m) (a .k) (a .before) (c .before .before .before .pre .3) (sym (c .before .number-at .ensures) ∙ c .if1 .taken)
 
 add-t12 : tie.Need-add-t12
 add-t12 c =
-    let s = c .before .before .before .before .before .before in
-    let a = s .args in
-    let few = room-for-one (a .w .now) (a .m) (a .k) (a .before) (s .pre .3) in
+    let a = c .before .before .before .before .before .before .args in
+    let few = room-for-one (a .w .now) (a .m) (a .k) (a .before) (c .before .before .before .before .before .before .pre .3) in
     search needs
 
 returns-2 : tie.Need-returns-2
 returns-2 c =
-    let t = c .before .before in
-    let e = t .before in
-    let x = e .before in
-    let s = x .before .before in
-    let a = s .args in
-    one-has (a .w .now) (a .m) (a .k) (a .before) (s .pre .3) (λ z. e .if1 .left (x .number-at .ensures ∙ z))
-    (rw (x .number-at .ensures, s .pre .2) at (t .if2 .taken))
+    let a = c .before .before .before .before .before .before .args in
+    one-has (a .w .now) (a .m) (a .k) (a .before) (c .before .before .before .before .before .before .pre .3) (λ z. c .before .before .before .if1 .left (c .before .before .before .before .number-at .ensures ∙ z))
+    (rw (c .before .before .before .before .number-at .ensures, c .before .before .before .before .before .before .pre .2) at (c .before .before .if2 .taken))
     (c .number-of .ensures ∙ sym (receiver-word (a .w .now) (a .k)))
 
 add-t16 : tie.Need-add-t16
 add-t16 c =
-    let s = c .before .before .before .before in
-    let a = s .args in
-    let few = room-for-one (a .w .now) (a .m) (a .k) (a .before) (s .pre .3) in
+    let a = c .before .before .before .before .args in
+    let few = room-for-one (a .w .now) (a .m) (a .k) (a .before) (c .before .before .before .before .pre .3) in
     search needs
 
 returns-3 : tie.Need-returns-3
 returns-3 c =
-    let e = c .before in
-    let x = e .before in
-    let s = x .before .before in
-    let a = s .args in
-    one-other (a .w .now) (a .m) (a .k) (a .before) (s .pre .3) (λ z. e .if1 .left (x .number-at .ensures ∙ z))
-    (rw (x .number-at .ensures, s .pre .2) at (c .if2 .left))
+    let a = c .before .before .before .before .args in
+    one-other (a .w .now) (a .m) (a .k) (a .before) (c .before .before .before .before .pre .3) (λ z. c .before .if1 .left (c .before .before .number-at .ensures ∙ z))
+    (rw (c .before .before .number-at .ensures, c .before .before .before .before .pre .2) at (c .if2 .left))
 
 pub look-at-spec : {M : Type 1} → statement M
 look-at-spec =

@@ -20,26 +20,18 @@ shared-slice-read-number-of-2 c = let s = c .before .before .before .before in l
 
 search-requires : tie.Need-search-requires
 search-requires c κs =
-    let many = c .before .before in
-    let s = many .before .before .before in
-    let w = s .args .w .now in
-    (fits-size w (s .pre), omega (arith, c .number-of2 .ensures, end-most w (fits-end w (s .pre))), many .number-of .ensures)
+    let w = c .before .before .before .before .before .args .w .now in
+    (fits-size w (c .before .before .before .before .before .pre), omega (arith, c .number-of2 .ensures, end-most w (fits-end w (c .before .before .before .before .before .pre))), c .before .before .number-of .ensures)
 
 returns : tie.Need-returns
 returns c =
-    let r = c .before in
-    let e = r .before in
-    let many = e .before .before in
-    let a = many .before .before .before .args in
-    zeros-said (a .w .now) (a .m) _ (rw (e .number-of2 .ensures) at (r .search .ensures)) (rw (many .number-of .ensures) at (c .if1 .taken))
+    let a = c .before .before .before .before .before .before .before .args in
+    zeros-said (a .w .now) (a .m) _ (rw (c .before .before .number-of2 .ensures) at (c .before .search .ensures)) (rw (c .before .before .before .before .number-of .ensures) at (c .if1 .taken))
 
 returns-2 : tie.Need-returns-2
 returns-2 c =
-    let r = c .before in
-    let e = r .before in
-    let many = e .before .before in
-    let a = many .before .before .before .args in
-    as-searched (a .w .now) (a .m) _ (rw (e .number-of2 .ensures) at (r .search .ensures)) (rw (many .number-of .ensures) at (c .if1 .left))
+    let a = c .before .before .before .before .before .before .before .args in
+    as-searched (a .w .now) (a .m) _ (rw (c .before .before .number-of2 .ensures) at (c .before .search .ensures)) (rw (c .before .before .before .before .number-of .ensures) at (c .if1 .left))
 
 pub receiver-in-spec : {M : Type 1} → statement M
 receiver-in-spec =

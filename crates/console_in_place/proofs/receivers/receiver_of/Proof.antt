@@ -11,19 +11,16 @@ use Rattle.console_in_place.proofs.receivers.receiver_of.Tie as tie
 returns : tie.Need-returns
 unfolding receiverIs
 returns c =
-    let f = c .before in
-    let a = f .before .before .args in
-    rw (found-nothing (a .w .now) (a .m) (sym (f .is-fit .ensures) ∙ not-true _ (c .if1 .taken)))
+    let a = c .before .before .before .args in
+    rw (found-nothing (a .w .now) (a .m) (sym (c .before .is-fit .ensures) ∙ not-true _ (c .if1 .taken)))
 
 receiver-in-requires : tie.Need-receiver-in-requires
 receiver-in-requires c κs = sym (c .before .is-fit .ensures) ∙ not-false _ (c .if1 .left)
 
 returns-2 : tie.Need-returns-2
 returns-2 c =
-    let e = c .before in
-    let f = e .before in
-    let a = f .before .before .args in
-    c .receiver-in .ensures ∙ ap receiverIs (sym (found-in (a .w .now) (a .m) (sym (f .is-fit .ensures) ∙ not-false _ (e .if1 .left))))
+    let a = c .before .before .before .before .args in
+    c .receiver-in .ensures ∙ ap receiverIs (sym (found-in (a .w .now) (a .m) (sym (c .before .before .is-fit .ensures) ∙ not-false _ (c .before .if1 .left))))
 
 pub receiver-of-spec : {M : Type 1} → statement M
 receiver-of-spec = tie.close (tie.spec (λ c κs. search needs) returns receiver-in-requires returns-2)

@@ -21,8 +21,7 @@ loop-holds c = let a = c .before .args in (search needs, none-searched (a .w .no
 look-at-requires : tie.Need-look-at-requires Inv-loop μ-loop
 look-at-requires c κs =
     let l = c .before .loop in
-    let s = c .before .before .before in
-    (s .pre .0, omega (arith, c .loop-test .taken, s .pre .1), s .pre .2, l .inv .1)
+    (c .before .before .before .pre .0, omega (arith, c .loop-test .taken, c .before .before .before .pre .1), c .before .before .before .pre .2, l .inv .1)
 
 returns : tie.Need-returns Inv-loop μ-loop
 returns c =

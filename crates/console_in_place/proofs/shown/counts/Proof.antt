@@ -20,55 +20,32 @@ use Rattle.console_in_place.proofs.shown.counts.Tie as tie
 
 returns : tie.Need-returns
 returns c =
-    let d = c .before in
-    let a = d .before .before .before .args in
-    counts-denied (a .role) (a .owned) (a .w .now) (a .line .now) (d .is-denied .ensures (a .owned)) (c .if1 .taken)
+    let a = c .before .before .before .before .args in
+    counts-denied (a .role) (a .owned) (a .w .now) (a .line .now) (c .before .is-denied .ensures (a .owned)) (c .if1 .taken)
 
 returns-2 : tie.Need-returns-2
 returns-2 c =
-    let q = c .before in
-    let e = q .before in
-    let d = e .before in
-    let a = d .before .before .before .args in
-    counts-unsound (a .role) (a .owned) (a .w .now) (a .line .now) (d .is-denied .ensures (a .owned)) (e .if1 .left) (is-unsound (runOf (a .w .now)) (q .is-sound .ensures) (c .if2 .taken))
+    let a = c .before .before .before .before .before .before .args in
+    counts-unsound (a .role) (a .owned) (a .w .now) (a .line .now) (c .before .before .before .is-denied .ensures (a .owned)) (c .before .before .if1 .left) (is-unsound (runOf (a .w .now)) (c .before .is-sound .ensures) (c .if2 .taken))
 
 returns-3 : tie.Need-returns-3
 returns-3 c =
-    let sh = c .before in
-    let k = sh .before in
-    let f = k .before in
-    let q = f .before in
-    let e = q .before in
-    let d = e .before in
-    let a = d .before .before .before .args in
-    counts-short (a .role) (a .owned) (a .w .now) (a .line .now) (d .is-denied .ensures (a .owned)) (e .if1 .left) (is-sound (runOf (a .w .now)) (q .is-sound .ensures) (f .if2 .left))
-    (ap (λ (j : ℕ). ltb (length (a .line .now)) j) (sym (k .count-of .ensures)) ∙ sym (sh .is-line-short .ensures) ∙ c .if3 .taken)
+    let a = c .before .before .before .before .before .before .before .before .before .args in
+    counts-short (a .role) (a .owned) (a .w .now) (a .line .now) (c .before .before .before .before .before .before .is-denied .ensures (a .owned)) (c .before .before .before .before .before .if1 .left) (is-sound (runOf (a .w .now)) (c .before .before .before .before .is-sound .ensures) (c .before .before .before .if2 .left))
+    (ap (λ (j : ℕ). ltb (length (a .line .now)) j) (sym (c .before .before .count-of .ensures)) ∙ sym (c .before .is-line-short .ensures) ∙ c .if3 .taken)
 
 copy-words-requires : tie.Need-copy-words-requires
 copy-words-requires c κs =
-    let x = c .before in
-    let sh = x .before in
-    let k = sh .before in
-    let f = k .before in
-    let q = f .before in
-    let a = q .before .before .before .before .before .args in
-    let known = sound-words (a .w .now) (is-sound (runOf (a .w .now)) (q .is-sound .ensures) (f .if2 .left)) in
-    (omega (arith, known .size, known .few, count-is (a .w .now) (known .fit), k .count-of .ensures), ltb-false _ _ (sym (sh .is-line-short .ensures) ∙ x .if3 .left))
+    let a = c .before .before .before .before .before .before .before .before .before .before .args in
+    let known = sound-words (a .w .now) (is-sound (runOf (a .w .now)) (c .before .before .before .before .before .is-sound .ensures) (c .before .before .before .before .if2 .left)) in
+    (omega (arith, known .size, known .few, count-is (a .w .now) (known .fit), c .before .before .before .count-of .ensures), ltb-false _ _ (sym (c .before .before .is-line-short .ensures) ∙ c .before .if3 .left))
 
 returns-4 : tie.Need-returns-4
 returns-4 c =
-    let v = c .before .before in
-    let x = v .before .before in
-    let sh = x .before in
-    let k = sh .before in
-    let f = k .before in
-    let q = f .before in
-    let e = q .before in
-    let d = e .before in
-    let a = d .before .before .before .args in
-    counts-written (a .role) (a .owned) (a .w .now) (a .line .now) (d .is-denied .ensures (a .owned)) (e .if1 .left) (is-sound (runOf (a .w .now)) (q .is-sound .ensures) (f .if2 .left))
-    (ap (λ (j : ℕ). ltb (length (a .line .now)) j) (sym (k .count-of .ensures)) ∙ sym (sh .is-line-short .ensures) ∙ x .if3 .left) _
-    (v .copy-words .ensures ∙ ap (λ (j : ℕ). sets (a .line .now) 0 (wordsFrom (a .w .now) 16 j)) (k .count-of .ensures))
+    let a = c .before .before .before .before .before .before .before .before .before .before .before .before .before .args in
+    counts-written (a .role) (a .owned) (a .w .now) (a .line .now) (c .before .before .before .before .before .before .before .before .before .before .is-denied .ensures (a .owned)) (c .before .before .before .before .before .before .before .before .before .if1 .left) (is-sound (runOf (a .w .now)) (c .before .before .before .before .before .before .before .before .is-sound .ensures) (c .before .before .before .before .before .before .before .if2 .left))
+    (ap (λ (j : ℕ). ltb (length (a .line .now)) j) (sym (c .before .before .before .before .before .before .count-of .ensures)) ∙ sym (c .before .before .before .before .before .is-line-short .ensures) ∙ c .before .before .before .before .if3 .left) _
+    (c .before .before .copy-words .ensures ∙ ap (λ (j : ℕ). sets (a .line .now) 0 (wordsFrom (a .w .now) 16 j)) (c .before .before .before .before .before .before .count-of .ensures))
 
 pub counts-spec : {M : Type 1} → statement M
 counts-spec =

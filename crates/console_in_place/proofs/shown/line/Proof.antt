@@ -9,18 +9,14 @@ use Rattle.console_in_place.proofs.shown.line.Tie as tie
 
 returns : tie.Need-returns
 returns c =
-    let q = c .before .before in
-    let a = q .before .before .before .args in
-    line-unknown (a .role) (a .owned) (runOf (a .w .now)) (a .failed) (a .line .now) (q .claim-of .ensures) (c .enum-told .given .1)
+    let a = c .before .before .before .before .before .args in
+    line-unknown (a .role) (a .owned) (runOf (a .w .now)) (a .failed) (a .line .now) (c .before .before .claim-of .ensures) (c .enum-told .given .1)
 
 returns-2 : tie.Need-returns-2
 returns-2 c =
-    let t = c .before .before in
-    let k = t .before .before .before in
-    let q = k .before .before in
-    let a = q .before .before .before .args in
-    let g = t .line-as .ensures in
-    line-known (a .role) (a .owned) (runOf (a .w .now)) (a .failed) (a .line .now) (q .claim-of .ensures) _ (k .claim .given .1) (g .0) (g .1)
+    let a = c .before .before .before .before .before .before .before .before .before .before .args in
+    let g = c .before .before .line-as .ensures in
+    line-known (a .role) (a .owned) (runOf (a .w .now)) (a .failed) (a .line .now) (c .before .before .before .before .before .before .before .claim-of .ensures) _ (c .before .before .before .before .before .claim .given .1) (g .0) (g .1)
 
 pub line-spec : {M : Type 1} → statement M
 line-spec = tie.close (tie.spec (λ c κs. search needs) (λ c. search needs) (λ c. search needs) (λ c κs. search needs) returns (λ c. search needs) returns-2)

@@ -9,18 +9,14 @@ use Rattle.console_in_place.proofs.shown.line_as.Tie as tie
 
 returns : tie.Need-returns
 returns c =
-    let d = c .before in
-    let a = d .before .before .before .args in
-    line-denied (record { role = a .role; owned = a .owned }) (runOf (a .w .now)) (a .failed) (a .line .now) (d .may .ensures) (c .if1 .taken)
+    let a = c .before .before .before .before .args in
+    line-denied (record { role = a .role; owned = a .owned }) (runOf (a .w .now)) (a .failed) (a .line .now) (c .before .may .ensures) (c .if1 .taken)
 
 returns-2 : tie.Need-returns-2
 returns-2 c =
-    let t = c .before .before in
-    let e = t .before .before in
-    let d = e .before in
-    let a = d .before .before .before .args in
-    let g = t .seen-line .ensures in
-    line-made (record { role = a .role; owned = a .owned }) (runOf (a .w .now)) (a .failed) (a .line .now) (d .may .ensures) (e .if1 .left) (g .0) (g .1)
+    let a = c .before .before .before .before .before .before .before .before .args in
+    let g = c .before .before .seen-line .ensures in
+    line-made (record { role = a .role; owned = a .owned }) (runOf (a .w .now)) (a .failed) (a .line .now) (c .before .before .before .before .before .may .ensures) (c .before .before .before .before .if1 .left) (g .0) (g .1)
 
 pub line-as-spec : {M : Type 1} → statement M
 line-as-spec = tie.close (tie.spec (λ c κs. search needs) returns (λ c κs. search needs) (λ c. search needs) returns-2)

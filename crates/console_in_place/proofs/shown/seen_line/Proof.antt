@@ -12,45 +12,29 @@ use Rattle.console_in_place.proofs.shown.seen_line.Tie as tie
 
 returns : tie.Need-returns
 returns c =
-    let t = c .before .before in
-    let x = t .before .before in
-    let k = x .before in
-    let a = k .before .before .before .args in
-    let g = t .line .ensures in
-    (g .1 .0, g .1 .1 .0 ∙ short-line (record { role = a .role; owned = a .owned }) (runOf (a .w .now)) (a .failed) (a .line .now) (omega (arith, x .if1 .taken, k .count-of .ensures)))
+    let a = c .before .before .before .before .before .before .before .before .args in
+    let g = c .before .before .line .ensures in
+    (g .1 .0, g .1 .1 .0 ∙ short-line (record { role = a .role; owned = a .owned }) (runOf (a .w .now)) (a .failed) (a .line .now) (omega (arith, c .before .before .before .before .if1 .taken, c .before .before .before .before .before .count-of .ensures)))
 
 write-seen-requires : tie.Need-write-seen-requires
 write-seen-requires c κs =
-    let told = c .before in
-    let l = told .before .before .before in
-    let e = l .before .before in
-    let k = e .before in
-    let a = k .before .before .before .args in
+    let a = c .before .before .before .before .before .before .before .before .before .before .args in
     let s = runOf (a .w .now) in
-    let h = written-sound (record { role = a .role; owned = a .owned }) s (a .failed) (a .line .now) (omega (arith, e .if1 .left, k .count-of .ensures)) (sym (told .enum-told .given .1) ∙ l .line3 .ensures .1 .0) in
-    (omega (arith, sound-state s h .count-most, k .count-of .ensures), e .if1 .left)
+    let h = written-sound (record { role = a .role; owned = a .owned }) s (a .failed) (a .line .now) (omega (arith, c .before .before .before .before .before .before .if1 .left, c .before .before .before .before .before .before .before .count-of .ensures)) (sym (c .before .enum-told .given .1) ∙ c .before .before .before .before .line3 .ensures .1 .0) in
+    (omega (arith, sound-state s h .count-most, c .before .before .before .before .before .before .before .count-of .ensures), c .before .before .before .before .before .before .if1 .left)
 
 returns-2 : tie.Need-returns-2
 returns-2 c =
-    let told = c .before in
-    let l = told .before .before .before in
-    let e = l .before .before in
-    let k = e .before in
-    let a = k .before .before .before .args in
-    let g = line-refused (record { role = a .role; owned = a .owned }) (runOf (a .w .now)) (a .failed) (a .line .now) (omega (arith, e .if1 .left, k .count-of .ensures)) _ (sym (told .answer .given .1) ∙ l .line3 .ensures .1 .0) in
+    let a = c .before .before .before .before .before .before .before .before .before .before .args in
+    let g = line-refused (record { role = a .role; owned = a .owned }) (runOf (a .w .now)) (a .failed) (a .line .now) (omega (arith, c .before .before .before .before .before .before .if1 .left, c .before .before .before .before .before .before .before .count-of .ensures)) _ (sym (c .before .answer .given .1) ∙ c .before .before .before .before .line3 .ensures .1 .0) in
     (g .0, g .1)
 
 returns-3 : tie.Need-returns-3
 unfolding entitled
 returns-3 c =
-    let v = c .before .before in
-    let told = v .before .before in
-    let l = told .before .before .before in
-    let e = l .before .before in
-    let k = e .before in
-    let a = k .before .before .before .args in
-    let g = line-written (record { role = a .role; owned = a .owned }) (runOf (a .w .now)) (a .failed) (a .line .now) (omega (arith, e .if1 .left, k .count-of .ensures)) _ _
-    (sym (told .enum-told .given .1) ∙ l .line3 .ensures .1 .0) (l .line3 .ensures .1 .1 .0) (rw (k .count-of .ensures) at (v .write-seen .ensures)) in
+    let a = c .before .before .before .before .before .before .before .before .before .before .before .before .before .args in
+    let g = line-written (record { role = a .role; owned = a .owned }) (runOf (a .w .now)) (a .failed) (a .line .now) (omega (arith, c .before .before .before .before .before .before .before .before .before .if1 .left, c .before .before .before .before .before .before .before .before .before .before .count-of .ensures)) _ _
+    (sym (c .before .before .before .before .enum-told .given .1) ∙ c .before .before .before .before .before .before .before .line3 .ensures .1 .0) (c .before .before .before .before .before .before .before .line3 .ensures .1 .1 .0) (rw (c .before .before .before .before .before .before .before .before .before .before .count-of .ensures) at (c .before .before .write-seen .ensures)) in
     (g .0, g .1)
 
 pub seen-line-spec : {M : Type 1} → statement M
