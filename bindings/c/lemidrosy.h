@@ -130,11 +130,12 @@ uint64_t lemidrosy_recover(uint16_t *words, size_t words_length, uint32_t failed
 uint64_t lemidrosy_earliest(const uint16_t *words, size_t words_length, const uint32_t *named, size_t named_length, uint16_t *line, size_t line_length);
 
 /* A block of records, four bytes each as in a trace and without a trace's first byte, applied to the words one after the other: what a run-time that hands its events over
-   in batches calls, as the words are judged once, and once more after each recovery. The line of each record goes to the text, as the replay of a trace prints it. A record
-   is taken as long as a whole one is left, the one before was accepted (with `all`: in any case), fewer than 1,000,000,000 were taken, `done` before the block included,
-   and the text has room for LEMIDROSY_LINE bytes more. Three numbers go to the progress: how many records were taken, how many bytes of lines were written, and 1 if the
-   replay goes on after them. So the next block begins 4 times the records taken further on, with `done` more by as many. What is refused is a record, not the call; words
-   that stand for no sound state refuse each record, with 14 or else with 2. Refused with 3 (fewer than three numbers lent): then nothing is written. */
+   in batches calls, as the words are judged once, and once more after each recovery that deletes a checkpoint. The line of each record goes to the text, as the replay of
+   a trace prints it. A record is taken as long as a whole one is left, the one before was accepted (with `all`: in any case), fewer than 1,000,000,000 were taken, `done`
+   before the block included, and the text has room for LEMIDROSY_LINE bytes more. Three numbers go to the progress: how many records were taken, how many bytes of lines
+   were written, and 1 if the replay goes on after them. So the next block begins 4 times the records taken further on, with `done` more by as many. What is refused is a
+   record, not the call; words that stand for no sound state refuse each record, with 14 or else with 2. Refused with 3 (fewer than three numbers lent): then nothing is
+   written. */
 uint64_t lemidrosy_replay(uint16_t *words, size_t words_length, bool all, uint64_t done, const uint8_t *records, size_t records_length, uint8_t *text, size_t text_length, uint64_t *progress, size_t progress_length);
 
 /* The recorder: each of these calls once more, with a buffer that is lent and a list with the place that its next byte goes to (of the list the first entry counts). The

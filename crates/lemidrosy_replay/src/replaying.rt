@@ -1,4 +1,5 @@
-// A block of records applied to the words, for a run-time that hands its events over in batches: the words are tested once, and once more after an accepted recovery.
+// A block of records applied to the words, for a run-time that hands its events over in batches: the words are tested once, and once more after each recovery that deletes a
+// checkpoint.
 use replay_in_place::block::Progress;
 ghost use mathlib.Core.Path.{_≡_};
 ghost use mathlib.Core.List.{[], _∷_};

@@ -1,16 +1,15 @@
 -- What the calls in place say of a record, with lists of 512 and 16 entries whatever these hold: the state and the reply of the record by the model, whose lists hold zeros.
 -- Assumes nothing.
 use mathlib.Core.Path.{_≡_, refl, sym, _∙_, ap}
-use mathlib.Core.Bool.{true, false}
+use mathlib.Core.Bool.{false}
 use mathlib.Core.List.{List, []}
-use mathlib.Core.Option.{Option, none, some}
-use Prim.Native.Nat.{ℕ, _*_, _≤_}
+use mathlib.Core.Option.{none, some}
+use Prim.Native.Nat.{ℕ, _≤_}
 use native.Mathlib.Omega.{arith}
 use lib.ListN.{length, replicate, length-replicate}
 use lib.Seq.{sets}
 use Rattle.model.specs.declared.Event.{Event}
 use Rattle.model.specs.declared.Event.the-variants.{Checkpoint, Send, Deliver, Lose, Recover}
-use Rattle.model.specs.declared.Refusal.{Refusal}
 use Rattle.model.specs.declared.Refusal.the-variants.{UnsoundState, MalformedRecord}
 use Rattle.model.specs.declared.Run.{Run}
 use Rattle.model.specs.declared.CheckpointAnswer.{CheckpointAnswer}
@@ -24,13 +23,13 @@ use Rattle.model.specs.Sound.{sound}
 use Rattle.model.specs.Refusals.{checkpointRefusal, sendRefusal, deliverRefusal, loseRefusal, recoverRefusal}
 use Rattle.model.specs.laws.Refusals.{by-refusal}
 use Rattle.laws.specs.Choice.{by-bool}
-use Rattle.whole_runs.specs.Outcomes.{Report, Outcome, judged, refusing, pairs, message, deliverAnswer, checkpointOutcome, checkpointReport, sendOutcome, sendReport, deliverOutcome, deliverReport, loseOutcome, loseReport, recoverOutcome, recoverReport}
+use Rattle.whole_runs.specs.Outcomes.{Report, Outcome, refusing, pairs, message, deliverAnswer, checkpointOutcome, checkpointReport, sendOutcome, sendReport, deliverOutcome, deliverReport, loseOutcome, loseReport, recoverOutcome, recoverReport}
 use Rattle.whole_runs.specs.Calls.{recover, answered, call}
 use Rattle.whole_runs.specs.Listing.{deletionsText, callOf, perform}
 use Rattle.whole_runs.specs.WholeRuns.{Reachable}
 use Rattle.whole_runs.proofs.WholeRuns.{reachable-call}
 use Rattle.whole_runs.proofs.Unsound.{checkpoint-unsound, send-unsound, deliver-unsound, lose-unsound, recover-unsound}
-use Rattle.whole_runs.proofs.Sizes.{Small, record-small}
+use Rattle.whole_runs.proofs.Sizes.{record-small}
 use Rattle.listing.specs.declared.Summary.{Summary}
 use Rattle.listing.specs.Said.{reportIn, Says, Performs}
 use Rattle.listing.proofs.Said.{none-listed}
@@ -188,14 +187,6 @@ module _ (s : Run) where
     unsound-performs e {said} same deleted =
         let u = unsound-call e in
         record { state = u .0; says = record { report = same ∙ u .1; listed = none-listed said (refusing UnsoundState) deleted (perform s (some e) .reply .deleted) same refl } }
-
-  -- a recovery that is refused changes nothing
-  pub refused-stays : (F : ℕ) (l line : List ℕ) {a : RecoverAnswer} → a ≡ recoverOutcome s F l line .answer → (said : Summary) → reportIn said ≡ recoverReport a
-      → (said .refused ≡ 0 → ⊥) → recoverOutcome s F l line .run ≡ s
-  unfolding recoverOutcome recoverReport reportIn
-  refused-stays F l line {a} b said e ne = by-refusal (recoverRefusal s F l line)
-      (λ r. absurd (ne (ap (λ (x : Report). x .refused) (e ∙ ap recoverReport b) ∙ rw r)))
-      (λ why r. rw r)
 
   -- calls from a start lead to the state after it
   pub recover-reachable : Reachable s → (F : ℕ) (l line : List ℕ) → Reachable (recoverOutcome s F l line .run)

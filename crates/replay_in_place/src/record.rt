@@ -77,15 +77,16 @@ fn lose(w: &mut [u16], m: u32) -> Applied
     Applied { said, sound: true }
 }
 
-// Whether the words stand for a sound state after a recovery that said this number. Where calls from a start led to them, and where it was refused, they do.
-fn sound_after(w: &[u16], reached: bool, refused: u8) -> bool
-    requires { ⌜ (reached ≡ true → sound (runOf (now w)) ≡ true) × ((refused ≡ 0 → ⊥) → sound (runOf (now w)) ≡ true) ⌝ }
+// Whether the words stand for a sound state after a recovery that deleted so many checkpoints. They do where calls from a start led to them, and where none was deleted, as
+// by one that was refused: then no own entry fell.
+fn sound_after(w: &[u16], reached: bool, deletions: usize) -> bool
+    requires { ⌜ (reached ≡ true → sound (runOf (now w)) ≡ true) × (deletions ≡ 0 → sound (runOf (now w)) ≡ true) ⌝ }
     ensures { λ r. ⌜ r ≡ sound (runOf (now (w .entry))) ⌝ }
 {
     if reached {
         return true;
     }
-    if refused != 0 {
+    if deletions == 0 {
         return true;
     }
     sound_words::is_sound(w)
@@ -105,7 +106,7 @@ fn recover(
 {
     let answer = recover_in_place::recover_on(w, failed, deleted, line);
     let said = summaries::of_recover(answer);
-    let still = sound_after(w, reached, said.refused);
+    let still = sound_after(w, reached, said.deletions);
     Applied { said, sound: still }
 }
 

@@ -1,45 +1,42 @@
 -- A sound state stays sound where other messages are under way, and where the part of one process and the blocks written and deleted are others, by what holds of these.
 -- Assumes nothing.
 use mathlib.Core.Path.{_≡_, refl, sym, _∙_, ap, subst}
-use mathlib.Core.Bool.{Bool, true, false, _&&_, not}
-use mathlib.Core.List.{List, [], _∷_, map}
-use Prim.Native.Nat.{ℕ, zero, suc, _+_, _≤_, _<_}
+use mathlib.Core.Bool.{Bool, true, false}
+use mathlib.Core.List.{List, [], map}
+use Prim.Native.Nat.{ℕ, _+_, _≤_, _<_}
 use native.Mathlib.Omega.{arith}
 use lib.Dec.{eqb, leb}
-use lib.ListN.{length, getD, set, take, drop, length-set}
+use lib.ListN.{length, getD, drop}
 use lib.Seq.{getD-set-same, getD-set-other, drop-set-lt}
 use borrow.Author.Tests.{leb-true, le-leb, eq-eqb, ne-eqb}
 use Rattle.laws.specs.Choice.{pick, by-eq}
 use Rattle.laws.specs.Elements.{every-from}
-use Rattle.laws.specs.Lists.{placed, orElse, lastOf}
-use Rattle.laws.specs.Prefixes.{placed-length}
-use Rattle.laws.specs.Rows.{every-behind}
-use Rattle.laws.specs.Search.{allBelow, all-in, all-out}
-use Rattle.laws.specs.Sums.{sumBelow, sum-same, sum-both, sum-only}
+use Rattle.laws.specs.Lists.{select, placed}
+use Rattle.laws.specs.Prefixes.{placed-length, every-select}
+use Rattle.laws.specs.Search.{all-in, all-out}
+use Rattle.laws.specs.Select.{select-length}
+use Rattle.laws.specs.Sums.{sumBelow, sum-both, sum-only}
 use Rattle.laws.specs.Tables.{take-placed}
 use Rattle.laws.specs.Tests.{every}
 use Rattle.model.specs.declared.Interval.{Interval}
-use Rattle.model.specs.declared.Pin.{Pin}
-use Rattle.model.specs.declared.Pin.the-variants.{Nothing}
-use Rattle.model.specs.declared.Checkpoint.{Checkpoint}
 use Rattle.model.specs.declared.Message.{Message}
 use Rattle.model.specs.declared.Disk.{Disk}
 use Rattle.model.specs.declared.Run.{Run}
-use Rattle.model.specs.Words.{mostProcesses, mostUnderWay, mostMessages, mostBlocks, entry, lastStored, names, named, Process, blocksOf, zeroVector, noCheckpoint, noMessage, process, withProcess, own, underWay, withMessages, withDisk}
-use Rattle.model.specs.Sound.{within, ascending, pinSound, messageSound, zeroFrom, unusedCheckpoint, unusedMessage, nothingFrom, recordSound, keptBlocks, sound}
+use Rattle.model.specs.Words.{mostProcesses, mostUnderWay, mostMessages, mostBlocks, entry, Process, blocksOf, zeroVector, noCheckpoint, noMessage, process, withProcess, own, underWay, withMessages, withDisk}
+use Rattle.model.specs.Steps.{advanced}
+use Rattle.model.specs.Sound.{within, ascending, messageSound, zeroFrom, unusedCheckpoint, unusedMessage, nothingFrom, keptBlocks, sound}
 use Rattle.model.specs.laws.Sound.{SoundProcess, SoundState, sound-state}
 use Rattle.receipts.specs.Sized.{Sized}
 use Rattle.receipts.proofs.Facts.{place}
 use Rattle.receipts.proofs.Filled.{row-many}
 use Rattle.words.proofs.View.{placed-past}
-use Rattle.sound_calls.proofs.Assembling.{sound-in}
-use Rattle.sound_calls.proofs.Keeping.{every-then, Loose, Fine, loose-rise}
+use Rattle.sound_calls.proofs.Keeping.{every-then, Fine, ascending-select}
 
--- The places after a list that is laid into a table are unused.
+-- The mostProcesses after a list that is laid into a table are unused.
 placed-unused : {A : Type 0} (t : A → Bool) (n : ℕ) (d : A) (l : List A) → t d ≡ true → length l ≤ n → every t (drop (length l) (placed n d l)) ≡ true
 placed-unused t n d l h few = every-from t d (length l) (placed n d l) (λ k le lt. ap t (placed-past n d l k le (omega (arith, placed-length n d l few))) ∙ h)
 
--- Unused places are unused.
+-- Unused mostProcesses are unused.
 no-vector : zeroFrom 0 zeroVector ≡ true
 unfolding zeroFrom every
 no-vector = refl
@@ -106,6 +103,16 @@ module _ (s : Run) (h : SoundState s) (l : List Message) (last : ℕ) where
     written-most = h .written-most;
   }
 
+-- Fewer messages.
+pub fewer-stay : (t : Run) → SoundState t → length (underWay t) ≤ mostUnderWay → (u : Message → Bool) → SoundState (withMessages t (select u (underWay t)) (t .last))
+unfolding withMessages messageSound
+fewer-stay t h many u =
+    messages-stay t h (select u (underWay t)) (t .last) (omega (arith, many, select-length u (underWay t))) (h .last-most) (every-select _ u (underWay t) (h .carried-within))
+    (ascending-select (λ x. x .number) 1 u (underWay t) (h .messages-ascend)) same (every-select _ u (underWay t) (h .carried-unused))
+  where
+    same : every (messageSound (withMessages t (select u (underWay t)) (t .last))) (select u (underWay t)) ≡ true
+    same = every-select (messageSound t) u (underWay t) (h .messages-sound)
+
 -- A sum of which one number changes.
 sum-change : (n : ℕ) (f g : ℕ → ℕ) (i : ℕ) → i < n → ((k : ℕ) → k < n → (k ≡ i → ⊥) → f k ≡ g k) → sumBelow n f + g i ≡ sumBelow n g + f i
 sum-change n f g i lt same =
@@ -123,6 +130,21 @@ within-by t v h = all-in (t .count) _ (λ f lt. le-leb (entry v f .0) (own t f .
 pub within-at : (t : Run) (v : List Interval) → within t v ≡ true → (f : ℕ) → f < t .count → entry v f .0 ≤ own t f .0
 unfolding within
 within-at t v h f lt = leb-true (entry v f .0) (own t f .0) (all-out (t .count) (λ f. leb (entry v f .0) (own t f .0)) h f lt)
+
+-- A vector with 1 added to its own entry, as after a checkpoint, and that no other entry is above an own entry then.
+pub advanced-own : (v : List Interval) (i : ℕ) → i < length v → entry (advanced i v) i .0 ≡ entry v i .0 + 1
+unfolding advanced
+advanced-own v i lt = ap (λ (x : Interval). x .0) (getD-set-same v i (record { 0 = entry v i .0 + 1 }) (record { 0 = 0 }) lt)
+
+pub advanced-other : (v : List Interval) (i f : ℕ) → (f ≡ i → ⊥) → entry (advanced i v) f ≡ entry v f
+unfolding advanced
+advanced-other v i f ne = getD-set-other v i f (record { 0 = entry v i .0 + 1 }) (record { 0 = 0 }) ne
+
+pub advanced-within : (s t : Run) (i : ℕ) (v : List Interval) → t .count ≡ s .count → entry (advanced i v) i .0 ≤ own t i .0 → ((f : ℕ) → own s f .0 ≤ own t f .0)
+    → within s v ≡ true → within t (advanced i v) ≡ true
+advanced-within s t i v same own-most rise h = within-by t (advanced i v) (λ f lt. by-eq f i
+    (λ e. rw e own-most)
+    (λ ne. rw (advanced-other v i f ne) (omega (arith, within-at s v h f (omega (arith, lt, same)), rise f))))
 
 -- The part of process p, by itself.
 module _ (s : Run) (size : Sized s) (whole : sound s ≡ true) (p : ℕ) (lt : p < s .count) where

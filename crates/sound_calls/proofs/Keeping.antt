@@ -6,19 +6,19 @@ use mathlib.Core.List.{List, [], _∷_, _++_, map}
 use mathlib.Core.Option.{Option, none, some}
 use Prim.Native.Nat.{ℕ, zero, suc, _+_, _-_, _≤_, _<_}
 use native.Mathlib.Omega.{arith}
-use lib.Dec.{eqb, ltb, leb}
-use lib.ListN.{length, getD, set, take, drop, length-append, length-set, length-take, List·getD-eq-default}
+use lib.Dec.{eqb, leb}
+use lib.ListN.{length, getD, set, take, drop, length-append, length-set, List·getD-eq-default}
 use lib.Seq.{getD-set-same, getD-set-other, length-take-le}
-use borrow.Author.Tests.{ltb-true, ltb-false, le-ltb, leb-true, le-leb, ne-eqb, eq-eqb, eqb-true, not-true}
-use Rattle.laws.specs.Choice.{pick, by-bool, by-eq}
-use Rattle.laws.specs.Lists.{select, orElse, lastOf, table}
+use borrow.Author.Tests.{le-ltb, leb-true, le-leb, ne-eqb, eq-eqb, eqb-true, not-true}
+use Rattle.laws.specs.Choice.{by-bool, by-eq}
+use Rattle.laws.specs.Lists.{select, orElse, lastOf}
 use Rattle.laws.specs.Elements.{every-append, every-single, every-from, every-table}
 use Rattle.laws.specs.Prefixes.{select-same, every-select}
-use Rattle.laws.specs.Rows.{every-at, every-by, every-behind, some-at, some-where, by-lt}
-use Rattle.laws.specs.Select.{lastOf-snoc, map-append, some-append}
+use Rattle.laws.specs.Rows.{every-at, every-by, every-behind, some-at, by-lt}
+use Rattle.laws.specs.Select.{lastOf-snoc, some-append}
 use Rattle.laws.specs.Tables.{getD-table, length-table}
 use Rattle.laws.specs.Tests.{every, some-of}
-use Rattle.laws.specs.Truth.{and-left, and-right, and-out, and-both, or-left, or-in-right, never-both}
+use Rattle.laws.specs.Truth.{and-right, and-out, and-both, or-left, or-in-right, never-both}
 use Rattle.model.specs.declared.Interval.{Interval}
 use Rattle.model.specs.declared.CheckpointIndex.{CheckpointIndex}
 use Rattle.model.specs.declared.Pin.{Pin}
@@ -287,7 +287,7 @@ unfolding isNothing
 nothing-names a Nothing h = refl
 nothing-names a (At b) h = never-both false h refl
 
-record-same : (X Y : Process) → blockCount X ≡ blockCount Y → (c : Checkpoint) → recordSound X c ≡ recordSound Y c
+pub record-same : (X Y : Process) → blockCount X ≡ blockCount Y → (c : Checkpoint) → recordSound X c ≡ recordSound Y c
 unfolding recordSound
 record-same X Y e c = rw e
 

@@ -1,21 +1,20 @@
--- A checkpoint, a send, a delivery and a loss leave a sound state sound, whether calls led to it or not. So a state needs no test after them.
+-- A checkpoint, a send, a delivery, a loss and a recovery that deletes nothing leave a sound state sound, whether calls led to it or not. So a state needs no test after
+-- them.
 -- Assumes nothing.
-use mathlib.Core.Path.{_≡_, refl, sym, _∙_, ap}
-use mathlib.Core.Bool.{Bool, true, false, _&&_, not}
+use mathlib.Core.Path.{_≡_, refl, _∙_, ap}
+use mathlib.Core.Bool.{Bool, true, not}
 use mathlib.Core.List.{List, [], _∷_, _++_, map}
-use mathlib.Core.Option.{Option, none, some}
 use Prim.Native.Nat.{ℕ, suc, _+_, _≤_, _<_}
 use native.Mathlib.Omega.{arith}
 use lib.Dec.{eqb, ltb, leb}
-use lib.ListN.{length, getD, length-append}
-use lib.Seq.{getD-set-same, getD-set-other}
-use borrow.Author.Tests.{lt-ltb, ltb-true, le-ltb, leb-true, le-leb, ne-eqb}
-use Rattle.laws.specs.Choice.{pick, by-bool, by-eq}
+use lib.ListN.{length, length-append}
+use borrow.Author.Tests.{lt-ltb, ltb-true, le-ltb, le-leb, ne-eqb}
+use Rattle.laws.specs.Choice.{pick, by-bool}
 use Rattle.laws.specs.Elements.{every-append, every-single}
-use Rattle.laws.specs.Lists.{select, orElse}
+use Rattle.laws.specs.Lists.{select}
 use Rattle.laws.specs.Prefixes.{every-select}
 use Rattle.laws.specs.Rows.{every-map}
-use Rattle.laws.specs.Select.{select-length, map-append}
+use Rattle.laws.specs.Select.{map-append}
 use Rattle.laws.specs.Tables.{getD-table}
 use Rattle.laws.specs.Tests.{every}
 use Rattle.laws.specs.Truth.{and-out, and-both}
@@ -23,16 +22,15 @@ use Rattle.model.specs.declared.Interval.{Interval}
 use Rattle.model.specs.declared.Checkpoint.{Checkpoint}
 use Rattle.model.specs.declared.Message.{Message}
 use Rattle.model.specs.declared.Disk.{Disk}
-use Rattle.model.specs.declared.Refusal.{Refusal}
 use Rattle.model.specs.declared.Run.{Run}
 use Rattle.model.specs.Words.{mostProcesses, mostUnderWay, mostMessages, mostBlocks, basic, forced, entry, below, named, Process, blocksOf, blockCount, process, withProcess, own, underWay, withMessages, withDisk}
 use Rattle.model.specs.Steps.{settled, gone, billed, advanced, storing, checkpointed, checkpointState, sentMessage, marked, sendState, found, others, forces, takenEntry, takenVector, takenIn, delivered, deliverState, loseState}
 use Rattle.model.specs.Sound.{within, ascending, messageSound, zeroFrom, recordSound, sound}
-use Rattle.model.specs.Refusals.{checkpointRefusal, sendRefusal, deliverRefusal, loseRefusal}
+use Rattle.model.specs.Refusals.{checkpointRefusal, sendRefusal, deliverRefusal, loseRefusal, recoverRefusal}
 use Rattle.model.specs.laws.Refusals.{by-refusal}
 use Rattle.model.specs.laws.Sound.{SoundState, sound-state, sound-message}
 use Rattle.model.proofs.simulation.Accepted.{checkpoint-out, send-out, deliver-out}
-use Rattle.whole_runs.specs.Outcomes.{message, checkpointOutcome, sendOutcome, deliverOutcome, loseOutcome}
+use Rattle.whole_runs.specs.Outcomes.{message, checkpointOutcome, sendOutcome, deliverOutcome, loseOutcome, recoverOutcome, recoverReport}
 use Rattle.whole_runs.proofs.Sizes.{last-passes}
 use Rattle.receipts.specs.Sized.{Sized}
 use Rattle.receipts.proofs.Filled.{messages-many}
@@ -40,18 +38,11 @@ use Rattle.words.specs.Layout.{runOf}
 use Rattle.words.proofs.ViewSizes.{vectors-size, vector-row-size, pins-size, pin-row-size, sent-size, kept-size, kept-row-size, stored-size, held-size, messages-size, carried-size}
 use Rattle.sound_calls.specs.Staying.{CallsKeepSound}
 use Rattle.sound_calls.proofs.Assembling.{sound-in}
-use Rattle.sound_calls.proofs.Changing.{within-by, within-at, part-fine, messages-stay, own-then, own-rises, within-rises, process-stays}
-use Rattle.sound_calls.proofs.Keeping.{every-then, Loose, Fine, loose-rise, ascending-select, stored-loose, taken-loose, settled-fine}
+use Rattle.sound_calls.proofs.Changing.{within-by, within-at, advanced-own, advanced-within, part-fine, messages-stay, fewer-stay, own-then, own-rises, within-rises, process-stays}
+use Rattle.sound_calls.proofs.Recovering.{recover-sound}
+use Rattle.sound_calls.proofs.Keeping.{every-then, Loose, Fine, loose-rise, stored-loose, taken-loose, settled-fine}
 
--- Entries of a vector after a checkpoint, and after a carried vector is taken in.
-advanced-own : (v : List Interval) (i : ℕ) → i < length v → entry (advanced i v) i .0 ≡ entry v i .0 + 1
-unfolding advanced
-advanced-own v i lt = ap (λ (x : Interval). x .0) (getD-set-same v i (record { 0 = entry v i .0 + 1 }) (record { 0 = 0 }) lt)
-
-advanced-other : (v : List Interval) (i f : ℕ) → (f ≡ i → ⊥) → entry (advanced i v) f ≡ entry v f
-unfolding advanced
-advanced-other v i f ne = getD-set-other v i f (record { 0 = entry v i .0 + 1 }) (record { 0 = 0 }) ne
-
+-- Entries of a vector after a carried one is taken in.
 taken-at : (v carried : List Interval) (f : ℕ) → f < mostProcesses → entry (takenVector v carried) f ≡ pick (below (entry v f) (entry carried f)) (entry carried f) (entry v f)
 unfolding takenVector takenEntry
 taken-at v carried f lt = getD-table 16 (takenEntry v carried) f (record { 0 = 0 }) lt
@@ -59,13 +50,7 @@ taken-at v carried f lt = getD-table 16 (takenEntry v carried) f (record { 0 = 0
 taken-own : (v carried : List Interval) (i : ℕ) → i < mostProcesses → entry carried i .0 ≤ entry v i .0 → entry (takenVector v carried) i ≡ entry v i
 taken-own v carried i lt low = taken-at v carried i lt ∙ rw (le-ltb (entry v i .0) (entry carried i .0) low)
 
--- These have no entry above an own entry.
-advanced-within : (s t : Run) (i : ℕ) (v : List Interval) → t .count ≡ s .count → entry (advanced i v) i .0 ≤ own t i .0 → ((f : ℕ) → own s f .0 ≤ own t f .0)
-    → within s v ≡ true → within t (advanced i v) ≡ true
-advanced-within s t i v same own-most rise h = within-by t (advanced i v) (λ f lt. by-eq f i
-    (λ e. rw e own-most)
-    (λ ne. rw (advanced-other v i f ne) (omega (arith, within-at s v h f (omega (arith, lt, same)), rise f))))
-
+-- It has no entry above an own entry.
 taken-within : (t : Run) (a b : List Interval) → t .count ≤ mostProcesses → within t a ≡ true → within t b ≡ true → within t (takenVector a b) ≡ true
 taken-within t a b few p q = within-by t (takenVector a b) (λ f lt. rw (taken-at a b f (omega (arith, lt, few))) (by-bool (below (entry a f) (entry b f))
     (λ e. rw e (within-at t b q f lt))
@@ -94,16 +79,6 @@ ascending-after low (y ∷ l) x h e le =
     let p = and-out (leb low y) (ascending (suc y) l) h in
     let q = and-out (ltb y x) (every (λ z. ltb z x) l) e in
     and-both (leb low y) (ascending (suc y) (l ++ (x ∷ []))) (p .0) (ascending-after (suc y) l x (p .1) (q .1) (ltb-true y x (q .0)))
-
--- Fewer messages.
-fewer-stay : (t : Run) → SoundState t → length (underWay t) ≤ mostUnderWay → (u : Message → Bool) → SoundState (withMessages t (select u (underWay t)) (t .last))
-unfolding withMessages messageSound
-fewer-stay t h many u =
-    messages-stay t h (select u (underWay t)) (t .last) (omega (arith, many, select-length u (underWay t))) (h .last-most) (every-select _ u (underWay t) (h .carried-within))
-    (ascending-select (λ x. x .number) 1 u (underWay t) (h .messages-ascend)) same (every-select _ u (underWay t) (h .carried-unused))
-  where
-    same : every (messageSound (withMessages t (select u (underWay t)) (t .last))) (select u (underWay t)) ≡ true
-    same = every-select (messageSound t) u (underWay t) (h .messages-sound)
 
 -- The sizes of the run of any words.
 sized : (w : List ℕ) → Sized (runOf w)
@@ -383,6 +358,12 @@ module _ (w : List ℕ) (h : sound (runOf w) ≡ true) where
       (λ e. rw e (lose-sound (runOf w) (sized w) h m))
       (λ why e. rw e h)
 
+  pub recover-stays : (F : ℕ) (l line : List ℕ) → recoverReport (recoverOutcome (runOf w) F l line .answer) .deletions ≡ 0 → sound (recoverOutcome (runOf w) F l line .run) ≡ true
+  unfolding recoverOutcome recoverReport
+  recover-stays F l line = by-refusal (recoverRefusal (runOf w) F l line)
+      (λ e. rw e (λ none-deleted. recover-sound (runOf w) (sized w) h F none-deleted))
+      (λ why e. rw e (λ none-deleted. h))
+
 pub calls-keep-sound : CallsKeepSound
 unfolding CallsKeepSound
-calls-keep-sound w h = record { checkpoint = checkpoint-stays w h; send = send-stays w h; deliver = deliver-stays w h; lose = lose-stays w h }
+calls-keep-sound w h = record { checkpoint = checkpoint-stays w h; send = send-stays w h; deliver = deliver-stays w h; lose = lose-stays w h; recover = recover-stays w h }

@@ -3,18 +3,25 @@ use mathlib.Core.Path.{sym, _∙_, ap}
 use borrow.Author.Needs.{needs}
 use Rattle.model.specs.Sound.{sound}
 use Rattle.words.specs.Layout.{runOf}
+use Rattle.whole_runs.specs.Outcomes.{Report, recoverReport}
 use Rattle.whole_runs.proofs.WholeRuns.{reachable-sound}
-use Rattle.replay_in_place.proofs.Said.{recover-performs, refused-stays, recover-reachable}
+use Rattle.listing.specs.Said.{reportIn}
+use Rattle.sound_calls.proofs.Staying.{calls-keep-sound}
+use Rattle.sound_calls.specs.Staying.{CallsKeepSound}
+use Rattle.replay_in_place.proofs.Said.{recover-performs, recover-reachable}
 use Rattle.replay_in_place.proofs.record.recover.Statement.{statement}
 use Rattle.replay_in_place.proofs.record.recover.Tie as tie
 
 sound-after-requires : tie.Need-sound-after-requires
+unfolding CallsKeepSound reportIn
 sound-after-requires c κs =
     let s = c .before .before .before .before .before .before .before .before .before .before .before .before .before .before .before in
     let a = s .args in
     let g = c .before .before .before .before .before .before .before .before .recover-on .ensures in (
       λ e. ap sound (g .0) ∙ reachable-sound _ (recover-reachable (runOf (a .w .now)) (s .pre .1 e) (a .failed) (a .deleted .now) (a .line .now)),
-      λ ne. ap sound (g .0 ∙ refused-stays (runOf (a .w .now)) (a .failed) (a .deleted .now) (a .line .now) (g .1 .0) _ (c .before .of-recover .ensures) ne) ∙ s .pre .0,
+      λ none. ap sound (g .0)
+          ∙ calls-keep-sound (a .w .now) (s .pre .0) .recover (a .failed) (a .deleted .now) (a .line .now)
+          (sym (ap (λ (x : Report). x .deletions) (c .before .of-recover .ensures ∙ ap recoverReport (g .1 .0))) ∙ none),
     )
 
 returns : tie.Need-returns
