@@ -899,210 +899,36 @@ pub struct Lent {
     pub lines: Vec<u8>,
 }
 
-pub fn judge_begin(lent: &mut Lent, request: &mut [u64]) -> u64 {
-    unsafe {
-        c::lemidrosy_judge_begin(
-            lent.memory.as_mut_ptr(),
-            lent.memory.len(),
-            lent.input.as_ptr(),
-            lent.input.len(),
-            lent.out.as_ptr(),
-            lent.out.len(),
-            request.as_mut_ptr(),
-            request.len(),
-        )
-    }
+/// The functions that begin and step a machine which is lent these lists, in this order; each writes a request.
+macro_rules! machine {
+    ($begin:ident = $c_begin:ident, $step:ident = $c_step:ident: $($list:ident),+) => {
+        pub fn $begin(lent: &mut Lent, request: &mut [u64]) -> u64 {
+            unsafe {
+                c::$c_begin(
+                    $(lent.$list.as_mut_ptr(), lent.$list.len(),)+
+                    request.as_mut_ptr(),
+                    request.len(),
+                )
+            }
+        }
+
+        pub fn $step(lent: &mut Lent, kind: u64, number: usize, request: &mut [u64]) -> u64 {
+            unsafe {
+                c::$c_step(
+                    $(lent.$list.as_mut_ptr(), lent.$list.len(),)+
+                    kind,
+                    number,
+                    request.as_mut_ptr(),
+                    request.len(),
+                )
+            }
+        }
+    };
 }
 
-pub fn judge_step(lent: &mut Lent, kind: u64, number: usize, request: &mut [u64]) -> u64 {
-    unsafe {
-        c::lemidrosy_judge_step(
-            lent.memory.as_mut_ptr(),
-            lent.memory.len(),
-            lent.input.as_ptr(),
-            lent.input.len(),
-            lent.out.as_mut_ptr(),
-            lent.out.len(),
-            kind,
-            number,
-            request.as_mut_ptr(),
-            request.len(),
-        )
-    }
-}
-
-pub fn replay_begin(lent: &mut Lent, request: &mut [u64]) -> u64 {
-    unsafe {
-        c::lemidrosy_replay_begin(
-            lent.words.as_ptr(),
-            lent.words.len(),
-            lent.memory.as_mut_ptr(),
-            lent.memory.len(),
-            lent.input.as_ptr(),
-            lent.input.len(),
-            lent.out.as_ptr(),
-            lent.out.len(),
-            request.as_mut_ptr(),
-            request.len(),
-        )
-    }
-}
-
-pub fn replay_step(lent: &mut Lent, kind: u64, number: usize, request: &mut [u64]) -> u64 {
-    unsafe {
-        c::lemidrosy_replay_step(
-            lent.words.as_mut_ptr(),
-            lent.words.len(),
-            lent.memory.as_mut_ptr(),
-            lent.memory.len(),
-            lent.input.as_mut_ptr(),
-            lent.input.len(),
-            lent.out.as_mut_ptr(),
-            lent.out.len(),
-            kind,
-            number,
-            request.as_mut_ptr(),
-            request.len(),
-        )
-    }
-}
-
-pub fn record_begin(lent: &mut Lent, request: &mut [u64]) -> u64 {
-    unsafe {
-        c::lemidrosy_record_begin(
-            lent.memory.as_mut_ptr(),
-            lent.memory.len(),
-            lent.words.as_ptr(),
-            lent.words.len(),
-            lent.input.as_ptr(),
-            lent.input.len(),
-            lent.out.as_ptr(),
-            lent.out.len(),
-            lent.lines.as_ptr(),
-            lent.lines.len(),
-            request.as_mut_ptr(),
-            request.len(),
-        )
-    }
-}
-
-pub fn record_step(lent: &mut Lent, kind: u64, number: usize, request: &mut [u64]) -> u64 {
-    unsafe {
-        c::lemidrosy_record_step(
-            lent.memory.as_mut_ptr(),
-            lent.memory.len(),
-            lent.words.as_mut_ptr(),
-            lent.words.len(),
-            lent.input.as_mut_ptr(),
-            lent.input.len(),
-            lent.out.as_mut_ptr(),
-            lent.out.len(),
-            lent.lines.as_mut_ptr(),
-            lent.lines.len(),
-            kind,
-            number,
-            request.as_mut_ptr(),
-            request.len(),
-        )
-    }
-}
-
-pub fn merge_begin(lent: &mut Lent, request: &mut [u64]) -> u64 {
-    unsafe {
-        c::lemidrosy_merge_begin(
-            lent.memory.as_mut_ptr(),
-            lent.memory.len(),
-            lent.input.as_ptr(),
-            lent.input.len(),
-            lent.out.as_ptr(),
-            lent.out.len(),
-            request.as_mut_ptr(),
-            request.len(),
-        )
-    }
-}
-
-pub fn merge_step(lent: &mut Lent, kind: u64, number: usize, request: &mut [u64]) -> u64 {
-    unsafe {
-        c::lemidrosy_merge_step(
-            lent.memory.as_mut_ptr(),
-            lent.memory.len(),
-            lent.input.as_ptr(),
-            lent.input.len(),
-            lent.out.as_mut_ptr(),
-            lent.out.len(),
-            kind,
-            number,
-            request.as_mut_ptr(),
-            request.len(),
-        )
-    }
-}
-
-pub fn simulate_begin(lent: &mut Lent, request: &mut [u64]) -> u64 {
-    unsafe {
-        c::lemidrosy_simulate_begin(
-            lent.memory.as_mut_ptr(),
-            lent.memory.len(),
-            lent.input.as_ptr(),
-            lent.input.len(),
-            lent.out.as_ptr(),
-            lent.out.len(),
-            request.as_mut_ptr(),
-            request.len(),
-        )
-    }
-}
-
-pub fn simulate_step(lent: &mut Lent, kind: u64, number: usize, request: &mut [u64]) -> u64 {
-    unsafe {
-        c::lemidrosy_simulate_step(
-            lent.memory.as_mut_ptr(),
-            lent.memory.len(),
-            lent.input.as_ptr(),
-            lent.input.len(),
-            lent.out.as_mut_ptr(),
-            lent.out.len(),
-            kind,
-            number,
-            request.as_mut_ptr(),
-            request.len(),
-        )
-    }
-}
-
-pub fn console_begin(lent: &mut Lent, request: &mut [u64]) -> u64 {
-    unsafe {
-        c::lemidrosy_console_begin(
-            lent.words.as_ptr(),
-            lent.words.len(),
-            lent.memory.as_mut_ptr(),
-            lent.memory.len(),
-            lent.input.as_ptr(),
-            lent.input.len(),
-            lent.out.as_ptr(),
-            lent.out.len(),
-            request.as_mut_ptr(),
-            request.len(),
-        )
-    }
-}
-
-pub fn console_step(lent: &mut Lent, kind: u64, number: usize, request: &mut [u64]) -> u64 {
-    unsafe {
-        c::lemidrosy_console_step(
-            lent.words.as_mut_ptr(),
-            lent.words.len(),
-            lent.memory.as_mut_ptr(),
-            lent.memory.len(),
-            lent.input.as_ptr(),
-            lent.input.len(),
-            lent.out.as_mut_ptr(),
-            lent.out.len(),
-            kind,
-            number,
-            request.as_mut_ptr(),
-            request.len(),
-        )
-    }
-}
+machine!(judge_begin = lemidrosy_judge_begin, judge_step = lemidrosy_judge_step: memory, input, out);
+machine!(replay_begin = lemidrosy_replay_begin, replay_step = lemidrosy_replay_step: words, memory, input, out);
+machine!(record_begin = lemidrosy_record_begin, record_step = lemidrosy_record_step: memory, words, input, out, lines);
+machine!(merge_begin = lemidrosy_merge_begin, merge_step = lemidrosy_merge_step: memory, input, out);
+machine!(simulate_begin = lemidrosy_simulate_begin, simulate_step = lemidrosy_simulate_step: memory, input, out);
+machine!(console_begin = lemidrosy_console_begin, console_step = lemidrosy_console_step: words, memory, input, out);
