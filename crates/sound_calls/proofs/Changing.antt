@@ -32,11 +32,11 @@ use Rattle.receipts.proofs.Filled.{row-many}
 use Rattle.words.proofs.View.{placed-past}
 use Rattle.sound_calls.proofs.Keeping.{every-then, Fine, ascending-select}
 
--- The mostProcesses after a list that is laid into a table are unused.
+-- The places after a list that is laid into a table are unused.
 placed-unused : {A : Type 0} (t : A → Bool) (n : ℕ) (d : A) (l : List A) → t d ≡ true → length l ≤ n → every t (drop (length l) (placed n d l)) ≡ true
 placed-unused t n d l h few = every-from t d (length l) (placed n d l) (λ k le lt. ap t (placed-past n d l k le (omega (arith, placed-length n d l few))) ∙ h)
 
--- Unused mostProcesses are unused.
+-- Unused places are unused.
 no-vector : zeroFrom 0 zeroVector ≡ true
 unfolding zeroFrom every
 no-vector = refl

@@ -1,5 +1,5 @@
-// The calls by value, for bench/run to time: one call made many times on one full state of 16 processes, and the records of a trace as calls. They stand apart from
-// `timing_in_place`: the calls by value are made of the calls in place, and a function with callers in both is compiled otherwise than it is for either.
+// The records of a trace as calls by value, for bench/run to time. They are apart from `timing_in_place`: the calls by value are made of the calls in place, and a
+// function with callers in both is compiled otherwise than it is for either.
 use model::PROCESSES;
 use model::Run;
 ghost use mathlib.Core.Path.{_≡_};
@@ -8,34 +8,10 @@ ghost use Prim.Native.Nat.{_+_, _*_, _≤_, _<_};
 ghost use lib.ListN.{length};
 ghost use Rattle.whole_runs.specs.Listing.{mostRecords};
 
-// full.rt: the state that the calls are made on
-mod full;
-
-// exported.rt: the exported calls, and their test of soundness alone
-mod exported;
-
 // by_value.rt: a record on a state by value
 mod by_value;
 
 const MOST_RECORDS: usize = whole_runs::MOST_RECORDS as usize;
-
-// One call, a given number of times: 0 if the last was accepted and left a sound state, else a refusal number. The letters: b start (begin), c checkpoint, s send, d deliver,
-// l lose, i line, r recover; any other number the test of soundness alone.
-#[no_mangle]
-pub extern "C" fn timing_calls(call: u32, times: u32) -> u32 {
-    let s = full::state();
-    let refused = match call {
-        98 => exported::starts(s, times),
-        99 => exported::checkpoints(s, times),
-        115 => exported::sends(s, times),
-        100 => exported::delivers(s, times),
-        108 => exported::loses(s, times),
-        105 => exported::lines(s, times),
-        114 => exported::recovers(s, times),
-        _ => exported::tests(s, times),
-    };
-    refused as u32
-}
 
 // What a record adds to the count.
 pub fn one_if(accepted: bool) -> u64
