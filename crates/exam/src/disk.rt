@@ -61,9 +61,7 @@ fn counts(n: usize, p: usize)
 // 1 comes before 15.
 fn outside(n: usize) {
     let done = act::start_with(n, [0; PROCESSES]);
-    say::heading(b"outside", n as u64);
-    say::value(done.refused as u64);
-    say::end();
+    say::fact(b"outside", n as u64, done.refused as u64);
 }
 
 // Two processes with block counts 1 and 65,535.
@@ -78,9 +76,7 @@ fn sum(number: u64, written: u64, deleted: u64) {
     let start = two();
     let set = act::forged(start, written, deleted);
     let done = act::checkpoint(set, 0, DELETIONS);
-    say::heading(b"sum", number);
-    say::value(done.refused as u64);
-    say::end();
+    say::fact(b"sum", number, done.refused as u64);
 }
 
 // The fifth and the ninth are right only if a sum wraps around.
@@ -106,13 +102,9 @@ fn near(left: u64)
     let written = 1000000000000000 - left;
     let set = act::forged(second, written, written - 65536);
     let basic = act::checkpoint(set, 1, DELETIONS);
-    say::heading(b"basic", left);
-    say::value(basic.refused as u64);
-    say::end();
+    say::fact(b"basic", left, basic.refused as u64);
     let forced = act::deliver(set, 2, DELETIONS);
-    say::heading(b"forced", left);
-    say::value(forced.refused as u64);
-    say::end();
+    say::fact(b"forced", left, forced.refused as u64);
 }
 
 // With no block left, a delivery that stores no checkpoint, a sweep and a recovery are accepted.
@@ -134,9 +126,7 @@ fn own(entry: u64, times: usize) {
     let high = act::checkpoints(start, 0, times);
     let set = act::forged(high, 1000000000000000, 999999999999999);
     let done = act::checkpoint(set, 0, DELETIONS);
-    say::heading(b"own", entry);
-    say::value(done.refused as u64);
-    say::end();
+    say::fact(b"own", entry, done.refused as u64);
 }
 
 pub(crate) fn disk_2() {

@@ -69,33 +69,30 @@ fn pins(all: Pins, p: usize, n: usize)
     named(rows[p], n);
 }
 
-fn stored(row: [Checkpoint; PROCESSES], held: usize)
-    requires { ⌜ held ≤ mostProcesses ⌝ }
-{
-    for k in 0..held {
-        let c = row[k];
-        let index = c.index;
-        say::value(index.0 as u64);
-    }
-    say::end();
+// What a line tells of each kept checkpoint.
+pub enum Column {
+    Index,
+    Cause,
+    Blocks,
 }
 
-fn causes(row: [Checkpoint; PROCESSES], held: usize)
-    requires { ⌜ held ≤ mostProcesses ⌝ }
-{
-    for k in 0..held {
-        let c = row[k];
-        say::value(c.cause as u64);
+fn told(c: Checkpoint, column: Column) -> u64 {
+    match column {
+        Column::Index => {
+            let index = c.index;
+            index.0 as u64
+        }
+        Column::Cause => c.cause as u64,
+        Column::Blocks => c.blocks as u64,
     }
-    say::end();
 }
 
-fn counts(row: [Checkpoint; PROCESSES], held: usize)
+fn stored(row: [Checkpoint; PROCESSES], held: usize, column: Column)
     requires { ⌜ held ≤ mostProcesses ⌝ }
 {
     for k in 0..held {
         let c = row[k];
-        say::value(c.blocks as u64);
+        say::value(told(c, column));
     }
     say::end();
 }
@@ -107,11 +104,11 @@ fn kept(all: Kept, p: usize, held: usize)
 {
     let rows = rows::squares::kept_rows(all);
     say::heading(b"kept", p as u64);
-    stored(rows[p], held);
+    stored(rows[p], held, Column::Index);
     say::heading(b"causes", p as u64);
-    causes(rows[p], held);
+    stored(rows[p], held, Column::Cause);
     say::heading(b"counts", p as u64);
-    counts(rows[p], held);
+    stored(rows[p], held, Column::Blocks);
 }
 
 // The five lines of process p.
@@ -196,13 +193,6 @@ pub(crate) fn disks(after: After) {
     blocks(s.disk);
 }
 
-// A value of the delivery of message m.
-fn of_delivery(words: &[u8], m: u32, x: u64) {
-    say::heading(words, m as u64);
-    say::value(x);
-    say::end();
-}
-
 // A delivery with the number of its answer and the set of the entries that rose, and the state after it.
 pub(crate) fn deliver(before: After, m: u32) -> After {
     let mut deleted = [0u16; DELETIONS];
@@ -211,8 +201,8 @@ pub(crate) fn deliver(before: After, m: u32) -> After {
     let answer = outcome.answer;
     let said = summaries::of_deliver(answer);
     let refused = said.refused;
-    of_delivery(b"deliver", m, refused as u64);
-    of_delivery(b"risen", m, outcome.rose as u64);
+    say::fact(b"deliver", m as u64, refused as u64);
+    say::fact(b"risen", m as u64, outcome.rose as u64);
     After { run, refused }
 }
 

@@ -10,13 +10,11 @@ ghost use Rattle.model.specs.Words.{mostDeletions, mostProcesses};
 // "Count 0 and 17: 1. Count 1 and 16: accepted."
 fn start(n: usize) {
     let done = act::start(n);
-    say::heading(b"start", n as u64);
-    say::value(done.refused as u64);
-    say::end();
+    say::fact(b"start", n as u64, done.refused as u64);
 }
 
 // The answer of a call on a run of n processes that is lent a list of some length.
-fn with_list(call: &[u8], n: usize, length: usize, refused: u8) {
+pub(crate) fn with_list(call: &[u8], n: usize, length: usize, refused: u8) {
     say::text(call);
     say::value(n as u64);
     say::value(length as u64);
@@ -69,42 +67,23 @@ fn recover_line(n: usize, length: usize)
     with_list(b"recoverline", n, length, done.refused);
 }
 
-// "Lists of 2 × n × n entries do, one less gives 3", and line lists of n entries.
-fn lists_of_1() {
-    checkpoint(1, 2);
-    checkpoint(1, 1);
-    recover(1, 2);
-    recover(1, 1);
-    line(1, 1);
-    line(1, 0);
-    recover_line(1, 1);
-    recover_line(1, 0);
-}
-
-fn lists_of_2() {
-    checkpoint(2, 8);
-    checkpoint(2, 7);
-    deliver(2, 8);
-    deliver(2, 7);
-    recover(2, 8);
-    recover(2, 7);
-    line(2, 2);
-    line(2, 1);
-    recover_line(2, 2);
-    recover_line(2, 1);
-}
-
-fn lists_of_16() {
-    checkpoint(16, 512);
-    checkpoint(16, 511);
-    deliver(16, 512);
-    deliver(16, 511);
-    recover(16, 512);
-    recover(16, 511);
-    line(16, 16);
-    line(16, 15);
-    recover_line(16, 16);
-    recover_line(16, 15);
+// "Lists of 2 × n × n entries do, one less gives 3", and line lists of n entries. One process has nobody to deliver to.
+fn lists(n: usize, pairs: usize)
+    requires { ⌜ (1 ≤ n) × (n ≤ 16) ⌝ }
+    requires { ⌜ (1 ≤ pairs) × (pairs ≤ 512) ⌝ }
+{
+    checkpoint(n, pairs);
+    checkpoint(n, pairs - 1);
+    if n != 1 {
+        deliver(n, pairs);
+        deliver(n, pairs - 1);
+    }
+    recover(n, pairs);
+    recover(n, pairs - 1);
+    line(n, n);
+    line(n, n - 1);
+    recover_line(n, n);
+    recover_line(n, n - 1);
 }
 
 fn sends(before: After, i: usize, j: usize, times: usize) -> After {
@@ -161,9 +140,9 @@ pub(crate) fn case_10() {
     start(1);
     start(16);
     start(17);
-    lists_of_1();
-    lists_of_2();
-    lists_of_16();
+    lists(1, 2);
+    lists(2, 8);
+    lists(16, DELETIONS);
     messages();
     own_entries();
     say::answer(b"forced 65534", forced(65533));

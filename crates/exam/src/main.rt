@@ -74,21 +74,29 @@ fn case_8() {
     facts::state(fourth);
 }
 
+// The title of a case of two processes, and the state after its first call, a send from 0 to 1.
+fn sent_once(words: &[u8], number: u64) -> After {
+    say::title(words, number);
+    let start = act::start(2);
+    act::send(start, 0, 1)
+}
+
+// A recovery of a failed set, and the delivery of message 1 after it.
+fn recovered(sent: After, failed: u16) {
+    let back = facts::recover(sent, failed);
+    let delivered = facts::deliver(back, 1);
+    facts::state(delivered);
+}
+
 // "Two processes, send 0 to 1, recover {1}: line (1,0)"; document 02: "deliver 1 is then accepted"
 fn case_9() {
-    say::title(b"case", 9);
-    let start = act::start(2);
-    let sent = act::send(start, 0, 1);
-    let recovered = facts::recover(sent, 2);
-    let delivered = facts::deliver(recovered, 1);
-    facts::state(delivered);
+    let sent = sent_once(b"case", 9);
+    recovered(sent, 2);
 }
 
 // "Forcing whenever the sent mark is set, though nothing carried is newer": process 1 has sent, and message 2 brings it nothing.
 fn mark_2() {
-    say::title(b"mark", 2);
-    let start = act::start(2);
-    let first = act::send(start, 0, 1);
+    let first = sent_once(b"mark", 2);
     let second = act::send(first, 0, 1);
     let known = facts::deliver(second, 1);
     let marked = act::send(known, 1, 0);
@@ -98,18 +106,12 @@ fn mark_2() {
 
 // What a recovery loses, each case by the number of the message that it does: process 0 sends and then rolls back to before its send, or to between two sends.
 fn lost_1() {
-    say::title(b"lost", 1);
-    let start = act::start(2);
-    let sent = act::send(start, 0, 1);
-    let recovered = facts::recover(sent, 1);
-    let delivered = facts::deliver(recovered, 1);
-    facts::state(delivered);
+    let sent = sent_once(b"lost", 1);
+    recovered(sent, 1);
 }
 
 fn lost_2() {
-    say::title(b"lost", 2);
-    let start = act::start(2);
-    let first = act::send(start, 0, 1);
+    let first = sent_once(b"lost", 2);
     let stored = act::checkpoint(first, 0, DELETIONS);
     let second = act::send(stored, 0, 1);
     let recovered = facts::recover(second, 1);
@@ -120,9 +122,7 @@ fn lost_2() {
 
 // Nobody failed: a sweep that deletes, what it leaves, and after it the delivery of a message that was under way.
 fn sweep_0() {
-    say::title(b"sweep", 0);
-    let start = act::start(2);
-    let first = act::send(start, 0, 1);
+    let first = sent_once(b"sweep", 0);
     let second = act::checkpoint(first, 1, DELETIONS);
     let third = act::deliver(second, 1, DELETIONS);
     let fourth = act::checkpoint(third, 1, DELETIONS);

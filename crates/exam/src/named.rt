@@ -2,11 +2,13 @@
 use crate::act;
 use crate::act::After;
 use crate::facts;
+use crate::limits;
 use crate::say;
 use model::CheckpointIndex;
 use model::DELETIONS;
 use model::Named;
 use model::PROCESSES;
+ghost use Prim.Native.Nat.{_≤_};
 
 // A list of named checkpoints at the front of an array, and its length.
 pub struct NamedList {
@@ -163,41 +165,22 @@ fn refused(s: After) {
 }
 
 // A new run of n processes, and a line list of some length.
-fn with_line(n: usize, length: u64, line: &mut [u16]) {
+fn earliest_line(n: usize, length: usize)
+    requires { ⌜ length ≤ 16 ⌝ }
+{
     let start = act::start(n);
     let list = one(0, 0);
     let named = list.named;
-    let outcome = calls::through::earliest_among(start.run, named, list.length, line);
+    let mut line = [0u16; PROCESSES];
+    let outcome = calls::through::earliest_among(
+        start.run,
+        named,
+        list.length,
+        &mut line[..length],
+    );
     let answer = outcome.answer;
     let said = summaries::of_line(answer);
-    say::text(b"earliestline");
-    say::value(n as u64);
-    say::value(length);
-    say::text(b":");
-    say::value(said.refused as u64);
-    say::end();
-}
-
-// Line lists of n entries, and of one less.
-fn lines_of_1() {
-    let mut whole = [0u16; 1];
-    with_line(1, 1, &mut whole);
-    let mut less = [0u16; 1];
-    with_line(1, 0, &mut less[..0]);
-}
-
-fn lines_of_2() {
-    let mut whole = [0u16; 2];
-    with_line(2, 2, &mut whole);
-    let mut less = [0u16; 1];
-    with_line(2, 1, &mut less);
-}
-
-fn lines_of_16() {
-    let mut whole = [0u16; PROCESSES];
-    with_line(16, 16, &mut whole);
-    let mut less = [0u16; 15];
-    with_line(16, 15, &mut less);
+    limits::with_list(b"earliestline", n, length, said.refused);
 }
 
 pub(crate) fn note_8() {
@@ -206,7 +189,10 @@ pub(crate) fn note_8() {
     facts::state(s);
     accepted(s);
     refused(s);
-    lines_of_1();
-    lines_of_2();
-    lines_of_16();
+    earliest_line(1, 1);
+    earliest_line(1, 0);
+    earliest_line(2, 2);
+    earliest_line(2, 1);
+    earliest_line(16, 16);
+    earliest_line(16, 15);
 }

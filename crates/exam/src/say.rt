@@ -46,6 +46,13 @@ pub(crate) fn heading(words: &[u8], x: u64) {
     text(b":");
 }
 
+// A line with one value.
+pub(crate) fn fact(words: &[u8], number: u64, x: u64) {
+    heading(words, number);
+    value(x);
+    end();
+}
+
 // What begins a case or a part of one: a word and a number, as `case 1`. `mark` is one of the wrong marks on past papers, `lost` and `sweep` are about what a
 // recovery loses and one of an empty failed set, `disk` with its `step`s about the blocks on disk, `note` about a change request.
 pub(crate) fn title(words: &[u8], number: u64) {

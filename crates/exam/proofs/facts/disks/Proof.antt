@@ -4,14 +4,8 @@ use borrow.Author.Needs.{needs}
 use Rattle.exam.proofs.facts.disks.Statement.{statement}
 use Rattle.exam.proofs.facts.disks.Tie as tie
 
-abbrev Inv-loop : tie.InvT-loop
-Inv-loop s n held p₀ p = n ≤ 16
-
-abbrev μ-loop : tie.MeasureT-loop
-μ-loop s n held p₀ p = n - p
-
 pub disks-spec : {M : Type 1} → statement M
 disks-spec =
     tie.close
-    (tie.spec Inv-loop μ-loop (λ c κs. search needs) (λ c. search needs) (λ c. search needs) (λ c. search needs) (λ c κs. search needs) (λ c κs. search needs)
-    (λ c. search needs) (λ c. search needs) (λ c. search needs) (λ c κs. search needs) (λ c. search needs))
+    (tie.spec (λ s n held p₀ p. n ≤ 16) (λ s n held p₀ p. n - p) (λ c κs. search needs) (λ c. search needs) (λ c. search needs) (λ c. search needs)
+    (λ c κs. search needs) (λ c κs. search needs) (λ c. search needs) (λ c. search needs) (λ c. search needs) (λ c κs. search needs) (λ c. search needs))

@@ -4,14 +4,8 @@ use borrow.Author.Needs.{needs}
 use Rattle.exam.proofs.facts.processes.Statement.{statement}
 use Rattle.exam.proofs.facts.processes.Tie as tie
 
-abbrev Inv-loop : tie.InvT-loop
-Inv-loop s n p₀ p = n ≤ 16
-
-abbrev μ-loop : tie.MeasureT-loop
-μ-loop s n p₀ p = n - p
-
 pub processes-spec : {M : Type 1} → statement M
 processes-spec =
     tie.close
-    (tie.spec Inv-loop μ-loop (λ c κs. search needs) (λ c. search needs) (λ c κs. search needs) (λ c. search needs) (λ c. search needs) (λ c. search needs)
-    (λ c. search needs))
+    (tie.spec (λ s n p₀ p. n ≤ 16) (λ s n p₀ p. n - p) (λ c κs. search needs) (λ c. search needs) (λ c κs. search needs) (λ c. search needs) (λ c. search needs)
+    (λ c. search needs) (λ c. search needs))

@@ -4,14 +4,8 @@ use borrow.Author.Needs.{needs}
 use Rattle.exam.proofs.facts.stored.Statement.{statement}
 use Rattle.exam.proofs.facts.stored.Tie as tie
 
-abbrev Inv-loop : tie.InvT-loop
-Inv-loop held row k₀ k = Unit
-
-abbrev μ-loop : tie.MeasureT-loop
-μ-loop held row k₀ k = held - k
-
 pub stored-spec : {M : Type 1} → statement M
 stored-spec =
     tie.close
-    (tie.spec Inv-loop μ-loop (λ c. search needs) (λ c. search needs) (λ c. search needs) (λ c. search needs) (λ c κs. search needs) (λ c. search needs)
-    (λ c. search needs) (λ c. search needs) (λ c κs. search needs) (λ c. search needs))
+    (tie.spec (λ held column row k₀ k. Unit) (λ held column row k₀ k. held - k) (λ c. search needs) (λ c. search needs) (λ c. search needs) (λ c κs. search needs)
+    (λ c κs. search needs) (λ c. search needs) (λ c. search needs) (λ c. search needs) (λ c κs. search needs) (λ c. search needs))

@@ -4,12 +4,8 @@ use borrow.Author.Needs.{needs}
 use Rattle.exam.proofs.limits.sends.Statement.{statement}
 use Rattle.exam.proofs.limits.sends.Tie as tie
 
-abbrev Inv-loop : tie.InvT-loop
-Inv-loop i j times s₀ k₀ s k = Unit
-
-abbrev μ-loop : tie.MeasureT-loop
-μ-loop i j times s₀ k₀ s k = times - k
-
 pub sends-spec : {M : Type 1} → statement M
 sends-spec =
-    tie.close (tie.spec Inv-loop μ-loop (λ c. search needs) (λ c κs. search needs) (λ c. search needs) (λ c. search needs) (λ c. search needs) (λ c. search needs))
+    tie.close
+    (tie.spec (λ i j times s₀ k₀ s k. Unit) (λ i j times s₀ k₀ s k. times - k) (λ c. search needs) (λ c κs. search needs) (λ c. search needs) (λ c. search needs)
+    (λ c. search needs) (λ c. search needs))
