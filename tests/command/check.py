@@ -25,7 +25,7 @@ from pathlib import Path
 import lemidrosy
 from lemidrosy import Refused, Run, foreign, functions, machine, numbers
 from lemidrosy.calls import make
-from lemidrosy.command import main
+from lemidrosy.command import main, parser
 from lemidrosy.history import Stored
 from lemidrosy.library import library
 from lemidrosy.text import FORMS, bytes_of, text_of
@@ -39,6 +39,10 @@ EXAMPLE = TOP / "crates" / "replay" / "stdin"
 ABSENT_FILE = Path(os.environ.get("ABSENT", TOP / "tests" / "command" / "absent"))
 ABSENT = set(ABSENT_FILE.read_text().split()) if ABSENT_FILE.exists() else set()
 """The calls that the library does not export yet. One that is exported all the same has to leave that file."""
+
+
+# The modules of all subcommands, which the processes that go on from this one then have.
+parser([])
 
 
 def needs(*names):

@@ -2,14 +2,16 @@
 
 from __future__ import annotations
 
-import argparse
 import signal
-from typing import List, NoReturn, Optional, Sequence
+import sys
+from importlib import import_module
+from typing import List, Optional, Sequence
 
-from . import __version__, convert, draw, exam, explain, lines, programs, recording, scripting, simulation
+from . import __version__
 from .answers import Refused
-from .files import INTERRUPTED, REFUSED, SYSTEM, USAGE, Stop, say
+from .files import INTERRUPTED, REFUSED, SYSTEM, Stop, say
 from .library import LibraryError
+from .subcommands import Parser, Subcommands
 from .words import TextError
 
 DESCRIPTION = "Checkpoints, garbage collection and recovery lines of message-passing runs."
@@ -27,41 +29,38 @@ examples:
   lemidrosy line run.trace --failed 0,2            where to restart from if 0 and 2 fail
 """
 
+SUBCOMMANDS = {
+    "replay": "programs.add_replay",
+    "explain": "explain.add",
+    "draw": "draw.add",
+    "line": "lines.add_line",
+    "earliest": "lines.add_earliest",
+    "text": "convert.add_text",
+    "bytes": "convert.add_bytes",
+    "judge": "programs.add_judge",
+    "merge": "programs.add_merge",
+    "record": "recording.add",
+    "console": "scripting.add",
+    "simulate": "simulation.add",
+    "exam": "exam.add",
+}
+"""The subcommands, each with its module and the function there that adds it."""
 
-class Parser(argparse.ArgumentParser):
-    """Says what is wrong with the words of a command in one line."""
 
-    def error(self, message: str) -> NoReturn:
-        self.exit(USAGE, f"{self.prog}: {message}; see {self.prog} --help\n")
-
-
-def parser() -> Parser:
-    """All subcommands."""
-    command = Parser(prog="lemidrosy", description=DESCRIPTION, epilog=EPILOG, formatter_class=argparse.RawDescriptionHelpFormatter)
+def parser(words: Sequence[str]) -> Parser:
+    """The subcommand that the words begin with, or all of them: the modules of the others take longer to load than a short trace takes to replay."""
+    command = Parser(prog="lemidrosy", description=DESCRIPTION, epilog=EPILOG)
     command.add_argument("--version", action="version", version=f"lemidrosy {__version__}")
-    added = command.add_subparsers(dest="subcommand", metavar="SUBCOMMAND", required=True, parser_class=Parser)
-    for add in (
-        programs.add_replay,
-        explain.add,
-        draw.add,
-        lines.add_line,
-        lines.add_earliest,
-        convert.add_text,
-        convert.add_bytes,
-        programs.add_judge,
-        programs.add_merge,
-        recording.add,
-        scripting.add,
-        simulation.add,
-        exam.add,
-    ):
-        add(added)
+    subcommands = Subcommands(command)
+    for name in words[:1] if words and words[0] in SUBCOMMANDS else SUBCOMMANDS:
+        module, add = SUBCOMMANDS[name].split(".")
+        getattr(import_module(f".{module}", __package__), add)(subcommands)
     return command
 
 
-def run(words: Optional[Sequence[str]]) -> int:
+def run(words: Sequence[str]) -> int:
     """Does what the words ask for and gives the status."""
-    arguments = parser().parse_args(words)
+    arguments = parser(words).parse_args(words)
     try:
         return int(arguments.run(arguments))
     except Stop as stop:
@@ -82,6 +81,6 @@ def main(words: Optional[List[str]] = None) -> int:
     """The command. An interrupt, or a pipe that nobody reads any more, ends it quietly."""
     signal.signal(signal.SIGPIPE, signal.SIG_DFL)
     try:
-        return run(words)
+        return run(sys.argv[1:] if words is None else words)
     except KeyboardInterrupt:
         return INTERRUPTED

@@ -15,6 +15,7 @@ from .functions import judge
 from .history import Follower
 from .lines import follow, followed, numbers, told
 from .sentences import counted
+from .subcommands import Subcommands
 from .summary import Summary
 from .svg import Picture
 from .trace import RECORD
@@ -23,17 +24,17 @@ _SIDE_BY_SIDE = 1500
 """As wide as two pictures may be together to stand side by side."""
 
 
-def add(subcommands: "argparse._SubParsersAction[argparse.ArgumentParser]") -> None:
+def add(subcommands: Subcommands) -> None:
     """The subcommand `draw`."""
-    added = subcommands.add_parser(
+    added = subcommands.add(
         "draw",
+        run_draw,
         help="a trace as a picture",
         description="Draws the space-time diagram of a trace: a line for each process, checkpoints as marks, messages as arrows, what recoveries undid in grey. "
         "More than a picture can show is summed up; --from and --at give a window.",
         epilog="examples:\n  lemidrosy draw run.trace -o run.svg\n  lemidrosy draw run.trace --failed 0 --at 8 -o line.svg\n  lemidrosy draw run.trace --from 100 --at 160 -o part.png\n  lemidrosy draw foreign.trace --judge -o zigzag.svg",
-        formatter_class=argparse.RawDescriptionHelpFormatter,
     )
-    added.add_argument("trace", metavar="TRACE", help="the trace, as bytes or as text; - for standard input")
+    added.add_trace()
     added.add_argument("-o", "--output", metavar="FILE", default=STANDARD, help="an .svg file, or a .png file where rsvg-convert is there; standard output without it")
     added.add_argument("--at", metavar="RECORD", type=int, help="as it stands after this record; at the end of the trace without it")
     added.add_argument("--from", metavar="RECORD", type=int, dest="first", default=1, help="nothing before this record")
@@ -41,7 +42,6 @@ def add(subcommands: "argparse._SubParsersAction[argparse.ArgumentParser]") -> N
     added.add_argument("--compare", action="store_true", help="two pictures: before the last record and after it, so that what a recovery or a sweep deletes is seen")
     added.add_argument("--judge", action="store_true", help="as the trace of another run-time, with the zigzag path that breaks trackability in colour, if there is one")
     added.add_argument("--title", metavar="TEXT", help="what stands above it")
-    added.set_defaults(run=run_draw)
 
 
 def run_draw(arguments: argparse.Namespace) -> int:

@@ -64,8 +64,10 @@ class Source:
         part = self.part(number)
         return Record.of(part) if part else None
 
-    def close(self) -> None:
-        """Nothing more is read."""
+    def __enter__(self) -> "Source":
+        return self
+
+    def __exit__(self, kind: object, value: object, traceback: object) -> None:
         self.progress.end()
         if self._file is not None:
             self._file.close()

@@ -11,6 +11,7 @@ from .files import ACCEPTED, Output
 from .library import DELETIONS, PROCESSES, WORDS, library
 from .numbers import members, named_checkpoints, set_of
 from .run import Run
+from .subcommands import Subcommands
 
 _MOST_BLOCKS = 10**15
 """The most blocks that a run may write."""
@@ -320,16 +321,15 @@ def lines() -> Iterable[str]:
         sheet.text.clear()
 
 
-def add(subcommands: "argparse._SubParsersAction[argparse.ArgumentParser]") -> None:
+def add(subcommands: Subcommands) -> None:
     """The subcommand `exam`."""
-    added = subcommands.add_parser(
+    subcommands.add(
         "exam",
+        run_exam,
         help="the exam sheet's cases, made by real calls",
         description="Makes the calls of the exam sheet's cases, and of the cases that the change requests added, and prints what they answered and left, one fact a line.",
         epilog="example:\n  lemidrosy exam > sheet.txt",
-        formatter_class=argparse.RawDescriptionHelpFormatter,
     )
-    added.set_defaults(run=run_exam)
 
 
 def run_exam(arguments: argparse.Namespace) -> int:

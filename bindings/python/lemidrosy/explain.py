@@ -11,6 +11,7 @@ from .files import ACCEPTED, REFUSED, USAGE, Output, Stop
 from .history import Follower, History, Step, begun
 from .records import TraceForm
 from .sentences import counted, listed, processes, row
+from .subcommands import Subcommands
 from .trace import DELIVER, LEFT_OVER_BYTES, LOSE
 
 _FORM = TraceForm()
@@ -143,19 +144,18 @@ class Explanation:
                 yield f"checkpoint {process}:{kept.index} ({kept.cause}) stays: the pin{'' if len(pinned) == 1 else 's'} for {listed(pinned)} name{'s' if len(pinned) == 1 else ''} it; {use}"
 
 
-def add(subcommands: "argparse._SubParsersAction[argparse.ArgumentParser]") -> None:
+def add(subcommands: Subcommands) -> None:
     """The subcommand `explain`."""
-    added = subcommands.add_parser(
+    added = subcommands.add(
         "explain",
+        run_explain,
         help="what each record of a trace did, and why",
         description="Says of each record what changed: vectors, pins and checkpoints; why a delivery forced a checkpoint, why a checkpoint was deleted or stays, why a "
         "record was refused. With the number of a record it says of that one also why each kept checkpoint stays.",
         epilog="example, why record 8 forced a checkpoint:\n  lemidrosy explain run.trace 8",
-        formatter_class=argparse.RawDescriptionHelpFormatter,
     )
-    added.add_argument("trace", metavar="TRACE", help="the trace, as bytes or as text; - for standard input")
+    added.add_trace()
     added.add_argument("record", metavar="RECORD", nargs="?", type=int, help="the number of a record, from 1")
-    added.set_defaults(run=run_explain)
 
 
 def run_explain(arguments: argparse.Namespace) -> int:

@@ -5,7 +5,7 @@ from __future__ import annotations
 import io
 import os
 import sys
-from typing import IO, Any, BinaryIO, Iterator, Union
+from typing import IO, Any, BinaryIO, Iterator, Optional, Union
 
 from .text import bytes_of
 
@@ -45,23 +45,18 @@ class Input(io.RawIOBase):
     def __init__(self, name: str) -> None:
         self.name = "standard input" if name == STANDARD else name
         try:
-            self._file: IO[bytes] = open(0 if name == STANDARD else name, "rb", buffering=0, closefd=name != STANDARD)
+            self._file: io.FileIO = open(0 if name == STANDARD else name, "rb", buffering=0, closefd=name != STANDARD)
         except OSError as error:
             raise system_failed(self.name, error) from None
 
     def readable(self) -> bool:
         return True
 
-    def read(self, size: int = -1) -> bytes:
+    def readinto(self, buffer: Any) -> Optional[int]:
         try:
-            return self._file.read(size)
+            return self._file.readinto(buffer)
         except OSError as error:
             raise system_failed(self.name, error) from None
-
-    def readinto(self, buffer: Any) -> int:
-        block = self.read(len(buffer))
-        buffer[: len(block)] = block
-        return len(block)
 
     def close(self) -> None:
         if not self.closed:

@@ -12,6 +12,7 @@ from .answers import Refused
 from .files import ACCEPTED, REFUSED, USAGE, Output, Stop, say
 from .history import Follower, Stored, begun
 from .sentences import counted, listed, processes
+from .subcommands import Parser, Subcommands
 from .trace import LEFT_OVER_BYTES
 
 
@@ -30,9 +31,9 @@ def checkpoint(text: str) -> Tuple[int, int]:
     return process, index
 
 
-def add_trace(added: argparse.ArgumentParser) -> None:
+def add_followed(added: Parser) -> None:
     """The trace, and where in it."""
-    added.add_argument("trace", metavar="TRACE", help="the trace, as bytes or as text; - for standard input")
+    added.add_trace()
     added.add_argument("--at", metavar="RECORD", type=int, help="after this record, 0 for the start; at the end of the trace without it")
 
 
@@ -70,21 +71,20 @@ def told(refusal: Optional[str]) -> int:
 # -------------------------------------------------------------------------- line
 
 
-def add_line(subcommands: "argparse._SubParsersAction[argparse.ArgumentParser]") -> None:
+def add_line(subcommands: Subcommands) -> None:
     """The subcommand `line`."""
-    added = subcommands.add_parser(
+    added = subcommands.add(
         "line",
+        run_line,
         help="the recovery line for a failed set, and what it costs",
         description="Shows the recovery line of a run for a failed set: who goes back how far, and how many checkpoints and events that undoes. With --all it shows the "
         "line of every failed set, one a row.",
         epilog="examples:\n  lemidrosy line run.trace --failed 0,2\n  lemidrosy line run.trace --failed 1 --at 4\n  lemidrosy line run.trace --all",
-        formatter_class=argparse.RawDescriptionHelpFormatter,
     )
-    add_trace(added)
+    add_followed(added)
     which = added.add_mutually_exclusive_group(required=True)
     which.add_argument("--failed", metavar="P,Q", type=numbers, help="the processes that failed")
     which.add_argument("--all", action="store_true", help="every set of processes that may fail together")
-    added.set_defaults(run=run_line)
 
 
 def run_line(arguments: argparse.Namespace) -> int:
@@ -129,18 +129,17 @@ def all_lines(follower: Follower) -> Iterator[str]:
 # ---------------------------------------------------------------------- earliest
 
 
-def add_earliest(subcommands: "argparse._SubParsersAction[argparse.ArgumentParser]") -> None:
+def add_earliest(subcommands: Subcommands) -> None:
     """The subcommand `earliest`."""
-    added = subcommands.add_parser(
+    added = subcommands.add(
         "earliest",
+        run_earliest,
         help="the earliest consistent line through kept checkpoints",
         description="Shows the earliest consistent line through kept checkpoints, to look at in a debugger. It may pass through deleted ones: nothing restarts from it.",
         epilog="example:\n  lemidrosy earliest run.trace 0:3 1:2",
-        formatter_class=argparse.RawDescriptionHelpFormatter,
     )
-    add_trace(added)
+    add_followed(added)
     added.add_argument("named", metavar="PROCESS:INDEX", nargs="+", type=checkpoint, help="a kept checkpoint")
-    added.set_defaults(run=run_earliest)
 
 
 def run_earliest(arguments: argparse.Namespace) -> int:

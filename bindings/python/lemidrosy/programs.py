@@ -9,13 +9,14 @@ from typing import Mapping, Optional
 
 from .answers import Refused
 from .driven import Copied, Source
-from .files import ACCEPTED, REFUSED, STANDARD, Output, reader, say, size_of, whole
+from .files import ACCEPTED, REFUSED, Output, reader, say, size_of, whole
 from .functions import Replay, judge, merge
 from .lines import numbers
 from .machine import Machine, drive
 from .numbers import members
 from .progress import Progress
 from .records import TraceForm
+from .subcommands import Subcommands
 from .trace import RECORD, Record
 
 ADVICE = {
@@ -52,19 +53,18 @@ def told(subcommand: str, refusal: Refused, number: int = 0, record: Optional[Re
 # ------------------------------------------------------------------------ replay
 
 
-def add_replay(subcommands: "argparse._SubParsersAction[argparse.ArgumentParser]") -> None:
+def add_replay(subcommands: Subcommands) -> None:
     """The subcommand `replay`."""
-    added = subcommands.add_parser(
+    added = subcommands.add(
         "replay",
+        run_replay,
         help="what each record of a trace did, a line each",
         description="Replays a trace. A line has the number of the record, 0 or the number of the refusal, and if it was accepted a value (the index of the checkpoint, the "
         "number of the message, the index of a forced checkpoint, how many rolled back), how many checkpoints were deleted, and each as process:index.",
         epilog="example:\n  lemidrosy replay run.trace\n  lemidrosy replay --all < run.trace",
-        formatter_class=argparse.RawDescriptionHelpFormatter,
     )
     added.add_argument("--all", action="store_true", help="go on after a refusal")
-    added.add_argument("trace", metavar="TRACE", nargs="?", default=STANDARD, help="the trace, as bytes; standard input without it")
-    added.set_defaults(run=run_replay)
+    added.add_input("trace", "the trace, as bytes")
 
 
 def run_replay(arguments: argparse.Namespace) -> int:
@@ -85,29 +85,24 @@ def run_replay(arguments: argparse.Namespace) -> int:
 # ------------------------------------------------------------------------- judge
 
 
-def add_judge(subcommands: "argparse._SubParsersAction[argparse.ArgumentParser]") -> None:
+def add_judge(subcommands: Subcommands) -> None:
     """The subcommand `judge`."""
-    added = subcommands.add_parser(
+    added = subcommands.add(
         "judge",
+        run_judge,
         help="whether the trace of another run-time is trackable",
         description="Judges the trace of a system with another rule for forced checkpoints, each of which is recorded as a checkpoint. It is trackable if each zigzag path "
         "between two checkpoints goes with causal precedence; otherwise the first pair that breaks this is named, as process:index of the near end and of the far end.",
         epilog="example:\n  lemidrosy judge foreign.trace",
-        formatter_class=argparse.RawDescriptionHelpFormatter,
     )
-    added.add_argument("trace", metavar="TRACE", nargs="?", default=STANDARD, help="the trace, as bytes; standard input without it")
-    added.set_defaults(run=run_judge)
+    added.add_input("trace", "the trace, as bytes")
 
 
 def run_judge(arguments: argparse.Namespace) -> int:
     """The verdict in one line, by the machine of the proved program."""
-    source = Source(arguments.trace)
-    try:
-        with Output() as output:
-            printed = Copied(output)
-            drive(Machine("judge"), source, printed, io.BytesIO())
-    finally:
-        source.close()
+    with Source(arguments.trace) as source, Output() as output:
+        printed = Copied(output)
+        drive(Machine("judge"), source, printed, io.BytesIO())
     return judged(printed.text.decode(), source)
 
 
@@ -158,21 +153,20 @@ def set_number(text: str) -> int:
     return int(digits or "0") if len(digits) <= _DIGITS else 1 << 32
 
 
-def add_merge(subcommands: "argparse._SubParsersAction[argparse.ArgumentParser]") -> None:
+def add_merge(subcommands: Subcommands) -> None:
     """The subcommand `merge`."""
-    added = subcommands.add_parser(
+    added = subcommands.add(
         "merge",
+        run_merge,
         help="one trace of two halves of a run",
         description="Merges two halves of one run, each recorded by a rack of its own processes, into one trace with run-wide message numbers.",
         epilog="example, processes 0 and 2 belong to the first half:\n  lemidrosy merge first.half second.half --processes 0,2 > run.trace\n  lemidrosy merge first.half second.half 5 > run.trace",
-        formatter_class=argparse.RawDescriptionHelpFormatter,
     )
     added.add_argument("first", metavar="FIRST", help="the first half; - for standard input")
     added.add_argument("second", metavar="SECOND", help="the second half")
     which = added.add_mutually_exclusive_group(required=True)
     which.add_argument("set", metavar="SET", nargs="?", type=set_number, help="the processes of the first half as a number, bit p for process p")
     which.add_argument("--processes", metavar="P,Q", type=numbers, help="the processes of the first half")
-    added.set_defaults(run=run_merge)
 
 
 def run_merge(arguments: argparse.Namespace) -> int:

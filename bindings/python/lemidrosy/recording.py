@@ -8,27 +8,27 @@ import re
 
 from .answers import Refused
 from .driven import Source
-from .files import ACCEPTED, STANDARD, USAGE, Output, Stop
+from .files import ACCEPTED, USAGE, Output, Stop
 from .machine import Machine, drive
 from .programs import told
+from .subcommands import Subcommands
 
 _REFUSAL = re.compile(rb"record: record (\d+): refused (\d+)")
 """The line that the machine says of a refused record."""
 
 
-def add(subcommands: "argparse._SubParsersAction[argparse.ArgumentParser]") -> None:
+def add(subcommands: Subcommands) -> None:
     """The subcommand `record`."""
-    added = subcommands.add_parser(
+    added = subcommands.add(
         "record",
+        run,
         help="the accepted records of a trace, as a trace",
         description="Plays a trace through the recorder and writes what it recorded: the first byte, and the records of the calls that were accepted. A replay of that ends in "
         "the same state, and meets no refusal. Each refused record is told on standard error.",
         epilog="example:\n  lemidrosy record run.trace > accepted.trace\n  lemidrosy record --bytes 4096 < run.trace > front.trace",
-        formatter_class=argparse.RawDescriptionHelpFormatter,
     )
     added.add_argument("--bytes", metavar="BYTES", help="the bytes of the recorder's buffer; without it, it holds every trace")
-    added.add_argument("trace", metavar="TRACE", nargs="?", default=STANDARD, help="the trace, as bytes; standard input without it")
-    added.set_defaults(run=run)
+    added.add_input("trace", "the trace, as bytes")
 
 
 class Told:
@@ -56,11 +56,7 @@ class Told:
 def run(arguments: argparse.Namespace) -> int:
     """What was recorded."""
     words = [] if arguments.bytes is None else [os.fsencode(arguments.bytes)]
-    source = Source(arguments.trace)
-    said = Told(source)
-    try:
-        with Output() as output:
-            drive(Machine("record"), source, output, said, words)
-    finally:
-        source.close()
+    with Source(arguments.trace) as source, Output() as output:
+        said = Told(source)
+        drive(Machine("record"), source, output, said, words)
     return said.status

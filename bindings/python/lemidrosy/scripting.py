@@ -7,10 +7,11 @@ import io
 
 from .answers import Refused
 from .driven import SCRIPT, Source
-from .files import ACCEPTED, REFUSED, STANDARD, Output, say
+from .files import ACCEPTED, REFUSED, Output, say
 from .machine import Machine, drive
 from .programs import ADVICE, in_words
 from .scripts import ConsoleForm
+from .subcommands import Subcommands
 
 _OF_CALLS = {
     **ADVICE,
@@ -30,18 +31,17 @@ _OF_SCRIPTS = {
 """What to do where it is no call that is refused."""
 
 
-def add(subcommands: "argparse._SubParsersAction[argparse.ArgumentParser]") -> None:
+def add(subcommands: Subcommands) -> None:
     """The subcommand `console`."""
-    added = subcommands.add_parser(
+    added = subcommands.add(
         "console",
+        run,
         help="what each call of a console script answers, a line each",
         description="Makes the calls of a console script, each by an operator, a job owner or a viewer. A line has the number of the call, 0 or the number of the refusal, and if "
         "it was accepted what the caller is told. It is written before the next call is read. Each refused call is told on standard error.",
         epilog="example:\n  lemidrosy console script\n  lemidrosy bytes script.txt | lemidrosy console",
-        formatter_class=argparse.RawDescriptionHelpFormatter,
     )
-    added.add_argument("script", metavar="SCRIPT", nargs="?", default=STANDARD, help="the script, as bytes; standard input without it")
-    added.set_defaults(run=run)
+    added.add_input("script", "the script, as bytes")
 
 
 class Facts:
@@ -79,11 +79,7 @@ class Facts:
 
 def run(arguments: argparse.Namespace) -> int:
     """The facts of the script."""
-    source = Source(arguments.script, SCRIPT)
-    try:
-        with Output() as output:
-            facts = Facts(output, source)
-            drive(Machine("console"), source, facts, io.BytesIO())
-    finally:
-        source.close()
+    with Source(arguments.script, SCRIPT) as source, Output() as output:
+        facts = Facts(output, source)
+        drive(Machine("console"), source, facts, io.BytesIO())
     return facts.status

@@ -13,6 +13,7 @@ from .functions import simulate
 from .numbers import BITS_32
 from .plot import Chart, chart
 from .programs import in_words
+from .subcommands import Subcommands
 from .svg import Picture
 
 _HEAD = "# spacing deliveries forced most-kept forced-per-thousand-deliveries remainder\n"
@@ -39,15 +40,15 @@ def spacings(text: str) -> Tuple[int, int, bool]:
     return figure(first), figure(last) if hyphen else figure(first), bool(hyphen)
 
 
-def add(subcommands: "argparse._SubParsersAction[argparse.ArgumentParser]") -> None:
+def add(subcommands: Subcommands) -> None:
     """The subcommand `simulate`."""
-    added = subcommands.add_parser(
+    added = subcommands.add(
         "simulate",
+        run_simulate,
         help="figures of a checkpoint spacing, before nodes are booked",
         description="Simulates a run of N processes in which each takes a checkpoint after each SPACING of its sends and deliveries: how many checkpoints are forced, and how "
         "many a process keeps at most. With FROM-TO it gives a row for each spacing, all with the same draws.",
         epilog="examples:\n  lemidrosy simulate 4 10 3000 7\n  lemidrosy simulate 4 1-40 3000 7 --table\n  lemidrosy simulate 4 1-40 3000 7 --plot spacing.svg",
-        formatter_class=argparse.RawDescriptionHelpFormatter,
     )
     added.add_argument("n", metavar="N", type=figure, help="processes, 1 to 16")
     added.add_argument("spacing", metavar="SPACING", type=spacings, help="1 to 1000, or FROM-TO")
@@ -56,7 +57,6 @@ def add(subcommands: "argparse._SubParsersAction[argparse.ArgumentParser]") -> N
     form = added.add_mutually_exclusive_group()
     form.add_argument("--table", action="store_true", help="a table for people")
     form.add_argument("--plot", metavar="FILE", help="an .svg file, or a .png file where rsvg-convert is there")
-    added.set_defaults(run=run_simulate)
 
 
 def run_simulate(arguments: argparse.Namespace) -> int:
