@@ -16,9 +16,6 @@ Inv-loop memory₀ input₀ out₀ request₀ source₀ memory input out request
 abbrev μ-loop : tie.MeasureT-loop
 μ-loop memory₀ input₀ out₀ request₀ source₀ memory input out request source = left (stateOf memory input out)
 
-begin-requires : tie.Need-begin-requires Inv-loop μ-loop
-begin-requires c κs = c .before .before .before .before .before .before .pre
-
 loop-holds : tie.Need-loop-holds Inv-loop μ-loop
 loop-holds c = let start = c .before .before .before .before .before .before .before .before .before .before in let begin = c .before .before .before .begin in (driven-first _ _ _ _ (omega (arith, begin .kept .0, start .pre .0), start .pre .1, start .pre .2) (begin .ensures), refl, refl, refl)
 
@@ -37,5 +34,5 @@ returns c = driven-ends _ _ _ _ (c .before .before .loop .inv .0) (sym (c .befor
 pub drive-spec : {M : Type 1} → statement M
 drive-spec =
     tie.close
-    (tie.spec Inv-loop μ-loop begin-requires (λ c κs. search needs) loop-holds (λ c κs. search needs) obey-requires (λ c κs. search needs) loop-less loop-again
-    (λ c. search needs) (λ c. search needs) (λ c. search needs) returns)
+    (tie.spec Inv-loop μ-loop (λ c κs. c .before .before .before .before .before .before .pre) (λ c κs. search needs) loop-holds (λ c κs. search needs)
+    obey-requires (λ c κs. search needs) loop-less loop-again (λ c. search needs) (λ c. search needs) (λ c. search needs) returns)
