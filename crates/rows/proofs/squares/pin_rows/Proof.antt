@@ -25,7 +25,6 @@ use denote.Struct.Laws as struct
 use denote.Enum.Laws as enum
 use denote.Triple.Entry.{onEntry}
 use denote.Triple.Spec.{Meets, tripleOf}
-use denote.Triple.Table.{entered}
 use denote.Triple.Walked.{says, Stays, stay-none, walkOf, goes-none, Walks, ends-at, walked, walk-meets}
 use denote.Exit.{yes}
 use Rattle.model.specs.declared.Pins.{Pins}
@@ -33,7 +32,7 @@ use Rattle.model.proofs.Pins as whole-type
 use Rattle.model.proofs.Pins.Laws as whole-laws
 use Rattle.model.proofs.Pin as entry-type
 use Rattle.model.proofs.Pin.Laws as entry-laws
-use Rattle.rows.proofs.Square.{square, square-field, of-field, square-makes, square-lawful}
+use Rattle.rows.proofs.Square.{square, square-field, of-field, square-makes, square-lawful, by-walk}
 use Rattle.rows.proofs.squares.pin_rows.Key.{name as #own}
 use Rattle.rows.proofs.squares.pin_rows as f
 use Rattle.rows.proofs.squares.pin_rows.Statement as stated
@@ -87,6 +86,5 @@ meets 𝓤 H A W mem run 𝓣 = walk-meets 𝓤 H A f.ended stayed W (goes-none 
 pub pin-rows-spec : {M : Type 1} → stated.statement M
 unfolding code.routine tablesOf
 pin-rows-spec 𝓤 H 𝓜 𝓖 𝓡 =
-    entered 𝓤 H (tripleOf 𝓤 H (𝓖 .A) f.signature (f.spec 𝓤 H (𝓖 .A) (𝓜 .mem) (𝓡 .run)))
-    (tables 𝓤 H 𝓜 𝓡 code.env .C) (tables 𝓤 H 𝓜 𝓡 code.env .Λ) #own code.function (code.unfolded 𝓤 H 𝓜 𝓡)
+    by-walk 𝓤 H 𝓜 𝓡 code.env #own code.function (tripleOf 𝓤 H (𝓖 .A) f.signature (f.spec 𝓤 H (𝓖 .A) (𝓜 .mem) (𝓡 .run))) (code.unfolded 𝓤 H 𝓜 𝓡)
     (meets 𝓤 H (𝓖 .A) (givenOf 𝓤 H 𝓜 𝓖) (𝓜 .mem) (𝓡 .run) (tablesOf 𝓤 H 𝓜 (tables 𝓤 H 𝓜 𝓡 code.env)))
