@@ -17,10 +17,9 @@ returns : tie.Need-returns
 unfolding mergeReport coded valueCode
 returns c = rw (c .before .before .a .given .1) (omega (arith, c .number-of .ensures))
 
-returns-2 : tie.Need-returns-2
-unfolding reportIn valueIn mergeReport
-returns-2 c = rw (c .before .before .a2 .given .1) (c .code-of .ensures)
-
 pub merge-code-spec : {M : Type 1} → statement M
+unfolding reportIn valueIn mergeReport
 merge-code-spec =
-    tie.close (tie.spec (λ c. search needs) (λ c κs. search needs) (λ c. search needs) (λ c. search needs) code-of-requires returns returns-2)
+    tie.close
+    (tie.spec (λ c. search needs) (λ c κs. search needs) (λ c. search needs) (λ c. search needs) code-of-requires returns
+    (λ c. rw (c .before .before .a2 .given .1) (c .code-of .ensures)))

@@ -38,16 +38,10 @@ returns : tie.Need-returns
 unfolding judgeCoded judgeReport pairCode
 returns c = rw (c .before .before .v .given .1) (omega (arith, c .number-of .ensures))
 
-returns-2 : tie.Need-returns-2
-unfolding judgeCoded judgeReport pairCode
-returns-2 c = rw (c .enum-told .given .1) refl
-
-returns-3 : tie.Need-returns-3
-unfolding judgeCoded judgeReport pairCode
-returns-3 c = rw (c .before .before .before .v2 .given .1) (omega arith)
-
 pub verdict-code-spec : {M : Type 1} → statement M
+unfolding judgeCoded judgeReport pairCode
 verdict-code-spec =
     tie.close
     (tie.spec (λ c. search needs) (λ c κs. search needs) (λ c. search needs) (λ c. search needs) (λ c. search needs) mul-near-end (λ c. search needs)
-    (λ c. search needs) add-near-end mul-far-end (λ c. search needs) (λ c. search needs) add-far-end add-result add-result-2 returns returns-2 returns-3)
+    (λ c. search needs) add-near-end mul-far-end (λ c. search needs) (λ c. search needs) add-far-end add-result add-result-2 returns
+    (λ c. rw (c .enum-told .given .1) refl) (λ c. rw (c .before .before .before .v2 .given .1) (omega arith)))
