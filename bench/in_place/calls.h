@@ -5,7 +5,7 @@
 
 enum { WORDS = LEMIDROSY_WORDS };
 
-// The records of a whole trace as calls without the test, from a start of n processes on; and as the calls by value. How many records were accepted.
+// The records of a whole trace as calls without the test, after a start of n processes; and as calls by value. How many records were accepted.
 uint64_t timing_untested(uint16_t *words, size_t size, size_t n, const uint8_t *trace, size_t trace_size);
 uint64_t timing_by_value(size_t n, const uint8_t *trace, size_t trace_size);
 #endif

@@ -2,27 +2,33 @@
 // function with callers in both is compiled otherwise than it is for either.
 use model::PROCESSES;
 use model::Run;
+use recorder_bytes::accepted;
 ghost use mathlib.Core.Path.{_≡_};
-ghost use mathlib.Core.Bool.{true};
-ghost use Prim.Native.Nat.{_+_, _*_, _≤_, _<_};
-ghost use lib.ListN.{length};
+ghost use mathlib.Core.Bool.{_&&_};
+ghost use lib.Dec.{ltb};
+ghost use Rattle.laws.specs.Choice.{pick};
+ghost use Rattle.model.specs.Words.{ones};
+ghost use Rattle.model.specs.Refusals.{startRefusal};
 ghost use Rattle.whole_runs.specs.Listing.{mostRecords};
+ghost use Rattle.reader.specs.Reading.{recordLeft};
+ghost use Rattle.timing.specs.Timed.{recordsTaken, timedRecords, timedTrace};
 
 // by_value.rt: a record on a state by value
 mod by_value;
 
+// "The program ends after record 1,000,000,000"
 const MOST_RECORDS: usize = whole_runs::MOST_RECORDS as usize;
 
 // What a record adds to the count.
 pub fn one_if(accepted: bool) -> u64
-    ensures { λ r. ⌜ r ≤ 1 ⌝ }
+    ensures { λ r. ⌜ r ≡ pick accepted 1 0 ⌝ }
 {
     if accepted { 1 } else { 0 }
 }
 
 // A record is left, and it is not after the last that a replay takes.
 pub fn takes_next(trace: &[u8], taken: usize) -> bool
-    ensures { λ r. ⌜ (r ≡ true → (taken < mostRecords) × (4 * taken + 5 ≤ length (now (trace .entry)))) ⌝ }
+    ensures { λ r. ⌜ r ≡ (ltb taken mostRecords && recordLeft (now (trace .entry)) taken) ⌝ }
 {
     if MOST_RECORDS <= taken {
         return false;
@@ -31,7 +37,9 @@ pub fn takes_next(trace: &[u8], taken: usize) -> bool
 }
 
 // Every record of a trace as a call by value: how many were accepted.
-fn apply_by_value(s: Run, trace: &[u8]) -> u64 {
+fn apply_by_value(s: Run, trace: &[u8]) -> u64
+    ensures { λ r. ⌜ r ≡ timedRecords s (recordsTaken (now (trace .entry))) .accepted ⌝ }
+{
     let mut run = s;
     let mut accepted: u64 = 0;
     let mut taken = 0;
@@ -40,16 +48,23 @@ fn apply_by_value(s: Run, trace: &[u8]) -> u64 {
         let d = trace::decode(part);
         let after = by_value::apply(run, d);
         run = after.run;
-        let one = one_if(after.refused == 0);
+        let one = one_if(after.accepted);
         accepted = accepted + one;
         taken += 1;
     }
     accepted
 }
 
-// The same from a start of n processes on, with block counts of 1.
+// The same after a start of n processes with block counts of 1. Where the start is refused, none is accepted.
 #[no_mangle]
-pub extern "C" fn timing_by_value(n: usize, trace: &[u8]) -> u64 {
+pub extern "C" fn timing_by_value(n: usize, trace: &[u8]) -> u64
+    ensures { λ r. ⌜ r ≡ timedTrace (startRefusal n ones) n (now (trace .entry)) .accepted ⌝ }
+{
     let started = calls::start::start(n, [1; PROCESSES]);
+    let answer = started.answer;
+    let begun = accepted::start(answer);
+    if !begun {
+        return 0;
+    }
     apply_by_value(started.run, trace)
 }

@@ -2,11 +2,12 @@
 -- Assumes nothing.
 use mathlib.Core.Path.{_≡_, sym, _∙_, ap}
 use mathlib.Core.List.{List}
-use mathlib.Core.Option.{none, some}
+use mathlib.Core.Bool.{false≢true}
+use mathlib.Core.Option.{Option, none, some}
 use Prim.Native.Nat.{ℕ}
 use native.Mathlib.Omega.{arith}
-use Rattle.model.specs.declared.Run.{Run}
 use Rattle.model.specs.declared.Refusal.{Refusal}
+use Rattle.model.specs.declared.Run.{Run}
 use Rattle.model.specs.declared.StartAnswer.{StartAnswer}
 use Rattle.model.specs.declared.StartAnswer.the-variants.{Refused, Started}
 use Rattle.model.specs.Refusals.{startRefusal}
@@ -14,8 +15,8 @@ use Rattle.model.specs.laws.Refusals.{by-refusal}
 use Rattle.whole_runs.specs.Outcomes.{Outcome, startOutcome}
 use Rattle.whole_runs.specs.WholeRuns.{Reachable}
 use Rattle.whole_runs.proofs.WholeRuns.{reachable-start}
-use Rattle.in_place.specs.Starting.{startOutcomeIn, StartsTheSame}
-use Rattle.in_place.proofs.Judging.{by-answer, starts-the-same}
+use Rattle.in_place.specs.Starting.{startRefusalIn, startOutcomeIn, StartsTheSame}
+use Rattle.in_place.proofs.Judging.{starts-the-same}
 use Rattle.in_place.proofs.Starting.{accepted-size, accepted-long}
 
 accepted : (n : ℕ) (counts : List ℕ) → startOutcome n counts .answer ≡ Started → startRefusal n counts ≡ none
@@ -23,9 +24,16 @@ unfolding startOutcome
 accepted n counts e = by-refusal (startRefusal n counts) (λ f. f)
     (λ why f. absurd (let z : Refused why ≡ Started = rw f at e in let y : _≡_ {A = ℕ} 0 1 = cc in omega arith))
 
-pub started-reachable : (many n : ℕ) (counts : List ℕ) (t : Run) → t ≡ startOutcomeIn many n counts .run → startOutcomeIn many n counts .answer ≡ Started → Reachable t
+started : (many n : ℕ) (counts : List ℕ) → startRefusalIn many n counts ≡ none → startOutcomeIn many n counts .answer ≡ Started
+unfolding startOutcomeIn
+started many n counts fine = rw fine
+
+pub started-reachable : (many n : ℕ) (counts : List ℕ) (t : Run) → t ≡ startOutcomeIn many n counts .run → startRefusalIn many n counts ≡ none → Reachable t
 unfolding StartsTheSame
-started-reachable many n counts t e a =
-    let fine = by-answer many n counts a in
+started-reachable many n counts t e fine =
     let same : startOutcomeIn many n counts ≡ startOutcome n counts = rw (accepted-size many n counts fine) (starts-the-same n counts (accepted-long many n counts fine)) in
-    rw (e, same) (reachable-start n counts (accepted n counts (sym (ap (λ (o : Outcome StartAnswer). o .answer) same) ∙ a)))
+    rw (e, same) (reachable-start n counts (accepted n counts (sym (ap (λ (o : Outcome StartAnswer). o .answer) same) ∙ started many n counts fine)))
+
+-- A start is not both accepted and refused.
+pub never-both : {o : Option Refusal} (why : Refusal) → o ≡ none → o ≡ some why → ⊥
+never-both why a b = let same : none ≡ some why = sym a ∙ b in false≢true cc

@@ -2,28 +2,24 @@
 // accepted, which the driver compares.
 use model::DELETIONS;
 use model::PROCESSES;
-use model::StartAnswer;
+use recorder_bytes::accepted;
 ghost use mathlib.Core.Path.{_≡_};
-ghost use mathlib.Core.Bool.{true};
-ghost use Prim.Native.Nat.{_+_, _*_, _≤_, _<_};
+ghost use mathlib.Core.Option.{some};
 ghost use lib.ListN.{length};
-ghost use Rattle.model.specs.declared.StartAnswer.the-variants.{Started};
-ghost use Rattle.model.specs.Words.{mostProcesses, mostDeletions};
+ghost use Rattle.model.specs.declared.Refusal.{Refusal};
+ghost use Rattle.model.specs.Words.{ones, mostProcesses, mostDeletions};
 ghost use Rattle.whole_runs.specs.WholeRuns.{Reachable};
 ghost use Rattle.words.specs.Layout.{runOf};
-
-fn is_started(answer: StartAnswer) -> bool
-    ensures { λ r. ⌜ (r ≡ true → answer ≡ Started) ⌝ }
-{
-    match answer {
-        StartAnswer::Refused(why) => false,
-        StartAnswer::Started => true,
-    }
-}
+ghost use Rattle.in_place.specs.Left.{Leaves};
+ghost use Rattle.in_place.specs.Starting.{startRefusalIn, startWords};
+ghost use Rattle.timing.specs.Timed.{recordsTaken, timedRecords, timedTrace};
 
 // Every record of a trace, on words to which calls from a start led.
 fn apply_all(w: &mut [u16], trace: &[u8], deleted: &mut [u16], line: &mut [u16]) -> u64
     requires { ⌜ Reachable (runOf (now w)) × (length (now deleted) ≡ mostDeletions) × (length (now line) ≡ mostProcesses) ⌝ }
+    ensures { λ r. ⌜ r ≡ timedRecords (runOf (now (w .entry))) (recordsTaken (now (trace .entry))) .accepted ⌝ }
+    ensures { λ r. ⌜ runOf (now (w .exit)) ≡ timedRecords (runOf (now (w .entry))) (recordsTaken (now (trace .entry))) .run ⌝ }
+    ensures { λ r. ⌜ Leaves (now (w .entry)) (now (w .exit)) ⌝ }
 {
     let mut accepted: u64 = 0;
     let mut still = true;
@@ -41,13 +37,18 @@ fn apply_all(w: &mut [u16], trace: &[u8], deleted: &mut [u16], line: &mut [u16])
     accepted
 }
 
-// The records of a trace as calls without the test, from a start of n processes on, with block counts of 1. Where the start is refused, none is accepted.
+// The records of a trace as calls without the test, after a start of n processes with block counts of 1. Where the start is refused, none is accepted, and the words are
+// as the start left them: zero, or unchanged where they are not as many as a state has.
 #[no_mangle]
-pub extern "C" fn timing_untested(w: &mut [u16], n: usize, trace: &[u8]) -> u64 {
-    let ones = [1u32; PROCESSES];
-    let counts: &[u32] = &ones;
-    let answer = in_place::start::start(w, n, counts);
-    let begun = is_started(answer);
+pub extern "C" fn timing_untested(w: &mut [u16], n: usize, trace: &[u8]) -> u64
+    ensures { λ r. ⌜ r ≡ timedTrace (startRefusalIn (length (now (w .entry))) n ones) n (now (trace .entry)) .accepted ⌝ }
+    ensures { λ r. ⌜ runOf (now (w .exit)) ≡ timedTrace (startRefusalIn (length (now (w .entry))) n ones) n (now (trace .entry)) .run ⌝ }
+    ensures { λ r. ⌜ Leaves (startWords (now (w .entry)) n ones) (now (w .exit)) ⌝ }
+    ensures { λ r. ⌜ ((why : Refusal) → startRefusalIn (length (now (w .entry))) n ones ≡ some why → now (w .exit) ≡ startWords (now (w .entry)) n ones) ⌝ }
+{
+    let counts = [1u32; PROCESSES];
+    let answer = in_place::start::start(w, n, &counts);
+    let begun = accepted::start(answer);
     if !begun {
         return 0;
     }
