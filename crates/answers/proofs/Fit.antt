@@ -19,7 +19,7 @@ use Rattle.model.specs.declared.Message.{Message}
 use Rattle.model.specs.declared.Named.{Named}
 use Rattle.model.specs.declared.Run.{Run}
 use Rattle.model.specs.declared.Refusal.{Refusal}
-use Rattle.model.specs.Words.{basic, forced, named, Process, process, own, underWay, live}
+use Rattle.model.specs.Words.{basic, forced, isPinned, Process, process, own, underWay, live}
 use Rattle.model.specs.Steps.{Deletion, listed, gone, deletions, storing, checkpointed, checkpointDeletions, found, forces, takenIn, delivered, deliverDeletions, member, pinsAfter, goneAt, deletedAt, recoverDeletions, rolledBack, rolledBackCount}
 use Rattle.model.specs.Sound.{messageSound, sound}
 use Rattle.model.specs.Refusals.{number, startRefusal, checkpointRefusal, sendRefusal, deliverRefusal, loseRefusal, lineRefusal, recoverRefusal}
@@ -47,7 +47,7 @@ fits-none k b = record { refused = omega arith; deletions = b; value = λ v e. n
 -- How many checkpoints a call can delete.
 few-kept : (s : Run) → sound s ≡ true → (p : ℕ) → p < s .count → length (process s p .kept) ≤ 16
 unfolding process
-few-kept s h p lt = rw (length-take (getD (s .held) p 0) (getD (s .kept .0) p [])) (omega (arith, few-processes s h, sound-state s h .processes p lt .held-most))
+few-kept s h p lt = rw (length-take (getD (s .«kept_count») p 0) (getD (s .kept .0) p [])) (omega (arith, few-processes s h, sound-state s h .processes p lt .kept-count-most))
 
 listed-few : (p : ℕ) (t : Checkpoint → Bool) (l : List Checkpoint) → length (listed p (select t l)) ≤ length l
 unfolding listed
@@ -55,7 +55,7 @@ listed-few p t l = rw (length-map {B = Deletion} (select t l) (λ c. record { pr
 
 deletions-few : (p : ℕ) (P : Process) → length (deletions p P) ≤ length (P .kept)
 unfolding deletions gone
-deletions-few p P = listed-few p (λ c. not (named (P .pins) c)) (P .kept)
+deletions-few p P = listed-few p (λ c. not (isPinned (P .pins) c)) (P .kept)
 
 stored-few : (cause i : ℕ) (P : Process) → length (P .kept) ≤ 16 → length (checkpointed cause i P .kept) ≤ 17
 unfolding checkpointed
@@ -84,13 +84,13 @@ module _ (s : Run) (h : sound s ≡ true) where
     arith,
     few-processes s h,
     gather-length (s .count) 16 (deletedAt s F)
-        (λ p lt. omega (arith, listed-few p (λ c. not (leb (c .index .0) (member s F p .index .0) && named (pinsAfter s F p) c)) (process s p .kept), few-kept s h p lt)),
+        (λ p lt. omega (arith, listed-few p (λ c. not (leb (c .index .0) (member s F p .index .0) && isPinned (pinsAfter s F p) c)) (process s p .kept), few-kept s h p lt)),
   )
 
 -- The calls.
-pub start-fits : (n : ℕ) (counts : List ℕ) → Fits (startReport (startOutcome n counts .answer))
+pub start-fits : (n : ℕ) (blockCounts : List ℕ) → Fits (startReport (startOutcome n blockCounts .answer))
 unfolding startReport startOutcome
-start-fits n counts = by-refusal (startRefusal n counts) (λ e. rw e (fits-none 0 (omega arith))) (λ x e. rw e (fits-refused x))
+start-fits n blockCounts = by-refusal (startRefusal n blockCounts) (λ e. rw e (fits-none 0 (omega arith))) (λ x e. rw e (fits-refused x))
 
 pub checkpoint-fits : (s : Run) (i : ℕ) (deleted : List ℕ) → Fits (checkpointReport (checkpointOutcome s i deleted .answer))
 unfolding checkpointReport checkpointOutcome live own

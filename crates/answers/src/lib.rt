@@ -13,7 +13,7 @@ ghost use mathlib.Core.Path.{_≡_};
 ghost use mathlib.Core.Option.{some};
 ghost use Prim.Native.Nat.{ℕ, _≤_, _<_};
 ghost use Rattle.listing.specs.Lines.{valueIn};
-ghost use Rattle.listing.specs.Said.{reportIn};
+ghost use Rattle.listing.specs.Summarised.{reportIn};
 ghost use Rattle.whole_runs.specs.Outcomes.{startReport, checkpointReport, sendReport, deliverReport, loseReport, lineReport, recoverReport};
 ghost use Rattle.answers.specs.Codes.{valueCode, coded, Fits, startCode, checkpointCode, sendCode, deliverCode, loseCode, lineCode, recoverCode};
 
@@ -37,14 +37,14 @@ fn value_code(value: Value) -> u64
 }
 
 // The number of what is said of an answer.
-pub fn code_of(said: Summary, rose: u16) -> u64
-    requires { ⌜ Fits (reportIn said) ⌝ }
-    ensures { λ r. ⌜ r ≡ coded (reportIn said) rose ⌝ }
+pub fn code_of(summary: Summary, rose: u16) -> u64
+    requires { ⌜ Fits (reportIn summary) ⌝ }
+    ensures { λ r. ⌜ r ≡ coded (reportIn summary) rose ⌝ }
 {
-    let given = said.value;
+    let given = summary.value;
     let value = value_code(given);
-    let refused = said.refused as u64;
-    let deletions = said.deletions as u64;
+    let refused = summary.refused as u64;
+    let deletions = summary.deletions as u64;
     let set = rose as u64;
     refused + DELETION * deletions + value + ROSE * set
 }
@@ -53,54 +53,54 @@ pub fn of_start(a: StartAnswer) -> u64
     requires { ⌜ Fits (startReport a) ⌝ }
     ensures { λ r. ⌜ r ≡ startCode a ⌝ }
 {
-    let said = summaries::of_start(a);
-    code_of(said, 0)
+    let summary = summaries::of_start(a);
+    code_of(summary, 0)
 }
 
 pub fn of_checkpoint(a: CheckpointAnswer) -> u64
     requires { ⌜ Fits (checkpointReport a) ⌝ }
     ensures { λ r. ⌜ r ≡ checkpointCode a ⌝ }
 {
-    let said = summaries::of_checkpoint(a);
-    code_of(said, 0)
+    let summary = summaries::of_checkpoint(a);
+    code_of(summary, 0)
 }
 
 pub fn of_send(a: SendAnswer) -> u64
     requires { ⌜ Fits (sendReport a) ⌝ }
     ensures { λ r. ⌜ r ≡ sendCode a ⌝ }
 {
-    let said = summaries::of_send(a);
-    code_of(said, 0)
+    let summary = summaries::of_send(a);
+    code_of(summary, 0)
 }
 
 pub fn of_deliver(a: DeliverAnswer, rose: u16) -> u64
     requires { ⌜ Fits (deliverReport a) ⌝ }
     ensures { λ r. ⌜ r ≡ deliverCode a rose ⌝ }
 {
-    let said = summaries::of_deliver(a);
-    code_of(said, rose)
+    let summary = summaries::of_deliver(a);
+    code_of(summary, rose)
 }
 
 pub fn of_lose(a: LoseAnswer) -> u64
     requires { ⌜ Fits (loseReport a) ⌝ }
     ensures { λ r. ⌜ r ≡ loseCode a ⌝ }
 {
-    let said = summaries::of_lose(a);
-    code_of(said, 0)
+    let summary = summaries::of_lose(a);
+    code_of(summary, 0)
 }
 
 pub fn of_line(a: LineAnswer) -> u64
     requires { ⌜ Fits (lineReport a) ⌝ }
     ensures { λ r. ⌜ r ≡ lineCode a ⌝ }
 {
-    let said = summaries::of_line(a);
-    code_of(said, 0)
+    let summary = summaries::of_line(a);
+    code_of(summary, 0)
 }
 
 pub fn of_recover(a: RecoverAnswer) -> u64
     requires { ⌜ Fits (recoverReport a) ⌝ }
     ensures { λ r. ⌜ r ≡ recoverCode a ⌝ }
 {
-    let said = summaries::of_recover(a);
-    code_of(said, 0)
+    let summary = summaries::of_recover(a);
+    code_of(summary, 0)
 }

@@ -26,11 +26,11 @@ use Rattle.calls.proofs.Changing.{small-readable}
 use Rattle.calls.proofs.Keeping.{Few, small-processes}
 
 -- More than 16 processes are refused whatever is lent.
-pub started-so : (n : ℕ) (counts : List ℕ) → length counts ≡ 16 → startOutcomeIn stateSize n counts ≡ startOutcome n counts
+pub started-so : (n : ℕ) (blockCounts : List ℕ) → length blockCounts ≡ 16 → startOutcomeIn stateSize n blockCounts ≡ startOutcome n blockCounts
 unfolding StartsTheSame startOutcomeIn startRefusalIn startOutcome startRefusal firstOf
-started-so n counts long = by-lt 16 n
+started-so n blockCounts long = by-lt 16 n
     (λ many. rw (lt-leb n 16 many, le-leb 1 n (omega arith)))
-    (λ few. starts-the-same n counts (omega arith))
+    (λ few. starts-the-same n blockCounts (omega arith))
 
 -- The words of a refused start are zero.
 replicate-zero : (n k : ℕ) → word (replicate n 0) k ≡ 0
@@ -62,23 +62,23 @@ module _ (n : ℕ) (one : 1 ≤ n) (most : n ≤ 16) where
         (omega arith);
   }
 
-  first : (counts : List ℕ) (p : ℕ) → Few (started counts p .kept)
+  first : (blockCounts : List ℕ) (p : ℕ) → Few (started blockCounts p .kept)
   unfolding started checkpointZero
-  first counts p zero under = omega arith
-  first counts p (suc k) under = absurd (omega arith)
+  first blockCounts p zero under = omega arith
+  first blockCounts p (suc k) under = absurd (omega arith)
 
-  start-small : (counts : List ℕ) → Small (startState n counts)
+  start-small : (blockCounts : List ℕ) → Small (startState n blockCounts)
   unfolding startState
-  start-small counts = small-disk _ (small-processes n (started counts) (blank n) blank-small (λ p lt. first counts p)) _
+  start-small blockCounts = small-disk _ (small-processes n (started blockCounts) (blank n) blank-small (λ p lt. first blockCounts p)) _
 
-accepted-some : (many n : ℕ) (counts : List ℕ) → startRefusalIn many n counts ≡ none → 1 ≤ n
+accepted-some : (many n : ℕ) (blockCounts : List ℕ) → startRefusalIn many n blockCounts ≡ none → 1 ≤ n
 unfolding startRefusalIn
-accepted-some many n counts fine = leb-true 1 n (and-left (leb 1 n) (leb n 16) (not-false _ (no-rule _ fine 0)))
+accepted-some many n blockCounts fine = leb-true 1 n (and-left (leb 1 n) (leb n 16) (not-false _ (no-rule _ fine 0)))
 
-pub start-readable : (w : List ℕ) (n : ℕ) (counts : List ℕ) → length w ≡ stateSize → Readable (startWords w n counts)
+pub start-readable : (w : List ℕ) (n : ℕ) (blockCounts : List ℕ) → length w ≡ stateSize → Readable (startWords w n blockCounts)
 unfolding startWords
-start-readable w n counts long = by-refusal (startRefusalIn (length w) n counts)
+start-readable w n blockCounts long = by-refusal (startRefusalIn (length w) n blockCounts)
     (λ fine.
-    let few = accepted-few (length w) n counts fine in
-    rw fine (small-readable (startedWords n counts) (startState n counts) (started-run n counts few) (start-small n (accepted-some (length w) n counts fine) few counts)))
+    let few = accepted-few (length w) n blockCounts fine in
+    rw fine (small-readable (startedWords n blockCounts) (startState n blockCounts) (started-run n blockCounts few) (start-small n (accepted-some (length w) n blockCounts fine) few blockCounts)))
     (λ why e. rw (e, eq-eqb (length w) stateSize long) zeros-readable)

@@ -64,20 +64,20 @@ is-true true t = refl
 is-true false t = absurd (false≢true (sym t))
 
 -- Words that were filled from a state, and the verdict on them.
-module _ (s : Run) (w : List ℕ) (fit r : Bool) (z : Sized s) (fits : fit ≡ fitsWords s) (back : fit ≡ true → runOf w ≡ s) (verdict : r ≡ (fit && sound (runOf w))) where
+module _ (s : Run) (w : List ℕ) (fit r : Bool) (z : Sized s) (fits : fit ≡ fitsWords s) (back : fit ≡ true → runOf w ≡ s) (judged : r ≡ (fit && sound (runOf w))) where
   pub filled-sound : not r ≡ false → (runOf w ≡ s) × (sound s ≡ true)
   filled-sound left =
-      let both = and-out fit (sound (runOf w)) (sym verdict ∙ is-true r left) in
+      let both = and-out fit (sound (runOf w)) (sym judged ∙ is-true r left) in
       let is = back (both .0) in
       (is, sym (ap sound is) ∙ both .1)
 
-  pub filled-verdict : r ≡ sound s
-  filled-verdict = by-bool fit
-      (λ e. verdict ∙ ap (λ (b : Bool). b && sound (runOf w)) e ∙ ap sound (back e))
-      (λ e. verdict ∙ ap (λ (b : Bool). b && sound (runOf w)) e ∙ unfit-unsound s z (sym fits ∙ e))
+  pub filled-judged : r ≡ sound s
+  filled-judged = by-bool fit
+      (λ e. judged ∙ ap (λ (b : Bool). b && sound (runOf w)) e ∙ ap sound (back e))
+      (λ e. judged ∙ ap (λ (b : Bool). b && sound (runOf w)) e ∙ unfit-unsound s z (sym fits ∙ e))
 
   pub filled-unsound : not r ≡ true → sound s ≡ false
-  filled-unsound taken = is-unsound s filled-verdict taken
+  filled-unsound taken = is-unsound s filled-judged taken
 
 -- A refused call leaves the words as they were, so the state that they were filled from is the one that it leaves.
 pub unchanged : (s t : Run) (w v : List ℕ) → runOf w ≡ s → v ≡ w → runOf v ≡ t → s ≡ t

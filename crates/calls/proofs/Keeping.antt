@@ -38,7 +38,7 @@ pub kept-few : (s : Run) → sound s ≡ true → Small s → (p : ℕ) → p < 
 unfolding process
 kept-few s whole small p lt k under =
     let st = sound-state s whole in
-    small-kept s small p lt k under (omega (arith, under, length-take-most (getD (s .held) p 0) (getD (s .kept .0) p []), st .processes p lt .held-most, st .count-most))
+    small-kept s small p lt k under (omega (arith, under, length-take-most (getD (s .«kept_count») p 0) (getD (s .kept .0) p []), st .processes p lt .kept-count-most, st .count-most))
 
 -- Each process below n takes a part that keeps such checkpoints alone.
 pub small-processes : (n : ℕ) (f : ℕ → Process) (s : Run) → Small s → ((p : ℕ) → p < n → Few (f p .kept)) → Small (withProcesses n f s)

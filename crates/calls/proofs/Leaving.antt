@@ -40,7 +40,7 @@ module _ (s : Run) (z : Sized s) (whole : sound s ≡ true) (i j : ℕ) where
     kept = z .kept;
     kept-row = z .kept-row;
     stored = λ p k lt less. ap (λ (c : Checkpoint). length (c .vector)) (same-entry (getD (s .kept .0) p []) k noCheckpoint pastEnd (omega (arith, z .kept-row p lt))) ∙ z .stored p k lt less;
-    held = z .held;
+    «kept_count» = z .«kept_count»;
     messages = z .messages;
     carried = λ k lt. ap (λ (x : Message). length (x .vector)) (same-entry (s .messages) k noMessage pastMessages (omega (arith, z .messages))) ∙ z .carried k lt;
   }

@@ -14,13 +14,13 @@ pub struct StartOutcome {
 
 // A run of n processes, with the block count of each: the state in which it starts. The counts at n and above are neither judged nor stored.
 // Accepted, what the returned state keeps and its blocks are right (demand 3).
-pub fn start(n: usize, counts: [u32; PROCESSES]) -> StartOutcome
-    ensures { λ r. ⌜ r .run ≡ startOutcome n counts .run ⌝ }
-    ensures { λ r. ⌜ r .answer ≡ startOutcome n counts .answer ⌝ }
-    ensures { λ r. ⌜ StartPromise n counts (r .run) ⌝ }
+pub fn start(n: usize, block_counts: [u32; PROCESSES]) -> StartOutcome
+    ensures { λ r. ⌜ r .run ≡ startOutcome n «block_counts» .run ⌝ }
+    ensures { λ r. ⌜ r .answer ≡ startOutcome n «block_counts» .answer ⌝ }
+    ensures { λ r. ⌜ StartPromise n «block_counts» (r .run) ⌝ }
 {
     let mut w = [0u16; WORDS];
-    let answer = in_place::start::start(&mut w, n, &counts);
+    let answer = in_place::start::start(&mut w, n, &block_counts);
     let run = run_words::read::read(&w);
     StartOutcome { run, answer }
 }

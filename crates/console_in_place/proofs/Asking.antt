@@ -49,21 +49,21 @@ numbered-by-place Viewer = refl
 
 pub console-starts-the-same : ConsoleStartsTheSame
 unfolding ConsoleStartsTheSame consoleStartIn consoleStart StartsTheSame
-console-starts-the-same c w n counts long most = by-bool (denied c Start)
+console-starts-the-same c w n blockCounts long most = by-bool (denied c Start)
     (λ e. rw e (refl, λ z. absurd (false≢true (sym z))))
-    (λ e. rw (e, long, starts-the-same n counts most) (refl, λ z. refl))
+    (λ e. rw (e, long, starts-the-same n blockCounts most) (refl, λ z. refl))
 
 -- Each call that the library has.
 module _ (role owned : ℕ) {b : Bool} where
-  module _ (w : List ℕ) (n : ℕ) (counts : List ℕ) (e : b ≡ deniedAs (claimOf role) owned (λ c. denied c Start)) where
+  module _ (w : List ℕ) (n : ℕ) (blockCounts : List ℕ) (e : b ≡ deniedAs (claimOf role) owned (λ c. denied c Start)) where
     pub start-denied : b ≡ true
-        → (startAs role owned w n counts ≡ denial (start-answer.Refused Denied) (runOf w) [] []) × (startWordsAs role owned w n counts ≡ w)
+        → (startAs role owned w n blockCounts ≡ denial (start-answer.Refused Denied) (runOf w) [] []) × (startWordsAs role owned w n blockCounts ≡ w)
     unfolding startAs startWordsAs consoleStartIn
-    start-denied t = (asked-denied owned (λ c. denied c Start) _ (λ c. startOutcomeIn (length w) n counts) (claimOf role) e t, rw (sym e ∙ t))
+    start-denied t = (asked-denied owned (λ c. denied c Start) _ (λ c. startOutcomeIn (length w) n blockCounts) (claimOf role) e t, rw (sym e ∙ t))
 
-    pub start-made : b ≡ false → (startAs role owned w n counts ≡ startOutcomeIn (length w) n counts) × (startWordsAs role owned w n counts ≡ startWords w n counts)
+    pub start-made : b ≡ false → (startAs role owned w n blockCounts ≡ startOutcomeIn (length w) n blockCounts) × (startWordsAs role owned w n blockCounts ≡ startWords w n blockCounts)
     unfolding startAs startWordsAs consoleStartIn
-    start-made t = (asked-made owned (λ c. denied c Start) _ (λ c. startOutcomeIn (length w) n counts) (claimOf role) _ (λ c. refl) e t, rw (sym e ∙ t))
+    start-made t = (asked-made owned (λ c. denied c Start) _ (λ c. startOutcomeIn (length w) n blockCounts) (claimOf role) _ (λ c. refl) e t, rw (sym e ∙ t))
 
   module _ (s : Run) where
     module _ (i : ℕ) (lent : List ℕ) (e : b ≡ deniedAs (claimOf role) owned (λ c. deniedProcess c s Checkpoint i)) where

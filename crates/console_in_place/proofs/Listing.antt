@@ -24,7 +24,7 @@ use Rattle.model.specs.Sound.{sound}
 use Rattle.model.specs.Words.{process}
 use Rattle.model.specs.Steps.{Deletion, listed}
 use Rattle.whole_runs.specs.Outcomes.{Outcome, judged, pairs}
-use Rattle.words.specs.Layout.{word, countOf, heldAt, checkpointIn, runOf}
+use Rattle.words.specs.Layout.{word, countOf, keptCountAt, checkpointIn, runOf}
 use Rattle.words.proofs.View.{count-is}
 use Rattle.words.proofs.ViewSound.{sound-words, sound-kept-is}
 use Rattle.roles.specs.declared.Role.{Role}
@@ -79,15 +79,15 @@ module _ (r : Role) (owned n : ℕ) (w : List ℕ) where
   unfolding listedOf pairs
   unseen p lent at e = rw e (refl, refl)
 
-  pub seen : (p : ℕ) (lent out : List ℕ) (at : ℕ) → entitledBy r owned n p ≡ true → out ≡ sets lent at (pairs (listed p (table (word w (heldAt p)) (checkpointIn w p))))
-      → (word w (heldAt p) ≡ length (listedOf r owned n w p)) × (out ≡ sets lent at (pairs (listedOf r owned n w p)))
+  pub seen : (p : ℕ) (lent out : List ℕ) (at : ℕ) → entitledBy r owned n p ≡ true → out ≡ sets lent at (pairs (listed p (table (word w (keptCountAt p)) (checkpointIn w p))))
+      → (word w (keptCountAt p) ≡ length (listedOf r owned n w p)) × (out ≡ sets lent at (pairs (listedOf r owned n w p)))
   unfolding listedOf
-  seen p lent out at e wrote = rw e (sym (length-listed p (table (word w (heldAt p)) (checkpointIn w p)) ∙ length-table (word w (heldAt p)) (checkpointIn w p)), wrote)
+  seen p lent out at e wrote = rw e (sym (length-listed p (table (word w (keptCountAt p)) (checkpointIn w p)) ∙ length-table (word w (keptCountAt p)) (checkpointIn w p)), wrote)
 
-  listed-few : (p : ℕ) → length (listedOf r owned n w p) ≤ word w (heldAt p)
+  listed-few : (p : ℕ) → length (listedOf r owned n w p) ≤ word w (keptCountAt p)
   unfolding listedOf
   listed-few p = by-bool (entitledBy r owned n p)
-      (λ e. rw e (omega (arith, length-listed p (table (word w (heldAt p)) (checkpointIn w p)), length-table (word w (heldAt p)) (checkpointIn w p))))
+      (λ e. rw e (omega (arith, length-listed p (table (word w (keptCountAt p)) (checkpointIn w p)), length-table (word w (keptCountAt p)) (checkpointIn w p))))
       (λ e. rw e (omega arith))
 
   -- The first q processes are listed, and the list has their pairs.
@@ -115,14 +115,14 @@ module _ (r : Role) (owned n : ℕ) (w : List ℕ) where
   unfolding listedBelow gather pairs
   none-listed lent = record { within = omega arith; few = omega arith; fits = omega arith; long = refl; many = refl; wrote = refl }
 
-  module _ (lent out : List ℕ) (count q : ℕ) (so-far : Listing lent out count q) (most : n ≤ 16) (lt : q < n) (bounded : word w (heldAt q) ≤ n) where
-    pub row-room : 2 * n * n ≤ length lent → 2 * count + 2 * word w (heldAt q) ≤ length out
-    row-room size = omega (arith, room q count (word w (heldAt q)) lt (so-far .fits) bounded, so-far .long, size)
+  module _ (lent out : List ℕ) (count q : ℕ) (so-far : Listing lent out count q) (most : n ≤ 16) (lt : q < n) (bounded : word w (keptCountAt q) ≤ n) where
+    pub row-room : 2 * n * n ≤ length lent → 2 * count + 2 * word w (keptCountAt q) ≤ length out
+    row-room size = omega (arith, room q count (word w (keptCountAt q)) lt (so-far .fits) bounded, so-far .long, size)
 
     pub count-few : count ≤ 256
     count-few = omega (arith, so-far .few, most, lt)
 
-    more-few : (more : ℕ) → more ≡ length (listedOf r owned n w q) → more ≤ word w (heldAt q)
+    more-few : (more : ℕ) → more ≡ length (listedOf r owned n w q) → more ≤ word w (keptCountAt q)
     more-few more e = omega (arith, e, listed-few q)
 
     pub sum-few : (more : ℕ) → more ≡ length (listedOf r owned n w q) → count + more ≤ 512
@@ -152,7 +152,7 @@ module _ (r : Role) (owned n : ℕ) (w : List ℕ) where
 pub list-is : (r : Role) (owned : ℕ) (w : List ℕ) → sound (runOf w) ≡ true → listedBelow r owned (countOf w) w (countOf w) ≡ listedTo (record { role = r; owned = owned }) (runOf w)
 unfolding listedBelow listedOf listedTo entitled
 list-is r owned w h =
-    gather-same (countOf w) (λ p. pick (entitledBy r owned (countOf w) p) (listed p (table (word w (heldAt p)) (checkpointIn w p))) []) (λ p. pick (entitledBy r owned (countOf w) p) (listed p (process (runOf w) p .kept)) [])
+    gather-same (countOf w) (λ p. pick (entitledBy r owned (countOf w) p) (listed p (table (word w (keptCountAt p)) (checkpointIn w p))) []) (λ p. pick (entitledBy r owned (countOf w) p) (listed p (process (runOf w) p .kept)) [])
     (λ p lt. ap (λ (l : List Checkpoint). pick (entitledBy r owned (countOf w) p) (listed p l) []) (sym (sound-kept-is w h p lt)))
     ∙ ap (λ (n : ℕ). gather n (λ p. pick (entitledBy r owned n p) (listed p (process (runOf w) p .kept)) [])) (sym (count-is w (sound-words w h .fit)))
 

@@ -57,8 +57,8 @@ module _ (n : ℕ) (t : ℕ → Bool) (m : ℕ → ℕ) (whole lent : List ℕ) 
   front : (l : List ℕ) → n ≤ length l → (p : ℕ) → p < n → getD (sets l 0 (table n m)) p 0 ≡ m p
   front l h p lt = ap (λ (v : List ℕ). getD v p 0) (sym (below-written n m l)) ∙ below-at m l n p 0 lt (omega arith)
 
-  behind : (p : ℕ) → n ≤ p → getD (sets lent 0 (table n m)) p 0 ≡ getD lent p 0
-  behind p le = ap (λ (v : List ℕ). getD v p 0) (sym (below-written n m lent)) ∙ below-above m lent n p 0 le
+  beyond : (p : ℕ) → n ≤ p → getD (sets lent 0 (table n m)) p 0 ≡ getD lent p 0
+  beyond p le = ap (λ (v : List ℕ). getD v p 0) (sym (below-written n m lent)) ∙ below-above m lent n p 0 le
 
   abbrev written-at : ℕ → ℕ
   written-at p = pick (t p) (getD (sets whole 0 (table n m)) p 0) (getD lent p 0)
@@ -71,7 +71,7 @@ module _ (n : ℕ) (t : ℕ → Bool) (m : ℕ → ℕ) (whole lent : List ℕ) 
       below-at written-at lent n p 0 below lt ∙ ap (λ (x : ℕ). pick (t p) x (getD lent p 0)) (front whole long p below ∙ sym (front lent long′ p below)))
       (λ e.
       let past = ltb-false p n e in
-      below-above written-at lent n p 0 past ∙ sym (ap (λ (x : ℕ). pick (t p) x (getD lent p 0)) (behind p past) ∙ pick-same (t p) (getD lent p 0))))
+      below-above written-at lent n p 0 past ∙ sym (ap (λ (x : ℕ). pick (t p) x (getD lent p 0)) (beyond p past) ∙ pick-same (t p) (getD lent p 0))))
 
 -- The outcome of a line call, refused and accepted.
 abbrev refusing : Run → List ℕ → Refusal → Outcome LineAnswer

@@ -35,12 +35,12 @@ take-front a b zero le = refl
 take-front [] b (suc k) le = absurd (omega arith)
 take-front (x ∷ a) b (suc k) le = ap (λ l. x ∷ l) (take-front a b k (omega arith))
 
-take-behind : {A : Type 0} (a b : List A) (k : ℕ) → length a ≤ k → take k (a ++ b) ≡ a ++ take (k - length a) b
-take-behind [] b k le = let same : k ≡ k - 0 = omega arith in ap (λ (j : ℕ). take j b) same
-take-behind (x ∷ a) b zero le = absurd (omega arith)
-take-behind (x ∷ a) b (suc k) le =
+take-beyond : {A : Type 0} (a b : List A) (k : ℕ) → length a ≤ k → take k (a ++ b) ≡ a ++ take (k - length a) b
+take-beyond [] b k le = let same : k ≡ k - 0 = omega arith in ap (λ (j : ℕ). take j b) same
+take-beyond (x ∷ a) b zero le = absurd (omega arith)
+take-beyond (x ∷ a) b (suc k) le =
     let same : k - length a ≡ suc k - length (x ∷ a) = omega arith in
-    ap (λ l. x ∷ l) (take-behind a b k (omega arith) ∙ ap (λ (j : ℕ). a ++ take j b) same)
+    ap (λ l. x ∷ l) (take-beyond a b k (omega arith) ∙ ap (λ (j : ℕ). a ++ take j b) same)
 
 take-none : {A : Type 0} (k : ℕ) → _≡_ {A = List A} (take k []) []
 take-none zero = refl
@@ -61,16 +61,16 @@ module _ {A : Type 0} (t : A → Bool) (x : A) where
   last-passes e (suc r) (suc k) = rw (e, last-passes e r k, lt-ltb 0 (suc k) (omega arith), lt-ltb 0 (suc r) (omega arith)) (by-bool (ltb 0 k && ltb 0 r) (λ b. rw b refl) (λ b. rw b refl))
 
 -- No message has number 0.
-unnamed : (m : ℕ) → m ≡ 0 → (T : List Message) → select (λ x. eqb (x .number) m) (select isMessage T) ≡ []
+none-numbered : (m : ℕ) → m ≡ 0 → (T : List Message) → select (λ x. eqb (x .number) m) (select isMessage T) ≡ []
 unfolding select isMessage
-unnamed m z [] = refl
-unnamed m z (x ∷ T) = by-bool (eqb (x .number) 0)
-    (λ e. rw e (unnamed m z T))
-    (λ e. let other : eqb (x .number) m ≡ false = rw z e in rw (e, other) (unnamed m z T))
+none-numbered m z [] = refl
+none-numbered m z (x ∷ T) = by-bool (eqb (x .number) 0)
+    (λ e. rw e (none-numbered m z T))
+    (λ e. let other : eqb (x .number) m ≡ false = rw z e in rw (e, other) (none-numbered m z T))
 
 module _ (w : List ℕ) (m : ℕ) where
-  abbrev named : Message → Bool
-  named x = eqb (x .number) m
+  abbrev hasNumber : Message → Bool
+  hasNumber x = eqb (x .number) m
 
   abbrev many : ℕ
   many = word w 1
@@ -123,18 +123,18 @@ module _ (w : List ℕ) (m : ℕ) where
         receiver = rw (add-one k, ne-eqb (messageIn w k .number) 0 ne, sym (so-far .used), e) (so-far .receiver);
       }
 
-  below-is : (k : ℕ) → lastOf (select named (take many (front k))) ≡ foundBelow w m k
+  below-is : (k : ℕ) → lastOf (select hasNumber (take many (front k))) ≡ foundBelow w m k
   unfolding foundBelow hasAt usedBelow table select lastOf
-  below-is zero = ap (λ (l : List Message). lastOf (select named l)) (take-none many)
+  below-is zero = ap (λ (l : List Message). lastOf (select hasNumber l)) (take-none many)
   below-is (suc k) = by-bool (isMessage (messageIn w k))
       (λ e. rw (e, select-more isMessage k (messageIn w) e) (by-bool (ltb (length (front k)) many)
       (λ room.
       let lt = ltb-true (length (front k)) many room in
       let whole : take many (front k ++ (messageIn w k ∷ [])) ≡ front k ++ (messageIn w k ∷ []) = take-all many _ (omega (arith, lt, length-append (front k) (messageIn w k ∷ []))) in
       let part : take many (front k) ≡ front k = take-all many _ (omega (arith, lt)) in
-      by-bool (named (messageIn w k))
-      (λ is. rw (room, is, whole, select-append named (front k) (messageIn w k ∷ []), is) (lastOf-snoc (select named (front k)) (messageIn w k)))
-      (λ is. rw (room, is, whole, select-append named (front k) (messageIn w k ∷ []), is, append-nil (select named (front k))) (ap (λ (l : List Message). lastOf (select named l)) (sym part) ∙ below-is k)))
+      by-bool (hasNumber (messageIn w k))
+      (λ is. rw (room, is, whole, select-append hasNumber (front k) (messageIn w k ∷ []), is) (lastOf-snoc (select hasNumber (front k)) (messageIn w k)))
+      (λ is. rw (room, is, whole, select-append hasNumber (front k) (messageIn w k ∷ []), is, append-nil (select hasNumber (front k))) (ap (λ (l : List Message). lastOf (select hasNumber l)) (sym part) ∙ below-is k)))
       (λ full. rw (full, take-front (front k) (messageIn w k ∷ []) many (ltb-false (length (front k)) many full)) (below-is k))))
       (λ e. rw (e, select-less isMessage k (messageIn w) e) (below-is k))
 
@@ -146,29 +146,29 @@ module _ (w : List ℕ) (m : ℕ) where
     abbrev zeros : List Message
     zeros = replicate (mostUnderWay - length all) noMessage
 
-    run-has : found (runOf w) m ≡ lastOf (select named (take many (all ++ zeros)))
+    run-has : found (runOf w) m ≡ lastOf (select hasNumber (take many (all ++ zeros)))
     unfolding found underWay messagesIn placed
     run-has = rw (underway-is w fit, messages-is w fit) refl
 
     -- More are said to be under way than there are: the zeros are among them, which have the number 0.
     module _ (lt : length all < many) where
-      whole : lastOf (select named all) ≡ foundBelow w m (endOf w)
-      whole = ap (λ (l : List Message). lastOf (select named l)) (sym (take-all many all (omega arith))) ∙ below-is (endOf w)
+      whole : lastOf (select hasNumber all) ≡ foundBelow w m (endOf w)
+      whole = ap (λ (l : List Message). lastOf (select hasNumber l)) (sym (take-all many all (omega arith))) ∙ below-is (endOf w)
 
-      others-found : named noMessage ≡ false → lastOf (select named all ++ select named (take (many - length all) zeros)) ≡ foundBelow w m (endOf w)
-      others-found other = ap lastOf (ap (λ (l : List Message). select named all ++ l) (none-passes named noMessage other (mostUnderWay - length all) (many - length all)) ∙ append-nil (select named all)) ∙ whole
+      others-found : hasNumber noMessage ≡ false → lastOf (select hasNumber all ++ select hasNumber (take (many - length all) zeros)) ≡ foundBelow w m (endOf w)
+      others-found other = ap lastOf (ap (λ (l : List Message). select hasNumber all ++ l) (none-passes hasNumber noMessage other (mostUnderWay - length all) (many - length all)) ∙ append-nil (select hasNumber all)) ∙ whole
 
       some-left : ltb 0 (many - length all) ≡ true
       some-left = lt-ltb 0 (many - length all) (omega arith)
 
-      zero-found : m ≡ 0 → named noMessage ≡ true
-          → lastOf (select named all ++ select named (take (many - length all) zeros)) ≡ pick (ltb (length all) mostUnderWay) (some noMessage) (foundBelow w m (endOf w))
+      zero-found : m ≡ 0 → hasNumber noMessage ≡ true
+          → lastOf (select hasNumber all ++ select hasNumber (take (many - length all) zeros)) ≡ pick (ltb (length all) mostUnderWay) (some noMessage) (foundBelow w m (endOf w))
       unfolding lastOf
       zero-found z same =
-          let nobody = unnamed m z (table (endOf w) (messageIn w)) in
+          let nobody = none-numbered m z (table (endOf w) (messageIn w)) in
           let nothing : none ≡ foundBelow w m (endOf w) = ap lastOf (sym nobody) ∙ whole in
-          ap (λ (l : List Message). lastOf (l ++ select named (take (many - length all) zeros))) nobody
-          ∙ last-passes named noMessage same (mostUnderWay - length all) (many - length all)
+          ap (λ (l : List Message). lastOf (l ++ select hasNumber (take (many - length all) zeros))) nobody
+          ∙ last-passes hasNumber noMessage same (mostUnderWay - length all) (many - length all)
           ∙ by-bool (ltb (length all) mostUnderWay)
           (λ e. rw (e, some-left, lt-ltb 0 (mostUnderWay - length all) (omega (arith, ltb-true (length all) mostUnderWay e))))
           (λ e. rw (e, some-left, le-ltb 0 (mostUnderWay - length all) (omega (arith, ltb-false (length all) mostUnderWay e))) nothing)
@@ -176,8 +176,8 @@ module _ (w : List ℕ) (m : ℕ) where
       more-said : found (runOf w) m ≡ pick (eqb m 0 && ltb (length all) mostUnderWay) (some noMessage) (foundBelow w m (endOf w))
       more-said =
           run-has
-          ∙ ap (λ (l : List Message). lastOf (select named l)) (take-behind all zeros many (omega arith))
-          ∙ ap lastOf (select-append named all _)
+          ∙ ap (λ (l : List Message). lastOf (select hasNumber l)) (take-beyond all zeros many (omega arith))
+          ∙ ap lastOf (select-append hasNumber all _)
           ∙ by-eq m 0
           (λ z. rw (eq-eqb m 0 z) (zero-found z (eq-eqb 0 m (sym z))))
           (λ ne. rw (ne-eqb m 0 ne) (others-found (ne-eqb 0 m (λ z. ne (sym z)))))
@@ -186,7 +186,7 @@ module _ (w : List ℕ) (m : ℕ) where
     unfolding foundIn zerosUnderWay usedBelow
     found-in = by-bool (ltb (length all) many)
         (λ e. more-said (ltb-true (length all) many e) ∙ rw e)
-        (λ e. run-has ∙ ap (λ (l : List Message). lastOf (select named l)) (take-front all zeros many (ltb-false (length all) many e)) ∙ below-is (endOf w) ∙ rw (e, and-no-right (eqb m 0) false refl))
+        (λ e. run-has ∙ ap (λ (l : List Message). lastOf (select hasNumber l)) (take-front all zeros many (ltb-false (length all) many e)) ∙ below-is (endOf w) ∙ rw (e, and-no-right (eqb m 0) false refl))
 
 -- What the search brought, once all places in use were searched.
 module _ (w : List ℕ) (m : ℕ) (r : Searched) (all : SearchedTo w m (endOf w) r) where

@@ -19,7 +19,7 @@ use Rattle.model.specs.Words.{process}
 use Rattle.model.specs.Sound.{sound}
 use Rattle.model.specs.Refusals.{firstOf}
 use Rattle.whole_runs.specs.Outcomes.{Outcome, judged, lineOutcome}
-use Rattle.words.specs.Layout.{word, heldAt, runOf}
+use Rattle.words.specs.Layout.{word, keptCountAt, runOf}
 use Rattle.words.proofs.View.{count-is, process-is, kept-count}
 use Rattle.words.proofs.ViewSound.{sound-words, sound-part}
 use Rattle.readers.specs.Written.{wordsFrom}
@@ -98,4 +98,4 @@ module _ (role owned : ℕ) (w lent : List ℕ) where
         many p lt =
             let known = sound-words w h in
             let below : p < word w 0 = rw (count-is w (known .fit)) at lt in
-            sym (ap (λ x. length (x .kept)) (process-is w (known .fit) p below (known .few)) ∙ kept-count w p (omega (arith, sound-part w h p below .held-most, known .few)))
+            sym (ap (λ x. length (x .kept)) (process-is w (known .fit) p below (known .few)) ∙ kept-count w p (omega (arith, sound-part w h p below .kept-count-most, known .few)))

@@ -56,21 +56,21 @@ deniedAs (As r) owned test = test (record { role = r; owned = owned })
 
 -- A start on lent words. One that is denied leaves them: they may hold the run of others. One that is refused with another number makes them zero.
 unfoldable pub consoleStartIn : Caller → List ℕ → ℕ → List ℕ → Outcome StartAnswer
-consoleStartIn c w n counts = pick (denied c Start)
+consoleStartIn c w n blockCounts = pick (denied c Start)
     (denial (start-answer.Refused Denied) (runOf w) [] [])
-    (startOutcomeIn (length w) n counts)
+    (startOutcomeIn (length w) n blockCounts)
 
 -- Where enough is lent, it answers as the console's start, and is it where it is not denied.
 unfoldable pub ConsoleStartsTheSame : Type 0
-ConsoleStartsTheSame = (c : Caller) (w : List ℕ) (n : ℕ) (counts : List ℕ) → length w ≡ stateSize → n ≤ length counts
-    → (consoleStartIn c w n counts .answer ≡ consoleStart c n counts .answer) × (denied c Start ≡ false → consoleStartIn c w n counts ≡ consoleStart c n counts)
+ConsoleStartsTheSame = (c : Caller) (w : List ℕ) (n : ℕ) (blockCounts : List ℕ) → length w ≡ stateSize → n ≤ length blockCounts
+    → (consoleStartIn c w n blockCounts .answer ≡ consoleStart c n blockCounts .answer) × (denied c Start ≡ false → consoleStartIn c w n blockCounts ≡ consoleStart c n blockCounts)
 
 -- Each call by the number of a role.
 unfoldable pub startAs : ℕ → ℕ → List ℕ → ℕ → List ℕ → Outcome StartAnswer
-startAs role owned w n counts = asked (claimOf role) owned (denial (start-answer.Refused Denied) (runOf w) [] []) (λ c. consoleStartIn c w n counts)
+startAs role owned w n blockCounts = asked (claimOf role) owned (denial (start-answer.Refused Denied) (runOf w) [] []) (λ c. consoleStartIn c w n blockCounts)
 
 unfoldable pub startWordsAs : ℕ → ℕ → List ℕ → ℕ → List ℕ → List ℕ
-startWordsAs role owned w n counts = pick (deniedAs (claimOf role) owned (λ c. denied c Start)) w (startWords w n counts)
+startWordsAs role owned w n blockCounts = pick (deniedAs (claimOf role) owned (λ c. denied c Start)) w (startWords w n blockCounts)
 
 unfoldable pub checkpointAs : ℕ → ℕ → Run → ℕ → List ℕ → Outcome CheckpointAnswer
 checkpointAs role owned s i deleted = asked (claimOf role) owned (denial (checkpoint-answer.Refused Denied) s deleted []) (λ c. consoleCheckpoint c s i deleted)

@@ -5,12 +5,12 @@ use Prim.Native.Nat.{ℕ}
 use Rattle.laws.specs.Choice.{pick}
 use Rattle.laws.specs.Lists.{table, gather}
 use Rattle.model.specs.Steps.{Deletion, listed}
-use Rattle.words.specs.Layout.{word, heldAt, checkpointIn}
+use Rattle.words.specs.Layout.{word, keptCountAt, checkpointIn}
 use Rattle.roles.specs.declared.Role.{Role}
 use Rattle.roles.specs.Console.{entitledBy}
 
 unfoldable pub listedOf : Role → ℕ → ℕ → List ℕ → ℕ → List Deletion
-listedOf r owned n w p = pick (entitledBy r owned n p) (listed p (table (word w (heldAt p)) (checkpointIn w p))) []
+listedOf r owned n w p = pick (entitledBy r owned n p) (listed p (table (word w (keptCountAt p)) (checkpointIn w p))) []
 
 unfoldable pub listedBelow : Role → ℕ → ℕ → List ℕ → ℕ → List Deletion
 listedBelow r owned n w q = gather q (listedOf r owned n w)

@@ -25,17 +25,17 @@ ghost use Rattle.in_place.specs.Left.{Leaves};
 ghost use Rattle.console_in_place.specs.Asked.{startAs, startWordsAs, checkpointAs, sendAs, deliverAs, loseAs, recoverAs, earliestAs};
 
 // A run of n processes with the block count of each: for an operator alone. A start that is denied leaves the words as they were.
-pub fn start(role: u32, owned: u32, w: &mut [u16], n: usize, counts: &[u32]) -> StartAnswer
-    ensures { λ r. ⌜ r ≡ startAs role owned (now (w .entry)) n (now (counts .entry)) .answer ⌝ }
-    ensures { λ r. ⌜ runOf (now (w .exit)) ≡ startAs role owned (now (w .entry)) n (now (counts .entry)) .run ⌝ }
-    ensures { λ r. ⌜ now (w .exit) ≡ startWordsAs role owned (now (w .entry)) n (now (counts .entry)) ⌝ }
+pub fn start(role: u32, owned: u32, w: &mut [u16], n: usize, block_counts: &[u32]) -> StartAnswer
+    ensures { λ r. ⌜ r ≡ startAs role owned (now (w .entry)) n (now («block_counts» .entry)) .answer ⌝ }
+    ensures { λ r. ⌜ runOf (now (w .exit)) ≡ startAs role owned (now (w .entry)) n (now («block_counts» .entry)) .run ⌝ }
+    ensures { λ r. ⌜ now (w .exit) ≡ startWordsAs role owned (now (w .entry)) n (now («block_counts» .entry)) ⌝ }
     ensures { λ r. ⌜ (length (now (w .entry)) ≡ stateSize → Clean (now (w .entry)) → Clean (now (w .exit))) ⌝ }
 {
     let denied = denied::is_denied(role, Operation::Start);
     if denied {
         return StartAnswer::Refused(Refusal::Denied);
     }
-    in_place::start::start(w, n, counts)
+    in_place::start::start(w, n, block_counts)
 }
 
 // Process i takes a checkpoint. What is deleted goes to the front of the lent list.

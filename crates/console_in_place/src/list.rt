@@ -17,7 +17,7 @@ ghost use Rattle.model.specs.Sound.{sound};
 ghost use Rattle.model.specs.Steps.{listed};
 ghost use Rattle.model.specs.Words.{mostProcesses, keptPlaces};
 ghost use Rattle.whole_runs.specs.Outcomes.{pairs};
-ghost use Rattle.words.specs.Layout.{word, countOf, heldAt, indexAt, checkpointIn, runOf, stateSize};
+ghost use Rattle.words.specs.Layout.{word, countOf, keptCountAt, indexAt, checkpointIn, runOf, stateSize};
 ghost use Rattle.roles.specs.Console.{consoleList};
 ghost use Rattle.console_in_place.specs.Asked.{listAs};
 ghost use Rattle.console_in_place.specs.Listed.{listedOf, listedBelow};
@@ -33,12 +33,12 @@ fn write_pair(w: &[u16], p: usize, k: usize, deleted: &mut [u16], at: usize)
     deleted[at + 1] = index.0;
 }
 
-// Those of the first `held` checkpoints.
-fn write_kept(w: &[u16], p: usize, held: usize, deleted: &mut [u16], at: usize)
-    requires { ⌜ (length (now w) ≡ stateSize) × (p < mostProcesses) × (held ≤ mostProcesses) × (at + 2 * held ≤ length (now deleted)) × ((k : ℕ) → k < held → 1 ≤ word (now w) (indexAt p k)) ⌝ }
-    ensures { λ u. ⌜ now (deleted .exit) ≡ sets (now (deleted .entry)) at (pairs (listed p (table held (checkpointIn (now (w .entry)) p)))) ⌝ }
+// Those of the first `kept_count` checkpoints.
+fn write_kept(w: &[u16], p: usize, kept_count: usize, deleted: &mut [u16], at: usize)
+    requires { ⌜ (length (now w) ≡ stateSize) × (p < mostProcesses) × («kept_count» ≤ mostProcesses) × (at + 2 * «kept_count» ≤ length (now deleted)) × ((k : ℕ) → k < «kept_count» → 1 ≤ word (now w) (indexAt p k)) ⌝ }
+    ensures { λ u. ⌜ now (deleted .exit) ≡ sets (now (deleted .entry)) at (pairs (listed p (table «kept_count» (checkpointIn (now (w .entry)) p)))) ⌝ }
 {
-    for k in 0..held {
+    for k in 0..kept_count {
         write_pair(w, p, k, deleted, at + 2 * k);
     }
 }
@@ -52,7 +52,7 @@ fn write_part(
     deleted: &mut [u16],
     count: usize,
 ) -> usize
-    requires { ⌜ (sound (runOf (now w)) ≡ true) × (p < countOf (now w)) × (count ≤ keptPlaces) × (2 * count + 2 * word (now w) (heldAt p) ≤ length (now deleted)) ⌝ }
+    requires { ⌜ (sound (runOf (now w)) ≡ true) × (p < countOf (now w)) × (count ≤ keptPlaces) × (2 * count + 2 * word (now w) (keptCountAt p) ≤ length (now deleted)) ⌝ }
     ensures { λ r. ⌜ r ≡ length (listedOf role owned (countOf (now (w .entry))) (now (w .entry)) p) ⌝ }
     ensures { λ r. ⌜ now (deleted .exit) ≡ sets (now (deleted .entry)) (2 * count) (pairs (listedOf role owned (countOf (now (w .entry))) (now (w .entry)) p)) ⌝ }
 {
@@ -61,10 +61,10 @@ fn write_part(
     if !seen {
         return 0;
     }
-    let held_at = places::held_at(p);
-    let held = denied::number_of(w[held_at]);
-    write_kept(w, p, held, deleted, 2 * count);
-    held
+    let kept_count_at = places::kept_count_at(p);
+    let kept_count = denied::number_of(w[kept_count_at]);
+    write_kept(w, p, kept_count, deleted, 2 * count);
+    kept_count
 }
 
 // Those of n processes, one after the other, go to the front of the lent list.
@@ -95,7 +95,7 @@ fn list_as(role: Role, owned: u32, w: &[u16], deleted: &mut [u16]) -> ListAnswer
         return ListAnswer::Refused(Refusal::UnsoundState);
     }
     let n = denied::number_of(w[places::COUNT]);
-    let short = verdicts::are_deletions_short(deleted.len(), n);
+    let short = admissions::are_deletions_short(deleted.len(), n);
     if short {
         return ListAnswer::Refused(Refusal::ListTooShort);
     }

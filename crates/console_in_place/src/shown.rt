@@ -92,10 +92,10 @@ pub fn counts(role: u32, owned: u32, w: &[u16], line: &mut [u16]) -> LineAnswer
         return LineAnswer::Refused(Refusal::UnsoundState);
     }
     let n = denied::count_of(w);
-    let short = verdicts::is_line_short(line.len(), n);
+    let short = admissions::is_line_short(line.len(), n);
     if short {
         return LineAnswer::Refused(Refusal::ListTooShort);
     }
-    readers::copy_words(w, places::HELD, n, line);
+    readers::copy_words(w, places::KEPT, n, line);
     LineAnswer::Written
 }

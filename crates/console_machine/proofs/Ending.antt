@@ -11,13 +11,13 @@ use borrow.Author.Tests.{leb-true, ltb-true, ltb-false}
 use Rattle.laws.specs.Choice.{pick, by-bool}
 use Rattle.machines.specs.Machines.{Request, Read, Stop, Answer, Number, Bytes, End, Done, Failed, heard, heardRead, heardDone, stepped, Ends}
 use Rattle.console_machine.specs.Text.{callSize, refusedAt}
-use Rattle.console_machine.specs.Consoling.{mostCalls, Between, State, Opening, Reading, Telling, Ending, Failing, Stopped, ask, next, begun, afterFirst, called, onward, atEnd, afterRead, furtherOn, afterWrite, consoling}
+use Rattle.console_machine.specs.Consoling.{mostCalls, Between, State, Opening, Reading, Printing, Ending, Failing, Stopped, ask, next, begun, afterFirst, called, onward, atEnd, afterRead, furtherOn, afterWrite, consoling}
 
 -- 10 answers a call are enough: 8 reads of one byte and a write.
 abbrev pub left : State → ℕ
 left Opening = 10 * mostCalls + 13
-left (Reading b) = 10 * (mostCalls - b .done) + (8 - length (b .held)) + 4
-left (Telling line b) = pick (ltb (b .done) mostCalls) (10 * (mostCalls - b .done) + 13) 3
+left (Reading b) = 10 * (mostCalls - b .done) + (8 - length (b .buffered)) + 4
+left (Printing line b) = pick (ltb (b .done) mostCalls) (10 * (mostCalls - b .done) + 13) 3
 left (Ending line) = 2
 left (Failing name) = 1
 left Stopped = 0
@@ -45,17 +45,17 @@ called-falls b =
     (λ e. rw e (omega (arith, ltb-true (b .done + 1) mostCalls e)))
     (λ e. rw e (omega arith))
 
-onward-falls : (b : Between) (more : List ℕ) → 1 ≤ length more → left (onward (record { done = b .done; run = b .run; held = b .held ++ more })) < left (Reading b)
+onward-falls : (b : Between) (more : List ℕ) → 1 ≤ length more → left (onward (record { done = b .done; run = b .run; buffered = b .buffered ++ more })) < left (Reading b)
 unfolding onward
 onward-falls b more h =
-    let after : Between = record { done = b .done; run = b .run; held = b .held ++ more } in
-    by-bool (ltb (length (b .held ++ more)) 8)
-    (λ e. rw e (omega (arith, ltb-true (length (b .held ++ more)) 8 e, length-append (b .held) more)))
+    let after : Between = record { done = b .done; run = b .run; buffered = b .buffered ++ more } in
+    by-bool (ltb (length (b .buffered ++ more)) 8)
+    (λ e. rw e (omega (arith, ltb-true (length (b .buffered ++ more)) 8 e, length-append (b .buffered) more)))
     (λ e. rw e (omega (arith, called-falls after)))
 
 end-falls : (b : Between) → left (atEnd b) < left (Reading b)
 unfolding atEnd
-end-falls b = by-bool (eqb (length (b .held)) 0) (λ e. rw e (omega arith)) (λ e. rw e (omega arith))
+end-falls b = by-bool (eqb (length (b .buffered)) 0) (λ e. rw e (omega arith)) (λ e. rw e (omega arith))
 
 read-falls : (b : Between) (most : ℕ) (a : Answer) → left (afterRead b (heardRead most a)) < left (Reading b)
 unfolding heardRead afterRead
@@ -68,7 +68,7 @@ read-falls b most End = end-falls b
 read-falls b most Done = omega arith
 read-falls b most Failed = omega arith
 
-further-falls : (line : List ℕ) (b : Between) → left (furtherOn b) < left (Telling line b)
+further-falls : (line : List ℕ) (b : Between) → left (furtherOn b) < left (Printing line b)
 unfolding furtherOn
 further-falls line b = by-bool (ltb (b .done) mostCalls) (λ e. rw e (omega arith)) (λ e. rw e (omega arith))
 
@@ -80,14 +80,14 @@ write-falls then most h one End = one
 write-falls then most h one Done = h
 write-falls then most h one Failed = one
 
-told-more : (line : List ℕ) (b : Between) → 1 < left (Telling line b)
-told-more line b = by-bool (ltb (b .done) mostCalls) (λ e. rw e (omega arith)) (λ e. rw e (omega arith))
+printed-more : (line : List ℕ) (b : Between) → 1 < left (Printing line b)
+printed-more line b = by-bool (ltb (b .done) mostCalls) (λ e. rw e (omega arith)) (λ e. rw e (omega arith))
 
 pub falls : (s : State) (a : Answer) → (ask s ≡ Stop → ⊥) → left (stepped consoling s a) < left s
 unfolding stepped ask next heard
 falls Opening a h = first-falls a
-falls (Reading b) a h = read-falls b (callSize - length (b .held)) a
-falls (Telling line b) a h = write-falls (furtherOn b) (left (Telling line b)) (further-falls line b) (told-more line b) a
+falls (Reading b) a h = read-falls b (callSize - length (b .buffered)) a
+falls (Printing line b) a h = write-falls (furtherOn b) (left (Printing line b)) (further-falls line b) (printed-more line b) a
 falls (Ending line) a h = write-falls Stopped 2 (omega arith) (omega arith) a
 falls (Failing name) a h = omega arith
 falls Stopped a h = absurd (h refl)
@@ -96,7 +96,7 @@ pub stays : (s : State) (a : Answer) → ask s ≡ Stop → ask (stepped consoli
 unfolding stepped ask next
 stays Opening a e = cc
 stays (Reading b) a e = cc
-stays (Telling line b) a e = cc
+stays (Printing line b) a e = cc
 stays (Ending line) a e = cc
 stays (Failing name) a e = cc
 stays Stopped a e = refl

@@ -9,7 +9,7 @@ use lib.ListN.{length, getD}
 use Rattle.laws.specs.Choice.{pick}
 use Rattle.model.specs.declared.Run.{Run}
 use Rattle.model.specs.declared.Refusal.the-variants.{NoFirstByte, LeftOverBytes}
-use Rattle.machines.specs.Machines.{Request, Count, Argument, Open, Read, Write, Say, Fail, Stop, Answer, Number, Bytes, End, Done, Failed, Machine, Exchange, asked, exchanges, stateAfter, writtenOf, saidOf, readOf}
+use Rattle.machines.specs.Machines.{Request, Count, Argument, Open, Read, Write, Say, Fail, Stop, Answer, Number, Bytes, End, Done, Failed, Machine, Exchange, asked, exchanges, stateAfter, writtenOf, errorTextOf, readOf}
 use Rattle.console_machine.specs.Made.{madeOn, opened}
 use Rattle.console_machine.specs.Text.{callSize, firstCall, callText, lineText, refusedText, refusedAt, linesOf, factsOf}
 
@@ -28,7 +28,7 @@ outputName = 99 ∷ 111 ∷ 110 ∷ 115 ∷ 111 ∷ 108 ∷ 101 ∷ 58 ∷ 32 �
 pub record Between : Type 0 where
   pub done : ℕ
   pub run : Run
-  pub held : List ℕ
+  pub buffered : List ℕ
 
 pub data State : Type 0 where
   -- The first byte is to be read.
@@ -36,7 +36,7 @@ pub data State : Type 0 where
   -- The next call is to be read.
   Reading : Between → State
   -- The line of a call, after which there may be more.
-  Telling : List ℕ → Between → State
+  Printing : List ℕ → Between → State
   -- The last line.
   Ending : List ℕ → State
   -- What failed.
@@ -45,15 +45,15 @@ pub data State : Type 0 where
 
 unfoldable pub ask : State → Request
 ask Opening = Read 1
-ask (Reading b) = Read (callSize - length (b .held))
-ask (Telling line b) = Write line
+ask (Reading b) = Read (callSize - length (b .buffered))
+ask (Printing line b) = Write line
 ask (Ending line) = Write line
 ask (Failing name) = Fail name
 ask Stopped = Stop
 
 -- The first byte starts the run, or is refused under number 0; so is a script that has none.
 unfoldable pub begun : ℕ → State
-begun n = pick (eqb (refusedAt n) 0) (Reading (record { done = 0; run = opened n .run; held = [] })) (Ending (lineText 0 (refusedAt n) []))
+begun n = pick (eqb (refusedAt n) 0) (Reading (record { done = 0; run = opened n .run; buffered = [] })) (Ending (lineText 0 (refusedAt n) []))
 
 unfoldable pub afterFirst : Answer → State
 afterFirst (Number n) = Failing inputName
@@ -64,18 +64,18 @@ afterFirst Failed = Failing inputName
 
 -- Eight bytes are a call, which is made.
 unfoldable pub called : Between → State
-called b = Telling (callText (b .done + 1) (b .run) (firstCall (b .held))) (record { done = b .done + 1; run = madeOn (b .run) (firstCall (b .held)) .run; held = [] })
+called b = Printing (callText (b .done + 1) (b .run) (firstCall (b .buffered))) (record { done = b .done + 1; run = madeOn (b .run) (firstCall (b .buffered)) .run; buffered = [] })
 
 unfoldable pub onward : Between → State
-onward b = pick (ltb (length (b .held)) callSize) (Reading b) (called b)
+onward b = pick (ltb (length (b .buffered)) callSize) (Reading b) (called b)
 
 -- Bytes left over are refused with 13.
 unfoldable pub atEnd : Between → State
-atEnd b = pick (eqb (length (b .held)) 0) Stopped (Ending (refusedText (b .done + 1) LeftOverBytes))
+atEnd b = pick (eqb (length (b .buffered)) 0) Stopped (Ending (refusedText (b .done + 1) LeftOverBytes))
 
 unfoldable pub afterRead : Between → Answer → State
 afterRead b (Number n) = Failing inputName
-afterRead b (Bytes more) = onward (record { done = b .done; run = b .run; held = b .held ++ more })
+afterRead b (Bytes more) = onward (record { done = b .done; run = b .run; buffered = b .buffered ++ more })
 afterRead b End = atEnd b
 afterRead b Done = Failing inputName
 afterRead b Failed = Failing inputName
@@ -93,7 +93,7 @@ afterWrite then Failed = Failing outputName
 unfoldable pub next : State → Answer → State
 next Opening a = afterFirst a
 next (Reading b) a = afterRead b a
-next (Telling line b) a = afterWrite (furtherOn b) a
+next (Printing line b) a = afterWrite (furtherOn b) a
 next (Ending line) a = afterWrite Stopped a
 next (Failing name) a = Stopped
 next Stopped a = Stopped
@@ -154,7 +154,7 @@ pub record Consoles (answers : List Answer) : Type 0 where
       → (endMet (exchanges consoling answers) ≡ false) × (isOpen (readOf (exchanges consoling answers)) ≡ true) × (failures (exchanges consoling answers) ≡ [])
       × (length (readOf (exchanges consoling answers)) + most ≤ 1 + callSize * mostCalls)
   -- what failed is reported, and nothing else;
-  pub says : saidOf (asked consoling answers) ≡ failures (exchanges consoling answers)
+  pub says : errorTextOf (asked consoling answers) ≡ failures (exchanges consoling answers)
   -- and it has stopped after no more than 10 answers a call.
   pub stops : 10 * mostCalls + 13 < length answers → ask (stateAfter consoling answers) ≡ Stop
 

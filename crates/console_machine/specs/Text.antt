@@ -40,13 +40,13 @@ entriesText [] = []
 entriesText (x ∷ l) = fieldText (some x) ++ entriesText l
 
 -- "see its own members of a line for a failed set, other places left unchanged": the entry, whatever it is; none, a hyphen, where nothing was written.
-unfoldable pub memberSaid : Caller → ℕ → ℕ → ℕ → Option ℕ
-memberSaid c n p entry = pick (entitled c n p) (some entry) none
+unfoldable pub memberShown : Caller → ℕ → ℕ → ℕ → Option ℕ
+memberShown c n p entry = pick (entitled c n p) (some entry) none
 
 -- The places of a line list from place p on, after a line call.
 unfoldable pub membersText : Caller → ℕ → ℕ → List ℕ → List ℕ
 membersText c n p [] = []
-membersText c n p (x ∷ l) = fieldText (memberSaid c n p x) ++ membersText c n (suc p) l
+membersText c n p (x ∷ l) = fieldText (memberShown c n p x) ++ membersText c n (suc p) l
 
 -- What follows the 0 of an accepted call, by its operation, where n are the processes.
 unfoldable pub answerText : Operation → Caller → ℕ → Reply → List ℕ
@@ -109,7 +109,7 @@ linesOf (n ∷ l) = pick (eqb (refusedAt n) 0) (callLines (length l / callSize) 
 
 -- Bytes that are left over at the end of a script are 13, under the number of the call that they begin.
 unfoldable pub leftOver : ℕ → ℕ → List ℕ
-leftOver done held = pick (eqb held 0) [] (refusedText (done + 1) LeftOverBytes)
+leftOver done buffered = pick (eqb buffered 0) [] (refusedText (done + 1) LeftOverBytes)
 
 -- The facts of a whole script.
 unfoldable pub factsOf : List ℕ → List ℕ

@@ -78,9 +78,9 @@ unfoldable pub asked : Option Call → Read
 asked none = Malformed
 asked (some c) = Asks c
 
--- The next bytes of a script, of which `held` are there: "13: .. bytes left over", as after the records of a trace.
+-- The next bytes of a script, of which `buffered` are there: "13: .. bytes left over", as after the records of a trace.
 unfoldable pub nextOf : ℕ → List ℕ → Read
-nextOf held call = pick (eqb held 0) Ended (pick (ltb held 8) LeftOver (asked (callOf call)))
+nextOf buffered call = pick (eqb buffered 0) Ended (pick (ltb buffered 8) LeftOver (asked (callOf call)))
 
 -- A failed set and an index are two bytes of the argument: in a call that is well-formed they are all of it (proofs/Calls).
 unfoldable pub WholeArguments : Type 0

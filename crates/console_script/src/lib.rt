@@ -137,14 +137,14 @@ fn call_of(bytes: [u8; 8]) -> Read
     Read::Malformed
 }
 
-// What the first `held` of eight bytes are, where no more are left of the script if there are fewer.
-pub fn next_of(held: usize, bytes: [u8; 8]) -> Read
-    ensures { λ r. ⌜ r ≡ nextOf held bytes ⌝ }
+// What the first `buffered` of eight bytes are, where no more are left of the script if there are fewer.
+pub fn next_of(buffered: usize, bytes: [u8; 8]) -> Read
+    ensures { λ r. ⌜ r ≡ nextOf buffered bytes ⌝ }
 {
-    if held == 0 {
+    if buffered == 0 {
         return Read::Ended;
     }
-    if held < 8 {
+    if buffered < 8 {
         return Read::LeftOver;
     }
     call_of(bytes)

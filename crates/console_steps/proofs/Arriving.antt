@@ -18,7 +18,7 @@ use Rattle.words.specs.Layout.{runOf}
 use Rattle.machines.specs.Machines.{Answer, stepped}
 use Rattle.console_machine.specs.Made.{madeOn, opened}
 use Rattle.console_machine.specs.Text.{firstCall, lineText, callText, refusedText, refusedAt}
-use Rattle.console_machine.specs.Consoling.{mostCalls, State, Opening, Reading, Telling, Ending, Failing, Stopped, next, begun, called, onward, atEnd, furtherOn, consoling}
+use Rattle.console_machine.specs.Consoling.{mostCalls, State, Opening, Reading, Printing, Ending, Failing, Stopped, next, begun, called, onward, atEnd, furtherOn, consoling}
 use Rattle.console_script.specs.Script.{callOf}
 use Rattle.console_steps.specs.declared.marks.Marks.{Marks}
 use Rattle.console_steps.specs.Replied.{Makes}
@@ -61,7 +61,7 @@ module _ (words input : List ℕ) where
   unfolding stateIn mostDone begun
   arrives-begun out n e run = record {
     bounds = bounds _ (length out) (omega arith) (omega arith) (omega arith);
-    state = rw (eq-eqb (refusedAt n) 0 e) (ap (λ (s : Run). Reading (record { done = 0; run = s; held = [] })) run);
+    state = rw (eq-eqb (refusedAt n) 0 e) (ap (λ (s : Run). Reading (record { done = 0; run = s; buffered = [] })) run);
   }
 
   pub begun-refused : (n x : ℕ) → x ≡ refusedAt n → (x ≡ 0 → ⊥) → begun n ≡ Ending (lineText 0 x [])
@@ -91,19 +91,19 @@ module _ (words input : List ℕ) where
   some-left m h k = rw (length-take-le (m .kept) input k, ne-eqb (m .kept) 0 h) refl
 
   -- More bytes are read until there are eight.
-  pub arrives-more : (done held : ℕ) (out : List ℕ) → done < mostCalls → held < 8 → held ≤ length input
-      → Arrives (record { phase = 2; done = done; kept = held; size = 0 }) words input out (onward (record { done = done; run = runOf words; held = take held input }))
+  pub arrives-more : (done buffered : ℕ) (out : List ℕ) → done < mostCalls → buffered < 8 → buffered ≤ length input
+      → Arrives (record { phase = 2; done = done; kept = buffered; size = 0 }) words input out (onward (record { done = done; run = runOf words; buffered = take buffered input }))
   unfolding stateIn mostDone onward
-  arrives-more done held out a b k = record {
+  arrives-more done buffered out a b k = record {
     bounds = bounds _ (length out) (omega (arith, a)) (omega (arith, b)) (omega arith);
-    state = rw (length-take-le held input k, lt-ltb held 8 b) refl;
+    state = rw (length-take-le buffered input k, lt-ltb buffered 8 b) refl;
   }
 
-  pub onward-called : (done held : ℕ) → 8 ≤ held → held ≤ 8 → 8 ≤ length input
-      → onward (record { done = done; run = runOf words; held = take held input }) ≡ called (record { done = done; run = runOf words; held = take 8 input })
+  pub onward-called : (done buffered : ℕ) → 8 ≤ buffered → buffered ≤ 8 → 8 ≤ length input
+      → onward (record { done = done; run = runOf words; buffered = take buffered input }) ≡ called (record { done = done; run = runOf words; buffered = take 8 input })
   unfolding onward
-  onward-called done held a b k =
-      let eight : held ≡ 8 = omega (arith, a, b) in
+  onward-called done buffered a b k =
+      let eight : buffered ≡ 8 = omega (arith, a, b) in
       rw (eight, length-take-le 8 input k) refl
 
 -- A whole call is kept as it is.
@@ -120,13 +120,13 @@ take-eight (a ∷ b ∷ c ∷ d ∷ e ∷ f ∷ g ∷ []) k = absurd (omega (ari
 
 pub arrives-called : (done : ℕ) (words words′ input out′ bytes : List ℕ) (size : ℕ) → done < mostCalls → 8 ≤ length input → bytes ≡ take 8 input
     → Makes (runOf words) (done + 1) (callOf bytes) words′ out′ size
-    → Arrives (record { phase = 3; done = done + 1; kept = 0; size = size }) words′ input out′ (called (record { done = done; run = runOf words; held = take 8 input }))
+    → Arrives (record { phase = 3; done = done + 1; kept = 0; size = size }) words′ input out′ (called (record { done = done; run = runOf words; buffered = take 8 input }))
 unfolding stateIn mostDone called
 arrives-called done words words′ input out′ bytes size a k e makes =
     let same : callOf bytes ≡ firstCall (take 8 input) = ap callOf (e ∙ sym (take-eight input k)) in
     record {
       bounds = bounds _ (length out′) (omega (arith, a)) (omega arith) (makes .inside);
-      state = λ j. Telling ((makes .line ∙ ap (callText (done + 1) (runOf words)) same) j) (record { done = done + 1; run = (makes .run ∙ ap (λ o. madeOn (runOf words) o .run) same) j; held = [] });
+      state = λ j. Printing ((makes .line ∙ ap (callText (done + 1) (runOf words)) same) j) (record { done = done + 1; run = (makes .run ∙ ap (λ o. madeOn (runOf words) o .run) same) j; buffered = [] });
     }
 
 -- What has failed stops.

@@ -16,7 +16,7 @@ use Rattle.machines.specs.declared.heard.Taken.the-variants as taken
 use Rattle.machines.specs.Machines.{Answer, Done, Failed, heard, heardRead, heardDone, stepped}
 use Rattle.machines.specs.Forms.{answerOf, takenOf}
 use Rattle.console_machine.specs.Text.{lineText, refusedText}
-use Rattle.console_machine.specs.Consoling.{inputName, outputName, Between, State, Opening, Reading, Telling, Ending, Failing, Stopped, ask, next, begun, afterFirst, onward, atEnd, afterRead, furtherOn, afterWrite, consoling}
+use Rattle.console_machine.specs.Consoling.{inputName, outputName, Between, State, Opening, Reading, Printing, Ending, Failing, Stopped, ask, next, begun, afterFirst, onward, atEnd, afterRead, furtherOn, afterWrite, consoling}
 use Rattle.console_steps.specs.declared.marks.Marks.{Marks}
 use Rattle.console_steps.specs.Lent.{betweenOf, Arrives}
 
@@ -56,15 +56,15 @@ module _ (a : answers.Answer) (kept : ℕ) (input : List ℕ) (r : takens.Taken)
 -- A line is written, or not.
 module _ (line : List ℕ) (a : Answer) (r : Bool) (h : heardDone a ≡ pick r Done Failed) where
   module _ (b : Between) where
-    heard-line : stepped consoling (Telling line b) a ≡ afterWrite (furtherOn b) (pick r Done Failed)
+    heard-line : stepped consoling (Printing line b) a ≡ afterWrite (furtherOn b) (pick r Done Failed)
     unfolding stepped ask heard next
     heard-line = ap (afterWrite (furtherOn b)) h
 
-    pub line-done : r ≡ true → stepped consoling (Telling line b) a ≡ furtherOn b
+    pub line-done : r ≡ true → stepped consoling (Printing line b) a ≡ furtherOn b
     unfolding afterWrite
     line-done e = heard-line ∙ rw e refl
 
-    pub line-failed : r ≡ false → stepped consoling (Telling line b) a ≡ Failing outputName
+    pub line-failed : r ≡ false → stepped consoling (Printing line b) a ≡ Failing outputName
     unfolding afterWrite
     line-failed e = heard-line ∙ rw e refl
 
@@ -93,11 +93,11 @@ module _ (m : Marks) (words input : List ℕ) (a : answers.Answer) (r : takens.T
   unfolding stepped ask heard next
   heard-read = ap (λ (k : ℕ). afterRead b (heardRead (8 - k) (answerOf a (m .kept) input))) (length-take-le (m .kept) input inside) ∙ ap (afterRead b) h
 
-  pub read-more : (size : ℕ) → r ≡ taken.Brought size → after-reading ≡ onward (record { done = m .done; run = runOf words; held = take (m .kept + size) input })
+  pub read-more : (size : ℕ) → r ≡ taken.Brought size → after-reading ≡ onward (record { done = m .done; run = runOf words; buffered = take (m .kept + size) input })
   unfolding takenOf afterRead
   read-more size e =
       heard-read ∙ ap (λ (x : takens.Taken). afterRead b (takenOf x (m .kept) input)) e
-      ∙ ap (λ (l : List ℕ). onward (record { done = m .done; run = runOf words; held = l })) (sym (take-add (m .kept) size input))
+      ∙ ap (λ (l : List ℕ). onward (record { done = m .done; run = runOf words; buffered = l })) (sym (take-add (m .kept) size input))
 
   pub read-end : r ≡ taken.Ended → after-reading ≡ atEnd b
   unfolding takenOf afterRead

@@ -13,7 +13,7 @@ use Rattle.laws.specs.Choice.{pick, by-bool}
 use Rattle.model.specs.declared.Run.{Run}
 use Rattle.model.specs.Refusals.{number}
 use Rattle.whole_runs.specs.Calls.{Answered}
-use Rattle.verdicts.proofs.Room.{twice-square}
+use Rattle.admissions.proofs.Room.{twice-square}
 use Rattle.listing.specs.Printed.{Printed}
 use Rattle.programs.proofs.Texts.{front-text}
 use Rattle.words.specs.Layout.{runOf}
@@ -56,7 +56,7 @@ lent-is short size most k h e = ap (λ (j : ℕ). take j (replicate {A = ℕ} mo
 pub makes : (s : Run) (k : ℕ) (c : Call) (n : ℕ) (w′ out out′ pairs line pairs′ line′ : List ℕ) (r : Replied) (size : ℕ)
     → n ≡ processes s → pairs ≡ lentPairs s c → line ≡ lentLine s c
     → Replies (c .operation) (madeWith (c .operation) s c pairs line) w′ r pairs′ line′
-    → Printed out 0 (lineText k (r .said .refused) (answerText (c .operation) (c .caller) n (replyOf r pairs′ line′))) out′ size → size ≤ length out
+    → Printed out 0 (lineText k (r .summary .refused) (answerText (c .operation) (c .caller) n (replyOf r pairs′ line′))) out′ size → size ≤ length out
     → Makes s k (some c) w′ out′ size
 unfolding madeOn callText tailText
 makes s k c n w′ out out′ pairs line pairs′ line′ r size many ps ls replies printed inside =
@@ -67,7 +67,7 @@ makes s k c n w′ out out′ pairs line pairs′ line′ r size many ps ls repl
           front-text out _ out′ size printed inside
           ∙ (λ j. lineText k (replies .refused j) (replies .answer (c .caller) n j))
           ∙ (λ j. lineText k (same j .reply .report .refused) (answerText (c .operation) (c .caller) (many j) (same j .reply)));
-      inside = omega (arith, inside, ap (λ (l : List ℕ). length l) (printed .holds), length-sets out 0 (lineText k (r .said .refused) (answerText (c .operation) (c .caller) n (replyOf r pairs′ line′))));
+      inside = omega (arith, inside, ap (λ (l : List ℕ). length l) (printed .holds), length-sets out 0 (lineText k (r .summary .refused) (answerText (c .operation) (c .caller) n (replyOf r pairs′ line′))));
     }
 
 -- What is no call is refused.

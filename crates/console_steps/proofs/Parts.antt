@@ -17,7 +17,7 @@ use Rattle.listing.proofs.Bounds.{twenty-digits}
 use Rattle.roles.specs.declared.Caller.{Caller}
 use Rattle.roles.specs.declared.Role.the-variants.{Operator}
 use Rattle.roles.specs.Console.{entitledBy, entitled}
-use Rattle.console_machine.specs.Text.{fieldText, entriesText, memberSaid, membersText, lineText}
+use Rattle.console_machine.specs.Text.{fieldText, entriesText, memberShown, membersText, lineText}
 
 pub value-length : (v : Option ℕ) → length (valueText v) ≤ 20
 unfolding valueText
@@ -51,21 +51,21 @@ pairs-shown count shown l e = by-bool (ltb (length l / 2) count)
     (λ h. ap (λ (k : ℕ). deletionsText k l) {x = shown} {y = count} (omega (arith, e, ltb-false (length l / 2) count h)))
 
 -- One place more of a line list.
-members-more : (c : Caller) (n p k : ℕ) (l : List ℕ) → k < length l → membersText c n p (take (suc k) l) ≡ membersText c n p (take k l) ++ fieldText (memberSaid c n (p + k) (getD l k 0))
+members-more : (c : Caller) (n p k : ℕ) (l : List ℕ) → k < length l → membersText c n p (take (suc k) l) ≡ membersText c n p (take k l) ++ fieldText (memberShown c n (p + k) (getD l k 0))
 unfolding membersText
 members-more c n p k [] h = absurd (omega (arith, h))
 members-more c n p zero (x ∷ l) h =
-    append-nil (fieldText (memberSaid c n p x)) ∙ ap (λ (q : ℕ). fieldText (memberSaid c n q x)) {x = p} {y = p + 0} (omega arith)
+    append-nil (fieldText (memberShown c n p x)) ∙ ap (λ (q : ℕ). fieldText (memberShown c n q x)) {x = p} {y = p + 0} (omega arith)
 members-more c n p (suc k) (x ∷ l) h =
-    let t = fieldText (memberSaid c n p x) in
+    let t = fieldText (memberShown c n p x) in
     ap (λ (z : List ℕ). t ++ z) (members-more c n (suc p) k l (omega (arith, h)))
-    ∙ sym (append-assoc t (membersText c n (suc p) (take k l)) (fieldText (memberSaid c n (suc p + k) (getD l k 0))))
-    ∙ ap (λ (q : ℕ). (t ++ membersText c n (suc p) (take k l)) ++ fieldText (memberSaid c n q (getD l k 0))) {x = suc p + k} {y = p + suc k} (omega arith)
+    ∙ sym (append-assoc t (membersText c n (suc p) (take k l)) (fieldText (memberShown c n (suc p + k) (getD l k 0))))
+    ∙ ap (λ (q : ℕ). (t ++ membersText c n (suc p) (take k l)) ++ fieldText (memberShown c n q (getD l k 0))) {x = suc p + k} {y = p + suc k} (omega arith)
 
-pub members-next : (c : Caller) (n k : ℕ) (l : List ℕ) → k < length l → membersText c n 0 (take (k + 1) l) ≡ membersText c n 0 (take k l) ++ fieldText (memberSaid c n k (getD l k 0))
+pub members-next : (c : Caller) (n k : ℕ) (l : List ℕ) → k < length l → membersText c n 0 (take (k + 1) l) ≡ membersText c n 0 (take k l) ++ fieldText (memberShown c n k (getD l k 0))
 members-next c n k l h =
     ap (λ (j : ℕ). membersText c n 0 (take j l)) (add-one k) ∙ members-more c n 0 k l h
-    ∙ ap (λ (q : ℕ). membersText c n 0 (take k l) ++ fieldText (memberSaid c n q (getD l k 0))) {x = 0 + k} {y = k} (omega arith)
+    ∙ ap (λ (q : ℕ). membersText c n 0 (take k l) ++ fieldText (memberShown c n q (getD l k 0))) {x = 0 + k} {y = k} (omega arith)
 
 pub no-members : (c : Caller) (n : ℕ) (l : List ℕ) → membersText c n 0 (take 0 l) ≡ []
 unfolding membersText
@@ -76,7 +76,7 @@ abbrev pub everyone : Caller
 everyone = record { role = Operator; owned = 0 }
 
 pub entries-members : (n p : ℕ) (l : List ℕ) → membersText everyone n p l ≡ entriesText l
-unfolding membersText entriesText memberSaid entitled entitledBy
+unfolding membersText entriesText memberShown entitled entitledBy
 entries-members n p [] = refl
 entries-members n p (x ∷ l) = ap (λ (z : List ℕ). fieldText (some x) ++ z) (entries-members n (suc p) l)
 

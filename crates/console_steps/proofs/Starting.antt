@@ -20,7 +20,7 @@ use Rattle.whole_runs.specs.Outcomes.{Outcome, Report, startReport, startOutcom
 use Rattle.whole_runs.specs.Calls.{answered}
 use Rattle.whole_runs.proofs.whole.Reached.{refused-number}
 use Rattle.listing.specs.declared.Summary.{Summary}
-use Rattle.listing.specs.Said.{reportIn}
+use Rattle.listing.specs.Summarised.{reportIn}
 use Rattle.words.specs.Layout.{runOf}
 use Rattle.in_place.specs.Starting.{startRefusalIn, startOutcomeIn}
 use Rattle.roles.specs.declared.Caller.{Caller}
@@ -70,14 +70,14 @@ module _ (role owned : ℕ) (c : Caller) (claims : Claims role owned c) (w : Lis
 
 -- Where the words of an accepted start take the place of those before, and of no other.
 module _ (role owned : ℕ) (c : Call) (claims : Claims role owned (c .caller)) (w w′ fresh fresh′ : List ℕ) (long : length fresh ≡ 6464) (r : Replied) (answer : StartAnswer) (pairs line : List ℕ)
-    (is : answer ≡ startAs role owned fresh (c .process) ones .answer) (run : runOf fresh′ ≡ startAs role owned fresh (c .process) ones .run) (said : reportIn (r .said) ≡ startReport answer) where
-  same : reportIn (r .said) ≡ startReport (consoleStart (c .caller) (c .process) ones .answer)
-  same = said ∙ ap startReport (is ∙ start-answer role owned (c .caller) claims fresh long (c .process))
+    (is : answer ≡ startAs role owned fresh (c .process) ones .answer) (run : runOf fresh′ ≡ startAs role owned fresh (c .process) ones .run) (summary : reportIn (r .summary) ≡ startReport answer) where
+  same : reportIn (r .summary) ≡ startReport (consoleStart (c .caller) (c .process) ones .answer)
+  same = summary ∙ ap startReport (is ∙ start-answer role owned (c .caller) claims fresh long (c .process))
 
-  number-is : r .said .refused ≡ startReport (consoleStart (c .caller) (c .process) ones .answer) .refused
+  number-is : r .summary .refused ≡ startReport (consoleStart (c .caller) (c .process) ones .answer) .refused
   number-is = same-number r (startReport (consoleStart (c .caller) (c .process) ones .answer)) same
 
-  pub start-accepted : r .said .refused ≡ 0 → w′ ≡ fresh′ → Replies operation.Start (madeWith operation.Start (runOf w) c pairs line) w′ r pairs line
+  pub start-accepted : r .summary .refused ≡ 0 → w′ ≡ fresh′ → Replies operation.Start (madeWith operation.Start (runOf w) c pairs line) w′ r pairs line
   unfolding madeWith startedOver answered answerText
   start-accepted none copied =
       let fine : eqb (startReport (consoleStart (c .caller) (c .process) ones .answer) .refused) 0 ≡ true = eq-eqb _ 0 (sym number-is ∙ none) in
@@ -87,7 +87,7 @@ module _ (role owned : ℕ) (c : Call) (claims : Claims role owned (c .caller)) 
         answer = λ k n. refl;
       }
 
-  pub start-refused : (r .said .refused ≡ 0 → ⊥) → w′ ≡ w → Replies operation.Start (madeWith operation.Start (runOf w) c pairs line) w′ r pairs line
+  pub start-refused : (r .summary .refused ≡ 0 → ⊥) → w′ ≡ w → Replies operation.Start (madeWith operation.Start (runOf w) c pairs line) w′ r pairs line
   unfolding madeWith startedOver answered answerText
   start-refused some kept =
       let not : eqb (startReport (consoleStart (c .caller) (c .process) ones .answer) .refused) 0 ≡ false = ne-eqb _ 0 (λ e. some (number-is ∙ e)) in
@@ -98,15 +98,15 @@ module _ (role owned : ℕ) (c : Call) (claims : Claims role owned (c .caller)) 
       }
 
 -- The operator's start, which a script begins with.
-module _ (words : List ℕ) (n : ℕ) (answer : StartAnswer) (said : Summary) (long : length words ≡ 6464) (is : answer ≡ startAs 0 0 words n ones .answer) where
+module _ (words : List ℕ) (n : ℕ) (answer : StartAnswer) (summary : Summary) (long : length words ≡ 6464) (is : answer ≡ startAs 0 0 words n ones .answer) where
   claims-operator : Claims 0 0 operator
   unfolding claimOf
   claims-operator = (refl, refl)
 
-  pub opened-number : reportIn said ≡ startReport answer → said .refused ≡ refusedAt n
+  pub opened-number : reportIn summary ≡ startReport answer → summary .refused ≡ refusedAt n
   unfolding reportIn refusedAt opened answered
   opened-number e = ap (λ (x : Report). x .refused) (e ∙ ap startReport (is ∙ start-answer 0 0 operator claims-operator words long n))
 
-  pub opened-run : (words′ : List ℕ) → runOf words′ ≡ startAs 0 0 words n ones .run → reportIn said ≡ startReport answer → said .refused ≡ 0 → runOf words′ ≡ opened n .run
+  pub opened-run : (words′ : List ℕ) → runOf words′ ≡ startAs 0 0 words n ones .run → reportIn summary ≡ startReport answer → summary .refused ≡ 0 → runOf words′ ≡ opened n .run
   unfolding opened answered refusedAt
   opened-run words′ run e none = run ∙ start-run 0 0 operator claims-operator words long n (eq-eqb _ 0 (sym (opened-number e) ∙ none))

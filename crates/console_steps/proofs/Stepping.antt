@@ -48,9 +48,9 @@ pub record Room (memory words input out : ℕ) : Type 0 where
   pub input-room : 8 ≤ input
   pub out-room : longestLine ≤ out
 
-pub roomy : (memory words input out : ℕ) → hasRoom memory words input out ≡ true → Room memory words input out
+pub enoughRoom : (memory words input out : ℕ) → hasRoom memory words input out ≡ true → Room memory words input out
 unfolding hasRoom
-roomy memory words input out h =
+enoughRoom memory words input out h =
     let a = leb 4 memory in
     let b = eqb words 6464 in
     let c = leb 8 input in
@@ -105,7 +105,7 @@ pub put-stands : (memory words input out : List ℕ) (m : Marks) (s : State) →
 unfolding stateOf isState
 put-stands memory words input out m s room is w =
     let b = bounded m (length out) (w .bounds) in
-    let r = roomy _ _ _ _ room in
+    let r = enoughRoom _ _ _ _ room in
     let there = place-kept memory m is in
     record {
       state = rw (room, is, w .bounds) (w .state);

@@ -12,7 +12,7 @@ use Rattle.machines.specs.declared.Request as requests
 use Rattle.machines.specs.declared.Request.the-variants as request
 use Rattle.machines.specs.Forms.{Asks}
 use Rattle.console_machine.specs.Text.{callSize}
-use Rattle.console_machine.specs.Consoling.{mostCalls, Between, State, Opening, Reading, Telling, Ending, Failing, Stopped, ask}
+use Rattle.console_machine.specs.Consoling.{mostCalls, Between, State, Opening, Reading, Printing, Ending, Failing, Stopped, ask}
 use Rattle.console_steps.specs.declared.marks.Marks.{Marks}
 use Rattle.console_steps.specs.Replied.{longestLine}
 
@@ -32,14 +32,14 @@ unfoldable pub inBounds : Marks → ℕ → Bool
 inBounds m out = leb (m .done) (mostDone (m .phase)) && (leb (m .kept) 7 && leb (m .size) out)
 
 abbrev pub betweenOf : Marks → List ℕ → List ℕ → Between
-betweenOf m words input = record { done = m .done; run = runOf words; held = take (m .kept) input }
+betweenOf m words input = record { done = m .done; run = runOf words; buffered = take (m .kept) input }
 
 -- Every number but 1 to 5 stands for a machine that has stopped.
 unfoldable pub stateIn : Marks → List ℕ → List ℕ → List ℕ → State
 stateIn m words input out =
     pick (eqb (m .phase) 1) Opening
     (pick (eqb (m .phase) 2) (Reading (betweenOf m words input))
-    (pick (eqb (m .phase) 3) (Telling (take (m .size) out) (betweenOf m words input))
+    (pick (eqb (m .phase) 3) (Printing (take (m .size) out) (betweenOf m words input))
     (pick (eqb (m .phase) 4) (Ending (take (m .size) out))
     (pick (eqb (m .phase) 5) (Failing (take (m .size) out))
     Stopped))))

@@ -7,7 +7,7 @@ use Prim.Native.Nat.{ℕ, _≤_}
 use lib.ListN.{length, take}
 use Rattle.model.specs.declared.Run.{Run}
 use Rattle.whole_runs.specs.Calls.{Reply, Answered}
-use Rattle.listing.specs.Said.{reportIn}
+use Rattle.listing.specs.Summarised.{reportIn}
 use Rattle.words.specs.Layout.{runOf}
 use Rattle.roles.specs.declared.Caller.{Caller}
 use Rattle.roles.specs.declared.Operation.{Operation}
@@ -35,12 +35,12 @@ Claims role owned c = (claimOf role ≡ As (c .role)) × (owned ≡ c .owned)
 
 -- The reply that a call handed back, with what it left of the lent lists.
 abbrev pub replyOf : Replied → List ℕ → List ℕ → Reply
-replyOf r pairs line = record { report = reportIn (r .said); rose = r .rose; deleted = pairs; line = line }
+replyOf r pairs line = record { report = reportIn (r .summary); rose = r .rose; deleted = pairs; line = line }
 
 -- A call answered so on words, and no line of it reads otherwise.
 pub record Replies (o : Operation) (a : Answered) (w′ : List ℕ) (r : Replied) (pairs line : List ℕ) : Type 0 where
   pub run : runOf w′ ≡ a .run
-  pub refused : r .said .refused ≡ a .reply .report .refused
+  pub refused : r .summary .refused ≡ a .reply .report .refused
   pub answer : (c : Caller) (n : ℕ) → answerText o c n (replyOf r pairs line) ≡ answerText o c n (a .reply)
 
 -- What is a call or not is made on words, and its line is at the front of a buffer.

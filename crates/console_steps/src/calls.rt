@@ -11,7 +11,7 @@ ghost use mathlib.Core.Path.{_≡_};
 ghost use mathlib.Core.List.{List};
 ghost use Prim.Native.Nat.{ℕ};
 ghost use lib.ListN.{length};
-ghost use Rattle.listing.specs.Said.{reportIn};
+ghost use Rattle.listing.specs.Summarised.{reportIn};
 ghost use Rattle.words.specs.Layout.{runOf, stateSize};
 ghost use Rattle.roles.specs.Console.{listReport};
 ghost use Rattle.roles.specs.declared.Operation.the-variants as operation;
@@ -22,7 +22,7 @@ ghost use Rattle.console_steps.specs.Replied.{Claims, Replies};
 
 // What a call answered: what its line says, and the set of the entries that rose.
 pub struct Replied {
-    pub said: Summary,
+    pub summary: Summary,
     pub rose: u16,
 }
 
@@ -42,8 +42,8 @@ fn checkpoint(w: &mut [u16], role: u32, owned: u32, c: Call, pairs: &mut [u16]) 
     ensures { λ r. ⌜ ((line : List ℕ) → Replies operation.Checkpoint (madeWith operation.Checkpoint (runOf (now (w .entry))) c (now (pairs .entry)) line) (now (w .exit)) r (now (pairs .exit)) line) ⌝ }
 {
     let answer = console_in_place::calls::checkpoint(role, owned, w, c.process as usize, pairs);
-    let said = summaries::of_checkpoint(answer);
-    Replied { said, rose: 0 }
+    let summary = summaries::of_checkpoint(answer);
+    Replied { summary, rose: 0 }
 }
 
 fn send(w: &mut [u16], role: u32, owned: u32, c: Call) -> Replied
@@ -57,8 +57,8 @@ fn send(w: &mut [u16], role: u32, owned: u32, c: Call) -> Replied
         c.process as usize,
         c.argument as usize,
     );
-    let said = summaries::of_send(answer);
-    Replied { said, rose: 0 }
+    let summary = summaries::of_send(answer);
+    Replied { summary, rose: 0 }
 }
 
 fn deliver(w: &mut [u16], role: u32, owned: u32, c: Call, pairs: &mut [u16]) -> Replied
@@ -67,9 +67,9 @@ fn deliver(w: &mut [u16], role: u32, owned: u32, c: Call, pairs: &mut [u16]) -> 
 {
     let delivered = console_in_place::calls::deliver(role, owned, w, c.argument, pairs);
     let answer = delivered.answer;
-    let said = summaries::of_deliver(answer);
+    let summary = summaries::of_deliver(answer);
     Replied {
-        said,
+        summary,
         rose: delivered.rose,
     }
 }
@@ -79,8 +79,8 @@ fn lose(w: &mut [u16], role: u32, owned: u32, c: Call) -> Replied
     ensures { λ r. ⌜ ((pairs line : List ℕ) → Replies operation.Lose (madeWith operation.Lose (runOf (now (w .entry))) c pairs line) (now (w .exit)) r pairs line) ⌝ }
 {
     let answer = console_in_place::calls::lose(role, owned, w, c.argument);
-    let said = summaries::of_lose(answer);
-    Replied { said, rose: 0 }
+    let summary = summaries::of_lose(answer);
+    Replied { summary, rose: 0 }
 }
 
 fn recover(
@@ -95,8 +95,8 @@ fn recover(
     ensures { λ r. ⌜ Replies operation.Recover (madeWith operation.Recover (runOf (now (w .entry))) c (now (pairs .entry)) (now (line .entry))) (now (w .exit)) r (now (pairs .exit)) (now (line .exit)) ⌝ }
 {
     let answer = console_in_place::calls::recover(role, owned, w, c.low as u32, pairs, line);
-    let said = summaries::of_recover(answer);
-    Replied { said, rose: 0 }
+    let summary = summaries::of_recover(answer);
+    Replied { summary, rose: 0 }
 }
 
 fn members(w: &[u16], role: u32, owned: u32, c: Call, line: &mut [u16]) -> Replied
@@ -104,8 +104,8 @@ fn members(w: &[u16], role: u32, owned: u32, c: Call, line: &mut [u16]) -> Repli
     ensures { λ r. ⌜ ((pairs : List ℕ) → Replies operation.Line (madeWith operation.Line (runOf (now (w .entry))) c pairs (now (line .entry))) (now (w .entry)) r pairs (now (line .exit))) ⌝ }
 {
     let answer = console_in_place::shown::line(role, owned, w, c.low as u32, line);
-    let said = summaries::of_line(answer);
-    Replied { said, rose: 0 }
+    let summary = summaries::of_line(answer);
+    Replied { summary, rose: 0 }
 }
 
 // The line through one named checkpoint.
@@ -115,8 +115,8 @@ fn earliest(w: &[u16], role: u32, owned: u32, c: Call, line: &mut [u16]) -> Repl
 {
     let named = [c.process as u32, c.low as u32];
     let answer = console_in_place::calls::earliest(role, owned, w, &named, line);
-    let said = summaries::of_line(answer);
-    Replied { said, rose: 0 }
+    let summary = summaries::of_line(answer);
+    Replied { summary, rose: 0 }
 }
 
 fn of_list(answer: ListAnswer) -> Summary
@@ -137,8 +137,8 @@ fn list(w: &[u16], role: u32, owned: u32, c: Call, pairs: &mut [u16]) -> Replied
     ensures { λ r. ⌜ ((line : List ℕ) → Replies operation.List (madeWith operation.List (runOf (now (w .entry))) c (now (pairs .entry)) line) (now (w .entry)) r (now (pairs .exit)) line) ⌝ }
 {
     let answer = console_in_place::list::list(role, owned, w, pairs);
-    let said = of_list(answer);
-    Replied { said, rose: 0 }
+    let summary = of_list(answer);
+    Replied { summary, rose: 0 }
 }
 
 fn counts(w: &[u16], role: u32, owned: u32, c: Call, line: &mut [u16]) -> Replied
@@ -146,8 +146,8 @@ fn counts(w: &[u16], role: u32, owned: u32, c: Call, line: &mut [u16]) -> Replie
     ensures { λ r. ⌜ ((pairs : List ℕ) → Replies operation.Counts (madeWith operation.Counts (runOf (now (w .entry))) c pairs (now (line .entry))) (now (w .entry)) r pairs (now (line .exit))) ⌝ }
 {
     let answer = console_in_place::shown::counts(role, owned, w, line);
-    let said = summaries::of_line(answer);
-    Replied { said, rose: 0 }
+    let summary = summaries::of_line(answer);
+    Replied { summary, rose: 0 }
 }
 
 // A start on fresh words, which an accepted one puts in place of the others.
@@ -155,13 +155,13 @@ fn start_fresh(w: &mut [u16], role: u32, owned: u32, c: Call, fresh: &mut [u16])
     requires { ⌜ Claims role owned (c .caller) × (length (now w) ≡ stateSize) × (length (now fresh) ≡ stateSize) ⌝ }
     ensures { λ r. ⌜ ((pairs line : List ℕ) → Replies operation.Start (madeWith operation.Start (runOf (now (w .entry))) c pairs line) (now (w .exit)) r pairs line) ⌝ }
 {
-    let counts = [1u32; PROCESSES];
-    let answer = console_in_place::calls::start(role, owned, fresh, c.process as usize, &counts);
-    let said = summaries::of_start(answer);
-    if said.refused == 0 {
+    let block_counts = [1u32; PROCESSES];
+    let answer = console_in_place::calls::start(role, owned, fresh, c.process as usize, &block_counts);
+    let summary = summaries::of_start(answer);
+    if summary.refused == 0 {
         readers::copy_words(fresh, 0, WORDS, w);
     }
-    Replied { said, rose: 0 }
+    Replied { summary, rose: 0 }
 }
 
 fn start(w: &mut [u16], role: u32, owned: u32, c: Call) -> Replied

@@ -15,7 +15,7 @@ ghost use Rattle.words.specs.Layout.{runOf, stateSize};
 ghost use Rattle.machines.specs.Machines.{stepped};
 ghost use Rattle.machines.specs.Forms.{answerOf};
 ghost use Rattle.console_machine.specs.Text.{lineText};
-ghost use Rattle.console_machine.specs.Consoling.{mostCalls, Opening, Reading, Telling, Ending, Failing, Stopped, begun, called, onward, atEnd, furtherOn, consoling};
+ghost use Rattle.console_machine.specs.Consoling.{mostCalls, Opening, Reading, Printing, Ending, Failing, Stopped, begun, called, onward, atEnd, furtherOn, consoling};
 ghost use Rattle.console_steps.specs.Replied.{longestLine};
 ghost use Rattle.console_steps.specs.Lent.{mostDone, betweenOf, stateIn, Arrives};
 
@@ -48,10 +48,10 @@ fn start(words: &mut [u16], n: u8, out: &mut [u8]) -> Marks
     requires { ⌜ (length (now words) ≡ stateSize) × (longestLine ≤ length (now out)) ⌝ }
     ensures { λ r. ⌜ ((input : List ℕ) → Arrives r (now (words .exit)) input (now (out .exit)) (begun n)) ⌝ }
 {
-    let counts = [1u32; PROCESSES];
-    let answer = console_in_place::calls::start(0, 0, words, n as usize, &counts);
-    let said = summaries::of_start(answer);
-    let refused = said.refused;
+    let block_counts = [1u32; PROCESSES];
+    let answer = console_in_place::calls::start(0, 0, words, n as usize, &block_counts);
+    let summary = summaries::of_start(answer);
+    let refused = summary.refused;
     if refused != 0 {
         return end_refused(out, 0, refused as u64);
     }
@@ -95,7 +95,7 @@ fn to_read(m: Marks) -> Marks
 // The line of a call is written, or not.
 fn after_line(m: Marks, out: &mut [u8], answer: Answer) -> Marks
     requires { ⌜ (m .kept ≤ 7) × (longestLine ≤ length (now out)) ⌝ }
-    ensures { λ r. ⌜ ((words input : List ℕ) (at : ℕ) → Arrives r words input (now (out .exit)) (stepped consoling (Telling (take (m .size) (now (out .entry))) (betweenOf m words input)) (answerOf answer at input))) ⌝ }
+    ensures { λ r. ⌜ ((words input : List ℕ) (at : ℕ) → Arrives r words input (now (out .exit)) (stepped consoling (Printing (take (m .size) (now (out .entry))) (betweenOf m words input)) (answerOf answer at input))) ⌝ }
 {
     if heard::is_done(answer) {
         return to_read(m);
@@ -144,13 +144,13 @@ fn first_eight(input: &[u8]) -> [u8; 8]
 // Eight bytes are a call, which is made.
 fn make_call(done: u64, words: &mut [u16], input: &[u8], out: &mut [u8]) -> Marks
     requires { ⌜ (done < mostCalls) × (length (now words) ≡ stateSize) × (8 ≤ length (now input)) × (longestLine ≤ length (now out)) ⌝ }
-    ensures { λ r. ⌜ Arrives r (now (words .exit)) (now (input .entry)) (now (out .exit)) (called (record { done = done; run = runOf (now (words .entry)); held = take 8 (now (input .entry)) })) ⌝ }
+    ensures { λ r. ⌜ Arrives r (now (words .exit)) (now (input .entry)) (now (out .exit)) (called (record { done = done; run = runOf (now (words .entry)); buffered = take 8 (now (input .entry)) })) ⌝ }
 {
     let bytes = first_eight(input);
     let number = done + 1;
     let size = making::make(words, number, bytes, out);
     Marks {
-        phase: marks::TELLING,
+        phase: marks::PRINTING,
         done: number,
         kept: 0,
         size,
@@ -158,17 +158,17 @@ fn make_call(done: u64, words: &mut [u16], input: &[u8], out: &mut [u8]) -> Mark
 }
 
 // More bytes are read until there are eight.
-fn go_on(done: u64, held: usize, words: &mut [u16], input: &[u8], out: &mut [u8]) -> Marks
-    requires { ⌜ (done < mostCalls) × (held ≤ 8) × (length (now words) ≡ stateSize) × (8 ≤ length (now input)) × (longestLine ≤ length (now out)) ⌝ }
-    ensures { λ r. ⌜ Arrives r (now (words .exit)) (now (input .entry)) (now (out .exit)) (onward (record { done = done; run = runOf (now (words .entry)); held = take held (now (input .entry)) })) ⌝ }
+fn go_on(done: u64, buffered: usize, words: &mut [u16], input: &[u8], out: &mut [u8]) -> Marks
+    requires { ⌜ (done < mostCalls) × (buffered ≤ 8) × (length (now words) ≡ stateSize) × (8 ≤ length (now input)) × (longestLine ≤ length (now out)) ⌝ }
+    ensures { λ r. ⌜ Arrives r (now (words .exit)) (now (input .entry)) (now (out .exit)) (onward (record { done = done; run = runOf (now (words .entry)); buffered = take buffered (now (input .entry)) })) ⌝ }
 {
-    if 8 <= held {
+    if 8 <= buffered {
         return make_call(done, words, input, out);
     }
     Marks {
         phase: marks::READING,
         done,
-        kept: held,
+        kept: buffered,
         size: 0,
     }
 }

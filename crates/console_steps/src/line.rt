@@ -18,33 +18,33 @@ ghost use Rattle.console_machine.specs.Text.{fieldText, pairsText, listText, en
 ghost use Rattle.console_steps.specs.Replied.{longestLine, replyOf, longestField, longestAnswer};
 
 // A value and the deletions.
-fn write_valued(out: &mut [u8], at: usize, said: Summary, pairs: &[u16]) -> usize
+fn write_valued(out: &mut [u8], at: usize, summary: Summary, pairs: &[u16]) -> usize
     requires { ⌜ at + (2 * longestField + longestField * length (now pairs)) ≤ length (now out) ⌝ }
-    ensures { λ r. ⌜ Printed (now (out .entry)) at (fieldText (valueIn (said .value)) ++ pairsText (said .deletions) (now (pairs .entry))) (now (out .exit)) r × (r ≤ at + (2 * longestField + longestField * length (now (pairs .entry)))) ⌝ }
+    ensures { λ r. ⌜ Printed (now (out .entry)) at (fieldText (valueIn (summary .value)) ++ pairsText (summary .deletions) (now (pairs .entry))) (now (out .exit)) r × (r ≤ at + (2 * longestField + longestField * length (now (pairs .entry)))) ⌝ }
 {
-    let value = said.value;
+    let value = summary.value;
     let valued = text::write_value(out, at, value);
-    text::write_pairs(out, valued, said.deletions, pairs)
+    text::write_pairs(out, valued, summary.deletions, pairs)
 }
 
 // The forced index, the set of the entries that rose, and the deletions.
-fn write_delivered(out: &mut [u8], at: usize, said: Summary, rose: u16, pairs: &[u16]) -> usize
+fn write_delivered(out: &mut [u8], at: usize, summary: Summary, rose: u16, pairs: &[u16]) -> usize
     requires { ⌜ at + (3 * longestField + longestField * length (now pairs)) ≤ length (now out) ⌝ }
-    ensures { λ r. ⌜ Printed (now (out .entry)) at (fieldText (valueIn (said .value)) ++ (fieldText (some rose) ++ pairsText (said .deletions) (now (pairs .entry)))) (now (out .exit)) r × (r ≤ at + (3 * longestField + longestField * length (now (pairs .entry)))) ⌝ }
+    ensures { λ r. ⌜ Printed (now (out .entry)) at (fieldText (valueIn (summary .value)) ++ (fieldText (some rose) ++ pairsText (summary .deletions) (now (pairs .entry)))) (now (out .exit)) r × (r ≤ at + (3 * longestField + longestField * length (now (pairs .entry)))) ⌝ }
 {
-    let value = said.value;
+    let value = summary.value;
     let valued = text::write_value(out, at, value);
     let risen = text::write_field(out, valued, rose as u64);
-    text::write_pairs(out, risen, said.deletions, pairs)
+    text::write_pairs(out, risen, summary.deletions, pairs)
 }
 
 // The members of the line, how many were rolled back, and the deletions.
-fn write_recovered(out: &mut [u8], at: usize, said: Summary, pairs: &[u16], line: &[u16]) -> usize
+fn write_recovered(out: &mut [u8], at: usize, summary: Summary, pairs: &[u16], line: &[u16]) -> usize
     requires { ⌜ at + (longestField * length (now line) + (2 * longestField + longestField * length (now pairs))) ≤ length (now out) ⌝ }
-    ensures { λ r. ⌜ Printed (now (out .entry)) at (entriesText (now (line .entry)) ++ (fieldText (valueIn (said .value)) ++ pairsText (said .deletions) (now (pairs .entry)))) (now (out .exit)) r × (r ≤ at + (longestField * length (now (line .entry)) + (2 * longestField + longestField * length (now (pairs .entry))))) ⌝ }
+    ensures { λ r. ⌜ Printed (now (out .entry)) at (entriesText (now (line .entry)) ++ (fieldText (valueIn (summary .value)) ++ pairsText (summary .deletions) (now (pairs .entry)))) (now (out .exit)) r × (r ≤ at + (longestField * length (now (line .entry)) + (2 * longestField + longestField * length (now (pairs .entry))))) ⌝ }
 {
     let members = text::write_entries(out, at, line);
-    write_valued(out, members, said, pairs)
+    write_valued(out, members, summary, pairs)
 }
 
 // The value of a list is its count.
@@ -71,15 +71,15 @@ fn write_answer(
     requires { ⌜ (length (now pairs) ≤ mostDeletions) × (length (now line) ≤ mostProcesses) × (at + longestAnswer ≤ length (now out)) ⌝ }
     ensures { λ x. ⌜ Printed (now (out .entry)) at (answerText (c .operation) (c .caller) n (replyOf r (now (pairs .entry)) (now (line .entry)))) (now (out .exit)) x × (x ≤ at + longestAnswer) ⌝ }
 {
-    let said = r.said;
-    let value = said.value;
+    let summary = r.summary;
+    let value = summary.value;
     let operation = c.operation;
     match operation {
-        Operation::Checkpoint => write_valued(out, at, said, pairs),
+        Operation::Checkpoint => write_valued(out, at, summary, pairs),
         Operation::Send => text::write_value(out, at, value),
-        Operation::Deliver => write_delivered(out, at, said, r.rose, pairs),
+        Operation::Deliver => write_delivered(out, at, summary, r.rose, pairs),
         Operation::Lose => at,
-        Operation::Recover => write_recovered(out, at, said, pairs, line),
+        Operation::Recover => write_recovered(out, at, summary, pairs, line),
         Operation::Line => text::write_members(out, at, c.caller, n, line),
         Operation::Earliest => text::write_entries(out, at, line),
         Operation::List => write_list(out, at, value, pairs),
@@ -102,8 +102,8 @@ pub fn write_refused(out: &mut [u8], number: u64, refused: u64) -> usize
     requires { ⌜ longestLine ≤ length (now out) ⌝ }
     ensures { λ r. ⌜ Printed (now (out .entry)) 0 (lineText number refused []) (now (out .exit)) r × (r ≤ longestLine) ⌝ }
 {
-    let told = write_numbers(out, number, refused);
-    listing::write_byte(out, told, b'\n')
+    let after_code = write_numbers(out, number, refused);
+    listing::write_byte(out, after_code, b'\n')
 }
 
 // The line of a call that is made.
@@ -117,14 +117,14 @@ pub fn write_line(
     line: &[u16],
 ) -> usize
     requires { ⌜ (length (now pairs) ≤ mostDeletions) × (length (now line) ≤ mostProcesses) × (longestLine ≤ length (now out)) ⌝ }
-    ensures { λ x. ⌜ Printed (now (out .entry)) 0 (lineText number (r .said .refused) (answerText (c .operation) (c .caller) n (replyOf r (now (pairs .entry)) (now (line .entry))))) (now (out .exit)) x × (x ≤ longestLine) ⌝ }
+    ensures { λ x. ⌜ Printed (now (out .entry)) 0 (lineText number (r .summary .refused) (answerText (c .operation) (c .caller) n (replyOf r (now (pairs .entry)) (now (line .entry))))) (now (out .exit)) x × (x ≤ longestLine) ⌝ }
 {
-    let said = r.said;
-    let refused = said.refused;
+    let summary = r.summary;
+    let refused = summary.refused;
     if refused != 0 {
         return write_refused(out, number, refused as u64);
     }
-    let told = write_numbers(out, number, 0);
-    let whole = write_answer(out, told, c, n, r, pairs, line);
+    let after_code = write_numbers(out, number, 0);
+    let whole = write_answer(out, after_code, c, n, r, pairs, line);
     listing::write_byte(out, whole, b'\n')
 }

@@ -17,7 +17,7 @@ pub const OPENING: u64 = 1;
 
 pub const READING: u64 = 2;
 
-pub const TELLING: u64 = 3;
+pub const PRINTING: u64 = 3;
 
 pub const ENDING: u64 = 4;
 

@@ -9,7 +9,7 @@ ghost use lib.ListN.{length};
 ghost use Rattle.console_steps.specs.Replied.{longestField};
 ghost use Rattle.listing.specs.Lines.{valueIn};
 ghost use Rattle.listing.specs.Printed.{Printed};
-ghost use Rattle.console_machine.specs.Text.{fieldText, pairsText, entriesText, memberSaid, membersText};
+ghost use Rattle.console_machine.specs.Text.{fieldText, pairsText, entriesText, memberShown, membersText};
 
 // The smaller of two numbers.
 pub fn least(x: usize, y: usize) -> usize
@@ -26,8 +26,8 @@ pub fn write_value(out: &mut [u8], at: usize, value: Value) -> usize
     requires { ⌜ at + longestField ≤ length (now out) ⌝ }
     ensures { λ r. ⌜ Printed (now (out .entry)) at (fieldText (valueIn value)) (now (out .exit)) r × (r ≤ at + longestField) ⌝ }
 {
-    let spaced = listing::write_byte(out, at, b' ');
-    listing::write_value(out, spaced, value)
+    let after_space = listing::write_byte(out, at, b' ');
+    listing::write_value(out, after_space, value)
 }
 
 pub fn write_field(out: &mut [u8], at: usize, x: u64) -> usize
@@ -49,7 +49,7 @@ pub fn write_pairs(out: &mut [u8], at: usize, count: usize, pairs: &[u16]) -> us
 
 // What is said of place p of a line list after a line call: the entry, or a hyphen where the call wrote none.
 fn member(caller: Caller, n: usize, p: usize, x: u16) -> Value
-    ensures { λ r. ⌜ valueIn r ≡ memberSaid caller n p x ⌝ }
+    ensures { λ r. ⌜ valueIn r ≡ memberShown caller n p x ⌝ }
 {
     let role = caller.role;
     let owned = caller.owned as u32;
@@ -69,8 +69,8 @@ pub fn write_members(out: &mut [u8], at: usize, caller: Caller, n: usize, line: 
     let mut p = 0;
     while p < line.len() {
         let x = line[p];
-        let said = member(caller, n, p, x);
-        let next = write_value(out, place, said);
+        let shown = member(caller, n, p, x);
+        let next = write_value(out, place, shown);
         place = next;
         p += 1;
     }

@@ -63,8 +63,8 @@ module _ (vectors from to : List ℕ) (f : ℕ) where
     all = λ x h d. (t, by-eq x m (λ q. rw q le) (λ ne. w .all x (omega arith) d .1));
   }
 
-  turn : (m : ℕ) (a : Least) → LeastOf m a → LeastOf (suc m) (lesserOf a (crossingOf vectors from to f m))
-  turn m a w = by-bool (crossesAt vectors from to f m)
+  one-more-step : (m : ℕ) (a : Least) → LeastOf m a → LeastOf (suc m) (lesserOf a (crossingOf vectors from to f m))
+  one-more-step m a w = by-bool (crossesAt vectors from to f m)
       (λ e.
       let new : Least = record { found = true; least = knownAt vectors to f m } in
       let is : crossingOf vectors from to f m ≡ new = crossing-yes e in
@@ -86,4 +86,4 @@ module _ (vectors from to : List ℕ) (f : ℕ) where
   pub least-of : (last : ℕ) → LeastOf last (leastCrossing vectors from to f last)
   unfolding leastCrossing iter
   least-of zero = none-yet
-  least-of (suc m) = turn m (leastCrossing vectors from to f m) (least-of m)
+  least-of (suc m) = one-more-step m (leastCrossing vectors from to f m) (least-of m)

@@ -17,7 +17,7 @@ use Rattle.decision.specs.declared.far.Far.{Far}
 use Rattle.decision.specs.Crossings.{Sized, NearEnd}
 use Rattle.decision.specs.Reach.{Linked, Closure, FirstRow}
 use Rattle.decision.specs.Far.{Reaching, FarEnd}
-use Rattle.decision.specs.Held.{Held}
+use Rattle.decision.specs.Represents.{Represents}
 use Rattle.decision.proofs.Verdict.{says-trackable, says-breaks, reach-rows}
 
 -- What is reached at the start.
@@ -33,10 +33,10 @@ start-at p row h = getD-set-same (replicate 16 65535) p row 0 (omega (arith, len
 start-other : (p row q : ℕ) → q < 16 → (q ≡ p → ⊥) → getD (startOf p row) q 0 ≡ 65535
 start-other p row q h ne = getD-set-other (replicate 16 65535) p q row 0 ne ∙ getD-replicate 16 q 65535 0 h
 
-module _ (n rows last : ℕ) (vs process from to : List ℕ) (t : Trail) (right : Right t) (h : Held n (t .lists) (t .vector) rows last vs process from to) where
-  held : Held n (t .lists) (vectors t right .vector) rows last vs process from to
+module _ (n rows last : ℕ) (vs process from to : List ℕ) (t : Trail) (right : Right t) (h : Represents n (t .lists) (t .vector) rows last vs process from to) where
+  represented : Represents n (t .lists) (vectors t right .vector) rows last vs process from to
   unfolding vectors
-  held = h
+  represented = h
 
   here : (p k f : ℕ) → k ≤ checkpoints (t .lists p) → vectors t right .vector p k f ≤ checkpoints (t .lists f)
   unfolding vectors
@@ -66,7 +66,7 @@ module _ (n rows last : ℕ) (vs process from to : List ℕ) (t : Trail) (right 
       below m lm ne = omega (arith, h .to-row m lm, ne)
 
   pub is-trackable : (near : Near) → NearEnd vs from to last n near → near .found ≡ false → paths.Trackable n (t .lists)
-  is-trackable = says-trackable n (t .lists) (vectors t right) (sources t right) here rows last vs process from to held
+  is-trackable = says-trackable n (t .lists) (vectors t right) (sources t right) here rows last vs process from to represented
 
   module _ (near : Near) (w : NearEnd vs from to last n near) (found : near .found ≡ true)
       (row : ℕ) (fr : FirstRow vs process rows (near .process) (near .index) row)
@@ -80,13 +80,13 @@ module _ (n rows last : ℕ) (vs process from to : List ℕ) (t : Trail) (right 
       rows = λ q lq ne. omega (
         arith,
         h .most-rows,
-        reach-rows n (t .lists) (vectors t right) (sources t right) here rows last vs process from to held near w found row fr
+        reach-rows n (t .lists) (vectors t right) (sources t right) here rows last vs process from to represented near w found row fr
             (startOf (near .process) row) reach (start-at (near .process) row p16) (start-other (near .process) row) cl q lq ne,
       );
     }
 
     pub is-breaking : (far : Far) → FarEnd vs reach n (near .process) (near .index) far → FirstBreaking n (t .lists) (near .process) (near .index) (far .process) (far .index)
-    is-breaking far fe = says-breaks n (t .lists) (vectors t right) (sources t right) here rows last vs process from to held near w found row fr
+    is-breaking far fe = says-breaks n (t .lists) (vectors t right) (sources t right) here rows last vs process from to represented near w found row fr
         (startOf (near .process) row) reach (start-at (near .process) row p16) (start-other (near .process) row) cl far fe
 
 pub off : (b : Bool) → not b ≡ true → b ≡ false

@@ -25,7 +25,7 @@ use Rattle.decision.specs.Rows.{entryAt}
 use Rattle.decision.specs.Crossings.{crossesAt, knownAt, leastCrossing, NearEnd}
 use Rattle.decision.specs.Reach.{senderOf, ReachedRow, begins, leads, Closure, FirstRow}
 use Rattle.decision.specs.Far.{FarEnd}
-use Rattle.decision.specs.Held.{intervalOf, Held}
+use Rattle.decision.specs.Represents.{intervalOf, Represents}
 use Rattle.decision.proofs.Leasts.{least-of}
 
 -- A test of two parts.
@@ -38,7 +38,7 @@ made : (t a b : ℕ) → (t ≡ 0 → ⊥) → a < b → (not (eqb t 0) && ltb a
 made t a b ne lt = rw (ne-eqb t 0 ne, lt-ltb a b lt)
 
 module _ (n : ℕ) (lists : Lists) (v : Vectors lists) (s : Sources lists v) (present : (p k f : ℕ) → k ≤ checkpoints (lists p) → v .vector p k f ≤ checkpoints (lists f))
-    (rows last : ℕ) (vectors process from to : List ℕ) (h : Held n lists (v .vector) rows last vectors process from to) where
+    (rows last : ℕ) (vectors process from to : List ℕ) (h : Represents n lists (v .vector) rows last vectors process from to) where
   abbrev iv : ℕ → ℕ
   iv r = intervalOf vectors process r
 

@@ -2,4 +2,4 @@ pub mod Rows
 pub mod Crossings
 pub mod Reach
 pub mod Far
-pub mod Held
+pub mod Represents

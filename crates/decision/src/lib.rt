@@ -16,7 +16,7 @@ pub mod far;
 use model::CheckpointIndex;
 use model::PROCESSES;
 use patterns::Verdict;
-ghost use Rattle.decision.specs.Held.{Holds, Judges};
+ghost use Rattle.decision.specs.Represents.{Holds, Judges};
 
 // No row of a process was reached: no row has this number.
 pub const NO_ROW: u16 = 65535;

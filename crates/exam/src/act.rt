@@ -17,14 +17,14 @@ pub struct After {
 }
 
 // A start with these block counts.
-pub(crate) fn start_with(n: usize, counts: [u32; PROCESSES]) -> After
-    ensures { λ r. ⌜ (r .run ≡ startOutcome n counts .run) × (r .refused ≡ startReport (startOutcome n counts .answer) .refused) ⌝ }
+pub(crate) fn start_with(n: usize, block_counts: [u32; PROCESSES]) -> After
+    ensures { λ r. ⌜ (r .run ≡ startOutcome n «block_counts» .run) × (r .refused ≡ startReport (startOutcome n «block_counts» .answer) .refused) ⌝ }
 {
-    let outcome = calls::start::start(n, counts);
+    let outcome = calls::start::start(n, block_counts);
     let run = outcome.run;
     let answer = outcome.answer;
-    let said = summaries::of_start(answer);
-    let refused = said.refused;
+    let summary = summaries::of_start(answer);
+    let refused = summary.refused;
     After { run, refused }
 }
 
@@ -51,8 +51,8 @@ pub(crate) fn checkpoint(before: After, i: usize, length: usize) -> After
     let outcome = calls::checkpoint::checkpoint(before.run, i, &mut deleted[..length]);
     let run = outcome.run;
     let answer = outcome.answer;
-    let said = summaries::of_checkpoint(answer);
-    let refused = said.refused;
+    let summary = summaries::of_checkpoint(answer);
+    let refused = summary.refused;
     After { run, refused }
 }
 
@@ -62,8 +62,8 @@ pub(crate) fn send(before: After, i: usize, j: usize) -> After
     let outcome = calls::send::send(before.run, i, j);
     let run = outcome.run;
     let answer = outcome.answer;
-    let said = summaries::of_send(answer);
-    let refused = said.refused;
+    let summary = summaries::of_send(answer);
+    let refused = summary.refused;
     After { run, refused }
 }
 
@@ -75,8 +75,8 @@ pub(crate) fn deliver(before: After, m: u32, length: usize) -> After
     let outcome = calls::deliver::deliver(before.run, m, &mut deleted[..length]);
     let run = outcome.run;
     let answer = outcome.answer;
-    let said = summaries::of_deliver(answer);
-    let refused = said.refused;
+    let summary = summaries::of_deliver(answer);
+    let refused = summary.refused;
     After { run, refused }
 }
 
@@ -95,8 +95,8 @@ pub(crate) fn recover(before: After, failed: u16, length: usize, members: usize)
     );
     let run = outcome.run;
     let answer = outcome.answer;
-    let said = summaries::of_recover(answer);
-    let refused = said.refused;
+    let summary = summaries::of_recover(answer);
+    let refused = summary.refused;
     After { run, refused }
 }
 

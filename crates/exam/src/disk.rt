@@ -18,10 +18,10 @@ fn step(number: u64, after: After) -> After {
 // Two processes with block counts 3 and 5; those of no process are 0. Process 1 stores a forced checkpoint, rolls back past a later one, and stores it again.
 pub(crate) fn disk_1() {
     say::title(b"disk", 1);
-    let mut counts = [0u32; PROCESSES];
-    counts[0] = 3;
-    counts[1] = 5;
-    let start = step(0, act::start_with(2, counts));
+    let mut block_counts = [0u32; PROCESSES];
+    block_counts[0] = 3;
+    block_counts[1] = 5;
+    let start = step(0, act::start_with(2, block_counts));
     let first = step(1, act::send(start, 1, 0));
     let second = step(2, act::send(first, 0, 1));
     let third = step(3, act::deliver(second, 2, DELETIONS));
@@ -38,9 +38,9 @@ pub(crate) fn disk_1() {
 fn count(n: usize, p: usize, blocks: u32)
     requires { ⌜ p < mostProcesses ⌝ }
 {
-    let mut counts = [1u32; PROCESSES];
-    counts[p] = blocks;
-    let done = act::start_with(n, counts);
+    let mut block_counts = [1u32; PROCESSES];
+    block_counts[p] = blocks;
+    let done = act::start_with(n, block_counts);
     say::text(b"count");
     say::value(n as u64);
     say::value(p as u64);
@@ -66,9 +66,9 @@ fn outside(n: usize) {
 
 // Two processes with block counts 1 and 65,535.
 fn two() -> After {
-    let mut counts = [1u32; PROCESSES];
-    counts[1] = 65535;
-    act::start_with(2, counts)
+    let mut block_counts = [1u32; PROCESSES];
+    block_counts[1] = 65535;
+    act::start_with(2, block_counts)
 }
 
 // A checkpoint of process 0 where that many blocks are written and deleted: the state is sound exactly if the sum is right and within the bound.

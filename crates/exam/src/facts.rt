@@ -50,7 +50,7 @@ fn pin(at: Pin) {
     }
 }
 
-fn named(row: [Pin; PROCESSES], n: usize)
+fn pin_row(row: [Pin; PROCESSES], n: usize)
     requires { ⌜ n ≤ mostProcesses ⌝ }
 {
     for f in 0..n {
@@ -66,7 +66,7 @@ fn pins(all: Pins, p: usize, n: usize)
 {
     let rows = rows::squares::pin_rows(all);
     say::heading(b"pins", p as u64);
-    named(rows[p], n);
+    pin_row(rows[p], n);
 }
 
 // What a line tells of each kept checkpoint.
@@ -76,7 +76,7 @@ pub enum Column {
     Blocks,
 }
 
-fn told(c: Checkpoint, column: Column) -> u64 {
+fn report_failure(c: Checkpoint, column: Column) -> u64 {
     match column {
         Column::Index => {
             let index = c.index;
@@ -87,28 +87,28 @@ fn told(c: Checkpoint, column: Column) -> u64 {
     }
 }
 
-fn stored(row: [Checkpoint; PROCESSES], held: usize, column: Column)
-    requires { ⌜ held ≤ mostProcesses ⌝ }
+fn stored(row: [Checkpoint; PROCESSES], kept_count: usize, column: Column)
+    requires { ⌜ «kept_count» ≤ mostProcesses ⌝ }
 {
-    for k in 0..held {
+    for k in 0..kept_count {
         let c = row[k];
-        say::value(told(c, column));
+        say::value(report_failure(c, column));
     }
     say::end();
 }
 
 // What process p keeps: indexes, causes and block counts.
-fn kept(all: Kept, p: usize, held: usize)
+fn kept(all: Kept, p: usize, kept_count: usize)
     requires { ⌜ p < mostProcesses ⌝ }
-    requires { ⌜ held ≤ mostProcesses ⌝ }
+    requires { ⌜ «kept_count» ≤ mostProcesses ⌝ }
 {
     let rows = rows::squares::kept_rows(all);
     say::heading(b"kept", p as u64);
-    stored(rows[p], held, Column::Index);
+    stored(rows[p], kept_count, Column::Index);
     say::heading(b"causes", p as u64);
-    stored(rows[p], held, Column::Cause);
+    stored(rows[p], kept_count, Column::Cause);
     say::heading(b"counts", p as u64);
-    stored(rows[p], held, Column::Blocks);
+    stored(rows[p], kept_count, Column::Blocks);
 }
 
 // The five lines of process p.
@@ -116,10 +116,10 @@ fn process(s: Run, p: usize)
     requires { ⌜ p < mostProcesses ⌝ }
 {
     let n = within(PROCESSES, s.count);
-    let held = s.held;
+    let kept_count = s.kept_count;
     vector(s.vectors, p, n);
     pins(s.pins, p, n);
-    kept(s.kept, p, within(PROCESSES, held[p]));
+    kept(s.kept, p, within(PROCESSES, kept_count[p]));
 }
 
 // Blocks written and blocks deleted.
@@ -186,9 +186,9 @@ pub(crate) fn state(after: After) {
 pub(crate) fn disks(after: After) {
     let s = after.run;
     let n = within(PROCESSES, s.count);
-    let held = s.held;
+    let kept_count = s.kept_count;
     for p in 0..n {
-        kept(s.kept, p, within(PROCESSES, held[p]));
+        kept(s.kept, p, within(PROCESSES, kept_count[p]));
     }
     blocks(s.disk);
 }
@@ -199,8 +199,8 @@ pub(crate) fn deliver(before: After, m: u32) -> After {
     let outcome = calls::deliver::deliver(before.run, m, &mut deleted);
     let run = outcome.run;
     let answer = outcome.answer;
-    let said = summaries::of_deliver(answer);
-    let refused = said.refused;
+    let summary = summaries::of_deliver(answer);
+    let refused = summary.refused;
     say::fact(b"deliver", m as u64, refused as u64);
     say::fact(b"risen", m as u64, outcome.rose as u64);
     After { run, refused }
@@ -246,7 +246,7 @@ pub(crate) fn recover(before: After, failed: u16) -> After {
     let answer = outcome.answer;
     indexes(b"written", failed, &line, n);
     recovery(failed, answer, &deleted);
-    let said = summaries::of_recover(answer);
-    let refused = said.refused;
+    let summary = summaries::of_recover(answer);
+    let refused = summary.refused;
     After { run, refused }
 }

@@ -55,8 +55,8 @@ fn line(n: usize, length: usize)
     let mut line = [0u16; PROCESSES];
     let outcome = calls::line::line(start.run, 1, &mut line[..length]);
     let answer = outcome.answer;
-    let said = summaries::of_line(answer);
-    with_list(b"line", n, length, said.refused);
+    let summary = summaries::of_line(answer);
+    with_list(b"line", n, length, summary.refused);
 }
 
 fn recover_line(n: usize, length: usize)

@@ -105,8 +105,8 @@ fn show(s: After, number: u64, list: NamedList) {
     let mut line = [0u16; PROCESSES];
     let outcome = calls::through::earliest_among(s.run, named, list.length, &mut line);
     let answer = outcome.answer;
-    let said = summaries::of_line(answer);
-    let refused = said.refused;
+    let summary = summaries::of_line(answer);
+    let refused = summary.refused;
     say::heading(b"earliest", number);
     say::value(refused as u64);
     if refused == 0 {
@@ -179,8 +179,8 @@ fn earliest_line(n: usize, length: usize)
         &mut line[..length],
     );
     let answer = outcome.answer;
-    let said = summaries::of_line(answer);
-    limits::with_list(b"earliestline", n, length, said.refused);
+    let summary = summaries::of_line(answer);
+    limits::with_list(b"earliestline", n, length, summary.refused);
 }
 
 pub(crate) fn note_8() {

@@ -12,7 +12,7 @@ pub(crate) fn begin(words: &[u8]) -> bool {
 }
 
 // Reports that a write failed, once: it closes standard output, and every later write fails because it is closed.
-fn told(written: bool) {
+fn report_failure(written: bool) {
     if !written {
         if os::errno() != EBADF {
             os::fail(b"exam: standard output");
@@ -22,11 +22,11 @@ fn told(written: bool) {
 }
 
 pub(crate) fn text(words: &[u8]) {
-    told(io::write_all(STDOUT_FILENO, words));
+    report_failure(io::write_all(STDOUT_FILENO, words));
 }
 
 pub(crate) fn number(x: u64) {
-    told(io::print_decimal(STDOUT_FILENO, x));
+    report_failure(io::print_decimal(STDOUT_FILENO, x));
 }
 
 // A value after a space.

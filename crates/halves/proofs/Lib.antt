@@ -3,6 +3,6 @@ pub mod Tallies
 pub mod Bytes
 pub mod Records
 pub mod Ready
-pub mod Turns
+pub mod Iterations
 pub mod Rules
 pub mod Whole

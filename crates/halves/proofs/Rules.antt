@@ -10,7 +10,7 @@ use lib.ListN.{length, getD}
 use borrow.Author.Tests.{eq-eqb, ne-eqb, le-leb, lt-leb, lt-ltb, le-ltb, leb-true, leb-false, ltb-true, ltb-false}
 use Rattle.laws.specs.Choice.{by-bool}
 use Rattle.model.specs.Refusals.{firstOf}
-use Rattle.merges.specs.Merge.{badCount, countOf, behindCount, leftOver, tooMany, mergeRefusal}
+use Rattle.merges.specs.Merge.{badCount, countOf, afterFirstByte, leftOver, tooMany, mergeRefusal}
 use Rattle.halves.specs.Both.{rulesOf}
 
 -- A count outside 1 to 16.
@@ -44,10 +44,10 @@ count-is [] h = absurd (h refl)
 count-is (n ∷ l) h = refl
 
 -- The bytes after it.
-pub behind-is : (l : List ℕ) → length (behindCount l) ≡ length l - 1
-unfolding behindCount
-behind-is [] = refl
-behind-is (n ∷ l) = omega arith
+pub after-first-is : (l : List ℕ) → length (afterFirstByte l) ≡ length l - 1
+unfolding afterFirstByte
+after-first-is [] = refl
+after-first-is (n ∷ l) = omega arith
 
 -- A buffer shorter than both halves together.
 pub short-first : (room a b : ℕ) → room < a → true ≡ ltb room (a + b)
@@ -60,12 +60,12 @@ short-both room a b h = by-bool (ltb room (a + b))
 
 -- Bytes left over, and too many records.
 pub none-over : (l : List ℕ) → length l ≡ 0 → false ≡ leftOver l
-unfolding behindCount
+unfolding afterFirstByte
 none-over [] h = refl
 none-over (n ∷ l) h = absurd (omega arith)
 
 pub none-many : (l : List ℕ) → length l ≡ 0 → false ≡ tooMany l
-unfolding behindCount
+unfolding afterFirstByte
 none-many [] h = refl
 none-many (n ∷ l) h = absurd (omega arith)
 

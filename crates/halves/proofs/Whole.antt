@@ -8,19 +8,19 @@ use lib.ListN.{length, set}
 use lib.Seq.{sets}
 use Rattle.model.specs.declared.Refusal.{Refusal}
 use Rattle.model.specs.declared.MergeAnswer.the-variants as merge-answer
-use Rattle.merges.specs.Merge.{takeFrom, countOf, behindCount, fieldsIn, mergeRefusal, plainBytes, MergeOutcome, finished, mergeOutcome}
+use Rattle.merges.specs.Merge.{takeFrom, countOf, afterFirstByte, fieldsIn, mergeRefusal, plainBytes, MergeOutcome, finished, mergeOutcome}
 use Rattle.merges.proofs.Replaying.{how-many}
-use Rattle.verdicts.specs.declared.Verdict.{Verdict}
-use Rattle.verdicts.specs.declared.Verdict.the-variants as verdict
-use Rattle.verdicts.specs.Verdicts.{refusalOf}
+use Rattle.admissions.specs.declared.Admission.{Admission}
+use Rattle.admissions.specs.declared.Admission.the-variants as admission
+use Rattle.admissions.specs.Admissions.{refusalOf}
 use Rattle.halves.specs.Log.{bytesUpTo}
 use Rattle.halves.specs.Taking.{left, Takes}
 use Rattle.halves.proofs.Bytes.{bytes-length, logged-bytes}
-use Rattle.halves.proofs.Rules.{behind-is}
+use Rattle.halves.proofs.Rules.{after-first-is}
 
 -- All records of a half are left after none of them.
-left-all : (l : List ℕ) → fieldsIn (behindCount l) ≡ left l 0
-unfolding left behindCount
+left-all : (l : List ℕ) → fieldsIn (afterFirstByte l) ≡ left l 0
+unfolding left afterFirstByte
 left-all [] = refl
 left-all (n ∷ l) = refl
 
@@ -39,14 +39,14 @@ module _ (first second : List ℕ) (F : ℕ) (buffer : List ℕ) where
     -- The outcome is that of the records.
     records-are : whole ≡ finished (countOf first) buffer (takeFrom total (countOf first) F [] (left first 0) (left second 0))
     unfolding mergeOutcome
-    records-are = rw (e, how-many (behindCount first), how-many (behindCount second), behind-is first, behind-is second, left-all first, left-all second)
+    records-are = rw (e, how-many (afterFirstByte first), how-many (afterFirstByte second), after-first-is first, after-first-is second, left-all first, left-all second)
 
-    pub refused-late : (n : ℕ) → n ≡ countOf first → (log : List ℕ) (q : Refusal) → Takes n F first second total log (verdict.Refused q)
+    pub refused-late : (n : ℕ) → n ≡ countOf first → (log : List ℕ) (q : Refusal) → Takes n F first second total log (admission.Refused q)
         → (merge-answer.Refused q ≡ whole .answer) × (buffer ≡ whole .buffer)
     unfolding Takes finished
     refused-late n c log q t = rw (records-are, ← c, t) (refl, refl)
 
-    pub merged : (n : ℕ) → n ≡ countOf first → (log : List ℕ) → Takes n F first second total log verdict.Accepted
+    pub merged : (n : ℕ) → n ≡ countOf first → (log : List ℕ) → Takes n F first second total log admission.Accepted
         → (merge-answer.Merged (1 + 4 * total) ≡ whole .answer) × (sets (set buffer 0 n) 1 (bytesUpTo total log) ≡ whole .buffer)
     unfolding Takes finished
     merged n c log (l, t, g, k) =
@@ -55,10 +55,10 @@ module _ (first second : List ℕ) (F : ℕ) (buffer : List ℕ) where
         rw (records-are, ← c, t) (ap merge-answer.Merged long, ap (λ (xs : List ℕ). sets (set buffer 0 n) 1 xs) same)
 
 -- A verdict, by its two cases.
-pub accepted : (v : Verdict) (o : Option Refusal) → v ≡ verdict.Accepted → refusalOf v ≡ o → o ≡ none
+pub accepted : (v : Admission) (o : Option Refusal) → v ≡ admission.Accepted → refusalOf v ≡ o → o ≡ none
 unfolding refusalOf
 accepted v o e m = sym m ∙ ap refusalOf e
 
-pub refused : (v : Verdict) (q : Refusal) (o : Option Refusal) → v ≡ verdict.Refused q → refusalOf v ≡ o → o ≡ some q
+pub refused : (v : Admission) (q : Refusal) (o : Option Refusal) → v ≡ admission.Refused q → refusalOf v ≡ o → o ≡ some q
 unfolding refusalOf
 refused v q o e m = sym m ∙ ap refusalOf e

@@ -12,8 +12,8 @@ use Rattle.model.specs.declared.Fields.{Fields}
 use Rattle.model.specs.Trace.{fields, fits}
 use Rattle.merges.specs.Halves.{HalfEvent, deliverOf, loseOf, plainEvent}
 use Rattle.merges.specs.Merge.{Taken, stopped, took, isReady, onRecord, takeFrom, fieldsIn}
-use Rattle.verdicts.specs.declared.Verdict.{Verdict}
-use Rattle.verdicts.specs.declared.Verdict.the-variants as verdict
+use Rattle.admissions.specs.declared.Admission.{Admission}
+use Rattle.admissions.specs.declared.Admission.the-variants as admission
 use Rattle.trace.specs.Answers.{recordAt}
 use Rattle.halves.specs.declared.record.Judged.{Judged}
 use Rattle.halves.specs.declared.record.Judged.the-variants as judged
@@ -52,7 +52,7 @@ Steps n set l first second a b (step.Second w) = (x : HalfEvent) × (w ≡ wordI
     × ((k : ℕ) → takeFrom (suc k) n set l (left first a) (left second b) ≡ takeFrom k n set (x ∷ l) (left first a) (left second (b + 1)))
 
 -- The answer is right about all records: the merge stops, or takes all, and the log has them.
-unfoldable pub Takes : ℕ → ℕ → List ℕ → List ℕ → ℕ → List ℕ → Verdict → Type 0
-Takes n set first second total log verdict.Accepted =
+unfoldable pub Takes : ℕ → ℕ → List ℕ → List ℕ → ℕ → List ℕ → Admission → Type 0
+Takes n set first second total log admission.Accepted =
     (l : List HalfEvent) × (takeFrom total n set [] (left first 0) (left second 0) ≡ took l) × Logged l log × (length l ≡ total)
-Takes n set first second total log (verdict.Refused q) = takeFrom total n set [] (left first 0) (left second 0) ≡ stopped q
+Takes n set first second total log (admission.Refused q) = takeFrom total n set [] (left first 0) (left second 0) ≡ stopped q

@@ -2,7 +2,7 @@
 use crate::MOST_OF_HALF;
 use model::PROCESSES;
 use model::Refusal;
-use verdicts::Verdict;
+use admissions::Admission;
 ghost use mathlib.Core.Path.{_≡_};
 ghost use mathlib.Core.List.{List, [], _∷_};
 ghost use Prim.Native.Nat.{ℕ, _+_};
@@ -10,7 +10,7 @@ ghost use lib.Dec.{ltb};
 ghost use lib.ListN.{length};
 ghost use Rattle.model.specs.Refusals.{firstOf};
 ghost use Rattle.merges.specs.Merge.{countOf, badCount, leftOver, tooMany, mergeRefusal};
-ghost use Rattle.verdicts.specs.Verdicts.{refusalOf};
+ghost use Rattle.admissions.specs.Admissions.{refusalOf};
 ghost use Rattle.halves.specs.Both.{rulesOf};
 
 // "The first byte is n"; 0 where there is none.
@@ -75,35 +75,35 @@ fn first_rule(
     outside: bool,
     left: bool,
     many: bool,
-) -> Verdict
+) -> Admission
     ensures { λ r. ⌜ refusalOf r ≡ firstOf (rulesOf bad short empty unequal outside left many) ⌝ }
 {
     if bad {
-        return Verdict::Refused(Refusal::CountOutsideRange);
+        return Admission::Refused(Refusal::CountOutsideRange);
     }
     if short {
-        return Verdict::Refused(Refusal::ListTooShort);
+        return Admission::Refused(Refusal::ListTooShort);
     }
     if empty {
-        return Verdict::Refused(Refusal::NoFirstByte);
+        return Admission::Refused(Refusal::NoFirstByte);
     }
     if unequal {
-        return Verdict::Refused(Refusal::HalvesMismatch);
+        return Admission::Refused(Refusal::HalvesMismatch);
     }
     if outside {
-        return Verdict::Refused(Refusal::NoSuchFailedProcess);
+        return Admission::Refused(Refusal::NoSuchFailedProcess);
     }
     if left {
-        return Verdict::Refused(Refusal::LeftOverBytes);
+        return Admission::Refused(Refusal::LeftOverBytes);
     }
     if many {
-        return Verdict::Refused(Refusal::TooManyRecords);
+        return Admission::Refused(Refusal::TooManyRecords);
     }
-    Verdict::Accepted
+    Admission::Accepted
 }
 
 // All of it, where the result buffer has `room` bytes.
-pub(crate) fn judge_halves(first: &[u8], second: &[u8], set: u32, room: usize) -> Verdict
+pub(crate) fn judge_halves(first: &[u8], second: &[u8], set: u32, room: usize) -> Admission
     ensures { λ r. ⌜ ((buffer : List ℕ) → length buffer ≡ room → refusalOf r ≡ mergeRefusal (now (first .entry)) (now (second .entry)) set buffer) ⌝ }
 {
     let bad = bad_count(first) | bad_count(second);
@@ -111,7 +111,7 @@ pub(crate) fn judge_halves(first: &[u8], second: &[u8], set: u32, room: usize) -
     let empty = (first.len() == 0) | (second.len() == 0);
     let n = count_of(first);
     let unequal = n != count_of(second);
-    let outside = verdicts::is_outside(set, n);
+    let outside = admissions::is_outside(set, n);
     let left = left_over(first) | left_over(second);
     let many = too_many(first) | too_many(second);
     first_rule(bad, short, empty, unequal, outside, left, many)

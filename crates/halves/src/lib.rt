@@ -14,7 +14,7 @@ mod taking;
 mod both;
 
 use model::MergeAnswer;
-use verdicts::Verdict;
+use admissions::Admission;
 ghost use mathlib.Core.Path.{_≡_};
 ghost use Rattle.merges.specs.Halves.{OrdersAgree};
 ghost use Rattle.merges.specs.Merge.{mergeOutcome, MergePromise};
@@ -35,14 +35,14 @@ pub fn merge<'a>(first: &'a [u8], second: &'a [u8], set: u32, result: &mut [u8])
 {
     let judged = both::judge_halves(first, second, set, result.len());
     match judged {
-        Verdict::Refused(r) => MergeAnswer::Refused(r),
-        Verdict::Accepted => {
+        Admission::Refused(r) => MergeAnswer::Refused(r),
+        Admission::Accepted => {
             let mut log = [0; LOG];
             let n = both::count_of(first);
             let taken = taking::take_all(first, second, n, set, &mut log);
             match taken {
-                Verdict::Refused(r) => MergeAnswer::Refused(r),
-                Verdict::Accepted => {
+                Admission::Refused(r) => MergeAnswer::Refused(r),
+                Admission::Accepted => {
                     let count = (first.len() - 1) / 4 + (second.len() - 1) / 4;
                     result[0] = first[0];
                     log::write_all(&log, count, result);

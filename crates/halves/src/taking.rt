@@ -4,7 +4,7 @@ use crate::record;
 use model::Refusal;
 use record::COUNTS;
 use record::Judged;
-use verdicts::Verdict;
+use admissions::Admission;
 ghost use mathlib.Core.Path.{_≡_};
 ghost use mathlib.Core.Bool.{true};
 ghost use mathlib.Core.List.{List};
@@ -116,7 +116,7 @@ pub(crate) fn take_all<'a>(
     n: usize,
     set: u32,
     log: &mut [u32],
-) -> Verdict
+) -> Admission
     requires { ⌜ (n ≤ mostProcesses) × (1 ≤ length (now first)) × (1 ≤ length (now second)) ⌝ }
     requires { ⌜ ((length (now first) - 1) / 4 + (length (now second) - 1) / 4 ≤ length (now log)) × (length (now log) ≤ 2 * mostOfHalf) ⌝ }
     ensures { λ r. ⌜ Takes n set (now (first .entry)) (now (second .entry)) ((length (now (first .entry)) - 1) / 4 + (length (now (second .entry)) - 1) / 4) (now (log .exit)) r ⌝ }
@@ -127,7 +127,7 @@ pub(crate) fn take_all<'a>(
     while a + b < total {
         let next = take_next(first, second, n, set, a, b, log);
         match next {
-            Step::Stopped(r) => return Verdict::Refused(r),
+            Step::Stopped(r) => return Admission::Refused(r),
             Step::First(word) => {
                 log[a + b] = word;
                 a += 1;
@@ -138,5 +138,5 @@ pub(crate) fn take_all<'a>(
             }
         }
     }
-    Verdict::Accepted
+    Admission::Accepted
 }

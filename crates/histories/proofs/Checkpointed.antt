@@ -10,7 +10,7 @@ use Rattle.histories.specs.History.{HistoryEvent, stored, sent, received
 use Rattle.histories.proofs.Places.{Stands, checkpoints-stored}
 use Rattle.histories.proofs.Times.{times, single-end}
 use Rattle.histories.proofs.Run.{Ideal, checkpointed}
-use Rattle.histories.proofs.Invariant.{Inv, Proper, SentOf, Told, Pinned}
+use Rattle.histories.proofs.Invariant.{Inv, Proper, SentOf, Informed, Pinned}
 use Rattle.histories.proofs.Rule.{same-some}
 use Rattle.histories.proofs.Line.{interval}
 use Rattle.histories.proofs.CheckpointedViews.{checkpointed-own, checkpointed-own-other, checkpointed-own-le, checkpointed-live-own, checkpointed-live, checkpointed-vector, checkpointed-row, checkpointed-row-other, checkpointed-mark-other, checkpointed-pin, checkpointed-pin-row, checkpointed-pin-column, checkpointed-events, checkpointed-events-other, checkpointed-state, checkpointed-still, checkpointed-sent, checkpointed-received}
@@ -126,24 +126,24 @@ module _ (r : Ideal) (i : ℕ) (v : Inv r) where
       ])
 
   -- A message that told a process something still stands in its list.
-  told : (p a b f e : ℕ) → Told r p a b f e → Told r′ p a b f e
+  informed : (p a b f e : ℕ) → Informed r p a b f e → Informed r′ p a b f e
   unfolding checkpointed
-  told p a b f e w = (w .0, w .1, checkpointed-still r i p (w .2), w .3, w .4, w .5)
+  informed p a b f e w = (w .0, w .1, checkpointed-still r i p (w .2), w .3, w .4, w .5)
 
   -- What a message carried of another process came to its sender by a message.
-  source′ : (p g m f : ℕ) → Stands (sent m) g (r′ .events p) → f < r .n → (p ≡ f → ⊥) → 1 ≤ r .carried m f → Told r′ p g m f (r .carried m f)
-  source′ p g m f s hf ne pos = told p g m f (r .carried m f) (v .source p g m f (checkpointed-sent r i p g m s) hf ne pos)
+  source′ : (p g m f : ℕ) → Stands (sent m) g (r′ .events p) → f < r .n → (p ≡ f → ⊥) → 1 ≤ r .carried m f → Informed r′ p g m f (r .carried m f)
+  source′ p g m f s hf ne pos = informed p g m f (r .carried m f) (v .source p g m f (checkpointed-sent r i p g m s) hf ne pos)
 
   -- What the new live state knows of others is what the stored one knew.
-  learnt-live : (f : ℕ) → f < r .n → (i ≡ f → ⊥) → 1 ≤ r′ .vector i (suc (r .own i)) f → Told r′ i (suc (r .own i)) (suc (r .last)) f (r′ .vector i (suc (r .own i)) f)
+  learnt-live : (f : ℕ) → f < r .n → (i ≡ f → ⊥) → 1 ≤ r′ .vector i (suc (r .own i)) f → Informed r′ i (suc (r .own i)) (suc (r .last)) f (r′ .vector i (suc (r .own i)) f)
   learnt-live f hf ne = rw (checkpointed-live r i f (λ c. ne (sym c))) λ pos.
-      let w = told i (r .own i) (suc (r .last)) f (r .vector i (r .own i) f) (v .learnt i (r .own i) f (omega arith) hf ne pos) in
+      let w = informed i (r .own i) (suc (r .last)) f (r .vector i (r .own i) f) (v .learnt i (r .own i) f (omega arith) hf ne pos) in
       (w .0, w .1, w .2, omega (arith, w .3), w .4, w .5)
 
   -- What a state knows of another process came by a message.
-  learnt′ : (p k f : ℕ) → k ≤ r′ .own p → f < r .n → (p ≡ f → ⊥) → 1 ≤ r′ .vector p k f → Told r′ p k (suc (r .last)) f (r′ .vector p k f)
+  learnt′ : (p k f : ℕ) → k ≤ r′ .own p → f < r .n → (p ≡ f → ⊥) → 1 ≤ r′ .vector p k f → Informed r′ p k (suc (r .last)) f (r′ .vector p k f)
   learnt′ p k f le hf ne = elim (checkpointed-state r i p k le) [
-    | inl o ↦ rw (checkpointed-vector r i p k f o) λ pos. told p k (suc (r .last)) f (r .vector p k f) (v .learnt p k f o hf ne pos)
+    | inl o ↦ rw (checkpointed-vector r i p k f o) λ pos. informed p k (suc (r .last)) f (r .vector p k f) (v .learnt p k f o hf ne pos)
     | inr w ↦ rw (w .0, w .1) (learnt-live f hf (λ c. ne (w .0 ∙ c)))
   ]
 

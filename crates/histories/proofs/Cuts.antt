@@ -6,7 +6,7 @@ use mathlib.Core.List.{List, [], _∷_, List·Memᴰ, List·Memᴰ·head, List·
 use Prim.Native.Nat.{ℕ, zero, suc, _+_, _≤_, _<_}
 use native.Mathlib.Nat.{not-suc-le-zero}
 use native.Mathlib.Omega.{arith}
-use Rattle.histories.specs.History.{HistoryEvent, stored, sent, received, checkpoints, upTo, behind}
+use Rattle.histories.specs.History.{HistoryEvent, stored, sent, received, checkpoints, upTo, afterState}
 use Rattle.histories.proofs.Places.{Stands, first, later, weight, stands-cons, stands-nil}
 
 -- After a first event, what stands in the rest.
@@ -89,31 +89,31 @@ checkpoints-upTo k (sent m ∷ l) h = checkpoints-upTo k l h
 checkpoints-upTo k (received m ∷ l) h = checkpoints-upTo k l h
 
 -- What stands after state k stands in the list, in an interval above k.
-pub behind-out : {e : HistoryEvent} (k : ℕ) (l : List HistoryEvent) → List·Memᴰ e (behind k l) → (g : ℕ) × Stands e g l × (k < g)
-unfolding behind weight
-behind-out k [] s = absurd (List·Memᴰ·not-nil s)
-behind-out zero (stored ∷ l) s = let w = member-stands l s in (suc (w .0), past-stored (w .1), omega arith)
-behind-out (suc k) (stored ∷ l) s = let w = behind-out k l s in (suc (w .0), past-stored (w .1), omega (arith, w .2))
-behind-out k (sent m ∷ l) s = let w = behind-out k l s in (w .0, past-sent m (w .1), w .2)
-behind-out k (received m ∷ l) s = let w = behind-out k l s in (w .0, past-received m (w .1), w .2)
+pub after-state-out : {e : HistoryEvent} (k : ℕ) (l : List HistoryEvent) → List·Memᴰ e (afterState k l) → (g : ℕ) × Stands e g l × (k < g)
+unfolding afterState weight
+after-state-out k [] s = absurd (List·Memᴰ·not-nil s)
+after-state-out zero (stored ∷ l) s = let w = member-stands l s in (suc (w .0), past-stored (w .1), omega arith)
+after-state-out (suc k) (stored ∷ l) s = let w = after-state-out k l s in (suc (w .0), past-stored (w .1), omega (arith, w .2))
+after-state-out k (sent m ∷ l) s = let w = after-state-out k l s in (w .0, past-sent m (w .1), w .2)
+after-state-out k (received m ∷ l) s = let w = after-state-out k l s in (w .0, past-received m (w .1), w .2)
 
 -- What stands in an interval above k stands after state k.
-pub behind-in : {e : HistoryEvent} {g : ℕ} (k : ℕ) (l : List HistoryEvent) → Stands e g l → k < g → List·Memᴰ e (behind k l)
-unfolding behind weight
-behind-in k [] s lt = absurd (stands-nil s)
-behind-in zero (stored ∷ l) s lt = elim (stands-cons s) [
+pub after-state-in : {e : HistoryEvent} {g : ℕ} (k : ℕ) (l : List HistoryEvent) → Stands e g l → k < g → List·Memᴰ e (afterState k l)
+unfolding afterState weight
+after-state-in k [] s lt = absurd (stands-nil s)
+after-state-in zero (stored ∷ l) s lt = elim (stands-cons s) [
   | inl w ↦ absurd (omega (arith, w .1))
   | inr w ↦ stands-member l (w .1)
 ]
-behind-in (suc k) (stored ∷ l) s lt = elim (stands-cons s) [
+after-state-in (suc k) (stored ∷ l) s lt = elim (stands-cons s) [
   | inl w ↦ absurd (omega (arith, w .1))
-  | inr w ↦ behind-in k l (w .1) (omega (arith, w .2))
+  | inr w ↦ after-state-in k l (w .1) (omega (arith, w .2))
 ]
-behind-in k (sent m ∷ l) s lt = elim (stands-cons s) [
+after-state-in k (sent m ∷ l) s lt = elim (stands-cons s) [
   | inl w ↦ absurd (omega (arith, w .1))
-  | inr w ↦ behind-in k l (w .1) (omega (arith, w .2))
+  | inr w ↦ after-state-in k l (w .1) (omega (arith, w .2))
 ]
-behind-in k (received m ∷ l) s lt = elim (stands-cons s) [
+after-state-in k (received m ∷ l) s lt = elim (stands-cons s) [
   | inl w ↦ absurd (omega (arith, w .1))
-  | inr w ↦ behind-in k l (w .1) (omega (arith, w .2))
+  | inr w ↦ after-state-in k l (w .1) (omega (arith, w .2))
 ]

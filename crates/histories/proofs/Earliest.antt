@@ -4,7 +4,7 @@ use Prim.Native.Nat.{ℕ, _≤_, _<_}
 use native.Mathlib.Omega.{arith}
 use Rattle.histories.specs.History.{sent, received, Line, Consistent}
 use Rattle.histories.proofs.Places.{Stands}
-use Rattle.histories.proofs.Cuts.{member-stands, upTo-out, behind-out}
+use Rattle.histories.proofs.Cuts.{member-stands, upTo-out, after-state-out}
 use Rattle.histories.proofs.Run.{Ideal}
 use Rattle.histories.proofs.Invariant.{Inv}
 use Rattle.histories.proofs.Line.{rising, interval}
@@ -51,7 +51,7 @@ module _ (r : Ideal) (v : Inv r) where
     pub earliest-consistent : Consistent (r .n) (r .events) N
     unfolding Consistent
     earliest-consistent q p m hq hp s t =
-        let a = behind-out (N q) (r .events q) s in
+        let a = after-state-out (N q) (r .events q) s in
         let b = member-stands _ t in
         let c = upTo-out (N p) (r .events p) (b .1) in
         omega (arith, a .2, sent-up-to q (a .0) p (b .0) m hq hp (a .1) (c .0) (c .1))

@@ -13,8 +13,8 @@ abbrev pub SentOf : Ideal → ℕ → Type 0
 SentOf r m = (g : ℕ) × Stands (sent m) g (r .events (r .sender m))
 
 -- Process p received, in an interval of at most a, a message numbered below b that carried at least e of f.
-abbrev pub Told : Ideal → ℕ → ℕ → ℕ → ℕ → ℕ → Type 0
-Told r p a b f e = (m : ℕ) × (g : ℕ) × Stands (received m) g (r .events p) × (g ≤ a) × (m < b) × (e ≤ r .carried m f)
+abbrev pub Informed : Ideal → ℕ → ℕ → ℕ → ℕ → ℕ → Type 0
+Informed r p a b f e = (m : ℕ) × (g : ℕ) × Stands (received m) g (r .events p) × (g ≤ a) × (m < b) × (e ≤ r .carried m f)
 
 -- A message number with a sender and a receiver in the run, which differ.
 pub record Proper (r : Ideal) (m : ℕ) : Type 0 where
@@ -57,8 +57,8 @@ pub record Inv (r : Ideal) : Type 0 where
   pub marked : (p m : ℕ) → Stands (sent m) (r .own p) (r .events p) → r .mark p ≡ true
   pub known : (p k q : ℕ) → k ≤ r .own p → q < r .n → (p ≡ q → ⊥) → r .vector p k q ≡ r .own q → r .mark q ≡ true
   -- knowledge of another process comes by messages
-  pub source : (p g m f : ℕ) → Stands (sent m) g (r .events p) → f < r .n → (p ≡ f → ⊥) → 1 ≤ r .carried m f → Told r p g m f (r .carried m f)
-  pub learnt : (p k f : ℕ) → k ≤ r .own p → f < r .n → (p ≡ f → ⊥) → 1 ≤ r .vector p k f → Told r p k (suc (r .last)) f (r .vector p k f)
+  pub source : (p g m f : ℕ) → Stands (sent m) g (r .events p) → f < r .n → (p ≡ f → ⊥) → 1 ≤ r .carried m f → Informed r p g m f (r .carried m f)
+  pub learnt : (p k f : ℕ) → k ≤ r .own p → f < r .n → (p ≡ f → ⊥) → 1 ≤ r .vector p k f → Informed r p k (suc (r .last)) f (r .vector p k f)
   -- where p knows f's current interval, the pin of p for f names a checkpoint; whatever a pin names, p learnt all it knows of f right after it
   pub pinned : (p f : ℕ) → f < r .n → r .vector p (r .own p) f ≡ r .own f → (k : ℕ) × (r .pin p f ≡ some k)
   pub pins : (p f k : ℕ) → f < r .n → r .pin p f ≡ some k → Pinned r p f k

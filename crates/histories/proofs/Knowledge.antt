@@ -9,9 +9,9 @@ use native.Mathlib.Omega.{arith}
 use lib.Dec.{ltb}
 use borrow.Author.Tests.{ltb-true, ltb-false}
 use Rattle.laws.specs.Choice.{by-bool, by-eq}
-use Rattle.histories.specs.History.{HistoryEvent, sent, received, checkpoints, behind, beforeCheckpoint, before, ComesBefore, within, message}
+use Rattle.histories.specs.History.{HistoryEvent, sent, received, checkpoints, afterState, beforeCheckpoint, before, ComesBefore, within, message}
 use Rattle.histories.proofs.Places.{Stands, stands-le}
-use Rattle.histories.proofs.Cuts.{stands-member, member-stands, behind-out, behind-in}
+use Rattle.histories.proofs.Cuts.{stands-member, member-stands, after-state-out, after-state-in}
 use Rattle.histories.proofs.Run.{Ideal, forces}
 use Rattle.histories.proofs.Invariant.{Inv}
 use Rattle.histories.proofs.Line.{rising, interval}
@@ -117,7 +117,7 @@ module _ (r : Ideal) (v : Inv r) where
 
 -- What forces a checkpoint, and what a message brings news of, of the lists alone.
 abbrev pub Since : Ideal → ℕ → Type 0
-Since r p = (m : ℕ) × List·Memᴰ (sent m) (behind (checkpoints (r .events p) - 1) (r .events p))
+Since r p = (m : ℕ) × List·Memᴰ (sent m) (afterState (checkpoints (r .events p) - 1) (r .events p))
 
 abbrev pub NewsOf : Ideal → ℕ → ℕ → Type 0
 NewsOf r m f = (a q : ℕ) × List·Memᴰ (sent m) (r .events q) × ComesBefore (r .events) f a q (before m (r .events q))
@@ -153,7 +153,7 @@ module _ (r : Ideal) (v : Inv r) (memory : Memory r) (m : ℕ) (under : r .trans
   forced-since e =
       let i = r .receiver m in
       let w = memory .marks i (forces-out r m e .0) in
-      (w .0, behind-in (checkpoints (r .events i) - 1) (r .events i) (w .1) (omega (arith, v .counted i, v .positive i)))
+      (w .0, after-state-in (checkpoints (r .events i) - 1) (r .events i) (w .1) (omega (arith, v .counted i, v .positive i)))
 
   pub forced-news : forces r m ≡ true → News r m
   forced-news e = let w = forces-out r m e in (w .1, w .2, newer-news (w .1) (w .2) (w .3))
@@ -162,7 +162,7 @@ module _ (r : Ideal) (v : Inv r) (memory : Memory r) (m : ℕ) (under : r .trans
   pub news-forces : Since r (r .receiver m) → News r m → forces r m ≡ true
   news-forces c d =
       let i = r .receiver m in
-      let s = behind-out (checkpoints (r .events i) - 1) (r .events i) (c .1) in
+      let s = after-state-out (checkpoints (r .events i) - 1) (r .events i) (c .1) in
       let live : s .0 ≡ r .own i = omega (arith, s .2, interval r v i (s .0) (s .1), v .counted i) in
       let mark : r .mark i ≡ true = v .marked i (c .0) (rw live at (s .1)) in
       forces-in r m (d .0) (d .1) mark (news-newer (d .0) (d .1) (d .2))

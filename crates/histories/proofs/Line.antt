@@ -12,7 +12,7 @@ use Rattle.laws.specs.Search.{latest-is, latest-out, latest-of}
 use Rattle.laws.specs.Truth.{and-both, and-no-right}
 use Rattle.histories.specs.History.{HistoryEvent, sent, received, checkpoints, Consistent}
 use Rattle.histories.proofs.Places.{Stands, stands-le}
-use Rattle.histories.proofs.Cuts.{member-stands, upTo-out, behind-out}
+use Rattle.histories.proofs.Cuts.{member-stands, upTo-out, after-state-out}
 use Rattle.histories.proofs.Run.{Ideal, Failed, safe, keeps, member, line, rolled}
 use Rattle.histories.proofs.Rule.{safe-out, safe-in, unsafe-out, rolled-out, stays-out, keeps-in, keeps-out}
 use Rattle.histories.proofs.Invariant.{Inv}
@@ -201,7 +201,7 @@ module _ (r : Ideal) (v : Inv r) where
     pub line-consistent : Consistent (r .n) (r .events) (line r F)
     unfolding Consistent
     line-consistent q p m hq hp s t =
-        let a = behind-out (line r F q) (r .events q) s in
+        let a = after-state-out (line r F q) (r .events q) s in
         let b = member-stands _ t in
         let c = upTo-out (line r F p) (r .events p) (b .1) in
         omega (arith, a .2, line-sent q (a .0) p (b .0) m (a .1) (c .0) (c .1))

@@ -10,7 +10,7 @@ use borrow.Author.Tests.{leb-true, leb-false}
 use Rattle.laws.specs.Choice.{by-bool, by-eq}
 use Rattle.histories.specs.History.{Lists, sent, received, checkpoints, Line, Consistent}
 use Rattle.histories.proofs.Places.{Stands}
-use Rattle.histories.proofs.Cuts.{stands-member, upTo-in, behind-in}
+use Rattle.histories.proofs.Cuts.{stands-member, upTo-in, after-state-in}
 use Rattle.histories.proofs.Run.{Ideal, Failed, line, rolled}
 use Rattle.histories.proofs.Invariant.{Inv}
 use Rattle.histories.proofs.Line.{rising, line-back, line-live, line-le, failed-back, line-consistent}
@@ -23,7 +23,7 @@ module _ (r : Ideal) (v : Inv r) where
     unfolding Consistent
     in-time q g p h m hq hp s t le = by-bool (leb g (M q))
         (λ e. leb-true _ _ e)
-        (λ e. absurd (c q p m hq hp (behind-in (M q) (r .events q) s (leb-false _ _ e)) (stands-member _ (upTo-in (M p) (r .events p) t le))))
+        (λ e. absurd (c q p m hq hp (after-state-in (M q) (r .events q) s (leb-false _ _ e)) (stands-member _ (upTo-in (M p) (r .events p) t le))))
 
     module _ (f : ℕ) (hf : f < r .n) where
       -- A message received up to M carried no interval of f past M: it was sent up to M, by f itself or by one that was told so before.

@@ -11,7 +11,7 @@ use Rattle.histories.proofs.Places.{Stands}
 use Rattle.histories.proofs.Times.{times, times-upTo}
 use Rattle.histories.proofs.Cuts.{upTo-out, upTo-in, checkpoints-upTo}
 use Rattle.histories.proofs.Run.{Ideal, Failed, line, rolled, recovered}
-use Rattle.histories.proofs.Invariant.{Inv, Proper, SentOf, Told}
+use Rattle.histories.proofs.Invariant.{Inv, Proper, SentOf, Informed}
 use Rattle.histories.proofs.Line.{rising, interval, line-back, line-live, line-le, line-knows, line-sent}
 use Rattle.histories.proofs.Messages.{sentIn, sentIn-stands, underway-sent}
 use Rattle.histories.proofs.RecoveredViews.{recovered-own-back, recovered-own-stays, recovered-live-own, recovered-live, recovered-vector, recovered-mark-stays, recovered-transit, recovered-events-back, recovered-events-stays}
@@ -218,24 +218,24 @@ module _ (r : Ideal) (v : Inv r) (F : Failed) where
       ])
 
   -- A message that told a process something still stands in its list.
-  pub told : (p a b f e : ℕ) → a ≤ L p → Told r p a b f e → Told r′ p a b f e
+  pub informed : (p a b f e : ℕ) → a ≤ L p → Informed r p a b f e → Informed r′ p a b f e
   unfolding recovered
-  told p a b f e le w = (w .0, w .1, after p (w .1) (w .2) (omega (arith, w .3)), w .3, w .4, w .5)
+  informed p a b f e le w = (w .0, w .1, after p (w .1) (w .2) (omega (arith, w .3)), w .3, w .4, w .5)
 
   -- What a message carried of another process came to its sender by a message.
-  pub source′ : (p g m f : ℕ) → Stands (sent m) g (r′ .events p) → f < r .n → (p ≡ f → ⊥) → 1 ≤ r .carried m f → Told r′ p g m f (r .carried m f)
-  source′ p g m f s hf ne pos = let w = before p g s in told p g m f (r .carried m f) (w .1) (v .source p g m f (w .0) hf ne pos)
+  pub source′ : (p g m f : ℕ) → Stands (sent m) g (r′ .events p) → f < r .n → (p ≡ f → ⊥) → 1 ≤ r .carried m f → Informed r′ p g m f (r .carried m f)
+  source′ p g m f s hf ne pos = let w = before p g s in informed p g m f (r .carried m f) (w .1) (v .source p g m f (w .0) hf ne pos)
 
   -- What the new live state knows of others is what the member knew.
-  pub learnt-live : (p f : ℕ) → R p ≡ true → f < r .n → (p ≡ f → ⊥) → 1 ≤ r′ .vector p (suc (L p)) f → Told r′ p (suc (L p)) (suc (r .last)) f (r′ .vector p (suc (L p)) f)
+  pub learnt-live : (p f : ℕ) → R p ≡ true → f < r .n → (p ≡ f → ⊥) → 1 ≤ r′ .vector p (suc (L p)) f → Informed r′ p (suc (L p)) (suc (r .last)) f (r′ .vector p (suc (L p)) f)
   learnt-live p f e hf ne = rw (new p f e ne) λ pos.
-      let z = told p (L p) (suc (r .last)) f (r .vector p (L p) f) (omega arith) (v .learnt p (L p) f (within p) hf ne pos) in
+      let z = informed p (L p) (suc (r .last)) f (r .vector p (L p) f) (omega arith) (v .learnt p (L p) f (within p) hf ne pos) in
       (z .0, z .1, z .2, omega (arith, z .3), z .4, z .5)
 
   -- What a state knows of another process came by a message.
-  pub learnt′ : (p k f : ℕ) → k ≤ r′ .own p → f < r .n → (p ≡ f → ⊥) → 1 ≤ r′ .vector p k f → Told r′ p k (suc (r .last)) f (r′ .vector p k f)
+  pub learnt′ : (p k f : ℕ) → k ≤ r′ .own p → f < r .n → (p ≡ f → ⊥) → 1 ≤ r′ .vector p k f → Informed r′ p k (suc (r .last)) f (r′ .vector p k f)
   learnt′ p k f le hf ne = elim (state p k le) [
-    | inl o ↦ rw (old p k f o) λ pos. told p k (suc (r .last)) f (r .vector p k f) o (v .learnt p k f (omega (arith, within p)) hf ne pos)
+    | inl o ↦ rw (old p k f o) λ pos. informed p k (suc (r .last)) f (r .vector p k f) o (v .learnt p k f (omega (arith, within p)) hf ne pos)
     | inr w ↦ rw (w .1) (learnt-live p f (w .0) hf ne)
   ]
 

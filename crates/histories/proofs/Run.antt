@@ -17,7 +17,7 @@ use Rattle.histories.specs.History.{HistoryEvent, stored, sent, received
 -- is stored, if one is: `because` sets it before a step.
 pub record Ledger : Type 0 where
   pub cause : ℕ → ℕ → ℕ
-  pub counts : ℕ → ℕ
+  pub blockCounts : ℕ → ℕ
   pub written : ℕ
   pub why : ℕ
 
@@ -64,15 +64,15 @@ begin n = record {
   receiver = λ m. 0;
   last = 0;
   events = λ p. stored ∷ [];
-  ledger = record { cause = λ p k. 0; counts = λ p. 0; written = 0; why = 0 };
+  ledger = record { cause = λ p k. 0; blockCounts = λ p. 0; written = 0; why = 0 };
 }
 
 -- The ledger once process i has stored its live state.
 unfoldable pub stores : Ideal → ℕ → Ledger
 stores r i = record {
   cause = upd (r .ledger .cause) i (upd (r .ledger .cause i) (r .own i) (r .ledger .why));
-  counts = r .ledger .counts;
-  written = r .ledger .written + r .ledger .counts i;
+  blockCounts = r .ledger .blockCounts;
+  written = r .ledger .written + r .ledger .blockCounts i;
   why = r .ledger .why;
 }
 
@@ -94,14 +94,14 @@ withLedger r l = record {
 }
 
 abbrev pub because : ℕ → Ideal → Ideal
-because why r = withLedger r (record { cause = r .ledger .cause; counts = r .ledger .counts; written = r .ledger .written; why = why })
+because why r = withLedger r (record { cause = r .ledger .cause; blockCounts = r .ledger .blockCounts; written = r .ledger .written; why = why })
 
 -- The start with block counts: each of the n processes has stored checkpoint 0.
 unfoldable pub openLedger : ℕ → List ℕ → Ledger
-openLedger n counts = record { cause = λ p k. 0; counts = λ p. getD counts p 0; written = sumBelow n (λ p. getD counts p 0); why = 0 }
+openLedger n blockCounts = record { cause = λ p k. 0; blockCounts = λ p. getD blockCounts p 0; written = sumBelow n (λ p. getD blockCounts p 0); why = 0 }
 
 abbrev pub begun : ℕ → List ℕ → Ideal
-begun n counts = withLedger (begin n) (openLedger n counts)
+begun n blockCounts = withLedger (begin n) (openLedger n blockCounts)
 
 -- Checkpoint at i: its live state becomes checkpoint `own i`, which the own pin names; the new live state has one more at the own entry.
 unfoldable pub checkpointed : Ideal → ℕ → Ideal

@@ -12,7 +12,7 @@ use Rattle.histories.specs.History.{HistoryEvent, stored, sent, received
 use Rattle.histories.proofs.Places.{Stands, stands-still, stands-end, sent-or-before, received-before-sent, checkpoints-sent}
 use Rattle.histories.proofs.Times.{times, single-end}
 use Rattle.histories.proofs.Run.{Ideal, sending, keeps}
-use Rattle.histories.proofs.Invariant.{Inv, Proper, SentOf, Told, Pinned}
+use Rattle.histories.proofs.Invariant.{Inv, Proper, SentOf, Informed, Pinned}
 
 module _ (r : Ideal) (i j : ℕ) where
   -- The run after the step.
@@ -223,25 +223,25 @@ module _ (r : Ideal) (i j : ℕ) where
         (λ nq. sending-mark-other q nq ∙ v .known p k q le hq ne d)
 
     -- A message that told a process something still stands in its list.
-    told : (p a b f e : ℕ) → Told r p a b f e → Told r′ p a b f e
-    told p a b f e w = (w .0, w .1, still p (w .2), w .3, w .4, omega (arith, w .5, sending-carried-other (w .0) f (received-used p (w .1) (w .0) (w .2))))
+    informed : (p a b f e : ℕ) → Informed r p a b f e → Informed r′ p a b f e
+    informed p a b f e w = (w .0, w .1, still p (w .2), w .3, w .4, omega (arith, w .5, sending-carried-other (w .0) f (received-used p (w .1) (w .0) (w .2))))
 
     -- What a message carried of another process came to its sender by a message.
-    source′ : (p g m f : ℕ) → Stands (sent m) g (r′ .events p) → f < r .n → (p ≡ f → ⊥) → 1 ≤ r′ .carried m f → Told r′ p g m f (r′ .carried m f)
+    source′ : (p g m f : ℕ) → Stands (sent m) g (r′ .events p) → f < r .n → (p ≡ f → ⊥) → 1 ≤ r′ .carried m f → Informed r′ p g m f (r′ .carried m f)
     source′ p g m f s hf ne le = elim (which p g m s) [
       | inl w ↦ (
           let e : r′ .carried m f ≡ r .vector p g f = carries′ p g m f s hf in
           let b : g ≤ r .own p = omega (arith, w .2, ap (r .own) (w .0)) in
-          rw (e, w .1) (told p g (suc (r .last)) f (r .vector p g f) (v .learnt p g f b hf ne (omega arith))))
+          rw (e, w .1) (informed p g (suc (r .last)) f (r .vector p g f) (v .learnt p g f b hf ne (omega arith))))
       | inr o ↦ (
           let e : r′ .carried m f ≡ r .carried m f = sending-carried-other m f (sent-used p g m o) in
-          rw e (told p g m f (r .carried m f) (v .source p g m f o hf ne (omega arith))))
+          rw e (informed p g m f (r .carried m f) (v .source p g m f o hf ne (omega arith))))
     ]
 
     -- What a state knows of another process came by a message.
-    learnt′ : (p k f : ℕ) → k ≤ r .own p → f < r .n → (p ≡ f → ⊥) → 1 ≤ r .vector p k f → Told r′ p k (suc (suc (r .last))) f (r .vector p k f)
+    learnt′ : (p k f : ℕ) → k ≤ r .own p → f < r .n → (p ≡ f → ⊥) → 1 ≤ r .vector p k f → Informed r′ p k (suc (suc (r .last))) f (r .vector p k f)
     learnt′ p k f le hf ne pos =
-        let w = told p k (suc (r .last)) f (r .vector p k f) (v .learnt p k f le hf ne pos) in
+        let w = informed p k (suc (r .last)) f (r .vector p k f) (v .learnt p k f le hf ne pos) in
         (w .0, w .1, w .2, w .3, omega (arith, w .4), w .5)
 
     -- Each send and each receipt stands at most once in a list.

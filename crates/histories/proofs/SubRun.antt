@@ -43,7 +43,7 @@ live-part r r₁ p e = ap (λ (P : Local). P .vector (P .own)) e
 
 -- Note 5: r′ has the block counts of r and has written no more, so it meets 16 only where r does.
 pub record Cheaper (r r′ : Ideal) : Type 0 where
-  pub counts : r′ .ledger .counts ≡ r .ledger .counts
+  pub blockCounts : r′ .ledger .blockCounts ≡ r .ledger .blockCounts
   pub written : r′ .ledger .written ≤ r .ledger .written
 
 module _ (f g : ℕ) where
@@ -58,14 +58,14 @@ module _ (f g : ℕ) where
     pub cheaper : Cheaper r r′
 
   -- At the start everything is there.
-  pub subrun-begin : (n : ℕ) (counts : List ℕ) → 1 ≤ g → SubRun (begun n counts) (begun n counts)
+  pub subrun-begin : (n : ℕ) (blockCounts : List ℕ) → 1 ≤ g → SubRun (begun n blockCounts) (begun n blockCounts)
   unfolding begin
-  subrun-begin n counts pos = record {
+  subrun-begin n blockCounts pos = record {
     size = refl;
-    messages = messages-begin f g (begun n counts) (λ m. refl);
+    messages = messages-begin f g (begun n blockCounts) (λ m. refl);
     whole = λ p hp low. refl;
     ended = λ lt. absurd (omega arith);
-    cheaper = record { counts = refl; written = omega arith };
+    cheaper = record { blockCounts = refl; written = omega arith };
   }
 
   -- A step at b that leaves it knowing at most g of f: the other run takes it too.

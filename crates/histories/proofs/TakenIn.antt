@@ -12,7 +12,7 @@ use Rattle.histories.specs.History.{HistoryEvent, stored, sent, received
 use Rattle.histories.proofs.Places.{Stands}
 use Rattle.histories.proofs.Times.{times, single-end}
 use Rattle.histories.proofs.Run.{Ideal, takenBy, takenIn}
-use Rattle.histories.proofs.Invariant.{Inv, Proper, SentOf, Told}
+use Rattle.histories.proofs.Invariant.{Inv, Proper, SentOf, Informed}
 use Rattle.histories.proofs.TakenInPins.{pinned′, pins′}
 use Rattle.histories.proofs.Messages.{sentIn, sentIn-stands, sentIn-le, underway-proper, underway-carries, underway-present}
 use Rattle.histories.proofs.TakenInViews.{takenIn-live, takenIn-vector, takenIn-transit, takenIn-transit-other, takenIn-events, takenIn-events-other, takenIn-state, takenIn-still, takenIn-sent, takenIn-received, takenIn-checkpoints, takenIn-new}
@@ -196,8 +196,8 @@ module _ (r : Ideal) (v : Inv r) (m : ℕ) (under : r .transit m ≡ true)
   ]
 
   -- Where the message tells i of the live interval of q, q has sent in it.
-  told-live : (q : ℕ) → q < r .n → r .vector q₀ at q ≡ r .own q → r .mark q ≡ true
-  told-live q hq is = by-eq q₀ q
+  informed-live : (q : ℕ) → q < r .n → r .vector q₀ at q ≡ r .own q → r .mark q ≡ true
+  informed-live q hq is = by-eq q₀ q
       (λ c. v .marked q m (sent-live q c is))
       (λ nc. v .known q₀ at q at-le hq nc is)
     where
@@ -213,33 +213,33 @@ module _ (r : Ideal) (v : Inv r) (m : ℕ) (under : r .transit m ≡ true)
         let live : max (r .vector i (r .own i) q) (r .carried m q) ≡ r .own q = sym (new q) ∙ (rw (e .0, e .1) at d) in
         by-bool (leb (r .carried m q) (r .vector i (r .own i) q))
         (λ b. v .known i (r .own i) q (omega arith) hq (λ c. ne (e .0 ∙ c)) (omega (arith, leb-true)))
-        (λ b. told-live q hq (omega (arith, car-is q hq, leb-false))))
+        (λ b. informed-live q hq (omega (arith, car-is q hq, leb-false))))
     | inr o ↦ v .known p k q le hq ne (sym (o q) ∙ d)
   ]
 
   -- A message that told a process something still stands in its list.
-  told : (p a b f e : ℕ) → Told r p a b f e → Told r′ p a b f e
+  informed : (p a b f e : ℕ) → Informed r p a b f e → Informed r′ p a b f e
   unfolding takenIn takenBy
-  told p a b f e w = (w .0, w .1, takenIn-still r m p (w .2), w .3, w .4, w .5)
+  informed p a b f e w = (w .0, w .1, takenIn-still r m p (w .2), w .3, w .4, w .5)
 
   -- What a message carried of another process came to its sender by a message.
-  source′ : (p g x f : ℕ) → Stands (sent x) g (r′ .events p) → f < r .n → (p ≡ f → ⊥) → 1 ≤ r .carried x f → Told r′ p g x f (r .carried x f)
-  source′ p g x f s hf ne pos = told p g x f (r .carried x f) (v .source p g x f (takenIn-sent r m p g x s) hf ne pos)
+  source′ : (p g x f : ℕ) → Stands (sent x) g (r′ .events p) → f < r .n → (p ≡ f → ⊥) → 1 ≤ r .carried x f → Informed r′ p g x f (r .carried x f)
+  source′ p g x f s hf ne pos = informed p g x f (r .carried x f) (v .source p g x f (takenIn-sent r m p g x s) hf ne pos)
 
   -- What the live state of i knows it knew before, or the message told it.
-  learnt-live : (f : ℕ) → f < r .n → (i ≡ f → ⊥) → 1 ≤ r′ .vector i (r .own i) f → Told r′ i (r .own i) (suc (r .last)) f (r′ .vector i (r .own i) f)
+  learnt-live : (f : ℕ) → f < r .n → (i ≡ f → ⊥) → 1 ≤ r′ .vector i (r .own i) f → Informed r′ i (r .own i) (suc (r .last)) f (r′ .vector i (r .own i) f)
   unfolding takenIn takenBy
   learnt-live f hf ne pos = by-bool (leb (r .carried m f) (r .vector i (r .own i) f))
       (λ e.
       let is : r′ .vector i (r .own i) f ≡ r .vector i (r .own i) f = omega (arith, new f, leb-true) in
-      rw is (told i (r .own i) (suc (r .last)) f _ (v .learnt i (r .own i) f (omega arith) hf ne (omega (arith, is)))))
+      rw is (informed i (r .own i) (suc (r .last)) f _ (v .learnt i (r .own i) f (omega arith) hf ne (omega (arith, is)))))
       (λ e. (m, r .own i, takenIn-new r m (r .own i) (v .counted i), omega arith, omega (arith, underway-proper r v m under .used), omega (arith, new f, leb-false)))
 
   -- What a state knows of another process came by a message.
-  learnt′ : (p k f : ℕ) → k ≤ r .own p → f < r .n → (p ≡ f → ⊥) → 1 ≤ r′ .vector p k f → Told r′ p k (suc (r .last)) f (r′ .vector p k f)
+  learnt′ : (p k f : ℕ) → k ≤ r .own p → f < r .n → (p ≡ f → ⊥) → 1 ≤ r′ .vector p k f → Informed r′ p k (suc (r .last)) f (r′ .vector p k f)
   learnt′ p k f le hf ne = elim (takenIn-state r m p k) [
     | inl e ↦ rw (e .0, e .1) (learnt-live f hf (λ c. ne (e .0 ∙ c)))
-    | inr o ↦ rw (o f) λ pos. told p k (suc (r .last)) f (r .vector p k f) (v .learnt p k f le hf ne pos)
+    | inr o ↦ rw (o f) λ pos. informed p k (suc (r .last)) f (r .vector p k f) (v .learnt p k f le hf ne pos)
   ]
 
   -- Taking in a message keeps the invariant.

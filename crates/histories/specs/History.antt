@@ -37,12 +37,12 @@ upTo k (sent m ∷ l) = sent m ∷ upTo k l
 upTo k (received m ∷ l) = received m ∷ upTo k l
 
 -- The part of a list after state k.
-unfoldable pub behind : ℕ → List HistoryEvent → List HistoryEvent
-behind k [] = []
-behind zero (stored ∷ l) = l
-behind (suc k) (stored ∷ l) = behind k l
-behind k (sent m ∷ l) = behind k l
-behind k (received m ∷ l) = behind k l
+unfoldable pub afterState : ℕ → List HistoryEvent → List HistoryEvent
+afterState k [] = []
+afterState zero (stored ∷ l) = l
+afterState (suc k) (stored ∷ l) = afterState k l
+afterState k (sent m ∷ l) = afterState k l
+afterState k (received m ∷ l) = afterState k l
 
 -- The part of a list before checkpoint k.
 unfoldable pub beforeCheckpoint : ℕ → List HistoryEvent → List HistoryEvent
@@ -59,7 +59,7 @@ Line = ℕ → ℕ
 -- "It is consistent if no message was sent after its sender's state in the line and received before its receiver's."
 -- "Before and after go by place in a list."
 unfoldable pub Consistent : ℕ → Lists → Line → Type 0
-Consistent n lists line = (q p m : ℕ) → q < n → p < n → List·Memᴰ (sent m) (behind (line q) (lists q)) → List·Memᴰ (received m) (upTo (line p) (lists p)) → ⊥
+Consistent n lists line = (q p m : ℕ) → q < n → p < n → List·Memᴰ (sent m) (afterState (line q) (lists q)) → List·Memᴰ (received m) (upTo (line p) (lists p)) → ⊥
 
 -- "sent m" stands in a list; it does in one of the lists of the n processes.
 unfoldable pub isSent : ℕ → List HistoryEvent → Bool

@@ -23,7 +23,7 @@ clean-after w (d ∷ calls) v h c = clean-after (h .0) calls v (h .2) (h .1 .lea
 
 pub clean-whole-runs : CleanWholeRuns
 unfolding CleanWholeRuns
-clean-whole-runs w n counts long calls v h = (
-  run-after (startWords w n counts) calls v h ∙ ap (λ (s : Run). stateAfter s calls) (start-run w n counts ∙ ap (λ (k : ℕ). startOutcomeIn k n counts .run) long),
-  clean-after (startWords w n counts) calls v h (start-clean w n counts long),
+clean-whole-runs w n blockCounts long calls v h = (
+  run-after (startWords w n blockCounts) calls v h ∙ ap (λ (s : Run). stateAfter s calls) (start-run w n blockCounts ∙ ap (λ (k : ℕ). startOutcomeIn k n blockCounts .run) long),
+  clean-after (startWords w n blockCounts) calls v h (start-clean w n blockCounts long),
 )

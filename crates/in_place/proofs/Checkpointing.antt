@@ -23,8 +23,8 @@ use Rattle.model.specs.Steps.{settled, gone, deletions, billed, checkpointed, c
 use Rattle.model.specs.Sound.{sound}
 use Rattle.model.specs.Refusals.{firstOf, shortDeletions, checkpointRefusal, atLastInterval, pastBlocks}
 use Rattle.whole_runs.specs.Outcomes.{pairs, checkpointOutcome}
-use Rattle.verdicts.specs.declared.Verdict.the-variants as verdict
-use Rattle.verdicts.specs.Verdicts.{refusalOf, pastMost}
+use Rattle.admissions.specs.declared.Admission.the-variants as admission
+use Rattle.admissions.specs.Admissions.{refusalOf, pastMost}
 use Rattle.words.specs.Layout.{word, wide4, countOf, blocksAt, partAt, intervalOf, runOf}
 use Rattle.words.specs.Parts.{processIn}
 use Rattle.words.proofs.View.{count-is, written-is, deleted-is}
@@ -32,7 +32,7 @@ use Rattle.words.proofs.ViewSound.{sound-words, sound-process-is, sound-own-is}
 use Rattle.process_words.specs.Moves.{diskIn, Moves}
 use Rattle.process_words.proofs.Stepping.{block-count, own-entry}
 use Rattle.in_place.specs.Left.{Leaves}
-use Rattle.in_place.specs.Storing.{storingVerdict}
+use Rattle.in_place.specs.Storing.{storingAdmission}
 use Rattle.in_place.proofs.Leaving.{same-words}
 use Rattle.in_place.proofs.Moving.{moved-run, moved-leaves}
 
@@ -41,7 +41,7 @@ pub disk-is : (w : List ℕ) → sound (runOf w) ≡ true → runOf w .disk ≡ 
 disk-is w h = λ j. record { written = written-is w (sound-words w h .fit) j; deleted = deleted-is w (sound-words w h .fit) j }
 
 -- The two tests of a checkpoint that is stored, as rules and as a verdict.
-pub either-way : (a b : Bool) → pick a (some IntervalsUsed) (pick b (some BlocksUsed) none) ≡ refusalOf (pick a (verdict.Refused IntervalsUsed) (pick b (verdict.Refused BlocksUsed) verdict.Accepted))
+pub either-way : (a b : Bool) → pick a (some IntervalsUsed) (pick b (some BlocksUsed) none) ≡ refusalOf (pick a (admission.Refused IntervalsUsed) (pick b (admission.Refused BlocksUsed) admission.Accepted))
 unfolding refusalOf
 either-way true b = refl
 either-way false true = refl
@@ -60,19 +60,19 @@ module _ (w : List ℕ) (h : sound (runOf w) ≡ true) (i : ℕ) (lt : i < count
   unfolding pastMost
   past-is = (λ j. ltb mostBlocks (written-is w (sound-words w h .fit) j + blockCount (sound-process-is w h i lt j))) ∙ ap (λ (n : ℕ). ltb mostBlocks (wide4 w 4 + n)) (block-count w h i lt)
 
-  pub verdict-last : leb 65535 (word w (partAt i + i)) ≡ true → verdict.Refused IntervalsUsed ≡ storingVerdict (runOf w) i
-  unfolding storingVerdict
-  verdict-last e = ap (λ (a : Bool). pick a (verdict.Refused IntervalsUsed) (pick (pastBlocks (runOf w) i) (verdict.Refused BlocksUsed) verdict.Accepted)) (sym (last-is ∙ e))
+  pub admission-last : leb 65535 (word w (partAt i + i)) ≡ true → admission.Refused IntervalsUsed ≡ storingAdmission (runOf w) i
+  unfolding storingAdmission
+  admission-last e = ap (λ (a : Bool). pick a (admission.Refused IntervalsUsed) (pick (pastBlocks (runOf w) i) (admission.Refused BlocksUsed) admission.Accepted)) (sym (last-is ∙ e))
 
-  pub verdict-past : leb 65535 (word w (partAt i + i)) ≡ false → (b : Bool) → pastMost (wide4 w 4) (word w (blocksAt i)) ≡ b
-      → pick b (verdict.Refused BlocksUsed) verdict.Accepted ≡ storingVerdict (runOf w) i
-  unfolding storingVerdict
-  verdict-past e b f = λ j. pick (sym (last-is ∙ e) j) (verdict.Refused IntervalsUsed) (pick (sym (past-is ∙ f) j) (verdict.Refused BlocksUsed) verdict.Accepted)
+  pub admission-past : leb 65535 (word w (partAt i + i)) ≡ false → (b : Bool) → pastMost (wide4 w 4) (word w (blocksAt i)) ≡ b
+      → pick b (admission.Refused BlocksUsed) admission.Accepted ≡ storingAdmission (runOf w) i
+  unfolding storingAdmission
+  admission-past e b f = λ j. pick (sym (last-is ∙ e) j) (admission.Refused IntervalsUsed) (pick (sym (past-is ∙ f) j) (admission.Refused BlocksUsed) admission.Accepted)
 
   -- An accepted one has an own entry that is not the last.
-  pub accepted-own : verdict.Accepted ≡ storingVerdict (runOf w) i → word w (partAt i + i) < 65535
+  pub accepted-own : admission.Accepted ≡ storingAdmission (runOf w) i → word w (partAt i + i) < 65535
   accepted-own e = by-bool (leb 65535 (word w (partAt i + i)))
-      (λ f. absurd (let z : verdict.Accepted ≡ verdict.Refused IntervalsUsed = e ∙ sym (verdict-last f) in let y : _≡_ {A = ℕ} 0 1 = cc in omega arith))
+      (λ f. absurd (let z : admission.Accepted ≡ admission.Refused IntervalsUsed = e ∙ sym (admission-last f) in let y : _≡_ {A = ℕ} 0 1 = cc in omega arith))
       (λ f. leb-false 65535 (word w (partAt i + i)) f)
 
 module _ (w : List ℕ) (h : sound (runOf w) ≡ true) (i : ℕ) (l : List ℕ) where
@@ -100,8 +100,8 @@ module _ (w : List ℕ) (h : sound (runOf w) ≡ true) (i : ℕ) (l : List ℕ) 
     no-process le = refused NoSuchProcess (rw (h, count, enough, le-leb (countOf w) i le))
 
     module _ (lt : i < countOf w) where
-      judged : checkpointRefusal s i l ≡ refusalOf (storingVerdict s i)
-      unfolding checkpointRefusal firstOf storingVerdict refusalOf
+      judged : checkpointRefusal s i l ≡ refusalOf (storingAdmission s i)
+      unfolding checkpointRefusal firstOf storingAdmission refusalOf
       judged = rw (h, short-none, present) (either-way (atLastInterval s i) (pastBlocks s i))
         where
           short-none : shortDeletions s l ≡ false
@@ -110,7 +110,7 @@ module _ (w : List ℕ) (h : sound (runOf w) ≡ true) (i : ℕ) (l : List ℕ) 
           present : leb (s .count) i ≡ false
           present = ap (λ (n : ℕ). leb n i) count ∙ lt-leb (countOf w) i lt
 
-      pub not-stored : (why : Refusal) → verdict.Refused why ≡ storingVerdict s i → Left (Refused why) w l
+      pub not-stored : (why : Refusal) → admission.Refused why ≡ storingAdmission s i → Left (Refused why) w l
       unfolding refusalOf
       not-stored why e = refused why (judged ∙ ap refusalOf (sym e))
 
@@ -129,7 +129,7 @@ module _ (w : List ℕ) (h : sound (runOf w) ≡ true) (i : ℕ) (l : List ℕ) 
       unfolding checkpointDeletions
       deletions-are = ap (λ (P : Process). deletions i (checkpointed basic i P)) (sound-process-is w h i lt)
 
-      pub stored : verdict.Accepted ≡ storingVerdict s i → (v k : List ℕ) (g : ℕ) (index : CheckpointIndex)
+      pub stored : admission.Accepted ≡ storingAdmission s i → (v k : List ℕ) (g : ℕ) (index : CheckpointIndex)
           → Moves w i (settled Q) (billed (diskIn w) (word w (blocksAt i)) (blocksOf (gone Q))) v → k ≡ sets l 0 (pairs (deletions i Q)) → g ≡ length (deletions i Q)
           → index ≡ liveIndex (intervalOf (word w (partAt i + i))) → Left (Stored index g) v k
       unfolding checkpointOutcome refusalOf

@@ -18,12 +18,12 @@ use Rattle.model.specs.Words.{forced, Process, blockCount, blocksOf, process, w
 use Rattle.model.specs.Steps.{found, others, forces, settled, gone, deletions, billed, checkpointed, takenIn, delivered, deliverState, deliverDeletions}
 use Rattle.model.specs.Sound.{sound}
 use Rattle.model.specs.Refusals.{firstOf, forcesPast, forcesOver, atLastInterval, pastBlocks, deliverRefusal}
-use Rattle.verdicts.specs.Verdicts.{refusalOf}
+use Rattle.admissions.specs.Admissions.{refusalOf}
 use Rattle.words.specs.Frames.{OnlyMessages}
 use Rattle.words.specs.Layout.{word, blocksAt, wide2, countOf, endOf, fits, messageIn, isMessage, messagesIn, runOf}
-use Rattle.words.proofs.Frames.{process-head, process-mail}
+use Rattle.words.proofs.Frames.{process-head, process-message-words}
 use Rattle.words.proofs.View.{count-is, last-is, fits-size}
-use Rattle.words.proofs.ViewChange.{with-messages, process-fits, disk-fits, mail-same, messages-same}
+use Rattle.words.proofs.ViewChange.{with-messages, process-fits, disk-fits, message-words-same, messages-same}
 use Rattle.words.proofs.ViewClean.{clean-messages}
 use Rattle.words.proofs.ViewSound.{SoundWords, sound-words, sound-process-is}
 use Rattle.message_words.specs.Places.{placeOf, takenOut}
@@ -35,7 +35,7 @@ use Rattle.process_words.specs.Steps.{received}
 use Rattle.process_words.proofs.Stepping.{block-count}
 use Rattle.words.specs.Parts.{processIn}
 use Rattle.in_place.specs.Left.{Leaves}
-use Rattle.in_place.specs.Storing.{storingVerdict}
+use Rattle.in_place.specs.Storing.{storingAdmission}
 use Rattle.in_place.proofs.Checkpointing.{disk-is, either-way}
 use Rattle.in_place.proofs.Losing.{found-is, some-number, place-in, its-number}
 use Rattle.in_place.proofs.Moving.{moved-run, moved-leaves}
@@ -67,8 +67,8 @@ module _ (w : List ℕ) (h : sound (runOf w) ≡ true) (m k : ℕ) (e : placeOf 
 
   -- Which delivery is refused, once the lent list is long enough.
   pub delivery-judged : (l : List ℕ) → ltb (length l) (2 * countOf w * countOf w) ≡ false
-      → deliverRefusal s m l ≡ pick (forces (process s (messageIn w k .receiver)) (messageIn w k .vector)) (refusalOf (storingVerdict s (messageIn w k .receiver))) none
-  unfolding deliverRefusal firstOf forcesPast forcesOver storingVerdict refusalOf
+      → deliverRefusal s m l ≡ pick (forces (process s (messageIn w k .receiver)) (messageIn w k .vector)) (refusalOf (storingAdmission s (messageIn w k .receiver))) none
+  unfolding deliverRefusal firstOf forcesPast forcesOver storingAdmission refusalOf
   delivery-judged l enough = rw (h, short-none, found-there) (by-bool (forces (process s (messageIn w k .receiver)) (messageIn w k .vector))
       (λ f. rw f (either-way (atLastInterval s (messageIn w k .receiver)) (pastBlocks s (messageIn w k .receiver))))
       (λ f. rw f))
@@ -111,8 +111,8 @@ module _ (w : List ℕ) (h : sound (runOf w) ≡ true) (m k : ℕ) (e : placeOf 
     room : i < 16
     room = omega (arith, receiver-in, known .few)
 
-    mail : (q : ℕ) → 5184 ≤ q → word v q ≡ word w q
-    mail q low = move .disk .rest q (omega arith) ∙ process-mail w (move .between) i (move .process) room q low
+    message-words : (q : ℕ) → 5184 ≤ q → word v q ≡ word w q
+    message-words q low = move .disk .rest q (omega arith) ∙ process-message-words w (move .between) i (move .process) room q low
 
     head : (q : ℕ) → q < 4 → word v q ≡ word w q
     head q less = move .disk .front q less ∙ process-head w (move .between) i (move .process) q (omega arith)
@@ -133,10 +133,10 @@ module _ (w : List ℕ) (h : sound (runOf w) ≡ true) (m k : ℕ) (e : placeOf 
     move-place = omega (arith, end, place-in w h m k e)
 
     same-number : messageIn v k .number ≡ m
-    same-number = ap (λ (x : Message). x .number) (mail-same w v end mail k) ∙ its-number w h m k e
+    same-number = ap (λ (x : Message). x .number) (message-words-same w v end message-words k) ∙ its-number w h m k e
 
     only-one : (j : ℕ) → j < endOf v → messageIn v j .number ≡ m → j ≡ k
-    only-one j less q = alone j (omega (arith, end)) (ap (λ (x : Message). x .number) (sym (mail-same w v end mail j)) ∙ q)
+    only-one j less q = alone j (omega (arith, end)) (ap (λ (x : Message). x .number) (sym (message-words-same w v end message-words j)) ∙ q)
 
     abbrev y : List ℕ
     y = takenOut v k
@@ -145,7 +145,7 @@ module _ (w : List ℕ) (h : sound (runOf w) ≡ true) (m k : ℕ) (e : placeOf 
     many = taken-many v move-size move-end k move-place m (some-number w h m k e) same-number only-one
 
     pub move-one : 1 ≤ word v 1
-    move-one = omega (arith, head 1 (omega arith), known .counted, ap length (messages-same w v end mail), many)
+    move-one = omega (arith, head 1 (omega arith), known .counted, ap length (messages-same w v end message-words), many)
 
     only : OnlyMessages v y
     only = record {
@@ -156,12 +156,12 @@ module _ (w : List ℕ) (h : sound (runOf w) ≡ true) (m k : ℕ) (e : placeOf 
     }
 
     counted : word y 1 ≡ length (messagesIn y)
-    counted = omega (arith, taken-count v move-size move-end k move-place, head 1 (omega arith), known .counted, ap length (messages-same w v end mail), many)
+    counted = omega (arith, taken-count v move-size move-end k move-place, head 1 (omega arith), known .counted, ap length (messages-same w v end message-words), many)
 
     left : messagesIn y ≡ others s m
     unfolding others
     left = taken-others v move-size move-end k move-place m (some-number w h m k e) same-number only-one
-        ∙ ap (select (λ x. not (eqb (x .number) m))) (messages-same w v end mail ∙ sym (known .under-way))
+        ∙ ap (select (λ x. not (eqb (x .number) m))) (messages-same w v end message-words ∙ sym (known .under-way))
 
     last-stays : wide2 y 2 ≡ s .last
     last-stays = rw (

@@ -12,7 +12,7 @@ use lib.Seq.{sets}
 use Rattle.laws.specs.Below.{not-out}
 use Rattle.laws.specs.Choice.{pick, by-bool}
 use Rattle.laws.specs.Lists.{table}
-use Rattle.line_words.specs.Line.{limitsIn, hasMembers, pastsIn, indexesIn, OwnSome, HeldMost, AllUsed, AllFound}
+use Rattle.line_words.specs.Line.{limitsIn, hasMembers, pastsIn, indexesIn, OwnSome, KeptCountMost, AllUsed, AllFound}
 use Rattle.line_words.proofs.LineRule.{pasts-length, all-found, past-at, found-one, line-is}
 use Rattle.model.specs.declared.Interval.{Interval}
 use Rattle.model.specs.declared.CheckpointIndex.{CheckpointIndex}
@@ -25,8 +25,8 @@ use Rattle.model.specs.Sound.{sound}
 use Rattle.model.specs.Steps.{lineOf}
 use Rattle.model.specs.Refusals.{outside, noMember, lineRefusal}
 use Rattle.model.specs.laws.Refusals.{refusal-in}
-use Rattle.verdicts.specs.declared.Verdict.the-variants as verdict
-use Rattle.verdicts.specs.Verdicts.{recoveryVerdict}
+use Rattle.admissions.specs.declared.Admission.the-variants as admission
+use Rattle.admissions.specs.Admissions.{recoveryAdmission}
 use Rattle.whole_runs.specs.Outcomes.{Outcome, lineOutcome}
 use Rattle.words.specs.Layout.{countOf, runOf}
 use Rattle.words.proofs.View.{count-is}
@@ -59,20 +59,20 @@ module _ (w : List ℕ) (h : sound (runOf w) ≡ true) (F : ℕ) (line : List �
     unfolding lineRefusal
     set-refused o = by-refusal NoSuchFailedProcess (refusal-in _ (some NoSuchFailedProcess) (2, (rw h, (long-enough, tt)), rw count o, refl))
 
-    pub line-refused : (why : Refusal) → recoveryVerdict (countOf w) F ≡ verdict.Refused why → lineOutcome s F line ≡ refused why
-    unfolding recoveryVerdict
+    pub line-refused : (why : Refusal) → recoveryAdmission (countOf w) F ≡ admission.Refused why → lineOutcome s F line ≡ refused why
+    unfolding recoveryAdmission
     line-refused why e = by-bool (leb (2 ^ countOf w) F)
         (λ o.
-        let q : verdict.Refused NoSuchFailedProcess ≡ verdict.Refused why = rw o at e in
+        let q : admission.Refused NoSuchFailedProcess ≡ admission.Refused why = rw o at e in
         let same : NoSuchFailedProcess ≡ why = cc in
         rw (← same) (set-refused o))
-        (λ o. let q : verdict.Accepted ≡ verdict.Refused why = rw o at e in absurd (false≢true cc))
+        (λ o. let q : admission.Accepted ≡ admission.Refused why = rw o at e in absurd (false≢true cc))
 
-    module _ (passed : recoveryVerdict (countOf w) F ≡ verdict.Accepted) where
+    module _ (passed : recoveryAdmission (countOf w) F ≡ admission.Accepted) where
       inside : outside s F ≡ false
-      unfolding recoveryVerdict
+      unfolding recoveryAdmission
       inside = by-bool (leb (2 ^ countOf w) F)
-          (λ o. let q : verdict.Refused NoSuchFailedProcess ≡ verdict.Accepted = rw o at passed in absurd (false≢true cc))
+          (λ o. let q : admission.Refused NoSuchFailedProcess ≡ admission.Accepted = rw o at passed in absurd (false≢true cc))
           (λ o. rw count o)
 
       missing-outcome : noMember s F ≡ true → lineOutcome s F line ≡ refused UnsoundState
@@ -98,8 +98,8 @@ module _ (w : List ℕ) (h : sound (runOf w) ≡ true) (n : ℕ) (same : n ≡ c
   pub some-own : OwnSome n w
   some-own p lt = sound-part w h p (omega arith) .own-some
 
-  pub most-held : HeldMost n w
-  most-held p lt = omega (arith, sound-part w h p (omega arith) .held-most, sound-few w h)
+  pub most-kept-count : KeptCountMost n w
+  most-kept-count p lt = omega (arith, sound-part w h p (omega arith) .kept-count-most, sound-few w h)
 
   pub all-used : AllUsed n w
   all-used p lt = sound-part w h p (omega arith) .used

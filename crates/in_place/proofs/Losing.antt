@@ -50,13 +50,13 @@ there zero j e = absurd (let z : _≡_ {A = ℕ} 0 1 = cc in omega arith)
 there (suc k) j e = ap suc (let z : j ≡ k = cc in sym z)
 
 -- No message has number 0.
-unnamed : (x : Message) → (isMessage x && eqb (x .number) 0) ≡ false
+no-number-zero : (x : Message) → (isMessage x && eqb (x .number) 0) ≡ false
 unfolding isMessage
-unnamed x = by-bool (eqb (x .number) 0) (λ e. rw e) (λ e. rw e)
+no-number-zero x = by-bool (eqb (x .number) 0) (λ e. rw e) (λ e. rw e)
 
-none-unnamed : (l : List Message) → lastOf (select (λ x. eqb (x .number) 0) (select isMessage l)) ≡ none
+none-unpinned : (l : List Message) → lastOf (select (λ x. eqb (x .number) 0) (select isMessage l)) ≡ none
 unfolding lastOf
-none-unnamed l = ap lastOf (select-select (λ x. eqb (x .number) 0) isMessage l ∙ select-none (λ x. isMessage x && eqb (x .number) 0) l unnamed)
+none-unpinned l = ap lastOf (select-select (λ x. eqb (x .number) 0) isMessage l ∙ select-none (λ x. isMessage x && eqb (x .number) 0) l no-number-zero)
 
 module _ (w : List ℕ) (h : sound (runOf w) ≡ true) (m : ℕ) where
   abbrev s : Run
@@ -68,7 +68,7 @@ module _ (w : List ℕ) (h : sound (runOf w) ≡ true) (m : ℕ) where
   pub found-is : found s m ≡ messageAt w (placeOf w m)
   unfolding found placeOf messagesIn messageAt
   found-is = ap (λ (l : List Message). lastOf (select (λ x. eqb (x .number) m) l)) (known .under-way) ∙ by-eq m 0
-      (λ e. rw e (none-unnamed (table (endOf w) (messageIn w))))
+      (λ e. rw e (none-unpinned (table (endOf w) (messageIn w))))
       (λ ne. rw (ne-eqb m 0 ne) (found-below w m ne (endOf w)))
 
   pub lose-refused : placeOf w m ≡ 0 → loseOutcome s m ≡ record { run = s; answer = lose-answer.Refused NotUnderWay; rose = 0; deleted = []; line = [] }

@@ -15,7 +15,7 @@ use Rattle.in_place.specs.Left.{Leaves}
 module _ (w v : List ℕ) (i : ℕ) (P : Process) (d : Disk) (fit : fits w ≡ true) (lt : i < countOf w) (few : countOf w ≤ 16) (m : Moves w i P d v) where
   pub moved-run : runOf v ≡ withDisk (withProcess (runOf w) i P) d
   moved-run = with-disk (m .between) v (m .disk) (process-fits w (m .between) i fit lt few (m .process))
-      ∙ (λ j. withDisk ((with-process w (m .between) i fit lt few (m .process) (m .held) ∙ ap (withProcess (runOf w) i) (m .part)) j) (m .blocks j))
+      ∙ (λ j. withDisk ((with-process w (m .between) i fit lt few (m .process) (m .«kept_count») ∙ ap (withProcess (runOf w) i) (m .part)) j) (m .blocks j))
 
   pub moved-leaves : Leaves w v
   moved-leaves = record {

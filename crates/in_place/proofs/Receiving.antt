@@ -29,9 +29,9 @@ use Rattle.model.specs.Refusals.{firstOf, deliverRefusal}
 use Rattle.model.proofs.Risen.{risen-is-exact}
 use Rattle.whole_runs.specs.Outcomes.{pairs, deliverAnswer, deliverOutcome}
 use Rattle.receipts.specs.Receipt.{vectorFirst}
-use Rattle.verdicts.specs.declared.Verdict.{Verdict}
-use Rattle.verdicts.specs.declared.Verdict.the-variants as verdict
-use Rattle.verdicts.specs.Verdicts.{refusalOf}
+use Rattle.admissions.specs.declared.Admission.{Admission}
+use Rattle.admissions.specs.declared.Admission.the-variants as admission
+use Rattle.admissions.specs.Admissions.{refusalOf}
 use Rattle.receipts.specs.Sized.{Sized}
 use Rattle.receipts.proofs.Billing.{billed-none}
 use Rattle.receipts.proofs.Parts.{part-back}
@@ -40,14 +40,14 @@ use Rattle.words.specs.Layout.{word, countOf, endOf, blocksAt, partAt, pinsAt, 
 use Rattle.words.specs.Parts.{processIn}
 use Rattle.words.proofs.Same.{vector-length, pins-length}
 use Rattle.words.proofs.View.{count-is}
-use Rattle.words.proofs.ViewSizes.{vectors-size, pins-size, sent-size, kept-size, held-size, messages-size, vector-row-size, pin-row-size, kept-row-size, stored-size, carried-size}
+use Rattle.words.proofs.ViewSizes.{vectors-size, pins-size, sent-size, kept-size, kept-count-size, messages-size, vector-row-size, pin-row-size, kept-row-size, stored-size, carried-size}
 use Rattle.words.proofs.ViewSound.{sound-words, sound-process-is}
 use Rattle.message_words.specs.Places.{placeOf, takenOut}
 use Rattle.message_words.proofs.Selected.{messageAt}
 use Rattle.process_words.specs.Moves.{diskIn, Moves}
 use Rattle.process_words.specs.Steps.{received}
 use Rattle.in_place.specs.Left.{Leaves}
-use Rattle.in_place.specs.Storing.{storingVerdict}
+use Rattle.in_place.specs.Storing.{storingAdmission}
 use Rattle.in_place.proofs.Checkpointing.{index-is, accepted-own}
 use Rattle.in_place.proofs.Delivering.{found-there, receiver-in, delivery-judged, delivered-state, delivered-deletions, delivered-run, delivered-leaves, move-size, move-end, move-one, move-place}
 use Rattle.in_place.proofs.Leaving.{same-words}
@@ -65,7 +65,7 @@ renumbered w l m n e a rose v d g = subst (λ (k : ℕ). Left w l k a rose v d) 
 -- What it leaves that reaches process i, takes the vector c in and stores a checkpoint first where `stores` says so.
 abbrev Takes : List ℕ → List ℕ → ℕ → ℕ → List Interval → Type 0
 Takes w l k i c =
-    (stores : Bool) → forces (process (runOf w) i) c ≡ stores → verdict.Accepted ≡ pick stores (storingVerdict (runOf w) i) verdict.Accepted
+    (stores : Bool) → forces (process (runOf w) i) c ≡ stores → admission.Accepted ≡ pick stores (storingAdmission (runOf w) i) admission.Accepted
     → (a : DeliverAnswer) (rose : ℕ) (v y g : List ℕ)
     → Moves w i (settled (received i stores c (processIn w i))) (billed (diskIn w) (pick stores (word w (blocksAt i)) 0) (blocksOf (gone (received i stores c (processIn w i))))) v
     → y ≡ takenOut v k
@@ -75,7 +75,7 @@ Takes w l k i c =
     → Left w l (messageIn w k .number) a rose y g
 
 -- A verdict that is asked for only where a checkpoint is forced.
-pushed : (b : Bool) (v : Verdict) → pick b (refusalOf v) none ≡ refusalOf (pick b v verdict.Accepted)
+pushed : (b : Bool) (v : Admission) → pick b (refusalOf v) none ≡ refusalOf (pick b v admission.Accepted)
 unfolding refusalOf
 pushed true v = refl
 pushed false v = refl
@@ -100,7 +100,7 @@ sized w = record {
   kept = kept-size w;
   kept-row = kept-row-size w;
   stored = λ p k lp lk. stored-size w p lp k lk;
-  held = held-size w;
+  «kept_count» = kept-count-size w;
   messages = messages-size w;
   carried = carried-size w;
 }
@@ -150,13 +150,13 @@ module _ (w : List ℕ) (h : sound (runOf w) ≡ true) (l : List ℕ) (k : ℕ) 
   same = sound-process-is w h i inside
 
   -- What is refused, by whether a checkpoint is forced.
-  judged : (stores : Bool) → forces (process s i) c ≡ stores → deliverRefusal s m l ≡ refusalOf (pick stores (storingVerdict s i) verdict.Accepted)
+  judged : (stores : Bool) → forces (process s i) c ≡ stores → deliverRefusal s m l ≡ refusalOf (pick stores (storingAdmission s i) admission.Accepted)
   judged stores f =
       delivery-judged w h m k e l (le-ltb (length l) (2 * countOf w * countOf w) enough)
-      ∙ ap (λ (b : Bool). pick b (refusalOf (storingVerdict s i)) none) f
-      ∙ pushed stores (storingVerdict s i)
+      ∙ ap (λ (b : Bool). pick b (refusalOf (storingAdmission s i)) none) f
+      ∙ pushed stores (storingAdmission s i)
 
-  pub not-taken : (stores : Bool) → forces (process s i) c ≡ stores → (why : Refusal) → verdict.Refused why ≡ pick stores (storingVerdict s i) verdict.Accepted → Left w l m (Refused why) 0 w l
+  pub not-taken : (stores : Bool) → forces (process s i) c ≡ stores → (why : Refusal) → admission.Refused why ≡ pick stores (storingAdmission s i) admission.Accepted → Left w l m (Refused why) 0 w l
   unfolding refusalOf
   not-taken stores f why q = refused w h l m why (judged stores f ∙ ap refusalOf (sym q))
 
@@ -236,7 +236,7 @@ module _ (w : List ℕ) (h : sound (runOf w) ≡ true) (l : List ℕ) (k : ℕ) 
   unfolding forces processIn
   forces-marked brings = ap (λ (P : Process). forces P c) same ∙ ap (λ (b : Bool). markIn w i && b) brings ∙ and-true (markIn w i)
 
-  module _ (stores : Bool) (f : forces (process s i) c ≡ stores) (passed : verdict.Accepted ≡ pick stores (storingVerdict s i) verdict.Accepted) where
+  module _ (stores : Bool) (f : forces (process s i) c ≡ stores) (passed : admission.Accepted ≡ pick stores (storingAdmission s i) admission.Accepted) where
     fine : deliverRefusal s m l ≡ none
     unfolding refusalOf
     fine = judged stores f ∙ ap refusalOf (sym passed)
@@ -281,8 +281,8 @@ module _ (w : List ℕ) (h : sound (runOf w) ≡ true) (l : List ℕ) (k : ℕ) 
   unfolding messageIn
   place-there = (omega (arith, place-in w h m k e, sound-words w h .end), receiver-in w h m k e)
 
-  pub own-early : (p : ℕ) → p < countOf w → (stores : Bool) → verdict.Accepted ≡ pick stores (storingVerdict s p) verdict.Accepted → stores ≡ true → word w (partAt p + p) < 65535
-  own-early p lt stores passed q = accepted-own w h p lt (passed ∙ ap (λ (b : Bool). pick b (storingVerdict s p) verdict.Accepted) q)
+  pub own-early : (p : ℕ) → p < countOf w → (stores : Bool) → admission.Accepted ≡ pick stores (storingAdmission s p) admission.Accepted → stores ≡ true → word w (partAt p + p) < 65535
+  own-early p lt stores passed q = accepted-own w h p lt (passed ∙ ap (λ (b : Bool). pick b (storingAdmission s p) admission.Accepted) q)
 
   pub out-there : (p : ℕ) → p ≡ messageIn w k .receiver → (P : Process) (t : Disk) (v : List ℕ) → Moves w p P t v → (length v ≡ 6464) × (endOf v ≤ 64) × (k < 64) × (1 ≤ word v 1)
   out-there p q P t v move =

@@ -20,10 +20,10 @@ use Rattle.model.specs.declared.SendAnswer.the-variants as send-answer
 use Rattle.model.specs.Refusals.{unsound, sendRefusal}
 use Rattle.model.specs.laws.Refusals.{skipped}
 use Rattle.whole_runs.specs.Outcomes.{sendOutcome}
-use Rattle.verdicts.specs.declared.Verdict.the-variants.{Accepted, Refused}
-use Rattle.verdicts.specs.Verdicts.{refusalOf, sendVerdict}
-use Rattle.verdicts.proofs.Cases.{accepted-send, verdict-rules}
-use Rattle.words.specs.Layout.{stateSize, word, wide2, countOf, endOf, heldAt, markAt, blocksAt, partAt, pinsAt, vectorIn, pinsIn, markIn, keptIn, messageIn, isMessage, messagesIn, endFits, fits, runOf}
+use Rattle.admissions.specs.declared.Admission.the-variants.{Accepted, Refused}
+use Rattle.admissions.specs.Admissions.{refusalOf, sendAdmission}
+use Rattle.admissions.proofs.Cases.{accepted-send, admission-rules}
+use Rattle.words.specs.Layout.{stateSize, word, wide2, countOf, endOf, keptCountAt, markAt, blocksAt, partAt, pinsAt, vectorIn, pinsIn, markIn, keptIn, messageIn, isMessage, messagesIn, endFits, fits, runOf}
 use Rattle.words.specs.Parts.{processIn}
 use Rattle.words.specs.Frames.{OnlyProcess, OnlyMessages}
 use Rattle.words.specs.Clean.{Clean, CleanMessages}
@@ -42,14 +42,14 @@ use Rattle.in_place.specs.Left.{Leaves}
 use Rattle.in_place.specs.Sending.{sentIn, sentWords}
 
 -- A place is left: the same messages, and nothing else has changed but their places.
-pub record Roomy (w v : List ℕ) : Type 0 where
+pub record EnoughRoom (w v : List ℕ) : Type 0 where
   pub long : length v ≡ stateSize
   pub room : endOf v < 64
   pub rest : (q : ℕ) → q < 5184 → (q ≡ 12 → ⊥) → word v q ≡ word w q
   pub same : messagesIn v ≡ messagesIn w
   pub clean : CleanMessages w → CleanMessages v
 
-pub with-room : (w : List ℕ) → sound (runOf w) ≡ true → word w 1 < 64 → Roomy w (withRoom w)
+pub with-room : (w : List ℕ) → sound (runOf w) ≡ true → word w 1 < 64 → EnoughRoom w (withRoom w)
 unfolding withRoom
 with-room w h few =
     let k = sound-words w h in
@@ -81,7 +81,7 @@ module _ (w : List ℕ) (h : sound (runOf w) ≡ true) (i j : ℕ) (li : i < cou
   abbrev r : List ℕ
   r = withRoom w
 
-  g : Roomy w r
+  g : EnoughRoom w r
   g = with-room w h few
 
   abbrev x : Message
@@ -185,8 +185,8 @@ module _ (w : List ℕ) (h : sound (runOf w) ≡ true) (i j : ℕ) (li : i < cou
       untouched b (one (markAt i) 1 ∷ []) q ((λ c d. nm (omega arith)), tt)
       ∙ b-rest q lt (λ z. omega arith) (λ z. omega arith) (λ z. omega arith) (λ z. omega arith)
 
-  same-held : word v (heldAt i) ≡ word w (heldAt i)
-  same-held = same (heldAt i) (omega (arith, room-i)) (omega arith) (λ z. omega (arith, room-i))
+  same-kept-count : word v (keptCountAt i) ≡ word w (keptCountAt i)
+  same-kept-count = same (keptCountAt i) (omega (arith, room-i)) (omega arith) (λ z. omega (arith, room-i))
 
   mark-v : markIn v i ≡ true
   unfolding markIn
@@ -199,15 +199,15 @@ module _ (w : List ℕ) (h : sound (runOf w) ≡ true) (i j : ℕ) (li : i < cou
     vector-same v w (partAt i) (partAt i) (λ f lt. same (partAt i + f) (omega (arith, room-i)) (omega arith) (λ z. omega (arith, room-i))),
     pins-same v w (pinsAt i) (pinsAt i) (λ f lt. same (pinsAt i + f) (omega (arith, room-i)) (omega arith) (λ z. omega (arith, room-i))),
     mark-v,
-    same-held,
-    kept-same v w i (same-held) (same (blocksAt i) (omega (arith, room-i)) (omega arith) (λ z. omega (arith, room-i)))
+    same-kept-count,
+    kept-same v w i (same-kept-count) (same (blocksAt i) (omega (arith, room-i)) (omega arith) (λ z. omega (arith, room-i)))
         (λ k low high. same k (omega (arith, room-i)) (omega arith) (λ z. omega (arith, room-i))),
   )
 
   run-v : runOf v ≡ withProcess (runOf b) i (marked (process (runOf w) i))
   run-v = with-process b v i (messages-fit w b only (known .fit) fits-b)
       (omega (arith, only .count)) (omega (arith, only .count, known .few)) mark-only
-      (omega (arith, same-held, known .parts i li .held-most, known .few))
+      (omega (arith, same-kept-count, known .parts i li .kept-count-most, known .few))
       ∙ ap (withProcess (runOf b) i) process-v
 
   message-is : x ≡ sentMessage (runOf w) i j
@@ -229,25 +229,25 @@ module _ (w : List ℕ) (h : sound (runOf w) ≡ true) (i j : ℕ) (li : i < cou
     clean = λ c.
         let cb = clean-messages w b (known .few) only (clean-messages-same a b end-b high-b (clean-added r (g .long) (g .room) x whole is (g .clean (c .messages)))) c in
         clean-process b v i (omega (arith, only .count)) (omega (arith, only .count, known .few)) mark-only
-        (clean-kept-same b v i (untouched b (one (markAt i) 1 ∷ []) (heldAt i) (omega (arith, room-i))) (λ k low high. untouched b (one (markAt i) 1 ∷ []) k (omega (arith, room-i))) (cb .kept i (omega (arith, only .count))))
+        (clean-kept-same b v i (untouched b (one (markAt i) 1 ∷ []) (keptCountAt i) (omega (arith, room-i))) (λ k low high. untouched b (one (markAt i) 1 ∷ []) k (omega (arith, room-i))) (cb .kept i (omega (arith, only .count))))
         cb;
   })
 
 -- The verdict of the words, and what follows from it.
 module _ (w : List ℕ) (h : sound (runOf w) ≡ true) (i j : ℕ) where
-  rules : sendRefusal (runOf w) i j ≡ refusalOf (sendVerdict i j (countOf w) (word w 1) (wide2 w 2))
+  rules : sendRefusal (runOf w) i j ≡ refusalOf (sendAdmission i j (countOf w) (word w 1) (wide2 w 2))
   unfolding sendRefusal
   rules =
       let k = sound-words w h in
       skipped (unsound (runOf w)) _ (rw h)
-      ∙ rw (count-is w (k .fit), underway-is w (k .fit), last-is w (k .fit)) (sym (verdict-rules i j (countOf w) (word w 1) (wide2 w 2)))
+      ∙ rw (count-is w (k .fit), underway-is w (k .fit), last-is w (k .fit)) (sym (admission-rules i j (countOf w) (word w 1) (wide2 w 2)))
 
-  pub send-refused : (why : Refusal) → sendVerdict i j (countOf w) (word w 1) (wide2 w 2) ≡ Refused why
+  pub send-refused : (why : Refusal) → sendAdmission i j (countOf w) (word w 1) (wide2 w 2) ≡ Refused why
       → sendOutcome (runOf w) i j ≡ record { run = runOf w; answer = send-answer.Refused why; rose = 0; deleted = []; line = [] }
   unfolding sendOutcome refusalOf
   send-refused why e = let judged : sendRefusal (runOf w) i j ≡ some why = rules ∙ ap refusalOf e in rw judged
 
-  module _ (e : sendVerdict i j (countOf w) (word w 1) (wide2 w 2) ≡ Accepted) where
+  module _ (e : sendAdmission i j (countOf w) (word w 1) (wide2 w 2) ≡ Accepted) where
     pub send-places : (i < countOf w) × (j < countOf w) × (word w 1 < 64) × (wide2 w 2 < 1000000)
     send-places = accepted-send i j (countOf w) (word w 1) (wide2 w 2) e
 

@@ -26,7 +26,7 @@ use Rattle.model.specs.Words.{Process, zeroVector, noPins, blank, withDisk}
 use Rattle.model.specs.Sound.{isBlockCount}
 use Rattle.model.specs.Steps.{withProcesses, checkpointZero, started, startState, opening}
 use Rattle.model.specs.laws.Refusals.{no-rule, by-refusal}
-use Rattle.words.specs.Layout.{stateSize, word, wide4, countOf, heldAt, markAt, blocksAt, partAt, pinsAt, indexAt, causeAt, storedAt, intervalOf, indexOf, pinOf, vectorIn, pinsIn, markIn, checkpointIn, keptIn, fits, runOf}
+use Rattle.words.specs.Layout.{stateSize, word, wide4, countOf, keptCountAt, markAt, blocksAt, partAt, pinsAt, indexAt, causeAt, storedAt, intervalOf, indexOf, pinOf, vectorIn, pinsIn, markIn, checkpointIn, keptIn, fits, runOf}
 use Rattle.words.specs.Parts.{processIn}
 use Rattle.words.specs.Frames.{OnlyProcess, OnlyDisk}
 use Rattle.words.specs.Clean.{Clean, CleanKept}
@@ -37,7 +37,7 @@ use Rattle.words.proofs.View.{run-unfit, kept-table}
 use Rattle.words.proofs.ViewBlank.{blank-fits, blank-run, blank-clean}
 use Rattle.words.proofs.ViewChange.{process-fits, with-disk}
 use Rattle.words.proofs.ViewClean.{clean-process, clean-disk}
-use Rattle.words.proofs.ViewParts.{process-by, with-processes-turn}
+use Rattle.words.proofs.ViewParts.{process-by, with-processes-step}
 use Rattle.in_place.specs.Starting.{zeros, withCounts, counted, firstPuts, withFirsts, begun, startedWords, startRefusalIn, startOutcomeIn, startWords}
 
 pub zeros-length : length zeros ≡ stateSize
@@ -59,32 +59,32 @@ zeros-run = blank-run zeros (λ k low lt. zeros-word k) (λ k low. zeros-word k)
 pub zeros-clean : Clean zeros
 zeros-clean = blank-clean zeros (λ k low lt. zeros-word k) (λ k low. zeros-word k) (λ p le lt. zeros-word (blocksAt p))
 
-module _ (n : ℕ) (counts : List ℕ) (few : n ≤ 16) where
-  pub counted-length : (k : ℕ) → length (counted n counts k) ≡ stateSize
+module _ (n : ℕ) (blockCounts : List ℕ) (few : n ≤ 16) where
+  pub counted-length : (k : ℕ) → length (counted n blockCounts k) ≡ stateSize
   unfolding counted withCounts
   counted-length zero = puts-length zeros (one 0 n ∷ []) ∙ zeros-length
-  counted-length (suc k) = puts-length (counted n counts k) (one (blocksAt k) (getD counts k 0) ∷ []) ∙ counted-length k
+  counted-length (suc k) = puts-length (counted n blockCounts k) (one (blocksAt k) (getD blockCounts k 0) ∷ []) ∙ counted-length k
 
-  counted-count : (k : ℕ) → word (counted n counts k) 0 ≡ n
+  counted-count : (k : ℕ) → word (counted n blockCounts k) 0 ≡ n
   unfolding counted withCounts
   counted-count zero = touched zeros (one 0 n ∷ []) 0 0 0 (omega arith, omega arith, omega (arith, zeros-length), tt)
-  counted-count (suc k) = untouched (counted n counts k) (one (blocksAt k) (getD counts k 0) ∷ []) 0 (omega arith) ∙ counted-count k
+  counted-count (suc k) = untouched (counted n blockCounts k) (one (blocksAt k) (getD blockCounts k 0) ∷ []) 0 (omega arith) ∙ counted-count k
 
-  counted-rest : (k q : ℕ) → k ≤ 16 → 1 ≤ q → (48 ≤ q → q < 48 + k → ⊥) → word (counted n counts k) q ≡ 0
+  counted-rest : (k q : ℕ) → k ≤ 16 → 1 ≤ q → (48 ≤ q → q < 48 + k → ⊥) → word (counted n blockCounts k) q ≡ 0
   unfolding counted withCounts
   counted-rest zero q le low out = untouched zeros (one 0 n ∷ []) q (omega arith) ∙ zeros-word q
-  counted-rest (suc k) q le low out = untouched (counted n counts k) (one (blocksAt k) (getD counts k 0) ∷ []) q (λ a b. out (omega arith) (omega arith), tt)
+  counted-rest (suc k) q le low out = untouched (counted n blockCounts k) (one (blocksAt k) (getD blockCounts k 0) ∷ []) q (λ a b. out (omega arith) (omega arith), tt)
       ∙ counted-rest k q (omega arith) low (λ a b. out a (omega arith))
 
-  counted-blocks : (k p : ℕ) → k ≤ 16 → p < k → word (counted n counts k) (blocksAt p) ≡ getD counts p 0
+  counted-blocks : (k p : ℕ) → k ≤ 16 → p < k → word (counted n blockCounts k) (blocksAt p) ≡ getD blockCounts p 0
   unfolding counted withCounts
   counted-blocks zero p le lt = absurd (omega arith)
   counted-blocks (suc k) p le lt = by-eq p k
-      (λ e. rw e (touched (counted n counts k) (one (blocksAt k) (getD counts k 0) ∷ []) 0 0 (blocksAt k) (omega arith, omega arith, omega (arith, counted-length k), tt)))
-      (λ ne. untouched (counted n counts k) (one (blocksAt k) (getD counts k 0) ∷ []) (blocksAt p) (λ a b. ne (omega arith), tt) ∙ counted-blocks k p (omega arith) (omega arith))
+      (λ e. rw e (touched (counted n blockCounts k) (one (blocksAt k) (getD blockCounts k 0) ∷ []) 0 0 (blocksAt k) (omega arith, omega arith, omega (arith, counted-length k), tt)))
+      (λ ne. untouched (counted n blockCounts k) (one (blocksAt k) (getD blockCounts k 0) ∷ []) (blocksAt p) (λ a b. ne (omega arith), tt) ∙ counted-blocks k p (omega arith) (omega arith))
 
   abbrev c : List ℕ
-  c = counted n counts n
+  c = counted n blockCounts n
 
   front : (k : ℕ) → 1 ≤ k → k < 48 → word c k ≡ 0
   front k low lt = counted-rest n k few low (λ a b. omega arith)
@@ -97,12 +97,12 @@ module _ (n : ℕ) (counts : List ℕ) (few : n ≤ 16) where
     pub long : length w ≡ stateSize
     pub count : countOf w ≡ n
     pub fit : fits w ≡ true
-    pub blocks : (p : ℕ) → p < n → word w (blocksAt p) ≡ getD counts p 0
+    pub blocks : (p : ℕ) → p < n → word w (blocksAt p) ≡ getD blockCounts p 0
     pub part : (p q : ℕ) → k ≤ p → p < 16 → q < 320 → word w (partAt p + q) ≡ 0
-    pub held : (p : ℕ) → k ≤ p → p < 16 → word w (heldAt p) ≡ 0
+    pub «kept_count» : (p : ℕ) → k ≤ p → p < 16 → word w (keptCountAt p) ≡ 0
     pub mark : (p : ℕ) → p < 16 → word w (markAt p) ≡ 0
     pub disk : (q : ℕ) → 4 ≤ q → q < 12 → word w q ≡ 0
-    pub run : runOf w ≡ withProcesses k (started counts) (blank n)
+    pub run : runOf w ≡ withProcesses k (started blockCounts) (blank n)
     pub clean : Clean w
 
   first-begun : Begun 0 c
@@ -113,7 +113,7 @@ module _ (n : ℕ) (counts : List ℕ) (few : n ≤ 16) where
     fit = blank-fits c front rest (counted-length n);
     blocks = λ p lt. counted-blocks n p few lt;
     part = λ p q le lt less. rest (partAt p + q) (omega arith);
-    held = λ p le lt. front (heldAt p) (omega arith) (omega arith);
+    «kept_count» = λ p le lt. front (keptCountAt p) (omega arith) (omega arith);
     mark = λ p lt. front (markAt p) (omega arith) (omega arith);
     disk = λ q low lt. front q (omega arith) (omega arith);
     run = blank-run c front rest (counted-length n) ∙ ap blank (counted-count n);
@@ -137,8 +137,8 @@ module _ (n : ℕ) (counts : List ℕ) (few : n ≤ 16) where
     index : word v (indexAt k 0) ≡ 1
     index = touched w (firstPuts k) 2 0 (indexAt k 0) (omega arith, omega arith, omega (arith, h .long), omega arith)
 
-    held-one : word v (heldAt k) ≡ 1
-    held-one = touched w (firstPuts k) 3 0 (heldAt k) (omega arith, omega arith, omega (arith, h .long), tt)
+    kept-count-one : word v (keptCountAt k) ≡ 1
+    kept-count-one = touched w (firstPuts k) 3 0 (keptCountAt k) (omega arith, omega arith, omega (arith, h .long), tt)
 
     -- the rest of its part is zero
     zero-part : (q : ℕ) → q < 320 → (q ≡ k → ⊥) → (q ≡ 16 + k → ⊥) → (q ≡ 32 → ⊥) → word v (partAt k + q) ≡ 0
@@ -173,27 +173,27 @@ module _ (n : ℕ) (counts : List ℕ) (few : n ≤ 16) where
     cause-zero : word v (causeAt k 0) ≡ 0
     cause-zero = ap (word v) (let e : causeAt k 0 ≡ partAt k + 48 = omega arith in e) ∙ zero-part 48 (omega arith) (λ z. omega arith) (λ z. omega arith) (λ z. omega arith)
 
-    checkpoint-first : checkpointIn v k 0 ≡ checkpointZero (getD counts k 0)
+    checkpoint-first : checkpointIn v k 0 ≡ checkpointZero (getD blockCounts k 0)
     unfolding checkpointIn checkpointZero
     checkpoint-first = rw (index, stored-zero, cause-zero, blocks-stay k room, h .blocks k lt) refl
 
-    kept-first : take (word v (heldAt k)) (keptIn v k) ≡ checkpointZero (getD counts k 0) ∷ []
+    kept-first : take (word v (keptCountAt k)) (keptIn v k) ≡ checkpointZero (getD blockCounts k 0) ∷ []
     unfolding processIn table
     kept-first =
-        kept-table v k (omega (arith, held-one)) (λ j less. ap-one j less)
-        ∙ ap (λ (m : ℕ). table m (checkpointIn v k)) held-one
+        kept-table v k (omega (arith, kept-count-one)) (λ j less. ap-one j less)
+        ∙ ap (λ (m : ℕ). table m (checkpointIn v k)) kept-count-one
         ∙ ap (λ (c : Checkpoint). c ∷ []) checkpoint-first
       where
-        ap-one : (j : ℕ) → j < word v (heldAt k) → 1 ≤ word v (indexAt k j)
-        ap-one j less = let e : j ≡ 0 = omega (arith, held-one) in rw e (omega (arith, index))
+        ap-one : (j : ℕ) → j < word v (keptCountAt k) → 1 ≤ word v (indexAt k j)
+        ap-one j less = let e : j ≡ 0 = omega (arith, kept-count-one) in rw e (omega (arith, index))
 
     mark-first : markIn v k ≡ false
     unfolding markIn
     mark-first = rw (untouched w (firstPuts k) (markAt k) (omega arith), h .mark k room)
 
-    process-first : processIn v k ≡ started counts k
+    process-first : processIn v k ≡ started blockCounts k
     unfolding started
-    process-first = process-by v k (started counts k) vector-first pins-first mark-first kept-first
+    process-first = process-by v k (started blockCounts k) vector-first pins-first mark-first kept-first
 
     only : OnlyProcess w v k
     only = record {
@@ -205,7 +205,7 @@ module _ (n : ℕ) (counts : List ℕ) (few : n ≤ 16) where
 
     clean-first : CleanKept v k
     clean-first = record {
-      index = λ j le less. ap (word v) (let e : indexAt k j ≡ partAt k + (32 + j) = omega arith in e) ∙ zero-part (32 + j) (omega arith) (λ z. omega arith) (λ z. omega arith) (λ z. omega (arith, held-one));
+      index = λ j le less. ap (word v) (let e : indexAt k j ≡ partAt k + (32 + j) = omega arith in e) ∙ zero-part (32 + j) (omega arith) (λ z. omega arith) (λ z. omega arith) (λ z. omega (arith, kept-count-one));
       cause = λ j le less. ap (word v) (let e : causeAt k j ≡ partAt k + (48 + j) = omega arith in e) ∙ zero-part (48 + j) (omega arith) (λ z. omega arith) (λ z. omega arith) (λ z. omega arith);
       vector = λ j f le less under. ap (word v) (let e : storedAt k j + f ≡ partAt k + (64 + (16 * j + f)) = omega arith in e)
           ∙ zero-part (64 + (16 * j + f)) (omega arith) (λ z. omega arith) (λ z. omega arith) (λ z. omega arith);
@@ -221,25 +221,25 @@ module _ (n : ℕ) (counts : List ℕ) (few : n ≤ 16) where
           fit = process-fits w v k (h .fit) below most only;
           blocks = λ p less. blocks-stay p (omega arith) ∙ h .blocks p less;
           part = λ p q le less under. untouched w (firstPuts k) (partAt p + q) (omega arith) ∙ h .part p q (omega arith) less under;
-          held = λ p le less. untouched w (firstPuts k) (heldAt p) (omega arith) ∙ h .held p (omega arith) less;
+          «kept_count» = λ p le less. untouched w (firstPuts k) (keptCountAt p) (omega arith) ∙ h .«kept_count» p (omega arith) less;
           mark = λ p less. untouched w (firstPuts k) (markAt p) (omega arith) ∙ h .mark p less;
           disk = λ q low less. untouched w (firstPuts k) q (omega arith) ∙ h .disk q low less;
-          run = with-processes-turn w v k (started counts) (blank n) (h .fit) below most only (omega (arith, held-one)) process-first (h .run);
+          run = with-processes-step w v k (started blockCounts) (blank n) (h .fit) below most only (omega (arith, kept-count-one)) process-first (h .run);
           clean = clean-process w v k below most only clean-first (h .clean);
         }
 
-  begun-is : (k : ℕ) → k ≤ n → Begun k (begun n counts k)
+  begun-is : (k : ℕ) → k ≤ n → Begun k (begun n blockCounts k)
   unfolding begun withFirsts
   begun-is zero le = first-begun
-  begun-is (suc k) le = rw (← add-one k) (one-begun k (begun n counts k) (omega arith) (begun-is k (omega arith)))
+  begun-is (suc k) le = rw (← add-one k) (one-begun k (begun n blockCounts k) (omega arith) (begun-is k (omega arith)))
 
   abbrev b : List ℕ
-  b = begun n counts n
+  b = begun n blockCounts n
 
   abbrev sum : ℕ
-  sum = sumBelow n (λ p. getD counts p 0)
+  sum = sumBelow n (λ p. getD blockCounts p 0)
 
-  disk-only : OnlyDisk b (startedWords n counts)
+  disk-only : OnlyDisk b (startedWords n blockCounts)
   unfolding startedWords
   disk-only = record {
     size = puts-length b (puts4 4 sum);
@@ -247,7 +247,7 @@ module _ (n : ℕ) (counts : List ℕ) (few : n ≤ 16) where
     rest = λ q low. untouched b (puts4 4 sum) q (omega arith);
   }
 
-  written-is : wide4 (startedWords n counts) 4 ≡ sum
+  written-is : wide4 (startedWords n blockCounts) 4 ≡ sum
   unfolding startedWords
   written-is =
       let long = begun-is n (omega arith) .long in
@@ -259,7 +259,7 @@ module _ (n : ℕ) (counts : List ℕ) (few : n ≤ 16) where
       )
       (wide4-back sum)
 
-  deleted-is : wide4 (startedWords n counts) 8 ≡ 0
+  deleted-is : wide4 (startedWords n blockCounts) 8 ≡ 0
   unfolding startedWords
   deleted-is =
       let g = begun-is n (omega arith) in
@@ -274,14 +274,14 @@ module _ (n : ℕ) (counts : List ℕ) (few : n ≤ 16) where
         g .disk 11 (omega arith) (omega arith),
       )
 
-  pub started-run : runOf (startedWords n counts) ≡ startState n counts
+  pub started-run : runOf (startedWords n blockCounts) ≡ startState n blockCounts
   unfolding startState opening
-  started-run = with-disk b (startedWords n counts) disk-only (begun-is n (omega arith) .fit) ∙ rw (written-is, deleted-is, begun-is n (omega arith) .run)
+  started-run = with-disk b (startedWords n blockCounts) disk-only (begun-is n (omega arith) .fit) ∙ rw (written-is, deleted-is, begun-is n (omega arith) .run)
 
-  pub started-clean : Clean (startedWords n counts)
-  started-clean = clean-disk b (startedWords n counts) disk-only (begun-is n (omega arith) .clean)
+  pub started-clean : Clean (startedWords n blockCounts)
+  started-clean = clean-disk b (startedWords n blockCounts) disk-only (begun-is n (omega arith) .clean)
 
-  pub started-length : length (startedWords n counts) ≡ stateSize
+  pub started-length : length (startedWords n blockCounts) ≡ stateSize
   started-length = disk-only .size ∙ begun-is n (omega arith) .long
 
 not-size : (w : List ℕ) → eqb (length w) stateSize ≡ false → fits w ≡ false
@@ -289,7 +289,7 @@ unfolding fits
 not-size w q = rw q
 
 -- An accepted start has 1 to 16 processes and words of the right number.
-module _ (many n : ℕ) (counts : List ℕ) (fine : startRefusalIn many n counts ≡ none) where
+module _ (many n : ℕ) (blockCounts : List ℕ) (fine : startRefusalIn many n blockCounts ≡ none) where
   pub accepted-few : n ≤ 16
   unfolding startRefusalIn
   accepted-few = leb-true n 16 (and-right (leb 1 n) (leb n 16) (not-false _ (no-rule _ fine 0)))
@@ -298,33 +298,33 @@ module _ (many n : ℕ) (counts : List ℕ) (fine : startRefusalIn many n counts
   unfolding startRefusalIn
   accepted-size = eqb-true many stateSize (not-false _ (no-rule _ fine 1))
 
-  pub accepted-long : n ≤ length counts
+  pub accepted-long : n ≤ length blockCounts
   unfolding startRefusalIn
-  accepted-long = ltb-false (length counts) n (no-rule _ fine 2)
+  accepted-long = ltb-false (length blockCounts) n (no-rule _ fine 2)
 
-  pub accepted-counts : allBelow n (λ p. isBlockCount (getD counts p 0)) ≡ true
+  pub accepted-counts : allBelow n (λ p. isBlockCount (getD blockCounts p 0)) ≡ true
   unfolding startRefusalIn
-  accepted-counts = all-in n (λ p. isBlockCount (getD counts p 0)) (λ p lt. not-false _ (any-none n (λ q. not (isBlockCount (getD counts q 0))) (no-rule _ fine 3) p lt))
+  accepted-counts = all-in n (λ p. isBlockCount (getD blockCounts p 0)) (λ p lt. not-false _ (any-none n (λ q. not (isBlockCount (getD blockCounts q 0))) (no-rule _ fine 3) p lt))
 
 -- The whole start.
-pub start-run : (w : List ℕ) (n : ℕ) (counts : List ℕ) → runOf (startWords w n counts) ≡ startOutcomeIn (length w) n counts .run
+pub start-run : (w : List ℕ) (n : ℕ) (blockCounts : List ℕ) → runOf (startWords w n blockCounts) ≡ startOutcomeIn (length w) n blockCounts .run
 unfolding startWords startOutcomeIn
-start-run w n counts = by-refusal (startRefusalIn (length w) n counts)
-    (λ fine. rw fine (started-run n counts (accepted-few (length w) n counts fine)))
+start-run w n blockCounts = by-refusal (startRefusalIn (length w) n blockCounts)
+    (λ fine. rw fine (started-run n blockCounts (accepted-few (length w) n blockCounts fine)))
     (λ why e. rw e (by-bool (eqb (length w) stateSize)
     (λ q. rw q zeros-run)
     (λ q. rw q (run-unfit w (not-size w q)))))
 
-pub start-clean : (w : List ℕ) (n : ℕ) (counts : List ℕ) → length w ≡ stateSize → Clean (startWords w n counts)
+pub start-clean : (w : List ℕ) (n : ℕ) (blockCounts : List ℕ) → length w ≡ stateSize → Clean (startWords w n blockCounts)
 unfolding startWords
-start-clean w n counts long = by-refusal (startRefusalIn (length w) n counts)
-    (λ fine. rw fine (started-clean n counts (accepted-few (length w) n counts fine)))
+start-clean w n blockCounts long = by-refusal (startRefusalIn (length w) n blockCounts)
+    (λ fine. rw fine (started-clean n blockCounts (accepted-few (length w) n blockCounts fine)))
     (λ why e. rw (e, eq-eqb (length w) stateSize long) zeros-clean)
 
-pub start-length : (w : List ℕ) (n : ℕ) (counts : List ℕ) → length (startWords w n counts) ≡ length w
+pub start-length : (w : List ℕ) (n : ℕ) (blockCounts : List ℕ) → length (startWords w n blockCounts) ≡ length w
 unfolding startWords
-start-length w n counts = by-refusal (startRefusalIn (length w) n counts)
-    (λ fine. rw fine (started-length n counts (accepted-few (length w) n counts fine) ∙ sym (accepted-size (length w) n counts fine)))
+start-length w n blockCounts = by-refusal (startRefusalIn (length w) n blockCounts)
+    (λ fine. rw fine (started-length n blockCounts (accepted-few (length w) n blockCounts fine) ∙ sym (accepted-size (length w) n blockCounts fine)))
     (λ why e. rw e (by-bool (eqb (length w) stateSize)
     (λ q. rw q (zeros-length ∙ sym (eqb-true (length w) stateSize q)))
     (λ q. rw q refl)))

@@ -23,5 +23,5 @@ CalledAll w (c ∷ calls) v = (u : List ℕ) × Called w c u × CalledAll u call
 -- Whatever calls follow a start, with any arguments and lent lists, the words stand for the state after those calls, and every place of them that is not in use is zero:
 -- words that are stored hold nothing of what was deleted.
 unfoldable pub CleanWholeRuns : Type 0
-CleanWholeRuns = (w : List ℕ) (n : ℕ) (counts : List ℕ) → length w ≡ stateSize → (calls : List Call) (v : List ℕ) → CalledAll (startWords w n counts) calls v
-    → (runOf v ≡ stateAfter (startOutcomeIn stateSize n counts .run) calls) × Clean v
+CleanWholeRuns = (w : List ℕ) (n : ℕ) (blockCounts : List ℕ) → length w ≡ stateSize → (calls : List Call) (v : List ℕ) → CalledAll (startWords w n blockCounts) calls v
+    → (runOf v ≡ stateAfter (startOutcomeIn stateSize n blockCounts .run) calls) × Clean v

@@ -5,8 +5,8 @@ use Rattle.laws.specs.Choice.{pick}
 use Rattle.model.specs.declared.Refusal.the-variants.{IntervalsUsed, BlocksUsed}
 use Rattle.model.specs.declared.Run.{Run}
 use Rattle.model.specs.Refusals.{atLastInterval, pastBlocks}
-use Rattle.verdicts.specs.declared.Verdict.{Verdict}
-use Rattle.verdicts.specs.declared.Verdict.the-variants.{Accepted, Refused}
+use Rattle.admissions.specs.declared.Admission.{Admission}
+use Rattle.admissions.specs.declared.Admission.the-variants.{Accepted, Refused}
 
-unfoldable pub storingVerdict : Run → ℕ → Verdict
-storingVerdict s i = pick (atLastInterval s i) (Refused IntervalsUsed) (pick (pastBlocks s i) (Refused BlocksUsed) Accepted)
+unfoldable pub storingAdmission : Run → ℕ → Admission
+storingAdmission s i = pick (atLastInterval s i) (Refused IntervalsUsed) (pick (pastBlocks s i) (Refused BlocksUsed) Accepted)

@@ -1,7 +1,7 @@
 // Checkpoint at i: the vector is stored under index own entry, the own pin names it, 1 is added to the own entry, the sent mark is cleared.
 use model::CheckpointAnswer;
 use model::Refusal;
-use verdicts::Verdict;
+use admissions::Admission;
 use words::places;
 ghost use mathlib.Core.Path.{_≡_};
 ghost use mathlib.Core.Bool.{true};
@@ -14,24 +14,24 @@ ghost use Rattle.whole_runs.specs.Calls as made;
 ghost use Rattle.whole_runs.specs.WholeRuns.{StatePromise};
 ghost use Rattle.words.specs.Layout.{countOf, runOf};
 ghost use Rattle.in_place.specs.Left.{Leaves};
-ghost use Rattle.in_place.specs.Storing.{storingVerdict};
+ghost use Rattle.in_place.specs.Storing.{storingAdmission};
 
 // Whether a checkpoint of process i, taken or forced, is refused, and why.
-pub(crate) fn storing_verdict(w: &[u16], i: usize) -> Verdict
+pub(crate) fn storing_admission(w: &[u16], i: usize) -> Admission
     requires { ⌜ (sound (runOf (now w)) ≡ true) × (i < countOf (now w)) ⌝ }
-    ensures { λ r. ⌜ r ≡ storingVerdict (runOf (now (w .entry))) i ⌝ }
+    ensures { λ r. ⌜ r ≡ storingAdmission (runOf (now (w .entry))) i ⌝ }
 {
     let own = process_words::steps::own_of(w, i);
-    let full = verdicts::is_last_interval(own);
+    let full = admissions::is_last_interval(own);
     if full {
-        return Verdict::Refused(Refusal::IntervalsUsed);
+        return Admission::Refused(Refusal::IntervalsUsed);
     }
     let written = words::wide4(w, places::WRITTEN);
-    let past = verdicts::is_past_bound(written, w[places::BLOCKS + i]);
+    let past = admissions::is_past_bound(written, w[places::BLOCKS + i]);
     if past {
-        return Verdict::Refused(Refusal::BlocksUsed);
+        return Admission::Refused(Refusal::BlocksUsed);
     }
-    Verdict::Accepted
+    Admission::Accepted
 }
 
 // The words stand for a sound state.
@@ -44,17 +44,17 @@ pub fn checkpoint_on(w: &mut [u16], i: usize, deleted: &mut [u16]) -> Checkpoint
     ensures { λ r. ⌜ Leaves (now (w .entry)) (now (w .exit)) ⌝ }
 {
     let n = w[places::COUNT] as usize;
-    let short = verdicts::are_deletions_short(deleted.len(), n);
+    let short = admissions::are_deletions_short(deleted.len(), n);
     if short {
         return CheckpointAnswer::Refused(Refusal::ListTooShort);
     }
     if n <= i {
         return CheckpointAnswer::Refused(Refusal::NoSuchProcess);
     }
-    let verdict = storing_verdict(w, i);
-    match verdict {
-        Verdict::Refused(why) => CheckpointAnswer::Refused(why),
-        Verdict::Accepted => {
+    let admission = storing_admission(w, i);
+    match admission {
+        Admission::Refused(why) => CheckpointAnswer::Refused(why),
+        Admission::Accepted => {
             let own = process_words::steps::own_of(w, i);
             let gone = process_words::steps::checkpoint(w, i, deleted);
             CheckpointAnswer::Stored(rows::vector::live_index(own), gone)

@@ -4,7 +4,7 @@ use model::DeliverAnswer;
 use model::Interval;
 use model::PROCESSES;
 use model::Refusal;
-use verdicts::Verdict;
+use admissions::Admission;
 use words::places;
 ghost use mathlib.Core.Path.{_≡_};
 ghost use mathlib.Core.Bool.{true};
@@ -15,14 +15,14 @@ ghost use Rattle.model.specs.declared.Refusal.{Refusal};
 ghost use Rattle.model.specs.Words.{liveIndex, process, mostProcesses};
 ghost use Rattle.model.specs.Steps.{forces};
 ghost use Rattle.model.specs.Sound.{sound};
-ghost use Rattle.verdicts.specs.declared.Verdict.the-variants.{Accepted};
+ghost use Rattle.admissions.specs.declared.Admission.the-variants.{Accepted};
 ghost use Rattle.whole_runs.specs.Outcomes.{deliverOutcome};
 ghost use Rattle.whole_runs.specs.Calls as made;
 ghost use Rattle.whole_runs.specs.WholeRuns.{StatePromise};
 ghost use Rattle.words.specs.Layout.{countOf, markIn, messageIn, runOf, stateSize};
 ghost use Rattle.message_words.specs.Places.{placeOf};
 ghost use Rattle.in_place.specs.Left.{Leaves};
-ghost use Rattle.in_place.specs.Storing.{storingVerdict};
+ghost use Rattle.in_place.specs.Storing.{storingAdmission};
 
 // What a deliver call answers. `rose` is the set of the receiver's entries that rose, bit f for entry f; 0 with a refusal.
 pub struct Delivered {
@@ -59,14 +59,14 @@ fn has_sent(w: &[u16], i: usize) -> bool
 }
 
 // Whether a delivery to process i is refused, and why. One that forces no checkpoint is not.
-fn forced_verdict(w: &[u16], i: usize, forced: bool) -> Verdict
+fn forced_admission(w: &[u16], i: usize, forced: bool) -> Admission
     requires { ⌜ (sound (runOf (now w)) ≡ true) × (i < countOf (now w)) ⌝ }
-    ensures { λ r. ⌜ r ≡ pick forced (storingVerdict (runOf (now (w .entry))) i) Accepted ⌝ }
+    ensures { λ r. ⌜ r ≡ pick forced (storingAdmission (runOf (now (w .entry))) i) Accepted ⌝ }
 {
     if forced {
-        return super::checkpoint::storing_verdict(w, i);
+        return super::checkpoint::storing_admission(w, i);
     }
-    Verdict::Accepted
+    Admission::Accepted
 }
 
 // The message in place k reaches its receiver i: a checkpoint is stored first, if one is forced, and then i takes the carried vector in.
@@ -79,7 +79,7 @@ fn take_from(
     deleted: &mut [u16],
 ) -> Delivered
     requires { ⌜ (sound (runOf (now w)) ≡ true) × (placeOf (now w) (messageIn (now w) k .number) ≡ suc k) × (2 * countOf (now w) * countOf (now w) ≤ length (now deleted)) ⌝ }
-    requires { ⌜ (i ≡ messageIn (now w) k .receiver) × (carried ≡ messageIn (now w) k .vector) × (forces (process (runOf (now w)) i) carried ≡ forced) × (Accepted ≡ pick forced (storingVerdict (runOf (now w)) i) Accepted) ⌝ }
+    requires { ⌜ (i ≡ messageIn (now w) k .receiver) × (carried ≡ messageIn (now w) k .vector) × (forces (process (runOf (now w)) i) carried ≡ forced) × (Accepted ≡ pick forced (storingAdmission (runOf (now w)) i) Accepted) ⌝ }
     ensures { λ r. ⌜ runOf (now (w .exit)) ≡ deliverOutcome (runOf (now (w .entry))) (messageIn (now (w .entry)) k .number) (now (deleted .entry)) .run ⌝ }
     ensures { λ r. ⌜ r .answer ≡ deliverOutcome (runOf (now (w .entry))) (messageIn (now (w .entry)) k .number) (now (deleted .entry)) .answer ⌝ }
     ensures { λ r. ⌜ r .rose ≡ deliverOutcome (runOf (now (w .entry))) (messageIn (now (w .entry)) k .number) (now (deleted .entry)) .rose ⌝ }
@@ -115,10 +115,10 @@ fn deliver_from(w: &mut [u16], k: usize, deleted: &mut [u16]) -> Delivered
         return Delivered { answer, rose: 0 };
     }
     let forced = has_sent(w, i);
-    let verdict = forced_verdict(w, i, forced);
-    match verdict {
-        Verdict::Refused(why) => refuse(why),
-        Verdict::Accepted => take_from(w, k, i, forced, carried, deleted),
+    let admission = forced_admission(w, i, forced);
+    match admission {
+        Admission::Refused(why) => refuse(why),
+        Admission::Accepted => take_from(w, k, i, forced, carried, deleted),
     }
 }
 
@@ -133,7 +133,7 @@ pub fn deliver_on(w: &mut [u16], m: u32, deleted: &mut [u16]) -> Delivered
     ensures { λ r. ⌜ Leaves (now (w .entry)) (now (w .exit)) ⌝ }
 {
     let n = w[places::COUNT] as usize;
-    let short = verdicts::are_deletions_short(deleted.len(), n);
+    let short = admissions::are_deletions_short(deleted.len(), n);
     if short {
         return refuse(Refusal::ListTooShort);
     }

@@ -3,7 +3,7 @@ use model::CheckpointIndex;
 use model::LineAnswer;
 use model::PROCESSES;
 use model::Refusal;
-use verdicts::Verdict;
+use admissions::Admission;
 use words::places;
 ghost use mathlib.Core.Path.{_≡_};
 ghost use mathlib.Core.Bool.{true};
@@ -60,14 +60,14 @@ pub fn line_on(w: &[u16], failed: u32, line: &mut [u16]) -> LineAnswer
     ensures { λ r. ⌜ now (line .exit) ≡ lineOutcome (runOf (now (w .entry))) failed (now (line .entry)) .line ⌝ }
 {
     let n = w[places::COUNT] as usize;
-    let short = verdicts::is_line_short(line.len(), n);
+    let short = admissions::is_line_short(line.len(), n);
     if short {
         return LineAnswer::Refused(Refusal::ListTooShort);
     }
-    let verdict = verdicts::recovery_verdict(failed, n);
-    match verdict {
-        Verdict::Refused(why) => LineAnswer::Refused(why),
-        Verdict::Accepted => line_within(w, n, failed, line),
+    let admission = admissions::recovery_admission(failed, n);
+    match admission {
+        Admission::Refused(why) => LineAnswer::Refused(why),
+        Admission::Accepted => line_within(w, n, failed, line),
     }
 }
 

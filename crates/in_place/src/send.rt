@@ -2,7 +2,7 @@
 use model::Message;
 use model::Refusal;
 use model::SendAnswer;
-use verdicts::Verdict;
+use admissions::Admission;
 use words::places;
 ghost use mathlib.Core.Path.{_≡_};
 ghost use mathlib.Core.Bool.{true};
@@ -52,10 +52,10 @@ pub fn send_on(w: &mut [u16], i: usize, j: usize) -> SendAnswer
     let n = w[places::COUNT] as usize;
     let many = w[places::UNDER_WAY] as usize;
     let last = words::wide2(w, places::LAST);
-    let verdict = verdicts::send_verdict(i, j, n, many, last);
-    match verdict {
-        Verdict::Refused(why) => SendAnswer::Refused(why),
-        Verdict::Accepted => {
+    let admission = admissions::send_admission(i, j, n, many, last);
+    match admission {
+        Admission::Refused(why) => SendAnswer::Refused(why),
+        Admission::Accepted => {
             let number = put_sent(w, i, j);
             SendAnswer::Sent(number)
         }

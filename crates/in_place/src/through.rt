@@ -43,7 +43,7 @@ pub fn earliest_on(w: &[u16], named: &[u32], line: &mut [u16]) -> LineAnswer
 {
     let n = w[places::COUNT] as usize;
     let m = line_words::through::pair_count(named.len());
-    let short = verdicts::is_line_short(line.len(), n);
+    let short = admissions::is_line_short(line.len(), n);
     if short {
         return LineAnswer::Refused(Refusal::ListTooShort);
     }

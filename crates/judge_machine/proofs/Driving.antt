@@ -13,11 +13,11 @@ use Rattle.machines.specs.Forms.{requestOf, goesOn, Leaves, Asks}
 use Rattle.machines.proofs.Runs.{reached-first, reached-next}
 use Rattle.machines.proofs.Places.{going-is, stopped-is, leaves-front}
 use Rattle.judge_machine.specs.Judging.{State, Reading, Stopped, ask, judging}
-use Rattle.judge_machine.specs.Words.{Roomy, inPhase, stateOf, placeOf, StandsFor}
+use Rattle.judge_machine.specs.Words.{EnoughRoom, inPhase, stateOf, placeOf, StandsFor}
 use Rattle.judge_machine.proofs.Ending.{left, judging-ends}
 
 pub record Driven (memory input out : List ℕ) (r : requests.Request) : Type 0 where
-  pub room : Roomy (length memory) (length input) (length out)
+  pub room : EnoughRoom (length memory) (length input) (length out)
   pub reached : Reached judging (stateOf memory input out)
   pub asks : Asks r (placeOf memory) input out (ask (stateOf memory input out))
 
@@ -26,14 +26,14 @@ state-kept : (memory input after out : List ℕ) → take (placeOf memory) after
 unfolding stateOf inPhase
 state-kept memory input after out front same = rw (same, front)
 
-stands-driven : (memory input out : List ℕ) (r : requests.Request) (s : State) → Roomy (length memory) (length input) (length out) → Reached judging s → StandsFor memory input out r s → Driven memory input out r
+stands-driven : (memory input out : List ℕ) (r : requests.Request) (s : State) → EnoughRoom (length memory) (length input) (length out) → Reached judging s → StandsFor memory input out r s → Driven memory input out r
 stands-driven memory input out r s room reached h = record {
   room = room;
   reached = subst (Reached judging) (sym (h .state)) reached;
   asks = subst (λ (x : State). Asks r (placeOf memory) input out (ask x)) (sym (h .state)) (h .asks);
 }
 
-pub driven-first : (memory input out : List ℕ) (r : requests.Request) → Roomy (length memory) (length input) (length out) → StandsFor memory input out r (Reading []) → Driven memory input out r
+pub driven-first : (memory input out : List ℕ) (r : requests.Request) → EnoughRoom (length memory) (length input) (length out) → StandsFor memory input out r (Reading []) → Driven memory input out r
 driven-first memory input out r room h = stands-driven memory input out r (Reading []) room (reached-first judging) h
 
 -- One request is obeyed, and its answer taken.
@@ -42,7 +42,7 @@ module _ (memory input out : List ℕ) (r : requests.Request) (h : Driven memory
   kept = let f = leaves-front r (placeOf memory) input input′ (h .asks .there) leaves in state-kept memory input input′ out (f .0) (f .1)
 
   module _ (memory′ out′ : List ℕ) (r′ : requests.Request) (a : Answer) (stands : StandsFor memory′ input′ out′ r′ (stepped judging (stateOf memory input′ out) a)) where
-    pub driven-next : Roomy (length memory′) (length input′) (length out′) → Driven memory′ input′ out′ r′
+    pub driven-next : EnoughRoom (length memory′) (length input′) (length out′) → Driven memory′ input′ out′ r′
     driven-next room =
         stands-driven memory′ input′ out′ r′ (stepped judging (stateOf memory input′ out) a) room
         (subst (λ (s : State). Reached judging (stepped judging s a)) (sym kept) (reached-next judging (stateOf memory input out) a (h .reached)))

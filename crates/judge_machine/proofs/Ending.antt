@@ -10,12 +10,12 @@ use lib.ListN.{length, length-append}
 use borrow.Author.Tests.{leb-true, leb-false}
 use Rattle.laws.specs.Choice.{pick, by-bool}
 use Rattle.machines.specs.Machines.{Request, Read, Stop, Answer, Number, Bytes, End, Done, Failed, heard, heardRead, heardDone, stepped, Ends}
-use Rattle.judge_machine.specs.Judging.{mostRead, settled, wanted, State, Reading, Telling, Failing, Stopped, ask, next, telling, onward, afterRead, afterWrite, judging}
+use Rattle.judge_machine.specs.Judging.{mostRead, settled, wanted, State, Reading, Printing, Failing, Stopped, ask, next, printing, onward, afterRead, afterWrite, judging}
 use Rattle.judge_machine.proofs.Stepping.{or-false}
 
 abbrev pub left : State → ℕ
 left (Reading trace) = mostRead - length trace + 3
-left (Telling line) = 2
+left (Printing line) = 2
 left (Failing name) = 1
 left Stopped = 0
 
@@ -59,14 +59,14 @@ write-falls Failed = omega arith
 pub falls : (s : State) (a : Answer) → (ask s ≡ Stop → ⊥) → left (stepped judging s a) < left s
 unfolding stepped ask next heard
 falls (Reading trace) a h = read-falls trace (wanted (length trace)) a
-falls (Telling line) a h = write-falls a
+falls (Printing line) a h = write-falls a
 falls (Failing name) a h = omega arith
 falls Stopped a h = absurd (h refl)
 
 pub stays : (s : State) (a : Answer) → ask s ≡ Stop → ask (stepped judging s a) ≡ Stop
 unfolding stepped ask next
 stays (Reading trace) a e = cc
-stays (Telling line) a e = cc
+stays (Printing line) a e = cc
 stays (Failing name) a e = cc
 stays Stopped a e = refl
 

@@ -14,16 +14,16 @@ use Rattle.machines.specs.declared.Request as requests
 use Rattle.machines.specs.declared.Request.the-variants as request
 use Rattle.machines.specs.Forms.{requestOf, Placed, GoesTo, Asks}
 use Rattle.judge_machine.specs.Text.{longestVerdict}
-use Rattle.judge_machine.specs.Judging.{mostRead, wanted, settled, State, Reading, Telling, Failing, Stopped, ask, telling, onward}
-use Rattle.judge_machine.specs.Words.{Roomy, lacksRoom, inPhase, stateOf, placeOf, StandsFor}
+use Rattle.judge_machine.specs.Judging.{mostRead, wanted, settled, State, Reading, Printing, Failing, Stopped, ask, printing, onward}
+use Rattle.judge_machine.specs.Words.{EnoughRoom, lacksRoom, inPhase, stateOf, placeOf, StandsFor}
 
 -- No more is asked for than there is room for.
-pub wanted-fits : (held : ℕ) → held ≤ mostRead → held + wanted held ≤ mostRead
+pub wanted-fits : (buffered : ℕ) → buffered ≤ mostRead → buffered + wanted buffered ≤ mostRead
 unfolding wanted
-wanted-fits held h = by-eq held 0 (λ e. rw (eq-eqb held 0 e) (omega arith)) (λ e. rw (ne-eqb held 0 e) (omega arith))
+wanted-fits buffered h = by-eq buffered 0 (λ e. rw (eq-eqb buffered 0 e) (omega arith)) (λ e. rw (ne-eqb buffered 0 e) (omega arith))
 
 -- Room, as a test and as a fact.
-pub room-is : (memory input out : ℕ) → Roomy memory input out → lacksRoom memory input out ≡ false
+pub room-is : (memory input out : ℕ) → EnoughRoom memory input out → lacksRoom memory input out ≡ false
 unfolding lacksRoom
 room-is memory input out (a, b, c) = rw (le-ltb memory 2 a, le-ltb input mostRead b, le-ltb out longestVerdict c)
 
@@ -31,9 +31,9 @@ pub phase-read : (count : ℕ) (input out : List ℕ) → count ≤ mostRead →
 unfolding inPhase
 phase-read count input out h = rw (le-leb count mostRead h)
 
-pub phase-told : (count : ℕ) (input out : List ℕ) → count ≤ length out → inPhase 1 count input out ≡ Telling (take count out)
+pub phase-printed : (count : ℕ) (input out : List ℕ) → count ≤ length out → inPhase 1 count input out ≡ Printing (take count out)
 unfolding inPhase
-phase-told count input out h = rw (le-leb count (length out) h)
+phase-printed count input out h = rw (le-leb count (length out) h)
 
 pub phase-failed : (count : ℕ) (input out : List ℕ) → count ≤ length out → inPhase 2 count input out ≡ Failing (take count out)
 unfolding inPhase
@@ -44,7 +44,7 @@ unfolding inPhase
 phase-over count input out = refl
 
 module _ (memory input out : List ℕ) where
-  pub state-in : Roomy (length memory) (length input) (length out) → stateOf memory input out ≡ inPhase (getD memory 0 0) (getD memory 1 0) input out
+  pub state-in : EnoughRoom (length memory) (length input) (length out) → stateOf memory input out ≡ inPhase (getD memory 0 0) (getD memory 1 0) input out
   unfolding stateOf
   state-in room = rw (room-is (length memory) (length input) (length out) room)
 
@@ -62,29 +62,29 @@ module _ (memory : List ℕ) (phase count : ℕ) (two : 2 ≤ length memory) whe
   pub put-length : length putIn ≡ length memory
   put-length = length-set (set memory 0 phase) 1 count ∙ length-set memory 0 phase
 
-  module _ (input out : List ℕ) (room : Roomy (length memory) (length input) (length out)) where
+  module _ (input out : List ℕ) (room : EnoughRoom (length memory) (length input) (length out)) where
     pub state-put : stateOf putIn input out ≡ inPhase phase count input out
     state-put =
         state-in putIn input out (omega (arith, put-length), room .1, room .2)
         ∙ ap (λ (p : ℕ). inPhase p (getD putIn 1 0) input out) put-phase
         ∙ ap (λ (k : ℕ). inPhase phase k input out) put-count
 
-module _ (memory input out : List ℕ) (room : Roomy (length memory) (length input) (length out)) where
-  pub reading-stands : (held : ℕ) → held ≤ mostRead → StandsFor (set (set memory 0 0) 1 held) input out (request.Read held (wanted held)) (Reading (take held input))
+module _ (memory input out : List ℕ) (room : EnoughRoom (length memory) (length input) (length out)) where
+  pub reading-stands : (buffered : ℕ) → buffered ≤ mostRead → StandsFor (set (set memory 0 0) 1 buffered) input out (request.Read buffered (wanted buffered)) (Reading (take buffered input))
   unfolding requestOf Placed GoesTo ask
-  reading-stands held h = record {
-    state = state-put memory 0 held (room .0) input out room ∙ phase-read held input out h;
+  reading-stands buffered h = record {
+    state = state-put memory 0 buffered (room .0) input out room ∙ phase-read buffered input out h;
     asks = record {
-      stands = rw (length-take-le held input (omega (arith, h, room .1)));
-      inside = omega (arith, wanted-fits held h, room .1);
-      there = sym (put-count memory 0 held (room .0));
+      stands = rw (length-take-le buffered input (omega (arith, h, room .1)));
+      inside = omega (arith, wanted-fits buffered h, room .1);
+      there = sym (put-count memory 0 buffered (room .0));
     };
   }
 
-  pub telling-stands : (size : ℕ) (line : List ℕ) → size ≤ length out → take size out ≡ line → StandsFor (set (set memory 0 1) 1 size) input out (request.Write size) (Telling line)
+  pub printing-stands : (size : ℕ) (line : List ℕ) → size ≤ length out → take size out ≡ line → StandsFor (set (set memory 0 1) 1 size) input out (request.Write size) (Printing line)
   unfolding requestOf Placed GoesTo ask
-  telling-stands size line h e = record {
-    state = state-put memory 1 size (room .0) input out room ∙ phase-told size input out h ∙ ap Telling e;
+  printing-stands size line h e = record {
+    state = state-put memory 1 size (room .0) input out room ∙ phase-printed size input out h ∙ ap Printing e;
     asks = record { stands = rw e; inside = h; there = tt };
   }
 
@@ -113,14 +113,14 @@ stopped-stands memory two input out = record {
 }
 
 -- The same of numbers that are known to be these.
-module _ (memory after input out : List ℕ) (room : Roomy (length memory) (length input) (length out)) where
-  pub reading-after : (held most : ℕ) → after ≡ set (set memory 0 0) 1 held → most ≡ wanted held → held ≤ mostRead
-      → StandsFor after input out (request.Read held most) (Reading (take held input))
-  reading-after held most e f h = rw (e, f) (reading-stands memory input out room held h)
+module _ (memory after input out : List ℕ) (room : EnoughRoom (length memory) (length input) (length out)) where
+  pub reading-after : (buffered most : ℕ) → after ≡ set (set memory 0 0) 1 buffered → most ≡ wanted buffered → buffered ≤ mostRead
+      → StandsFor after input out (request.Read buffered most) (Reading (take buffered input))
+  reading-after buffered most e f h = rw (e, f) (reading-stands memory input out room buffered h)
 
-  pub telling-after : (size : ℕ) (line : List ℕ) → after ≡ set (set memory 0 1) 1 size → size ≤ length out → take size out ≡ line
-      → StandsFor after input out (request.Write size) (Telling line)
-  telling-after size line e h f = rw e (telling-stands memory input out room size line h f)
+  pub printing-after : (size : ℕ) (line : List ℕ) → after ≡ set (set memory 0 1) 1 size → size ≤ length out → take size out ≡ line
+      → StandsFor after input out (request.Write size) (Printing line)
+  printing-after size line e h f = rw e (printing-stands memory input out room size line h f)
 
   pub failing-after : (size : ℕ) (name : List ℕ) → after ≡ set (set memory 0 2) 1 size → size ≤ length out → take size out ≡ name
       → StandsFor after input out (request.Fail size) (Failing name)
@@ -130,13 +130,13 @@ pub stopped-after : (memory after : List ℕ) → after ≡ set (set memory 0 3)
 stopped-after memory after e two input out = rw e (stopped-stands memory two input out)
 
 -- The verdict is settled, by the tests of the code.
-module _ (input : List ℕ) (held : ℕ) (fits : held ≤ length input) where
-  pub settled-none : held ≡ 0 → false ≡ settled (take held input)
+module _ (input : List ℕ) (buffered : ℕ) (fits : buffered ≤ length input) where
+  pub settled-none : buffered ≡ 0 → false ≡ settled (take buffered input)
   unfolding settled
   settled-none e = rw e
 
-  front : 1 ≤ held → take held input ≡ getD input 0 0 ∷ take (held - 1) (drop 1 input)
-  front h = ap (λ (k : ℕ). take k input) (sym (up held h)) ∙ take-front (held - 1) input (omega arith)
+  front : 1 ≤ buffered → take buffered input ≡ getD input 0 0 ∷ take (buffered - 1) (drop 1 input)
+  front h = ap (λ (k : ℕ). take k input) (sym (up buffered h)) ∙ take-front (buffered - 1) input (omega arith)
     where
       up : (k : ℕ) → 1 ≤ k → suc (k - 1) ≡ k
       up zero h = absurd (omega arith)
@@ -146,26 +146,26 @@ module _ (input : List ℕ) (held : ℕ) (fits : held ≤ length input) where
       take-front k [] h = absurd (omega arith)
       take-front k (x ∷ l) h = refl
 
-  many : 1 ≤ held → length (getD input 0 0 ∷ take (held - 1) (drop 1 input)) ≡ held
-  many h = ap length (sym (front h)) ∙ length-take-le held input fits
+  many : 1 ≤ buffered → length (getD input 0 0 ∷ take (buffered - 1) (drop 1 input)) ≡ buffered
+  many h = ap length (sym (front h)) ∙ length-take-le buffered input fits
 
-  pub settled-low : 1 ≤ held → getD input 0 0 < 1 → true ≡ settled (take held input)
+  pub settled-low : 1 ≤ buffered → getD input 0 0 < 1 → true ≡ settled (take buffered input)
   unfolding settled
   settled-low h low = rw (front h, lt-ltb (getD input 0 0) 1 low)
 
-  pub settled-high : 1 ≤ held → 1 ≤ getD input 0 0 → 16 < getD input 0 0 → true ≡ settled (take held input)
+  pub settled-high : 1 ≤ buffered → 1 ≤ getD input 0 0 → 16 < getD input 0 0 → true ≡ settled (take buffered input)
   unfolding settled
   settled-high h low high = rw (front h, le-ltb (getD input 0 0) 1 low, lt-ltb 16 (getD input 0 0) high)
 
-  pub settled-long : 1 ≤ held → 1 ≤ getD input 0 0 → getD input 0 0 ≤ 16 → leb mostRead held ≡ settled (take held input)
+  pub settled-long : 1 ≤ buffered → 1 ≤ getD input 0 0 → getD input 0 0 ≤ 16 → leb mostRead buffered ≡ settled (take buffered input)
   unfolding settled
   settled-long h low high = rw (front h, le-ltb (getD input 0 0) 1 low, le-ltb 16 (getD input 0 0) high) (ap (leb mostRead) (sym (many h)))
 
 -- What follows on bytes that were read, by whether they settle the verdict.
 module _ (memory input out : List ℕ) (r : requests.Request) (trace : List ℕ) where
-  pub onward-told : {b : Bool} → b ≡ settled trace → b ≡ true → StandsFor memory input out r (telling trace) → StandsFor memory input out r (onward trace)
+  pub onward-printed : {b : Bool} → b ≡ settled trace → b ≡ true → StandsFor memory input out r (printing trace) → StandsFor memory input out r (onward trace)
   unfolding onward
-  onward-told e t h = rw (sym e ∙ t) h
+  onward-printed e t h = rw (sym e ∙ t) h
 
   pub onward-read : {b : Bool} → b ≡ settled trace → b ≡ false → StandsFor memory input out r (Reading trace) → StandsFor memory input out r (onward trace)
   unfolding onward

@@ -18,47 +18,47 @@ use Rattle.machines.specs.declared.heard.Taken.the-variants as taken
 use Rattle.machines.specs.Machines.{Answer, Done, Failed, heard, heardRead, heardDone, stepped}
 use Rattle.machines.specs.Forms.{answerOf, takenOf, Between, requestOf, Placed, GoesTo}
 use Rattle.judge_machine.specs.Text.{longestVerdict}
-use Rattle.judge_machine.specs.Judging.{mostRead, wanted, State, Reading, Telling, Failing, Stopped, inputName, outputName, ask, next, telling, onward, afterRead, afterWrite, judging}
-use Rattle.judge_machine.specs.Words.{Roomy, lacksRoom, inPhase, stateOf, placeOf, StandsFor}
-use Rattle.judge_machine.proofs.Standing.{wanted-fits, state-in, phase-read, phase-told}
+use Rattle.judge_machine.specs.Judging.{mostRead, wanted, State, Reading, Printing, Failing, Stopped, inputName, outputName, ask, next, printing, onward, afterRead, afterWrite, judging}
+use Rattle.judge_machine.specs.Words.{EnoughRoom, lacksRoom, inPhase, stateOf, placeOf, StandsFor}
+use Rattle.judge_machine.proofs.Standing.{wanted-fits, state-in, phase-read, phase-printed}
 
 -- What an answer to a read comes to.
-module _ (input : List ℕ) (held : ℕ) (fits : held ≤ mostRead) (long : mostRead ≤ length input) (a : answers.Answer) (most : ℕ) (asks : most ≡ wanted held) where
+module _ (input : List ℕ) (buffered : ℕ) (fits : buffered ≤ mostRead) (long : mostRead ≤ length input) (a : answers.Answer) (most : ℕ) (asks : most ≡ wanted buffered) where
   abbrev HeardAs : takens.Taken → Type 0
   HeardAs t = ((at : ℕ) (l : List ℕ) → at + most ≤ length l → heardRead most (answerOf a at l) ≡ takenOf t at l) × Between t 1 most
 
   abbrev Led : State
-  Led = stepped judging (Reading (take held input)) (answerOf a held input)
+  Led = stepped judging (Reading (take buffered input)) (answerOf a buffered input)
 
-  led : (t : takens.Taken) → HeardAs t → Led ≡ afterRead (take held input) (takenOf t held input)
+  led : (t : takens.Taken) → HeardAs t → Led ≡ afterRead (take buffered input) (takenOf t buffered input)
   unfolding stepped ask next heard
   led t h =
-      rw (length-take-le held input (omega (arith, fits, long)), sym asks)
-      (ap (afterRead (take held input)) (h .0 held input (omega (arith, wanted-fits held fits, asks, long))))
+      rw (length-take-le buffered input (omega (arith, fits, long)), sym asks)
+      (ap (afterRead (take buffered input)) (h .0 buffered input (omega (arith, wanted-fits buffered fits, asks, long))))
 
-  pub brought-fits : (t : takens.Taken) (size : ℕ) → HeardAs t → t ≡ taken.Brought size → held + size ≤ mostRead
+  pub brought-fits : (t : takens.Taken) (size : ℕ) → HeardAs t → t ≡ taken.Brought size → buffered + size ≤ mostRead
   unfolding Between
-  brought-fits t size h e = let b : Between (taken.Brought size) 1 most = rw e at (h .1) in omega (arith, b .1, wanted-fits held fits, asks)
+  brought-fits t size h e = let b : Between (taken.Brought size) 1 most = rw e at (h .1) in omega (arith, b .1, wanted-fits buffered fits, asks)
 
-  pub led-onward : (t : takens.Taken) (size : ℕ) → HeardAs t → t ≡ taken.Brought size → Led ≡ onward (take (held + size) input)
+  pub led-onward : (t : takens.Taken) (size : ℕ) → HeardAs t → t ≡ taken.Brought size → Led ≡ onward (take (buffered + size) input)
   unfolding takenOf afterRead
-  led-onward t size h e = led t h ∙ ap (λ (x : takens.Taken). afterRead (take held input) (takenOf x held input)) e ∙ ap onward (sym (take-add held size input))
+  led-onward t size h e = led t h ∙ ap (λ (x : takens.Taken). afterRead (take buffered input) (takenOf x buffered input)) e ∙ ap onward (sym (take-add buffered size input))
 
-  pub led-end : (t : takens.Taken) → HeardAs t → t ≡ taken.Ended → Led ≡ telling (take held input)
+  pub led-end : (t : takens.Taken) → HeardAs t → t ≡ taken.Ended → Led ≡ printing (take buffered input)
   unfolding takenOf afterRead
-  led-end t h e = led t h ∙ ap (λ (x : takens.Taken). afterRead (take held input) (takenOf x held input)) e
+  led-end t h e = led t h ∙ ap (λ (x : takens.Taken). afterRead (take buffered input) (takenOf x buffered input)) e
 
   pub led-failed : (t : takens.Taken) → HeardAs t → t ≡ taken.Failed → Led ≡ Failing inputName
   unfolding takenOf afterRead
-  led-failed t h e = led t h ∙ ap (λ (x : takens.Taken). afterRead (take held input) (takenOf x held input)) e
+  led-failed t h e = led t h ∙ ap (λ (x : takens.Taken). afterRead (take buffered input) (takenOf x buffered input)) e
 
 -- What an answer to a write comes to.
 module _ (line : List ℕ) (a : Answer) (b : Bool) (h : heardDone a ≡ pick b Done Failed) where
-  pub led-written : b ≡ true → stepped judging (Telling line) a ≡ Stopped
+  pub led-written : b ≡ true → stepped judging (Printing line) a ≡ Stopped
   unfolding stepped ask next heard afterWrite
   led-written e = ap afterWrite (h ∙ ap (λ (x : Bool). pick x Done Failed) e)
 
-  pub led-unwritten : b ≡ false → stepped judging (Telling line) a ≡ Failing outputName
+  pub led-unwritten : b ≡ false → stepped judging (Printing line) a ≡ Failing outputName
   unfolding stepped ask next heard afterWrite
   led-unwritten e = ap afterWrite (h ∙ ap (λ (x : Bool). pick x Done Failed) e)
 
@@ -94,26 +94,26 @@ module _ (memory input out : List ℕ) where
         asks = record { stands = refl; inside = tt; there = tt };
       })
 
-  module _ (room : Roomy (length memory) (length input) (length out)) where
+  module _ (room : EnoughRoom (length memory) (length input) (length out)) where
     pub is-reading : phase ≡ 0 → count ≤ mostRead → stateOf memory input out ≡ Reading (take count input)
     is-reading e h = state-in memory input out room ∙ ap (λ (p : ℕ). inPhase p count input out) e ∙ phase-read count input out h
 
-    pub is-telling : phase ≡ 1 → count ≤ length out → stateOf memory input out ≡ Telling (take count out)
-    is-telling e h = state-in memory input out room ∙ ap (λ (p : ℕ). inPhase p count input out) e ∙ phase-told count input out h
+    pub is-printing : phase ≡ 1 → count ≤ length out → stateOf memory input out ≡ Printing (take count out)
+    is-printing e h = state-in memory input out room ∙ ap (λ (p : ℕ). inPhase p count input out) e ∙ phase-printed count input out h
 
     far-read : mostRead < count → inPhase 0 count input out ≡ Stopped
     unfolding inPhase
     far-read h = rw (lt-leb count mostRead h)
 
-    far-told : length out < count → inPhase 1 count input out ≡ Stopped
+    far-printed : length out < count → inPhase 1 count input out ≡ Stopped
     unfolding inPhase
-    far-told h = rw (lt-leb count (length out) h)
+    far-printed h = rw (lt-leb count (length out) h)
 
     pub read-too-far : (a : Answer) → phase ≡ 0 → mostRead < count → stepped judging (stateOf memory input out) a ≡ Stopped
     read-too-far a e h = stays _ a (state-in memory input out room ∙ ap (λ (p : ℕ). inPhase p count input out) e ∙ far-read h)
 
-    pub told-too-far : (a : Answer) → phase ≡ 1 → length out < count → stepped judging (stateOf memory input out) a ≡ Stopped
-    told-too-far a e h = stays _ a (state-in memory input out room ∙ ap (λ (p : ℕ). inPhase p count input out) e ∙ far-told h)
+    pub printed-too-far : (a : Answer) → phase ≡ 1 → length out < count → stepped judging (stateOf memory input out) a ≡ Stopped
+    printed-too-far a e h = stays _ a (state-in memory input out room ∙ ap (λ (p : ℕ). inPhase p count input out) e ∙ far-printed h)
 
     pub then-stops : (a : Answer) → (phase ≡ 0 → ⊥) → (phase ≡ 1 → ⊥) → stepped judging (stateOf memory input out) a ≡ Stopped
     unfolding stepped next inPhase
@@ -128,7 +128,7 @@ pub or-false : (a b : Bool) → a || b ≡ false → (a ≡ false) × (b ≡ fal
 or-false true b e = absurd (let z : _≡_ {A = ℕ} 0 1 = cc in omega arith)
 or-false false b e = (refl, e)
 
-pub room-by : (memory input out : ℕ) → lacksRoom memory input out ≡ false → Roomy memory input out
+pub room-by : (memory input out : ℕ) → lacksRoom memory input out ≡ false → EnoughRoom memory input out
 unfolding lacksRoom
 room-by memory input out e =
     let a = or-false (ltb memory 2) (ltb input mostRead || ltb out longestVerdict) e in

@@ -8,21 +8,21 @@ use native.Mathlib.Omega.{arith}
 use lib.Dec.{ltb, leb}
 use lib.ListN.{length}
 use Rattle.laws.specs.Choice.{pick, by-bool}
-use Rattle.machines.specs.Machines.{Request, Count, Argument, Open, Read, Write, Say, Fail, Stop, Answer, Number, Bytes, End, Done, Failed, Machine, Exchange, heard, heardRead, heardDone, stepped, exchanged, stateAfter, exchanges, asked, written, said, writtenOf, saidOf, brought, readBy, readOf, requestsOf}
-use Rattle.machines.proofs.Runs.{throughout, read-next, written-next, said-next, written-is, said-is, stops}
+use Rattle.machines.specs.Machines.{Request, Count, Argument, Open, Read, Write, Say, Fail, Stop, Answer, Number, Bytes, End, Done, Failed, Machine, Exchange, heard, heardRead, heardDone, stepped, exchanged, stateAfter, exchanges, asked, written, errorText, writtenOf, errorTextOf, brought, readBy, readOf, requestsOf}
+use Rattle.machines.proofs.Runs.{throughout, read-next, written-next, error-text-next, written-is, error-text-is, stops}
 use Rattle.patterns.specs.Verdicts.{verdict}
 use Rattle.judge_machine.specs.Text.{verdictText}
-use Rattle.judge_machine.specs.Judging.{mostRead, settled, inputName, outputName, wanted, State, Reading, Telling, Failing, Stopped, ask, next, telling, onward, afterRead, afterWrite, judging, isEnd, endMet, isWhole, failure, failures, Judges, JudgesAlways}
+use Rattle.judge_machine.specs.Judging.{mostRead, settled, inputName, outputName, wanted, State, Reading, Printing, Failing, Stopped, ask, next, printing, onward, afterRead, afterWrite, judging, isEnd, endMet, isWhole, failure, failures, Judges, JudgesAlways}
 use Rattle.judge_machine.proofs.Standing.{wanted-fits}
 use Rattle.judge_machine.proofs.Ending.{unsettled-short, judging-ends}
 
-abbrev told : List Exchange → List ℕ
-told talk = pick (isWhole talk) (verdictText (verdict (readOf talk))) []
+abbrev printedIn : List Exchange → List ℕ
+printedIn talk = pick (isWhole talk) (verdictText (verdict (readOf talk))) []
 
 -- Nothing is written or reported so far, and nothing failed.
 record Quiet (talk : List Exchange) : Type 0 where
   silent : writtenOf (requestsOf talk) ≡ []
-  mute : saidOf (requestsOf talk) ≡ []
+  mute : errorTextOf (requestsOf talk) ≡ []
   fine : failures talk ≡ []
 
 record InReading (trace : List ℕ) (talk : List Exchange) : Type 0 where
@@ -31,23 +31,23 @@ record InReading (trace : List ℕ) (talk : List Exchange) : Type 0 where
   unended : endMet talk ≡ false
   quiet : Quiet talk
 
-record InTelling (line : List ℕ) (talk : List Exchange) : Type 0 where
+record InPrinting (line : List ℕ) (talk : List Exchange) : Type 0 where
   whole : isWhole talk ≡ true
   right : line ≡ verdictText (verdict (readOf talk))
   quiet : Quiet talk
 
 record InFailing (name : List ℕ) (talk : List Exchange) : Type 0 where
   why : failures talk ≡ name
-  mute : saidOf (requestsOf talk) ≡ []
-  right : writtenOf (requestsOf talk) ≡ told talk
+  mute : errorTextOf (requestsOf talk) ≡ []
+  right : writtenOf (requestsOf talk) ≡ printedIn talk
 
 record InStopped (talk : List Exchange) : Type 0 where
-  why : saidOf (requestsOf talk) ≡ failures talk
-  right : writtenOf (requestsOf talk) ≡ told talk
+  why : errorTextOf (requestsOf talk) ≡ failures talk
+  right : writtenOf (requestsOf talk) ≡ printedIn talk
 
 abbrev Holds : State → List Exchange → Type 0
 Holds (Reading trace) talk = InReading trace talk
-Holds (Telling line) talk = InTelling line talk
+Holds (Printing line) talk = InPrinting line talk
 Holds (Failing name) talk = InFailing name talk
 Holds Stopped talk = InStopped talk
 
@@ -89,8 +89,8 @@ module _ (talk : List Exchange) (r : Request) (a : Answer) where
   writes : writtenOf (requestsOf more) ≡ writtenOf (requestsOf talk) ++ written r
   writes = written-next talk (record { request = r; answer = a })
 
-  tells : saidOf (requestsOf more) ≡ saidOf (requestsOf talk) ++ said r
-  tells = said-next talk (record { request = r; answer = a })
+  tells : errorTextOf (requestsOf more) ≡ errorTextOf (requestsOf talk) ++ errorText r
+  tells = error-text-next talk (record { request = r; answer = a })
 
   -- An exchange that reads nothing leaves what was read, and whether that is all.
   module _ (none : readBy r a ≡ []) (on : isEnd a ≡ false) where
@@ -103,13 +103,13 @@ module _ (talk : List Exchange) (r : Request) (a : Answer) where
     same-whole : isWhole more ≡ isWhole talk
     same-whole = ap (λ (b : Bool). b || settled (readOf more)) same-end ∙ ap (λ (l : List ℕ). endMet talk || settled l) same-read
 
-    same-told : told more ≡ told talk
-    same-told = ap (λ (b : Bool). pick b (verdictText (verdict (readOf more))) []) same-whole ∙ ap (λ (l : List ℕ). pick (isWhole talk) (verdictText (verdict l)) []) same-read
+    same-printed : printedIn more ≡ printedIn talk
+    same-printed = ap (λ (b : Bool). pick b (verdictText (verdict (readOf more))) []) same-whole ∙ ap (λ (l : List ℕ). pick (isWhole talk) (verdictText (verdict l)) []) same-read
 
 -- From a state in which bytes are read.
 module _ (trace : List ℕ) (talk : List Exchange) (most : ℕ) (h : InReading trace talk) where
   quiet-read : (a : Answer) → failure (Read most) a ≡ [] → Quiet (more talk (Read most) a)
-  unfolding written said
+  unfolding written errorText
   quiet-read a f = record {
     silent = writes talk (Read most) a ∙ ap (λ (x : List ℕ). x ++ []) (h .quiet .silent);
     mute = tells talk (Read most) a ∙ ap (λ (x : List ℕ). x ++ []) (h .quiet .mute);
@@ -117,17 +117,17 @@ module _ (trace : List ℕ) (talk : List Exchange) (most : ℕ) (h : InReading t
   }
 
   failed-read : InFailing inputName (more talk (Read most) Failed)
-  unfolding written said failure readBy brought isEnd
+  unfolding written errorText failure readBy brought isEnd
   failed-read = record {
     why = failures-next talk (Read most) Failed ∙ ap (λ (x : List ℕ). x ++ inputName) (h .quiet .fine);
     mute = tells talk (Read most) Failed ∙ ap (λ (x : List ℕ). x ++ []) (h .quiet .mute);
     right =
         writes talk (Read most) Failed
         ∙ ap (λ (x : List ℕ). x ++ []) (h .quiet .silent)
-        ∙ sym (same-told talk (Read most) Failed refl refl ∙ rw (h .unended, h .all, h .unsettled));
+        ∙ sym (same-printed talk (Read most) Failed refl refl ∙ rw (h .unended, h .all, h .unsettled));
   }
 
-  ended-read : InTelling (verdictText (verdict trace)) (more talk (Read most) End)
+  ended-read : InPrinting (verdictText (verdict trace)) (more talk (Read most) End)
   unfolding readBy brought isEnd failure
   ended-read = record {
     whole = rw (end-next talk (Read most) End, h .unended);
@@ -148,7 +148,7 @@ module _ (trace : List ℕ) (talk : List Exchange) (most : ℕ) (h : InReading t
     quiet = quiet-read (Bytes bytes) refl;
   }
 
-  settled-read : (bytes : List ℕ) → settled (trace ++ bytes) ≡ true → InTelling (verdictText (verdict (trace ++ bytes))) (more talk (Read most) (Bytes bytes))
+  settled-read : (bytes : List ℕ) → settled (trace ++ bytes) ≡ true → InPrinting (verdictText (verdict (trace ++ bytes))) (more talk (Read most) (Bytes bytes))
   unfolding isEnd failure
   settled-read bytes e = record {
     whole = rw (end-next talk (Read most) (Bytes bytes), h .unended, brought-read bytes, e);
@@ -169,31 +169,31 @@ module _ (trace : List ℕ) (talk : List Exchange) (most : ℕ) (h : InReading t
   after-read Failed = failed-read
 
 -- From a state in which the line is written.
-module _ (line : List ℕ) (talk : List Exchange) (h : InTelling line talk) where
-  line-told : line ≡ told talk
-  line-told = h .right ∙ sym (ap (λ (b : Bool). pick b (verdictText (verdict (readOf talk))) []) (h .whole))
+module _ (line : List ℕ) (talk : List Exchange) (h : InPrinting line talk) where
+  line-printed : line ≡ printedIn talk
+  line-printed = h .right ∙ sym (ap (λ (b : Bool). pick b (verdictText (verdict (readOf talk))) []) (h .whole))
 
-  written-line : (a : Answer) → isEnd a ≡ false → writtenOf (requestsOf (more talk (Write line) a)) ≡ told (more talk (Write line) a)
+  written-line : (a : Answer) → isEnd a ≡ false → writtenOf (requestsOf (more talk (Write line) a)) ≡ printedIn (more talk (Write line) a)
   unfolding written readBy
   written-line a on =
-      writes talk (Write line) a ∙ ap (λ (x : List ℕ). x ++ line) (h .quiet .silent) ∙ line-told ∙ sym (same-told talk (Write line) a refl on)
+      writes talk (Write line) a ∙ ap (λ (x : List ℕ). x ++ line) (h .quiet .silent) ∙ line-printed ∙ sym (same-printed talk (Write line) a refl on)
 
-  said-none : (a : Answer) → saidOf (requestsOf (more talk (Write line) a)) ≡ []
-  unfolding said
-  said-none a = tells talk (Write line) a ∙ ap (λ (x : List ℕ). x ++ []) (h .quiet .mute)
+  error-text-none : (a : Answer) → errorTextOf (requestsOf (more talk (Write line) a)) ≡ []
+  unfolding errorText
+  error-text-none a = tells talk (Write line) a ∙ ap (λ (x : List ℕ). x ++ []) (h .quiet .mute)
 
   failed-write : InFailing outputName (more talk (Write line) Failed)
   unfolding failure isEnd
   failed-write = record {
     why = failures-next talk (Write line) Failed ∙ ap (λ (x : List ℕ). x ++ outputName) (h .quiet .fine);
-    mute = said-none Failed;
+    mute = error-text-none Failed;
     right = written-line Failed refl;
   }
 
   done-write : InStopped (more talk (Write line) Done)
   unfolding failure isEnd
   done-write = record {
-    why = said-none Done ∙ sym (failures-next talk (Write line) Done ∙ ap (λ (x : List ℕ). x ++ []) (h .quiet .fine));
+    why = error-text-none Done ∙ sym (failures-next talk (Write line) Done ∙ ap (λ (x : List ℕ). x ++ []) (h .quiet .fine));
     right = written-line Done refl;
   }
 
@@ -207,52 +207,52 @@ module _ (line : List ℕ) (talk : List Exchange) (h : InTelling line talk) wher
 
 -- What failed is reported; then nothing more.
 after-fail : (name : List ℕ) (talk : List Exchange) → InFailing name talk → InStopped (more talk (Fail name) Done)
-unfolding written said failure readBy isEnd
+unfolding written errorText failure readBy isEnd
 after-fail name talk h = record {
   why =
       tells talk (Fail name) Done
       ∙ ap (λ (x : List ℕ). x ++ name) (h .mute)
       ∙ sym (failures-next talk (Fail name) Done ∙ append-nil (failures talk) ∙ h .why);
-  right = writes talk (Fail name) Done ∙ append-nil (writtenOf (requestsOf talk)) ∙ h .right ∙ sym (same-told talk (Fail name) Done refl refl);
+  right = writes talk (Fail name) Done ∙ append-nil (writtenOf (requestsOf talk)) ∙ h .right ∙ sym (same-printed talk (Fail name) Done refl refl);
 }
 
 after-stop : (talk : List Exchange) → InStopped talk → InStopped (more talk Stop Failed)
-unfolding written said failure readBy isEnd
+unfolding written errorText failure readBy isEnd
 after-stop talk h = record {
-  why = tells talk Stop Failed ∙ append-nil (saidOf (requestsOf talk)) ∙ h .why ∙ sym (failures-next talk Stop Failed ∙ append-nil (failures talk));
-  right = writes talk Stop Failed ∙ append-nil (writtenOf (requestsOf talk)) ∙ h .right ∙ sym (same-told talk Stop Failed refl refl);
+  why = tells talk Stop Failed ∙ append-nil (errorTextOf (requestsOf talk)) ∙ h .why ∙ sym (failures-next talk Stop Failed ∙ append-nil (failures talk));
+  right = writes talk Stop Failed ∙ append-nil (writtenOf (requestsOf talk)) ∙ h .right ∙ sym (same-printed talk Stop Failed refl refl);
 }
 
 -- So every answer keeps what holds,
 holds-on : (s : State) (talk : List Exchange) (a : Answer) → Holds s talk → Holds (stepped judging s a) (talk ++ (exchanged judging s a ∷ []))
 unfolding stepped ask next heard
 holds-on (Reading trace) talk a h = after-read trace talk (wanted (length trace)) h a
-holds-on (Telling line) talk a h = after-write line talk h a
+holds-on (Printing line) talk a h = after-write line talk h a
 holds-on (Failing name) talk a h = after-fail name talk h
 holds-on Stopped talk a h = after-stop talk h
 
 -- and it holds before the first.
 at-first : Holds (Reading []) []
-unfolding settled endMet failures readOf requestsOf writtenOf saidOf
+unfolding settled endMet failures readOf requestsOf writtenOf errorTextOf
 at-first = record { all = refl; unsettled = refl; unended = refl; quiet = record { silent = refl; mute = refl; fine = refl } }
 
 always : (answers : List Answer) → Holds (stateAfter judging answers) (exchanges judging answers)
 always answers = throughout judging Holds holds-on at-first answers
 
 -- What follows in each state.
-tells-in : (s : State) (talk : List Exchange) → Holds s talk → writtenOf (requestsOf talk) ++ written (ask s) ≡ told talk
+tells-in : (s : State) (talk : List Exchange) → Holds s talk → writtenOf (requestsOf talk) ++ written (ask s) ≡ printedIn talk
 unfolding written ask
 tells-in (Reading trace) talk h = append-nil (writtenOf (requestsOf talk)) ∙ h .quiet .silent ∙ sym (rw (h .unended, h .all, h .unsettled))
-tells-in (Telling line) talk h = ap (λ (x : List ℕ). x ++ line) (h .quiet .silent) ∙ line-told line talk h
+tells-in (Printing line) talk h = ap (λ (x : List ℕ). x ++ line) (h .quiet .silent) ∙ line-printed line talk h
 tells-in (Failing name) talk h = append-nil (writtenOf (requestsOf talk)) ∙ h .right
 tells-in Stopped talk h = append-nil (writtenOf (requestsOf talk)) ∙ h .right
 
-says-in : (s : State) (talk : List Exchange) → Holds s talk → saidOf (requestsOf talk) ++ said (ask s) ≡ failures talk
-unfolding said ask
-says-in (Reading trace) talk h = append-nil (saidOf (requestsOf talk)) ∙ h .quiet .mute ∙ sym (h .quiet .fine)
-says-in (Telling line) talk h = append-nil (saidOf (requestsOf talk)) ∙ h .quiet .mute ∙ sym (h .quiet .fine)
+says-in : (s : State) (talk : List Exchange) → Holds s talk → errorTextOf (requestsOf talk) ++ errorText (ask s) ≡ failures talk
+unfolding errorText ask
+says-in (Reading trace) talk h = append-nil (errorTextOf (requestsOf talk)) ∙ h .quiet .mute ∙ sym (h .quiet .fine)
+says-in (Printing line) talk h = append-nil (errorTextOf (requestsOf talk)) ∙ h .quiet .mute ∙ sym (h .quiet .fine)
 says-in (Failing name) talk h = ap (λ (x : List ℕ). x ++ name) (h .mute) ∙ sym (h .why)
-says-in Stopped talk h = append-nil (saidOf (requestsOf talk)) ∙ h .why
+says-in Stopped talk h = append-nil (errorTextOf (requestsOf talk)) ∙ h .why
 
 same-most : (n most : ℕ) → Read n ≡ Read most → n ≡ most
 same-most n most e = cc
@@ -268,7 +268,7 @@ reads-in (Reading trace) talk most h e = (
   where
     fits : {a b : ℕ} → a < b → a ≤ b
     fits h = omega arith
-reads-in (Telling line) talk most h e = absurd (let z : _≡_ {A = ℕ} 0 1 = cc in omega arith)
+reads-in (Printing line) talk most h e = absurd (let z : _≡_ {A = ℕ} 0 1 = cc in omega arith)
 reads-in (Failing name) talk most h e = absurd (let z : _≡_ {A = ℕ} 0 1 = cc in omega arith)
 reads-in Stopped talk most h e = absurd (let z : _≡_ {A = ℕ} 0 1 = cc in omega arith)
 
@@ -276,6 +276,6 @@ pub judges-always : JudgesAlways
 judges-always answers = record {
   tells = written-is judging answers ∙ tells-in (stateAfter judging answers) (exchanges judging answers) (always answers);
   reads = λ most e. reads-in (stateAfter judging answers) (exchanges judging answers) most (always answers) e;
-  says = said-is judging answers ∙ says-in (stateAfter judging answers) (exchanges judging answers) (always answers);
+  says = error-text-is judging answers ∙ says-in (stateAfter judging answers) (exchanges judging answers) (always answers);
   stops = λ h. stops judging judging-ends answers h;
 }

@@ -8,7 +8,7 @@ use lib.Dec.{eqb, ltb, leb}
 use lib.ListN.{length}
 use Rattle.laws.specs.Choice.{pick}
 use Rattle.model.specs.Words.{mostProcesses}
-use Rattle.machines.specs.Machines.{Request, Count, Argument, Open, Read, Write, Say, Fail, Stop, Answer, Number, Bytes, End, Done, Failed, Machine, Exchange, asked, exchanges, stateAfter, writtenOf, saidOf, readOf}
+use Rattle.machines.specs.Machines.{Request, Count, Argument, Open, Read, Write, Say, Fail, Stop, Answer, Number, Bytes, End, Done, Failed, Machine, Exchange, asked, exchanges, stateAfter, writtenOf, errorTextOf, readOf}
 use Rattle.patterns.specs.Verdicts.{verdict}
 use Rattle.judge_machine.specs.Text.{verdictText}
 
@@ -32,32 +32,32 @@ pub data State : Type 0 where
   -- All bytes that were read.
   Reading : List ℕ → State
   -- The line that is to be written.
-  Telling : List ℕ → State
+  Printing : List ℕ → State
   -- What failed.
   Failing : List ℕ → State
   Stopped : State
 
 -- How many bytes are asked for where that many were read: the first by itself, since it may settle the verdict; then all that may count.
 unfoldable pub wanted : ℕ → ℕ
-wanted held = pick (eqb held 0) 1 (mostRead - held)
+wanted buffered = pick (eqb buffered 0) 1 (mostRead - buffered)
 
 unfoldable pub ask : State → Request
 ask (Reading trace) = Read (wanted (length trace))
-ask (Telling line) = Write line
+ask (Printing line) = Write line
 ask (Failing name) = Fail name
 ask Stopped = Stop
 
-abbrev pub telling : List ℕ → State
-telling trace = Telling (verdictText (verdict trace))
+abbrev pub printing : List ℕ → State
+printing trace = Printing (verdictText (verdict trace))
 
 -- More bytes are read unless the verdict is settled.
 unfoldable pub onward : List ℕ → State
-onward trace = pick (settled trace) (telling trace) (Reading trace)
+onward trace = pick (settled trace) (printing trace) (Reading trace)
 
 unfoldable pub afterRead : List ℕ → Answer → State
 afterRead trace (Number n) = Failing inputName
 afterRead trace (Bytes more) = onward (trace ++ more)
-afterRead trace End = telling trace
+afterRead trace End = printing trace
 afterRead trace Done = Failing inputName
 afterRead trace Failed = Failing inputName
 
@@ -70,7 +70,7 @@ afterWrite Failed = Failing outputName
 
 unfoldable pub next : State → Answer → State
 next (Reading trace) a = afterRead trace a
-next (Telling line) a = afterWrite a
+next (Printing line) a = afterWrite a
 next (Failing name) a = Stopped
 next Stopped a = Stopped
 
@@ -124,7 +124,7 @@ pub record Judges (answers : List Answer) : Type 0 where
   pub reads : (most : ℕ) → ask (stateAfter judging answers) ≡ Read most
       → (isWhole (exchanges judging answers) ≡ false) × (failures (exchanges judging answers) ≡ []) × (length (readOf (exchanges judging answers)) + most ≤ mostRead)
   -- what failed is reported, and nothing else;
-  pub says : saidOf (asked judging answers) ≡ failures (exchanges judging answers)
+  pub says : errorTextOf (asked judging answers) ≡ failures (exchanges judging answers)
   -- and after more than 16,392 answers it has stopped.
   pub stops : mostRead + 3 < length answers → ask (stateAfter judging answers) ≡ Stop
 

@@ -45,5 +45,5 @@ abbrev pub longestVerdict : ℕ
 longestVerdict = 96
 
 -- The line tells the verdict on this trace.
-abbrev pub Told : List ℕ → List ℕ → Type 0
-Told trace line = line ≡ verdictText (verdict trace)
+abbrev pub IsVerdictLine : List ℕ → List ℕ → Type 0
+IsVerdictLine trace line = line ≡ verdictText (verdict trace)

@@ -10,11 +10,11 @@ use Rattle.laws.specs.Choice.{pick}
 use Rattle.machines.specs.declared.Request as requests
 use Rattle.machines.specs.Forms.{Asks}
 use Rattle.judge_machine.specs.Text.{longestVerdict}
-use Rattle.judge_machine.specs.Judging.{mostRead, State, Reading, Telling, Failing, Stopped, ask}
+use Rattle.judge_machine.specs.Judging.{mostRead, State, Reading, Printing, Failing, Stopped, ask}
 
 -- There is room for the two numbers, for all bytes that count, and for the longest line.
-abbrev pub Roomy : ℕ → ℕ → ℕ → Type 0
-Roomy memory input out = (2 ≤ memory) × (mostRead ≤ input) × (longestVerdict ≤ out)
+abbrev pub EnoughRoom : ℕ → ℕ → ℕ → Type 0
+EnoughRoom memory input out = (2 ≤ memory) × (mostRead ≤ input) × (longestVerdict ≤ out)
 
 unfoldable pub lacksRoom : ℕ → ℕ → ℕ → Bool
 lacksRoom memory input out = ltb memory 2 || (ltb input mostRead || ltb out longestVerdict)
@@ -23,7 +23,7 @@ lacksRoom memory input out = ltb memory 2 || (ltb input mostRead || ltb out long
 unfoldable pub inPhase : ℕ → ℕ → List ℕ → List ℕ → State
 inPhase phase count input out =
     pick (eqb phase 0 && leb count mostRead) (Reading (take count input))
-    (pick (eqb phase 1 && leb count (length out)) (Telling (take count out))
+    (pick (eqb phase 1 && leb count (length out)) (Printing (take count out))
     (pick (eqb phase 2 && leb count (length out)) (Failing (take count out))
     Stopped))
 

@@ -16,14 +16,14 @@ ghost use Prim.Native.Nat.{ℕ, _≤_};
 ghost use lib.ListN.{length, take, set};
 ghost use Rattle.machines.specs.Machines.{stepped};
 ghost use Rattle.machines.specs.Forms.{answerOf};
-ghost use Rattle.judge_machine.specs.Judging.{mostRead, wanted, settled, Reading, Telling, Failing, Stopped, telling, onward, judging};
-ghost use Rattle.judge_machine.specs.Words.{Roomy, lacksRoom, stateOf, placeOf, StandsFor};
+ghost use Rattle.judge_machine.specs.Judging.{mostRead, wanted, settled, Reading, Printing, Failing, Stopped, printing, onward, judging};
+ghost use Rattle.judge_machine.specs.Words.{EnoughRoom, lacksRoom, stateOf, placeOf, StandsFor};
 ghost use Rattle.judge_machine.specs.Text.{longestVerdict};
 
 // The phases. Every other number stands for a machine that has stopped.
 const READING: u64 = 0;
 
-const TELLING: u64 = 1;
+const PRINTING: u64 = 1;
 
 const FAILING: u64 = 2;
 
@@ -68,40 +68,40 @@ fn stop(memory: &mut [u64]) -> Request
 }
 
 // How many bytes are asked for where that many were read.
-fn wanted(held: usize) -> usize
-    requires { ⌜ held ≤ mostRead ⌝ }
-    ensures { λ r. ⌜ r ≡ wanted held ⌝ }
+fn wanted(buffered: usize) -> usize
+    requires { ⌜ buffered ≤ mostRead ⌝ }
+    ensures { λ r. ⌜ r ≡ wanted buffered ⌝ }
 {
-    if held == 0 {
+    if buffered == 0 {
         return 1;
     }
-    MOST_READ - held
+    MOST_READ - buffered
 }
 
 // More bytes are asked for, after those that were read.
-fn read_more(memory: &mut [u64], input: &[u8], out: &[u8], held: usize) -> Request
-    requires { ⌜ Roomy (length (now memory)) (length (now input)) (length (now out)) × (held ≤ mostRead) ⌝ }
-    ensures { λ r. ⌜ StandsFor (now (memory .exit)) (now (input .entry)) (now (out .entry)) r (Reading (take held (now (input .entry)))) ⌝ }
+fn read_more(memory: &mut [u64], input: &[u8], out: &[u8], buffered: usize) -> Request
+    requires { ⌜ EnoughRoom (length (now memory)) (length (now input)) (length (now out)) × (buffered ≤ mostRead) ⌝ }
+    ensures { λ r. ⌜ StandsFor (now (memory .exit)) (now (input .entry)) (now (out .entry)) r (Reading (take buffered (now (input .entry)))) ⌝ }
 {
-    put(memory, READING, held);
-    let most = wanted(held);
-    Request::Read(held, most)
+    put(memory, READING, buffered);
+    let most = wanted(buffered);
+    Request::Read(buffered, most)
 }
 
 // The verdict on what was read is printed.
-fn tell(memory: &mut [u64], input: &[u8], out: &mut [u8], held: usize) -> Request
-    requires { ⌜ Roomy (length (now memory)) (length (now input)) (length (now out)) × (held ≤ mostRead) ⌝ }
-    ensures { λ r. ⌜ StandsFor (now (memory .exit)) (now (input .entry)) (now (out .exit)) r (telling (take held (now (input .entry)))) ⌝ }
+fn print_verdict(memory: &mut [u64], input: &[u8], out: &mut [u8], buffered: usize) -> Request
+    requires { ⌜ EnoughRoom (length (now memory)) (length (now input)) (length (now out)) × (buffered ≤ mostRead) ⌝ }
+    ensures { λ r. ⌜ StandsFor (now (memory .exit)) (now (input .entry)) (now (out .exit)) r (printing (take buffered (now (input .entry)))) ⌝ }
 {
-    let verdict = judge_trace::judge(&input[..held]);
+    let verdict = judge_trace::judge(&input[..buffered]);
     let size = text::write_verdict(out, verdict);
-    put(memory, TELLING, size);
+    put(memory, PRINTING, size);
     Request::Write(size)
 }
 
 // What failed is reported.
 fn fail(memory: &mut [u64], input: &[u8], out: &mut [u8], name: &[u8]) -> Request
-    requires { ⌜ Roomy (length (now memory)) (length (now input)) (length (now out)) × (length (now name) ≤ longestVerdict) ⌝ }
+    requires { ⌜ EnoughRoom (length (now memory)) (length (now input)) (length (now out)) × (length (now name) ≤ longestVerdict) ⌝ }
     ensures { λ r. ⌜ StandsFor (now (memory .exit)) (now (input .entry)) (now (out .exit)) r (Failing (now (name .entry))) ⌝ }
 {
     let size = programs::text::write_word(out, 0, name);
@@ -110,11 +110,11 @@ fn fail(memory: &mut [u64], input: &[u8], out: &mut [u8], name: &[u8]) -> Reques
 }
 
 // Whether no byte that follows can change the verdict on the first bytes of the input.
-fn is_settled(input: &[u8], held: usize) -> bool
-    requires { ⌜ held ≤ length (now input) ⌝ }
-    ensures { λ r. ⌜ r ≡ settled (take held (now (input .entry))) ⌝ }
+fn is_settled(input: &[u8], buffered: usize) -> bool
+    requires { ⌜ buffered ≤ length (now input) ⌝ }
+    ensures { λ r. ⌜ r ≡ settled (take buffered (now (input .entry))) ⌝ }
 {
-    if held == 0 {
+    if buffered == 0 {
         return false;
     }
     if input[0] < 1 {
@@ -123,18 +123,18 @@ fn is_settled(input: &[u8], held: usize) -> bool
     if MOST < input[0] {
         return true;
     }
-    MOST_READ <= held
+    MOST_READ <= buffered
 }
 
 // More bytes are read unless the verdict is settled.
-fn go_on(memory: &mut [u64], input: &[u8], out: &mut [u8], held: usize) -> Request
-    requires { ⌜ Roomy (length (now memory)) (length (now input)) (length (now out)) × (held ≤ mostRead) ⌝ }
-    ensures { λ r. ⌜ StandsFor (now (memory .exit)) (now (input .entry)) (now (out .exit)) r (onward (take held (now (input .entry)))) ⌝ }
+fn go_on(memory: &mut [u64], input: &[u8], out: &mut [u8], buffered: usize) -> Request
+    requires { ⌜ EnoughRoom (length (now memory)) (length (now input)) (length (now out)) × (buffered ≤ mostRead) ⌝ }
+    ensures { λ r. ⌜ StandsFor (now (memory .exit)) (now (input .entry)) (now (out .exit)) r (onward (take buffered (now (input .entry)))) ⌝ }
 {
-    if is_settled(input, held) {
-        return tell(memory, input, out, held);
+    if is_settled(input, buffered) {
+        return print_verdict(memory, input, out, buffered);
     }
-    read_more(memory, input, out, held)
+    read_more(memory, input, out, buffered)
 }
 
 // A read is answered.
@@ -142,16 +142,16 @@ fn after_read(
     memory: &mut [u64],
     input: &[u8],
     out: &mut [u8],
-    held: usize,
+    buffered: usize,
     answer: Answer,
 ) -> Request
-    requires { ⌜ Roomy (length (now memory)) (length (now input)) (length (now out)) × (held ≤ mostRead) ⌝ }
-    ensures { λ r. ⌜ StandsFor (now (memory .exit)) (now (input .entry)) (now (out .exit)) r (stepped judging (Reading (take held (now (input .entry)))) (answerOf answer held (now (input .entry)))) ⌝ }
+    requires { ⌜ EnoughRoom (length (now memory)) (length (now input)) (length (now out)) × (buffered ≤ mostRead) ⌝ }
+    ensures { λ r. ⌜ StandsFor (now (memory .exit)) (now (input .entry)) (now (out .exit)) r (stepped judging (Reading (take buffered (now (input .entry)))) (answerOf answer buffered (now (input .entry)))) ⌝ }
 {
-    let taken = heard::read(answer, wanted(held));
+    let taken = heard::read(answer, wanted(buffered));
     match taken {
-        Taken::Brought(size) => go_on(memory, input, out, held + size),
-        Taken::Ended => tell(memory, input, out, held),
+        Taken::Brought(size) => go_on(memory, input, out, buffered + size),
+        Taken::Ended => print_verdict(memory, input, out, buffered),
         Taken::Failed => fail(memory, input, out, b"judge: standard input"),
     }
 }
@@ -164,8 +164,8 @@ fn after_write(
     line: usize,
     answer: Answer,
 ) -> Request
-    requires { ⌜ Roomy (length (now memory)) (length (now input)) (length (now out)) ⌝ }
-    ensures { λ r. ⌜ StandsFor (now (memory .exit)) (now (input .entry)) (now (out .exit)) r (stepped judging (Telling (take line (now (out .entry)))) (answerOf answer line (now (input .entry)))) ⌝ }
+    requires { ⌜ EnoughRoom (length (now memory)) (length (now input)) (length (now out)) ⌝ }
+    ensures { λ r. ⌜ StandsFor (now (memory .exit)) (now (input .entry)) (now (out .exit)) r (stepped judging (Printing (take line (now (out .entry)))) (answerOf answer line (now (input .entry)))) ⌝ }
 {
     if heard::is_done(answer) {
         return stop(memory);
@@ -175,7 +175,7 @@ fn after_write(
 
 // The first state.
 pub fn begin(memory: &mut [u64], input: &[u8], out: &[u8]) -> Request
-    requires { ⌜ Roomy (length (now memory)) (length (now input)) (length (now out)) ⌝ }
+    requires { ⌜ EnoughRoom (length (now memory)) (length (now input)) (length (now out)) ⌝ }
     ensures { λ r. ⌜ StandsFor (now (memory .exit)) (now (input .entry)) (now (out .entry)) r (Reading []) ⌝ }
 {
     read_more(memory, input, out, 0)
@@ -196,7 +196,7 @@ pub fn step(memory: &mut [u64], input: &[u8], out: &mut [u8], answer: Answer) ->
         }
         return after_read(memory, input, out, count, answer);
     }
-    if phase == TELLING {
+    if phase == PRINTING {
         if out.len() < count {
             return stop(memory);
         }

@@ -14,7 +14,7 @@ use Rattle.patterns.specs.Paths.{eventAt, StandsIn}
 use Rattle.patterns.proofs.Facts.{begin}
 use Rattle.decision.specs.Rows.{entryAt}
 use Rattle.judge_trace.specs.Readings.{FirstRows}
-use Rattle.decision.specs.Held.{intervalOf, Held}
+use Rattle.decision.specs.Represents.{intervalOf, Represents}
 
 only-stored : {P : Type 0} {e : HistoryEvent} {g : ℕ} (p : ℕ) → StandsIn e g (begin .lists p) → (e ≡ stored → P) → P
 unfolding begin
@@ -43,8 +43,8 @@ module _ (n : ℕ) (vs process from to current : List ℕ) (few : n ≤ 16) (roo
   iv-one : (r : ℕ) → r < n → intervalOf vs process r ≡ 1
   iv-one r lr = ap (λ (p : ℕ). entryAt vs r p) (w .owner r lr) ∙ w .vector r r lr (omega arith) ∙ ap (λ b. pick b 1 0) (eq-eqb r r refl)
 
-  pub begin-held : Held n (begin .lists) (begin .vector) n 0 vs process from to
-  begin-held = record {
+  pub begin-represented : Represents n (begin .lists) (begin .vector) n 0 vs process from to
+  begin-represented = record {
     few = few;
     room = room;
     places = places;

@@ -27,13 +27,13 @@ use Rattle.patterns.proofs.Followed.{Sent}
 use Rattle.patterns.proofs.Facts.{begin, begin-right}
 use Rattle.patterns.proofs.Trail.{Trail, storing, storing-right, sending, sending-right, carried-old, carried-new, receiving, receiving-right}
 use Rattle.decision.specs.Rows.{entryAt, rowOf, putRow, put-same, put-other, put-length}
-use Rattle.decision.specs.Held.{intervalOf, Held}
+use Rattle.decision.specs.Represents.{intervalOf, Represents}
 use Rattle.judge_trace.specs.declared.reading.Progress.{Progress}
 use Rattle.judge_trace.specs.declared.reading.Found.{Found}
-use Rattle.verdicts.proofs.Cases.{verdict-rules}
-use Rattle.judge_trace.specs.Readings.{Roomy, liveEntry, checkpointRefusal, withRow, SendRoom, sendRefusal, sentCarried, withMessage, isUnderWay, foundIn, withoutOne, DeliverRoom, receiptVectors, FirstRows}
+use Rattle.admissions.proofs.Cases.{admission-rules}
+use Rattle.judge_trace.specs.Readings.{EnoughRoom, liveEntry, checkpointRefusal, withRow, SendRoom, sendRefusal, sentCarried, withMessage, isUnderWay, foundIn, withoutOne, DeliverRoom, receiptVectors, FirstRows}
 use Rattle.judge_trace.specs.Kept.{Tables, tables, Waits, Kept}
-use Rattle.judge_trace.proofs.Begin.{own-begin, begin-held}
+use Rattle.judge_trace.proofs.Begin.{own-begin, begin-represented}
 use Rattle.judge_trace.proofs.Steps.{stored-own, other-own, sent-own, received-own}
 use Rattle.judge_trace.proofs.Trails.{stores, sends, receives, got-live, row-number, live-entry}
 
@@ -83,26 +83,26 @@ mark-on passing last j (suc x) size = by-eq x last
 
 module _ (n read : ℕ) (t : Pattern) (tr : Trail) (s : Progress) (T : Tables) (h : Kept n read t tr s T) (more : read < 4096) where
   -- There is room for one more record.
-  pub roomy : Roomy n s (T .vectors) (T .process)
-  roomy = record {
-    few = h .held .few;
-    room = h .held .room;
-    places = h .held .places;
-    rows = omega (arith, h .few-rows, h .held .few);
-    current = λ p lp. omega (arith, h .row-there p lp, h .held .most-rows);
+  pub enoughRoom : EnoughRoom n s (T .vectors) (T .process)
+  enoughRoom = record {
+    few = h .represented .few;
+    room = h .represented .room;
+    places = h .represented .places;
+    rows = omega (arith, h .few-rows, h .represented .few);
+    current = λ p lp. omega (arith, h .row-there p lp, h .represented .most-rows);
   }
 
   pub send-room : SendRoom n s (T .vectors) (T .carried) (T .passing) (T .from) (T .to)
   send-room = record {
-    few = h .held .few;
-    room = h .held .room;
+    few = h .represented .few;
+    room = h .represented .room;
     carriers = h .carriers;
     marks = h .marks;
-    sends = h .held .sends;
-    receipts = h .held .receipts;
+    sends = h .represented .sends;
+    receipts = h .represented .receipts;
     underway = h .most;
     last = omega (arith, h .few-messages);
-    current = λ p lp. omega (arith, h .row-there p lp, h .held .most-rows);
+    current = λ p lp. omega (arith, h .row-there p lp, h .represented .most-rows);
   }
 
   -- What is found of a message, from the pattern.
@@ -129,15 +129,15 @@ module _ (n read : ℕ) (t : Pattern) (tr : Trail) (s : Progress) (T : Tables) (
 
   pub deliver-room : (m : ℕ) → DeliverRoom s m (T .vectors) (T .carried) (T .passing) (T .to)
   deliver-room m = record {
-    room = h .held .room;
+    room = h .represented .room;
     carriers = h .carriers;
     marks = h .marks;
-    receipts = h .held .receipts;
-    last = h .held .most-messages;
-    place = λ e. let y = place-of m (sym (found-is m) ∙ e) in omega (arith, at m y e .0, y .2, h .held .most-messages);
-    receiver = λ e. let y = place-of m (sym (found-is m) ∙ e) in omega (arith, at m y e .1, at m y e .2, h .held .few);
+    receipts = h .represented .receipts;
+    last = h .represented .most-messages;
+    place = λ e. let y = place-of m (sym (found-is m) ∙ e) in omega (arith, at m y e .0, y .2, h .represented .most-messages);
+    receiver = λ e. let y = place-of m (sym (found-is m) ∙ e) in omega (arith, at m y e .1, at m y e .2, h .represented .few);
     current = λ e. let y = place-of m (sym (found-is m) ∙ e) in
-        omega (arith, ap (λ (q : ℕ). getD (s .current) q 0) (at m y e .1), h .row-there (t .receiver (suc (y .0))) (at m y e .2), h .held .most-rows);
+        omega (arith, ap (λ (q : ℕ). getD (s .current) q 0) (at m y e .1), h .row-there (t .receiver (suc (y .0))) (at m y e .2), h .represented .most-rows);
   }
     where
       at : (m : ℕ) (y : (y : ℕ) × (m ≡ suc y) × (y < s .last)) → foundIn (T .passing) (s .last) m .found ≡ true
@@ -158,11 +158,11 @@ module _ (n read : ℕ) (t : Pattern) (tr : Trail) (s : Progress) (T : Tables) (
       own-is li =
           let row = getD (s .current) i 0 in
           ap (λ (l : Lists). checkpoints (l i)) (h .lists) ∙ sym (h .row-live i li) ∙ ap (λ (p : ℕ). entryAt (T .vectors) row p) (h .row-own i li)
-          ∙ sym (row-number (T .vectors) row i (omega (arith, h .held .few)))
+          ∙ sym (row-number (T .vectors) row i (omega (arith, h .represented .few)))
 
   pub send-refusal : (i j : ℕ) → recordRefusal n t (some (Send i j)) ≡ sendRefusal n s i j
   unfolding recordRefusal sendRefusal
-  send-refusal i j = let last : t .sends ≡ s .last = h .sends ∙ sym (h .last) in rw (sym (h .counted), last) (sym (verdict-rules i j n (s .underway) (s .last)))
+  send-refusal i j = let last : t .sends ≡ s .last = h .sends ∙ sym (h .last) in rw (sym (h .counted), last) (sym (admission-rules i j n (s .underway) (s .last)))
 
   -- A checkpoint.
   module _ (i : ℕ) (li : i < n) where
@@ -176,19 +176,19 @@ module _ (n read : ℕ) (t : Pattern) (tr : Trail) (s : Progress) (T : Tables) (
     process' = set (T .process) (s .rows) i
 
     room : s .rows < 4112
-    room = omega (arith, h .few-rows, h .held .few)
+    room = omega (arith, h .few-rows, h .represented .few)
 
-    held' : Held n (storing tr (h .right) i .lists) (storing tr (h .right) i .vector) (suc (s .rows)) (s .last) vs' process' (T .from) (T .to)
-    held' = stores n tr (h .right) (s .rows) (s .last) (T .vectors) (T .process) (T .from) (T .to) (h .held) i row li (h .row-there i li) (h .row-own i li) (h .row-live i li) room
+    represented' : Represents n (storing tr (h .right) i .lists) (storing tr (h .right) i .vector) (suc (s .rows)) (s .last) vs' process' (T .from) (T .to)
+    represented' = stores n tr (h .right) (s .rows) (s .last) (T .vectors) (T .process) (T .from) (T .to) (h .represented) i row li (h .row-there i li) (h .row-own i li) (h .row-live i li) room
 
     own-same : (r : ℕ) → r < s .rows → getD process' r 0 ≡ getD (T .process) r 0
     own-same r lr = getD-set-other (T .process) (s .rows) r i 0 (λ e. omega arith)
 
     own-new : getD process' (s .rows) 0 ≡ i
-    own-new = getD-set-same (T .process) (s .rows) i 0 (omega (arith, h .held .places, room))
+    own-new = getD-set-same (T .process) (s .rows) i 0 (omega (arith, h .represented .places, room))
 
     current-new : getD (set (s .current) i (s .rows)) i 0 ≡ s .rows
-    current-new = getD-set-same (s .current) i (s .rows) 0 (omega (arith, h .places, h .held .few))
+    current-new = getD-set-same (s .current) i (s .rows) 0 (omega (arith, h .places, h .represented .few))
 
     current-old : (p : ℕ) → (p ≡ i → ⊥) → getD (set (s .current) i (s .rows)) p 0 ≡ getD (s .current) p 0
     current-old p ne = getD-set-other (s .current) i p (s .rows) 0 ne
@@ -196,10 +196,10 @@ module _ (n read : ℕ) (t : Pattern) (tr : Trail) (s : Progress) (T : Tables) (
     -- The new row is the live state: it is a state above all others of i, by the rows before.
     live-new : intervalOf vs' process' (s .rows) ≡ checkpoints (added (tr .lists) i stored i)
     live-new =
-        let top = held' .there i (suc (checkpoints (tr .lists i))) li (omega arith) (reach (stored-own (tr .lists) i)) in
+        let top = represented' .there i (suc (checkpoints (tr .lists i))) li (omega arith) (reach (stored-own (tr .lists) i)) in
         by-eq (top .0) (s .rows)
         (λ e. ap (λ (r : ℕ). intervalOf vs' process' r) (sym e) ∙ top .3 ∙ sym (stored-own (tr .lists) i))
-        (λ ne. absurd (omega (arith, top .3, held' .ascends (top .0) (s .rows) (omega (arith, top .1)) (omega arith) (top .2 ∙ sym own-new), high (held' .state (s .rows) (omega arith)))))
+        (λ ne. absurd (omega (arith, top .3, represented' .ascends (top .0) (s .rows) (omega (arith, top .1)) (omega arith) (top .2 ∙ sym own-new), high (represented' .state (s .rows) (omega arith)))))
       where
         reach : checkpoints (added (tr .lists) i stored i) ≡ suc (checkpoints (tr .lists i)) → suc (checkpoints (tr .lists i)) ≤ checkpoints (storing tr (h .right) i .lists i)
         reach e = unfold storing in omega (arith, e)
@@ -212,10 +212,10 @@ module _ (n read : ℕ) (t : Pattern) (tr : Trail) (s : Progress) (T : Tables) (
         let r = getD (s .current) p 0 in
         let lr = h .row-there p lp in
         let o = own-same r lr ∙ h .row-own p lp in
-        ap (λ (q : ℕ). entryAt vs' r q) o ∙ put-other (T .vectors) (s .rows) (advanced i (rowOf (T .vectors) row)) r p (omega (arith, h .held .few)) (λ e. omega arith)
+        ap (λ (q : ℕ). entryAt vs' r q) o ∙ put-other (T .vectors) (s .rows) (advanced i (rowOf (T .vectors) row)) r p (omega (arith, h .represented .few)) (λ e. omega arith)
         ∙ ap (λ (q : ℕ). entryAt (T .vectors) r q) (sym (h .row-own p lp)) ∙ h .row-live p lp ∙ sym (other-own (tr .lists) i stored p ne)
 
-    rows-one : {l : Lists} {g : ℕ → ℕ → ℕ → ℕ} → Held n l g (suc (s .rows)) (s .last) vs' process' (T .from) (T .to) → Held n l g (s .rows + 1) (s .last) vs' process' (T .from) (T .to)
+    rows-one : {l : Lists} {g : ℕ → ℕ → ℕ → ℕ} → Represents n l g (suc (s .rows)) (s .last) vs' process' (T .from) (T .to) → Represents n l g (s .rows + 1) (s .last) vs' process' (T .from) (T .to)
     rows-one w = rw add-one w
 
     pub kept-checkpoint : Kept n (suc read) (taken t (some (Checkpoint i))) (storing tr (h .right) i) (withRow s i) (tables vs' process' (T .carried) (T .passing) (T .from) (T .to))
@@ -225,7 +225,7 @@ module _ (n read : ℕ) (t : Pattern) (tr : Trail) (s : Progress) (T : Tables) (
       lists = ap (λ (l : Lists). added l i stored) (h .lists);
       sends = h .sends;
       last = h .last;
-      held = rows-one held';
+      represented = rows-one represented';
       row-there = λ p lp. by-eq p i (λ e. rw (e, current-new) (omega arith)) (λ ne. rw (current-old p ne) (omega (arith, h .row-there p lp)));
       row-own = λ p lp. by-eq p i (λ e. rw (e, current-new) own-new) (λ ne. rw (current-old p ne) (own-same (getD (s .current) p 0) (h .row-there p lp) ∙ h .row-own p lp));
       row-live = λ p lp. by-eq p i (λ e. rw (e, current-new) live-new) (λ ne. rw (current-old p ne) (live-old p lp ne));
@@ -257,10 +257,10 @@ module _ (n read : ℕ) (t : Pattern) (tr : Trail) (s : Progress) (T : Tables) (
     number : t .sends + 1 ≡ suc (s .last)
     number = rw (add-one, h .sends, sym (h .last))
 
-    sent-held : Held n (sending tr (h .right) i .lists) (sending tr (h .right) i .vector) (s .rows) (suc (s .last)) (T .vectors) (T .process) (set (T .from) (s .last) from-row) (set (T .to) (s .last) 0)
-    sent-held = sends n tr (h .right) (s .rows) (s .last) (T .vectors) (T .process) (T .from) (T .to) (h .held) i from-row li (h .row-there i li) (h .row-own i li) (h .row-live i li) (h .last) low
+    sent-represented : Represents n (sending tr (h .right) i .lists) (sending tr (h .right) i .vector) (s .rows) (suc (s .last)) (T .vectors) (T .process) (set (T .from) (s .last) from-row) (set (T .to) (s .last) 0)
+    sent-represented = sends n tr (h .right) (s .rows) (s .last) (T .vectors) (T .process) (T .from) (T .to) (h .represented) i from-row li (h .row-there i li) (h .row-own i li) (h .row-live i li) (h .last) low
 
-    last-one : {l : Lists} {g : ℕ → ℕ → ℕ → ℕ} {from to : List ℕ} → Held n l g (s .rows) (suc (s .last)) (T .vectors) (T .process) from to → Held n l g (s .rows) (s .last + 1) (T .vectors) (T .process) from to
+    last-one : {l : Lists} {g : ℕ → ℕ → ℕ → ℕ} {from to : List ℕ} → Represents n l g (s .rows) (suc (s .last)) (T .vectors) (T .process) from to → Represents n l g (s .rows) (s .last + 1) (T .vectors) (T .process) from to
     last-one w = rw add-one w
 
     -- The lists of the trail after the send are those of the pattern.
@@ -275,7 +275,7 @@ module _ (n read : ℕ) (t : Pattern) (tr : Trail) (s : Progress) (T : Tables) (
     new-carried f lf =
         put-same (T .carried) (s .last) (rowOf (T .vectors) from-row) f lf (omega (arith, h .carriers, low))
         ∙ row-number (T .vectors) from-row f lf
-        ∙ live-entry n tr (h .right) (s .rows) (s .last) (T .vectors) (T .process) (T .from) (T .to) (h .held) i from-row li (h .row-there i li) (h .row-own i li) (h .row-live i li) f lf
+        ∙ live-entry n tr (h .right) (s .rows) (s .last) (T .vectors) (T .process) (T .from) (T .to) (h .represented) i from-row li (h .row-there i li) (h .row-own i li) (h .row-live i li) f lf
         ∙ sym (carried-new tr (h .right) i f) ∙ ap (λ (k : ℕ). sending tr (h .right) i .carried (suc k) f) (sym (h .last))
 
     old-carried : (y f : ℕ) → f < 16 → y < s .last → entryAt (T' .carried) y f ≡ entryAt (T .carried) y f
@@ -296,7 +296,7 @@ module _ (n read : ℕ) (t : Pattern) (tr : Trail) (s : Progress) (T : Tables) (
         (λ c. rw c (record {
           mark = getD-set-same (T .passing) (s .last) (j + 1) 0 (omega (arith, h .marks, low)) ∙ rw (number, upd-same (t .receiver) (suc (s .last)) j) (add-one j);
           receiver = rw (number, upd-same (t .receiver) (suc (s .last)) j) lj;
-          not-got = getD-set-same (T .to) (s .last) 0 0 (omega (arith, h .held .receipts, low));
+          not-got = getD-set-same (T .to) (s .last) 0 0 (omega (arith, h .represented .receipts, low));
           carried = new-carried;
           was-sent = is-there;
         }))
@@ -322,7 +322,7 @@ module _ (n read : ℕ) (t : Pattern) (tr : Trail) (s : Progress) (T : Tables) (
       lists = unfold taken sending in sent-lists;
       sends = unfold taken sending in number ∙ ap suc (h .last);
       last = unfold sending withMessage in omega (arith, h .last);
-      held = unfold withMessage in last-one sent-held;
+      represented = unfold withMessage in last-one sent-represented;
       row-there = λ p lp. unfold withMessage in h .row-there p lp;
       row-own = λ p lp. unfold withMessage in h .row-own p lp;
       row-live = λ p lp. unfold withMessage sending in h .row-live p lp ∙ sym (sent-own (tr .lists) i (suc (tr .last)) p);
@@ -358,7 +358,7 @@ module _ (n read : ℕ) (t : Pattern) (tr : Trail) (s : Progress) (T : Tables) (
         ∙ mark-off (T .passing) (s .last) y m low-y size)
       where
         size : s .last ≤ length (T .passing)
-        size = omega (arith, h .marks, h .held .most-messages)
+        size = omega (arith, h .marks, h .represented .most-messages)
 
     -- Another message that is still under way has another place.
     other-place : (x : ℕ) → upd (t .underway) (suc y) false (suc x) ≡ true → x ≡ y → ⊥
@@ -375,7 +375,7 @@ module _ (n read : ℕ) (t : Pattern) (tr : Trail) (s : Progress) (T : Tables) (
       lists = h .lists;
       sends = h .sends;
       last = h .last;
-      held = h .held;
+      represented = h .represented;
       row-there = h .row-there;
       row-own = h .row-own;
       row-live = h .row-live;
@@ -415,12 +415,12 @@ module _ (n read : ℕ) (t : Pattern) (tr : Trail) (s : Progress) (T : Tables) (
     abbrev pub after : Trail
     after = receiving tr (h .right) i (suc y) (wait .was-sent .0) (wait .was-sent .1) (wait .was-sent .2)
 
-    got-held : Held n (after .lists) (after .vector) (s .rows) (s .last) vs'' (T .process) (T .from) (set (T .to) y (got-row + 1))
-    got-held = receives n tr (h .right) (s .rows) (s .last) (T .vectors) (T .process) (T .from) (T .to) (h .held) i got-row (wait .receiver) (h .row-there i (wait .receiver)) (h .row-own i (wait .receiver))
+    got-represented : Represents n (after .lists) (after .vector) (s .rows) (s .last) vs'' (T .process) (T .from) (set (T .to) y (got-row + 1))
+    got-represented = receives n tr (h .right) (s .rows) (s .last) (T .vectors) (T .process) (T .from) (T .to) (h .represented) i got-row (wait .receiver) (h .row-there i (wait .receiver)) (h .row-own i (wait .receiver))
         (h .row-live i (wait .receiver)) y (wait .was-sent .0) (wait .was-sent .1) (wait .was-sent .2) low-y (wait .not-got) (rowOf (T .carried) y) carries
 
     live-now : entryAt vs'' got-row i ≡ checkpoints (tr .lists i)
-    live-now = got-live n tr (h .right) (s .rows) (s .last) (T .vectors) (T .process) (T .from) (T .to) (h .held) i got-row (wait .receiver) (h .row-there i (wait .receiver)) (h .row-own i (wait .receiver))
+    live-now = got-live n tr (h .right) (s .rows) (s .last) (T .vectors) (T .process) (T .from) (T .to) (h .represented) i got-row (wait .receiver) (h .row-there i (wait .receiver)) (h .row-own i (wait .receiver))
         (h .row-live i (wait .receiver)) y (wait .was-sent .0) (wait .was-sent .1) (wait .was-sent .2) low-y (wait .not-got) (rowOf (T .carried) y) carries
 
     -- The live rows of the other processes are as they were.
@@ -431,7 +431,7 @@ module _ (n read : ℕ) (t : Pattern) (tr : Trail) (s : Progress) (T : Tables) (
         (λ ne.
         let apart : getD (s .current) p 0 ≡ got-row → ⊥ = λ c. ne (sym (h .row-own p lp) ∙ ap (λ (r : ℕ). getD (T .process) r 0) c ∙ h .row-own i (wait .receiver)) in
         put-other (T .vectors) got-row (takenVector (rowOf (T .vectors) got-row) (rowOf (T .carried) y)) (getD (s .current) p 0) (getD (T .process) (getD (s .current) p 0) 0)
-        (omega (arith, h .row-own p lp, h .held .few)) apart ∙ h .row-live p lp)
+        (omega (arith, h .row-own p lp, h .represented .few)) apart ∙ h .row-live p lp)
 
     got-was-sent : (m : ℕ) → Sent (tr .lists) m → Sent (after .lists) m
     unfolding receiving
@@ -444,7 +444,7 @@ module _ (n read : ℕ) (t : Pattern) (tr : Trail) (s : Progress) (T : Tables) (
       lists = unfold taken receiving in ap (λ (l : Lists). added l i (received (suc y))) (h .lists);
       sends = unfold taken receiving in h .sends;
       last = unfold withoutOne receiving in h .last;
-      held = unfold withoutOne in got-held;
+      represented = unfold withoutOne in got-represented;
       row-there = λ p lp. unfold withoutOne in h .row-there p lp;
       row-own = λ p lp. unfold withoutOne in h .row-own p lp;
       row-live = λ p lp. unfold withoutOne receiving in live-then p lp ∙ sym (received-own (tr .lists) i (suc y) p);
@@ -473,8 +473,8 @@ module _ (n read : ℕ) (t : Pattern) (tr : Trail) (s : Progress) (T : Tables) (
 module _ (n : ℕ) (s : Progress) (T : Tables) (few : n ≤ 16) (room : 65792 ≤ length (T .vectors)) (places : 4112 ≤ length (T .process)) (carriers : 65536 ≤ length (T .carried))
     (marks : 4096 ≤ length (T .passing)) (sends : 4096 ≤ length (T .from)) (receipts : 4096 ≤ length (T .to))
     (w : FirstRows n (T .vectors) (T .process) (s .current)) (rows : s .rows ≡ n) (none-under : s .underway ≡ 0) (no-last : s .last ≡ 0) where
-  start-held : Held n (begin .lists) (begin .vector) (s .rows) (s .last) (T .vectors) (T .process) (T .from) (T .to)
-  start-held = rw (rows, no-last) (begin-held n (T .vectors) (T .process) (T .from) (T .to) (s .current) few room places sends receipts w)
+  start-represented : Represents n (begin .lists) (begin .vector) (s .rows) (s .last) (T .vectors) (T .process) (T .from) (T .to)
+  start-represented = rw (rows, no-last) (begin-represented n (T .vectors) (T .process) (T .from) (T .to) (s .current) few room places sends receipts w)
 
   pub kept-begin : Kept n 0 empty begin s T
   unfolding empty begin
@@ -483,7 +483,7 @@ module _ (n : ℕ) (s : Progress) (T : Tables) (few : n ≤ 16) (room : 65792 �
     lists = refl;
     sends = refl;
     last = no-last;
-    held = start-held;
+    represented = start-represented;
     row-there = λ p lp. rw (w .live p lp, rows) lp;
     row-own = λ p lp. rw (w .live p lp) (w .owner p lp);
     row-live = λ p lp. rw (w .live p lp) (first-live p lp);

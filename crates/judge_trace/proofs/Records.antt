@@ -58,10 +58,10 @@ module _ (n : ℕ) (s : Progress) (T : Tables) where
       let free = send-free n s i j e in
       after-taken n read t (some (Send i j)) r _ (withMessage s) (a ∙ sym (w .0)) (send-refusal n read t tr s T h more i j ∙ e) (sending tr (h .right) i)
       (rw (b ∙ sym (w .1), c ∙ sym (w .2), d ∙ sym (w .3), f ∙ sym (w .4)) (kept-send n read t tr s T h more i j (free .0) (free .1) (free .2))))
-      (λ why e. after-refused n read t (some (Send i j)) r _ why s (a ∙ said why e) (send-refusal n read t tr s T h more i j ∙ e))
+      (λ why e. after-refused n read t (some (Send i j)) r _ why s (a ∙ promised why e) (send-refusal n read t tr s T h more i j ∙ e))
     where
-      said : (why : Refusal) → sendRefusal n s i j ≡ some why → sendStep n s i j ≡ refusedStep why s
-      said why e = unfold sendStep in rw e
+      promised : (why : Refusal) → sendRefusal n s i j ≡ some why → sendStep n s i j ≡ refusedStep why s
+      promised why e = unfold sendStep in rw e
 
   -- A message that is not under way is neither lost nor delivered.
   gone : (r : Step) (m : ℕ) (t : Pattern) → foundIn (T .passing) (s .last) m .found ≡ false → r ≡ dropStep s (foundIn (T .passing) (s .last) m) → r ≡ refusedStep NotUnderWay s

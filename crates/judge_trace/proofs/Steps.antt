@@ -17,7 +17,7 @@ use Rattle.patterns.specs.Paths.{interval, StandsIn}
 use Rattle.patterns.proofs.Placing.{place-in}
 use Rattle.patterns.proofs.Adding.{list-same, list-other, event-old, event-new, event-cases, interval-old, interval-new}
 use Rattle.decision.specs.Rows.{entryAt}
-use Rattle.decision.specs.Held.{intervalOf, Held}
+use Rattle.decision.specs.Represents.{intervalOf, Represents}
 
 module _ (lists : Lists) (i : ℕ) (x : HistoryEvent) where
   pub keeps : {e : HistoryEvent} {g : ℕ} (p : ℕ) → StandsIn e g (lists p) → StandsIn e g (added lists i x p)
@@ -69,7 +69,7 @@ positive zero ne = absurd (ne refl)
 positive (suc y) ne = omega arith
 
 module _ (n : ℕ) (lists : Lists) (vector vector' : ℕ → ℕ → ℕ → ℕ) (rows last : ℕ) (vs process from to : List ℕ)
-    (h : Held n lists vector rows last vs process from to) where
+    (h : Represents n lists vector rows last vs process from to) where
   -- A checkpoint of i: a new row, after all others.
   module _ (i : ℕ) (vs' process' : List ℕ) (li : i < n) (room : rows < 4112) (len : 65792 ≤ length vs') (len' : 4112 ≤ length process')
       (old-e : (r f : ℕ) → r < rows → f < 16 → entryAt vs' r f ≡ entryAt vs r f)
@@ -96,8 +96,8 @@ module _ (n : ℕ) (lists : Lists) (vector vector' : ℕ → ℕ → ℕ → ℕ
     state' : (r : ℕ) → r < rows → intervalOf vs' process' r ≤ checkpoints (added lists i stored (getD process' r 0))
     state' r lr = omega (arith, old-i r lr, h .state r lr, least (getD process r 0), ap (λ (q : ℕ). checkpoints (added lists i stored q)) (old-p r lr))
 
-    pub held-stored : Held n (added lists i stored) vector' (suc rows) last vs' process' from to
-    held-stored = record {
+    pub represented-stored : Represents n (added lists i stored) vector' (suc rows) last vs' process' from to
+    represented-stored = record {
       few = h .few;
       room = len;
       places = len';
@@ -182,9 +182,9 @@ module _ (n : ℕ) (lists : Lists) (vector vector' : ℕ → ℕ → ℕ → ℕ
     unfolding e
     new-sent = placed-to (added lists i (sent (suc last))) (sym new-iv) (sym new-own) (ends lists i (sent (suc last)))
 
-    pub held-sent : Held n (added lists i (sent (suc last))) vector rows (suc last) vs process from' to'
+    pub represented-sent : Represents n (added lists i (sent (suc last))) vector rows (suc last) vs process from' to'
     unfolding e
-    held-sent = record {
+    represented-sent = record {
       few = h .few;
       room = h .room;
       places = h .places;
@@ -261,8 +261,8 @@ module _ (n : ℕ) (lists : Lists) (vector vector' : ℕ → ℕ → ℕ → ℕ
     old-own-got : (m : ℕ) → (m ≡ y → ⊥) → getD process (getD to' m 0 - 1) 0 ≡ getD process (getD to m 0 - 1) 0
     old-own-got m ne = ap (λ (r : ℕ). getD process (r - 1) 0) (old-t m ne)
 
-    pub held-received : Held n (added lists b (received (suc y))) vector' rows last vs' process from to'
-    held-received = record {
+    pub represented-received : Represents n (added lists b (received (suc y))) vector' rows last vs' process from to'
+    represented-received = record {
       few = h .few;
       room = len;
       places = h .places;

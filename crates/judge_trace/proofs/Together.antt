@@ -32,7 +32,7 @@ use Rattle.patterns.specs.Verdicts.{countOf, verdictOn, verdict, RightVerdict}
 use Rattle.patterns.proofs.Right.{is-verdict}
 use Rattle.patterns.proofs.Facts.{begin}
 use Rattle.patterns.proofs.Trail.{Trail, Right}
-use Rattle.decision.specs.Held.{Held, Judges, Says}
+use Rattle.decision.specs.Represents.{Represents, Judges, Says}
 use Rattle.judge_trace.specs.declared.reading.Progress.{Progress}
 use Rattle.judge_trace.specs.declared.reading.Taking.the-variants as answers
 use Rattle.judge_trace.specs.declared.reading.Step.{Step}
@@ -181,7 +181,7 @@ pub all-refused-by : (trace : List ℕ) (n : ℕ) → n ≡ countOf trace → (r
 all-refused-by trace n c r T why h e = rw c at (all-refused n trace r T why h e)
 
 judges-says : (n rows last : ℕ) (vectors process from to : List ℕ) (v : Verdict) → Judges n rows last vectors process from to v → (tr : Trail) → Right tr
-    → Held n (tr .lists) (tr .vector) rows last vectors process from to → Says n (tr .lists) v
+    → Represents n (tr .lists) (tr .vector) rows last vectors process from to → Says n (tr .lists) v
 unfolding Judges
 judges-says n rows last vectors process from to v h = h
 
@@ -237,4 +237,4 @@ right-taken trace n c some-byte low high few r T v h e j =
     let w = all-taken n trace r T h e in
     is-verdict trace v
     (right-whole trace some-byte low high few (w .1) (w .2 .lists) v (ap (λ (k : ℕ). readFrom k empty (drop 1 trace)) (sym c) ∙ w .4) (w .3 .lists)
-    (says-moved n (countOf trace) (w .2 .lists) v c (judges-says n (r .next .rows) (r .next .last) (T .vectors) (T .process) (T .from) (T .to) v j (w .2) (w .3 .right) (w .3 .held))))
+    (says-moved n (countOf trace) (w .2 .lists) v c (judges-says n (r .next .rows) (r .next .last) (T .vectors) (T .process) (T .from) (T .to) v j (w .2) (w .3 .right) (w .3 .represented))))

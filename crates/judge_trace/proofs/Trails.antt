@@ -21,8 +21,8 @@ use Rattle.patterns.specs.Paths.{eventAt}
 use Rattle.patterns.proofs.Trail.{Trail, own, Right, storing, sending, receiving, receiving-right}
 use Rattle.decision.specs.Rows.{entryAt, rowOf, putRow, put-length, put-same, put-other, row-entry, row-length}
 use Rattle.judge_trace.specs.Readings.{receiptVectors}
-use Rattle.decision.specs.Held.{intervalOf, Held}
-use Rattle.judge_trace.proofs.Steps.{held-stored, held-sent, held-received, received-own}
+use Rattle.decision.specs.Represents.{intervalOf, Represents}
+use Rattle.judge_trace.proofs.Steps.{represented-stored, represented-sent, represented-received, received-own}
 
 -- Entry f of a row that is read, as a number.
 pub row-number : (t : List ℕ) (r f : ℕ) → f < 16 → entry (rowOf t r) f .0 ≡ entryAt t r f
@@ -50,7 +50,7 @@ taken-entry : (own carried : List Interval) (f : ℕ) → f < 16 → entry (take
 unfolding takenVector takenEntry
 taken-entry own carried f h = ap (λ (x : Interval). x .0) (getD-table 16 (takenEntry own carried) f (record { 0 = 0 }) h) ∙ greater (entry own f) (entry carried f)
 
-module _ (n : ℕ) (t : Trail) (v : Right t) (rows last : ℕ) (vs process from to : List ℕ) (h : Held n (t .lists) (t .vector) rows last vs process from to)
+module _ (n : ℕ) (t : Trail) (v : Right t) (rows last : ℕ) (vs process from to : List ℕ) (h : Represents n (t .lists) (t .vector) rows last vs process from to)
     (i row : ℕ) (li : i < n) (lr : row < rows) (own-row : getD process row 0 ≡ i) (live : intervalOf vs process row ≡ checkpoints (t .lists i)) where
   i16 : i < 16
   i16 = omega (arith, h .few)
@@ -82,8 +82,8 @@ module _ (n : ℕ) (t : Trail) (v : Right t) (rows last : ℕ) (vs process from 
       (λ e. rw e (advanced-own vs row i i16 ∙ ap suc own-entry ∙ sym stored-own-new))
       (λ ne. advanced-other vs row i f lf ne ∙ live-entry f lf ∙ sym (stored-new f ∙ upd-other (t .vector i (own t i)) i (suc (own t i)) f ne))
 
-  pub stores : rows < 4112 → Held n (storing t v i .lists) (storing t v i .vector) (suc rows) last (putRow vs rows (advanced i (rowOf vs row))) (set process rows i) from to
-  stores room = lists-same (held-stored n (t .lists) (t .vector) (storing t v i .vector) rows last vs process from to h i
+  pub stores : rows < 4112 → Represents n (storing t v i .lists) (storing t v i .vector) (suc rows) last (putRow vs rows (advanced i (rowOf vs row))) (set process rows i) from to
+  stores room = lists-same (represented-stored n (t .lists) (t .vector) (storing t v i .vector) rows last vs process from to h i
       (putRow vs rows (advanced i (rowOf vs row))) (set process rows i) li room
       (omega (arith, put-length vs rows (advanced i (rowOf vs row)), h .room)) (omega (arith, length-set process rows i, h .places))
       (λ r f l lf. put-other vs rows (advanced i (rowOf vs row)) r f lf (λ e. omega arith))
@@ -92,22 +92,22 @@ module _ (n : ℕ) (t : Trail) (v : Right t) (rows last : ℕ) (vs process from 
       (λ f lf. put-same vs rows (advanced i (rowOf vs row)) f lf (omega (arith, h .room)) ∙ stored-entry f lf)
       stored-own-new stored-old)
     where
-      lists-same : Held n (added (t .lists) i stored) (storing t v i .vector) (suc rows) last (putRow vs rows (advanced i (rowOf vs row))) (set process rows i) from to
-          → Held n (storing t v i .lists) (storing t v i .vector) (suc rows) last (putRow vs rows (advanced i (rowOf vs row))) (set process rows i) from to
+      lists-same : Represents n (added (t .lists) i stored) (storing t v i .vector) (suc rows) last (putRow vs rows (advanced i (rowOf vs row))) (set process rows i) from to
+          → Represents n (storing t v i .lists) (storing t v i .vector) (suc rows) last (putRow vs rows (advanced i (rowOf vs row))) (set process rows i) from to
       lists-same w = unfold storing in w
 
   -- A send.
-  pub sends : last ≡ t .last → last < 4096 → Held n (sending t v i .lists) (sending t v i .vector) rows (suc last) vs process (set from last row) (set to last 0)
-  sends e room = named e (held-sent n (t .lists) (t .vector) (t .vector) rows last vs process from to h i row (set from last row) (set to last 0) room
+  pub sends : last ≡ t .last → last < 4096 → Represents n (sending t v i .lists) (sending t v i .vector) rows (suc last) vs process (set from last row) (set to last 0)
+  sends e room = named e (represented-sent n (t .lists) (t .vector) (t .vector) rows last vs process from to h i row (set from last row) (set to last 0) room
       (omega (arith, length-set from last row, h .sends)) (omega (arith, length-set to last 0, h .receipts)) lr own-row live
       (λ m lm. getD-set-other from last m row 0 (λ d. omega arith)) (getD-set-same from last row 0 (omega (arith, h .sends)))
       (λ m lm. getD-set-other to last m 0 0 (λ d. omega arith)) (getD-set-same to last 0 0 (omega (arith, h .receipts))))
     where
-      named : last ≡ t .last → Held n (added (t .lists) i (sent (suc last))) (t .vector) rows (suc last) vs process (set from last row) (set to last 0)
-          → Held n (sending t v i .lists) (sending t v i .vector) rows (suc last) vs process (set from last row) (set to last 0)
+      named : last ≡ t .last → Represents n (added (t .lists) i (sent (suc last))) (t .vector) rows (suc last) vs process (set from last row) (set to last 0)
+          → Represents n (sending t v i .lists) (sending t v i .vector) rows (suc last) vs process (set from last row) (set to last 0)
       named e w = unfold sending in subst-lists (ap (λ (k : ℕ). added (t .lists) i (sent (suc k))) e) w
         where
-          subst-lists : {l k : Lists} → l ≡ k → Held n l (t .vector) rows (suc last) vs process (set from last row) (set to last 0) → Held n k (t .vector) rows (suc last) vs process (set from last row) (set to last 0)
+          subst-lists : {l k : Lists} → l ≡ k → Represents n l (t .vector) rows (suc last) vs process (set from last row) (set to last 0) → Represents n k (t .vector) rows (suc last) vs process (set from last row) (set to last 0)
           subst-lists d w = rw d at w
 
   -- A delivery of the message in place y.
@@ -142,11 +142,11 @@ module _ (n : ℕ) (t : Trail) (v : Right t) (rows last : ℕ) (vs process from 
     unfolding receiptVectors
     got-live = put-same vs row (takenVector (rowOf vs row) carried) i i16 (omega (arith, h .room, h .most-rows)) ∙ got-entry i i16 ∙ got-self
 
-    pub receives : Held n (after .lists) (after .vector) rows last (receiptVectors vs row carried) process from (set to y (row + 1))
+    pub receives : Represents n (after .lists) (after .vector) rows last (receiptVectors vs row carried) process from (set to y (row + 1))
     unfolding receiptVectors
     receives =
         let w = takenVector (rowOf vs row) carried in
-        lists-same (held-received n (t .lists) (t .vector) (after .vector) rows last vs process from to h i row y (putRow vs row w) (set to y (row + 1)) ly
+        lists-same (represented-received n (t .lists) (t .vector) (after .vector) rows last vs process from to h i row y (putRow vs row w) (set to y (row + 1)) ly
         (omega (arith, put-length vs row w, h .room)) (omega (arith, length-set to y (row + 1), h .receipts)) lr own-row live
         (λ r f ne lf. put-other vs row w r f lf ne)
         (λ f lf. put-same vs row w f lf (omega (arith, h .room, h .most-rows)) ∙ got-entry f lf)
@@ -154,6 +154,6 @@ module _ (n : ℕ) (t : Trail) (v : Right t) (rows last : ℕ) (vs process from 
         (λ m ne. getD-set-other to y m (row + 1) 0 ne)
         (getD-set-same to y (row + 1) 0 (omega (arith, h .receipts, h .most-messages)) ∙ omega arith) not-got)
       where
-        lists-same : Held n (added (t .lists) i (received (suc y))) (after .vector) rows last (putRow vs row (takenVector (rowOf vs row) carried)) process from (set to y (row + 1))
-            → Held n (after .lists) (after .vector) rows last (putRow vs row (takenVector (rowOf vs row) carried)) process from (set to y (row + 1))
+        lists-same : Represents n (added (t .lists) i (received (suc y))) (after .vector) rows last (putRow vs row (takenVector (rowOf vs row) carried)) process from (set to y (row + 1))
+            → Represents n (after .lists) (after .vector) rows last (putRow vs row (takenVector (rowOf vs row) carried)) process from (set to y (row + 1))
         lists-same w = unfold receiving in w

@@ -13,7 +13,7 @@ use Rattle.patterns.specs.Patterns.{Pattern, empty, countUnderWay, recordRefusa
 use Rattle.patterns.specs.Paths.{eventAt}
 use Rattle.patterns.proofs.Trail.{Trail, Right}
 use Rattle.decision.specs.Rows.{entryAt, tableSize, mostRows}
-use Rattle.decision.specs.Held.{intervalOf, Held}
+use Rattle.decision.specs.Represents.{intervalOf, Represents}
 use Rattle.judge_trace.specs.declared.reading.Progress.{Progress}
 use Rattle.judge_trace.specs.declared.reading.Taking.{Taking}
 use Rattle.judge_trace.specs.declared.reading.Taking.the-variants.{Refused, Taken}
@@ -45,7 +45,7 @@ pub record Kept (n read : ℕ) (t : Pattern) (tr : Trail) (s : Progress) (T : Ta
   pub lists : t .lists ≡ tr .lists
   pub sends : t .sends ≡ tr .last
   pub last : s .last ≡ tr .last
-  pub held : Held n (tr .lists) (tr .vector) (s .rows) (s .last) (T .vectors) (T .process) (T .from) (T .to)
+  pub represented : Represents n (tr .lists) (tr .vector) (s .rows) (s .last) (T .vectors) (T .process) (T .from) (T .to)
   -- the live rows
   pub row-there : (p : ℕ) → p < n → getD (s .current) p 0 < s .rows
   pub row-own : (p : ℕ) → p < n → getD (T .process) (getD (s .current) p 0) 0 ≡ p

@@ -19,10 +19,10 @@ use Rattle.model.specs.Words.{entry, ones, mostInterval, mostProcesses, mostUnd
 use Rattle.model.specs.Steps.{advanced, takenVector, started}
 use Rattle.model.specs.Refusals.{firstOf}
 use Rattle.whole_runs.specs.Outcomes.{judged}
-use Rattle.verdicts.specs.declared.Verdict.{Verdict}
-use Rattle.verdicts.specs.declared.Verdict.the-variants as verdict
-use Rattle.verdicts.specs.Verdicts.{refusalOf, sendVerdict}
-use Rattle.verdicts.proofs.Cases.{accepted-send}
+use Rattle.admissions.specs.declared.Admission.{Admission}
+use Rattle.admissions.specs.declared.Admission.the-variants as admission
+use Rattle.admissions.specs.Admissions.{refusalOf, sendAdmission}
+use Rattle.admissions.proofs.Cases.{accepted-send}
 use Rattle.decision.specs.Rows.{rowOf, putRow, entryAt, put-same, put-other, put-length, tableSize, mostRows}
 use Rattle.judge_trace.specs.declared.reading.Progress.{Progress}
 use Rattle.judge_trace.specs.declared.reading.Taking.{Taking}
@@ -57,7 +57,7 @@ abbrev pub tableBy : Option Refusal → List ℕ → List ℕ → List ℕ
 tableBy o old new = judged o (λ why. old) new
 
 -- A checkpoint. The tables have room for one more row.
-pub record Roomy (n : ℕ) (s : Progress) (vectors process : List ℕ) : Type 0 where
+pub record EnoughRoom (n : ℕ) (s : Progress) (vectors process : List ℕ) : Type 0 where
   pub few : n ≤ mostProcesses
   pub room : tableSize ≤ length vectors
   pub places : mostRows ≤ length process
@@ -114,7 +114,7 @@ module _ (n : ℕ) (s : Progress) (i : ℕ) (vectors process : List ℕ) where
 
 -- A send.
 unfoldable pub sendRefusal : ℕ → Progress → ℕ → ℕ → Option Refusal
-sendRefusal n s i j = refusalOf (sendVerdict i j n (s .underway) (s .last))
+sendRefusal n s i j = refusalOf (sendAdmission i j n (s .underway) (s .last))
 
 unfoldable pub withMessage : Progress → Progress
 withMessage s = record { rows = s .rows; current = s .current; underway = s .underway + 1; last = s .last + 1 }
@@ -154,9 +154,9 @@ pub send-free : (n : ℕ) (s : Progress) (i j : ℕ) → sendRefusal n s i j ≡
 unfolding sendRefusal
 send-free n s i j e = accepted-send i j n (s .underway) (s .last) (accepted _ e)
   where
-    accepted : (v : Verdict) → refusalOf v ≡ none → v ≡ verdict.Accepted
-    accepted verdict.Accepted d = refl
-    accepted (verdict.Refused why) d = unfold refusalOf in absurd (let z : _≡_ {A = ℕ} 0 1 = cc in omega arith)
+    accepted : (v : Admission) → refusalOf v ≡ none → v ≡ admission.Accepted
+    accepted admission.Accepted d = refl
+    accepted (admission.Refused why) d = unfold refusalOf in absurd (let z : _≡_ {A = ℕ} 0 1 = cc in omega arith)
 
 module _ (n : ℕ) (s : Progress) (i j : ℕ) (vectors carried passing from to : List ℕ) where
   pub send-refused : (why : Refusal) → some why ≡ sendRefusal n s i j
@@ -329,7 +329,7 @@ first-more p vectors process current w lp room places e h = record {
   live = λ q lq. by-eq q p (λ d. rw d (getD-set-same current p p 0 (omega (arith, h .size)))) (λ ne. getD-set-other current p q p 0 ne ∙ h .live q (omega arith));
 }
 
-pub first-turn : (p : ℕ) (vectors process current : List ℕ) (w : List Interval) (vectors' : List ℕ) → p < mostProcesses → tableSize ≤ length vectors → mostRows ≤ length process
+pub first-step : (p : ℕ) (vectors process current : List ℕ) (w : List Interval) (vectors' : List ℕ) → p < mostProcesses → tableSize ≤ length vectors → mostRows ≤ length process
     → w ≡ started ones p .vector → FirstRows p vectors process current → vectors' ≡ putRow vectors p w
     → (length vectors' ≡ length vectors) × FirstRows (p + 1) vectors' (set process p p) (set current p p)
-first-turn p vectors process current w vectors' lp room places e h d = (ap length d ∙ put-length vectors p w, rw d (first-more p vectors process current w lp room places e h))
+first-step p vectors process current w vectors' lp room places e h d = (ap length d ∙ put-length vectors p w, rw d (first-more p vectors process current w lp room places e h))

@@ -26,7 +26,7 @@ fn wide(byte: u8) -> usize
 }
 
 // A trace is judged with the lent tables, whatever they hold. The refusals come in this order: 12, 1, 17, those of the records, 13.
-fn judge_beside(
+fn judge_with_tables(
     trace: &[u8],
     vectors: &mut [u16],
     process: &mut [u16],
@@ -76,7 +76,7 @@ pub fn judge(trace: &[u8]) -> Verdict
     let mut passing = [0u16; MOST_JUDGED];
     let mut from = [0u16; MOST_JUDGED];
     let mut to = [0u16; MOST_JUDGED];
-    judge_beside(
+    judge_with_tables(
         trace,
         &mut vectors,
         &mut process,

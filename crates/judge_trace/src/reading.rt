@@ -5,7 +5,7 @@ use model::Event;
 use model::PROCESSES;
 use model::Refusal;
 use trace::Decoded;
-use verdicts::Verdict;
+use admissions::Admission;
 ghost use mathlib.Core.Path.{_≡_};
 ghost use mathlib.Core.Option.{some};
 ghost use Prim.Native.Nat.{_+_, _*_, _≤_, _<_};
@@ -15,7 +15,7 @@ ghost use Rattle.model.specs.Words.{mostProcesses, mostUnderWay};
 ghost use Rattle.decision.specs.Rows.{rowOf, mostRows, tableSize};
 ghost use Rattle.trace.specs.Answers.{eventIn};
 ghost use Rattle.judge_trace.specs.Kept.{tables, Sized, Ready, Reads, ReadsAll};
-ghost use Rattle.judge_trace.specs.Readings.{refusedStep, takenStep, refusalIn, withRow, Roomy, checkpointStep, checkpointVectors, checkpointProcess, sendRefusal, withMessage, SendRoom, sentCarried, sendStep, sendCarried, sendPassing, sendFrom, sendTo, foundIn, withoutOne, dropStep, dropPassing, receiptVectors, DeliverRoom, deliverVectors, deliverTo, FirstRows};
+ghost use Rattle.judge_trace.specs.Readings.{refusedStep, takenStep, refusalIn, withRow, EnoughRoom, checkpointStep, checkpointVectors, checkpointProcess, sendRefusal, withMessage, SendRoom, sentCarried, sendStep, sendCarried, sendPassing, sendFrom, sendTo, foundIn, withoutOne, dropStep, dropPassing, receiptVectors, DeliverRoom, deliverVectors, deliverTo, FirstRows};
 
 // How far the reading is.
 pub struct Progress {
@@ -84,7 +84,7 @@ fn read_checkpoint(
     n: usize,
     i: usize,
 ) -> Step
-    requires { ⌜ Roomy n s (now vectors) (now process) ⌝ }
+    requires { ⌜ EnoughRoom n s (now vectors) (now process) ⌝ }
     ensures { λ r. ⌜ r ≡ checkpointStep n s i (now (vectors .entry)) ⌝ }
     ensures { λ r. ⌜ now (vectors .exit) ≡ checkpointVectors n s i (now (vectors .entry)) ⌝ }
     ensures { λ r. ⌜ now (process .exit) ≡ checkpointProcess n s i (now (vectors .entry)) (now (process .entry)) ⌝ }
@@ -95,7 +95,7 @@ fn read_checkpoint(
     let row = s.current[i] as usize;
     let v = decision::flat::row_at(vectors, row);
     let own = v[i];
-    let full = verdicts::is_last_interval(own);
+    let full = admissions::is_last_interval(own);
     if full {
         return refuse(Refusal::IntervalsUsed, s);
     }
@@ -112,10 +112,10 @@ fn send_refusal(s: Progress, n: usize, i: usize, receiver: usize) -> Taking
     requires { ⌜ s .last < mostJudged ⌝ }
     ensures { λ r. ⌜ refusalIn r ≡ sendRefusal n s i receiver ⌝ }
 {
-    let verdict = verdicts::send_verdict(i, receiver, n, s.underway, s.last as u32);
-    match verdict {
-        Verdict::Refused(why) => Taking::Refused(why),
-        Verdict::Accepted => Taking::Taken,
+    let admission = admissions::send_admission(i, receiver, n, s.underway, s.last as u32);
+    match admission {
+        Admission::Refused(why) => Taking::Refused(why),
+        Admission::Accepted => Taking::Taken,
     }
 }
 

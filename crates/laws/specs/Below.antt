@@ -8,7 +8,7 @@ use lib.Seq.{sets}
 use Rattle.laws.specs.Choice.{by-bool}
 use Rattle.laws.specs.Lists.{table}
 use Rattle.laws.specs.Loops.{setBelow}
-use Rattle.laws.specs.Rows.{all-turn}
+use Rattle.laws.specs.Rows.{all-step}
 use Rattle.laws.specs.Search.{allBelow, anyBelow}
 use Rattle.laws.specs.Tables.{length-table}
 use Rattle.laws.specs.Written.{sets-append}
@@ -27,7 +27,7 @@ all-not-any (suc n) t u h = by-bool (u n)
 
 -- A mark over all processes, with one more.
 pub all-and : (t : ℕ → Bool) (i : ℕ) (mark x : Bool) → mark ≡ allBelow i t → x ≡ t i → (mark && x) ≡ allBelow (i + 1) t
-all-and t i mark x inv e = rw e (all-turn t i mark inv)
+all-and t i mark x inv e = rw e (all-step t i mark inv)
 
 -- Written one by one, the entries of a table go to the front of a list.
 pub below-written : {A : Type 0} (n : ℕ) (f : ℕ → A) (l : List A) → setBelow n f l ≡ sets l 0 (table n f)

@@ -56,15 +56,15 @@ module _ {A : Type 0} (f : ℕ → A) (l : List A) where
 
   -- one iteration, at entry i of the list v that the iterations before it have left: the entry is as it was in l, and it is written or left alone
   module _ (v : List A) (i : ℕ) (inv : v ≡ setBelow i f l) where
-    pub turn-old : (d : A) → getD v i d ≡ getD l i d
-    turn-old d = ap (λ (w : List A). getD w i d) inv ∙ below-above i i d (omega arith)
+    pub step-old : (d : A) → getD v i d ≡ getD l i d
+    step-old d = ap (λ (w : List A). getD w i d) inv ∙ below-above i i d (omega arith)
 
-    pub turn-set : (x : A) → x ≡ f i → set v i x ≡ setBelow (i + 1) f l
+    pub step-set : (x : A) → x ≡ f i → set v i x ≡ setBelow (i + 1) f l
     unfolding setBelow
-    turn-set x e = rw (add-one, inv, e)
+    step-set x e = rw (add-one, inv, e)
 
-    pub turn-keep : (d : A) → getD l i d ≡ f i → v ≡ setBelow (i + 1) f l
-    turn-keep d e = sym (set-getD v i d) ∙ turn-set (getD v i d) (turn-old d ∙ e)
+    pub step-keep : (d : A) → getD l i d ≡ f i → v ≡ setBelow (i + 1) f l
+    step-keep d e = sym (set-getD v i d) ∙ step-set (getD v i d) (step-old d ∙ e)
 
 -- step 0, then step 1, up to step n - 1
 unfoldable pub iter : {A : Type 0} → ℕ → (ℕ → A → A) → A → A

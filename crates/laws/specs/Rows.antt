@@ -50,8 +50,8 @@ module _ {A : Type 0} (t : A → Bool) (l : List A) (i : ℕ) where
 
 -- An iteration of a loop that keeps a mark and goes on: the mark so far and the test of what is left are the test of the whole.
 module _ {A : Type 0} (t : A → Bool) (l : List A) (i : ℕ) (d : A) (h : i < length l) (mark whole : Bool) where
-  pub every-turn : (mark && every t (drop i l)) ≡ whole → ((mark && t (getD l i d)) && every t (drop (i + 1) l)) ≡ whole
-  every-turn inv = and-group mark (t (getD l i d)) (every t (drop (i + 1) l)) ∙ rw (← every-rest t l i d h) inv
+  pub every-step : (mark && every t (drop i l)) ≡ whole → ((mark && t (getD l i d)) && every t (drop (i + 1) l)) ≡ whole
+  every-step inv = and-group mark (t (getD l i d)) (every t (drop (i + 1) l)) ∙ rw (← every-rest t l i d h) inv
 
 -- The loop's end: the mark is the test of the whole.
 module _ {A : Type 0} (t : A → Bool) (l : List A) (i : ℕ) (h : length l ≤ i) (mark whole : Bool) where
@@ -66,12 +66,12 @@ every-at t (x ∷ l) zero d h e = and-left (t x) (every t l) e
 every-at t (x ∷ l) (suc k) d h e = every-at t l k d (omega arith) (and-right (t x) (every t l) e)
 
 -- Every element after a place passes: by index.
-pub every-behind : {A : Type 0} (t : A → Bool) (n : ℕ) (l : List A) (k : ℕ) (d : A) → every t (drop n l) ≡ true → n ≤ k → k < length l → t (getD l k d) ≡ true
+pub every-beyond : {A : Type 0} (t : A → Bool) (n : ℕ) (l : List A) (k : ℕ) (d : A) → every t (drop n l) ≡ true → n ≤ k → k < length l → t (getD l k d) ≡ true
 unfolding every
-every-behind t zero l k d e low under = every-at t l k d under e
-every-behind t (suc n) [] k d e low under = absurd (omega arith)
-every-behind t (suc n) (x ∷ l) zero d e low under = absurd (omega arith)
-every-behind t (suc n) (x ∷ l) (suc k) d e low under = every-behind t n l k d e (omega arith) (omega arith)
+every-beyond t zero l k d e low under = every-at t l k d under e
+every-beyond t (suc n) [] k d e low under = absurd (omega arith)
+every-beyond t (suc n) (x ∷ l) zero d e low under = absurd (omega arith)
+every-beyond t (suc n) (x ∷ l) (suc k) d e low under = every-beyond t n l k d e (omega arith) (omega arith)
 
 pub every-by : {A : Type 0} (t : A → Bool) (l : List A) (d : A) → ((k : ℕ) → k < length l → t (getD l k d) ≡ true) → every t l ≡ true
 unfolding every
@@ -100,9 +100,9 @@ last-take (x ∷ l) zero d b = refl
 last-take (x ∷ l) (suc h) d b = rw (last-take l h d (omega arith))
 
 -- An iteration of a loop that keeps a mark over all indexes and goes on.
-pub all-turn : (t : ℕ → Bool) (i : ℕ) (mark : Bool) → mark ≡ allBelow i t → (mark && t i) ≡ allBelow (i + 1) t
+pub all-step : (t : ℕ → Bool) (i : ℕ) (mark : Bool) → mark ≡ allBelow i t → (mark && t i) ≡ allBelow (i + 1) t
 unfolding allBelow
-all-turn t i mark inv = rw (add-one, inv) (and-swap (allBelow i t) (t i))
+all-step t i mark inv = rw (add-one, inv) (and-swap (allBelow i t) (t i))
 
 -- A loop over the indexes that stops at the first one that fails.
 pub all-stop : (n : ℕ) (t : ℕ → Bool) (i : ℕ) → i < n → t i ≡ false → false ≡ allBelow n t

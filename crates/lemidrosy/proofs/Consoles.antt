@@ -57,8 +57,8 @@ call-fits report (As r) owned test refusal made denied allowed = by-bool (test (
 kept-few : (c : Caller) (s : Run) → sound s ≡ true → (p : ℕ) → p < s .count → length (pick (entitled c (s .count) p) (listed p (process s p .kept)) []) ≤ 16
 unfolding listed process
 kept-few c s h p lt = by-bool (entitled c (s .count) p)
-    (λ e. rw (e, length-map {B = Deletion} (take (getD (s .held) p 0) (getD (s .kept .0) p [])) (λ x. record { process = p; index = x .index }))
-    (omega (arith, length-take (getD (s .held) p 0) (getD (s .kept .0) p []), few-processes s h, sound-state s h .processes p lt .held-most)))
+    (λ e. rw (e, length-map {B = Deletion} (take (getD (s .«kept_count») p 0) (getD (s .kept .0) p [])) (λ x. record { process = p; index = x .index }))
+    (omega (arith, length-take (getD (s .«kept_count») p 0) (getD (s .kept .0) p []), few-processes s h, sound-state s h .processes p lt .kept-count-most)))
     (λ e. rw e (omega arith))
 
 listed-few : (s : Run) (c : Caller) (lent : List ℕ) → listRefusal s lent ≡ none → length (listedTo c s) < 16_777_216
@@ -68,10 +68,10 @@ listed-few s c lent e = by-bool (sound s)
     (λ h. absurd (let f : some UnsoundState ≡ none = rw h at e in let z : _≡_ {A = ℕ} 0 1 = cc in omega arith))
 
 module _ (role owned : ℕ) where
-  pub start-as-fits : (w : List ℕ) (n : ℕ) (counts : List ℕ) → Fits (startReport (startAs role owned w n counts .answer))
+  pub start-as-fits : (w : List ℕ) (n : ℕ) (blockCounts : List ℕ) → Fits (startReport (startAs role owned w n blockCounts .answer))
   unfolding startAs consoleStartIn startReport
-  start-as-fits w n counts = call-fits startReport (claimOf role) owned (λ c. denied c Start) (denial (start-answer.Refused Denied) (runOf w) [] []) (λ c. startOutcomeIn (length w) n counts)
-      (fits-refused Denied) (λ c. start-fits (length w) n counts)
+  start-as-fits w n blockCounts = call-fits startReport (claimOf role) owned (λ c. denied c Start) (denial (start-answer.Refused Denied) (runOf w) [] []) (λ c. startOutcomeIn (length w) n blockCounts)
+      (fits-refused Denied) (λ c. start-fits (length w) n blockCounts)
 
   module _ (s : Run) where
     pub checkpoint-as-fits : (i : ℕ) (lent : List ℕ) → Fits (checkpointReport (checkpointAs role owned s i lent .answer))

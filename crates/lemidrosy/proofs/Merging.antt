@@ -14,7 +14,7 @@ use Rattle.model.specs.laws.Refusals.{by-refusal}
 use Rattle.answers.specs.Codes.{Fits}
 use Rattle.answers.proofs.Fit.{fits-refused, fits-value}
 use Rattle.merges.specs.Halves.{HalfEvent, KeepsBoth}
-use Rattle.merges.specs.Merge.{halfEventOf, behindCount, fieldsIn, mergeRefusal, mergeOutcome, mergeReport, MergePromise}
+use Rattle.merges.specs.Merge.{halfEventOf, afterFirstByte, fieldsIn, mergeRefusal, mergeOutcome, mergeReport, MergePromise}
 use Rattle.merges.proofs.Replaying.{how-many, fine, merge-promise}
 
 -- An order of two halves has all their records.
@@ -36,7 +36,7 @@ module _ (first second : List ℕ) (set : ℕ) (buffer : List ℕ) where
       let many = keeps-length (p .0) (p .1) (p .2) (p .5) in
       let value : some b ≡ some (1 + 4 * length (p .2)) = sym (ap (λ (a : MergeAnswer). mergeReport a .value) merged) ∙ p .8 in
       let same : b ≡ 1 + 4 * length (p .2) = cc in
-      omega (arith, same, many, same-length (fieldsIn (behindCount first)) (p .0) (p .3), same-length (fieldsIn (behindCount second)) (p .1) (p .4), how-many (behindCount first), how-many (behindCount second), f .few-first, f .few-second)
+      omega (arith, same, many, same-length (fieldsIn (afterFirstByte first)) (p .0) (p .3), same-length (fieldsIn (afterFirstByte second)) (p .1) (p .4), how-many (afterFirstByte first), how-many (afterFirstByte second), f .few-first, f .few-second)
 
   answer-fits : (a : MergeAnswer) → ((b : ℕ) → a ≡ Merged b → b < 16_777_216) → Fits (mergeReport a)
   unfolding mergeReport

@@ -30,11 +30,11 @@ module _ (memory words input out lines request : List ℕ) where
   pub begun-short : room ≡ true → length request < 4 → RecordBegun memory words input out lines request memory request 3
   begun-short e h = too-short (rw (e, lt-leb 4 (length request) h))
 
-  pub begun-done : (after told : List ℕ) (form : requests.Request) → room ≡ true → 4 ≤ length request → StandsFor after words input out lines form counting
-      → told ≡ sets request 0 (packed form) → RecordBegun memory words input out lines request after told 0
-  begun-done after told form e h posed is = record {
+  pub begun-done : (after posed-request : List ℕ) (form : requests.Request) → room ≡ true → 4 ≤ length request → StandsFor after words input out lines form counting
+      → posed-request ≡ sets request 0 (packed form) → RecordBegun memory words input out lines request after posed-request 0
+  begun-done after posed-request form e h posed is = record {
     short = λ s. absurd (false≢true (sym s ∙ rw (e, le-leb 4 (length request) h)));
-    begun = λ s. (refl, record { form = form; stands = posed; told = is });
+    begun = λ s. (refl, record { form = form; stands = posed; posed-request = is });
   }
 
 module _ (l : Lent) (request : List ℕ) (kind number : ℕ) where
@@ -44,17 +44,17 @@ module _ (l : Lent) (request : List ℕ) (kind number : ℕ) where
     taken = λ s. absurd (false≢true (sym (lt-leb 4 (length request) h) ∙ s));
   }
 
-  pub stepped-done : (l′ : Lent) (told : List ℕ) (form : requests.Request) (answer : answers.Answer) → 4 ≤ length request → answer ≡ unpacked kind number
+  pub stepped-done : (l′ : Lent) (posed-request : List ℕ) (form : requests.Request) (answer : answers.Answer) → 4 ≤ length request → answer ≡ unpacked kind number
       → StandsFor (l′ .memory) (l′ .words) (l′ .input) (l′ .out) (l′ .lines) form (stepped machine (stands l) (answerOf answer (placeOf (l .memory)) (l .input)))
-      → told ≡ sets request 0 (packed form) → RecordStepped l request kind number l′ told 0
-  stepped-done l′ told form answer h e posed is = record {
+      → posed-request ≡ sets request 0 (packed form) → RecordStepped l request kind number l′ posed-request 0
+  stepped-done l′ posed-request form answer h e posed is = record {
     short = λ s. absurd (false≢true (sym s ∙ le-leb 4 (length request) h));
     taken = λ s. (
       refl,
       record {
         form = form;
         stands = subst (λ (a : answers.Answer). StandsFor (l′ .memory) (l′ .words) (l′ .input) (l′ .out) (l′ .lines) form (stepped machine (stands l) (answerOf a (placeOf (l .memory)) (l .input)))) e posed;
-        told = is;
+        posed-request = is;
       },
     );
   }

@@ -72,14 +72,14 @@ module _ {A : Type 0} where
     leaves-some : (l : List ℕ) → (length l ≡ 0 → ⊥) → LeavesAt (atPlace none made buffer l) (made (getD l 0 0) .outcome) (made (getD l 0 0) .buffer) (set l 0 (made (getD l 0 0) .place))
     leaves-some l e = leaves-at _ _ _ _ (is-some l e)
 
-module _ (w : List ℕ) (n : ℕ) (counts buffer l : List ℕ) where
-  pub start-none : length l ≡ 0 → LeavesAt (startAt w n counts buffer l) (unplaced (start-answer.Refused ListTooShort) (runOf w) [] []) buffer l
+module _ (w : List ℕ) (n : ℕ) (blockCounts buffer l : List ℕ) where
+  pub start-none : length l ≡ 0 → LeavesAt (startAt w n blockCounts buffer l) (unplaced (start-answer.Refused ListTooShort) (runOf w) [] []) buffer l
   unfolding startAt
   start-none e = leaves-none _ _ buffer l e
 
-  pub start-some : (length l ≡ 0 → ⊥) → LeavesAt (startAt w n counts buffer l) (recordedStartIn (length w) n counts buffer (getD l 0 0) .outcome) (recordedStartIn (length w) n counts buffer (getD l 0 0) .buffer) (set l 0 (recordedStartIn (length w) n counts buffer (getD l 0 0) .place))
+  pub start-some : (length l ≡ 0 → ⊥) → LeavesAt (startAt w n blockCounts buffer l) (recordedStartIn (length w) n blockCounts buffer (getD l 0 0) .outcome) (recordedStartIn (length w) n blockCounts buffer (getD l 0 0) .buffer) (set l 0 (recordedStartIn (length w) n blockCounts buffer (getD l 0 0) .place))
   unfolding startAt
-  start-some e = leaves-some _ (recordedStartIn (length w) n counts buffer) buffer l e
+  start-some e = leaves-some _ (recordedStartIn (length w) n blockCounts buffer) buffer l e
 
 module _ (s : Run) (i : ℕ) (deleted buffer l : List ℕ) where
   pub checkpoint-none : length l ≡ 0 → LeavesAt (checkpointAt s i deleted buffer l) (unplaced (checkpoint-answer.Refused ListTooShort) s deleted []) buffer l
@@ -144,13 +144,13 @@ module _ (s : Run) (x : List Named) (line buffer l : List ℕ) where
   unfolding earliestAt
   earliest-some e = leaves-some _ (recordedEarliest s x line buffer) buffer l e
 
-module _ (w : List ℕ) (n : ℕ) (counts buffer : List ℕ) where
-  pub words-none : (l : List ℕ) → length l ≡ 0 → w ≡ startWordsAt w n counts buffer l
+module _ (w : List ℕ) (n : ℕ) (blockCounts buffer : List ℕ) where
+  pub words-none : (l : List ℕ) → length l ≡ 0 → w ≡ startWordsAt w n blockCounts buffer l
   unfolding startWordsAt
   words-none [] e = refl
   words-none (p ∷ l) e = absurd (omega arith)
 
-  pub words-some : (l : List ℕ) → (length l ≡ 0 → ⊥) → recordedStartWords w n counts buffer ≡ startWordsAt w n counts buffer l
+  pub words-some : (l : List ℕ) → (length l ≡ 0 → ⊥) → recordedStartWords w n blockCounts buffer ≡ startWordsAt w n blockCounts buffer l
   unfolding startWordsAt
   words-some [] e = absurd (e refl)
   words-some (p ∷ l) e = refl
@@ -192,11 +192,11 @@ fits-recorded report own outcome short bytes buffer place a b = by-refusal own
     (λ e. rw e (by-bool (ltb (length buffer - place) (length bytes)) (λ q. rw q b) (λ q. rw q a)))
     (λ x e. rw e a)
 
-pub start-recorded-fits : (many n : ℕ) (counts buffer : List ℕ) (place : ℕ) → Fits (startReport (recordedStartIn many n counts buffer place .outcome .answer))
+pub start-recorded-fits : (many n : ℕ) (blockCounts buffer : List ℕ) (place : ℕ) → Fits (startReport (recordedStartIn many n blockCounts buffer place .outcome .answer))
 unfolding startReport recordedStartIn unwritten appended
-start-recorded-fits many n counts buffer place = by-refusal (startRefusalIn many n counts)
-    (λ e. rw e (by-bool (ltb (length buffer) 1) (λ q. rw q (fits-refused BufferTooShort)) (λ q. rw q (start-fits many n counts))))
-    (λ x e. rw e (start-fits many n counts))
+start-recorded-fits many n blockCounts buffer place = by-refusal (startRefusalIn many n blockCounts)
+    (λ e. rw e (by-bool (ltb (length buffer) 1) (λ q. rw q (fits-refused BufferTooShort)) (λ q. rw q (start-fits many n blockCounts))))
+    (λ x e. rw e (start-fits many n blockCounts))
 
 module _ (s : Run) where
   pub checkpoint-recorded-fits : (i : ℕ) (deleted buffer : List ℕ) (place : ℕ) → Fits (checkpointReport (recordedCheckpoint s i deleted buffer place .outcome .answer))

@@ -9,6 +9,6 @@ use Rattle.answers.specs.Codes.{Fits}
 use Rattle.answers.proofs.Fit.{fits-refused, fits-none}
 use Rattle.in_place.specs.Starting.{startRefusalIn, startOutcomeIn}
 
-pub start-fits : (many n : ℕ) (counts : List ℕ) → Fits (startReport (startOutcomeIn many n counts .answer))
+pub start-fits : (many n : ℕ) (blockCounts : List ℕ) → Fits (startReport (startOutcomeIn many n blockCounts .answer))
 unfolding startReport startOutcomeIn
-start-fits many n counts = by-refusal (startRefusalIn many n counts) (λ e. rw e (fits-none 0 (omega arith))) (λ x e. rw e (fits-refused x))
+start-fits many n blockCounts = by-refusal (startRefusalIn many n blockCounts) (λ e. rw e (fits-none 0 (omega arith))) (λ x e. rw e (fits-refused x))

@@ -25,9 +25,9 @@ module _ (lacks : Bool) (memory request : List ℕ) (Stands : requests.Request �
 
   pub begun-done : (after numbers : List ℕ) (form : requests.Request) → lacks ≡ false → 4 ≤ length request → Stands form
       → numbers ≡ sets request 0 (packed form) → Begun lacks memory request after numbers Stands 0
-  begun-done after numbers form e h stands told = record {
+  begun-done after numbers form e h stands posed-request = record {
     short = λ s. absurd (false≢true (sym (rw (e, le-ltb (length request) 4 h)) ∙ s));
-    begun = λ s. (refl, record { form = form; stands = stands; told = told });
+    begun = λ s. (refl, record { form = form; stands = stands; posed-request = posed-request });
   }
 
 module _ (memory out request : List ℕ) (kind number : ℕ) (Stands : answers.Answer → requests.Request → Type 0) where
@@ -39,7 +39,7 @@ module _ (memory out request : List ℕ) (kind number : ℕ) (Stands : answers.A
 
   pub stepped-done : (after text numbers : List ℕ) (form : requests.Request) (answer : answers.Answer) → 4 ≤ length request → answer ≡ unpacked kind number → Stands answer form
       → numbers ≡ sets request 0 (packed form) → Stepped memory out request kind number after text numbers Stands 0
-  stepped-done after text numbers form answer h e stands told = record {
+  stepped-done after text numbers form answer h e stands posed-request = record {
     short = λ s. absurd (false≢true (sym (le-ltb (length request) 4 h) ∙ s));
-    taken = λ s. (refl, record { form = form; stands = subst (λ (a : answers.Answer). Stands a form) e stands; told = told });
+    taken = λ s. (refl, record { form = form; stands = subst (λ (a : answers.Answer). Stands a form) e stands; posed-request = posed-request });
   }

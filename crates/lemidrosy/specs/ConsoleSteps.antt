@@ -18,7 +18,7 @@ use Rattle.console_steps.specs.Lent.{hasRoom, stateOf, placeOf, StandsFor}
 pub record ConsolePosed (words memory input out before request : List ℕ) (s : State) : Type 0 where
   pub form : requests.Request
   pub stands : StandsFor memory words input out form s
-  pub told : request ≡ sets before 0 (packed form)
+  pub posed-request : request ≡ sets before 0 (packed form)
 
 -- A list is too short, or the words are not as many as a run has: 3, and nothing is written. Otherwise 0, and the machine asks for what it asks for first.
 pub record ConsoleBegun (words memory input out request after numbers : List ℕ) (r : ℕ) : Type 0 where

@@ -41,11 +41,11 @@ abbrev pub unplaced : {A : Type 0} → A → Run → List ℕ → List ℕ → O
 unplaced answer s deleted line = record { run = s; answer = answer; rose = 0; deleted = deleted; line = line }
 
 unfoldable pub startAt : List ℕ → ℕ → List ℕ → List ℕ → List ℕ → Placed StartAnswer
-startAt w n counts buffer = atPlace (unplaced (start-answer.Refused ListTooShort) (runOf w) [] []) (recordedStartIn (length w) n counts buffer) buffer
+startAt w n blockCounts buffer = atPlace (unplaced (start-answer.Refused ListTooShort) (runOf w) [] []) (recordedStartIn (length w) n blockCounts buffer) buffer
 
 unfoldable pub startWordsAt : List ℕ → ℕ → List ℕ → List ℕ → List ℕ → List ℕ
-startWordsAt w n counts buffer [] = w
-startWordsAt w n counts buffer (p ∷ l) = recordedStartWords w n counts buffer
+startWordsAt w n blockCounts buffer [] = w
+startWordsAt w n blockCounts buffer (p ∷ l) = recordedStartWords w n blockCounts buffer
 
 unfoldable pub checkpointAt : Run → ℕ → List ℕ → List ℕ → List ℕ → Placed CheckpointAnswer
 checkpointAt s i deleted buffer = atPlace (unplaced (checkpoint-answer.Refused ListTooShort) s deleted []) (recordedCheckpoint s i deleted buffer) buffer

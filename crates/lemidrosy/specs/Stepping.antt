@@ -23,7 +23,7 @@ use Rattle.simulate_machine.specs.Words as simulated
 pub record Posed (before request : List ℕ) (Stands : requests.Request → Type 0) : Type 0 where
   pub form : requests.Request
   pub stands : Stands form
-  pub told : request ≡ sets before 0 (packed form)
+  pub posed-request : request ≡ sets before 0 (packed form)
 
 -- A list is too short: 3, and nothing is written. Otherwise 0, and the machine asks for what it asks for first.
 pub record Begun (lacks : Bool) (memory request after numbers : List ℕ) (Stands : requests.Request → Type 0) (r : ℕ) : Type 0 where

@@ -33,14 +33,14 @@ pub extern "C" fn lemidrosy_is_sound(words: &[u16]) -> bool
 
 // A run of n processes with the block count of each begins in the words.
 #[no_mangle]
-pub extern "C" fn lemidrosy_start(words: &mut [u16], n: usize, counts: &[u32]) -> u64
-    ensures { λ r. ⌜ r ≡ startCode (startOutcomeIn (length (now (words .entry))) n (now (counts .entry)) .answer) ⌝ }
-    ensures { λ r. ⌜ runOf (now (words .exit)) ≡ startOutcomeIn (length (now (words .entry))) n (now (counts .entry)) .run ⌝ }
-    ensures { λ r. ⌜ now (words .exit) ≡ startWords (now (words .entry)) n (now (counts .entry)) ⌝ }
+pub extern "C" fn lemidrosy_start(words: &mut [u16], n: usize, block_counts: &[u32]) -> u64
+    ensures { λ r. ⌜ r ≡ startCode (startOutcomeIn (length (now (words .entry))) n (now («block_counts» .entry)) .answer) ⌝ }
+    ensures { λ r. ⌜ runOf (now (words .exit)) ≡ startOutcomeIn (length (now (words .entry))) n (now («block_counts» .entry)) .run ⌝ }
+    ensures { λ r. ⌜ now (words .exit) ≡ startWords (now (words .entry)) n (now («block_counts» .entry)) ⌝ }
     ensures { λ r. ⌜ (length (now (words .entry)) ≡ stateSize → Clean (now (words .exit))) ⌝ }
-    ensures { λ r. ⌜ (startOutcomeIn (length (now (words .entry))) n (now (counts .entry)) .answer ≡ Started → StartPromise n (now (counts .entry)) (runOf (now (words .exit)))) ⌝ }
+    ensures { λ r. ⌜ (startOutcomeIn (length (now (words .entry))) n (now («block_counts» .entry)) .answer ≡ Started → StartPromise n (now («block_counts» .entry)) (runOf (now (words .exit)))) ⌝ }
 {
-    let answer = in_place::start::start(words, n, counts);
+    let answer = in_place::start::start(words, n, block_counts);
     answers::of_start(answer)
 }
 

@@ -38,14 +38,14 @@ pub extern "C" fn lemidrosy_console_start(
     owned: u32,
     words: &mut [u16],
     n: usize,
-    counts: &[u32],
+    block_counts: &[u32],
 ) -> u64
-    ensures { λ r. ⌜ r ≡ startCode (startAs role owned (now (words .entry)) n (now (counts .entry)) .answer) ⌝ }
-    ensures { λ r. ⌜ runOf (now (words .exit)) ≡ startAs role owned (now (words .entry)) n (now (counts .entry)) .run ⌝ }
-    ensures { λ r. ⌜ now (words .exit) ≡ startWordsAs role owned (now (words .entry)) n (now (counts .entry)) ⌝ }
+    ensures { λ r. ⌜ r ≡ startCode (startAs role owned (now (words .entry)) n (now («block_counts» .entry)) .answer) ⌝ }
+    ensures { λ r. ⌜ runOf (now (words .exit)) ≡ startAs role owned (now (words .entry)) n (now («block_counts» .entry)) .run ⌝ }
+    ensures { λ r. ⌜ now (words .exit) ≡ startWordsAs role owned (now (words .entry)) n (now («block_counts» .entry)) ⌝ }
     ensures { λ r. ⌜ (length (now (words .entry)) ≡ stateSize → Clean (now (words .entry)) → Clean (now (words .exit))) ⌝ }
 {
-    let answer = console_in_place::calls::start(role, owned, words, n, counts);
+    let answer = console_in_place::calls::start(role, owned, words, n, block_counts);
     answers::of_start(answer)
 }
 

@@ -60,12 +60,12 @@ fn merge_code(a: MergeAnswer) -> u64
         MergeAnswer::Refused(why) => summaries::number_of(why) as u64,
         MergeAnswer::Merged(bytes) => {
             let value = Value::Number(bytes as u64);
-            let said = Summary {
+            let summary = Summary {
                 refused: 0,
                 value,
                 deletions: 0,
             };
-            code_of(said, 0)
+            code_of(summary, 0)
         }
     }
 }

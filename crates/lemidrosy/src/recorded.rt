@@ -26,22 +26,22 @@ const NO_PLACE: u64 = 3;
 pub extern "C" fn lemidrosy_record_start(
     words: &mut [u16],
     n: usize,
-    counts: &[u32],
+    block_counts: &[u32],
     buffer: &mut [u8],
     place: &mut [u64],
 ) -> u64
-    ensures { λ r. ⌜ r ≡ startCode (startAt (now (words .entry)) n (now (counts .entry)) (now (buffer .entry)) (now (place .entry)) .outcome .answer) ⌝ }
-    ensures { λ r. ⌜ runOf (now (words .exit)) ≡ startAt (now (words .entry)) n (now (counts .entry)) (now (buffer .entry)) (now (place .entry)) .outcome .run ⌝ }
-    ensures { λ r. ⌜ now (buffer .exit) ≡ startAt (now (words .entry)) n (now (counts .entry)) (now (buffer .entry)) (now (place .entry)) .buffer ⌝ }
-    ensures { λ r. ⌜ now (place .exit) ≡ startAt (now (words .entry)) n (now (counts .entry)) (now (buffer .entry)) (now (place .entry)) .places ⌝ }
-    ensures { λ r. ⌜ now (words .exit) ≡ startWordsAt (now (words .entry)) n (now (counts .entry)) (now (buffer .entry)) (now (place .entry)) ⌝ }
+    ensures { λ r. ⌜ r ≡ startCode (startAt (now (words .entry)) n (now («block_counts» .entry)) (now (buffer .entry)) (now (place .entry)) .outcome .answer) ⌝ }
+    ensures { λ r. ⌜ runOf (now (words .exit)) ≡ startAt (now (words .entry)) n (now («block_counts» .entry)) (now (buffer .entry)) (now (place .entry)) .outcome .run ⌝ }
+    ensures { λ r. ⌜ now (buffer .exit) ≡ startAt (now (words .entry)) n (now («block_counts» .entry)) (now (buffer .entry)) (now (place .entry)) .buffer ⌝ }
+    ensures { λ r. ⌜ now (place .exit) ≡ startAt (now (words .entry)) n (now («block_counts» .entry)) (now (buffer .entry)) (now (place .entry)) .places ⌝ }
+    ensures { λ r. ⌜ now (words .exit) ≡ startWordsAt (now (words .entry)) n (now («block_counts» .entry)) (now (buffer .entry)) (now (place .entry)) ⌝ }
     ensures { λ r. ⌜ (length (now (words .entry)) ≡ stateSize → 1 ≤ length (now (place .entry)) → Clean (now (words .exit))) ⌝ }
 {
     if place.len() == 0 {
         return NO_PLACE;
     }
     let at = place[0] as usize;
-    let recorded = recorder_in_place::start(words, n, counts, buffer, at);
+    let recorded = recorder_in_place::start(words, n, block_counts, buffer, at);
     let answer = recorded.answer;
     place[0] = recorded.place as u64;
     answers::of_start(answer)

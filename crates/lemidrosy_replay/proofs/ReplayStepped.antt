@@ -14,7 +14,7 @@ use Rattle.machines.specs.Machines.{stepped}
 use Rattle.machines.specs.Forms.{answerOf, Asks}
 use Rattle.machines.specs.Packed.{packed, unpacked}
 use Rattle.replay_machine.specs.Replaying.{State, starting, asks, replaying}
-use Rattle.replay_machine.specs.Standing.{numbers, roomy, stateOf, placeOf}
+use Rattle.replay_machine.specs.Standing.{numbers, enoughRoom, stateOf, placeOf}
 use Rattle.lemidrosy_replay.specs.ReplaySteps.{ReplayPosed, hasRoom, ReplayBegun, ReplayStepped}
 
 module _ (words memory input out request : List ℕ) where
@@ -24,18 +24,18 @@ module _ (words memory input out request : List ℕ) where
   pub few-numbers : length memory < 6 → ReplayBegun words memory input out request memory request 3
   few-numbers h = too-short (rw (lt-leb 6 (length memory) h))
 
-  pub not-roomy : 6 ≤ length memory → roomy (length words) (length input) (length out) ≡ false → ReplayBegun words memory input out request memory request 3
-  not-roomy h e = too-short (rw (le-leb 6 (length memory) h, e))
+  pub not-enough-room : 6 ≤ length memory → enoughRoom (length words) (length input) (length out) ≡ false → ReplayBegun words memory input out request memory request 3
+  not-enough-room h e = too-short (rw (le-leb 6 (length memory) h, e))
 
-  pub no-request : 6 ≤ length memory → roomy (length words) (length input) (length out) ≡ true → length request < 4 → ReplayBegun words memory input out request memory request 3
+  pub no-request : 6 ≤ length memory → enoughRoom (length words) (length input) (length out) ≡ true → length request < 4 → ReplayBegun words memory input out request memory request 3
   no-request h e g = too-short (rw (le-leb 6 (length memory) h, e, lt-leb 4 (length request) g))
 
-  pub begun-done : (after told : List ℕ) (form : requests.Request) → 6 ≤ length memory → roomy (length words) (length input) (length out) ≡ true → 4 ≤ length request
-      → stateOf words after input out ≡ starting → Asks form (placeOf after) input out (asks (length input) (stateOf words after input out)) → told ≡ sets request 0 (packed form)
-      → ReplayBegun words memory input out request after told 0
-  begun-done after told form h e g state asked is = record {
+  pub begun-done : (after posed-request : List ℕ) (form : requests.Request) → 6 ≤ length memory → enoughRoom (length words) (length input) (length out) ≡ true → 4 ≤ length request
+      → stateOf words after input out ≡ starting → Asks form (placeOf after) input out (asks (length input) (stateOf words after input out)) → posed-request ≡ sets request 0 (packed form)
+      → ReplayBegun words memory input out request after posed-request 0
+  begun-done after posed-request form h e g state asked is = record {
     short = λ s. absurd (false≢true (sym s ∙ rw (le-leb 6 (length memory) h, e, le-leb 4 (length request) g)));
-    begun = λ s. (refl, record { form = form; state = state; asked = asked; told = is });
+    begun = λ s. (refl, record { form = form; state = state; asked = asked; posed-request = is });
   }
 
   pub stepped-short : (kind number : ℕ) → length request < 4 → ReplayStepped words memory input out request kind number words memory input out request 3
@@ -44,11 +44,11 @@ module _ (words memory input out request : List ℕ) where
     taken = λ s. absurd (false≢true (sym (lt-leb 4 (length request) h) ∙ s));
   }
 
-  pub stepped-done : (kind number : ℕ) (then-words then-memory then-input then-out told : List ℕ) (form : requests.Request) (answer : answers.Answer) → 4 ≤ length request → answer ≡ unpacked kind number
+  pub stepped-done : (kind number : ℕ) (then-words then-memory then-input then-out posed-request : List ℕ) (form : requests.Request) (answer : answers.Answer) → 4 ≤ length request → answer ≡ unpacked kind number
       → stateOf then-words then-memory then-input then-out ≡ stepped (replaying (length input) (length out)) (stateOf words memory input out) (answerOf answer (placeOf memory) input)
-      → Asks form (placeOf then-memory) then-input then-out (asks (length then-input) (stateOf then-words then-memory then-input then-out)) → told ≡ sets request 0 (packed form)
-      → ReplayStepped words memory input out request kind number then-words then-memory then-input then-out told 0
-  stepped-done kind number then-words then-memory then-input then-out told form answer h e state asked is = record {
+      → Asks form (placeOf then-memory) then-input then-out (asks (length then-input) (stateOf then-words then-memory then-input then-out)) → posed-request ≡ sets request 0 (packed form)
+      → ReplayStepped words memory input out request kind number then-words then-memory then-input then-out posed-request 0
+  stepped-done kind number then-words then-memory then-input then-out posed-request form answer h e state asked is = record {
     short = λ s. absurd (false≢true (sym s ∙ le-leb 4 (length request) h));
     taken = λ s. (
       refl,
@@ -56,7 +56,7 @@ module _ (words memory input out request : List ℕ) where
         form = form;
         state = subst (λ (a : answers.Answer). stateOf then-words then-memory then-input then-out ≡ stepped (replaying (length input) (length out)) (stateOf words memory input out) (answerOf a (placeOf memory) input)) e state;
         asked = asked;
-        told = is;
+        posed-request = is;
       },
     );
   }

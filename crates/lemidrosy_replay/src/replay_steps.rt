@@ -18,7 +18,7 @@ pub extern "C" fn lemidrosy_replay_begin(
     if memory.len() < place::NUMBERS {
         return 3;
     }
-    if !place::is_roomy(words.len(), input.len(), out.len()) {
+    if !place::is_room_enough(words.len(), input.len(), out.len()) {
         return 3;
     }
     if request.len() < 4 {

@@ -3,4 +3,4 @@ pub mod LineRule
 pub mod Lost
 pub mod Reaching
 pub mod Sifting
-pub mod Turns
+pub mod Iterations

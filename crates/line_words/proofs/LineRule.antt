@@ -26,7 +26,7 @@ use Rattle.model.specs.Words.{mostProcesses, entry, below, failed, liveIndex, l
 use Rattle.model.specs.Sound.{sound}
 use Rattle.model.specs.Steps.{allowed, states, latestAllowed, member, lineOf}
 use Rattle.model.specs.Refusals.{missing, noMember}
-use Rattle.words.specs.Layout.{word, countOf, heldAt, partAt, indexAt, storedAt, intervalOf, indexOf, vectorIn, checkpointIn, runOf}
+use Rattle.words.specs.Layout.{word, countOf, keptCountAt, partAt, indexAt, storedAt, intervalOf, indexOf, vectorIn, checkpointIn, runOf}
 use Rattle.words.specs.Parts.{processIn}
 use Rattle.words.proofs.Same.{vector-word}
 use Rattle.words.proofs.View.{count-is}
@@ -54,9 +54,9 @@ module _ (w : List ℕ) (limits : List Interval) (p : ℕ) where
   kept-most zero = omega arith
   kept-most (suc k) = by-bool (isWithin limits (vectorIn w (storedAt p k))) (λ e. rw e (omega arith)) (λ e. rw e (omega (arith, kept-most k)))
 
-  pub past-most : pastLatest w limits p ≤ word w (heldAt p) + 1
+  pub past-most : pastLatest w limits p ≤ word w (keptCountAt p) + 1
   unfolding pastLatest
-  past-most = by-bool (isWithin limits (vectorIn w (partAt p))) (λ e. rw e (omega arith)) (λ e. rw e (omega (arith, kept-most (word w (heldAt p)))))
+  past-most = by-bool (isWithin limits (vectorIn w (partAt p))) (λ e. rw e (omega arith)) (λ e. rw e (omega (arith, kept-most (word w (keptCountAt p)))))
 
 pub pasts-length : (w : List ℕ) (n : ℕ) (limits : List Interval) → length (pastsIn w n limits) ≡ 16
 unfolding pastsIn
@@ -101,10 +101,10 @@ module _ (w : List ℕ) (h : sound (runOf w) ≡ true) (F : ℕ) where
       ∙ ap (λ (n : ℕ). allBelow n (λ f. not (failed F f) || below (entry (c .vector) f) (own s f))) (sym count)
 
   module _ (p : ℕ) (lt : p < countOf w) where
-    abbrev held : ℕ
-    held = word w (heldAt p)
+    abbrev keptCount : ℕ
+    keptCount = word w (keptCountAt p)
 
-    kept-allowed : (k : ℕ) → k < held → isWithin limits (vectorIn w (storedAt p k)) ≡ allowed s F (checkpointIn w p k)
+    kept-allowed : (k : ℕ) → k < keptCount → isWithin limits (vectorIn w (storedAt p k)) ≡ allowed s F (checkpointIn w p k)
     unfolding checkpointIn
     kept-allowed k less = within-is (storedAt p k) (stored-within w h p lt k less) (stored-zero w h p lt k less) (checkpointIn w p k) refl
 
@@ -113,19 +113,19 @@ module _ (w : List ℕ) (h : sound (runOf w) ≡ true) (F : ℕ) where
     live-allowed = within-is (partAt p) (vector-within w h p lt) (vector-zero w h p lt) (live p (processIn w p)) refl
 
     -- The states of the process, by their places.
-    state-kept : (k : ℕ) → k < held → stateIn w p k ≡ checkpointIn w p k
+    state-kept : (k : ℕ) → k < keptCount → stateIn w p k ≡ checkpointIn w p k
     unfolding stateIn
-    state-kept k less = rw (lt-ltb k held less)
+    state-kept k less = rw (lt-ltb k keptCount less)
 
-    state-live : stateIn w p held ≡ live p (processIn w p)
+    state-live : stateIn w p keptCount ≡ live p (processIn w p)
     unfolding stateIn
-    state-live = rw (le-ltb held held (omega arith))
+    state-live = rw (le-ltb keptCount keptCount (omega arith))
 
-    states-are : states p (process s p) ≡ table (suc held) (stateIn w p)
+    states-are : states p (process s p) ≡ table (suc keptCount) (stateIn w p)
     unfolding states table
     states-are =
         ap (λ (P : Process). P .kept ++ (live p P ∷ [])) (sound-process-is w h p lt)
-        ∙ rw (state-live, table-same held (stateIn w p) (checkpointIn w p) state-kept) (ap (λ (l : List Checkpoint). l ++ (live p (processIn w p) ∷ [])) (sound-part w h p lt .kept-is))
+        ∙ rw (state-live, table-same keptCount (stateIn w p) (checkpointIn w p) state-kept) (ap (λ (l : List Checkpoint). l ++ (live p (processIn w p) ∷ [])) (sound-part w h p lt .kept-is))
 
     none-found : lastOf (select (allowed s F) (table 0 (stateIn w p))) ≡ stateBefore w p 0
     unfolding table select lastOf stateBefore
@@ -149,7 +149,7 @@ module _ (w : List ℕ) (h : sound (runOf w) ≡ true) (F : ℕ) where
     some-state (suc k) one d = let e : suc k - 1 ≡ k = omega arith in rw e
 
     -- The latest of the first kept ones that the rule allows.
-    kept-found : (k : ℕ) → k ≤ held → lastOf (select (allowed s F) (table k (stateIn w p))) ≡ stateBefore w p (pastKept w limits p k)
+    kept-found : (k : ℕ) → k ≤ keptCount → lastOf (select (allowed s F) (table k (stateIn w p))) ≡ stateBefore w p (pastKept w limits p k)
     unfolding pastKept
     kept-found zero le = none-found
     kept-found (suc k) le = by-bool (isWithin limits (vectorIn w (storedAt p k)))
@@ -159,8 +159,8 @@ module _ (w : List ℕ) (h : sound (runOf w) ≡ true) (F : ℕ) where
     pub latest-is : latestAllowed s F p ≡ stateBefore w p (pastLatest w limits p)
     unfolding latestAllowed pastLatest
     latest-is = ap (λ (l : List Checkpoint). lastOf (select (allowed s F) l)) states-are ∙ by-bool (isWithin limits (vectorIn w (partAt p)))
-        (λ e. rw e (one-found held (ap (allowed s F) state-live ∙ sym live-allowed ∙ e) ∙ ap (stateBefore w p) (more held)))
-        (λ e. rw e (last-less (allowed s F) held (stateIn w p) (ap (allowed s F) state-live ∙ sym live-allowed ∙ e) ∙ kept-found held (omega arith)))
+        (λ e. rw e (one-found keptCount (ap (allowed s F) state-live ∙ sym live-allowed ∙ e) ∙ ap (stateBefore w p) (more keptCount)))
+        (λ e. rw e (last-less (allowed s F) keptCount (stateIn w p) (ap (allowed s F) state-live ∙ sym live-allowed ∙ e) ∙ kept-found keptCount (omega arith)))
 
     pub missing-is : missing (latestAllowed s F p) ≡ eqb (pastLatest w limits p) 0
     missing-is = rw latest-is (none-missing (pastLatest w limits p))
@@ -170,11 +170,11 @@ module _ (w : List ℕ) (h : sound (runOf w) ≡ true) (F : ℕ) where
     unfolding member
     member-is one = rw latest-is (some-state (pastLatest w limits p) one (live p (process s p)))
 
-    pub index-is : (past : ℕ) → 1 ≤ past → past ≤ held + 1 → stateIn w p (past - 1) .index ≡ indexIn w p past
+    pub index-is : (past : ℕ) → 1 ≤ past → past ≤ keptCount + 1 → stateIn w p (past - 1) .index ≡ indexIn w p past
     unfolding stateIn indexIn live checkpointIn processIn
-    index-is past one most = by-lt (past - 1) held
-        (λ less. rw (lt-ltb (past - 1) held less, le-leb past held (omega arith)))
-        (λ ge. rw (le-ltb (past - 1) held ge, lt-leb past held (omega arith), vector-word w (partAt p) p (omega (arith, few))))
+    index-is past one most = by-lt (past - 1) keptCount
+        (λ less. rw (lt-ltb (past - 1) keptCount less, le-leb past keptCount (omega arith)))
+        (λ ge. rw (le-ltb (past - 1) keptCount ge, lt-leb past keptCount (omega arith), vector-word w (partAt p) p (omega (arith, few))))
 
   -- The line, and whether each process has a member.
   pub all-found : hasMembers w (countOf w) limits ≡ not (noMember s F)

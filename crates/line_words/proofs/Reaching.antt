@@ -27,7 +27,7 @@ use Rattle.model.specs.declared.Run.{Run}
 use Rattle.model.specs.Words.{entry, comesBefore, noCheckpoint, process}
 use Rattle.model.specs.Sound.{sound}
 use Rattle.whole_runs.specs.Earliest.{isNamed, namedVector, greatest, earliestLine, someAbsent, repeats, unfit, notKept, someOrdered}
-use Rattle.words.specs.Layout.{word, countOf, heldAt, indexAt, storedAt, vectorIn, checkpointIn, runOf}
+use Rattle.words.specs.Layout.{word, countOf, keptCountAt, indexAt, storedAt, vectorIn, checkpointIn, runOf}
 use Rattle.words.proofs.Same.{vector-word}
 use Rattle.words.proofs.View.{count-is}
 use Rattle.words.proofs.ViewSound.{sound-fits, sound-few, sound-part, sound-kept-is}
@@ -118,7 +118,7 @@ module _ (l : List ℕ) where
       pub all-searched : Searched m l w
       all-searched k lt =
           let part = sound-part w h (processOf l k) (in-run k lt) in
-          (omega (arith, in-run k lt, sound-few w h), omega (arith, part .held-most, sound-few w h), part .used)
+          (omega (arith, in-run k lt, sound-few w h), omega (arith, part .kept-count-most, sound-few w h), part .used)
 
       -- A kept checkpoint has an index, by its word; the vector starts somewhere exactly if there is one.
       start-there : (p i k : ℕ) → anyBelow k (λ j. eqb (checkpointIn w p j .index .0) i) ≡ not (eqb (startOf w p i k) 0)
@@ -148,8 +148,8 @@ module _ (l : List ℕ) where
       unfolding notKept namedAt
       not-kept k lt =
           ap not (ap (some-of (λ (x : Checkpoint). eqb (x .index .0) (indexOf l k))) (sound-kept-is w h (processOf l k) (in-run k lt))
-          ∙ some-table (λ (x : Checkpoint). eqb (x .index .0) (indexOf l k)) (word w (heldAt (processOf l k))) (checkpointIn w (processOf l k))
-          ∙ start-there (processOf l k) (indexOf l k) (word w (heldAt (processOf l k))))
+          ∙ some-table (λ (x : Checkpoint). eqb (x .index .0) (indexOf l k)) (word w (keptCountAt (processOf l k))) (checkpointIn w (processOf l k))
+          ∙ start-there (processOf l k) (indexOf l k) (word w (keptCountAt (processOf l k))))
           ∙ not-twice (eqb (startAt w l k) 0)
 
       -- number 19
@@ -172,13 +172,13 @@ module _ (l : List ℕ) where
         pub all-in-words : InWords (startsIn w l m .starts) m
         all-in-words k lt =
             let known = all-searched k lt in
-            omega (arith, start-at k lt, start-most w (processOf l k) (indexOf l k) (word w (heldAt (processOf l k))) (known .0) (known .1))
+            omega (arith, start-at k lt, start-most w (processOf l k) (indexOf l k) (word w (keptCountAt (processOf l k))) (known .0) (known .1))
 
         vector-is : (k : ℕ) → k < m → namedVector s (namedAt l k) ≡ vectorIn w (getD (startsIn w l m .starts) k 0)
         unfolding namedVector namedAt
         vector-is k lt =
             ap (λ (x : List Checkpoint). orElse (lastOf (select (isNamed (namedAt l k)) x)) noCheckpoint .vector) (sound-kept-is w h (processOf l k) (in-run k lt))
-            ∙ start-vector (namedAt l k) (word w (heldAt (processOf l k))) (some-start k lt)
+            ∙ start-vector (namedAt l k) (word w (keptCountAt (processOf l k))) (some-start k lt)
             ∙ ap (vectorIn w) (sym (start-at k lt))
 
         entry-is : (k p : ℕ) → k < m → p < 16 → entry (namedVector s (namedAt l k)) p .0 ≡ word w (getD (startsIn w l m .starts) k 0 + p)

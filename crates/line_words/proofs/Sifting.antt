@@ -23,9 +23,9 @@ use Rattle.words.specs.Puts.{Put, puts, one}
 use Rattle.words.proofs.Reading.{puts-length, untouched, touched}
 use Rattle.message_words.specs.Places.{cleared, endBelow}
 use Rattle.message_words.proofs.Selected.{select-tables, walked-back, end-under, end-used}
-use Rattle.message_words.proofs.Placed.{message-stays, cleared-number, cleared-beside, cleared-length}
+use Rattle.message_words.proofs.Placed.{message-stays, cleared-number, cleared-elsewhere, cleared-length}
 use Rattle.message_words.proofs.Closed.{cleared-rest}
-use Rattle.message_words.proofs.Zeros.{Zero, zero-at, zeros-in, zero-stays, zero-cleared, zero-beside, unused-out, unused-past, unused-none, none-after}
+use Rattle.message_words.proofs.Zeros.{Zero, zero-at, zeros-in, zero-stays, zero-cleared, zero-elsewhere, unused-out, unused-past, unused-none, none-after}
 use Rattle.line_words.specs.Sifted.{lostTo, remains, siftedPlace, siftedBelow, Sifted}
 
 -- A message goes or remains.
@@ -62,8 +62,8 @@ module _ (indexes : List CheckpointIndex) (w : List ℕ) (long : length w ≡ st
     here : messageIn v n ≡ x
     here = h .ahead n (omega arith) lt
 
-    beside : (j : ℕ) → j < 64 → (j ≡ n → ⊥) → messageIn (cleared v n) j ≡ messageIn v j
-    beside j less ne = cleared-beside v long-v n lt j less ne
+    elsewhere : (j : ℕ) → j < 64 → (j ≡ n → ⊥) → messageIn (cleared v n) j ≡ messageIn v j
+    elsewhere j less ne = cleared-elsewhere v long-v n lt j less ne
 
     unused : isMessage (messageIn (cleared v n) n) ≡ false
     unfolding isMessage
@@ -73,19 +73,19 @@ module _ (indexes : List CheckpointIndex) (w : List ℕ) (long : length w ≡ st
     dropped e = record {
       same = cleared-length v n ∙ h .same;
       rest = λ q less. cleared-rest v n q less ∙ h .rest q less;
-      ahead = λ j le less. beside j less (λ q. omega arith) ∙ h .ahead j (omega arith) less;
+      ahead = λ j le less. elsewhere j less (λ q. omega arith) ∙ h .ahead j (omega arith) less;
       passes = λ j less. by-eq j n
           (λ q. rw q (unused ∙ sym (goes-not indexes x e)))
-          (λ ne. ap isMessage (beside j (omega arith) ne) ∙ h .passes j (omega arith));
+          (λ ne. ap isMessage (elsewhere j (omega arith) ne) ∙ h .passes j (omega arith));
       stays = λ j less is. by-eq j n
           (λ q. absurd (never-both (isMessage (messageIn (cleared v n) n)) (rw q at is) unused))
-          (λ ne. beside j (omega arith) ne ∙ h .stays j (omega arith) (sym (ap isMessage (beside j (omega arith) ne)) ∙ is));
+          (λ ne. elsewhere j (omega arith) ne ∙ h .stays j (omega arith) (sym (ap isMessage (elsewhere j (omega arith) ne)) ∙ is));
       gone = λ j less was isnt. by-eq j n
           (λ q. rw q (zero-cleared v n long-v lt))
-          (λ ne. zero-beside v n j lt (omega arith) ne (h .gone j (omega arith) was (sym (ap isMessage (beside j (omega arith) ne)) ∙ isnt)));
+          (λ ne. zero-elsewhere v n j lt (omega arith) ne (h .gone j (omega arith) was (sym (ap isMessage (elsewhere j (omega arith) ne)) ∙ isnt)));
       zeros = λ j less z. by-eq j n
           (λ q. rw q (zero-cleared v n long-v lt))
-          (λ ne. zero-beside v n j lt less ne (h .zeros j less z));
+          (λ ne. zero-elsewhere v n j lt less ne (h .zeros j less z));
     }
 
     kept : (isMessage x && lostTo indexes x) ≡ false → SiftedTo (suc n) v

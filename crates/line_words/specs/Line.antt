@@ -14,7 +14,7 @@ use Rattle.model.specs.declared.Interval.{Interval}
 use Rattle.model.specs.declared.CheckpointIndex.{CheckpointIndex}
 use Rattle.model.specs.declared.Checkpoint.{Checkpoint}
 use Rattle.model.specs.Words.{mostProcesses, entry, liveIndex, live, zeroVector, failed}
-use Rattle.words.specs.Layout.{word, heldAt, partAt, indexAt, storedAt, intervalOf, indexOf, vectorIn, checkpointIn}
+use Rattle.words.specs.Layout.{word, keptCountAt, partAt, indexAt, storedAt, intervalOf, indexOf, vectorIn, checkpointIn}
 use Rattle.words.specs.Parts.{processIn}
 
 -- "whose entry f is less than f's current own entry, for every failed f": the greatest entry for f that a state may have. No entry for f is above f's own one.
@@ -33,11 +33,11 @@ pastKept w limits p zero = 0
 pastKept w limits p (suc k) = pick (isWithin limits (vectorIn w (storedAt p k))) (suc k) (pastKept w limits p k)
 
 unfoldable pub pastLatest : List ℕ → List Interval → ℕ → ℕ
-pastLatest w limits p = pick (isWithin limits (vectorIn w (partAt p))) (word w (heldAt p) + 1) (pastKept w limits p (word w (heldAt p)))
+pastLatest w limits p = pick (isWithin limits (vectorIn w (partAt p))) (word w (keptCountAt p) + 1) (pastKept w limits p (word w (keptCountAt p)))
 
 -- The states of process p: the checkpoints that it keeps, and after them the live one; and what a search found.
 unfoldable pub stateIn : List ℕ → ℕ → ℕ → Checkpoint
-stateIn w p k = pick (ltb k (word w (heldAt p))) (checkpointIn w p k) (live p (processIn w p))
+stateIn w p k = pick (ltb k (word w (keptCountAt p))) (checkpointIn w p k) (live p (processIn w p))
 
 unfoldable pub stateBefore : List ℕ → ℕ → ℕ → Option Checkpoint
 stateBefore w p zero = none
@@ -47,11 +47,11 @@ stateBefore w p (suc k) = some (stateIn w p k)
 abbrev pub OwnSome : ℕ → List ℕ → Type 0
 OwnSome n w = (p : ℕ) → p < n → 1 ≤ word w (partAt p + p)
 
-abbrev pub HeldMost : ℕ → List ℕ → Type 0
-HeldMost n w = (p : ℕ) → p < n → word w (heldAt p) ≤ mostProcesses
+abbrev pub KeptCountMost : ℕ → List ℕ → Type 0
+KeptCountMost n w = (p : ℕ) → p < n → word w (keptCountAt p) ≤ mostProcesses
 
 abbrev pub KeptUsed : ℕ → List ℕ → Type 0
-KeptUsed p w = (k : ℕ) → k < word w (heldAt p) → 1 ≤ word w (indexAt p k)
+KeptUsed p w = (k : ℕ) → k < word w (keptCountAt p) → 1 ≤ word w (indexAt p k)
 
 abbrev pub AllUsed : ℕ → List ℕ → Type 0
 AllUsed n w = (p : ℕ) → p < n → KeptUsed p w
@@ -68,7 +68,7 @@ abbrev pub AllFound : ℕ → List ℕ → Type 0
 AllFound n pasts = (n ≤ length pasts) × ((p : ℕ) → p < n → 1 ≤ getD pasts p 0)
 
 unfoldable pub indexIn : List ℕ → ℕ → ℕ → CheckpointIndex
-indexIn w p past = pick (leb past (word w (heldAt p))) (indexOf (word w (indexAt p (past - 1)))) (liveIndex (intervalOf (word w (partAt p + p))))
+indexIn w p past = pick (leb past (word w (keptCountAt p))) (indexOf (word w (indexAt p (past - 1)))) (liveIndex (intervalOf (word w (partAt p + p))))
 
 unfoldable pub indexesIn : List ℕ → ℕ → List ℕ → List CheckpointIndex
 indexesIn w n pasts = setBelow n (λ p. indexIn w p (getD pasts p 0)) (replicate mostProcesses (record { 0 = 0 }))

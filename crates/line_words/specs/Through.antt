@@ -12,7 +12,7 @@ use Rattle.laws.specs.Loops.{setBelow}
 use Rattle.laws.specs.Search.{allBelow, anyBelow}
 use Rattle.model.specs.declared.Named.{Named}
 use Rattle.model.specs.Words.{mostProcesses}
-use Rattle.words.specs.Layout.{word, heldAt, indexAt, storedAt, stateSize}
+use Rattle.words.specs.Layout.{word, keptCountAt, indexAt, storedAt, stateSize}
 use Rattle.line_words.specs.declared.through.Starts.{Starts}
 use Rattle.line_words.specs.Line.{KeptUsed}
 
@@ -46,7 +46,7 @@ startOf w p i zero = 0
 startOf w p i (suc k) = pick (eqb (word w (indexAt p k) - 1) i) (storedAt p k) (startOf w p i k)
 
 abbrev pub startAt : List ℕ → List ℕ → ℕ → ℕ
-startAt w l k = startOf w (processOf l k) (indexOf l k) (word w (heldAt (processOf l k)))
+startAt w l k = startOf w (processOf l k) (indexOf l k) (word w (keptCountAt (processOf l k)))
 
 unfoldable pub startsIn : List ℕ → List ℕ → ℕ → Starts
 startsIn w l m = record { all = allBelow m (λ k. not (eqb (startAt w l k) 0)); starts = setBelow m (startAt w l) (replicate mostProcesses 0) }
@@ -64,7 +64,7 @@ abbrev pub Present : ℕ → List ℕ → Type 0
 Present m l = (k : ℕ) → k < m → processOf l k < mostProcesses
 
 abbrev pub Searched : ℕ → List ℕ → List ℕ → Type 0
-Searched m l w = (k : ℕ) → k < m → (processOf l k < mostProcesses) × (word w (heldAt (processOf l k)) ≤ mostProcesses) × KeptUsed (processOf l k) w
+Searched m l w = (k : ℕ) → k < m → (processOf l k < mostProcesses) × (word w (keptCountAt (processOf l k)) ≤ mostProcesses) × KeptUsed (processOf l k) w
 
 abbrev pub InWords : List ℕ → ℕ → Type 0
 InWords starts m = (k : ℕ) → k < m → getD starts k 0 + mostProcesses ≤ stateSize

@@ -8,8 +8,8 @@ ghost use Prim.Native.Nat.{_+_, _-_, _≤_, _<_};
 ghost use lib.ListN.{length, replicate};
 ghost use Rattle.laws.specs.Choice.{pick};
 ghost use Rattle.model.specs.Words.{mostProcesses};
-ghost use Rattle.words.specs.Layout.{word, heldAt, partAt, stateSize};
-ghost use Rattle.line_words.specs.Line.{limitsIn, pastKept, pastLatest, hasMembers, pastsIn, indexIn, indexesIn, OwnSome, HeldMost, KeptUsed, AllUsed, AllFound};
+ghost use Rattle.words.specs.Layout.{word, keptCountAt, partAt, stateSize};
+ghost use Rattle.line_words.specs.Line.{limitsIn, pastKept, pastLatest, hasMembers, pastsIn, indexIn, indexesIn, OwnSome, KeptCountMost, KeptUsed, AllUsed, AllFound};
 
 // The greatest entry for a process that a state may have: "less than f's current own entry" where it has failed. Where it has not, no entry is above the own entry.
 fn limit_of(failed: bool, own: Interval) -> Interval
@@ -35,12 +35,12 @@ pub fn limits_of(w: &[u16], n: usize, failed: u32) -> [Interval; PROCESSES]
     limits
 }
 
-// One above the place of the latest of the first `held` kept checkpoints that is within the limits, 0 if there is none.
-fn latest_kept(w: &[u16], p: usize, held: usize, limits: [Interval; PROCESSES]) -> usize
-    requires { ⌜ (length (now w) ≡ stateSize) × (p < mostProcesses) × (held ≤ mostProcesses) ⌝ }
-    ensures { λ r. ⌜ r ≡ pastKept (now (w .entry)) limits p held ⌝ }
+// One above the place of the latest of the first `kept_count` kept checkpoints that is within the limits, 0 if there is none.
+fn latest_kept(w: &[u16], p: usize, kept_count: usize, limits: [Interval; PROCESSES]) -> usize
+    requires { ⌜ (length (now w) ≡ stateSize) × (p < mostProcesses) × («kept_count» ≤ mostProcesses) ⌝ }
+    ensures { λ r. ⌜ r ≡ pastKept (now (w .entry)) limits p «kept_count» ⌝ }
 {
-    let mut past = held;
+    let mut past = kept_count;
     while 0 < past {
         let vector = words::vector_at(
             w,
@@ -57,22 +57,22 @@ fn latest_kept(w: &[u16], p: usize, held: usize, limits: [Interval; PROCESSES]) 
 
 // One above the place of the latest state that is within the limits, 0 if there is none. The live state is tried first.
 fn latest_allowed(w: &[u16], p: usize, limits: [Interval; PROCESSES]) -> usize
-    requires { ⌜ (length (now w) ≡ stateSize) × (p < mostProcesses) × (word (now w) (heldAt p) ≤ mostProcesses) ⌝ }
+    requires { ⌜ (length (now w) ≡ stateSize) × (p < mostProcesses) × (word (now w) (keptCountAt p) ≤ mostProcesses) ⌝ }
     ensures { λ r. ⌜ r ≡ pastLatest (now (w .entry)) limits p ⌝ }
 {
-    let held = w[places::HELD + p] as usize;
+    let kept_count = w[places::KEPT + p] as usize;
     let live = words::vector_at(w, places::PARTS + places::PART * p);
     let within = sound_rows::is_within(live, limits);
     if within {
-        return held + 1;
+        return kept_count + 1;
     }
-    latest_kept(w, p, held, limits)
+    latest_kept(w, p, kept_count, limits)
 }
 
 // One above the place of the member of each of n processes goes into the lent table, which holds zeros. The result says whether the line rule accepts a state of each.
 // The table is lent, and then read place by place: a table by value is copied as rows, and such a copy waits for the stores of its places.
 pub fn find_members(w: &[u16], n: usize, limits: [Interval; PROCESSES], pasts: &mut [u16]) -> bool
-    requires { ⌜ (length (now w) ≡ stateSize) × (n ≤ mostProcesses) × HeldMost n (now w) × (now pasts ≡ replicate mostProcesses 0) ⌝ }
+    requires { ⌜ (length (now w) ≡ stateSize) × (n ≤ mostProcesses) × KeptCountMost n (now w) × (now pasts ≡ replicate mostProcesses 0) ⌝ }
     ensures { λ r. ⌜ r ≡ hasMembers (now (w .entry)) n limits ⌝ }
     ensures { λ r. ⌜ now (pasts .exit) ≡ pastsIn (now (w .entry)) n limits ⌝ }
 {
@@ -87,11 +87,11 @@ pub fn find_members(w: &[u16], n: usize, limits: [Interval; PROCESSES], pasts: &
 
 // The index of the state of process p in the place before this one.
 fn index_in(w: &[u16], p: usize, past: usize) -> CheckpointIndex
-    requires { ⌜ (length (now w) ≡ stateSize) × (p < mostProcesses) × (1 ≤ past) × (word (now w) (heldAt p) ≤ mostProcesses) × (1 ≤ word (now w) (partAt p + p)) × KeptUsed p (now w) ⌝ }
+    requires { ⌜ (length (now w) ≡ stateSize) × (p < mostProcesses) × (1 ≤ past) × (word (now w) (keptCountAt p) ≤ mostProcesses) × (1 ≤ word (now w) (partAt p + p)) × KeptUsed p (now w) ⌝ }
     ensures { λ r. ⌜ r ≡ indexIn (now (w .entry)) p past ⌝ }
 {
-    let held = w[places::HELD + p] as usize;
-    if past <= held {
+    let kept_count = w[places::KEPT + p] as usize;
+    if past <= kept_count {
         words::index_of(w[places::INDEXES + places::PART * p + (past - 1)])
     } else {
         rows::vector::live_index(words::interval_of(w[places::PARTS + places::PART * p + p]))
@@ -100,7 +100,7 @@ fn index_in(w: &[u16], p: usize, past: usize) -> CheckpointIndex
 
 // The indexes of the members of n processes, 0 at n and above.
 pub fn indexes_of(w: &[u16], n: usize, pasts: &[u16]) -> [CheckpointIndex; PROCESSES]
-    requires { ⌜ (length (now w) ≡ stateSize) × (n ≤ mostProcesses) × OwnSome n (now w) × HeldMost n (now w) × AllUsed n (now w) × AllFound n (now pasts) ⌝ }
+    requires { ⌜ (length (now w) ≡ stateSize) × (n ≤ mostProcesses) × OwnSome n (now w) × KeptCountMost n (now w) × AllUsed n (now w) × AllFound n (now pasts) ⌝ }
     ensures { λ r. ⌜ r ≡ indexesIn (now (w .entry)) n (now (pasts .entry)) ⌝ }
 {
     let mut indexes = [CheckpointIndex(0); PROCESSES];

@@ -88,7 +88,7 @@ pub fn find_latest(
 }
 
 // "A process whose member is stored takes that vector with 1 added to its own entry, loses its sent mark": it goes back to the checkpoint in this place.
-pub fn go_back(w: &mut [u16], p: usize, place: usize)
+pub fn roll_back(w: &mut [u16], p: usize, place: usize)
     requires { ⌜ (length (now w) ≡ stateSize) × (p < mostProcesses) × (place < mostProcesses) × (word (now w) (storedAt p place + p) < mostInterval) ⌝ }
     ensures { λ u. ⌜ now (w .exit) ≡ puts (now (w .entry)) (vectorPut (partAt p) (advanced p (vectorIn (now (w .entry)) (storedAt p place))) ∷ one (markAt p) 0 ∷ []) ⌝ }
 {

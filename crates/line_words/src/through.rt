@@ -11,7 +11,7 @@ ghost use lib.Seq.{sets};
 ghost use Rattle.laws.specs.Lists.{table};
 ghost use Rattle.laws.specs.Search.{anyBelow};
 ghost use Rattle.model.specs.Words.{mostProcesses};
-ghost use Rattle.words.specs.Layout.{word, heldAt, stateSize};
+ghost use Rattle.words.specs.Layout.{word, keptCountAt, stateSize};
 ghost use Rattle.line_words.specs.Line.{KeptUsed};
 ghost use Rattle.line_words.specs.Through.{pairCount, processOf, indexOf, amongFirst, twiceIn, startOf, startsIn, beforeSome, greatestIn, Present, Searched, InWords};
 
@@ -85,12 +85,12 @@ fn is_index(word: u16, index: u32) -> bool
 
 // Where the vector of the checkpoint of process p with this index starts, 0 if p does not keep it.
 fn find_start(w: &[u16], p: usize, index: u32) -> usize
-    requires { ⌜ (length (now w) ≡ stateSize) × (p < mostProcesses) × (word (now w) (heldAt p) ≤ mostProcesses) × KeptUsed p (now w) ⌝ }
-    ensures { λ r. ⌜ r ≡ startOf (now (w .entry)) p index (word (now (w .entry)) (heldAt p)) ⌝ }
+    requires { ⌜ (length (now w) ≡ stateSize) × (p < mostProcesses) × (word (now w) (keptCountAt p) ≤ mostProcesses) × KeptUsed p (now w) ⌝ }
+    ensures { λ r. ⌜ r ≡ startOf (now (w .entry)) p index (word (now (w .entry)) (keptCountAt p)) ⌝ }
 {
-    let held = w[places::HELD + p] as usize;
+    let kept_count = w[places::KEPT + p] as usize;
     let mut start = 0;
-    for k in 0..held {
+    for k in 0..kept_count {
         let here = is_index(w[places::INDEXES + places::PART * p + k], index);
         if here {
             start = places::STORED + places::PART * p + places::ROW * k;

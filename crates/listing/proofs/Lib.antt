@@ -1,5 +1,5 @@
 -- Laws that belong to no one function.
 pub mod Bounds
 mod Digits
-pub mod Said
+pub mod Summarised
 pub mod Texts

@@ -34,13 +34,13 @@ pub refused-line : (k : ℕ) (r : Reply) → (r .report .refused ≡ 0 → ⊥) 
 unfolding lineText refusalLine
 refused-line k r h = rw (ne-eqb (r .report .refused) 0 h)
 
-zero-told : (refused : ℕ) (more feed : List ℕ) → refused ≡ 0 → decimal refused ++ (pick (eqb refused 0) more [] ++ feed) ≡ (48 ∷ []) ++ (more ++ feed)
+zero-printed : (refused : ℕ) (more feed : List ℕ) → refused ≡ 0 → decimal refused ++ (pick (eqb refused 0) more [] ++ feed) ≡ (48 ∷ []) ++ (more ++ feed)
 unfolding decimal digits
-zero-told refused more feed e = rw e
+zero-printed refused more feed e = rw e
 
 pub accepted-line : (k : ℕ) (r : Reply) → r .report .refused ≡ 0 → lineText k r ≡ decimal k ++ (space ∷ ((48 ∷ []) ++ (acceptedText r ++ (lineFeed ∷ []))))
 unfolding lineText
-accepted-line k r e = ap (λ (t : List ℕ). decimal k ++ (space ∷ t)) (zero-told (r .report .refused) (acceptedText r) (lineFeed ∷ []) e)
+accepted-line k r e = ap (λ (t : List ℕ). decimal k ++ (space ∷ t)) (zero-printed (r .report .refused) (acceptedText r) (lineFeed ∷ []) e)
 
 -- No text is printed.
 pub nothing : (l : List ℕ) (at : ℕ) → Printed l at [] l at

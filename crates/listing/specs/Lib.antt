@@ -1,3 +1,3 @@
 pub mod Lines
 pub mod Printed
-pub mod Said
+pub mod Summarised

@@ -87,10 +87,10 @@ pub fn write_pair(out: &mut [u8], at: usize, process: u16, index: u16) -> usize
     requires { ⌜ Room (now out) at (pairText process index) ⌝ }
     ensures { λ r. ⌜ Printed (now (out .entry)) at (pairText process index) (now (out .exit)) r ⌝ }
 {
-    let spaced = write_byte(out, at, b' ');
-    let named = write_number(out, spaced, process as u64);
-    let parted = write_byte(out, named, b':');
-    write_number(out, parted, index as u64)
+    let after_space = write_byte(out, at, b' ');
+    let after_process = write_number(out, after_space, process as u64);
+    let after_separator = write_byte(out, after_process, b':');
+    write_number(out, after_separator, index as u64)
 }
 
 // `count` deletions from the front of the deletion list.
@@ -111,17 +111,17 @@ pub fn write_deletions(out: &mut [u8], at: usize, deleted: &[u16], count: usize)
 }
 
 // What follows the 0 of an accepted record.
-fn write_accepted(out: &mut [u8], at: usize, said: Summary, deleted: &[u16]) -> usize
-    requires { ⌜ (2 * said .deletions ≤ length (now deleted)) × Room (now out) at (acceptedText (replyOf said (now deleted))) ⌝ }
-    ensures { λ r. ⌜ Printed (now (out .entry)) at (acceptedText (replyOf said (now (deleted .entry)))) (now (out .exit)) r ⌝ }
+fn write_accepted(out: &mut [u8], at: usize, summary: Summary, deleted: &[u16]) -> usize
+    requires { ⌜ (2 * summary .deletions ≤ length (now deleted)) × Room (now out) at (acceptedText (replyOf summary (now deleted))) ⌝ }
+    ensures { λ r. ⌜ Printed (now (out .entry)) at (acceptedText (replyOf summary (now (deleted .entry)))) (now (out .exit)) r ⌝ }
 {
-    let value = said.value;
-    let count = said.deletions;
-    let spaced = write_byte(out, at, b' ');
-    let valued = write_value(out, spaced, value);
-    let parted = write_byte(out, valued, b' ');
-    let counted = write_number(out, parted, count as u64);
-    write_deletions(out, counted, deleted, count)
+    let value = summary.value;
+    let count = summary.deletions;
+    let after_space = write_byte(out, at, b' ');
+    let after_value = write_value(out, after_space, value);
+    let after_separator = write_byte(out, after_value, b' ');
+    let after_count = write_number(out, after_separator, count as u64);
+    write_deletions(out, after_count, deleted, count)
 }
 
 // The line of a refused record.
@@ -129,25 +129,25 @@ pub fn write_refusal(out: &mut [u8], at: usize, number: u64, refused: u8) -> usi
     requires { ⌜ Room (now out) at (refusalLine number refused) ⌝ }
     ensures { λ r. ⌜ Printed (now (out .entry)) at (refusalLine number refused) (now (out .exit)) r ⌝ }
 {
-    let numbered = write_number(out, at, number);
-    let spaced = write_byte(out, numbered, b' ');
-    let told = write_number(out, spaced, refused as u64);
-    write_byte(out, told, b'\n')
+    let after_number = write_number(out, at, number);
+    let after_space = write_byte(out, after_number, b' ');
+    let after_code = write_number(out, after_space, refused as u64);
+    write_byte(out, after_code, b'\n')
 }
 
 // The line of a record. Most records are accepted, so their 0 does not go through `write_number`. It is called in one place of the replay alone, so that it is compiled into
 // the loop over the records.
-pub fn write_line(out: &mut [u8], at: usize, number: u64, said: Summary, deleted: &[u16]) -> usize
-    requires { ⌜ (2 * said .deletions ≤ length (now deleted)) × Room (now out) at (lineText number (replyOf said (now deleted))) ⌝ }
-    ensures { λ r. ⌜ Printed (now (out .entry)) at (lineText number (replyOf said (now (deleted .entry)))) (now (out .exit)) r ⌝ }
+pub fn write_line(out: &mut [u8], at: usize, number: u64, summary: Summary, deleted: &[u16]) -> usize
+    requires { ⌜ (2 * summary .deletions ≤ length (now deleted)) × Room (now out) at (lineText number (replyOf summary (now deleted))) ⌝ }
+    ensures { λ r. ⌜ Printed (now (out .entry)) at (lineText number (replyOf summary (now (deleted .entry)))) (now (out .exit)) r ⌝ }
 {
-    let refused = said.refused;
+    let refused = summary.refused;
     if refused != 0 {
         return write_refusal(out, at, number, refused);
     }
-    let numbered = write_number(out, at, number);
-    let spaced = write_byte(out, numbered, b' ');
-    let told = write_byte(out, spaced, b'0');
-    let whole = write_accepted(out, told, said, deleted);
+    let after_number = write_number(out, at, number);
+    let after_space = write_byte(out, after_number, b' ');
+    let after_code = write_byte(out, after_space, b'0');
+    let whole = write_accepted(out, after_code, summary, deleted);
     write_byte(out, whole, b'\n')
 }

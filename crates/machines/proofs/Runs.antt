@@ -7,7 +7,7 @@ use mathlib.Core.List.{List, [], _∷_, _++_, append-nil, append-assoc}
 use Prim.Native.Nat.{ℕ, zero, suc, _≤_, _<_}
 use native.Mathlib.Omega.{arith}
 use lib.ListN.{length}
-use Rattle.machines.specs.Machines.{Request, Count, Argument, Open, Read, Write, Say, Fail, Stop, Answer, Machine, Exchange, stepped, exchanged, stateFrom, exchangesFrom, askedFrom, stateAfter, exchanges, asked, written, said, writtenOf, saidOf, readBy, readOf, requestsOf, Reached, Ends}
+use Rattle.machines.specs.Machines.{Request, Count, Argument, Open, Read, Write, Say, Fail, Stop, Answer, Machine, Exchange, stepped, exchanged, stateFrom, exchangesFrom, askedFrom, stateAfter, exchanges, asked, written, errorText, writtenOf, errorTextOf, readBy, readOf, requestsOf, Reached, Ends}
 
 module _ {S : Type 0} (m : Machine S) where
   module _ (P : S → List Exchange → Type 0) (kept : (s : S) (talk : List Exchange) (a : Answer) → P s talk → P (stepped m s a) (talk ++ (exchanged m s a ∷ []))) where
@@ -44,10 +44,10 @@ unfolding writtenOf
 written-then [] k = refl
 written-then (r ∷ l) k = ap (λ (x : List ℕ). written r ++ x) (written-then l k) ∙ sym (append-assoc (written r) (writtenOf l) (writtenOf k))
 
-pub said-then : (l k : List Request) → saidOf (l ++ k) ≡ saidOf l ++ saidOf k
-unfolding saidOf
-said-then [] k = refl
-said-then (r ∷ l) k = ap (λ (x : List ℕ). said r ++ x) (said-then l k) ∙ sym (append-assoc (said r) (saidOf l) (saidOf k))
+pub error-text-then : (l k : List Request) → errorTextOf (l ++ k) ≡ errorTextOf l ++ errorTextOf k
+unfolding errorTextOf
+error-text-then [] k = refl
+error-text-then (r ∷ l) k = ap (λ (x : List ℕ). errorText r ++ x) (error-text-then l k) ∙ sym (append-assoc (errorText r) (errorTextOf l) (errorTextOf k))
 
 pub read-then : (l k : List Exchange) → readOf (l ++ k) ≡ readOf l ++ readOf k
 unfolding readOf
@@ -59,9 +59,9 @@ pub written-one : (r : Request) → writtenOf (r ∷ []) ≡ written r
 unfolding writtenOf
 written-one r = append-nil (written r)
 
-pub said-one : (r : Request) → saidOf (r ∷ []) ≡ said r
-unfolding saidOf
-said-one r = append-nil (said r)
+pub error-text-one : (r : Request) → errorTextOf (r ∷ []) ≡ errorText r
+unfolding errorTextOf
+error-text-one r = append-nil (errorText r)
 
 -- What was written, with the request that is not answered yet.
 pub written-is : {S : Type 0} (m : Machine S) (answers : List Answer) → writtenOf (asked m answers) ≡ writtenOf (requestsOf (exchanges m answers)) ++ written (m .ask (stateAfter m answers))
@@ -70,11 +70,11 @@ written-is m answers =
     ∙ written-then (requestsOf (exchanges m answers)) (m .ask (stateAfter m answers) ∷ [])
     ∙ ap (λ (x : List ℕ). writtenOf (requestsOf (exchanges m answers)) ++ x) (written-one (m .ask (stateAfter m answers)))
 
-pub said-is : {S : Type 0} (m : Machine S) (answers : List Answer) → saidOf (asked m answers) ≡ saidOf (requestsOf (exchanges m answers)) ++ said (m .ask (stateAfter m answers))
-said-is m answers =
-    ap saidOf (asked-is m answers)
-    ∙ said-then (requestsOf (exchanges m answers)) (m .ask (stateAfter m answers) ∷ [])
-    ∙ ap (λ (x : List ℕ). saidOf (requestsOf (exchanges m answers)) ++ x) (said-one (m .ask (stateAfter m answers)))
+pub error-text-is : {S : Type 0} (m : Machine S) (answers : List Answer) → errorTextOf (asked m answers) ≡ errorTextOf (requestsOf (exchanges m answers)) ++ errorText (m .ask (stateAfter m answers))
+error-text-is m answers =
+    ap errorTextOf (asked-is m answers)
+    ∙ error-text-then (requestsOf (exchanges m answers)) (m .ask (stateAfter m answers) ∷ [])
+    ∙ ap (λ (x : List ℕ). errorTextOf (requestsOf (exchanges m answers)) ++ x) (error-text-one (m .ask (stateAfter m answers)))
 
 -- One exchange more.
 module _ (talk : List Exchange) (e : Exchange) where
@@ -89,12 +89,12 @@ module _ (talk : List Exchange) (e : Exchange) where
       ∙ written-then (requestsOf talk) (e .request ∷ [])
       ∙ ap (λ (x : List ℕ). writtenOf (requestsOf talk) ++ x) (written-one (e .request))
 
-  pub said-next : saidOf (requestsOf (talk ++ (e ∷ []))) ≡ saidOf (requestsOf talk) ++ said (e .request)
+  pub error-text-next : errorTextOf (requestsOf (talk ++ (e ∷ []))) ≡ errorTextOf (requestsOf talk) ++ errorText (e .request)
   unfolding requestsOf
-  said-next =
-      ap saidOf (requests-then talk (e ∷ []))
-      ∙ said-then (requestsOf talk) (e .request ∷ [])
-      ∙ ap (λ (x : List ℕ). saidOf (requestsOf talk) ++ x) (said-one (e .request))
+  error-text-next =
+      ap errorTextOf (requests-then talk (e ∷ []))
+      ∙ error-text-then (requestsOf talk) (e .request ∷ [])
+      ∙ ap (λ (x : List ℕ). errorTextOf (requestsOf talk) ++ x) (error-text-one (e .request))
 
 -- The first state is reached, and what an answer leads to.
 module _ {S : Type 0} (m : Machine S) where

@@ -143,24 +143,24 @@ written (Fail text) = []
 written Stop = []
 
 -- those that it has printed on standard error, without the system's own text;
-unfoldable pub said : Request → List ℕ
-said Count = []
-said (Argument i most) = []
-said (Open path) = []
-said (Read most) = []
-said (Write text) = []
-said (Say text) = text
-said (Fail text) = text
-said Stop = []
+unfoldable pub errorText : Request → List ℕ
+errorText Count = []
+errorText (Argument i most) = []
+errorText (Open path) = []
+errorText (Read most) = []
+errorText (Write text) = []
+errorText (Say text) = text
+errorText (Fail text) = text
+errorText Stop = []
 
 -- and of several requests, one after the other.
 unfoldable pub writtenOf : List Request → List ℕ
 writtenOf [] = []
 writtenOf (r ∷ requests) = written r ++ writtenOf requests
 
-unfoldable pub saidOf : List Request → List ℕ
-saidOf [] = []
-saidOf (r ∷ requests) = said r ++ saidOf requests
+unfoldable pub errorTextOf : List Request → List ℕ
+errorTextOf [] = []
+errorTextOf (r ∷ requests) = errorText r ++ errorTextOf requests
 
 -- The bytes that an answer brings,
 unfoldable pub brought : Answer → List ℕ

@@ -68,7 +68,7 @@ pub fn goes_on(request: Request) -> bool
 }
 
 // An answer, with the source as it is.
-fn told(source: Source, answer: Answer) -> Obeyed
+fn with_source(source: Source, answer: Answer) -> Obeyed
     ensures { λ r. ⌜ r .answer ≡ answer ⌝ }
 {
     Obeyed { answer, source }
@@ -80,16 +80,16 @@ pub fn obey(request: Request, source: Source, input: &mut [u8], out: &[u8]) -> O
     ensures { λ r. ⌜ Leaves request (now (input .entry)) (now (input .exit)) ⌝ }
 {
     match request {
-        Request::Count => told(source, system::count(request)),
-        Request::Argument(i, at, most) => told(
+        Request::Count => with_source(source, system::count(request)),
+        Request::Argument(i, at, most) => with_source(
             source,
             system::argument(request, i, at, most, input),
         ),
         Request::Open(size) => system::open(request, size, out, source),
-        Request::Read(at, most) => told(source, system::read(request, at, most, input, source)),
-        Request::Write(size) => told(source, system::write(request, size, out)),
-        Request::Say(size) => told(source, system::say(request, size, out)),
-        Request::Fail(size) => told(source, system::fail(request, size, out)),
-        Request::Stop => told(source, Answer::Done),
+        Request::Read(at, most) => with_source(source, system::read(request, at, most, input, source)),
+        Request::Write(size) => with_source(source, system::write(request, size, out)),
+        Request::Say(size) => with_source(source, system::say(request, size, out)),
+        Request::Fail(size) => with_source(source, system::fail(request, size, out)),
+        Request::Stop => with_source(source, Answer::Done),
     }
 }

@@ -15,12 +15,12 @@ use Rattle.programs.proofs.Texts.{front-text}
 use Rattle.machines.specs.Machines.{Argument, Open, Write, Say, Fail, Answer, stepped}
 use Rattle.machines.specs.Forms.{requestOf, Placed, GoesTo}
 use Rattle.merge_machine.specs.declared.marks.Marks.{Marks}
-use Rattle.merge_machine.specs.Held.{mostKept, mostCounted}
-use Rattle.merge_machine.specs.Merging.{longestWord, longestName, FirstHalf, SecondHalf, State, Counting, Setting, Naming, Opening, Reading, Writing, Saying, Failing, Stopped, prefix, named, wordOf, ask, next, merging}
+use Rattle.merge_machine.specs.Buffered.{mostKept, mostCounted}
+use Rattle.merge_machine.specs.Merging.{longestWord, longestName, FirstHalf, SecondHalf, State, Counting, Setting, Naming, Opening, Reading, Writing, Reporting, Failing, Stopped, prefix, fileText, wordOf, ask, next, merging}
 use Rattle.merge_machine.specs.Words.{longestTrace, Fits, atPhase, nameAt, stageOf, nameOf, keptOf, stateIn, placeIn, wordAt, asksFor, Arrives}
 use Rattle.merge_machine.proofs.Parts.{name-most, read-most, wanted-most}
 use Rattle.merge_machine.proofs.Marking.{in-bounds}
-use Rattle.merge_machine.proofs.Leading.{named-some}
+use Rattle.merge_machine.proofs.Leading.{file-text-some}
 
 pub led : {m : Marks} {input out : List ℕ} {s t : State} → t ≡ s → Arrives m input out s → Arrives m input out t
 led {m} {input} {out} e w = subst (λ (x : State). Arrives m input out x) (sym e) w
@@ -55,11 +55,11 @@ module _ (input out : List ℕ) where
       asks = record { stands = ap Write front; inside = inside; there = tt };
     }
 
-    pub arrives-saying : Arrives (atPhase 7 size) input out (Saying text)
+    pub arrives-reporting : Arrives (atPhase 7 size) input out (Reporting text)
     unfolding stateIn asksFor placeIn requestOf Placed GoesTo ask
-    arrives-saying = record {
+    arrives-reporting = record {
       bounds = in-bounds _ (length out) (plain-fits 7 size) (omega arith) inside;
-      state = ap Saying front;
+      state = ap Reporting front;
       asks = record { stands = ap Say front; inside = inside; there = tt };
     }
 
@@ -79,8 +79,8 @@ module _ (out text out′ : List ℕ) (size : ℕ) (fits : length text ≤ lengt
   pub printed-front : take size out′ ≡ text
   printed-front = front-text out text out′ size p (omega (arith, p .next-place, fits))
 
-  pub printed-saying : (input : List ℕ) → Arrives (atPhase 7 size) input out′ (Saying text)
-  printed-saying input = arrives-saying input out′ size text printed-inside printed-front
+  pub printed-reporting : (input : List ℕ) → Arrives (atPhase 7 size) input out′ (Reporting text)
+  printed-reporting input = arrives-reporting input out′ size text printed-inside printed-front
 
   pub printed-failing : (input : List ℕ) → Arrives (atPhase 8 size) input out′ (Failing text)
   printed-failing input = arrives-failing input out′ size text printed-inside printed-front
@@ -165,11 +165,11 @@ module _ (m : Marks) (input : List ℕ) (long : longestWord ≤ length input) (n
       let inside : size ≤ length out′ = printed-inside out word out′ size small q in
       arrives-opening m input out′ fits name short (omega (arith, whole, inside)) (ap (λ (k : ℕ). take k out′) (sym whole) ∙ printed-front out word out′ size small q)
 
-  pub printed-named : (out out′ out″ : List ℕ) (place size : ℕ) → (name ≡ 0 → ⊥) → longestTrace ≤ length out → Printed out 0 prefix out′ place → Printed out′ place slice out″ size
-      → Arrives (atPhase 8 size) input out″ (Failing (named (stageOf m input) word))
-  printed-named out out′ out″ place size some room p q =
+  pub printed-file : (out out′ out″ : List ℕ) (place size : ℕ) → (name ≡ 0 → ⊥) → longestTrace ≤ length out → Printed out 0 prefix out′ place → Printed out′ place slice out″ size
+      → Arrives (atPhase 8 size) input out″ (Failing (fileText (stageOf m input) word))
+  printed-file out out′ out″ place size some room p q =
       let both : Printed out 0 (prefix ++ word) out″ size = then p (subst (λ (t : List ℕ). Printed out′ place t out″ size) slice-is q) in
-      led (ap Failing (named-some (stageOf m input) word (λ e. some (sym word-length ∙ e))))
+      led (ap Failing (file-text-some (stageOf m input) word (λ e. some (sym word-length ∙ e))))
       (printed-failing out (prefix ++ word) out″ size (omega (arith, length-append prefix word, word-length, short, room)) both input)
 
 -- What has said its line stops.

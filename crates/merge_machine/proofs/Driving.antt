@@ -14,15 +14,15 @@ use Rattle.machines.specs.Forms.{goesOn, Leaves, Asks}
 use Rattle.machines.proofs.Runs.{reached-first, reached-next}
 use Rattle.machines.proofs.Places.{going-is, stopped-is, leaves-front}
 use Rattle.merge_machine.specs.declared.marks.Marks.{Marks}
-use Rattle.merge_machine.specs.Held.{mostKept}
+use Rattle.merge_machine.specs.Buffered.{mostKept}
 use Rattle.merge_machine.specs.Merging.{longestName, SecondHalf, State, Counting, Naming, Opening, Reading, Stopped, ask, merging}
-use Rattle.merge_machine.specs.Words.{Roomy, lacksRoom, marksOf, inBounds, Fits, nameAt, halfAt, readTo, stageOf, nameOf, keptOf, stateIn, stateOf, placeIn, placeOf, StandsFor}
+use Rattle.merge_machine.specs.Words.{EnoughRoom, lacksRoom, marksOf, inBounds, Fits, nameAt, halfAt, readTo, stageOf, nameOf, keptOf, stateIn, stateOf, placeIn, placeOf, StandsFor}
 use Rattle.merge_machine.proofs.Parts.{part-kept, half-is, read-past}
 use Rattle.merge_machine.proofs.Marking.{bounded}
 use Rattle.merge_machine.proofs.Ending.{left, merging-ends}
 
 pub record Driven (memory input out : List ℕ) (r : requests.Request) : Type 0 where
-  pub room : Roomy (length memory) (length input) (length out)
+  pub room : EnoughRoom (length memory) (length input) (length out)
   pub reached : Reached merging (stateOf memory input out)
   pub asks : Asks r (placeOf memory) input out (ask (stateOf memory input out))
 
@@ -63,9 +63,9 @@ module _ (m : Marks) (input after out : List ℕ) (fits : Fits m) where
       let kept = same-kept e in
       λ j. Reading (stage j) (name j) (kept j) (m .count)
 
-  named-place : eqb (m .phase) 3 ≡ true → placeIn m ≡ nameAt (m .half)
+  name-place : eqb (m .phase) 3 ≡ true → placeIn m ≡ nameAt (m .half)
   unfolding placeIn
-  named-place p3 = rw p3 refl
+  name-place p3 = rw p3 refl
 
   opened-place : eqb (m .phase) 3 ≡ false → eqb (m .phase) 4 ≡ true → placeIn m ≡ halfAt (m .half)
   unfolding placeIn
@@ -79,7 +79,7 @@ module _ (m : Marks) (input after out : List ℕ) (fits : Fits m) where
   unfolding stateIn
   same-state e = by-bool (eqb (m .phase) 1) (λ p1. rw p1 refl)
       (λ n1. by-bool (eqb (m .phase) 2) (λ p2. rw (n1, p2) refl)
-      (λ n2. by-bool (eqb (m .phase) 3) (λ p3. rw (n1, n2, p3) (same-naming (subst Same (named-place p3) e)))
+      (λ n2. by-bool (eqb (m .phase) 3) (λ p3. rw (n1, n2, p3) (same-naming (subst Same (name-place p3) e)))
       (λ n3. by-bool (eqb (m .phase) 4) (λ p4. rw (n1, n2, n3, p4) (same-opening (subst Same (opened-place n3 p4) e)))
       (λ n4. by-bool (eqb (m .phase) 5) (λ p5. rw (n1, n2, n3, n4, p5) (same-reading (subst Same (read-place n3 n4 p5) e)))
       (λ n5. rw (n1, n2, n3, n4, n5) refl)))))
@@ -90,14 +90,14 @@ state-kept memory input after out front same = rw same (by-bool (inBounds (marks
     (λ b. rw b (ap (pick (lacksRoom (length memory) (length input) (length out)) Stopped) (same-state (marksOf memory) input after out (bounded (marksOf memory) (length out) b .0) front)))
     (λ n. rw n refl))
 
-stands-driven : (memory input out : List ℕ) (r : requests.Request) (s : State) → Roomy (length memory) (length input) (length out) → Reached merging s → StandsFor memory input out r s → Driven memory input out r
+stands-driven : (memory input out : List ℕ) (r : requests.Request) (s : State) → EnoughRoom (length memory) (length input) (length out) → Reached merging s → StandsFor memory input out r s → Driven memory input out r
 stands-driven memory input out r s room reached h = record {
   room = room;
   reached = subst (Reached merging) (sym (h .state)) reached;
   asks = subst (λ (x : State). Asks r (placeOf memory) input out (ask x)) (sym (h .state)) (h .asks);
 }
 
-pub driven-first : (memory input out : List ℕ) (r : requests.Request) → Roomy (length memory) (length input) (length out) → StandsFor memory input out r (Counting) → Driven memory input out r
+pub driven-first : (memory input out : List ℕ) (r : requests.Request) → EnoughRoom (length memory) (length input) (length out) → StandsFor memory input out r (Counting) → Driven memory input out r
 driven-first memory input out r room h = stands-driven memory input out r (Counting) room (reached-first merging) h
 
 -- One request is obeyed, and its answer taken.
@@ -106,7 +106,7 @@ module _ (memory input out : List ℕ) (r : requests.Request) (h : Driven memory
   kept = let f = leaves-front r (placeOf memory) input input′ (h .asks .there) leaves in state-kept memory input input′ out (f .0) (f .1)
 
   module _ (memory′ out′ : List ℕ) (r′ : requests.Request) (a : Answer) (stands : StandsFor memory′ input′ out′ r′ (stepped merging (stateOf memory input′ out) a)) where
-    pub driven-next : Roomy (length memory′) (length input′) (length out′) → Driven memory′ input′ out′ r′
+    pub driven-next : EnoughRoom (length memory′) (length input′) (length out′) → Driven memory′ input′ out′ r′
     driven-next room =
         stands-driven memory′ input′ out′ r′ (stepped merging (stateOf memory input′ out) a) room
         (subst (λ (s : State). Reached merging (stepped merging s a)) (sym kept) (reached-next merging (stateOf memory input out) a (h .reached)))

@@ -11,9 +11,9 @@ use borrow.Author.Tests.{leb-true, ltb-true}
 use Rattle.laws.specs.Choice.{by-bool}
 use Rattle.programs.specs.Numbers.{numberIn, noNumber}
 use Rattle.machines.specs.Machines.{Stop, Answer, Number, Bytes, End, Done, Failed, heard, heardCount, heardWord, heardRead, heardDone, isNumber, stepped, Ends}
-use Rattle.merge_machine.specs.Held.{mostCounted, heldSize, wanted, keeping}
+use Rattle.merge_machine.specs.Buffered.{mostCounted, bufferedSize, wanted, keeping}
 use Rattle.merge_machine.specs.Printed.{printed}
-use Rattle.merge_machine.specs.Merging.{longestWord, longestName, Stage, FirstHalf, SecondHalf, State, Counting, Setting, Naming, Opening, Reading, Writing, Saying, Failing, Stopped, ask, shown, showing, halfRead, ended, onward, afterCount, afterSet, afterName, afterOpen, afterRead, afterWrite, next, merging}
+use Rattle.merge_machine.specs.Merging.{longestWord, longestName, Stage, FirstHalf, SecondHalf, State, Counting, Setting, Naming, Opening, Reading, Writing, Reporting, Failing, Stopped, ask, shown, showing, halfRead, ended, onward, afterCount, afterSet, afterName, afterOpen, afterRead, afterWrite, next, merging}
 
 abbrev pub stageLeft : Stage → ℕ
 stageLeft (FirstHalf set) = mostCounted + 6
@@ -26,7 +26,7 @@ left (Naming stage) = mostCounted + 2 + stageLeft stage
 left (Opening stage name) = mostCounted + 1 + stageLeft stage
 left (Reading stage name kept total) = mostCounted - total + stageLeft stage
 left (Writing trace) = 2
-left (Saying line) = 1
+left (Reporting line) = 1
 left (Failing name) = 1
 left Stopped = 0
 
@@ -42,7 +42,7 @@ shown-falls trace (b ∷ line) = omega arith
 ended-falls : (stage : Stage) (kept : List ℕ) (total : ℕ) → left (ended stage kept total) < stageLeft stage
 unfolding halfRead showing
 ended-falls (FirstHalf set) kept total = omega arith
-ended-falls (SecondHalf set first) kept total = shown-falls (printed first (take (heldSize total) kept) set .trace) (printed first (take (heldSize total) kept) set .refusal)
+ended-falls (SecondHalf set first) kept total = shown-falls (printed first (take (bufferedSize total) kept) set .trace) (printed first (take (bufferedSize total) kept) set .refusal)
 
 count-falls : (a : Answer) → left (afterCount a) < left Counting
 unfolding afterCount
@@ -114,7 +114,7 @@ falls (Naming stage) a h = name-falls stage (heardWord longestName a)
 falls (Opening stage name) a h = open-falls stage name (heardDone a)
 falls (Reading stage name kept total) a h = read-falls stage name kept total (wanted total) a
 falls (Writing trace) a h = write-falls (heardDone a)
-falls (Saying line) a h = omega arith
+falls (Reporting line) a h = omega arith
 falls (Failing name) a h = omega arith
 falls Stopped a h = absurd (h refl)
 
@@ -126,7 +126,7 @@ stays (Naming stage) a e = cc
 stays (Opening stage name) a e = cc
 stays (Reading stage name kept total) a e = cc
 stays (Writing trace) a e = cc
-stays (Saying line) a e = cc
+stays (Reporting line) a e = cc
 stays (Failing name) a e = cc
 stays Stopped a e = refl
 

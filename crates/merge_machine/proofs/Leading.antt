@@ -19,11 +19,11 @@ use Rattle.machines.specs.declared.heard.Taken.the-variants as taken
 use Rattle.machines.specs.Machines.{Answer, Bytes, Done, Failed, heard, heardCount, heardWord, heardRead, heardDone, isNumber, stepped}
 use Rattle.machines.specs.Forms.{answerOf, takenOf}
 use Rattle.merge_machine.specs.declared.marks.Marks.{Marks}
-use Rattle.merge_machine.specs.Held.{mostCounted, heldSize, wanted}
+use Rattle.merge_machine.specs.Buffered.{mostCounted, bufferedSize, wanted}
 use Rattle.merge_machine.specs.Printed.{Printed, refusing, printed}
-use Rattle.merge_machine.specs.Merging.{longestWord, longestName, usage, prefix, firstName, secondName, outputName, Stage, FirstHalf, SecondHalf, State, Counting, Setting, Naming, Opening, Reading, Writing, Saying, Failing, Stopped, ask, unnamed, named, shown, showing, halfRead, ended, onward, afterCount, afterSet, afterName, afterOpen, afterRead, afterWrite, next, merging}
+use Rattle.merge_machine.specs.Merging.{longestWord, longestName, usage, prefix, firstName, secondName, outputName, Stage, FirstHalf, SecondHalf, State, Counting, Setting, Naming, Opening, Reading, Writing, Reporting, Failing, Stopped, ask, noNameText, fileText, shown, showing, halfRead, ended, onward, afterCount, afterSet, afterName, afterOpen, afterRead, afterWrite, next, merging}
 use Rattle.merge_machine.specs.Words.{halfAt, nameAt, readTo, stageOf, nameOf, keptOf}
-use Rattle.merge_machine.proofs.Parts.{read-most, wanted-most, keeping-is, held-part}
+use Rattle.merge_machine.proofs.Parts.{read-most, wanted-most, keeping-is, buffered-part}
 
 -- How many words there are.
 module _ (x : Answer) (b : Bool) (h : b ≡ isNumber (heardCount x) 4) where
@@ -31,12 +31,12 @@ module _ (x : Answer) (b : Bool) (h : b ≡ isNumber (heardCount x) 4) where
   unfolding stepped ask heard next afterCount
   counted-four e = rw (sym h ∙ e) refl
 
-  pub counted-other : b ≡ false → stepped merging Counting x ≡ Saying usage
+  pub counted-other : b ≡ false → stepped merging Counting x ≡ Reporting usage
   unfolding stepped ask heard next afterCount
   counted-other e = rw (sym h ∙ e) refl
 
 -- The set that a word names.
-pub set-none : (word : List ℕ) → numberIn word ≡ noNumber → afterSet (Bytes word) ≡ Saying usage
+pub set-none : (word : List ℕ) → numberIn word ≡ noNumber → afterSet (Bytes word) ≡ Reporting usage
 unfolding afterSet
 set-none word e = rw (eq-eqb (numberIn word) noNumber e) refl
 
@@ -58,11 +58,11 @@ module _ (x : Answer) (at : ℕ) (input : List ℕ) (t : takens.Taken) where
     unfolding takenOf
     set-word size e = heard-set ∙ ap (λ (y : takens.Taken). afterSet (takenOf y at input)) e
 
-    pub set-end : t ≡ taken.Ended → stepped merging Setting x ≡ Saying usage
+    pub set-end : t ≡ taken.Ended → stepped merging Setting x ≡ Reporting usage
     unfolding takenOf afterSet
     set-end e = heard-set ∙ ap (λ (y : takens.Taken). afterSet (takenOf y at input)) e
 
-    pub set-failed : t ≡ taken.Failed → stepped merging Setting x ≡ Saying usage
+    pub set-failed : t ≡ taken.Failed → stepped merging Setting x ≡ Reporting usage
     unfolding takenOf afterSet
     set-failed e = heard-set ∙ ap (λ (y : takens.Taken). afterSet (takenOf y at input)) e
 
@@ -76,11 +76,11 @@ module _ (x : Answer) (at : ℕ) (input : List ℕ) (t : takens.Taken) where
     unfolding takenOf afterName
     name-word size e = heard-name ∙ ap (λ (y : takens.Taken). afterName stage (takenOf y at input)) e
 
-    pub name-end : t ≡ taken.Ended → stepped merging (Naming stage) x ≡ Failing (unnamed stage)
+    pub name-end : t ≡ taken.Ended → stepped merging (Naming stage) x ≡ Failing (noNameText stage)
     unfolding takenOf afterName
     name-end e = heard-name ∙ ap (λ (y : takens.Taken). afterName stage (takenOf y at input)) e
 
-    pub name-failed : t ≡ taken.Failed → stepped merging (Naming stage) x ≡ Failing (unnamed stage)
+    pub name-failed : t ≡ taken.Failed → stepped merging (Naming stage) x ≡ Failing (noNameText stage)
     unfolding takenOf afterName
     name-failed e = heard-name ∙ ap (λ (y : takens.Taken). afterName stage (takenOf y at input)) e
 
@@ -90,7 +90,7 @@ module _ (x : Answer) (b : Bool) (h : heardDone x ≡ pick b Done Failed) where
   unfolding stepped ask heard next afterOpen
   open-done stage name e = ap (afterOpen stage name) (h ∙ ap (λ (y : Bool). pick y Done Failed) e)
 
-  pub open-failed : (stage : Stage) (name : List ℕ) → b ≡ false → stepped merging (Opening stage name) x ≡ Failing (named stage name)
+  pub open-failed : (stage : Stage) (name : List ℕ) → b ≡ false → stepped merging (Opening stage name) x ≡ Failing (fileText stage name)
   unfolding stepped ask heard next afterOpen
   open-failed stage name e = ap (afterOpen stage name) (h ∙ ap (λ (y : Bool). pick y Done Failed) e)
 
@@ -131,14 +131,14 @@ module _ (half count : ℕ) (input : List ℕ) (long : longestWord ≤ length in
       ∙ ap (λ (l : List ℕ). onward stage name l (count + length (take size (drop place input)))) (keeping-is half count size input)
       ∙ ap (λ (k : ℕ). onward stage name (keptOf half (count + size) input) (count + k)) many
 
-  pub read-end : t ≡ taken.Ended → after-reading ≡ halfRead stage (take (heldSize count) (drop (halfAt half) input))
+  pub read-end : t ≡ taken.Ended → after-reading ≡ halfRead stage (take (bufferedSize count) (drop (halfAt half) input))
   unfolding takenOf afterRead
   read-end e =
       heard-read
       ∙ ap (λ (y : takens.Taken). afterRead stage name kept count (takenOf y place input)) e
-      ∙ ap (halfRead stage) (held-part half count input)
+      ∙ ap (halfRead stage) (buffered-part half count input)
 
-  pub read-failed : t ≡ taken.Failed → after-reading ≡ Failing (named stage name)
+  pub read-failed : t ≡ taken.Failed → after-reading ≡ Failing (fileText stage name)
   unfolding takenOf afterRead
   read-failed e = heard-read ∙ ap (λ (y : takens.Taken). afterRead stage name kept count (takenOf y place input)) e
 
@@ -147,23 +147,23 @@ module _ (half count : ℕ) (input : List ℕ) (stage : Stage) (name : List ℕ)
   unfolding onward
   onward-read h = rw (lt-ltb count mostCounted h) refl
 
-  pub onward-end : mostCounted ≤ count → onward stage name (keptOf half count input) count ≡ halfRead stage (take (heldSize count) (drop (halfAt half) input))
+  pub onward-end : mostCounted ≤ count → onward stage name (keptOf half count input) count ≡ halfRead stage (take (bufferedSize count) (drop (halfAt half) input))
   unfolding onward
-  onward-end h = rw (le-ltb count mostCounted h) (ap (halfRead stage) (held-part half count input))
+  onward-end h = rw (le-ltb count mostCounted h) (ap (halfRead stage) (buffered-part half count input))
 
 -- What is reported of a file, by which half it is.
 module _ (m : Marks) (input : List ℕ) where
-  pub unnamed-first : m .half ≡ 0 → unnamed (stageOf m input) ≡ firstName
-  unfolding stageOf unnamed
-  unnamed-first e = rw (eq-eqb (m .half) 0 e) refl
+  pub no-name-first : m .half ≡ 0 → noNameText (stageOf m input) ≡ firstName
+  unfolding stageOf noNameText
+  no-name-first e = rw (eq-eqb (m .half) 0 e) refl
 
-  pub unnamed-second : (m .half ≡ 0 → ⊥) → unnamed (stageOf m input) ≡ secondName
-  unfolding stageOf unnamed
-  unnamed-second e = rw (ne-eqb (m .half) 0 e) refl
+  pub no-name-second : (m .half ≡ 0 → ⊥) → noNameText (stageOf m input) ≡ secondName
+  unfolding stageOf noNameText
+  no-name-second e = rw (ne-eqb (m .half) 0 e) refl
 
-  pub named-none : m .name ≡ 0 → named (stageOf m input) (nameOf m input) ≡ unnamed (stageOf m input)
-  unfolding nameOf named
-  named-none e = rw e refl
+  pub file-text-none : m .name ≡ 0 → fileText (stageOf m input) (nameOf m input) ≡ noNameText (stageOf m input)
+  unfolding nameOf fileText
+  file-text-none e = rw e refl
 
   -- A half has ended.
   pub first-ended : (half : List ℕ) → m .half ≡ 0 → halfRead (stageOf m input) half ≡ Naming (SecondHalf (m .set) half)
@@ -174,10 +174,10 @@ module _ (m : Marks) (input : List ℕ) where
   unfolding stageOf halfRead
   second-ended half e = rw (ne-eqb (m .half) 0 e) refl
 
-pub named-some : (stage : Stage) (name : List ℕ) → (length name ≡ 0 → ⊥) → named stage name ≡ prefix ++ name
-unfolding named
-named-some stage [] h = absurd (h refl)
-named-some stage (x ∷ name) h = refl
+pub file-text-some : (stage : Stage) (name : List ℕ) → (length name ≡ 0 → ⊥) → fileText stage name ≡ prefix ++ name
+unfolding fileText
+file-text-some stage [] h = absurd (h refl)
+file-text-some stage (x ∷ name) h = refl
 
 pub first-place : (half : ℕ) → half ≡ 0 → halfAt half ≡ 4096
 unfolding halfAt nameAt
@@ -187,24 +187,24 @@ pub second-place : (half : ℕ) → (half ≡ 0 → ⊥) → halfAt half ≡ 245
 unfolding halfAt nameAt
 second-place half e = rw (ne-eqb half 0 e) refl
 
-pub first-held : (m : Marks) (input : List ℕ) (count held : ℕ) → held ≡ heldSize count → m .half ≡ 0
-    → halfRead (stageOf m input) (take (heldSize count) (drop (halfAt (m .half)) input)) ≡ Naming (SecondHalf (m .set) (take held (drop longestName input)))
-first-held m input count held h e =
+pub first-buffered : (m : Marks) (input : List ℕ) (count buffered : ℕ) → buffered ≡ bufferedSize count → m .half ≡ 0
+    → halfRead (stageOf m input) (take (bufferedSize count) (drop (halfAt (m .half)) input)) ≡ Naming (SecondHalf (m .set) (take buffered (drop longestName input)))
+first-buffered m input count buffered h e =
     let place = first-place (m .half) e in
-    first-ended m input (take (heldSize count) (drop (halfAt (m .half)) input)) e ∙ (λ j. Naming (SecondHalf (m .set) (take (sym h j) (drop (place j) input))))
+    first-ended m input (take (bufferedSize count) (drop (halfAt (m .half)) input)) e ∙ (λ j. Naming (SecondHalf (m .set) (take (sym h j) (drop (place j) input))))
 
-pub second-held : (m : Marks) (input : List ℕ) (count held : ℕ) → held ≡ heldSize count → (m .half ≡ 0 → ⊥)
-    → halfRead (stageOf m input) (take (heldSize count) (drop (halfAt (m .half)) input))
-    ≡ showing (printed (take ((4096 + m .first) - 4096) (drop 4096 input)) (take ((24584 + held) - 24584) (drop 24584 input)) (m .set))
-second-held m input count held h e =
+pub second-buffered : (m : Marks) (input : List ℕ) (count buffered : ℕ) → buffered ≡ bufferedSize count → (m .half ≡ 0 → ⊥)
+    → halfRead (stageOf m input) (take (bufferedSize count) (drop (halfAt (m .half)) input))
+    ≡ showing (printed (take ((4096 + m .first) - 4096) (drop 4096 input)) (take ((24584 + buffered) - 24584) (drop 24584 input)) (m .set))
+second-buffered m input count buffered h e =
     let place = second-place (m .half) e in
     let one : m .first ≡ (4096 + m .first) - 4096 = omega arith in
-    let other : heldSize count ≡ (24584 + held) - 24584 = omega (arith, h) in
-    second-ended m input (take (heldSize count) (drop (halfAt (m .half)) input)) e
+    let other : bufferedSize count ≡ (24584 + buffered) - 24584 = omega (arith, h) in
+    second-ended m input (take (bufferedSize count) (drop (halfAt (m .half)) input)) e
     ∙ (λ j. showing (printed (take (one j) (drop longestName input)) (take (other j) (drop (place j) input)) (m .set)))
 
 -- The merged trace, or why there is none.
-pub shown-refusal : (p : Printed) (why : Refusal) → p ≡ refusing why → showing p ≡ Saying (refusedText why)
+pub shown-refusal : (p : Printed) (why : Refusal) → p ≡ refusing why → showing p ≡ Reporting (refusedText why)
 unfolding showing shown refusedText figureText
 shown-refusal p why e = rw e refl
 

@@ -10,7 +10,7 @@ use lib.ListN.{length, set}
 use borrow.Author.Tests.{le-leb, lt-ltb, leb-true, ltb-true}
 use Rattle.laws.specs.Truth.{and-left, and-right}
 use Rattle.merge_machine.specs.declared.marks.Marks.{Marks}
-use Rattle.merge_machine.specs.Held.{mostKept, mostCounted}
+use Rattle.merge_machine.specs.Buffered.{mostKept, mostCounted}
 use Rattle.merge_machine.specs.Merging.{longestName}
 use Rattle.merge_machine.specs.Words.{marksOf, inBounds, Fits}
 

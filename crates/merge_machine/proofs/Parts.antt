@@ -9,7 +9,7 @@ use lib.ListN.{take, drop}
 use lib.Seq.{take-take, drop-drop, take-add}
 use borrow.Author.Tests.{leb-true, leb-false}
 use Rattle.laws.specs.Choice.{by-bool}
-use Rattle.merge_machine.specs.Held.{mostKept, heldSize, wanted, keeping}
+use Rattle.merge_machine.specs.Buffered.{mostKept, bufferedSize, wanted, keeping}
 use Rattle.merge_machine.specs.Words.{nameAt, halfAt, readTo, keptOf}
 use Rattle.merge_machine.proofs.Standing.{sized}
 
@@ -71,6 +71,6 @@ keeping-is half count size input =
     ∙ kept-then count size (drop (halfAt half) input)
 
 -- What is held of a half.
-pub held-part : (half count : ℕ) (input : List ℕ) → take (heldSize count) (keptOf half count input) ≡ take (heldSize count) (drop (halfAt half) input)
+pub buffered-part : (half count : ℕ) (input : List ℕ) → take (bufferedSize count) (keptOf half count input) ≡ take (bufferedSize count) (drop (halfAt half) input)
 unfolding keptOf
-held-part half count input = take-take (heldSize count) (min count mostKept) (drop (halfAt half) input) (omega (arith, sized count .most, sized count .less))
+buffered-part half count input = take-take (bufferedSize count) (min count mostKept) (drop (halfAt half) input) (omega (arith, sized count .most, sized count .less))

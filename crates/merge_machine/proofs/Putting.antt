@@ -12,11 +12,11 @@ use Rattle.model.specs.declared.Fields.{Fields}
 use Rattle.model.specs.declared.Refusal.{Refusal}
 use Rattle.model.specs.declared.MergeAnswer.the-variants as merge-answer
 use Rattle.merges.specs.Halves.{HalfEvent}
-use Rattle.merges.specs.Merge.{halfEventOf, nextRecord, Taken, stopped, took, takeFrom, takeAll, countOf, behindCount, fieldsIn, mergeRefusal, plainBytes, MergeOutcome, finished, mergeOutcome}
+use Rattle.merges.specs.Merge.{halfEventOf, nextRecord, Taken, stopped, took, takeFrom, takeAll, countOf, afterFirstByte, fieldsIn, mergeRefusal, plainBytes, MergeOutcome, finished, mergeOutcome}
 use Rattle.model.specs.laws.Refusals.{by-refusal}
 use Rattle.merges.proofs.Keeping.{next-out, record-out}
 use Rattle.merges.proofs.Replaying.{plain-length, how-many, fine}
-use Rattle.halves.proofs.Rules.{behind-is}
+use Rattle.halves.proofs.Rules.{after-first-is}
 use Rattle.merge_machine.specs.Printed.{refusing, putting, printed}
 use Rattle.merge_machine.proofs.Standing.{long-enough, refused-text}
 
@@ -74,15 +74,15 @@ module _ (first second : List ℕ) (F : ℕ) (buffer : List ℕ) (room : length 
     worth-taken (stopped r) e = worth-refused r (printed-is ∙ ap (putting (countOf first)) e)
     worth-taken (took taken) e =
         let f = fine first second F buffer none-holds in
-        let many : length taken ≡ 0 + (length (fieldsIn (behindCount first)) + length (fieldsIn (behindCount second))) = took-all (countOf first) F _ taken [] _ _ e in
+        let many : length taken ≡ 0 + (length (fieldsIn (afterFirstByte first)) + length (fieldsIn (afterFirstByte second))) = took-all (countOf first) F _ taken [] _ _ e in
         let long : 1 + length (plainBytes taken) ≤ length buffer = omega (
           arith,
           plain-length taken,
           many,
-          how-many (behindCount first),
-          how-many (behindCount second),
-          behind-is first,
-          behind-is second,
+          how-many (afterFirstByte first),
+          how-many (afterFirstByte second),
+          after-first-is first,
+          after-first-is second,
           f .first-byte,
           f .second-byte,
           room,

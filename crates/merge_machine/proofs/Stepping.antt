@@ -16,14 +16,14 @@ use Rattle.machines.specs.Machines.{Answer, stepped}
 use Rattle.machines.specs.Forms.{requestOf, Placed, GoesTo, answerOf}
 use Rattle.merge_machine.specs.declared.marks.Marks.{Marks}
 use Rattle.merge_machine.specs.Merging.{longestWord, State, ask, next, merging}
-use Rattle.merge_machine.specs.Words.{longestTrace, Roomy, lacksRoom, marksOf, inBounds, stateIn, stateOf, placeIn, placeOf, asksFor, StandsFor, Arrives}
+use Rattle.merge_machine.specs.Words.{longestTrace, EnoughRoom, lacksRoom, marksOf, inBounds, stateIn, stateOf, placeIn, placeOf, asksFor, StandsFor, Arrives}
 
 -- Room, as a test and as a fact.
-pub room-is : (memory input out : ℕ) → Roomy memory input out → lacksRoom memory input out ≡ false
+pub room-is : (memory input out : ℕ) → EnoughRoom memory input out → lacksRoom memory input out ≡ false
 unfolding lacksRoom
 room-is memory input out (a, b, c) = rw (le-ltb memory 7 a, le-ltb input longestWord b, le-ltb out longestTrace c) refl
 
-pub room-by : (memory input out : ℕ) → lacksRoom memory input out ≡ false → Roomy memory input out
+pub room-by : (memory input out : ℕ) → lacksRoom memory input out ≡ false → EnoughRoom memory input out
 unfolding lacksRoom
 room-by memory input out e =
     let a = or-none (ltb memory 7) (ltb input longestWord || ltb out longestTrace) e in
@@ -52,7 +52,7 @@ module _ (memory input out : List ℕ) (a : Answer) where
   no-bounds h k = rw (h, k) (record { state = rw (h, k) refl; asks = record { stands = refl; inside = tt; there = tt } })
 
 -- The numbers of a state are put.
-pub put-stands : (memory input out : List ℕ) (m : Marks) (r : requests.Request) (s : State) → Roomy (length memory) (length input) (length out) → marksOf memory ≡ m
+pub put-stands : (memory input out : List ℕ) (m : Marks) (r : requests.Request) (s : State) → EnoughRoom (length memory) (length input) (length out) → marksOf memory ≡ m
     → Arrives m input out s → r ≡ asksFor m → StandsFor memory input out r s
 unfolding stateOf
 put-stands memory input out m r s room is w e = record {
@@ -61,13 +61,13 @@ put-stands memory input out m r s room is w e = record {
 }
 
 -- The state before a step.
-state-is : (memory input out : List ℕ) (m : Marks) → Roomy (length memory) (length input) (length out) → m ≡ marksOf memory → inBounds m (length out) ≡ true
+state-is : (memory input out : List ℕ) (m : Marks) → EnoughRoom (length memory) (length input) (length out) → m ≡ marksOf memory → inBounds m (length out) ≡ true
     → stateOf memory input out ≡ stateIn m input out
 unfolding stateOf
 state-is memory input out m room is inside = rw (room-is (length memory) (length input) (length out) room, ← is, inside) refl
 
 pub step-stands : (memory input out memory′ out′ : List ℕ) (m m′ : Marks) (r : requests.Request) (a : answers.Answer)
-    → Roomy (length memory) (length input) (length out) → m ≡ marksOf memory → inBounds m (length out) ≡ true
+    → EnoughRoom (length memory) (length input) (length out) → m ≡ marksOf memory → inBounds m (length out) ≡ true
     → length memory′ ≡ length memory → length out′ ≡ length out → marksOf memory′ ≡ m′
     → Arrives m′ input out′ (stepped merging (stateIn m input out) (answerOf a (placeIn m) input)) → r ≡ asksFor m′
     → StandsFor memory′ input out′ r (stepped merging (stateOf memory input out) (answerOf a (placeOf memory) input))

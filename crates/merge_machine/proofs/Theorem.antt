@@ -16,9 +16,9 @@ use Rattle.programs.specs.Numbers.{decimalIn, standsFor, numberIn, noNumber, at
 use Rattle.machines.specs.Machines.{Read, Write, Say, Fail, Stop, Answer, Number, Bytes, End, Done, Failed, Exchange, heard, heardCount, heardWord, heardRead, heardDone, isNumber, stepped, exchanged, stateAfter, exchanges, written, writtenOf, requestsOf, brought}
 use Rattle.machines.proofs.Runs.{throughout, written-next, written-is}
 use Rattle.merges.specs.Merge.{Taken, stopped, took, takeAll, countOf, mergeRefusal}
-use Rattle.merge_machine.specs.Held.{mostKept, mostCounted, heldSize, heldOf, wanted, keeping}
+use Rattle.merge_machine.specs.Buffered.{mostKept, mostCounted, bufferedSize, bufferedOf, wanted, keeping}
 use Rattle.merge_machine.specs.Printed.{Printed, putting, printed}
-use Rattle.merge_machine.specs.Merging.{usage, longestWord, longestName, outputName, Stage, FirstHalf, SecondHalf, State, Counting, Setting, Naming, Opening, Reading, Writing, Saying, Failing, Stopped, wordOf, ask, shown, showing, halfRead, ended, onward, afterCount, afterSet, afterName, afterOpen, afterRead, afterWrite, next, merging}
+use Rattle.merge_machine.specs.Merging.{usage, longestWord, longestName, outputName, Stage, FirstHalf, SecondHalf, State, Counting, Setting, Naming, Opening, Reading, Writing, Reporting, Failing, Stopped, wordOf, ask, shown, showing, halfRead, ended, onward, afterCount, afterSet, afterName, afterOpen, afterRead, afterWrite, next, merging}
 use Rattle.merge_machine.specs.Promised.{Met, nothing, opened, grown, readOn, worded, met, metIn, wholeFile, isWhole, mergeOf, mergedOf, traceOf, refusalOf, lineOf, MergesAlways, SaysFailures}
 use Rattle.merge_machine.proofs.Standing.{sized, refused-text, printed-same}
 use Rattle.merge_machine.proofs.Sets.{asked-set}
@@ -40,10 +40,10 @@ kept-more file kept more total h = record {
   front = ap (λ (l : List ℕ). take mostKept (l ++ more)) (h .front) ∙ take-cut mostKept file more;
 }
 
-held-is : (file kept : List ℕ) (total : ℕ) → Kept file kept total → take (heldSize total) kept ≡ heldOf file
-unfolding heldOf
-held-is file kept total h =
-    ap (take (heldSize total)) (h .front) ∙ take-take (heldSize total) mostKept file (sized total .most) ∙ ap (λ (k : ℕ). take (heldSize k) file) (h .all)
+buffered-is : (file kept : List ℕ) (total : ℕ) → Kept file kept total → take (bufferedSize total) kept ≡ bufferedOf file
+unfolding bufferedOf
+buffered-is file kept total h =
+    ap (take (bufferedSize total)) (h .front) ∙ take-take (bufferedSize total) mostKept file (sized total .most) ∙ ap (λ (k : ℕ). take (bufferedSize k) file) (h .all)
 
 -- The set that a word is.
 record SetOf (word : List ℕ) (set : ℕ) : Type 0 where
@@ -63,11 +63,11 @@ set-known word e = let k = known-by (decimalIn word) (eqb-false (numberIn word) 
 -- Before a file is opened, and once it is.
 abbrev Before : Stage → Met → Type 0
 Before (FirstHalf set) m = (m .files ≡ []) × SetOf (m .word) set
-Before (SecondHalf set first) m = (file : List ℕ) × ((m .files ≡ file ∷ []) × ((first ≡ heldOf file) × SetOf (m .word) set))
+Before (SecondHalf set first) m = (file : List ℕ) × ((m .files ≡ file ∷ []) × ((first ≡ bufferedOf file) × SetOf (m .word) set))
 
 abbrev During : Stage → List ℕ → Met → Type 0
 During (FirstHalf set) file m = (m .files ≡ file ∷ []) × SetOf (m .word) set
-During (SecondHalf set first) file m = (one : List ℕ) × ((m .files ≡ file ∷ one ∷ []) × ((first ≡ heldOf one) × SetOf (m .word) set))
+During (SecondHalf set first) file m = (one : List ℕ) × ((m .files ≡ file ∷ one ∷ []) × ((first ≡ bufferedOf one) × SetOf (m .word) set))
 
 record InReading (stage : Stage) (kept : List ℕ) (total : ℕ) (w : List ℕ) (m : Met) : Type 0 where
   file : List ℕ
@@ -85,7 +85,7 @@ Holds (Naming stage) w m = (w ≡ []) × Before stage m
 Holds (Opening stage name) w m = (w ≡ []) × Before stage m
 Holds (Reading stage name kept total) w m = InReading stage kept total w m
 Holds (Writing trace) w m = (w ≡ []) × (trace ≡ traceOf m)
-Holds (Saying line) w m = (w ≡ traceOf m) × (line ≡ lineOf (m .files) (decimalIn (m .word)))
+Holds (Reporting line) w m = (w ≡ traceOf m) × (line ≡ lineOf (m .files) (decimalIn (m .word)))
 Holds (Failing name) w m = w ≡ traceOf m
 Holds Stopped w m = w ≡ traceOf m
 
@@ -107,8 +107,8 @@ no-line : (m : Met) → m .files ≡ [] → usage ≡ lineOf (m .files) (decimal
 unfolding lineOf
 no-line m e = sym (ap (λ (f : List (List ℕ)). lineOf f (decimalIn (m .word))) e)
 
-said-usage : (w : List ℕ) (m : Met) → w ≡ [] → m .files ≡ [] → (w ≡ traceOf m) × (usage ≡ lineOf (m .files) (decimalIn (m .word)))
-said-usage w m s e = (s ∙ sym (no-trace m e), no-line m e)
+reported-usage : (w : List ℕ) (m : Met) → w ≡ [] → m .files ≡ [] → (w ≡ traceOf m) × (usage ≡ lineOf (m .files) (decimalIn (m .word)))
+reported-usage w m s e = (s ∙ sym (no-trace m e), no-line m e)
 
 before-trace : (stage : Stage) (m : Met) → Before stage m → traceOf m ≡ []
 before-trace (FirstHalf set) m h = no-trace m (h .0)
@@ -163,15 +163,15 @@ module _ (m : Met) (one file : List ℕ) (set : ℕ) (files : m .files ≡ file 
       ∙ ap (λ (o : Option ℕ). lineOf (file ∷ one ∷ []) o) (known .known)
       )
 
-  print-is : (first half : List ℕ) → first ≡ heldOf one → half ≡ heldOf file → printed first half set ≡ printed one file (known .whole)
+  print-is : (first half : List ℕ) → first ≡ bufferedOf one → half ≡ bufferedOf file → printed first half set ≡ printed one file (known .whole)
   print-is first half e f =
       ap (λ (l : List ℕ). printed l half set) e
-      ∙ ap (λ (l : List ℕ). printed (heldOf one) l set) f
+      ∙ ap (λ (l : List ℕ). printed (bufferedOf one) l set) f
       ∙ printed-same one file set
       ∙ ap (printed one file) (known .right)
       ∙ asked-set one file (m .word) (known .whole) (known .known)
 
-  both-hold : (first half w : List ℕ) → first ≡ heldOf one → half ≡ heldOf file → w ≡ [] → Holds (showing (printed first half set)) w m
+  both-hold : (first half w : List ℕ) → first ≡ bufferedOf one → half ≡ bufferedOf file → w ≡ [] → Holds (showing (printed first half set)) w m
   unfolding showing
   both-hold first half w e f s =
       subst (λ (p : Printed). Holds (showing p) w m) (sym (print-is first half e f))
@@ -180,25 +180,25 @@ module _ (m : Met) (one file : List ℕ) (set : ℕ) (files : m .files ≡ file 
 ended-holds : (stage : Stage) (file kept : List ℕ) (total : ℕ) (w : List ℕ) (m : Met) → During stage file m → Kept file kept total → w ≡ [] → isWhole m ≡ true
     → Holds (ended stage kept total) w m
 unfolding halfRead
-ended-holds (FirstHalf set) file kept total w m h k s done = (s, (file, (h .0, (held-is file kept total k, h .1))))
+ended-holds (FirstHalf set) file kept total w m h k s done = (s, (file, (h .0, (buffered-is file kept total k, h .1))))
 ended-holds (SecondHalf set first) file kept total w m h k s done =
-    both-hold m (h .0) file set (h .1 .0) (h .1 .1 .1) done first (take (heldSize total) kept) w (h .1 .1 .0) (held-is file kept total k) s
+    both-hold m (h .0) file set (h .1 .0) (h .1 .1 .1) done first (take (bufferedSize total) kept) w (h .1 .1 .0) (buffered-is file kept total k) s
 
 -- One answer more, in each state.
 after-count : (w : List ℕ) (m : Met) (a : Answer) → (w ≡ []) × (m .files ≡ []) → Holds (afterCount a) w m
 unfolding afterCount
-after-count w m a h = by-bool (isNumber a 4) (λ e. rw e h) (λ e. rw e (said-usage w m (h .0) (h .1)))
+after-count w m a h = by-bool (isNumber a 4) (λ e. rw e h) (λ e. rw e (reported-usage w m (h .0) (h .1)))
 
 after-set : (w : List ℕ) (m : Met) (a : Answer) → (w ≡ []) × (m .files ≡ []) → Holds (afterSet a) w (worded m 3 a)
 unfolding afterSet worded brought
 after-set w m (Bytes word) h =
     by-bool (eqb (numberIn word) noNumber)
-    (λ e. rw e (said-usage w (record { word = word; files = m .files; ended = m .ended }) (h .0) (h .1)))
+    (λ e. rw e (reported-usage w (record { word = word; files = m .files; ended = m .ended }) (h .0) (h .1)))
     (λ e. rw e (h .0, (h .1, set-known word e)))
-after-set w m (Number n) h = said-usage w (record { word = []; files = m .files; ended = m .ended }) (h .0) (h .1)
-after-set w m End h = said-usage w (record { word = []; files = m .files; ended = m .ended }) (h .0) (h .1)
-after-set w m Done h = said-usage w (record { word = []; files = m .files; ended = m .ended }) (h .0) (h .1)
-after-set w m Failed h = said-usage w (record { word = []; files = m .files; ended = m .ended }) (h .0) (h .1)
+after-set w m (Number n) h = reported-usage w (record { word = []; files = m .files; ended = m .ended }) (h .0) (h .1)
+after-set w m End h = reported-usage w (record { word = []; files = m .files; ended = m .ended }) (h .0) (h .1)
+after-set w m Done h = reported-usage w (record { word = []; files = m .files; ended = m .ended }) (h .0) (h .1)
+after-set w m Failed h = reported-usage w (record { word = []; files = m .files; ended = m .ended }) (h .0) (h .1)
 
 other-word : (stage : Stage) (m : Met) (a : Answer) → worded m (wordOf stage) a ≡ m
 unfolding worded wordOf
@@ -318,7 +318,7 @@ step-holds (Reading stage name kept total) w m a h =
     unwritten-on (afterRead stage name kept total (heardRead (wanted total) a)) w (readOn m (heardRead (wanted total) a))
     (after-read stage name kept total w m h (heardRead (wanted total) a))
 step-holds (Writing trace) w m a h = after-write trace w m (heardDone a) h
-step-holds (Saying line) w m a h = append-nil w ∙ h .0
+step-holds (Reporting line) w m a h = append-nil w ∙ h .0
 step-holds (Failing name) w m a h = append-nil w ∙ h
 step-holds Stopped w m a h = append-nil w ∙ h
 
@@ -352,7 +352,7 @@ writes-in (Naming stage) w m h = append-nil w ∙ unwritten stage w m h
 writes-in (Opening stage name) w m h = append-nil w ∙ unwritten stage w m h
 writes-in (Reading stage name kept total) w m h = append-nil w ∙ unread stage name kept total w m h
 writes-in (Writing trace) w m h = ap (λ (x : List ℕ). x ++ trace) (h .0) ∙ h .1
-writes-in (Saying line) w m h = append-nil w ∙ h .0
+writes-in (Reporting line) w m h = append-nil w ∙ h .0
 writes-in (Failing name) w m h = append-nil w ∙ h
 writes-in Stopped w m h = append-nil w ∙ h
 
@@ -364,7 +364,7 @@ reads-in (Naming stage) w m most h e = absurd (let z : _≡_ {A = ℕ} 0 1 = cc 
 reads-in (Opening stage name) w m most h e = absurd (let z : _≡_ {A = ℕ} 0 1 = cc in omega arith)
 reads-in (Reading stage name kept total) w m most h e = reading-unended stage kept total w m h
 reads-in (Writing trace) w m most h e = absurd (let z : _≡_ {A = ℕ} 0 1 = cc in omega arith)
-reads-in (Saying line) w m most h e = absurd (let z : _≡_ {A = ℕ} 0 1 = cc in omega arith)
+reads-in (Reporting line) w m most h e = absurd (let z : _≡_ {A = ℕ} 0 1 = cc in omega arith)
 reads-in (Failing name) w m most h e = absurd (let z : _≡_ {A = ℕ} 0 1 = cc in omega arith)
 reads-in Stopped w m most h e = absurd (let z : _≡_ {A = ℕ} 0 1 = cc in omega arith)
 
@@ -379,7 +379,7 @@ says-in (Naming stage) w m text h e = absurd (let z : _≡_ {A = ℕ} 0 1 = cc i
 says-in (Opening stage name) w m text h e = absurd (let z : _≡_ {A = ℕ} 0 1 = cc in omega arith)
 says-in (Reading stage name kept total) w m text h e = absurd (let z : _≡_ {A = ℕ} 0 1 = cc in omega arith)
 says-in (Writing trace) w m text h e = absurd (let z : _≡_ {A = ℕ} 0 1 = cc in omega arith)
-says-in (Saying line) w m text h e = sym (same-line line text e) ∙ h .1
+says-in (Reporting line) w m text h e = sym (same-line line text e) ∙ h .1
 says-in (Failing name) w m text h e = absurd (let z : _≡_ {A = ℕ} 0 1 = cc in omega arith)
 says-in Stopped w m text h e = absurd (let z : _≡_ {A = ℕ} 0 1 = cc in omega arith)
 
@@ -399,7 +399,7 @@ write-failed (Naming stage) text a e f = absurd (let z : _≡_ {A = ℕ} 0 1 = c
 write-failed (Opening stage name) text a e f = absurd (let z : _≡_ {A = ℕ} 0 1 = cc in omega arith)
 write-failed (Reading stage name kept total) text a e f = absurd (let z : _≡_ {A = ℕ} 0 1 = cc in omega arith)
 write-failed (Writing trace) text a e f = ap (λ (x : Answer). ask (afterWrite x)) f
-write-failed (Saying line) text a e f = absurd (let z : _≡_ {A = ℕ} 0 1 = cc in omega arith)
+write-failed (Reporting line) text a e f = absurd (let z : _≡_ {A = ℕ} 0 1 = cc in omega arith)
 write-failed (Failing name) text a e f = absurd (let z : _≡_ {A = ℕ} 0 1 = cc in omega arith)
 write-failed Stopped text a e f = absurd (let z : _≡_ {A = ℕ} 0 1 = cc in omega arith)
 
@@ -411,16 +411,16 @@ fail-stops (Naming stage) text a e = absurd (let z : _≡_ {A = ℕ} 0 1 = cc in
 fail-stops (Opening stage name) text a e = absurd (let z : _≡_ {A = ℕ} 0 1 = cc in omega arith)
 fail-stops (Reading stage name kept total) text a e = absurd (let z : _≡_ {A = ℕ} 0 1 = cc in omega arith)
 fail-stops (Writing trace) text a e = absurd (let z : _≡_ {A = ℕ} 0 1 = cc in omega arith)
-fail-stops (Saying line) text a e = refl
+fail-stops (Reporting line) text a e = refl
 fail-stops (Failing name) text a e = refl
 fail-stops Stopped text a e = absurd (let z : _≡_ {A = ℕ} 0 1 = cc in omega arith)
 
 pub says-failures : SaysFailures
 unfolding stepped ask next heard heardWord heardDone heardRead afterName afterOpen afterRead
 says-failures = record {
-  unnamed-said = λ stage. refl;
-  unopened-said = λ stage name. refl;
-  unread-said = λ stage name kept total. refl;
-  unwritten-said = write-failed;
+  unnamed-reported = λ stage. refl;
+  unopened-reported = λ stage name. refl;
+  unread-reported = λ stage name kept total. refl;
+  unwritten-reported = write-failed;
   then-stops = fail-stops;
 }

@@ -1,4 +1,4 @@
-pub mod Held
+pub mod Buffered
 pub mod Printed
 pub mod Merging
 pub mod Promised

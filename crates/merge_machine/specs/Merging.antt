@@ -8,7 +8,7 @@ use lib.ListN.{length, take}
 use Rattle.laws.specs.Choice.{pick}
 use Rattle.programs.specs.Numbers.{numberIn, noNumber, atMost}
 use Rattle.machines.specs.Machines.{Request, Count, Argument, Open, Read, Write, Say, Fail, Stop, Answer, Number, Bytes, End, Done, Failed, Machine, isNumber}
-use Rattle.merge_machine.specs.Held.{mostCounted, heldSize, wanted, keeping}
+use Rattle.merge_machine.specs.Buffered.{mostCounted, bufferedSize, wanted, keeping}
 use Rattle.merge_machine.specs.Printed.{Printed, printed}
 
 -- The bytes of the longest word that the system hands to a program, and of the longest name of a file.
@@ -51,7 +51,7 @@ pub data State : Type 0 where
   Reading : Stage → List ℕ → List ℕ → ℕ → State
   -- The merged trace is written, or a line is reported, or what failed.
   Writing : List ℕ → State
-  Saying : List ℕ → State
+  Reporting : List ℕ → State
   Failing : List ℕ → State
   Stopped : State
 
@@ -67,24 +67,24 @@ ask (Naming stage) = Argument (wordOf stage) longestName
 ask (Opening stage name) = Open name
 ask (Reading stage name kept total) = Read (wanted total)
 ask (Writing trace) = Write trace
-ask (Saying line) = Say line
+ask (Reporting line) = Say line
 ask (Failing name) = Fail name
 ask Stopped = Stop
 
 -- What is reported of a file that has no name that the system takes,
-unfoldable pub unnamed : Stage → List ℕ
-unnamed (FirstHalf set) = firstName
-unnamed (SecondHalf set first) = secondName
+unfoldable pub noNameText : Stage → List ℕ
+noNameText (FirstHalf set) = firstName
+noNameText (SecondHalf set first) = secondName
 
 -- and of one that cannot be opened or read.
-unfoldable pub named : Stage → List ℕ → List ℕ
-named stage [] = unnamed stage
-named stage (b ∷ name) = prefix ++ (b ∷ name)
+unfoldable pub fileText : Stage → List ℕ → List ℕ
+fileText stage [] = noNameText stage
+fileText stage (b ∷ name) = prefix ++ (b ∷ name)
 
 -- The merged trace, or why there is none.
 unfoldable pub shown : List ℕ → List ℕ → State
 shown trace [] = Writing trace
-shown trace (b ∷ line) = Saying (b ∷ line)
+shown trace (b ∷ line) = Reporting (b ∷ line)
 
 unfoldable pub showing : Printed → State
 showing p = shown (p .trace) (p .refusal)
@@ -95,42 +95,42 @@ halfRead (FirstHalf set) half = Naming (SecondHalf set half)
 halfRead (SecondHalf set first) half = showing (printed first half set)
 
 abbrev pub ended : Stage → List ℕ → ℕ → State
-ended stage kept total = halfRead stage (take (heldSize total) kept)
+ended stage kept total = halfRead stage (take (bufferedSize total) kept)
 
 unfoldable pub onward : Stage → List ℕ → List ℕ → ℕ → State
 onward stage name kept total = pick (ltb total mostCounted) (Reading stage name kept total) (ended stage kept total)
 
 unfoldable pub afterCount : Answer → State
-afterCount a = pick (isNumber a 4) Setting (Saying usage)
+afterCount a = pick (isNumber a 4) Setting (Reporting usage)
 
 -- The third word is a decimal number, of any length.
 unfoldable pub afterSet : Answer → State
-afterSet (Bytes word) = pick (eqb (numberIn word) noNumber) (Saying usage) (Naming (FirstHalf (atMost (numberIn word))))
-afterSet (Number n) = Saying usage
-afterSet End = Saying usage
-afterSet Done = Saying usage
-afterSet Failed = Saying usage
+afterSet (Bytes word) = pick (eqb (numberIn word) noNumber) (Reporting usage) (Naming (FirstHalf (atMost (numberIn word))))
+afterSet (Number n) = Reporting usage
+afterSet End = Reporting usage
+afterSet Done = Reporting usage
+afterSet Failed = Reporting usage
 
 unfoldable pub afterName : Stage → Answer → State
 afterName stage (Bytes name) = Opening stage name
-afterName stage (Number n) = Failing (unnamed stage)
-afterName stage End = Failing (unnamed stage)
-afterName stage Done = Failing (unnamed stage)
-afterName stage Failed = Failing (unnamed stage)
+afterName stage (Number n) = Failing (noNameText stage)
+afterName stage End = Failing (noNameText stage)
+afterName stage Done = Failing (noNameText stage)
+afterName stage Failed = Failing (noNameText stage)
 
 unfoldable pub afterOpen : Stage → List ℕ → Answer → State
 afterOpen stage name Done = Reading stage name [] 0
-afterOpen stage name (Number n) = Failing (named stage name)
-afterOpen stage name (Bytes l) = Failing (named stage name)
-afterOpen stage name End = Failing (named stage name)
-afterOpen stage name Failed = Failing (named stage name)
+afterOpen stage name (Number n) = Failing (fileText stage name)
+afterOpen stage name (Bytes l) = Failing (fileText stage name)
+afterOpen stage name End = Failing (fileText stage name)
+afterOpen stage name Failed = Failing (fileText stage name)
 
 unfoldable pub afterRead : Stage → List ℕ → List ℕ → ℕ → Answer → State
 afterRead stage name kept total (Bytes more) = onward stage name (keeping kept more) (total + length more)
 afterRead stage name kept total End = ended stage kept total
-afterRead stage name kept total (Number n) = Failing (named stage name)
-afterRead stage name kept total Done = Failing (named stage name)
-afterRead stage name kept total Failed = Failing (named stage name)
+afterRead stage name kept total (Number n) = Failing (fileText stage name)
+afterRead stage name kept total Done = Failing (fileText stage name)
+afterRead stage name kept total Failed = Failing (fileText stage name)
 
 unfoldable pub afterWrite : Answer → State
 afterWrite Done = Stopped
@@ -146,7 +146,7 @@ next (Naming stage) a = afterName stage a
 next (Opening stage name) a = afterOpen stage name a
 next (Reading stage name kept total) a = afterRead stage name kept total a
 next (Writing trace) a = afterWrite a
-next (Saying line) a = Stopped
+next (Reporting line) a = Stopped
 next (Failing name) a = Stopped
 next Stopped a = Stopped
 

@@ -10,9 +10,9 @@ use lib.ListN.{length}
 use Rattle.laws.specs.Choice.{pick}
 use Rattle.programs.specs.Numbers.{decimalIn}
 use Rattle.machines.specs.Machines.{Request, Count, Argument, Open, Read, Write, Say, Fail, Stop, Answer, Number, Bytes, End, Done, Failed, Exchange, heard, stepped, asked, exchanges, stateAfter, writtenOf, brought}
-use Rattle.merge_machine.specs.Held.{mostCounted}
+use Rattle.merge_machine.specs.Buffered.{mostCounted}
 use Rattle.merge_machine.specs.Printed.{printed}
-use Rattle.merge_machine.specs.Merging.{State, Stage, Naming, Opening, Reading, usage, unnamed, named, outputName, ask, merging}
+use Rattle.merge_machine.specs.Merging.{State, Stage, Naming, Opening, Reading, usage, noNameText, fileText, outputName, ask, merging}
 
 -- What the exchanges brought so far: the word of the set; the bytes that were read of each file that was opened, latest first; whether the latest has ended.
 pub record Met : Type 0 where
@@ -107,10 +107,10 @@ pub record Merges (answers : List Answer) : Type 0 where
 
 -- After an error of the system it says so, and stops.
 pub record SaysFailures : Type 0 where
-  pub unnamed-said : (stage : Stage) → ask (stepped merging (Naming stage) Failed) ≡ Fail (unnamed stage)
-  pub unopened-said : (stage : Stage) (name : List ℕ) → ask (stepped merging (Opening stage name) Failed) ≡ Fail (named stage name)
-  pub unread-said : (stage : Stage) (name kept : List ℕ) (total : ℕ) → ask (stepped merging (Reading stage name kept total) Failed) ≡ Fail (named stage name)
-  pub unwritten-said : (s : State) (text : List ℕ) (a : Answer) → ask s ≡ Write text → heard (Write text) a ≡ Failed → ask (stepped merging s a) ≡ Fail outputName
+  pub unnamed-reported : (stage : Stage) → ask (stepped merging (Naming stage) Failed) ≡ Fail (noNameText stage)
+  pub unopened-reported : (stage : Stage) (name : List ℕ) → ask (stepped merging (Opening stage name) Failed) ≡ Fail (fileText stage name)
+  pub unread-reported : (stage : Stage) (name kept : List ℕ) (total : ℕ) → ask (stepped merging (Reading stage name kept total) Failed) ≡ Fail (fileText stage name)
+  pub unwritten-reported : (s : State) (text : List ℕ) (a : Answer) → ask s ≡ Write text → heard (Write text) a ≡ Failed → ask (stepped merging s a) ≡ Fail outputName
   pub then-stops : (s : State) (text : List ℕ) (a : Answer) → ask s ≡ Fail text → ask (stepped merging s a) ≡ Stop
 
 abbrev pub MergesAlways : Type 0

@@ -13,15 +13,15 @@ use Rattle.machines.specs.declared.Answer as answers
 use Rattle.machines.specs.Machines.{stepped}
 use Rattle.machines.specs.Forms.{answerOf, Asks}
 use Rattle.merge_machine.specs.declared.marks.Marks.{Marks}
-use Rattle.merge_machine.specs.Held.{mostKept, mostCounted, heldSize, wanted}
-use Rattle.merge_machine.specs.Merging.{longestWord, longestName, Stage, FirstHalf, SecondHalf, State, Counting, Setting, Naming, Opening, Reading, Writing, Saying, Failing, Stopped, ask, halfRead, onward, merging}
+use Rattle.merge_machine.specs.Buffered.{mostKept, mostCounted, bufferedSize, wanted}
+use Rattle.merge_machine.specs.Merging.{longestWord, longestName, Stage, FirstHalf, SecondHalf, State, Counting, Setting, Naming, Opening, Reading, Writing, Reporting, Failing, Stopped, ask, halfRead, onward, merging}
 
 -- There is room for the seven numbers, for the longest word, and for both halves in one trace.
 abbrev pub longestTrace : ℕ
 longestTrace = 32784
 
-abbrev pub Roomy : ℕ → ℕ → ℕ → Type 0
-Roomy memory input out = (7 ≤ memory) × (longestWord ≤ input) × (longestTrace ≤ out)
+abbrev pub EnoughRoom : ℕ → ℕ → ℕ → Type 0
+EnoughRoom memory input out = (7 ≤ memory) × (longestWord ≤ input) × (longestTrace ≤ out)
 
 unfoldable pub lacksRoom : ℕ → ℕ → ℕ → Bool
 lacksRoom memory input out = ltb memory 7 || (ltb input longestWord || ltb out longestTrace)
@@ -79,7 +79,7 @@ stateIn m input out =
     (pick (eqb (m .phase) 4) (Opening (stageOf m input) (nameOf m input))
     (pick (eqb (m .phase) 5) (Reading (stageOf m input) (nameOf m input) (keptOf (m .half) (m .count) input) (m .count))
     (pick (eqb (m .phase) 6) (Writing (take (m .size) out))
-    (pick (eqb (m .phase) 7) (Saying (take (m .size) out))
+    (pick (eqb (m .phase) 7) (Reporting (take (m .size) out))
     (pick (eqb (m .phase) 8) (Failing (take (m .size) out))
     Stopped)))))))
 
@@ -99,7 +99,7 @@ abbrev pub onwardOf : Marks → ℕ → List ℕ → State
 onwardOf m count input = onward (stageOf m input) (nameOf m input) (keptOf (m .half) count input) count
 
 abbrev pub endedOf : Marks → ℕ → List ℕ → State
-endedOf m count input = halfRead (stageOf m input) (take (heldSize count) (drop (halfAt (m .half)) input))
+endedOf m count input = halfRead (stageOf m input) (take (bufferedSize count) (drop (halfAt (m .half)) input))
 
 -- The place that bytes are read to: nothing that the state is made of stands there or after it.
 unfoldable pub placeIn : Marks → ℕ

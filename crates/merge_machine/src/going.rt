@@ -14,9 +14,9 @@ ghost use mathlib.Core.List.{List};
 ghost use Prim.Native.Nat.{ℕ, _+_, _≤_, _<_};
 ghost use lib.ListN.{length};
 ghost use Rattle.machines.specs.Machines.{Bytes};
-ghost use Rattle.merge_machine.specs.Held.{mostCounted};
+ghost use Rattle.merge_machine.specs.Buffered.{mostCounted};
 ghost use Rattle.merge_machine.specs.Printed.{printed};
-ghost use Rattle.merge_machine.specs.Merging.{longestWord, longestName, Counting, Setting, Naming, Opening, Writing, Saying, Failing, Stopped, unnamed, named, showing, afterSet};
+ghost use Rattle.merge_machine.specs.Merging.{longestWord, longestName, Counting, Setting, Naming, Opening, Writing, Reporting, Failing, Stopped, noNameText, fileText, showing, afterSet};
 ghost use Rattle.merge_machine.specs.Words.{longestTrace, Fits, nameAt, readTo, stageOf, nameOf, stateIn, openingOf, readingOf, onwardOf, endedOf, placeIn, Arrives, Leads};
 
 fn stop() -> Marks
@@ -28,10 +28,10 @@ fn stop() -> Marks
 // A line is reported, and then nothing more.
 fn say(out: &mut [u8], line: &[u8]) -> Marks
     requires { ⌜ length (now line) ≤ length (now out) ⌝ }
-    ensures { λ r. ⌜ ((input : List ℕ) → Arrives r input (now (out .exit)) (Saying (now (line .entry)))) ⌝ }
+    ensures { λ r. ⌜ ((input : List ℕ) → Arrives r input (now (out .exit)) (Reporting (now (line .entry)))) ⌝ }
 {
     let size = programs::text::write_word(out, 0, line);
-    marks::at(marks::SAYING, size)
+    marks::at(marks::REPORTING, size)
 }
 
 // What failed is reported, and then nothing more.
@@ -54,7 +54,7 @@ fn after_count(out: &mut [u8], answer: Answer) -> Marks
 }
 
 // The set that a word names, and then the first file.
-fn set_named(word: &[u8], out: &mut [u8]) -> Marks
+fn take_set(word: &[u8], out: &mut [u8]) -> Marks
     requires { ⌜ longestTrace ≤ length (now out) ⌝ }
     ensures { λ r. ⌜ ((input : List ℕ) → longestWord ≤ length input → Arrives r input (now (out .exit)) (afterSet (Bytes (now (word .entry))))) ⌝ }
 {
@@ -79,16 +79,16 @@ fn after_set(input: &[u8], out: &mut [u8], answer: Answer) -> Marks
 {
     let taken = heard::word(answer, LONGEST_WORD);
     match taken {
-        Taken::Brought(size) => set_named(&input[..size], out),
+        Taken::Brought(size) => take_set(&input[..size], out),
         Taken::Ended => say(out, b"usage: merge FIRST SECOND SET > TRACE\n"),
         Taken::Failed => say(out, b"usage: merge FIRST SECOND SET > TRACE\n"),
     }
 }
 
 // A file that has no name that the system takes.
-fn fail_unnamed(m: Marks, out: &mut [u8]) -> Marks
+fn fail_no_name(m: Marks, out: &mut [u8]) -> Marks
     requires { ⌜ longestTrace ≤ length (now out) ⌝ }
-    ensures { λ r. ⌜ ((input : List ℕ) → Arrives r input (now (out .exit)) (Failing (unnamed (stageOf m input)))) ⌝ }
+    ensures { λ r. ⌜ ((input : List ℕ) → Arrives r input (now (out .exit)) (Failing (noNameText (stageOf m input)))) ⌝ }
 {
     if m.half == 0 {
         return fail(out, b"merge: the first file's name");
@@ -97,12 +97,12 @@ fn fail_unnamed(m: Marks, out: &mut [u8]) -> Marks
 }
 
 // A file that cannot be opened or read.
-fn fail_named(m: Marks, input: &[u8], out: &mut [u8]) -> Marks
+fn fail_file(m: Marks, input: &[u8], out: &mut [u8]) -> Marks
     requires { ⌜ (longestWord ≤ length (now input)) × (longestTrace ≤ length (now out)) × (m .name ≤ longestName) ⌝ }
-    ensures { λ r. ⌜ Arrives r (now (input .entry)) (now (out .exit)) (Failing (named (stageOf m (now (input .entry))) (nameOf m (now (input .entry))))) ⌝ }
+    ensures { λ r. ⌜ Arrives r (now (input .entry)) (now (out .exit)) (Failing (fileText (stageOf m (now (input .entry))) (nameOf m (now (input .entry))))) ⌝ }
 {
     if m.name == 0 {
-        return fail_unnamed(m, out);
+        return fail_no_name(m, out);
     }
     let from = marks::name_at(m.half);
     let end = from + m.name;
@@ -137,8 +137,8 @@ fn after_name(m: Marks, input: &[u8], out: &mut [u8], answer: Answer) -> Marks
     let taken = heard::word(answer, LONGEST_NAME);
     match taken {
         Taken::Brought(size) => open_file(m, input, out, size),
-        Taken::Ended => fail_unnamed(m, out),
-        Taken::Failed => fail_unnamed(m, out),
+        Taken::Ended => fail_no_name(m, out),
+        Taken::Failed => fail_no_name(m, out),
     }
 }
 
@@ -165,7 +165,7 @@ fn after_open(m: Marks, input: &[u8], out: &mut [u8], answer: Answer) -> Marks
     if heard::is_done(answer) {
         return read_more(m, 0);
     }
-    fail_named(m, input, out)
+    fail_file(m, input, out)
 }
 
 // The merge of what is held of both halves, or why there is none.
@@ -177,7 +177,7 @@ fn show<'a>(first: &'a [u8], second: &'a [u8], set: u32, out: &mut [u8]) -> Mark
     match answer {
         MergeAnswer::Refused(why) => {
             let size = programs::text::write_refused(out, why);
-            marks::at(marks::SAYING, size)
+            marks::at(marks::REPORTING, size)
         }
         MergeAnswer::Merged(size) => marks::at(marks::WRITING, size),
     }
@@ -188,20 +188,20 @@ fn end_half(m: Marks, count: usize, input: &[u8], out: &mut [u8]) -> Marks
     requires { ⌜ Fits m × (longestWord ≤ length (now input)) × (longestTrace ≤ length (now out)) ⌝ }
     ensures { λ r. ⌜ Arrives r (now (input .entry)) (now (out .exit)) (endedOf m count (now (input .entry))) ⌝ }
 {
-    let held = marks::held_size(count);
+    let buffered = marks::buffered_size(count);
     if m.half == 0 {
         return Marks {
             phase: marks::NAMING,
             half: 1,
             set: m.set,
-            first: held,
+            first: buffered,
             name: 0,
             count: 0,
             size: 0,
         };
     }
     let end = LONGEST_NAME + m.first;
-    let last = SECOND_HALF + held;
+    let last = SECOND_HALF + buffered;
     show(
         &input[LONGEST_NAME..end],
         &input[SECOND_HALF..last],
@@ -229,7 +229,7 @@ fn after_read(m: Marks, input: &[u8], out: &mut [u8], answer: Answer) -> Marks
     match taken {
         Taken::Brought(size) => go_on(m, m.count + size, input, out),
         Taken::Ended => end_half(m, m.count, input, out),
-        Taken::Failed => fail_named(m, input, out),
+        Taken::Failed => fail_file(m, input, out),
     }
 }
 

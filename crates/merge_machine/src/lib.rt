@@ -14,7 +14,7 @@ ghost use lib.ListN.{length};
 ghost use Rattle.machines.specs.Machines.{stepped};
 ghost use Rattle.machines.specs.Forms.{answerOf};
 ghost use Rattle.merge_machine.specs.Merging.{Counting, merging};
-ghost use Rattle.merge_machine.specs.Words.{Roomy, lacksRoom, stateOf, placeOf, StandsFor};
+ghost use Rattle.merge_machine.specs.Words.{EnoughRoom, lacksRoom, stateOf, placeOf, StandsFor};
 
 // How many bytes a caller lends: for the longest word, and for both halves in one trace (longestTrace in specs/Words).
 pub const LONGEST_WORD: usize = marks::LONGEST_WORD;
@@ -36,7 +36,7 @@ pub fn lacks_room(memory: usize, input: usize, out: usize) -> bool
 
 // The first state.
 pub fn begin(memory: &mut [u64], input: &[u8], out: &[u8]) -> Request
-    requires { ⌜ Roomy (length (now memory)) (length (now input)) (length (now out)) ⌝ }
+    requires { ⌜ EnoughRoom (length (now memory)) (length (now input)) (length (now out)) ⌝ }
     ensures { λ r. ⌜ StandsFor (now (memory .exit)) (now (input .entry)) (now (out .entry)) r Counting ⌝ }
 {
     let first = marks::at(marks::COUNTING, 0);

@@ -5,7 +5,7 @@ use programs::numbers::GREATEST;
 ghost use mathlib.Core.Path.{_≡_};
 ghost use Prim.Native.Nat.{_+_, _*_, _≤_};
 ghost use lib.ListN.{length};
-ghost use Rattle.merge_machine.specs.Held.{heldSize, wanted, mostKept};
+ghost use Rattle.merge_machine.specs.Buffered.{bufferedSize, wanted, mostKept};
 ghost use Rattle.merge_machine.specs.Merging.{longestName};
 ghost use Rattle.merge_machine.specs.Words.{marksOf, atPhase, inBounds, nameAt, halfAt, readTo, wordAt, asksFor};
 
@@ -33,7 +33,7 @@ pub const READING: u64 = 5;
 
 pub const WRITING: u64 = 6;
 
-pub const SAYING: u64 = 7;
+pub const REPORTING: u64 = 7;
 
 pub const FAILING: u64 = 8;
 
@@ -47,7 +47,7 @@ pub const LONGEST_NAME: usize = 4096;
 // The bytes of a first byte and of one record more than a half may have.
 const TOO_MANY_RECORDS: usize = 1 + 4 * (MOST_OF_HALF + 1);
 
-// So many bytes of a half are kept at most (mostKept in specs/Held): those, and what may be left over.
+// So many bytes of a half are kept at most (mostKept in specs/Buffered): those, and what may be left over.
 pub const MOST_KEPT: usize = TOO_MANY_RECORDS + 3;
 
 // Where the second file's name stands, after the first one and what is kept of the first half; and the second half.
@@ -55,7 +55,7 @@ const SECOND_NAME: usize = LONGEST_NAME + MOST_KEPT;
 
 pub const SECOND_HALF: usize = SECOND_NAME + LONGEST_NAME;
 
-// A half is read no further than this (mostCounted in specs/Held).
+// A half is read no further than this (mostCounted in specs/Buffered).
 pub const MOST_COUNTED: usize = 9000000000000000000;
 
 // A phase that is about no file.
@@ -167,8 +167,8 @@ pub fn wanted(total: usize) -> usize
 }
 
 // How many bytes are held of a half of that many.
-pub fn held_size(total: usize) -> usize
-    ensures { λ r. ⌜ (r ≡ heldSize total) × (r ≤ mostKept) ⌝ }
+pub fn buffered_size(total: usize) -> usize
+    ensures { λ r. ⌜ (r ≡ bufferedSize total) × (r ≤ mostKept) ⌝ }
 {
     if total <= MOST_KEPT {
         return total;
@@ -188,7 +188,7 @@ pub fn request(m: Marks) -> Request
         OPENING => Request::Open(m.name),
         READING => Request::Read(read_to(m.half, m.count), wanted(m.count)),
         WRITING => Request::Write(m.size),
-        SAYING => Request::Say(m.size),
+        REPORTING => Request::Say(m.size),
         FAILING => Request::Fail(m.size),
         _ => Request::Stop,
     }

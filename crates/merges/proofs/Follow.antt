@@ -82,8 +82,8 @@ module _ (i f g : ℕ) where
     few′ = fit′ .few-processes
 
     -- The block count of a process, and that the run with another reason for the next checkpoint has all that the invariant says.
-    count-same : (p : ℕ) → r′ .ledger .counts p ≡ r .ledger .counts p
-    count-same p = ap (λ (x : ℕ → ℕ). x p) (c .cheaper .counts)
+    count-same : (p : ℕ) → r′ .ledger .blockCounts p ≡ r .ledger .blockCounts p
+    count-same p = ap (λ (x : ℕ → ℕ). x p) (c .cheaper .blockCounts)
 
     inv-because : (why : ℕ) → Inv (because why r)
     inv-because why = ledger-inv r _ v
@@ -91,11 +91,11 @@ module _ (i f g : ℕ) where
     -- A step that writes what it stores, with a step of the other run that stores as much, or none.
     both-pay : (why : ℕ) (r₁ r₁′ : Ideal) → Paid (because why r) r₁ → Paid (because why r′) r₁′ → newIn (because why r′) r₁′ ≡ newIn (because why r) r₁ → Cheaper r₁ r₁′
     both-pay why r₁ r₁′ paid paid′ same =
-        record { counts = paid′ .counts ∙ c .cheaper .counts ∙ sym (paid .counts); written = omega (arith, paid .written, paid′ .written, same, c .cheaper .written) }
+        record { blockCounts = paid′ .blockCounts ∙ c .cheaper .blockCounts ∙ sym (paid .blockCounts); written = omega (arith, paid .written, paid′ .written, same, c .cheaper .written) }
 
     one-pays : (why : ℕ) (r₁ r₁′ : Ideal) → Paid (because why r) r₁ → r₁′ .ledger ≡ r′ .ledger → Cheaper r₁ r₁′
     one-pays why r₁ r₁′ paid still = record {
-      counts = ap (λ (l : Ledger). l .counts) still ∙ c .cheaper .counts ∙ sym (paid .counts);
+      blockCounts = ap (λ (l : Ledger). l .blockCounts) still ∙ c .cheaper .blockCounts ∙ sym (paid .blockCounts);
       written = omega (arith, ap (λ (l : Ledger). l .written) still, paid .written, c .cheaper .written);
     }
 
@@ -159,7 +159,7 @@ module _ (i f g : ℕ) where
           subrun = subrun-kept f g r (sending r p q) r′ (sending r′ p q) p hf (sending-inv r p q v (w .0) (w .1) (w .2)) c (sending-at r p q) (sending-at r′ p q) (omega (arith, low, still))
               (local-sent r′ p q ∙ ap sentAt same ∙ sym (local-sent r p q))
               (messages-added f g r r′ (sending r p q) (sending r′ p q) p q (r .vector p (r .own p)) v′ (c .messages) low (sending-with r p q) carries)
-              (record { counts = c .cheaper .counts; written = c .cheaper .written });
+              (record { blockCounts = c .cheaper .blockCounts; written = c .cheaper .written });
           no-recovery = refl;
           same = refl;
         }))
@@ -168,7 +168,7 @@ module _ (i f g : ℕ) where
         inl (
           subrun-left f g r (sending r p q) r′ r′ p hf v c (sending-at r p q) (λ x. refl) refl (omega (arith, high, still))
               (messages-skipped f g r r′ (sending r p q) p q (r .vector p (r .own p)) (c .messages) high (sending-with r p q))
-              (record { counts = c .cheaper .counts; written = c .cheaper .written }),
+              (record { blockCounts = c .cheaper .blockCounts; written = c .cheaper .written }),
           not-seen (sentTo q ∷ []) p i (λ x. omega (arith, high, still, bound, ap (λ (y : ℕ). knownOf (sending r p q) y f) x)),
         ))
 
@@ -188,7 +188,7 @@ module _ (i f g : ℕ) where
     next-lose m e =
         let under = lose-run r v fit m e .0 in
         elim (drop m (lost r m) under (lost-without r m) (λ c r₁′ same size still messages. subrun-messages f g r (lost r m) r′ r₁′ c (lost-n r m) size (local-lost r m) same messages (record {
-          counts = ap (λ (l : Ledger). l .counts) still ∙ c .cheaper .counts;
+          blockCounts = ap (λ (l : Ledger). l .blockCounts) still ∙ c .cheaper .blockCounts;
           written = omega (arith, ap (λ (l : Ledger). l .written) still, c .cheaper .written);
         }))) [
           | inl z ↦ inl (z, refl)
@@ -244,7 +244,7 @@ module _ (i f g : ℕ) where
         early : forces r′ (c .messages .number m) ≡ true → r′ .own (r′ .receiver (c .messages .number m)) < mostInterval
         early q = rw (counterpart .receiver) (omega (arith, own-part r r′ (r .receiver m) part, deliver-early r v fit m deleted e (sym forced-too ∙ q)))
 
-        blocks : forces r′ (c .messages .number m) ≡ true → r′ .ledger .written + r′ .ledger .counts (r′ .receiver (c .messages .number m)) ≤ mostBlocks
+        blocks : forces r′ (c .messages .number m) ≡ true → r′ .ledger .written + r′ .ledger .blockCounts (r′ .receiver (c .messages .number m)) ≤ mostBlocks
         blocks q = rw (counterpart .receiver) (omega (arith, deliver-run r v fit m deleted e .3 (sym forced-too ∙ q), c .cheaper .written, count-same (r .receiver m)))
 
         -- The other run, and it after the delivery.
@@ -263,7 +263,7 @@ module _ (i f g : ℕ) where
         new-same : newIn (because words.forced r′) (delivered (because words.forced r′) (c .messages .number m)) ≡ newIn (because words.forced r) (delivered (because words.forced r) m)
         new-same = by-bool (forces r m)
             (λ q. delivered-new-forced a′ k hb′ (forces-because r′ words.forced k ∙ forced-too ∙ q)
-            ∙ ap (r′ .ledger .counts) (counterpart .receiver) ∙ count-same (r .receiver m)
+            ∙ ap (r′ .ledger .blockCounts) (counterpart .receiver) ∙ count-same (r .receiver m)
             ∙ sym (delivered-new-forced a m hb (forces-because r words.forced m ∙ q)))
             (λ q. delivered-new-plain a′ k (forces-because r′ words.forced k ∙ forced-too ∙ q) ∙ sym (delivered-new-plain a m (forces-because r words.forced m ∙ q)))
 

@@ -20,8 +20,8 @@ use Rattle.model.specs.Trace.{ifZero}
 use Rattle.model.specs.laws.Refusals.{no-rule}
 use Rattle.whole_runs.specs.Outcomes.{judged}
 use Rattle.merges.specs.Halves.{HalfEvent, checkpointAt, sendTo, deliverOf, loseOf, sendBy, howMany, messageNumber, receiverOf, receiverIn, newestFirst, KeepsBoth, wasSent, sendsFirst, happensAt, SplitBy}
-use Rattle.merges.specs.Merge.{namedSender, namedCount, halfEventOf, isReady, Next, nextIs, neither, nextOfSecond, nextRecord, inHalf, recordRefusal, Taken, stopped, took, onRecord, onNext, takeFrom, MergeKeeps}
-use Rattle.merges.proofs.Lists.{number-out, turned-append, receiver-still}
+use Rattle.merges.specs.Merge.{argumentSender, argumentCount, halfEventOf, isReady, Next, nextIs, neither, nextOfSecond, nextRecord, inHalf, recordRefusal, Taken, stopped, took, onRecord, onNext, takeFrom, MergeKeeps}
+use Rattle.merges.proofs.Lists.{number-out, reversed-append, receiver-still}
 use Rattle.merges.proofs.Orders.{same-receiver}
 
 -- What a record of a half stands for.
@@ -31,7 +31,7 @@ zero-out zero x y e = cc
 zero-out (suc k) x y e = absurd (let z : _≡_ {A = ℕ} 0 1 = cc in omega arith)
 
 -- A record that is ready names a message that was sent, if it names one.
-ready-sent : (taken : List HalfEvent) (r : Fields) → (eqb (r .kind) 2 || eqb (r .kind) 3) ≡ true → isReady taken r ≡ true → leb 1 (messageNumber taken (namedSender r) (namedCount r)) ≡ true
+ready-sent : (taken : List HalfEvent) (r : Fields) → (eqb (r .kind) 2 || eqb (r .kind) 3) ≡ true → isReady taken r ≡ true → leb 1 (messageNumber taken (argumentSender r) (argumentCount r)) ≡ true
 unfolding isReady
 ready-sent taken r e ready = rw e at ready
 
@@ -42,10 +42,10 @@ half-ready taken r x e ready = by-bool (eqb (r .kind) 0)
     (λ a. by-bool (eqb (r .kind) 1)
     (λ b. let q : sendTo (r .process) (r .argument) ≡ x = one (sendTo (r .process) (r .argument)) x (rw (a, b) at e) in rw (← q))
     (λ b. by-bool (eqb (r .kind) 2)
-    (λ c. let q = zero-out (r .process) (deliverOf (namedSender r) (namedCount r)) x (rw (a, b, c) at e) in
+    (λ c. let q = zero-out (r .process) (deliverOf (argumentSender r) (argumentCount r)) x (rw (a, b, c) at e) in
     rw (← q) (ready-sent taken r (rw c) ready))
     (λ c. by-bool (eqb (r .kind) 3)
-    (λ d. let q = zero-out (r .process) (loseOf (namedSender r) (namedCount r)) x (rw (a, b, c, d) at e) in
+    (λ d. let q = zero-out (r .process) (loseOf (argumentSender r) (argumentCount r)) x (rw (a, b, c, d) at e) in
     rw (← q) (ready-sent taken r (rw (c, d)) ready))
     (λ d. absurd (clash x (rw (a, b, c, d) at e))))))
   where
@@ -181,7 +181,7 @@ module _ (n set : ℕ) where
   at-end : (T taken : List HalfEvent) (r : Fields) (x : HalfEvent) (order : List HalfEvent) → halfEventOf r ≡ some x → isReady taken r ≡ true → T ≡ newestFirst (x ∷ taken) order
       → happensAt (receiverOf T) x ≡ happensAt (receiverOf taken) x
   at-end T taken r x order e ready all =
-      let more : T ≡ (newestFirst [] order ++ (x ∷ [])) ++ taken = all ∙ turned-append (x ∷ taken) order ∙ sym (append-assoc (newestFirst [] order) (x ∷ []) taken) in
+      let more : T ≡ (newestFirst [] order ++ (x ∷ [])) ++ taken = all ∙ reversed-append (x ∷ taken) order ∙ sym (append-assoc (newestFirst [] order) (x ∷ []) taken) in
       ap (λ (t : List HalfEvent). happensAt (receiverOf t) x) more ∙ still-at (newestFirst [] order ++ (x ∷ [])) taken x (half-ready taken r x e ready)
 
   -- One record less is left.

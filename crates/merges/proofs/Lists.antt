@@ -89,15 +89,15 @@ own-sends to p (deliverOf s c ∷ l) = by-bool (eqb (to s c) p) (λ e. rw e (own
 own-sends to p (loseOf s c ∷ l) = by-bool (eqb (to s c) p) (λ e. rw e (own-sends to p l)) (λ e. rw e (own-sends to p l))
 
 -- Turning round.
-pub turned-append : (taken l : List HalfEvent) → newestFirst taken l ≡ newestFirst [] l ++ taken
+pub reversed-append : (taken l : List HalfEvent) → newestFirst taken l ≡ newestFirst [] l ++ taken
 unfolding newestFirst
-turned-append taken [] = refl
-turned-append taken (x ∷ l) = turned-append (x ∷ taken) l ∙ sym (append-assoc (newestFirst [] l) (x ∷ []) taken) ∙ ap (λ (a : List HalfEvent). a ++ taken) (sym (turned-append (x ∷ []) l))
+reversed-append taken [] = refl
+reversed-append taken (x ∷ l) = reversed-append (x ∷ taken) l ∙ sym (append-assoc (newestFirst [] l) (x ∷ []) taken) ∙ ap (λ (a : List HalfEvent). a ++ taken) (sym (reversed-append (x ∷ []) l))
 
-pub turned-select : (t : HalfEvent → Bool) (taken l : List HalfEvent) → select t (newestFirst taken l) ≡ newestFirst (select t taken) (select t l)
+pub reversed-select : (t : HalfEvent → Bool) (taken l : List HalfEvent) → select t (newestFirst taken l) ≡ newestFirst (select t taken) (select t l)
 unfolding newestFirst select
-turned-select t taken [] = refl
-turned-select t taken (x ∷ l) = turned-select t (x ∷ taken) l ∙ by-bool (t x) (λ e. rw e) (λ e. rw e)
+reversed-select t taken [] = refl
+reversed-select t taken (x ∷ l) = reversed-select t (x ∷ taken) l ∙ by-bool (t x) (λ e. rw e) (λ e. rw e)
 
 -- A test that fails on all records of one half selects of an order what it selects of the other half.
 pub keeps-first : (t : HalfEvent → Bool) (first second l : List HalfEvent) → KeepsBoth first second l → every (λ x. not (t x)) second ≡ true → select t l ≡ select t first

@@ -6,9 +6,9 @@ use Rattle.laws.specs.Tests.{every, same}
 use Rattle.model.specs.Refusals.{number, firstOf}
 use Rattle.model.specs.Trace.{word, fields, ifZero, fieldsOf, wordOf, bytesOf}
 use Rattle.merges.specs.Halves.{isSend, sendBy, howMany, isSendNumber, messageNumber, receives, receiverOf, plainEvent, happensAt}
-use Rattle.merges.specs.Merge.{halfEventOf, isReady, nextOfSecond, nextRecord, outOfRun, toItself, inHalf, recordRefusal, onRecord, onNext, takeFrom, countOf, behindCount, fieldsIn, badCount, mergeRefusal, plainBytes, finished, mergeOutcome, mergeReport}
+use Rattle.merges.specs.Merge.{halfEventOf, isReady, nextOfSecond, nextRecord, outOfRun, toItself, inHalf, recordRefusal, onRecord, onNext, takeFrom, countOf, afterFirstByte, fieldsIn, badCount, mergeRefusal, plainBytes, finished, mergeOutcome, mergeReport}
 use Rattle.merges.specs.Merges.{mergeRight, merges, mergesRight}
 
 pub merges-right : mergesRight ≡ true
-unfolding every same number firstOf word fields ifZero fieldsOf wordOf bytesOf isSend sendBy howMany isSendNumber messageNumber receives receiverOf plainEvent happensAt halfEventOf isReady nextOfSecond nextRecord outOfRun toItself inHalf recordRefusal onRecord onNext takeFrom countOf behindCount fieldsIn badCount mergeRefusal plainBytes finished mergeOutcome mergeReport mergeRight merges mergesRight
+unfolding every same number firstOf word fields ifZero fieldsOf wordOf bytesOf isSend sendBy howMany isSendNumber messageNumber receives receiverOf plainEvent happensAt halfEventOf isReady nextOfSecond nextRecord outOfRun toItself inHalf recordRefusal onRecord onNext takeFrom countOf afterFirstByte fieldsIn badCount mergeRefusal plainBytes finished mergeOutcome mergeReport mergeRight merges mergesRight
 merges-right = refl

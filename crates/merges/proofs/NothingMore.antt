@@ -183,11 +183,11 @@ module _ (i f k : ℕ) (R R′ : Ideal) (v : Inv R) (hi : i < R .n) (hf : f < R 
 -- Note 14.
 pub nothing-more-could-go : NothingMoreCouldGo
 unfolding NothingMoreCouldGo surviving
-nothing-more-could-go n counts ok calls no-recovery i k hi e =
-    let s₀ = startOutcome n counts .run in
-    let h₀ = beginning n counts in
-    let r₀ = begun n counts in
-    let v₀ = start-reached n counts ok in
+nothing-more-could-go n blockCounts ok calls no-recovery i k hi e =
+    let s₀ = startOutcome n blockCounts .run in
+    let h₀ = beginning n blockCounts in
+    let r₀ = begun n blockCounts in
+    let v₀ = start-reached n blockCounts ok in
     let R = runAfter r₀ calls in
     let v = calls-reached n s₀ h₀ r₀ v₀ calls in
     let z = keeps-out R i k (sym (v .agrees .kept i k (omega (arith, v .size))) ∙ e) in
@@ -195,7 +195,7 @@ nothing-more-could-go n counts ok calls no-recovery i k hi e =
     let hf : f < n = omega (arith, z .1, v .size) in
     let g : ℕ = knownOf R i f in
     let d = v .inv .pins i f k (z .1) (z .2) in
-    let w = follow n i f g hf calls s₀ s₀ h₀ h₀ r₀ r₀ v₀ v₀ (subrun-begin f g n counts (omega (arith, d .less))) no-recovery (omega arith) in
+    let w = follow n i f g hf calls s₀ s₀ h₀ h₀ r₀ r₀ v₀ v₀ (subrun-begin f g n blockCounts (omega (arith, d .less))) no-recovery (omega arith) in
     let v′ = calls-reached n s₀ h₀ r₀ v₀ (w .others) in
     let R′ = runAfter r₀ (w .others) in
     let l = learnt-here i f k R R′ (v .inv) (omega (arith, v .size)) (z .1) (z .2) (w .subrun) in
@@ -212,6 +212,6 @@ nothing-more-could-go n counts ok calls no-recovery i k hi e =
 -- A safe rule keeps the checkpoint in that other run, and goes by what the process sees.
 pub no-rule-deletes-more : NoRuleDeletesMore
 unfolding NoRuleDeletesMore SafeRule NothingMoreCouldGo
-no-rule-deletes-more n counts ok rule safe calls no-recovery i k hi e =
-    let w = nothing-more-could-go n counts ok calls no-recovery i k hi e in
+no-rule-deletes-more n blockCounts ok rule safe calls no-recovery i k hi e =
+    let w = nothing-more-could-go n blockCounts ok calls no-recovery i k hi e in
     rw (← w .same) (safe (w .others) (w .accepted) (w .no-recovery) i k (w .failing) hi (w .inside) (w .used))

@@ -85,12 +85,12 @@ module _ (r : Ideal) (m : ℕ) where
   part-got-other p ne = part-eq _ _ (local-got-other r₂ m p ne) (got-cause-other p ne)
 
   -- A delivery changes nothing else but what is under way.
-  delivered-mail : (delivered r₂ m .last ≡ r .last) × (delivered r₂ m .carried ≡ r .carried) × (delivered r₂ m .receiver ≡ r .receiver) × (delivered r₂ m .ledger .counts ≡ r .ledger .counts)
+  delivered-messages : (delivered r₂ m .last ≡ r .last) × (delivered r₂ m .carried ≡ r .carried) × (delivered r₂ m .receiver ≡ r .receiver) × (delivered r₂ m .ledger .blockCounts ≡ r .ledger .blockCounts)
   unfolding delivered takenIn takenBy checkpointed stores
-  delivered-mail = by-bool (forces r₂ m) (λ e. rw e (refl, refl, refl, refl)) (λ e. rw e (refl, refl, refl, refl))
+  delivered-messages = by-bool (forces r₂ m) (λ e. rw e (refl, refl, refl, refl)) (λ e. rw e (refl, refl, refl, refl))
 
 -- The number of processes and their block counts, the receiver of each message, the records of each process (the newest first).
-module _ (n : ℕ) (counts : List ℕ) (to : ℕ → ℕ → ℕ) (records : ℕ → List HalfEvent) where
+module _ (n : ℕ) (blockCounts : List ℕ) (to : ℕ → ℕ → ℕ) (records : ℕ → List HalfEvent) where
   -- What a record makes of its process's part, where the carried vectors are given.
   unfoldable pub act : ℕ → (ℕ → ℕ → ℕ → ℕ) → HalfEvent → Part → Part
   act p carried (checkpointAt q) P = partTook p P
@@ -99,7 +99,7 @@ module _ (n : ℕ) (counts : List ℕ) (to : ℕ → ℕ → ℕ) (records : ℕ
   act p carried (loseOf s c) P = P
 
   unfoldable pub partAfter : ℕ → (ℕ → ℕ → ℕ → ℕ) → List HalfEvent → Part
-  partAfter p carried [] = partOf (begun n counts) p
+  partAfter p carried [] = partOf (begun n blockCounts) p
   partAfter p carried (x ∷ l) = act p carried x (partAfter p carried l)
 
   -- What send c of s carries, messages being followed back through k others.
@@ -110,27 +110,27 @@ module _ (n : ℕ) (counts : List ℕ) (to : ℕ → ℕ → ℕ) (records : ℕ
   -- A run after some records, newest first.
   pub record Follows (taken : List HalfEvent) (r : Ideal) : Type 0 where
     pub size : r .n ≡ n
-    pub paid : r .ledger .counts ≡ begun n counts .ledger .counts
+    pub paid : r .ledger .blockCounts ≡ begun n blockCounts .ledger .blockCounts
     pub last : r .last ≡ howMany isSend taken
     pub part : (p k : ℕ) → length taken ≤ k → partOf r p ≡ partAfter p (carriedBy k) (own to p taken)
-    pub mail : (s c k : ℕ) → 1 ≤ c → c ≤ howMany (sendBy s) taken → length taken ≤ k → r .carried (messageNumber taken s c) ≡ carriedBy k s c
+    pub carried-is : (s c k : ℕ) → 1 ≤ c → c ≤ howMany (sendBy s) taken → length taken ≤ k → r .carried (messageNumber taken s c) ≡ carriedBy k s c
     pub goes : (s c : ℕ) → 1 ≤ c → c ≤ howMany (sendBy s) taken → r .receiver (messageNumber taken s c) ≡ to s c
 
   -- Before the first record.
-  pub follows-begin : Follows [] (begun n counts)
+  pub follows-begin : Follows [] (begun n blockCounts)
   unfolding begin howMany partAfter
   follows-begin = record {
     size = refl;
     paid = refl;
     last = refl;
     part = λ p k le. rw (own-nil to p);
-    mail = λ s c k a b le. absurd (omega arith);
+    carried-is = λ s c k a b le. absurd (omega arith);
     goes = λ s c a b. absurd (omega arith);
   }
 
   -- A record that is no send: numbers, counts, what is carried and whom messages go to stay.
   module _ (taken : List HalfEvent) (r r₁ : Ideal) (x : HalfEvent) (w : Follows taken r) (no-send : isSend x ≡ false) (none-by : (s : ℕ) → sendBy s x ≡ false)
-      (size : r₁ .n ≡ r .n) (paid : r₁ .ledger .counts ≡ r .ledger .counts) (last : r₁ .last ≡ r .last) (carried : r₁ .carried ≡ r .carried) (receiver : r₁ .receiver ≡ r .receiver)
+      (size : r₁ .n ≡ r .n) (paid : r₁ .ledger .blockCounts ≡ r .ledger .blockCounts) (last : r₁ .last ≡ r .last) (carried : r₁ .carried ≡ r .carried) (receiver : r₁ .receiver ≡ r .receiver)
       (parts : (p k : ℕ) → length taken ≤ k → partOf r₁ p ≡ partAfter p (carriedBy k) (own to p (x ∷ taken))) where
     pub follows-quiet : Follows (x ∷ taken) r₁
     unfolding howMany
@@ -139,8 +139,8 @@ module _ (n : ℕ) (counts : List ℕ) (to : ℕ → ℕ → ℕ) (records : ℕ
       paid = paid ∙ w .paid;
       last = rw (no-send, last) (w .last);
       part = λ p k le. parts p k (omega (arith, le));
-      mail = λ s c k a b le. let b₁ : c ≤ howMany (sendBy s) taken = rw (none-by s) at b in
-          rw (number-still x taken s c b₁, carried) (w .mail s c k a b₁ (omega (arith, le)));
+      carried-is = λ s c k a b le. let b₁ : c ≤ howMany (sendBy s) taken = rw (none-by s) at b in
+          rw (number-still x taken s c b₁, carried) (w .carried-is s c k a b₁ (omega (arith, le)));
       goes = λ s c a b. let b₁ : c ≤ howMany (sendBy s) taken = rw (none-by s) at b in
           rw (number-still x taken s c b₁, receiver) (w .goes s c a b₁);
     }
@@ -173,13 +173,13 @@ module _ (n : ℕ) (counts : List ℕ) (to : ℕ → ℕ → ℕ) (records : ℕ
     follows-deliver s c sent =
         let z = number-out taken s c sent in
         let at : r .receiver (messageNumber taken s c) ≡ to s c = w .goes s c (z .0) (z .1) in
-        let u = delivered-mail r (messageNumber taken s c) in
+        let u = delivered-messages r (messageNumber taken s c) in
         let r₁ = delivered (because forced r) (messageNumber taken s c) in
         follows-quiet taken r r₁ (deliverOf s c) w refl (λ s. refl) (delivered-n (because forced r) (messageNumber taken s c)) (u .3) (u .0) (u .1) (u .2)
         (parts-after taken r r₁ (deliverOf s c) (to s c) w refl
         (λ p ne. part-got-other r (messageNumber taken s c) p (λ q. ne (q ∙ at)))
         (λ k le. subst (λ (x : ℕ). partOf r₁ x ≡ partGot (r .n) x (r .carried (messageNumber taken s c)) (partOf r x)) at (part-got r (messageNumber taken s c))
-        ∙ (λ j. partGot (w .size j) (to s c) (w .mail s c k (z .0) (z .1) le j) (partOf r (to s c)))))
+        ∙ (λ j. partGot (w .size j) (to s c) (w .carried-is s c k (z .0) (z .1) le j) (partOf r (to s c)))))
 
     -- A send, where the records of its process are these and later ones.
     module _ (i j : ℕ) (more : List HalfEvent) (whole : records i ≡ own to i more ++ own to i (sendTo i j ∷ taken)) (named : to i (suc (howMany (sendBy i) taken)) ≡ j) where
@@ -228,9 +228,9 @@ module _ (n : ℕ) (counts : List ℕ) (to : ℕ → ℕ → ℕ) (records : ℕ
         paid = w .paid;
         last = ap suc (w .last);
         part = λ p k le. parts-after taken r (sending r i j) (sendTo i j) i w refl (part-sent-other r i j) (λ k le. part-sent r i j) p k (omega (arith, le));
-        mail = λ s k h a b le. elim (which s k b) [
+        carried-is = λ s k h a b le. elim (which s k b) [
           | inl z ↦ rw (z .0, z .1, new-number, upd-same (r .carried) (suc (r .last)) (r .vector i (r .own i))) (sym (carries h le))
-          | inr d ↦ rw (number-still (sendTo i j) taken s k d, upd-other (r .carried) (suc (r .last)) (r .vector i (r .own i)) (messageNumber taken s k) (older s k)) (w .mail s k h a d (omega (arith, le)))
+          | inr d ↦ rw (number-still (sendTo i j) taken s k d, upd-other (r .carried) (suc (r .last)) (r .vector i (r .own i)) (messageNumber taken s k) (older s k)) (w .carried-is s k h a d (omega (arith, le)))
         ];
         goes = λ s k a b. elim (which s k b) [
           | inl z ↦ rw (z .0, z .1, new-number, upd-same (r .receiver) (suc (r .last)) j) (sym named)

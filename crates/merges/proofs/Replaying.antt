@@ -22,7 +22,7 @@ use Rattle.model.specs.Trace.{decoded, fieldsOf, fits, wordOf, bytesOf, encoded
 use Rattle.whole_runs.specs.Calls.{Call, call, stateAfter}
 use Rattle.whole_runs.specs.Listing.{callOf, perform, stateAfterRecords}
 use Rattle.merges.specs.Halves.{HalfEvent, checkpointAt, sendTo, deliverOf, loseOf, isSend, howMany, isSendNumber, messageNumber, plainEvent, callsFrom, newestFirst}
-use Rattle.merges.specs.Merge.{halfEventOf, nextRecord, outOfRun, recordRefusal, Taken, stopped, took, takeFrom, fieldsIn, countOf, behindCount, badCount, tooMany, mergeRefusal, plainBytes, MergeOutcome, finished, mergeOutcome, mergeReport, MergeKeeps, MergeReplays, MergePromise}
+use Rattle.merges.specs.Merge.{halfEventOf, nextRecord, outOfRun, recordRefusal, Taken, stopped, took, takeFrom, fieldsIn, countOf, afterFirstByte, badCount, tooMany, mergeRefusal, plainBytes, MergeOutcome, finished, mergeOutcome, mergeReport, MergeKeeps, MergeReplays, MergePromise}
 use Rattle.merges.proofs.Keeping.{next-out, record-out, merge-keeps}
 use Rattle.model.proofs.Records.{records-are-events}
 use Rattle.whole_runs.proofs.Blocks.{states-by-block, one-state}
@@ -114,17 +114,17 @@ unfolding newestFirst callsFrom callsOf
 calls-are taken [] = sym (append-nil (callsOf taken))
 calls-are taken (x ∷ order) = calls-are (x ∷ taken) order ∙ append-assoc (callsOf taken) (callOf (plainEvent taken x) ∷ []) (callsFrom (x ∷ taken) order)
 
-turned-length : (taken order : List HalfEvent) → length (newestFirst taken order) ≡ length taken + length order
+reversed-length : (taken order : List HalfEvent) → length (newestFirst taken order) ≡ length taken + length order
 unfolding newestFirst
-turned-length taken [] = omega arith
-turned-length taken (x ∷ order) = turned-length (x ∷ taken) order ∙ omega arith
+reversed-length taken [] = omega arith
+reversed-length taken (x ∷ order) = reversed-length (x ∷ taken) order ∙ omega arith
 
 -- Note 12: replaying the merged bytes is the run of the merged calls.
 pub merge-replays : MergeReplays
 unfolding MergeReplays Fitting callsOf
 merge-replays n set first second order b h e =
     let f = all-fit n set b (length first + length second) (newestFirst [] order) [] first second (omega arith) e (omega arith) in (
-      omega (arith, plain-length (newestFirst [] order), turned-length [] order),
+      omega (arith, plain-length (newestFirst [] order), reversed-length [] order),
       λ s. replayed s (newestFirst [] order) f ∙ ap (stateAfter s) (calls-are [] order),
     )
 
@@ -148,8 +148,8 @@ pub record Fine (first second buffer : List ℕ) : Type 0 where
   pub room : length first + length second ≤ length buffer
   pub first-byte : length first ≡ 0 → ⊥
   pub second-byte : length second ≡ 0 → ⊥
-  pub few-first : length (behindCount first) / 4 ≤ 4096
-  pub few-second : length (behindCount second) / 4 ≤ 4096
+  pub few-first : length (afterFirstByte first) / 4 ≤ 4096
+  pub few-second : length (afterFirstByte second) / 4 ≤ 4096
 
 pub fine : (first second : List ℕ) (F : ℕ) (buffer : List ℕ) → mergeRefusal first second F buffer ≡ none → Fine first second buffer
 unfolding mergeRefusal
@@ -162,16 +162,16 @@ fine first second F buffer e =
       room = ltb-false (length buffer) (length first + length second) (fails 1);
       first-byte = eqb-false (length first) 0 (bytes .0);
       second-byte = eqb-false (length second) 0 (bytes .1);
-      few-first = ltb-false 4096 (length (behindCount first) / 4) (few .0);
-      few-second = ltb-false 4096 (length (behindCount second) / 4) (few .1);
+      few-first = ltb-false 4096 (length (afterFirstByte first) / 4) (few .0);
+      few-second = ltb-false 4096 (length (afterFirstByte second) / 4) (few .1);
     }
 
 module _ (first second : List ℕ) (F : ℕ) (buffer : List ℕ) where
   abbrev A : List Fields
-  A = fieldsIn (behindCount first)
+  A = fieldsIn (afterFirstByte first)
 
   abbrev B : List Fields
-  B = fieldsIn (behindCount second)
+  B = fieldsIn (afterFirstByte second)
 
   abbrev whole : Taken
   whole = takeFrom (length A + length B) (countOf first) F [] A B
@@ -206,7 +206,7 @@ module _ (first second : List ℕ) (F : ℕ) (buffer : List ℕ) where
       let k = merge-keeps (countOf first) F A B (t .0) (t .1) in
       let m : whole ≡ took (newestFirst [] (k .2)) = t .1 ∙ ap took (k .8) in
       let c = fine first second F buffer e in
-      let few : length A + length B < 33554432 = omega (arith, how-many (behindCount first), how-many (behindCount second), c .few-first, c .few-second) in
+      let few : length A + length B < 33554432 = omega (arith, how-many (afterFirstByte first), how-many (afterFirstByte second), c .few-first, c .few-second) in
       let r = merge-replays (countOf first) F A B (k .2) (c .count) few m in
       let long : 1 + length (plainBytes (t .0)) ≡ 1 + 4 * length (k .2) = ap (λ (l : List HalfEvent). 1 + length (plainBytes l)) (k .8) ∙ ap (λ (b : ℕ). 1 + b) (r .0) in (
         k .0,

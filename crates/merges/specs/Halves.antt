@@ -124,13 +124,13 @@ pub record SameProcesses (s t : Run) : Type 0 where
   pub vectors : s .vectors ≡ t .vectors
   pub pins : s .pins ≡ t .pins
   pub kept : s .kept ≡ t .kept
-  pub held : s .held ≡ t .held
+  pub «kept_count» : s .«kept_count» ≡ t .«kept_count»
   pub sent : s .sent ≡ t .sent
 
 -- "Any two orders that keep both halves and send before delivering, if every record is accepted in both, end with equal vectors, pins and kept
 -- checkpoints", whatever block counts the start was given. That they send before delivering need not be asked for: a message that was not sent has the number 0 here, and its delivery is refused.
 unfoldable pub OrdersAgree : Type 0
-OrdersAgree = (n : ℕ) (counts : List ℕ) → startRefusal n counts ≡ none → (set : ℕ) (first second one other : List HalfEvent)
+OrdersAgree = (n : ℕ) (blockCounts : List ℕ) → startRefusal n blockCounts ≡ none → (set : ℕ) (first second one other : List HalfEvent)
     → SplitBy set first second → KeepsBoth first second one → KeepsBoth first second other
-    → allAccepted (startOutcome n counts .run) (callsFrom [] one) ≡ true → allAccepted (startOutcome n counts .run) (callsFrom [] other) ≡ true
-    → SameProcesses (stateAfter (startOutcome n counts .run) (callsFrom [] one)) (stateAfter (startOutcome n counts .run) (callsFrom [] other))
+    → allAccepted (startOutcome n blockCounts .run) (callsFrom [] one) ≡ true → allAccepted (startOutcome n blockCounts .run) (callsFrom [] other) ≡ true
+    → SameProcesses (stateAfter (startOutcome n blockCounts .run) (callsFrom [] one)) (stateAfter (startOutcome n blockCounts .run) (callsFrom [] other))

@@ -23,24 +23,24 @@ use Rattle.whole_runs.specs.Listing.{stateAfterRecords}
 use Rattle.merges.specs.Halves.{HalfEvent, checkpointAt, sendTo, deliverOf, loseOf, messageNumber, receiverOf, plainEvent, callsFrom, newestFirst, KeepsBoth, sendsFirst, happensAt, SplitBy}
 
 -- "the argument names a message by 4 bits of sender, then 21 bits of that sender's running count": 2,097,152 is 2 to the power 21.
-abbrev pub namedSender : Fields → ℕ
-namedSender r = r .argument / 2097152
+abbrev pub argumentSender : Fields → ℕ
+argumentSender r = r .argument / 2097152
 
-abbrev pub namedCount : Fields → ℕ
-namedCount r = r .argument % 2097152
+abbrev pub argumentCount : Fields → ℕ
+argumentCount r = r .argument % 2097152
 
 -- "In a half, kinds 0 to 3 occur, and in deliver and lose the process is zero". None: refusal 14, "(kind 4 too)".
 unfoldable pub halfEventOf : Fields → Option HalfEvent
 halfEventOf r = pick (eqb (r .kind) 0) (ifZero (r .argument) (checkpointAt (r .process)))
     (pick (eqb (r .kind) 1) (some (sendTo (r .process) (r .argument)))
-    (pick (eqb (r .kind) 2) (ifZero (r .process) (deliverOf (namedSender r) (namedCount r)))
-    (pick (eqb (r .kind) 3) (ifZero (r .process) (loseOf (namedSender r) (namedCount r)))
+    (pick (eqb (r .kind) 2) (ifZero (r .process) (deliverOf (argumentSender r) (argumentCount r)))
+    (pick (eqb (r .kind) 3) (ifZero (r .process) (loseOf (argumentSender r) (argumentCount r)))
     none)))
 
 -- "A delivery or loss is ready once its message was sent, any other record always." By kind and argument alone: whether the record is well-formed is
 -- judged as it is taken.
 unfoldable pub isReady : List HalfEvent → Fields → Bool
-isReady taken r = not (eqb (r .kind) 2 || eqb (r .kind) 3) || leb 1 (messageNumber taken (namedSender r) (namedCount r))
+isReady taken r = not (eqb (r .kind) 2 || eqb (r .kind) 3) || leb 1 (messageNumber taken (argumentSender r) (argumentCount r))
 
 -- The record that is taken next: whether it is of the first half, its fields, and what is left of both halves after it.
 pub data Next : Type 0 where
@@ -108,9 +108,9 @@ unfoldable pub countOf : List ℕ → ℕ
 countOf [] = 0
 countOf (n ∷ l) = n
 
-unfoldable pub behindCount : List ℕ → List ℕ
-behindCount [] = []
-behindCount (n ∷ l) = l
+unfoldable pub afterFirstByte : List ℕ → List ℕ
+afterFirstByte [] = []
+afterFirstByte (n ∷ l) = l
 
 unfoldable pub fieldsIn : List ℕ → List Fields
 fieldsIn [] = []
@@ -121,8 +121,8 @@ fieldsIn (a ∷ b ∷ c ∷ d ∷ l) = fields (a ∷ b ∷ c ∷ d ∷ []) ∷ f
 
 -- All records of both halves.
 abbrev pub takeAll : List ℕ → List ℕ → ℕ → Taken
-takeAll first second set = takeFrom (length (fieldsIn (behindCount first)) + length (fieldsIn (behindCount second))) (countOf first) set []
-    (fieldsIn (behindCount first)) (fieldsIn (behindCount second))
+takeAll first second set = takeFrom (length (fieldsIn (afterFirstByte first)) + length (fieldsIn (afterFirstByte second))) (countOf first) set []
+    (fieldsIn (afterFirstByte first)) (fieldsIn (afterFirstByte second))
 
 -- 1, a count outside 1 to 16, of a half that has one.
 unfoldable pub badCount : List ℕ → Bool
@@ -131,14 +131,14 @@ badCount (n ∷ l) = not (leb 1 n && leb n mostProcesses)
 
 -- 13: "one to three bytes left over".
 abbrev pub leftOver : List ℕ → Bool
-leftOver half = not (eqb (length (behindCount half) % 4) 0)
+leftOver half = not (eqb (length (afterFirstByte half) % 4) 0)
 
 -- 17: "more than 4,096 records".
 abbrev pub mostOfHalf : ℕ
 mostOfHalf = 4096
 
 abbrev pub tooMany : List ℕ → Bool
-tooMany half = ltb mostOfHalf (length (behindCount half) / 4)
+tooMany half = ltb mostOfHalf (length (afterFirstByte half) / 4)
 
 -- What is judged before any record. "Number 3 covers a result buffer shorter than both halves together, 7 the set (judged only after 1, 12 and 23 have
 -- passed both halves), 13, and after it 17, each half". "23, right after 12, for unequal counts".
@@ -197,7 +197,7 @@ MergeReplays = (n set : ℕ) (first second : List Fields) (order : List HalfEven
 -- a replay of them is. No limit of a run is judged: a replay of the result may meet 9.
 unfoldable pub MergePromise : List ℕ → List ℕ → ℕ → List ℕ → Type 0
 MergePromise first second set buffer = mergeReport (mergeOutcome first second set buffer .answer) .refused ≡ 0
-    → (one other order : List HalfEvent) × (map halfEventOf (fieldsIn (behindCount first)) ≡ map some one) × (map halfEventOf (fieldsIn (behindCount second)) ≡ map some other)
+    → (one other order : List HalfEvent) × (map halfEventOf (fieldsIn (afterFirstByte first)) ≡ map some one) × (map halfEventOf (fieldsIn (afterFirstByte second)) ≡ map some other)
     × KeepsBoth one other order × (sendsFirst [] order ≡ true) × SplitBy set one other
     × (mergeReport (mergeOutcome first second set buffer .answer) .value ≡ some (1 + 4 * length order))
     × (mergeOutcome first second set buffer .buffer ≡ written buffer (countOf first ∷ plainBytes (newestFirst [] order)))

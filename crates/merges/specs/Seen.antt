@@ -102,20 +102,20 @@ pub record SeenExamples : Type 0 where
 
 -- As far as process i can see, checkpoint k of i may be needed: "there is a run, accepted by the same rules, in which this process sees the same own events and the
 -- same carried vectors, message numbers set aside, and some one process's failure puts that checkpoint in the best line".
-pub record MayBeNeeded (n : ℕ) (counts : List ℕ) (calls : List Call) (i k : ℕ) : Type 0 where
+pub record MayBeNeeded (n : ℕ) (blockCounts : List ℕ) (calls : List Call) (i k : ℕ) : Type 0 where
   pub others : List Call
-  pub accepted : allAccepted (startOutcome n counts .run) others ≡ true
+  pub accepted : allAccepted (startOutcome n blockCounts .run) others ≡ true
   -- a run without recovery or sweep as well
-  pub no-recovery : unrecovered (startOutcome n counts .run) others ≡ true
-  pub same : seen i (startOutcome n counts .run) others ≡ seen i (startOutcome n counts .run) calls
+  pub no-recovery : unrecovered (startOutcome n blockCounts .run) others ≡ true
+  pub same : seen i (startOutcome n blockCounts .run) others ≡ seen i (startOutcome n blockCounts .run) calls
   pub failing : ℕ
   pub inside : failing < n
-  pub used : InBestLine n (surviving n counts (transcript (startOutcome n counts .run) others) .lists) (2 ^ failing) i k
+  pub used : InBestLine n (surviving n blockCounts (transcript (startOutcome n blockCounts .run) others) .lists) (2 ^ failing) i k
 
 -- Note 14: "in runs without recovery or sweep: for each kept checkpoint of a process there is a run ..". Kept by the pairs handed out.
 unfoldable pub NothingMoreCouldGo : Type 0
-NothingMoreCouldGo = (n : ℕ) (counts : List ℕ) → startRefusal n counts ≡ none → (calls : List Call) → unrecovered (startOutcome n counts .run) calls ≡ true
-    → (i k : ℕ) → i < n → surviving n counts (transcript (startOutcome n counts .run) calls) .kept i k ≡ true → MayBeNeeded n counts calls i k
+NothingMoreCouldGo = (n : ℕ) (blockCounts : List ℕ) → startRefusal n blockCounts ≡ none → (calls : List Call) → unrecovered (startOutcome n blockCounts .run) calls ≡ true
+    → (i k : ℕ) → i < n → surviving n blockCounts (transcript (startOutcome n blockCounts .run) calls) .kept i k ≡ true → MayBeNeeded n blockCounts calls i k
 
 -- "A site asked whether a cleverer rule could delete more without extra messages." A rule says which checkpoints a process keeps: by the process, by what it has
 -- seen, and by nothing else.
@@ -124,12 +124,12 @@ KeepingRule = ℕ → List Seen → ℕ → Bool
 
 -- A rule is safe if in every run without recovery or sweep it keeps whatever the failure of one process would use.
 unfoldable pub SafeRule : ℕ → List ℕ → KeepingRule → Type 0
-SafeRule n counts rule = (calls : List Call) → allAccepted (startOutcome n counts .run) calls ≡ true → unrecovered (startOutcome n counts .run) calls ≡ true
-    → (i k f : ℕ) → i < n → f < n → InBestLine n (surviving n counts (transcript (startOutcome n counts .run) calls) .lists) (2 ^ f) i k
-    → rule i (seen i (startOutcome n counts .run) calls) k ≡ true
+SafeRule n blockCounts rule = (calls : List Call) → allAccepted (startOutcome n blockCounts .run) calls ≡ true → unrecovered (startOutcome n blockCounts .run) calls ≡ true
+    → (i k f : ℕ) → i < n → f < n → InBestLine n (surviving n blockCounts (transcript (startOutcome n blockCounts .run) calls) .lists) (2 ^ f) i k
+    → rule i (seen i (startOutcome n blockCounts .run) calls) k ≡ true
 
 -- "Show that it could not": a safe rule keeps all that the library keeps.
 unfoldable pub NoRuleDeletesMore : Type 0
-NoRuleDeletesMore = (n : ℕ) (counts : List ℕ) → startRefusal n counts ≡ none → (rule : KeepingRule) → SafeRule n counts rule
-    → (calls : List Call) → unrecovered (startOutcome n counts .run) calls ≡ true
-    → (i k : ℕ) → i < n → surviving n counts (transcript (startOutcome n counts .run) calls) .kept i k ≡ true → rule i (seen i (startOutcome n counts .run) calls) k ≡ true
+NoRuleDeletesMore = (n : ℕ) (blockCounts : List ℕ) → startRefusal n blockCounts ≡ none → (rule : KeepingRule) → SafeRule n blockCounts rule
+    → (calls : List Call) → unrecovered (startOutcome n blockCounts .run) calls ≡ true
+    → (i k : ℕ) → i < n → surviving n blockCounts (transcript (startOutcome n blockCounts .run) calls) .kept i k ≡ true → rule i (seen i (startOutcome n blockCounts .run) calls) k ≡ true

@@ -18,7 +18,7 @@ use Rattle.words.specs.Puts.{Put, puts, one}
 use Rattle.words.proofs.Reading.{puts-length, untouched, touched}
 use Rattle.message_words.specs.Places.{messagePuts, putLast}
 use Rattle.message_words.proofs.Selected.{select-more}
-use Rattle.message_words.proofs.Placed.{message-stays, message-put, message-beside}
+use Rattle.message_words.proofs.Placed.{message-stays, message-put, message-elsewhere}
 
 module _ (w : List ℕ) (long : length w ≡ stateSize) (room : endOf w < 64) (x : Message) (whole : length (x .vector) ≡ 16) (is : isMessage x ≡ true) where
   abbrev u : List ℕ
@@ -56,8 +56,8 @@ module _ (w : List ℕ) (long : length w ≡ stateSize) (room : endOf w < 64) (x
   pub added-last : messageIn v (endOf w) ≡ x
   added-last = in-place (endOf w) room ∙ message-put w long (endOf w) room x whole
 
-  pub added-beside : (j : ℕ) → j < 64 → (j ≡ endOf w → ⊥) → messageIn v j ≡ messageIn w j
-  added-beside j less ne = in-place j less ∙ message-beside w long (endOf w) room x whole j less ne
+  pub added-elsewhere : (j : ℕ) → j < 64 → (j ≡ endOf w → ⊥) → messageIn v j ≡ messageIn w j
+  added-elsewhere j less ne = in-place j less ∙ message-elsewhere w long (endOf w) room x whole j less ne
 
   pub added-messages : messagesIn v ≡ messagesIn w ++ (x ∷ [])
   unfolding messagesIn
@@ -66,7 +66,7 @@ module _ (w : List ℕ) (long : length w ≡ stateSize) (room : endOf w < 64) (x
       ∙ select-more isMessage (endOf w) (messageIn v) (ap isMessage added-last ∙ is)
       ∙ ap (λ y. select isMessage (table (endOf w) (messageIn v)) ++ (y ∷ [])) added-last
       ∙ ap (λ l. select isMessage l ++ (x ∷ []))
-      (table-same (endOf w) (messageIn v) (messageIn w) (λ j less. added-beside j (omega arith) (λ q. omega arith)))
+      (table-same (endOf w) (messageIn v) (messageIn w) (λ j less. added-elsewhere j (omega arith) (λ q. omega arith)))
 
   pub added-fits : endFits v ≡ true
   unfolding endFits

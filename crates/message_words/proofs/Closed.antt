@@ -21,7 +21,7 @@ use Rattle.words.proofs.Reading.{puts-length, untouched, touched}
 use Rattle.words.proofs.Same.{vector-length}
 use Rattle.message_words.specs.Places.{Closing, messagePuts, clearPuts, cleared, movedTo, closeStep, closing, clearedFrom, closedUp}
 use Rattle.message_words.proofs.Selected.{select-more, select-less}
-use Rattle.message_words.proofs.Placed.{message-stays, message-put, message-beside, cleared-beside, cleared-length}
+use Rattle.message_words.proofs.Placed.{message-stays, message-put, message-elsewhere, cleared-elsewhere, cleared-length}
 
 carried-length : (w : List ℕ) (k : ℕ) → length (messageIn w k .vector) ≡ 16
 unfolding messageIn
@@ -70,13 +70,13 @@ module _ (w : List ℕ) (size-w : length w ≡ stateSize) where
     put-there : messageIn v to ≡ x
     put-there = message-put (c .words) long-c to in-range x (carried-length (c .words) n)
 
-    beside : (j : ℕ) → j < 64 → (j ≡ to → ⊥) → messageIn v j ≡ messageIn (c .words) j
-    beside j less ne = message-beside (c .words) long-c to in-range x (carried-length (c .words) n) j less ne
+    elsewhere : (j : ℕ) → j < 64 → (j ≡ to → ⊥) → messageIn v j ≡ messageIn (c .words) j
+    elsewhere j less ne = message-elsewhere (c .words) long-c to in-range x (carried-length (c .words) n) j less ne
 
     front-then : isMessage x ≡ true → table (suc to) (messageIn v) ≡ select isMessage (table (suc n) (messageIn w))
     unfolding table
     front-then e =
-        ap (λ l. l ++ (messageIn v to ∷ [])) (table-same to (messageIn v) (messageIn (c .words)) (λ j less. beside j (omega arith) (λ q. omega arith)) ∙ h .front)
+        ap (λ l. l ++ (messageIn v to ∷ [])) (table-same to (messageIn v) (messageIn (c .words)) (λ j less. elsewhere j (omega arith) (λ q. omega arith)) ∙ h .front)
         ∙ ap (λ y. select isMessage (table n (messageIn w)) ++ (y ∷ [])) (put-there ∙ h .ahead n (omega arith) lt)
         ∙ sym (select-more isMessage n (messageIn w) (ap isMessage (sym (h .ahead n (omega arith) lt)) ∙ e))
 
@@ -86,9 +86,9 @@ module _ (w : List ℕ) (size-w : length w ≡ stateSize) where
       long = puts-length (c .words) (messagePuts to x) ∙ h .long;
       many = omega (arith, h .many);
       rest = λ q less. untouched (c .words) (messagePuts to x) q (omega arith) ∙ h .rest q less;
-      ahead = λ j le less. beside j less (λ q. omega (arith, h .many)) ∙ h .ahead j (omega arith) less;
+      ahead = λ j le less. elsewhere j less (λ q. omega (arith, h .many)) ∙ h .ahead j (omega arith) less;
       front = front-then e;
-      used = λ j less. by-eq j to (λ q. rw q (ap isMessage put-there ∙ e)) (λ ne. ap isMessage (beside j (omega arith) ne) ∙ h .used j (omega arith));
+      used = λ j less. by-eq j to (λ q. rw q (ap isMessage put-there ∙ e)) (λ ne. ap isMessage (elsewhere j (omega arith) ne) ∙ h .used j (omega arith));
     }
 
     stayed : isMessage x ≡ false → Closed w (suc n) (record { words = movedTo (c .words) n to; many = to })
@@ -97,12 +97,12 @@ module _ (w : List ℕ) (size-w : length w ≡ stateSize) where
       long = puts-length (c .words) (messagePuts to x) ∙ h .long;
       many = omega (arith, h .many);
       rest = λ q less. untouched (c .words) (messagePuts to x) q (omega arith) ∙ h .rest q less;
-      ahead = λ j le less. beside j less (λ q. omega (arith, h .many)) ∙ h .ahead j (omega arith) less;
+      ahead = λ j le less. elsewhere j less (λ q. omega (arith, h .many)) ∙ h .ahead j (omega arith) less;
       front =
-          table-same to (messageIn v) (messageIn (c .words)) (λ j less. beside j (omega arith) (λ q. omega arith))
+          table-same to (messageIn v) (messageIn (c .words)) (λ j less. elsewhere j (omega arith) (λ q. omega arith))
           ∙ h .front
           ∙ sym (select-less isMessage n (messageIn w) (ap isMessage (sym (h .ahead n (omega arith) lt)) ∙ e));
-      used = λ j less. ap isMessage (beside j (omega arith) (λ q. omega arith)) ∙ h .used j less;
+      used = λ j less. ap isMessage (elsewhere j (omega arith) (λ q. omega arith)) ∙ h .used j less;
     }
 
     step-closed : Closed w (suc n) (closeStep n c)
@@ -136,7 +136,7 @@ cleared-from w from (suc n) long le =
     record {
       long = cleared-length u (from + n) ∙ h .long;
       rest = λ q less. cleared-rest u (from + n) q less ∙ h .rest q less;
-      before = λ j less. cleared-beside u (h .long ∙ long) (from + n) (omega arith) j (omega arith) (λ q. omega arith) ∙ h .before j less;
+      before = λ j less. cleared-elsewhere u (h .long ∙ long) (from + n) (omega arith) j (omega arith) (λ q. omega arith) ∙ h .before j less;
     }
 
 -- All 64 places closed up.

@@ -44,8 +44,8 @@ module _ (w : List ℕ) (long : length w ≡ stateSize) (k : ℕ) (lt : k < 64) 
           wide2-back (x .number),
         )
 
-    pub message-beside : (j : ℕ) → j < 64 → (j ≡ k → ⊥) → messageIn (puts w (messagePuts k x)) j ≡ messageIn w j
-    message-beside j less ne = message-stays w (messagePuts k x) j (omega arith, omega arith, omega arith, omega arith, λ f lt′. omega arith)
+    pub message-elsewhere : (j : ℕ) → j < 64 → (j ≡ k → ⊥) → messageIn (puts w (messagePuts k x)) j ≡ messageIn w j
+    message-elsewhere j less ne = message-stays w (messagePuts k x) j (omega arith, omega arith, omega arith, omega arith, λ f lt′. omega arith)
 
   -- a place cleared
   pub cleared-number : messageIn (cleared w k) k .number ≡ 0
@@ -55,9 +55,9 @@ module _ (w : List ℕ) (long : length w ≡ stateSize) (k : ℕ) (lt : k < 64) 
     touched w (clearPuts k) 1 0 (highAt k) (omega arith, omega arith, omega (arith, long), omega arith),
   )
 
-  pub cleared-beside : (j : ℕ) → j < 64 → (j ≡ k → ⊥) → messageIn (cleared w k) j ≡ messageIn w j
+  pub cleared-elsewhere : (j : ℕ) → j < 64 → (j ≡ k → ⊥) → messageIn (cleared w k) j ≡ messageIn w j
   unfolding cleared
-  cleared-beside j less ne = message-stays w (clearPuts k) j (omega arith, omega arith, omega arith, omega arith, λ f lt′. omega arith)
+  cleared-elsewhere j less ne = message-stays w (clearPuts k) j (omega arith, omega arith, omega arith, omega arith, λ f lt′. omega arith)
 
 pub cleared-length : (w : List ℕ) (k : ℕ) → length (cleared w k) ≡ length w
 unfolding cleared

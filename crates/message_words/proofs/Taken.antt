@@ -19,7 +19,7 @@ use Rattle.words.specs.Puts.{Put, puts, one}
 use Rattle.words.proofs.Reading.{puts-length, untouched, touched}
 use Rattle.message_words.specs.Places.{clearPuts, cleared, takenOut, endBelow}
 use Rattle.message_words.proofs.Selected.{select-tables, select-more, select-less, walked-back, end-under, end-used}
-use Rattle.message_words.proofs.Placed.{message-stays, cleared-number, cleared-beside, cleared-length}
+use Rattle.message_words.proofs.Placed.{message-stays, cleared-number, cleared-elsewhere, cleared-length}
 
 -- One entry fewer passes where one that passed is made unused and the others stay.
 pub one-fewer : (n k : ℕ) (f g : ℕ → Message) → k < n → isMessage (f k) ≡ true → isMessage (g k) ≡ false → ((j : ℕ) → j < n → (j ≡ k → ⊥) → g j ≡ f j)
@@ -107,13 +107,13 @@ module _ (w : List ℕ) (long : length w ≡ stateSize) (few : endOf w ≤ 64) (
     passes : (j : ℕ) → j < endOf w → isMessage (messageIn c j) ≡ (isMessage (messageIn w j) && other (messageIn w j))
     passes j less = by-eq j k
         (λ e. rw e (unused ∙ sym (rw (used, eq-eqb (messageIn w k .number) m is))))
-        (λ ne. rw (cleared-beside w long k (omega arith) j (omega arith) ne, ne-eqb (messageIn w j .number) m (λ q. ne (alone j less q)))
+        (λ ne. rw (cleared-elsewhere w long k (omega arith) j (omega arith) ne, ne-eqb (messageIn w j .number) m (λ q. ne (alone j less q)))
         (sym (by-bool (isMessage (messageIn w j)) (λ e. rw e) (λ e. rw e))))
 
     stays : (j : ℕ) → j < endOf w → isMessage (messageIn c j) ≡ true → messageIn c j ≡ messageIn w j
     stays j less passed = by-eq j k
         (λ e. absurd (never-both (isMessage (messageIn c k)) (rw e at passed) unused))
-        (λ ne. cleared-beside w long k (omega arith) j (omega arith) ne)
+        (λ ne. cleared-elsewhere w long k (omega arith) j (omega arith) ne)
 
     pub taken-others : messagesIn v ≡ select other (messagesIn w)
     unfolding messagesIn
@@ -124,4 +124,4 @@ module _ (w : List ℕ) (long : length w ≡ stateSize) (few : endOf w ≤ 64) (
 
     pub taken-many : length (messagesIn w) ≡ suc (length (messagesIn v))
     unfolding messagesIn
-    taken-many = one-fewer (endOf w) k (messageIn w) (messageIn c) lt used unused (λ j less ne. cleared-beside w long k (omega arith) j (omega arith) ne) ∙ ap (λ l. suc (length l)) (sym left)
+    taken-many = one-fewer (endOf w) k (messageIn w) (messageIn c) lt used unused (λ j less ne. cleared-elsewhere w long k (omega arith) j (omega arith) ne) ∙ ap (λ l. suc (length l)) (sym left)

@@ -18,10 +18,10 @@ use Rattle.words.specs.Clean.{CleanMessages}
 use Rattle.words.specs.Puts.{Put, puts, one}
 use Rattle.words.proofs.Reading.{Clear, untouched, touched, puts-length}
 use Rattle.message_words.specs.Places.{messagePuts, clearPuts, cleared, endBelow, takenOut, closing, clearedFrom, closedUp, putLast}
-use Rattle.message_words.proofs.Placed.{ClearOf, message-stays, cleared-length, cleared-beside, message-beside}
+use Rattle.message_words.proofs.Placed.{ClearOf, message-stays, cleared-length, cleared-elsewhere, message-elsewhere}
 use Rattle.message_words.proofs.Taken.{taken-end}
 use Rattle.message_words.proofs.Closed.{closing-closed, cleared-from, closed-end, closed-used}
-use Rattle.message_words.proofs.Added.{added-end, added-last, added-beside}
+use Rattle.message_words.proofs.Added.{added-end, added-last, added-elsewhere}
 
 -- All words of place j are zero.
 pub record Zero (w : List ℕ) (j : ℕ) : Type 0 where
@@ -63,9 +63,9 @@ zero-cleared w k long lt = record {
   vector = λ f less. touched w (clearPuts k) 4 f (carriedAt k + f) (refl, less, omega (arith, long), tt);
 }
 
-pub zero-beside : (w : List ℕ) (k j : ℕ) → k < 64 → j < 64 → (j ≡ k → ⊥) → Zero w j → Zero (cleared w k) j
+pub zero-elsewhere : (w : List ℕ) (k j : ℕ) → k < 64 → j < 64 → (j ≡ k → ⊥) → Zero w j → Zero (cleared w k) j
 unfolding cleared
-zero-beside w k j lt less ne z = zero-stays w (clearPuts k) j (omega arith, omega arith, omega arith, omega arith, λ f l. omega arith) z
+zero-elsewhere w k j lt less ne z = zero-stays w (clearPuts k) j (omega arith, omega arith, omega arith, omega arith, λ f l. omega arith) z
 
 -- A place that is not in use has no message, or is past the end.
 pub unused-out : (w : List ℕ) (j : ℕ) → isUsedIn w j ≡ false → isMessage (messageIn w j) ≡ true → endOf w ≤ j
@@ -96,15 +96,15 @@ module _ (w : List ℕ) (long : length w ≡ stateSize) (few : endOf w ≤ 64) (
   abbrev ends : List Put
   ends = one 1 (word w 1 - 1) ∷ one 12 (endBelow c (endOf w)) ∷ []
 
-  beside : (j : ℕ) → j < 64 → (j ≡ k → ⊥) → messageIn (takenOut w k) j ≡ messageIn w j
+  elsewhere : (j : ℕ) → j < 64 → (j ≡ k → ⊥) → messageIn (takenOut w k) j ≡ messageIn w j
   unfolding takenOut
-  beside j less ne = message-stays c ends j (omega arith, omega arith, omega arith, omega arith, λ f l. omega arith) ∙ cleared-beside w long k (omega arith) j less ne
+  elsewhere j less ne = message-stays c ends j (omega arith, omega arith, omega arith, omega arith, λ f l. omega arith) ∙ cleared-elsewhere w long k (omega arith) j less ne
 
   was-unused : (j : ℕ) → j < 64 → (j ≡ k → ⊥) → isUsedIn (takenOut w k) j ≡ false → isUsedIn w j ≡ false
   was-unused j less ne u = by-bool (isMessage (messageIn w j))
       (λ is. by-lt j (endOf w)
-      (λ low. absurd (never-both (isMessage (messageIn c j)) (ap isMessage (cleared-beside w long k (omega arith) j less ne) ∙ is)
-      (none-after c (endOf w) j (let z = unused-out (takenOut w k) j u (ap isMessage (beside j less ne) ∙ is) in omega (arith, taken-end w long few k lt)) low)))
+      (λ low. absurd (never-both (isMessage (messageIn c j)) (ap isMessage (cleared-elsewhere w long k (omega arith) j less ne) ∙ is)
+      (none-after c (endOf w) j (let z = unused-out (takenOut w k) j u (ap isMessage (elsewhere j less ne) ∙ is) in omega (arith, taken-end w long few k lt)) low)))
       (λ high. unused-past w j high))
       (λ is. unused-none w j is)
 
@@ -112,7 +112,7 @@ module _ (w : List ℕ) (long : length w ≡ stateSize) (few : endOf w ≤ 64) (
   unfolding takenOut
   clean-taken h = zeros-in (takenOut w k) (λ j less u. zero-stays c ends j (omega arith, omega arith, omega arith, omega arith, λ f l. omega arith) (by-eq j k
       (λ e. rw e (zero-cleared w k long (omega arith)))
-      (λ ne. zero-beside w k j (omega arith) less ne (zero-at w h j less (was-unused j less ne u)))))
+      (λ ne. zero-elsewhere w k j (omega arith) less ne (zero-at w h j less (was-unused j less ne u)))))
 
 -- Put after the others.
 module _ (w : List ℕ) (long : length w ≡ stateSize) (room : endOf w < 64) (x : Message) (whole : length (x .vector) ≡ 16) (is : isMessage x ≡ true) where
@@ -122,7 +122,7 @@ module _ (w : List ℕ) (long : length w ≡ stateSize) (room : endOf w < 64) (x
 
   was-free : (j : ℕ) → j < 64 → (j ≡ endOf w → ⊥) → isUsedIn (putLast w x) j ≡ false → isUsedIn w j ≡ false
   was-free j less ne u = by-bool (isMessage (messageIn w j))
-      (λ m. let z = unused-out (putLast w x) j u (ap isMessage (added-beside w long room x whole is j less ne) ∙ m) in unused-past w j (omega (arith, added-end w long room x whole is)))
+      (λ m. let z = unused-out (putLast w x) j u (ap isMessage (added-elsewhere w long room x whole is j less ne) ∙ m) in unused-past w j (omega (arith, added-end w long room x whole is)))
       (λ m. unused-none w j m)
 
   pub clean-added : CleanMessages w → CleanMessages (putLast w x)
@@ -140,7 +140,7 @@ zero-from w from (suc n) j long le low high =
     let long-u : length u ≡ stateSize = cleared-from w from n long (omega arith) .long ∙ long in
     by-eq j (from + n)
     (λ e. rw e (zero-cleared u (from + n) long-u (omega arith)))
-    (λ ne. zero-beside u (from + n) j (omega arith) (omega arith) ne (zero-from w from n j long (omega arith) low (omega arith)))
+    (λ ne. zero-elsewhere u (from + n) j (omega arith) (omega arith) ne (zero-from w from n j long (omega arith) low (omega arith)))
 
 module _ (w : List ℕ) (long : length w ≡ stateSize) (full : endOf w ≡ 64) where
   past : (j : ℕ) → j < 64 → isUsedIn (closedUp w) j ≡ false → closing w 64 .many ≤ j

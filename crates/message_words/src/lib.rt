@@ -49,11 +49,11 @@ pub fn is_used(w: &[u16], k: usize) -> bool
 
 // One above the place k where it has the number, which comes as its two words; 0 where it has another. Words are compared, and not numbers, since a register holds
 // more of them.
-fn hit(low: u16, high: u16, sought_low: u16, sought_high: u16, k: u16) -> u16
+fn hit(low: u16, high: u16, wanted_low: u16, wanted_high: u16, k: u16) -> u16
     requires { ⌜ k < mostUnderWay ⌝ }
-    ensures { λ r. ⌜ r ≡ pick (eqb low «sought_low» && eqb high «sought_high») (k + 1) 0 ⌝ }
+    ensures { λ r. ⌜ r ≡ pick (eqb low «wanted_low» && eqb high «wanted_high») (k + 1) 0 ⌝ }
 {
-    if (low == sought_low) & (high == sought_high) {
+    if (low == wanted_low) & (high == wanted_high) {
         k + 1
     } else {
         0

@@ -56,9 +56,9 @@ firstOf (r ∷ l) = pick (r .holds) (some (r .gives)) (firstOf l)
 -- "1: start with a count outside 1 to 16."
 -- Note 5: "15, at the start after 1, for a block count outside 1 to 65,535"; "those at n and above are neither judged nor stored".
 unfoldable pub startRefusal : ℕ → List ℕ → Option Refusal
-startRefusal n counts = firstOf (
+startRefusal n blockCounts = firstOf (
     record { holds = not (leb 1 n && leb n mostProcesses); gives = CountOutsideRange }
-    ∷ record { holds = anyBelow n (λ p. not (isBlockCount (getD counts p 0))); gives = BlockCountOutsideRange }
+    ∷ record { holds = anyBelow n (λ p. not (isBlockCount (getD blockCounts p 0))); gives = BlockCountOutsideRange }
     ∷ [])
 
 -- "2: a state that is not sound"

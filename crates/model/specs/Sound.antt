@@ -16,7 +16,7 @@ use Rattle.model.specs.declared.Pin.the-variants.{Nothing, At}
 use Rattle.model.specs.declared.Checkpoint.{Checkpoint}
 use Rattle.model.specs.declared.Message.{Message}
 use Rattle.model.specs.declared.Run.{Run}
-use Rattle.model.specs.Words.{mostProcesses, mostUnderWay, mostMessages, mostBlockCount, mostBlocks, entry, lastStored, names, named, Process, blocksOf, noCheckpoint, blockCount, process, own, underWay}
+use Rattle.model.specs.Words.{mostProcesses, mostUnderWay, mostMessages, mostBlockCount, mostBlocks, entry, lastStored, names, isPinned, Process, blocksOf, noCheckpoint, blockCount, process, own, underWay}
 
 -- "Count 1 to 16."
 unfoldable pub countSound : Run → Bool
@@ -44,7 +44,7 @@ ascending low (x ∷ l) = leb low x && ascending (suc x) l
 -- the last is the own entry minus 1 and the own pin names it."
 unfoldable pub keptSound : Run → ℕ → Bool
 keptSound s p =
-    leb 1 (getD (s .held) p 0) && leb (getD (s .held) p 0) (s .count)
+    leb 1 (getD (s .«kept_count») p 0) && leb (getD (s .«kept_count») p 0) (s .count)
     && ascending 0 (map (λ c. c .index .0) (process s p .kept))
     && every (λ c. eqb (entry (c .vector) p .0) (c .index .0)) (process s p .kept)
     && eqb (orElse (lastOf (process s p .kept)) noCheckpoint .index .0) (lastStored (own s p) .0)
@@ -56,7 +56,7 @@ pinSound kept Nothing = true
 pinSound kept (At a) = some-of (λ c. names (At a) (c .index)) kept
 
 unfoldable pub pinsSound : Run → ℕ → Bool
-pinsSound s p = every (pinSound (process s p .kept)) (process s p .pins) && every (named (process s p .pins)) (process s p .kept)
+pinsSound s p = every (pinSound (process s p .kept)) (process s p .pins) && every (isPinned (process s p .pins)) (process s p .kept)
 
 -- "Messages ascend by number, from 1 to the last used, at most 64; sender and receiver are in the run and differ.
 -- The last used number is at most 1,000,000."
@@ -92,7 +92,7 @@ rowUnused s p =
     zeroFrom (s .count) (process s p .vector)
     && nothingFrom (s .count) (process s p .pins)
     && every (λ c. zeroFrom (s .count) (c .vector)) (process s p .kept)
-    && every unusedCheckpoint (drop (getD (s .held) p 0) (getD (s .kept .0) p []))
+    && every unusedCheckpoint (drop (getD (s .«kept_count») p 0) (getD (s .kept .0) p []))
 
 unfoldable pub unusedSound : Run → Bool
 unusedSound s =
@@ -101,7 +101,7 @@ unusedSound s =
     && every (nothingFrom 0) (drop (s .count) (s .pins .0))
     && every not (drop (s .count) (s .sent))
     && every (every unusedCheckpoint) (drop (s .count) (s .kept .0))
-    && every (eqb 0) (drop (s .count) (s .held))
+    && every (eqb 0) (drop (s .count) (s .«kept_count»))
     && every (λ x. zeroFrom (s .count) (x .vector)) (underWay s)
     && every unusedMessage (drop (s .underway) (s .messages))
 

@@ -20,7 +20,7 @@ use Rattle.model.specs.declared.Checkpoint.{Checkpoint}
 use Rattle.model.specs.declared.Message.{Message}
 use Rattle.model.specs.declared.Disk.{Disk}
 use Rattle.model.specs.declared.Run.{Run}
-use Rattle.model.specs.Words.{mostProcesses, initial, basic, forced, entry, below, liveIndex, named, Process, live, blocksOf, zeroVector, noPins, blockCount, blank, process, withProcess, own, underWay, withMessages, withDisk, failed}
+use Rattle.model.specs.Words.{mostProcesses, initial, basic, forced, entry, below, liveIndex, isPinned, Process, live, blocksOf, zeroVector, noPins, blockCount, blank, process, withProcess, own, underWay, withMessages, withDisk, failed}
 
 -- A deleted checkpoint, as "pairs process, index".
 pub record Deletion : Type 0 where
@@ -29,13 +29,13 @@ pub record Deletion : Type 0 where
 
 -- "A checkpoint is kept exactly while a pin names it": what process p keeps of its checkpoints, and what is deleted, once its pins have moved.
 unfoldable pub settled : Process → Process
-settled P = record { vector = P .vector; pins = P .pins; mark = P .mark; kept = select (named (P .pins)) (P .kept) }
+settled P = record { vector = P .vector; pins = P .pins; mark = P .mark; kept = select (isPinned (P .pins)) (P .kept) }
 
 unfoldable pub listed : ℕ → List Checkpoint → List Deletion
 listed p = map (λ c. record { process = p; index = c .index })
 
 unfoldable pub gone : Process → List Checkpoint
-gone P = select (λ c. not (named (P .pins) c)) (P .kept)
+gone P = select (λ c. not (isPinned (P .pins) c)) (P .kept)
 
 unfoldable pub deletions : ℕ → Process → List Deletion
 deletions p P = listed p (gone P)
@@ -55,20 +55,20 @@ unfoldable pub checkpointZero : ℕ → Checkpoint
 checkpointZero count = record { index = record { 0 = 0 }; vector = zeroVector; cause = initial; blocks = count }
 
 unfoldable pub started : List ℕ → ℕ → Process
-started counts p = record {
+started blockCounts p = record {
   vector = set zeroVector p (record { 0 = 1 });
   pins = set noPins p (At (record { 0 = 0 }));
   mark = false;
-  kept = checkpointZero (getD counts p 0) ∷ [];
+  kept = checkpointZero (getD blockCounts p 0) ∷ [];
 }
 
 -- Note 5: "each checkpoint ever stored .. counts once", and the n processes stored one each. "The start takes 16 counts, and those at n and above are neither
 -- judged nor stored."
 unfoldable pub opening : ℕ → List ℕ → Disk
-opening n counts = record { written = sumBelow n (λ p. getD counts p 0); deleted = 0 }
+opening n blockCounts = record { written = sumBelow n (λ p. getD blockCounts p 0); deleted = 0 }
 
 unfoldable pub startState : ℕ → List ℕ → Run
-startState n counts = withDisk (withProcesses n (started counts) (blank n)) (opening n counts)
+startState n blockCounts = withDisk (withProcesses n (started blockCounts) (blank n)) (opening n blockCounts)
 
 -- Checkpoint at i. "Store the vector under index own entry. The own pin names it. Add 1 to the own entry. Clear the sent mark."
 unfoldable pub advanced : ℕ → List Interval → List Interval
@@ -225,7 +225,7 @@ recovered s F p = record {
   vector = vectorAfter s F p;
   pins = pinsAfter s F p;
   mark = process s p .mark && not (rolledBack s F p);
-  kept = select (named (pinsAfter s F p)) (notLost s F p);
+  kept = select (isPinned (pinsAfter s F p)) (notLost s F p);
 }
 
 -- Note 2: "a recovery loses a message exactly if its sender's entry in the carried vector is above the sender's index in the line; the others remain
@@ -238,7 +238,7 @@ stillUnderWay s F = select (λ x. not (lostBy s F x)) (underWay s)
 
 -- Deleted: the lost ones, and those that no pin names any more. "by process, then index, ascending"
 unfoldable pub goneAt : Run → ℕ → ℕ → List Checkpoint
-goneAt s F p = select (λ c. not (leb (c .index .0) (member s F p .index .0) && named (pinsAfter s F p) c)) (process s p .kept)
+goneAt s F p = select (λ c. not (leb (c .index .0) (member s F p .index .0) && isPinned (pinsAfter s F p) c)) (process s p .kept)
 
 unfoldable pub deletedAt : Run → ℕ → ℕ → List Deletion
 deletedAt s F p = listed p (goneAt s F p)

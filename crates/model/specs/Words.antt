@@ -88,8 +88,8 @@ names Nothing a = false
 names (At b) a = eqb (b .0) (a .0)
 
 -- "A checkpoint is kept exactly while a pin names it."
-unfoldable pub named : List Pin → Checkpoint → Bool
-named pins c = some-of (λ pin. names pin (c .index)) pins
+unfoldable pub isPinned : List Pin → Checkpoint → Bool
+isPinned pins c = some-of (λ pin. names pin (c .index)) pins
 
 -- What a state holds of one process: its current vector, its pins, its sent mark, the checkpoints that it keeps.
 pub record Process : Type 0 where
@@ -136,7 +136,7 @@ blank n = record {
   pins = record { 0 = replicate mostProcesses noPins };
   sent = replicate mostProcesses false;
   kept = record { 0 = replicate mostProcesses (replicate mostProcesses noCheckpoint) };
-  held = replicate mostProcesses 0;
+  «kept_count» = replicate mostProcesses 0;
   messages = replicate mostUnderWay noMessage;
   underway = 0;
   last = 0;
@@ -149,7 +149,7 @@ process s p = record {
   vector = getD (s .vectors .0) p [];
   pins = getD (s .pins .0) p [];
   mark = getD (s .sent) p false;
-  kept = take (getD (s .held) p 0) (getD (s .kept .0) p []);
+  kept = take (getD (s .«kept_count») p 0) (getD (s .kept .0) p []);
 }
 
 -- The state keeps checkpoint k of process p.
@@ -164,7 +164,7 @@ withProcess s p P = record {
   pins = record { 0 = set (s .pins .0) p (P .pins) };
   sent = set (s .sent) p (P .mark);
   kept = record { 0 = set (s .kept .0) p (placed mostProcesses noCheckpoint (P .kept)) };
-  held = set (s .held) p (length (P .kept));
+  «kept_count» = set (s .«kept_count») p (length (P .kept));
   messages = s .messages;
   underway = s .underway;
   last = s .last;
@@ -187,7 +187,7 @@ withMessages s messages last = record {
   pins = s .pins;
   sent = s .sent;
   kept = s .kept;
-  held = s .held;
+  «kept_count» = s .«kept_count»;
   messages = placed mostUnderWay noMessage messages;
   underway = length messages;
   last = last;
@@ -202,7 +202,7 @@ withDisk s disk = record {
   pins = s .pins;
   sent = s .sent;
   kept = s .kept;
-  held = s .held;
+  «kept_count» = s .«kept_count»;
   messages = s .messages;
   underway = s .underway;
   last = s .last;

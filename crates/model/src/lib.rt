@@ -86,7 +86,7 @@ pub struct Run {
     pub sent: [bool; PROCESSES],
     pub kept: Kept,
     // how many checkpoints each process keeps
-    pub held: [usize; PROCESSES],
+    pub kept_count: [usize; PROCESSES],
     // the messages under way, ascending by number
     pub messages: [Message; MESSAGES],
     // how many messages are under way

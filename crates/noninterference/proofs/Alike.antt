@@ -70,7 +70,7 @@ pub record Fit (s : Run) : Type 0 where
 state-room : (r : Ideal) (p : ℕ) → p < mostProcesses → Room (stateOf r) p
 unfolding stateOf partsOf withDisk withMessages
 state-room r p lt = let w = room-all (r .n) (processOf r) (blank (r .n)) p (room-blank (r .n) p lt) in
-    record { vectors = w .vectors; pins = w .pins; sent = w .sent; kept = w .kept; held = w .held }
+    record { vectors = w .vectors; pins = w .pins; sent = w .sent; kept = w .kept; «kept_count» = w .«kept_count» }
 
 state-stands : (r : Ideal) → Inv r → r .n ≤ mostProcesses → (F p : ℕ) → p < r .n
     → lastOf (select (λ c. eqb (c .index .0) (member (stateOf r) F p .index .0)) (states p (process (stateOf r) p))) ≡ some (member (stateOf r) F p)
@@ -121,7 +121,7 @@ process-put s p P h = rw (
   getD-set-same (s .pins .0) p (P .pins) [] (h .pins),
   getD-set-same (s .sent) p (P .mark) false (h .sent),
   getD-set-same (s .kept .0) p (placed mostProcesses noCheckpoint (P .kept)) [] (h .kept),
-  getD-set-same (s .held) p (length (P .kept)) 0 (h .held),
+  getD-set-same (s .«kept_count») p (length (P .kept)) 0 (h .«kept_count»),
   take-placed mostProcesses noCheckpoint (P .kept),
 )
 
@@ -132,7 +132,7 @@ process-other s p q Q ne = rw (
   getD-set-other (s .pins .0) q p (Q .pins) [] ne,
   getD-set-other (s .sent) q p (Q .mark) false ne,
   getD-set-other (s .kept .0) q p (placed mostProcesses noCheckpoint (Q .kept)) [] ne,
-  getD-set-other (s .held) q p (length (Q .kept)) 0 ne,
+  getD-set-other (s .«kept_count») q p (length (Q .kept)) 0 ne,
 )
 
 -- The same part put in for one process of two alike states; and a part put in for a process that is not the owner's.

@@ -95,7 +95,7 @@ module _ (s : Run) (l : List ConsoleCall) (j : ℕ) where
       (seen-append 1 (stateAfterConsole s l) (replicate j stores-one) (asks ∷ []) ∙ ap (λ (z : List Reply). z ++ seen 1 before (asks ∷ [])) (seen-none j (stateAfterConsole s l)) ∙ last-seen before))
       ∙ lastOf-snoc (seen 1 s l) (consoleCall before asks .reply)
 
-meets-bound : (r : Ideal) → Inv r → Limits r → r .n ≡ 3 → r .own 0 < mostInterval → mostBlocks < r .ledger .written + r .ledger .counts 0
+meets-bound : (r : Ideal) → Inv r → Limits r → r .n ≡ 3 → r .own 0 < mostInterval → mostBlocks < r .ledger .written + r .ledger .blockCounts 0
     → checkpointRefusal (stateOf r) 0 (deletionList 3) ≡ some BlocksUsed
 unfolding checkpointRefusal
 meets-bound r v fit size early past =
@@ -114,8 +114,8 @@ module _ (s : Run) (k c w : ℕ) where
   reply-number none size e = rw (allowed size, e)
   reply-number (some x) size e = rw (allowed size, e)
 
-  roomy : Come Any s k c w → w + 65_535 ≤ mostBlocks → (s .count ≡ 3) × (checkpointRefusal s 0 (deletionList 3) ≡ none)
-  roomy x room = by-at (x .stands)
+  enoughRoom : Come Any s k c w → w + 65_535 ≤ mostBlocks → (s .count ≡ 3) × (checkpointRefusal s 0 (deletionList 3) ≡ none)
+  enoughRoom x room = by-at (x .stands)
     where
       by-at : At s (x .run) → (s .count ≡ 3) × (checkpointRefusal s 0 (deletionList 3) ≡ none)
       by-at (at h v) = (
@@ -163,7 +163,7 @@ first = record {
     still = begin-transit 3;
     last = refl;
     written = refl;
-    counts = refl;
+    blockCounts = refl;
     tenants = refl;
   };
   also = tt;
@@ -190,11 +190,11 @@ no-more u = refl
 
 accepted-number : consoleCall after-rounds asks .reply .report .refused ≡ 0
 unfolding numberOf
-accepted-number = let w = roomy _ _ _ _ far (omega arith) in reply-number after-rounds 0 0 0 none (w .0) (w .1)
+accepted-number = let w = enoughRoom _ _ _ _ far (omega arith) in reply-number after-rounds 0 0 0 none (w .0) (w .1)
 
 module _ (s : Run) (is : s ≡ startOutcome 3 sizes .run) where
-  told : seen 1 s (rounds 15_259 1_000_000 ++ (replicate 21_894 stores-one ++ (asks ∷ []))) ≡ seen 1 s (rounds 15_259 1_000_000 ++ (asks ∷ [])) → ⊥
-  told = subst (λ (s : Run). seen 1 s (rounds 15_259 1_000_000 ++ (replicate 21_894 stores-one ++ (asks ∷ []))) ≡ seen 1 s (rounds 15_259 1_000_000 ++ (asks ∷ [])) → ⊥) (sym is)
+  differs : seen 1 s (rounds 15_259 1_000_000 ++ (replicate 21_894 stores-one ++ (asks ∷ []))) ≡ seen 1 s (rounds 15_259 1_000_000 ++ (asks ∷ [])) → ⊥
+  differs = subst (λ (s : Run). seen 1 s (rounds 15_259 1_000_000 ++ (replicate 21_894 stores-one ++ (asks ∷ []))) ≡ seen 1 s (rounds 15_259 1_000_000 ++ (asks ∷ [])) → ⊥) (sym is)
       (differing 16 0 (consoleCall (stateAfterConsole after-rounds (replicate 21_894 stores-one)) asks .reply) (consoleCall (stateAfterConsole after-rounds (replicate 0 stores-one)) asks .reply) _ _ (omega arith)
       (seen-after (startOutcome 3 sizes .run) (rounds 15_259 1_000_000) 21_894) (seen-after (startOutcome 3 sizes .run) (rounds 15_259 1_000_000) 0) refused-number
       (subst (λ (u : Run). consoleCall u asks .reply .report .refused ≡ 0) (no-more after-rounds) accepted-number))
@@ -204,5 +204,5 @@ unfolding pairOf real.begun
 blocks-real = record {
   started = started-so;
   alike = exposed-after (real.begun blocks) (rounds 15_259 1_000_000) 21_894 ∙ sym (exposed-after (real.begun blocks) (rounds 15_259 1_000_000) 0);
-  told = told (real.begun blocks) begun-is;
+  differs = differs (real.begun blocks) begun-is;
 }

@@ -60,8 +60,8 @@ pub record Stage (r : Ideal) (k c w : ℕ) : Type 0 where
   pub still : (m : ℕ) → r .transit m ≡ false
   pub last : r .last ≡ c
   pub written : r .ledger .written ≡ w
-  pub counts : r .ledger .counts 1 ≡ 65_535
-  pub tenants : r .ledger .counts 0 ≡ 65_535
+  pub blockCounts : r .ledger .blockCounts 1 ≡ 65_535
+  pub tenants : r .ledger .blockCounts 0 ≡ 65_535
 
 -- After the message, process 1 knows process 2's current interval.
 abbrev Knows : Ideal → Type 0
@@ -75,7 +75,7 @@ module _ (s : Run) (r : Ideal) (a : At s r) (k c w : ℕ) (g : Stage r k c w) (e
   checkpoint-on : At (call s (checkpoint 1 (deletionList 3)) .run) (checkpointed (because basic r) 1)
   unfolding stepped refusal
   checkpoint-on = call-at s r a (checkpoint 1 (deletionList 3)) (checkpoint-admitted r (inv-at s r a) (limits-at s r a) 1 (deletionList 3)
-      (omega (arith, size-at s r a)) (omega (arith, g .own)) (deletion-room r (size-at s r a)) (omega (arith, g .written, g .counts)))
+      (omega (arith, size-at s r a)) (omega (arith, g .own)) (deletion-room r (size-at s r a)) (omega (arith, g .written, g .blockCounts)))
 
   checkpoint-stage : Stage (checkpointed (because basic r) 1) (suc k) c (w + 65_535)
   unfolding checkpointed stores
@@ -85,8 +85,8 @@ module _ (s : Run) (r : Ideal) (a : At s r) (k c w : ℕ) (g : Stage r k c w) (e
     early = omega (arith, checkpointed-own-other (because basic r) 1 0 (omega arith), g .early);
     still = g .still;
     last = g .last;
-    written = omega (arith, g .written, g .counts);
-    counts = g .counts;
+    written = omega (arith, g .written, g .blockCounts);
+    blockCounts = g .blockCounts;
     tenants = g .tenants;
   }
 
@@ -146,9 +146,9 @@ module _ (s : Run) (r : Ideal) (a : At s r) (c w : ℕ) (g : Stage r 0 c w) (num
   unfolding delivered takenIn takenBy sending
   ledger-same = ap (λ (b : Bool). (pick b (checkpointed sent-run (sent-run .receiver (suc c))) sent-run) .ledger .written) not-forced-either
 
-  counts-same : (p : ℕ) → delivered sent-run (suc c) .ledger .counts p ≡ r .ledger .counts p
+  counts-same : (p : ℕ) → delivered sent-run (suc c) .ledger .blockCounts p ≡ r .ledger .blockCounts p
   unfolding delivered takenIn takenBy sending
-  counts-same p = ap (λ (b : Bool). (pick b (checkpointed sent-run (sent-run .receiver (suc c))) sent-run) .ledger .counts p) not-forced-either
+  counts-same p = ap (λ (b : Bool). (pick b (checkpointed sent-run (sent-run .receiver (suc c))) sent-run) .ledger .blockCounts p) not-forced-either
 
   sent-last : sending r 2 1 .last ≡ suc c
   unfolding sending
@@ -164,7 +164,7 @@ module _ (s : Run) (r : Ideal) (a : At s r) (c w : ℕ) (g : Stage r 0 c w) (num
         (λ ne. delivered-transit-other sent-run (suc c) m ne ∙ still-sent m ne);
     last = delivered-last sent-run (suc c) ∙ sent-last;
     written = ledger-same ∙ g .written;
-    counts = counts-same 1 ∙ g .counts;
+    blockCounts = counts-same 1 ∙ g .blockCounts;
     tenants = counts-same 0 ∙ g .tenants;
   }
 
@@ -224,8 +224,8 @@ module _ (s : Run) (r : Ideal) (a : At s r) (k c w : ℕ) (g : Stage r k c w) (k
     still = λ m. by-bool (back .transit m) (λ e. never-both (r .transit m) (recovered-transit r (failed 4) m e .0) (g .still m)) (λ e. e);
     last = last-back ∙ g .last;
     written = ap (λ (l : Ledger). l .written) ledger-back ∙ g .written;
-    counts = ap (λ (l : Ledger). l .counts 1) ledger-back ∙ g .counts;
-    tenants = ap (λ (l : Ledger). l .counts 0) ledger-back ∙ g .tenants;
+    blockCounts = ap (λ (l : Ledger). l .blockCounts 1) ledger-back ∙ g .blockCounts;
+    tenants = ap (λ (l : Ledger). l .blockCounts 0) ledger-back ∙ g .tenants;
   }
 
 -- What the console makes of an operator's calls.

@@ -249,7 +249,7 @@ used-real =
     record {
       started = started-so;
       alike = exposed-after s first 1_000_000 (omega arith) ∙ sym (exposed-after s first 999_999 (omega arith));
-      told = differing 10 0 (consoleCall (stateAfterConsole s (messages 1_000_000)) asks .reply) (consoleCall (stateAfterConsole s (messages 999_999)) asks .reply) _ _ (omega arith)
+      differs = differing 10 0 (consoleCall (stateAfterConsole s (messages 1_000_000)) asks .reply) (consoleCall (stateAfterConsole s (messages 999_999)) asks .reply) _ _ (omega arith)
           (seen-after s first 1_000_000 (omega arith)) (seen-after s first 999_999 (omega arith))
           (used-number _ 1_000_000 (come s first 1_000_000 (omega arith)) (omega arith)) (accepted-number _ 999_999 (come s first 999_999 (omega arith)) (omega arith));
     }

@@ -13,7 +13,7 @@ use Rattle.laws.specs.Lists.{select, orElse, lastOf, table, gather, placed}
 use Rattle.laws.specs.Search.{allBelow, anyBelow}
 use Rattle.laws.specs.Sums.{sumBelow}
 use Rattle.laws.specs.Tests.{countBelow, every, some-of}
-use Rattle.model.specs.Words.{named, live, blocksOf, blockCount, blank, process, withProcess, own, underWay, withMessages, withDisk}
+use Rattle.model.specs.Words.{isPinned, live, blocksOf, blockCount, blank, process, withProcess, own, underWay, withMessages, withDisk}
 use Rattle.model.specs.Steps.{settled, listed, gone, deletions, billed, withProcesses, checkpointZero, started, opening, startState, advanced, storing as stores, checkpointed, checkpointState, checkpointDeletions, sentMessage, marked, sendState, found, others, newer, forces, takenEntry, takenVector, takenPin, takenPins, risen, takenIn, delivered, deliverState, deliverRisen, deliverDeletions, loseState, allowed, states, latestAllowed, member, lineOf, rolledBack, vectorAfter, notLost, ownAfter, latestPin, movedPin, pinAfter, pinsAfter, recovered, lostBy, stillUnderWay, goneAt, deletedAt, recoverState, recoverDeletions, rolledBackCount}
 use Rattle.model.specs.Sound.{countSound, ownSound, within, vectorsSound, ascending, keptSound, pinSound, pinsSound, messageSound, messagesSound, zeroFrom, unusedCheckpoint, unusedMessage, isNothing, nothingFrom, rowUnused, unusedSound, causeSound, isBlockCount, recordSound, keptBlocks, diskSound, sound}
 use Rattle.model.specs.Refusals.{number, firstOf, startRefusal, checkpointRefusal, sendRefusal, forcesPast, forcesOver, deliverRefusal, loseRefusal, noMember, lineRefusal, recoverRefusal}
@@ -54,15 +54,15 @@ abbrev restarting : ℕ → List Bool → Exposed
 restarting index pinned = restarted (record { index = index; pinned = pinned } ∷ record { index = 0; pinned = [] } ∷ record { index = 0; pinned = [] } ∷ [])
 
 near : (Real full) × (Real numbers) × (Real carried) × (Real presence) × (Real place) × (Real rollback) × (Real pins) × OthersAreSkipped
-unfolding bitsOf select lastOf table gather placed allBelow anyBelow sumBelow countBelow some-of named live blocksOf blockCount blank process withProcess own underWay withMessages withDisk settled listed gone deletions billed withProcesses checkpointZero started opening startState advanced stores checkpointed checkpointState checkpointDeletions sentMessage marked sendState found others newer forces takenEntry takenVector takenPin takenPins risen takenIn delivered deliverState deliverRisen deliverDeletions loseState allowed states latestAllowed member lineOf rolledBack vectorAfter notLost ownAfter latestPin movedPin pinAfter pinsAfter recovered lostBy stillUnderWay goneAt deletedAt recoverState recoverDeletions rolledBackCount countSound ownSound within vectorsSound ascending keptSound pinSound pinsSound messageSound messagesSound zeroFrom unusedCheckpoint unusedMessage isNothing nothingFrom rowUnused unusedSound causeSound isBlockCount recordSound keptBlocks diskSound sound number firstOf startRefusal checkpointRefusal sendRefusal forcesPast forcesOver deliverRefusal loseRefusal noMember lineRefusal recoverRefusal pairs startOutcome checkpointOutcome sendOutcome deliverAnswer deliverOutcome loseOutcome lineOutcome recoverOutcome checkpointReport sendReport deliverReport loseReport lineReport recoverReport answered may owns entitledBy entitled entitledMessageBy entitledMessage denied deniedProcess deniedMessage shown listedTo listRefusal listReport consoleStart consoleCheckpoint consoleSend consoleDeliver consoleLose consoleRecover consoleLine consoleList consoleAnswered every consoleCall isOwnerBy isOwner sees seen arrivalOf arrives isThere leak restart restarts done exposes exposed code hide hiddenLeak hidden pairOf begun OthersAreSkipped
+unfolding bitsOf select lastOf table gather placed allBelow anyBelow sumBelow countBelow some-of isPinned live blocksOf blockCount blank process withProcess own underWay withMessages withDisk settled listed gone deletions billed withProcesses checkpointZero started opening startState advanced stores checkpointed checkpointState checkpointDeletions sentMessage marked sendState found others newer forces takenEntry takenVector takenPin takenPins risen takenIn delivered deliverState deliverRisen deliverDeletions loseState allowed states latestAllowed member lineOf rolledBack vectorAfter notLost ownAfter latestPin movedPin pinAfter pinsAfter recovered lostBy stillUnderWay goneAt deletedAt recoverState recoverDeletions rolledBackCount countSound ownSound within vectorsSound ascending keptSound pinSound pinsSound messageSound messagesSound zeroFrom unusedCheckpoint unusedMessage isNothing nothingFrom rowUnused unusedSound causeSound isBlockCount recordSound keptBlocks diskSound sound number firstOf startRefusal checkpointRefusal sendRefusal forcesPast forcesOver deliverRefusal loseRefusal noMember lineRefusal recoverRefusal pairs startOutcome checkpointOutcome sendOutcome deliverAnswer deliverOutcome loseOutcome lineOutcome recoverOutcome checkpointReport sendReport deliverReport loseReport lineReport recoverReport answered may owns entitledBy entitled entitledMessageBy entitledMessage denied deniedProcess deniedMessage shown listedTo listRefusal listReport consoleStart consoleCheckpoint consoleSend consoleDeliver consoleLose consoleRecover consoleLine consoleList consoleAnswered every consoleCall isOwnerBy isOwner sees seen arrivalOf arrives isThere leak restart restarts done exposes exposed code hide hiddenLeak hidden pairOf begun OthersAreSkipped
 near = (
-  record { started = refl; alike = through (asked 1 (made (send 0 1)) (room false 64) ∷ []) _ _ refl refl; told = differ (λ l. answer l 0 .report .refused) _ _ refl },
-  record { started = refl; alike = through (asked 1 (made (send 0 1)) (room false 0) ∷ []) _ _ refl refl; told = differ (λ l. orElse (answer l 0 .report .value) 0) _ _ refl },
-  record { started = refl; alike = through (asked 1 (made (deliver 1 (deletionList 3))) (arrival [] false) ∷ asked 1 (made (send 0 2)) (room false 1) ∷ asked 1 (made (deliver 3 (deletionList 3))) (arrival [] false) ∷ []) _ _ refl refl; told = differ (λ l. orElse (answer l 2 .report .value) 0) _ _ refl },
-  record { started = refl; alike = through (asked 1 (made (lose 1)) (there false) ∷ []) _ _ refl refl; told = differ (λ l. answer l 0 .report .refused) _ _ refl },
-  record { started = refl; alike = through (arriving ∷ storing ∷ asked 1 (made (line 2 (lineList 3))) (members []) ∷ []) _ _ refl refl; told = differ (λ l. getD (answer l 2 .line) 0 0) _ _ refl },
-  record { started = refl; alike = through (arriving ∷ storing ∷ restarting 0 (true ∷ replicate 15 false) ∷ listing ∷ []) _ _ refl refl; told = differ (λ l. getD (answer l 2 .deleted) 1 0) _ _ refl },
-  record { started = refl; alike = through (arriving ∷ storing ∷ restarting 2 [] ∷ listing ∷ []) _ _ refl refl; told = differ (λ l. orElse (answer l 2 .report .value) 0) _ _ refl },
+  record { started = refl; alike = through (asked 1 (made (send 0 1)) (room false 64) ∷ []) _ _ refl refl; differs = differ (λ l. answer l 0 .report .refused) _ _ refl },
+  record { started = refl; alike = through (asked 1 (made (send 0 1)) (room false 0) ∷ []) _ _ refl refl; differs = differ (λ l. orElse (answer l 0 .report .value) 0) _ _ refl },
+  record { started = refl; alike = through (asked 1 (made (deliver 1 (deletionList 3))) (arrival [] false) ∷ asked 1 (made (send 0 2)) (room false 1) ∷ asked 1 (made (deliver 3 (deletionList 3))) (arrival [] false) ∷ []) _ _ refl refl; differs = differ (λ l. orElse (answer l 2 .report .value) 0) _ _ refl },
+  record { started = refl; alike = through (asked 1 (made (lose 1)) (there false) ∷ []) _ _ refl refl; differs = differ (λ l. answer l 0 .report .refused) _ _ refl },
+  record { started = refl; alike = through (arriving ∷ storing ∷ asked 1 (made (line 2 (lineList 3))) (members []) ∷ []) _ _ refl refl; differs = differ (λ l. getD (answer l 2 .line) 0 0) _ _ refl },
+  record { started = refl; alike = through (arriving ∷ storing ∷ restarting 0 (true ∷ replicate 15 false) ∷ listing ∷ []) _ _ refl refl; differs = differ (λ l. getD (answer l 2 .deleted) 1 0) _ _ refl },
+  record { started = refl; alike = through (arriving ∷ storing ∷ restarting 2 [] ∷ listing ∷ []) _ _ refl refl; differs = differ (λ l. orElse (answer l 2 .report .value) 0) _ _ refl },
   through (listing ∷ []) _ _ refl refl,
 )
 

@@ -17,7 +17,7 @@ use Rattle.model.specs.declared.Interval.{Interval}
 use Rattle.model.specs.declared.Pin.{Pin}
 use Rattle.model.specs.declared.Pin.the-variants.{Nothing, At}
 use Rattle.model.specs.declared.Run.{Run}
-use Rattle.model.specs.Words.{mostProcesses, entry, below, liveIndex, named, Process, process, own, withMessages, withDisk}
+use Rattle.model.specs.Words.{mostProcesses, entry, below, liveIndex, isPinned, Process, process, own, withMessages, withDisk}
 use Rattle.model.specs.Steps.{advanced, states, member, rolledBack, vectorAfter, notLost, ownAfter, latestPin, movedPin, pinAfter, pinsAfter, recovered, recoverState}
 use Rattle.model.specs.Sound.{isNothing}
 use Rattle.model.proofs.simulation.Parts.{process-all, process-messages, process-disk, count-all}
@@ -84,7 +84,7 @@ module _ (s t : Run) (F G p : ℕ) (part : process s p ≡ process t p) (same : 
       vector-same
       pins
       (λ i. part i .mark && not (rolled-same i))
-      (λ i. select (named (pins i)) (not-lost-same i))
+      (λ i. select (isPinned (pins i)) (not-lost-same i))
 
 count-after : (u : Run) (H : ℕ) → recoverState u H .count ≡ u .count
 unfolding recoverState withDisk withMessages

@@ -167,7 +167,7 @@ begun x = consoleStart operator 3 (pairOf x .sizes) .run
 pub record Real (x : LeakName) : Type 0 where
   pub started : consoleStart operator 3 (pairOf x .sizes) .answer ≡ Started
   pub alike : map (hidden x) (exposed 1 (begun x) (pairOf x .one)) ≡ map (hidden x) (exposed 1 (begun x) (pairOf x .another))
-  pub told : seen 1 (begun x) (pairOf x .one) ≡ seen 1 (begun x) (pairOf x .another) → ⊥
+  pub differs : seen 1 (begun x) (pairOf x .one) ≡ seen 1 (begun x) (pairOf x .another) → ⊥
 
 unfoldable pub EveryLeakIsReal : Type 0
 EveryLeakIsReal = (x : LeakName) → Real x

@@ -12,15 +12,15 @@ use Rattle.whole_runs.specs.Listing.{lineText, refusalText}
 use Rattle.whole_runs.proofs.Sizes.{Small, small-refused}
 use Rattle.listing.specs.declared.Summary.{Summary}
 use Rattle.listing.specs.Lines.{replyOf, refusalLine, longestLine}
-use Rattle.listing.specs.Said.{reportIn}
+use Rattle.listing.specs.Summarised.{reportIn}
 use Rattle.listing.proofs.Bounds.{line-length}
 use Rattle.listing.proofs.Texts.{refused-line}
 
 -- No line of small numbers is longer than the longest.
-pub line-fits : (said : Summary) (deleted : List ℕ) (k : ℕ) → Small (reportIn said) → k ≤ 1000000000 → ((j : ℕ) → getD deleted j 0 < 65536)
-    → length (lineText k (replyOf said deleted)) ≤ longestLine
+pub line-fits : (summary : Summary) (deleted : List ℕ) (k : ℕ) → Small (reportIn summary) → k ≤ 1000000000 → ((j : ℕ) → getD deleted j 0 < 65536)
+    → length (lineText k (replyOf summary deleted)) ≤ longestLine
 unfolding reportIn replyOf
-line-fits said deleted k h few entries = line-length k (replyOf said deleted) few (omega (arith, h .refused)) (h .value) (h .deletions) entries
+line-fits summary deleted k h few entries = line-length k (replyOf summary deleted) few (omega (arith, h .refused)) (h .value) (h .deletions) entries
 
 -- The line of a refusal, which fits too.
 pub refusal-line : (why : Refusal) (k : ℕ) → refusalText k why ≡ refusalLine k (number why)

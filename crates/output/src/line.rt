@@ -8,14 +8,14 @@ ghost use Rattle.whole_runs.specs.Listing.{lineText, refusalText, goesOn, mostR
 ghost use Rattle.listing.specs.Lines.{replyOf, longestLine};
 ghost use Rattle.listing.specs.Printed.{Printed};
 ghost use Rattle.whole_runs.proofs.Sizes.{Small};
-ghost use Rattle.listing.specs.Said.{reportIn};
+ghost use Rattle.listing.specs.Summarised.{reportIn};
 
 // A line whose numbers are small.
-pub fn print(said: Summary, deleted: &[u16], number: u64, out: &mut [u8], at: usize) -> usize
-    requires { ⌜ Small (reportIn said) × (2 * said .deletions ≤ length (now deleted)) × (number ≤ mostRecords) × (at + longestLine ≤ length (now out)) ⌝ }
-    ensures { λ r. ⌜ Printed (now (out .entry)) at (lineText number (replyOf said (now (deleted .entry)))) (now (out .exit)) r × (r ≤ length (now (out .entry))) ⌝ }
+pub fn print(summary: Summary, deleted: &[u16], number: u64, out: &mut [u8], at: usize) -> usize
+    requires { ⌜ Small (reportIn summary) × (2 * summary .deletions ≤ length (now deleted)) × (number ≤ mostRecords) × (at + longestLine ≤ length (now out)) ⌝ }
+    ensures { λ r. ⌜ Printed (now (out .entry)) at (lineText number (replyOf summary (now (deleted .entry)))) (now (out .exit)) r × (r ≤ length (now (out .entry))) ⌝ }
 {
-    listing::write_line(out, at, number, said, deleted)
+    listing::write_line(out, at, number, summary, deleted)
 }
 
 // The line of a refusal that belongs to the trace and to no call.

@@ -12,7 +12,7 @@ use Rattle.laws.specs.Choice.{by-bool, by-eq}
 use Rattle.histories.specs.History.{HistoryEvent, stored, sent, received, Lists, checkpoints}
 use Rattle.patterns.specs.Paths.{eventAt, interval, placeOf, Precedes, next, message, through, Before}
 use Rattle.patterns.proofs.Core.{Vectors, higher}
-use Rattle.patterns.proofs.Placing.{stands-at, interval-before, interval-behind, place-stored, place-le, place-rises, place-in, along}
+use Rattle.patterns.proofs.Placing.{stands-at, interval-before, interval-after, place-stored, place-le, place-rises, place-in, along}
 
 -- What the proof uses besides the vectors: receipts before a send are carried by it, and what is carried or known of another process was received before.
 pub record Sources (lists : Lists) (v : Vectors lists) : Type 0 where
@@ -54,7 +54,7 @@ module _ (lists : Lists) (v : Vectors lists) (s : Sources lists v) (a α : ℕ) 
       let here : eventAt (lists a) j ≡ some (sent m) = rw (w .0) at e in
       by-eq (placeOf α (lists a)) j
       (λ c. absurd (sent-or-stored m here (rw c at (place-stored (lists a) α near))))
-      (λ ne. omega (arith, interval-behind (lists a) j α near (omega (arith, w .1)), v .sends a (interval (lists a) j) m (stands-at (lists a) j (sent m) here)))
+      (λ ne. omega (arith, interval-after (lists a) j α near (omega (arith, w .1)), v .sends a (interval (lists a) j) m (stands-at (lists a) j (sent m) here)))
   carries q j m e (inr (x, i, r, le, lt)) = by-eq i j
       (λ c. absurd (sent-or-received m x e (rw c at r)))
       (λ ne. omega (arith, lt, s .ordered q j i m x a r e (omega arith)))
@@ -67,21 +67,21 @@ module _ (lists : Lists) (v : Vectors lists) (s : Sources lists v) (a α : ℕ) 
   onto q j r k (through {q = t} {j = u} x y) h = onto t u r k y (has t u (onto q j t u x h))
 
   -- What a state's place knows, its vector says.
-  told : (b β : ℕ) → β ≤ checkpoints (lists b) → Knows b (placeOf β (lists b)) → α < v .vector b β a
+  learnt : (b β : ℕ) → β ≤ checkpoints (lists b) → Knows b (placeOf β (lists b)) → α < v .vector b β a
   unfolding Knows
-  told b β far (inl (e, lt)) =
+  learnt b β far (inl (e, lt)) =
       let same : v .vector b β a ≡ v .vector a β a = ap (λ (q : ℕ). v .vector q β a) e in
       let inside : β ≤ checkpoints (lists a) = rw e at far in
       let later : placeOf α (lists a) < placeOf β (lists a) = omega (arith, lt, ap (λ (q : ℕ). placeOf β (lists q)) e) in
-      omega (arith, same, v .self a β inside, interval-behind (lists a) (placeOf β (lists a)) α near later, interval-before (lists a) (placeOf β (lists a)) β (omega arith))
-  told b β far (inr (m, i, e, le, c)) =
+      omega (arith, same, v .self a β inside, interval-after (lists a) (placeOf β (lists a)) α near later, interval-before (lists a) (placeOf β (lists a)) β (omega arith))
+  learnt b β far (inr (m, i, e, le, c)) =
       let g = interval (lists b) i in
       let low = interval-before (lists b) i β le in
       omega (arith, c, v .takes b g m a (stands-at (lists b) i (received m) e), higher lists v b g β a low far)
 
   pub entry-by : (b β : ℕ) → β ≤ checkpoints (lists b) → Before lists a α b β → α < v .vector b β a
   unfolding Has
-  entry-by b β far w = told b β far (onto a (placeOf α (lists a)) b (placeOf β (lists b)) w (inl (refl, omega arith)))
+  entry-by b β far w = learnt b β far (onto a (placeOf α (lists a)) b (placeOf β (lists b)) w (inl (refl, omega arith)))
 
   -- A message that carries the near end was sent after it, or after the receipt of a message that does: so its receipt comes after the near end.
   from-carried : (bound m q j : ℕ) → m < bound → eventAt (lists q) j ≡ some (received m) → α < v .carried m a → Precedes lists a (placeOf α (lists a)) q j

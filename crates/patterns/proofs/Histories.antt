@@ -100,9 +100,9 @@ reached-trackable n s h r v =
 
 pub histories-are-trackable : HistoriesAreTrackable
 unfolding HistoriesAreTrackable surviving
-histories-are-trackable n counts ok calls =
-    reached-trackable n (stateAfter (startOutcome n counts .run) calls) (surviving n counts (transcript (startOutcome n counts .run) calls)) (runAfter (begun n counts) calls)
-    (reachable-reached n counts ok calls)
+histories-are-trackable n blockCounts ok calls =
+    reached-trackable n (stateAfter (startOutcome n blockCounts .run) calls) (surviving n blockCounts (transcript (startOutcome n blockCounts .run) calls)) (runAfter (begun n blockCounts) calls)
+    (reachable-reached n blockCounts ok calls)
 
 -- Document 01's `comesBefore`, on the vectors that a state of the run holds, is causal precedence in the surviving history.
 module _ (n : ℕ) (s : Run) (h : Surviving) (v : EntriesAreRight n s h) (f a p : ℕ) (hf : f < n) (near : a < checkpoints (h .lists f)) (hp : p < n) where

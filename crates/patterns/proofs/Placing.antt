@@ -38,14 +38,14 @@ interval-before (stored ∷ l) (suc i) (suc k) h = omega (arith, interval-before
 interval-before (sent m ∷ l) (suc i) k h = interval-before l i k (omega arith)
 interval-before (received m ∷ l) (suc i) k h = interval-before l i k (omega arith)
 
-pub interval-behind : (l : List HistoryEvent) (i k : ℕ) → k < checkpoints l → placeOf k l < i → k < interval l i
+pub interval-after : (l : List HistoryEvent) (i k : ℕ) → k < checkpoints l → placeOf k l < i → k < interval l i
 unfolding interval placeOf checkpoints
-interval-behind [] i k c h = absurd (omega arith)
-interval-behind (x ∷ l) zero k c h = absurd (omega arith)
-interval-behind (stored ∷ l) (suc i) zero c h = omega arith
-interval-behind (stored ∷ l) (suc i) (suc k) c h = omega (arith, interval-behind l i k (omega arith) (omega arith))
-interval-behind (sent m ∷ l) (suc i) k c h = interval-behind l i k c (omega arith)
-interval-behind (received m ∷ l) (suc i) k c h = interval-behind l i k c (omega arith)
+interval-after [] i k c h = absurd (omega arith)
+interval-after (x ∷ l) zero k c h = absurd (omega arith)
+interval-after (stored ∷ l) (suc i) zero c h = omega arith
+interval-after (stored ∷ l) (suc i) (suc k) c h = omega (arith, interval-after l i k (omega arith) (omega arith))
+interval-after (sent m ∷ l) (suc i) k c h = interval-after l i k c (omega arith)
+interval-after (received m ∷ l) (suc i) k c h = interval-after l i k c (omega arith)
 
 -- The place of a checkpoint holds a checkpoint, that of the live state no event.
 pub place-stored : (l : List HistoryEvent) (k : ℕ) → k < checkpoints l → eventAt l (placeOf k l) ≡ some stored

@@ -21,7 +21,7 @@ use Rattle.patterns.specs.Paths.{eventAt, interval, StandsIn, placeOf, B
 use Rattle.patterns.proofs.Core.{Crossing}
 use Rattle.patterns.proofs.Causal.{by-entry, entry-by}
 use Rattle.patterns.proofs.First.{trackable}
-use Rattle.patterns.proofs.Placing.{interval-behind, place-stored, place-end, place-in, interval-le}
+use Rattle.patterns.proofs.Placing.{interval-after, place-stored, place-end, place-in, interval-le}
 use Rattle.patterns.proofs.Trail.{Trail, own, Right}
 use Rattle.patterns.proofs.Facts.{interval-rises, vectors, sources}
 
@@ -93,7 +93,7 @@ in-time l j x k e le far = by-bool (ltb j (placeOf k l))
     (λ c. absurd (omega (arith, place-end l k (omega arith), place-in l j (received x) e)))
     (λ nc. by-eq (placeOf k l) j
     (λ d. absurd (received-stored x e (rw d at (place-stored l k (omega arith)))))
-    (λ nd. absurd (omega (arith, interval-behind l j k (omega arith) (omega arith))))))
+    (λ nd. absurd (omega (arith, interval-after l j k (omega arith) (omega arith))))))
 
 module _ (r : Ideal) (v : Inv r) (w : Sources r) where
   unfoldable pub trailOf : Trail

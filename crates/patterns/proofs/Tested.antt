@@ -16,7 +16,7 @@ use Rattle.laws.specs.Search.{any-out, any-in}
 use Rattle.histories.specs.History.{HistoryEvent, stored, sent, received, Lists, checkpoints}
 use Rattle.patterns.specs.Paths.{eventAt, interval, placeOf, Path, one, onward, Zigzag, Precedes, next, message, through, Before}
 use Rattle.patterns.specs.Judging.{isSend, isReceipt, sentWhere, receivedWhere, sentAfter, sentOnward, sentLater, receivedBefore, isLast, connects, hasZigzag, isBefore}
-use Rattle.patterns.proofs.Placing.{stands-at, interval-before, interval-behind, place-stored, place-le, place-end, place-rises, place-in, along}
+use Rattle.patterns.proofs.Placing.{stands-at, interval-before, interval-after, place-stored, place-le, place-end, place-rises, place-in, along}
 use Rattle.patterns.proofs.Causal.{sent-or-received, sent-or-stored, received-or-stored}
 use Rattle.patterns.proofs.Sequences.{last-none, last-out, begun, closed}
 
@@ -79,7 +79,7 @@ before-state l β j m far r le = by-bool (ltb j (placeOf β l))
     (λ c. absurd (omega (arith, late, place-end l β (omega arith), place-in l j (received m) r)))
     (λ ne. by-eq j (placeOf β l)
     (λ c. absurd (received-or-stored m r (rw (← c) at (place-stored l β (omega arith)))))
-    (λ other. absurd (omega (arith, le, interval-behind l j β (omega arith) (omega arith))))))
+    (λ other. absurd (omega (arith, le, interval-after l j β (omega arith) (omega arith))))))
 
 -- Every message of the lists has a number that is searched, and every process of one is among n.
 pub record Numbered (n sends : ℕ) (lists : Lists) : Type 0 where
@@ -249,7 +249,7 @@ module _ (n sends : ℕ) (lists : Lists) (w : Numbered n sends lists) where
           let here : eventAt (lists a) j ≡ some (sent m) = rw (u .0) at e in
           by-eq (placeOf α (lists a)) j
           (λ c. absurd (sent-or-stored m here (rw c at (place-stored (lists a) α near))))
-          (λ ne. begun (suc sends) (sentAfter lists a α) (sentLater n lists) m (w .sent-by q j m e .1) (after-in m j here (interval-behind (lists a) j α near (omega (arith, u .1, ne)))))
+          (λ ne. begun (suc sends) (sentAfter lists a α) (sentLater n lists) m (w .sent-by q j m e .1) (after-in m j here (interval-after (lists a) j α near (omega (arith, u .1, ne)))))
       carries q j m e (inr (x, i, r, le, c)) = by-eq i j
           (λ d. absurd (sent-or-received m x e (rw d at r)))
           (λ ne. closed (suc sends) (sentAfter lists a α) (sentLater n lists) x m (w .received-by q i x r .1) (w .sent-by q j m e .1) c (later-in x m q i j r e (omega arith)))
@@ -261,14 +261,14 @@ module _ (n sends : ℕ) (lists : Lists) (w : Numbered n sends lists) where
       onto q j r k (message {m = m} d e) h = inr (m, k, e, omega arith, carries q j m d h)
       onto q j r k (through {q = t} {j = u} x y) h = onto t u r k y (has t u (onto q j t u x h))
 
-      told : (b β : ℕ) → Knows b (placeOf β (lists b)) → isBefore n sends lists a α b β ≡ true
+      learnt : (b β : ℕ) → Knows b (placeOf β (lists b)) → isBefore n sends lists a α b β ≡ true
       unfolding Knows isBefore
-      told b β (inl (e, lt)) =
+      learnt b β (inl (e, lt)) =
           let later : placeOf α (lists a) < placeOf β (lists a) = omega (arith, lt, ap (λ (q : ℕ). placeOf β (lists q)) e) in
-          let above : α < β = omega (arith, interval-behind (lists a) (placeOf β (lists a)) α near later, interval-before (lists a) (placeOf β (lists a)) β (omega arith)) in
+          let above : α < β = omega (arith, interval-after (lists a) (placeOf β (lists a)) α near later, interval-before (lists a) (placeOf β (lists a)) β (omega arith)) in
           or-left (eqb a b && ltb α β) _ (and-both (eqb a b) (ltb α β) (eq-eqb a b (sym e)) (lt-ltb α β above))
-      told b β (inr (m, i, r, le, c)) = or-in-right (eqb a b && ltb α β) _ (ends-in b β (sentLater n lists) m i c r (interval-before (lists b) i β le))
+      learnt b β (inr (m, i, r, le, c)) = or-in-right (eqb a b && ltb α β) _ (ends-in b β (sentLater n lists) m i c r (interval-before (lists b) i β le))
 
       pub before-in : (b β : ℕ) → Before lists a α b β → isBefore n sends lists a α b β ≡ true
       unfolding Has
-      before-in b β p = told b β (onto a (placeOf α (lists a)) b (placeOf β (lists b)) p (inl (refl, omega arith)))
+      before-in b β p = learnt b β (onto a (placeOf α (lists a)) b (placeOf β (lists b)) p (inl (refl, omega arith)))

@@ -37,7 +37,7 @@ pub record EntriesAreRight (n : ℕ) (s : Run) (h : Surviving) : Type 0 where
 
 -- For every accepted start and every list of calls, recoveries and sweeps included, from the state that it returned.
 unfoldable pub HistoriesAreTrackable : Type 0
-HistoriesAreTrackable = (n : ℕ) (counts : List ℕ) → startRefusal n counts ≡ none → (calls : List Call) →
-    let s₀ = startOutcome n counts .run in
-    let h = surviving n counts (transcript s₀ calls) in
+HistoriesAreTrackable = (n : ℕ) (blockCounts : List ℕ) → startRefusal n blockCounts ≡ none → (calls : List Call) →
+    let s₀ = startOutcome n blockCounts .run in
+    let h = surviving n blockCounts (transcript s₀ calls) in
     Trackable n (h .lists) × AllUseful n (h .lists) × EntriesAreRight n (stateAfter s₀ calls) h

@@ -18,14 +18,14 @@ use Rattle.laws.specs.Tests.{some-of}
 use Rattle.laws.specs.Written.{sets-two}
 use Rattle.model.specs.declared.Checkpoint.{Checkpoint}
 use Rattle.model.specs.declared.Pin.{Pin}
-use Rattle.model.specs.Words.{names, named}
+use Rattle.model.specs.Words.{names, isPinned}
 use Rattle.model.specs.Steps.{listed}
 use Rattle.whole_runs.specs.Outcomes.{pairs}
 use Rattle.words.specs.Layout.{word, blocksAt, indexAt, causeAt, storedAt, indexOf, checkpointIn}
 use Rattle.words.specs.Puts.{puts}
 use Rattle.words.proofs.Reading.{puts-length, untouched, touched}
 use Rattle.words.proofs.Same.{row-word, checkpoint-moved}
-use Rattle.process_words.specs.Kept.{clearedPuts, movedPuts, movedUp, Used, AllNamed, OnlyKept, SamePlace, ZeroPlace, Cleared, Split, Collected}
+use Rattle.process_words.specs.Kept.{clearedPuts, movedPuts, movedUp, Used, AllPinned, OnlyKept, SamePlace, ZeroPlace, Cleared, Split, Collected}
 
 pub kept-stays : (w : List ℕ) (p : ℕ) → OnlyKept w p w
 kept-stays w p = record { size = refl; lower = λ q a. refl; upper = λ q a. refl }
@@ -44,9 +44,9 @@ pub same-checkpoint : (w v : List ℕ) (p k j : ℕ) → p < 16 → OnlyKept w p
 same-checkpoint w v p k j room only same = checkpoint-moved v w p p j k (same .index) (same .cause) (only .lower (blocksAt p) (omega arith)) (same .vector)
 
 -- Whether a pin names a checkpoint, by the word of its index.
-pub named-is : (w : List ℕ) (p k : ℕ) (pins : List Pin) → named pins (checkpointIn w p k) ≡ some-of (λ pin. names pin (indexOf (word w (indexAt p k)))) pins
-unfolding named checkpointIn
-named-is w p k pins = refl
+pub pinned-is : (w : List ℕ) (p k : ℕ) (pins : List Pin) → isPinned pins (checkpointIn w p k) ≡ some-of (λ pin. names pin (indexOf (word w (indexAt p k)))) pins
+unfolding isPinned checkpointIn
+pinned-is w p k pins = refl
 
 pub index-is : (w : List ℕ) (p k : ℕ) → checkpointIn w p k .index ≡ indexOf (word w (indexAt p k))
 unfolding checkpointIn
@@ -94,9 +94,9 @@ cleared-none w p from = record {
   after = λ k le lt. place-stays w p k;
 }
 
-pub cleared-turn : (w : List ℕ) (p from k : ℕ) (v u : List ℕ) → length w ≡ 6464 → p < 16 → from ≤ k → k < 16 → Cleared w p from k v → u ≡ puts v (clearedPuts p k)
+pub cleared-step : (w : List ℕ) (p from k : ℕ) (v u : List ℕ) → length w ≡ 6464 → p < 16 → from ≤ k → k < 16 → Cleared w p from k v → u ≡ puts v (clearedPuts p k)
     → Cleared w p from (k + 1) u
-cleared-turn w p from k v u size room le lt h e = rw e
+cleared-step w p from k v u size room le lt h e = rw e
     (let long : length v ≡ 6464 = h .only .size ∙ size in
     let y = puts v (clearedPuts p k) in
     record {
@@ -157,12 +157,12 @@ module _ {A : Type 0} (t : A → Bool) (n : ℕ) (f : ℕ → A) where
 
 module _ (w : List ℕ) (size : length w ≡ 6464) (p : ℕ) (room : p < 16) (pins : List Pin) where
   -- Where a pin names each of the first ones, they stay where they are.
-  pub split-first : (from held : ℕ) → from ≤ held → held ≤ 16 → Used w p held → AllNamed w p pins from → Split w p from pins w from
-  unfolding AllNamed Used
-  split-first from held le most used all = record {
+  pub split-first : (from keptCount : ℕ) → from ≤ keptCount → keptCount ≤ 16 → Used w p keptCount → AllPinned w p pins from → Split w p from pins w from
+  unfolding AllPinned Used
+  split-first from keptCount le most used all = record {
     only = kept-stays w p;
     most = omega arith;
-    front = sym (all-chosen (named pins) (table from (checkpointIn w p)) (every-table (named pins) from (checkpointIn w p) all));
+    front = sym (all-chosen (isPinned pins) (table from (checkpointIn w p)) (every-table (isPinned pins) from (checkpointIn w p) all));
     used = λ k lt. used k (omega arith);
     after = λ k a b. place-stays w p k;
   }
@@ -177,16 +177,16 @@ module _ (w : List ℕ) (size : length w ≡ 6464) (p : ℕ) (room : p < 16) (pi
     pub index-there : word v (indexAt p k) ≡ word w (indexAt p k)
     index-there = h .after k (omega arith) lt .index
 
-    pub split-stays : named pins (checkpointIn w p k) ≡ false → Split w p (k + 1) pins v to
+    pub split-stays : isPinned pins (checkpointIn w p k) ≡ false → Split w p (k + 1) pins v to
     split-stays e = record {
       only = h .only;
       most = omega (arith, h .most);
-      front = h .front ∙ sym (chosen-less (named pins) k (checkpointIn w p) e);
+      front = h .front ∙ sym (chosen-less (isPinned pins) k (checkpointIn w p) e);
       used = h .used;
       after = λ j low less. h .after j (omega arith) less;
     }
 
-    module _ (some : 1 ≤ word w (indexAt p k)) (e : named pins (checkpointIn w p k) ≡ true) where
+    module _ (some : 1 ≤ word w (indexAt p k)) (e : isPinned pins (checkpointIn w p k) ≡ true) where
       abbrev u : List ℕ
       u = movedUp v p k to
 
@@ -199,12 +199,12 @@ module _ (w : List ℕ) (size : length w ≡ 6464) (p : ℕ) (room : p < 16) (pi
       other : (j : ℕ) → j < to → checkpointIn u p j ≡ checkpointIn v p j
       other j less = same-checkpoint v u p j j room (move-only v long p k to room lt small) (move-other v long p k to room lt small j (omega arith) (λ q. omega arith))
 
-      front-then : table (to + 1) (checkpointIn u p) ≡ select (named pins) (table (k + 1) (checkpointIn w p))
+      front-then : table (to + 1) (checkpointIn u p) ≡ select (isPinned pins) (table (k + 1) (checkpointIn w p))
       unfolding table
       front-then = rw (add-one to)
           (ap (λ (l : List Checkpoint). l ++ (checkpointIn u p to ∷ [])) (table-same to (checkpointIn u p) (checkpointIn v p) other ∙ h .front)
-          ∙ ap (λ (c : Checkpoint). select (named pins) (table k (checkpointIn w p)) ++ (c ∷ [])) there
-          ∙ sym (chosen-more (named pins) k (checkpointIn w p) e))
+          ∙ ap (λ (c : Checkpoint). select (isPinned pins) (table k (checkpointIn w p)) ++ (c ∷ [])) there
+          ∙ sym (chosen-more (isPinned pins) k (checkpointIn w p) e))
 
       pub split-moves : Split w p (k + 1) pins u (to + 1)
       unfolding Used
@@ -219,9 +219,9 @@ module _ (w : List ℕ) (size : length w ≡ 6464) (p : ℕ) (room : p < 16) (pi
       }
 
   -- Then the places between are cleared.
-  pub collected : (held : ℕ) (v u : List ℕ) (to : ℕ) → held ≤ 16 → Split w p held pins v to → Cleared v p to held u → Collected w p held pins u to
+  pub collected : (keptCount : ℕ) (v u : List ℕ) (to : ℕ) → keptCount ≤ 16 → Split w p keptCount pins v to → Cleared v p to keptCount u → Collected w p keptCount pins u to
   unfolding Used
-  collected held v u to most s c = record {
+  collected keptCount v u to most s c = record {
     only = kept-then w v u p (s .only) (c .only);
     most = s .most;
     front = table-same to (checkpointIn u p) (checkpointIn v p) (λ j less. same-checkpoint v u p j j room (c .only) (c .before j less)) ∙ s .front;
@@ -250,27 +250,27 @@ pairs-length p [] = refl
 pairs-length p (c ∷ l) = rw (pairs-length p l) (omega arith)
 
 module _ (w : List ℕ) (p : ℕ) (pins : List Pin) where
-  abbrev pub unnamed : ℕ → List Checkpoint
-  unnamed n = select (λ c. not (named pins c)) (table n (checkpointIn w p))
+  abbrev pub unpinned : ℕ → List Checkpoint
+  unpinned n = select (λ c. not (isPinned pins c)) (table n (checkpointIn w p))
 
-  pub unnamed-none : (from : ℕ) → AllNamed w p pins from → unnamed from ≡ []
-  unfolding AllNamed
-  unnamed-none from all = none-chosen (named pins) (table from (checkpointIn w p)) (every-table (named pins) from (checkpointIn w p) all)
+  pub unpinned-none : (from : ℕ) → AllPinned w p pins from → unpinned from ≡ []
+  unfolding AllPinned
+  unpinned-none from all = none-chosen (isPinned pins) (table from (checkpointIn w p)) (every-table (isPinned pins) from (checkpointIn w p) all)
 
   module _ (k : ℕ) where
-    pub unnamed-same : named pins (checkpointIn w p k) ≡ true → unnamed (k + 1) ≡ unnamed k
-    unnamed-same e = chosen-less (λ c. not (named pins c)) k (checkpointIn w p) (ap not e)
+    pub unpinned-same : isPinned pins (checkpointIn w p k) ≡ true → unpinned (k + 1) ≡ unpinned k
+    unpinned-same e = chosen-less (λ c. not (isPinned pins c)) k (checkpointIn w p) (ap not e)
 
-    module _ (e : named pins (checkpointIn w p k) ≡ false) where
-      more : unnamed (k + 1) ≡ unnamed k ++ (checkpointIn w p k ∷ [])
-      more = chosen-more (λ c. not (named pins c)) k (checkpointIn w p) (ap not e)
+    module _ (e : isPinned pins (checkpointIn w p k) ≡ false) where
+      more : unpinned (k + 1) ≡ unpinned k ++ (checkpointIn w p k ∷ [])
+      more = chosen-more (λ c. not (isPinned pins c)) k (checkpointIn w p) (ap not e)
 
-      pub one-more : length (unnamed (k + 1)) ≡ length (unnamed k) + 1
-      one-more = ap length more ∙ length-append (unnamed k) (checkpointIn w p k ∷ [])
+      pub one-more : length (unpinned (k + 1)) ≡ length (unpinned k) + 1
+      one-more = ap length more ∙ length-append (unpinned k) (checkpointIn w p k ∷ [])
 
-      pub pair-more : (l₀ l : List ℕ) (at next : ℕ) → l ≡ sets l₀ at (pairs (listed p (unnamed k))) → next ≡ at + 2 * length (unnamed k)
-          → set (set l next p) (next + 1) (checkpointIn w p k .index .0) ≡ sets l₀ at (pairs (listed p (unnamed (k + 1))))
+      pub pair-more : (l₀ l : List ℕ) (at next : ℕ) → l ≡ sets l₀ at (pairs (listed p (unpinned k))) → next ≡ at + 2 * length (unpinned k)
+          → set (set l next p) (next + 1) (checkpointIn w p k .index .0) ≡ sets l₀ at (pairs (listed p (unpinned (k + 1))))
       pair-more l₀ l at next so-far place =
-          sets-two l₀ l at next (pairs (listed p (unnamed k))) so-far (omega (arith, place, pairs-length p (unnamed k))) p (checkpointIn w p k .index .0)
-          ∙ ap (λ (r : List ℕ). sets l₀ at r) (sym (pairs-one p (unnamed k) (checkpointIn w p k)))
+          sets-two l₀ l at next (pairs (listed p (unpinned k))) so-far (omega (arith, place, pairs-length p (unpinned k))) p (checkpointIn w p k .index .0)
+          ∙ ap (λ (r : List ℕ). sets l₀ at r) (sym (pairs-one p (unpinned k) (checkpointIn w p k)))
           ∙ ap (λ (r : List Checkpoint). sets l₀ at (pairs (listed p r))) (sym more)

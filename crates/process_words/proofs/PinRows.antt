@@ -43,9 +43,9 @@ unfolding anyBelow
 any-same zero t u e = refl
 any-same (suc n) t u e = rw (e n, any-same n t u e)
 
-pub named-row : (r : List ℕ) (y : ℕ) → 1 ≤ y → some-of (λ pin. names pin (indexOf y)) (pinRow r) ≡ anyBelow 16 (λ f. eqb (getD r f 0) y)
+pub pinned-row : (r : List ℕ) (y : ℕ) → 1 ≤ y → some-of (λ pin. names pin (indexOf y)) (pinRow r) ≡ anyBelow 16 (λ f. eqb (getD r f 0) y)
 unfolding pinRow
-named-row r y some = some-table (λ pin. names pin (indexOf y)) 16 (λ f. pinOf (getD r f 0)) ∙ any-same 16 _ _ (λ f. names-word (getD r f 0) y some)
+pinned-row r y some = some-table (λ pin. names pin (indexOf y)) 16 (λ f. pinOf (getD r f 0)) ∙ any-same 16 _ _ (λ f. names-word (getD r f 0) y some)
 
 pub row-length : (r : List ℕ) → length (pinRow r) ≡ 16
 unfolding pinRow

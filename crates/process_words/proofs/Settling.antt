@@ -17,18 +17,18 @@ use Rattle.model.specs.declared.Checkpoint.{Checkpoint}
 use Rattle.model.specs.declared.CheckpointIndex.{CheckpointIndex}
 use Rattle.model.specs.declared.Disk.{Disk}
 use Rattle.model.specs.declared.Pin.{Pin}
-use Rattle.model.specs.Words.{named}
+use Rattle.model.specs.Words.{isPinned}
 use Rattle.model.specs.Steps.{billed}
 use Rattle.receipts.specs.Receipt.{keptThen}
 use Rattle.words.specs.Clean.{CleanKept}
 use Rattle.words.specs.Frames.{OnlyProcess, OnlyDisk}
-use Rattle.words.specs.Layout.{word, wide4, heldAt, markAt, blocksAt, partAt, pinsAt, indexAt, causeAt, storedAt, indexOf, pinOf, vectorIn, pinsIn, markIn, checkpointIn}
+use Rattle.words.specs.Layout.{word, wide4, keptCountAt, markAt, blocksAt, partAt, pinsAt, indexAt, causeAt, storedAt, indexOf, pinOf, vectorIn, pinsIn, markIn, checkpointIn}
 use Rattle.words.specs.Parts.{processIn}
 use Rattle.words.specs.Puts.{Put, puts, one, rowPut}
 use Rattle.words.proofs.Reading.{puts-length, untouched, touched, set-is-put, index-back}
 use Rattle.words.proofs.Same.{vector-same, vector-is, checkpoint-moved}
 use Rattle.words.proofs.View.{kept-table}
-use Rattle.process_words.specs.Kept.{storedPuts, Used, AllNamed, SamePlace, ZeroPlace, Collected}
+use Rattle.process_words.specs.Kept.{storedPuts, Used, AllPinned, SamePlace, ZeroPlace, Collected}
 use Rattle.process_words.specs.Moves.{diskIn, Moves}
 use Rattle.process_words.specs.Pins.{pinRow}
 use Rattle.process_words.specs.Steps.{storedIn, placesOf, settledPart}
@@ -64,12 +64,12 @@ module _ (w : List ℕ) (size : length w ≡ 6464) (i : ℕ) (room : i < 16) (r 
   unfolding Used
   pinned-used n most used k lt = omega (arith, used k lt, pinned-high (indexAt i k) (omega arith))
 
-  pub pinned-named : (pins : List Pin) (n : ℕ) → n ≤ 16 → AllNamed w i pins n → AllNamed pinned i pins n
-  unfolding AllNamed
-  pinned-named pins n most all k lt = ap (named pins) (pinned-checkpoint k (omega arith)) ∙ all k lt
+  pub pinned-still : (pins : List Pin) (n : ℕ) → n ≤ 16 → AllPinned w i pins n → AllPinned pinned i pins n
+  unfolding AllPinned
+  pinned-still pins n most all k lt = ap (isPinned pins) (pinned-checkpoint k (omega arith)) ∙ all k lt
 
-  -- Then it is collected, `stay` of `held` stay, and what follows leaves x of them.
-  module _ (held : ℕ) (is : held ≡ word w (heldAt i)) (most : held ≤ 16) (v : List ℕ) (stay : ℕ) (c : Collected pinned i held (pinRow r) v stay) where
+  -- Then it is collected, `stay` of `keptCount` stay, and what follows leaves x of them.
+  module _ (keptCount : ℕ) (is : keptCount ≡ word w (keptCountAt i)) (most : keptCount ≤ 16) (v : List ℕ) (stay : ℕ) (c : Collected pinned i keptCount (pinRow r) v stay) where
     v-low : (q : ℕ) → q < 80 + 320 * i → word v q ≡ word w q
     v-low q less = c .only .lower q (omega arith) ∙ pinned-low q less
 
@@ -82,15 +82,15 @@ module _ (w : List ℕ) (size : length w ≡ 6464) (i : ℕ) (room : i < 16) (r 
     pub v-disk : (k : ℕ) → k < 12 → word v k ≡ word w k
     v-disk k lt = v-low k (omega arith)
 
-    front : table stay (checkpointIn v i) ≡ select (named (pinRow r)) (placesOf w i)
+    front : table stay (checkpointIn v i) ≡ select (isPinned (pinRow r)) (placesOf w i)
     unfolding placesOf
-    front = c .front ∙ ap (select (named (pinRow r))) (pinned-places held most ∙ ap (λ (n : ℕ). table n (checkpointIn w i)) is)
+    front = c .front ∙ ap (select (isPinned (pinRow r))) (pinned-places keptCount most ∙ ap (λ (n : ℕ). table n (checkpointIn w i)) is)
 
     pub record Then (u : List ℕ) (x : ℕ) (mark : Bool) (kept : List Checkpoint) : Type 0 where
       pub long : length u ≡ 6464
-      pub low : (q : ℕ) → q < 96 + 320 * i → (q ≡ heldAt i → ⊥) → (q ≡ markAt i → ⊥) → word u q ≡ word v q
+      pub low : (q : ℕ) → q < 96 + 320 * i → (q ≡ keptCountAt i → ⊥) → (q ≡ markAt i → ⊥) → word u q ≡ word v q
       pub high : (q : ℕ) → 384 + 320 * i ≤ q → word u q ≡ word v q
-      pub many : word u (heldAt i) ≡ x
+      pub many : word u (keptCountAt i) ≡ x
       pub marked : markIn u i ≡ mark
       pub after : (k : ℕ) → x ≤ k → k < 16 → SamePlace v i k u k
       pub used : Used u i x
@@ -123,7 +123,7 @@ module _ (w : List ℕ) (size : length w ≡ 6464) (i : ℕ) (room : i < 16) (r 
       place-clean : CleanKept w i → (k : ℕ) → x ≤ k → k < 16 → ZeroPlace u i k
       place-clean clean k low lt =
           let same = h .after k low lt in
-          by-lt k held
+          by-lt k keptCount
           (λ less. let z = c .zero k (omega arith) less in record { index = same .index ∙ z .index; cause = same .cause ∙ z .cause; vector = λ f small. same .vector f small ∙ z .vector f small })
           (λ more.
           let z = c .after k more lt in
@@ -145,7 +145,7 @@ module _ (w : List ℕ) (size : length w ≡ 6464) (i : ℕ) (room : i < 16) (r 
         between = u;
         process = process-then;
         part = part-then;
-        held = omega (arith, h .many);
+        «kept_count» = omega (arith, h .many);
         clean = clean-then;
         disk = disk;
         blocks = bill;
@@ -157,15 +157,15 @@ module _ (w : List ℕ) (size : length w ≡ 6464) (i : ℕ) (room : i < 16) (r 
     -- Nothing is stored: how many are kept is put.
     module _ where
       abbrev m : List Put
-      m = one (heldAt i) stay ∷ []
+      m = one (keptCountAt i) stay ∷ []
 
-      pub kept-only : Then (puts v m) stay (markIn w i) (select (named (pinRow r)) (placesOf w i))
+      pub kept-only : Then (puts v m) stay (markIn w i) (select (isPinned (pinRow r)) (placesOf w i))
       unfolding Used markIn
       kept-only = record {
         long = puts-length v m ∙ v-size;
         low = λ q less nh nm. untouched v m q (λ a b. nh (omega arith), tt);
         high = λ q more. untouched v m q (omega arith);
-        many = touched v m 0 0 (heldAt i) (omega arith, omega arith, omega (arith, v-size), tt);
+        many = touched v m 0 0 (keptCountAt i) (omega arith, omega arith, omega (arith, v-size), tt);
         marked = ap (λ (y : ℕ). not (eqb y 0)) (untouched v m (markAt i) (omega arith) ∙ v-low (markAt i) (omega arith));
         after = λ k low lt. stays k lt;
         used = λ k lt. omega (arith, c .used k lt, stays k (omega (arith, c .most)) .index);
@@ -183,7 +183,7 @@ module _ (w : List ℕ) (size : length w ≡ 6464) (i : ℕ) (room : i < 16) (r 
     -- A checkpoint is stored after those that stay, the mark is cleared, and how many are kept is put.
     module _ (index : CheckpointIndex) (cause : ℕ) (vector : List Interval) (long-vector : length vector ≡ 16) (place : stay < 16) where
       abbrev s : List Put
-      s = storedPuts i stay index cause vector ++ one (markAt i) 0 ∷ one (heldAt i) (stay + 1) ∷ []
+      s = storedPuts i stay index cause vector ++ one (markAt i) 0 ∷ one (keptCountAt i) (stay + 1) ∷ []
 
       abbrev y : List ℕ
       y = puts v s
@@ -217,21 +217,21 @@ module _ (w : List ℕ) (size : length w ≡ 6464) (i : ℕ) (room : i < 16) (r 
           let d : word y (causeAt i stay) ≡ cause = touched v s 1 0 (causeAt i stay) (omega arith, omega arith, omega (arith, v-size), omega arith) in
           λ j. record { index = a j; vector = b j; cause = d j; blocks = blocks-stay j }
 
-      table-stored : table (stay + 1) (checkpointIn y i) ≡ select (named (pinRow r)) (placesOf w i) ++ (storedIn w i index cause vector ∷ [])
+      table-stored : table (stay + 1) (checkpointIn y i) ≡ select (isPinned (pinRow r)) (placesOf w i) ++ (storedIn w i index cause vector ∷ [])
       unfolding table
       table-stored = ap (λ (n : ℕ). table n (checkpointIn y i)) (add-one stay)
           ∙ (ap (λ (q : List Checkpoint). q ++ (checkpointIn y i stay ∷ []))
           (table-same stay (checkpointIn y i) (checkpointIn v i)
           (λ k lt. let z = other k (omega arith) (λ e. omega arith) in checkpoint-moved y v i i k k (z .index) (z .cause) (untouched v s (blocksAt i) (omega arith)) (z .vector)) ∙ front)
-          ∙ ap (λ (q : Checkpoint). select (named (pinRow r)) (placesOf w i) ++ (q ∷ [])) stored-there)
+          ∙ ap (λ (q : Checkpoint). select (isPinned (pinRow r)) (placesOf w i) ++ (q ∷ [])) stored-there)
 
-      pub one-stored : Then y (stay + 1) false (select (named (pinRow r)) (placesOf w i) ++ (storedIn w i index cause vector ∷ []))
+      pub one-stored : Then y (stay + 1) false (select (isPinned (pinRow r)) (placesOf w i) ++ (storedIn w i index cause vector ∷ []))
       unfolding Used markIn
       one-stored = record {
         long = puts-length v s ∙ v-size;
         low = λ q less nh nm. untouched v s q (omega arith, (omega arith, (omega arith, (λ a b. nm (omega arith), (λ a b. nh (omega arith), tt)))));
         high = λ q more. untouched v s q (omega arith);
-        many = touched v s 4 0 (heldAt i) (omega arith, omega arith, omega (arith, v-size), tt);
+        many = touched v s 4 0 (keptCountAt i) (omega arith, omega arith, omega (arith, v-size), tt);
         marked = ap (λ (q : ℕ). not (eqb q 0)) (touched v s 3 0 (markAt i) (omega arith, omega arith, omega (arith, v-size), omega arith));
         after = λ k low lt. other k lt (λ e. omega arith);
         used = λ k lt. by-eq k stay
@@ -248,61 +248,61 @@ disk-same w u same = (
 )
 
 -- All of it: the pins are put, the process collected, the checkpoint stored if `stores`, how many are kept put, and the blocks billed.
-module _ (w : List ℕ) (size : length w ≡ 6464) (i : ℕ) (room : i < 16) (r : List ℕ) (p : List ℕ) (e : p ≡ pinned w size i room r) (held : ℕ) (is : held ≡ word w (heldAt i)) (most : held ≤ 16)
-    (v : List ℕ) (stay : ℕ) (c : Collected p i held (pinRow r) v stay) (index : CheckpointIndex) (cause : ℕ) (vector : List Interval) (long : length vector ≡ 16) where
-  there : Collected (pinned w size i room r) i held (pinRow r) v stay
+module _ (w : List ℕ) (size : length w ≡ 6464) (i : ℕ) (room : i < 16) (r : List ℕ) (p : List ℕ) (e : p ≡ pinned w size i room r) (keptCount : ℕ) (is : keptCount ≡ word w (keptCountAt i)) (most : keptCount ≤ 16)
+    (v : List ℕ) (stay : ℕ) (c : Collected p i keptCount (pinRow r) v stay) (index : CheckpointIndex) (cause : ℕ) (vector : List Interval) (long : length vector ≡ 16) where
+  there : Collected (pinned w size i room r) i keptCount (pinRow r) v stay
   there = rw e at c
 
   pub collected-size : length v ≡ 6464
-  collected-size = v-size w size i room r held is most v stay there
+  collected-size = v-size w size i room r keptCount is most v stay there
 
   abbrev pub storing-then : Bool → List ℕ
   storing-then stores = pick stores (puts v (storedPuts i stay index cause vector ++ one (markAt i) 0 ∷ [])) v
 
-  abbrev pub held-then : Bool → List ℕ
-  held-then stores = set (storing-then stores) (heldAt i) (stay + pick stores 1 0)
+  abbrev pub kept-count-then : Bool → List ℕ
+  kept-count-then stores = set (storing-then stores) (keptCountAt i) (stay + pick stores 1 0)
 
-  stored-words : held-then true ≡ puts v (storedPuts i stay index cause vector ++ one (markAt i) 0 ∷ one (heldAt i) (stay + 1) ∷ [])
-  stored-words = set-is-put (puts v (storedPuts i stay index cause vector ++ one (markAt i) 0 ∷ [])) (heldAt i) (stay + 1)
+  stored-words : kept-count-then true ≡ puts v (storedPuts i stay index cause vector ++ one (markAt i) 0 ∷ one (keptCountAt i) (stay + 1) ∷ [])
+  stored-words = set-is-put (puts v (storedPuts i stay index cause vector ++ one (markAt i) 0 ∷ [])) (keptCountAt i) (stay + 1)
 
-  plain-words : held-then false ≡ puts v (one (heldAt i) stay ∷ [])
-  plain-words = ap (λ (n : ℕ). set v (heldAt i) n) (let z : stay + 0 ≡ stay = omega arith in z) ∙ set-is-put v (heldAt i) stay
+  plain-words : kept-count-then false ≡ puts v (one (keptCountAt i) stay ∷ [])
+  plain-words = ap (λ (n : ℕ). set v (keptCountAt i) n) (let z : stay + 0 ≡ stay = omega arith in z) ∙ set-is-put v (keptCountAt i) stay
 
-  pub held-disk : (stores : Bool) → (stores ≡ true → stay < 16) → (wide4 (held-then stores) 4 ≡ wide4 w 4) × (wide4 (held-then stores) 8 ≡ wide4 w 8)
-  held-disk true few = rw stored-words (disk-same w (puts v (storedPuts i stay index cause vector ++ one (markAt i) 0 ∷ one (heldAt i) (stay + 1) ∷ [])) (then-disk w size i room r held is most v stay there _ (stay + 1) false _ (let z = few refl in omega arith) (omega arith) (one-stored w size i room r held is most v stay there index cause vector long (few refl))))
-  held-disk false few = rw plain-words (disk-same w (puts v (one (heldAt i) stay ∷ [])) (then-disk w size i room r held is most v stay there _ stay (markIn w i) _ (omega (arith, c .most)) (omega arith) (kept-only w size i room r held is most v stay there)))
+  pub kept-count-disk : (stores : Bool) → (stores ≡ true → stay < 16) → (wide4 (kept-count-then stores) 4 ≡ wide4 w 4) × (wide4 (kept-count-then stores) 8 ≡ wide4 w 8)
+  kept-count-disk true few = rw stored-words (disk-same w (puts v (storedPuts i stay index cause vector ++ one (markAt i) 0 ∷ one (keptCountAt i) (stay + 1) ∷ [])) (then-disk w size i room r keptCount is most v stay there _ (stay + 1) false _ (let z = few refl in omega arith) (omega arith) (one-stored w size i room r keptCount is most v stay there index cause vector long (few refl))))
+  kept-count-disk false few = rw plain-words (disk-same w (puts v (one (keptCountAt i) stay ∷ [])) (then-disk w size i room r keptCount is most v stay there _ stay (markIn w i) _ (omega (arith, c .most)) (omega arith) (kept-only w size i room r keptCount is most v stay there)))
 
-  pub held-size : (stores : Bool) → (stores ≡ true → stay < 16) → length (held-then stores) ≡ 6464
-  held-size true few = ap length stored-words ∙ one-stored w size i room r held is most v stay there index cause vector long (few refl) .long
-  held-size false few = ap length plain-words ∙ kept-only w size i room r held is most v stay there .long
+  pub kept-count-size : (stores : Bool) → (stores ≡ true → stay < 16) → length (kept-count-then stores) ≡ 6464
+  kept-count-size true few = ap length stored-words ∙ one-stored w size i room r keptCount is most v stay there index cause vector long (few refl) .long
+  kept-count-size false few = ap length plain-words ∙ kept-only w size i room r keptCount is most v stay there .long
 
-  pub settles : (stores : Bool) → (stores ≡ true → stay < 16) → (y : List ℕ) (blocks gone : ℕ) → OnlyDisk (held-then stores) y
-      → wide4 y 4 ≡ wide4 (held-then stores) 4 + pick stores blocks 0 → wide4 y 8 ≡ wide4 (held-then stores) 8 + gone * blocks
+  pub settles : (stores : Bool) → (stores ≡ true → stay < 16) → (y : List ℕ) (blocks gone : ℕ) → OnlyDisk (kept-count-then stores) y
+      → wide4 y 4 ≡ wide4 (kept-count-then stores) 4 + pick stores blocks 0 → wide4 y 8 ≡ wide4 (kept-count-then stores) 8 + gone * blocks
       → Moves w i (settledPart w i (pinRow r) stores (storedIn w i index cause vector)) (billed (diskIn w) (pick stores blocks 0) (gone * blocks)) y
   unfolding settledPart keptThen billed
   settles true few y blocks gone only a b =
-      let d = held-disk true few in
-      moves-then w size i room r held is most v stay there _ (stay + 1) false _ (let z = few refl in omega arith) (omega arith) (one-stored w size i room r held is most v stay there index cause vector long (few refl))
+      let d = kept-count-disk true few in
+      moves-then w size i room r keptCount is most v stay there _ (stay + 1) false _ (let z = few refl in omega arith) (omega arith) (one-stored w size i room r keptCount is most v stay there index cause vector long (few refl))
       (record { written = wide4 w 4 + blocks; deleted = wide4 w 8 + gone * blocks }) y (rw stored-words at only)
       (λ j. record { written = (a ∙ ap (λ (n : ℕ). n + blocks) (d .0)) j; deleted = (b ∙ ap (λ (n : ℕ). n + gone * blocks) (d .1)) j })
   settles false few y blocks gone only a b =
-      let d = held-disk false few in
-      moves-then w size i room r held is most v stay there _ stay (markIn w i) _ (omega (arith, c .most)) (omega arith) (kept-only w size i room r held is most v stay there)
+      let d = kept-count-disk false few in
+      moves-then w size i room r keptCount is most v stay there _ stay (markIn w i) _ (omega (arith, c .most)) (omega arith) (kept-only w size i room r keptCount is most v stay there)
       (record { written = wide4 w 4 + 0; deleted = wide4 w 8 + gone * blocks }) y (rw plain-words at only)
       (λ j. record { written = (a ∙ ap (λ (n : ℕ). n + 0) (d .0)) j; deleted = (b ∙ ap (λ (n : ℕ). n + gone * blocks) (d .1)) j })
 
   -- The same, of words and of a count that are these.
   module _ (stores : Bool) (few : stores ≡ true → stay < 16) (u : List ℕ) (x : ℕ) (words : u ≡ storing-then stores) (many : x ≡ stay + pick stores 1 0) where
-    pub end-is : set u (heldAt i) x ≡ held-then stores
+    pub end-is : set u (keptCountAt i) x ≡ kept-count-then stores
     end-is = rw (words, many)
 
-    pub end-size : length (set u (heldAt i) x) ≡ 6464
-    end-size = ap length end-is ∙ held-size stores few
+    pub end-size : length (set u (keptCountAt i) x) ≡ 6464
+    end-size = ap length end-is ∙ kept-count-size stores few
 
-    pub end-disk : (wide4 (set u (heldAt i) x) 4 ≡ wide4 w 4) × (wide4 (set u (heldAt i) x) 8 ≡ wide4 w 8)
-    end-disk = rw end-is (held-disk stores few)
+    pub end-disk : (wide4 (set u (keptCountAt i) x) 4 ≡ wide4 w 4) × (wide4 (set u (keptCountAt i) x) 8 ≡ wide4 w 8)
+    end-disk = rw end-is (kept-count-disk stores few)
 
-    pub end-moves : (y : List ℕ) (blocks gone : ℕ) → OnlyDisk (set u (heldAt i) x) y → wide4 y 4 ≡ wide4 (set u (heldAt i) x) 4 + pick stores blocks 0
-        → wide4 y 8 ≡ wide4 (set u (heldAt i) x) 8 + gone * blocks
+    pub end-moves : (y : List ℕ) (blocks gone : ℕ) → OnlyDisk (set u (keptCountAt i) x) y → wide4 y 4 ≡ wide4 (set u (keptCountAt i) x) 4 + pick stores blocks 0
+        → wide4 y 8 ≡ wide4 (set u (keptCountAt i) x) 8 + gone * blocks
         → Moves w i (settledPart w i (pinRow r) stores (storedIn w i index cause vector)) (billed (diskIn w) (pick stores blocks 0) (gone * blocks)) y
     end-moves y blocks gone only a b = settles stores few y blocks gone (rw end-is at only) (rw end-is at a) (rw end-is at b)

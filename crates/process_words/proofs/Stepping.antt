@@ -20,17 +20,17 @@ use Rattle.model.specs.declared.CheckpointIndex.{CheckpointIndex}
 use Rattle.model.specs.declared.Disk.{Disk}
 use Rattle.model.specs.declared.Pin.{Pin}
 use Rattle.model.specs.declared.Pin.the-variants.{Nothing, At}
-use Rattle.model.specs.Words.{basic, forced, entry, liveIndex, names, named, Process, blocksOf, blockCount, noCheckpoint, process, own}
+use Rattle.model.specs.Words.{basic, forced, entry, liveIndex, names, isPinned, Process, blocksOf, blockCount, noCheckpoint, process, own}
 use Rattle.model.specs.Sound.{ascending, sound}
 use Rattle.model.specs.Steps.{listed, settled, gone, deletions, billed, storing, checkpointed, advanced, takenVector, takenPins, risen}
 use Rattle.receipts.specs.Receipt.{vectorFirst, pinsFirst, vectorThen, pinsThen, keptThen}
 use Rattle.receipts.proofs.Billing.{blocks-of-some}
 use Rattle.receipts.proofs.Receipts.{receipt-room, receipt-leaves, receipt-gone}
-use Rattle.receipts.proofs.Settling.{indexes, moved-own, stays-behind, deleted-before, room-behind}
+use Rattle.receipts.proofs.Settling.{indexes, moved-own, stays-after, deleted-before, room-after}
 use Rattle.whole_runs.specs.Outcomes.{pairs}
 use Rattle.words.specs.Clean.{CleanKept}
 use Rattle.words.specs.Frames.{OnlyProcess}
-use Rattle.words.specs.Layout.{word, wide4, countOf, heldAt, markAt, blocksAt, partAt, pinsAt, indexAt, causeAt, storedAt, intervalOf, pinOf, rowIn, vectorIn, pinsIn, markIn, checkpointIn, runOf}
+use Rattle.words.specs.Layout.{word, wide4, countOf, keptCountAt, markAt, blocksAt, partAt, pinsAt, indexAt, causeAt, storedAt, intervalOf, pinOf, rowIn, vectorIn, pinsIn, markIn, checkpointIn, runOf}
 use Rattle.words.specs.Parts.{processIn}
 use Rattle.words.specs.Puts.{Put, puts, vectorPut}
 use Rattle.words.proofs.Frames.{process-then}
@@ -38,10 +38,10 @@ use Rattle.words.proofs.Reading.{puts-length, untouched, touched, pin-back}
 use Rattle.words.proofs.Same.{vector-word, vector-back, pins-length, checkpoint-moved}
 use Rattle.words.proofs.View.{count-is}
 use Rattle.words.proofs.ViewSound.{SoundPart, SoundWords, sound-words, sound-part, sound-known, sound-process-is, sound-own-is}
-use Rattle.process_words.specs.Kept.{Used, AllNamed}
+use Rattle.process_words.specs.Kept.{Used, AllPinned}
 use Rattle.process_words.specs.Moves.{diskIn, Moves}
 use Rattle.process_words.specs.Pins.{pinRow, movedRow, risenOrOwn}
-use Rattle.process_words.specs.Steps.{storedIn, placesOf, unnamedIn, settledPart, received}
+use Rattle.process_words.specs.Steps.{storedIn, placesOf, unpinnedIn, settledPart, received}
 use Rattle.process_words.proofs.PinRows.{names-word, row-length, pins-row, own-moved, receipt-pins}
 
 -- Another vector is put.
@@ -65,20 +65,20 @@ module _ (w : List ℕ) (size : length w ≡ 6464) (i : ℕ) (room : i < 16) (x 
   vectored-checkpoint k lt = checkpoint-moved vectored w i i k k (vectored-high (indexAt i k) (omega arith)) (vectored-high (causeAt i k) (omega arith)) (vectored-low (blocksAt i) (omega arith))
       (λ f less. vectored-high (storedAt i k + f) (omega arith))
 
-  pub vectored-held : word vectored (heldAt i) ≡ word w (heldAt i)
-  vectored-held = vectored-low (heldAt i) (omega arith)
+  pub vectored-kept-count : word vectored (keptCountAt i) ≡ word w (keptCountAt i)
+  vectored-kept-count = vectored-low (keptCountAt i) (omega arith)
 
-  pub vectored-places : word w (heldAt i) ≤ 16 → placesOf vectored i ≡ placesOf w i
+  pub vectored-places : word w (keptCountAt i) ≤ 16 → placesOf vectored i ≡ placesOf w i
   unfolding placesOf
-  vectored-places most = ap (λ (n : ℕ). table n (checkpointIn vectored i)) vectored-held ∙ table-same (word w (heldAt i)) (checkpointIn vectored i) (checkpointIn w i) (λ k lt. vectored-checkpoint k (omega arith))
+  vectored-places most = ap (λ (n : ℕ). table n (checkpointIn vectored i)) vectored-kept-count ∙ table-same (word w (keptCountAt i)) (checkpointIn vectored i) (checkpointIn w i) (λ k lt. vectored-checkpoint k (omega arith))
 
-  pub vectored-used : word w (heldAt i) ≤ 16 → Used w i (word w (heldAt i)) → Used vectored i (word vectored (heldAt i))
+  pub vectored-used : word w (keptCountAt i) ≤ 16 → Used w i (word w (keptCountAt i)) → Used vectored i (word vectored (keptCountAt i))
   unfolding Used
-  vectored-used most used k lt = omega (arith, used k (omega (arith, vectored-held)), vectored-high (indexAt i k) (omega (arith, vectored-held)))
+  vectored-used most used k lt = omega (arith, used k (omega (arith, vectored-kept-count)), vectored-high (indexAt i k) (omega (arith, vectored-kept-count)))
 
-  pub vectored-named : (pins : List Pin) (n : ℕ) → n ≤ 16 → AllNamed w i pins n → AllNamed vectored i pins n
-  unfolding AllNamed
-  vectored-named pins n most all k lt = ap (named pins) (vectored-checkpoint k (omega arith)) ∙ all k lt
+  pub vectored-pinned : (pins : List Pin) (n : ℕ) → n ≤ 16 → AllPinned w i pins n → AllPinned vectored i pins n
+  unfolding AllPinned
+  vectored-pinned pins n most all k lt = ap (isPinned pins) (vectored-checkpoint k (omega arith)) ∙ all k lt
 
   pub vectored-disk : (k : ℕ) → k < 12 → word vectored k ≡ word w k
   vectored-disk k lt = vectored-low k (omega arith)
@@ -96,7 +96,7 @@ module _ (w : List ℕ) (size : length w ≡ 6464) (i : ℕ) (room : i < 16) (x 
   unfolding markIn
   vectored-mark = rw (vectored-low (markAt i) (omega arith))
 
-  pub vectored-part : length x ≡ 16 → word w (heldAt i) ≤ 16 → (pins : List Pin) (stores : Bool) (index : CheckpointIndex) (cause : ℕ) (vector : List Interval)
+  pub vectored-part : length x ≡ 16 → word w (keptCountAt i) ≤ 16 → (pins : List Pin) (stores : Bool) (index : CheckpointIndex) (cause : ℕ) (vector : List Interval)
       → settledPart vectored i pins stores (storedIn vectored i index cause vector)
       ≡ record { vector = x; pins = pins; mark = pick stores false (markIn w i); kept = keptThen stores pins (placesOf w i) (storedIn w i index cause vector) }
   unfolding settledPart storedIn
@@ -117,9 +117,9 @@ module _ (w : List ℕ) (size : length w ≡ 6464) (i : ℕ) (room : i < 16) (x 
 
   vectored-clean : CleanKept w i → CleanKept vectored i
   vectored-clean h = record {
-    index = λ k le lt. vectored-high (indexAt i k) (omega arith) ∙ h .index k (omega (arith, vectored-held)) lt;
-    cause = λ k le lt. vectored-high (causeAt i k) (omega arith) ∙ h .cause k (omega (arith, vectored-held)) lt;
-    vector = λ k f le lt less. vectored-high (storedAt i k + f) (omega arith) ∙ h .vector k f (omega (arith, vectored-held)) lt less;
+    index = λ k le lt. vectored-high (indexAt i k) (omega arith) ∙ h .index k (omega (arith, vectored-kept-count)) lt;
+    cause = λ k le lt. vectored-high (causeAt i k) (omega arith) ∙ h .cause k (omega (arith, vectored-kept-count)) lt;
+    vector = λ k f le lt less. vectored-high (storedAt i k + f) (omega arith) ∙ h .vector k f (omega (arith, vectored-kept-count)) lt less;
   }
 
   pub vectored-moves : (P Q : Process) (d e : Disk) (v : List ℕ) → P ≡ Q → d ≡ e → Moves vectored i P d v → Moves w i Q e v
@@ -127,7 +127,7 @@ module _ (w : List ℕ) (size : length w ≡ 6464) (i : ℕ) (room : i < 16) (x 
     between = m .between;
     process = process-then w vectored (m .between) i vectored-only (m .process);
     part = m .part ∙ p;
-    held = m .held;
+    «kept_count» = m .«kept_count»;
     clean = λ h. m .clean (vectored-clean h);
     disk = m .disk;
     blocks = m .blocks ∙ q;
@@ -137,8 +137,8 @@ module _ (w : List ℕ) (size : length w ≡ 6464) (i : ℕ) (room : i < 16) (x 
 abbrev pub Ready : List ℕ → ℕ → List ℕ → ℕ → Bool → CheckpointIndex → ℕ → Type 0
 Ready u i r from stores index lent =
     ((length u ≡ 6464) × (i < 16) × (stores ≡ true → index .0 < 65535) × (diskIn u .written ≤ 1000000000000000) × (diskIn u .deleted ≤ 1000000000000000))
-    × (((from ≤ word u (heldAt i)) × (word u (heldAt i) ≤ 16) × Used u i (word u (heldAt i)) × AllNamed u i (pinRow r) from)
-    × ((stores ≡ true → length (select (named (pinRow r)) (table (word u (heldAt i)) (checkpointIn u i))) < 16) × (2 * word u (heldAt i) ≤ lent)))
+    × (((from ≤ word u (keptCountAt i)) × (word u (keptCountAt i) ≤ 16) × Used u i (word u (keptCountAt i)) × AllPinned u i (pinRow r) from)
+    × ((stores ≡ true → length (select (isPinned (pinRow r)) (table (word u (keptCountAt i)) (checkpointIn u i))) < 16) × (2 * word u (keptCountAt i) ≤ lent)))
 
 listed-length : (p : ℕ) (l : List Checkpoint) → length (listed p l) ≡ length l
 unfolding listed
@@ -149,7 +149,7 @@ used-by : (w : List ℕ) (i n : ℕ) → ((k : ℕ) → k < n → 1 ≤ word w (
 unfolding Used
 used-by w i n h = h
 
-places-by : (w : List ℕ) (i : ℕ) → table (word w (heldAt i)) (checkpointIn w i) ≡ placesOf w i
+places-by : (w : List ℕ) (i : ℕ) → table (word w (keptCountAt i)) (checkpointIn w i) ≡ placesOf w i
 unfolding placesOf
 places-by w i = refl
 
@@ -169,8 +169,8 @@ module _ (w : List ℕ) (h : sound (runOf w) ≡ true) (i : ℕ) (lt : i < count
   pub in-range : i < 16
   in-range = omega (arith, words .few)
 
-  pub held-most : word w (heldAt i) ≤ 16
-  held-most = omega (arith, facts .held-most, words .few)
+  pub kept-count-most : word w (keptCountAt i) ≤ 16
+  kept-count-most = omega (arith, facts .kept-count-most, words .few)
 
   pub own-entry : entry vec i ≡ intervalOf (word w (partAt i + i))
   own-entry = vector-word w (partAt i) i in-range
@@ -184,7 +184,7 @@ module _ (w : List ℕ) (h : sound (runOf w) ≡ true) (i : ℕ) (lt : i < count
 
   pub block-count : blockCount P ≡ word w (blocksAt i)
   unfolding blockCount checkpointIn
-  block-count = rw (facts .kept-is) (ap (λ (c : Checkpoint). c .blocks) (getD-table (word w (heldAt i)) (checkpointIn w i) 0 noCheckpoint (omega (arith, facts .held-some))))
+  block-count = rw (facts .kept-is) (ap (λ (c : Checkpoint). c .blocks) (getD-table (word w (keptCountAt i)) (checkpointIn w i) 0 noCheckpoint (omega (arith, facts .kept-count-some))))
 
   up : ascending 0 (indexes (P .kept)) ≡ true
   up = rw same at (sound-known w h i lt .kept-ascend)
@@ -198,8 +198,8 @@ module _ (w : List ℕ) (h : sound (runOf w) ≡ true) (i : ℕ) (lt : i < count
   selected-blocks t = sym (rw (same, block-count) at (blocks-of-some (runOf w) h i (omega (arith, count-is w (words .fit))) t))
 
   -- What collecting and storing need, once the vector is put.
-  pub ready : (x : List Interval) (u : List ℕ) → u ≡ vectored w (words .size) i in-range x → (r : List ℕ) (from : ℕ) → from ≤ word w (heldAt i) → AllNamed w i (pinRow r) from
-      → (stores : Bool) (index : CheckpointIndex) → (stores ≡ true → index .0 < 65535) → (stores ≡ true → length (select (named (pinRow r)) (placesOf w i)) < 16)
+  pub ready : (x : List Interval) (u : List ℕ) → u ≡ vectored w (words .size) i in-range x → (r : List ℕ) (from : ℕ) → from ≤ word w (keptCountAt i) → AllPinned w i (pinRow r) from
+      → (stores : Bool) (index : CheckpointIndex) → (stores ≡ true → index .0 < 65535) → (stores ≡ true → length (select (isPinned (pinRow r)) (placesOf w i)) < 16)
       → (lent : ℕ) → 2 * countOf w * countOf w ≤ lent → Ready u i r from stores index lent
   ready x u e r from le all stores index small free lent enough =
       let d = vectored-bill w (words .size) i in-range x in
@@ -207,31 +207,31 @@ module _ (w : List ℕ) (h : sound (runOf w) ≡ true) (i : ℕ) (lt : i < count
         (vectored-size w (words .size) i in-range x, in-range, small, omega (arith, ap (λ (y : Disk). y .written) d, words .written-most), omega (arith, ap (λ (y : Disk). y .deleted) d, words .deleted-most, words .written-most)),
         (
           (
-            omega (arith, vectored-held w (words .size) i in-range x),
-            omega (arith, vectored-held w (words .size) i in-range x, held-most),
-            vectored-used w (words .size) i in-range x held-most (used-all (facts .used)),
-            vectored-named w (words .size) i in-range x (pinRow r) from (omega (arith, held-most)) all,
+            omega (arith, vectored-kept-count w (words .size) i in-range x),
+            omega (arith, vectored-kept-count w (words .size) i in-range x, kept-count-most),
+            vectored-used w (words .size) i in-range x kept-count-most (used-all (facts .used)),
+            vectored-pinned w (words .size) i in-range x (pinRow r) from (omega (arith, kept-count-most)) all,
           ),
           (
             λ s. rw (places-there x) (free s),
-            omega (arith, enough, vectored-held w (words .size) i in-range x, facts .held-most, mul-le-mul-left {m = 1} {n = countOf w} (2 * countOf w) (words .some)),
+            omega (arith, enough, vectored-kept-count w (words .size) i in-range x, facts .kept-count-most, mul-le-mul-left {m = 1} {n = countOf w} (2 * countOf w) (words .some)),
           ),
         ),
       )
     where
-      used-all : ((k : ℕ) → k < word w (heldAt i) → 1 ≤ word w (indexAt i k)) → Used w i (word w (heldAt i))
-      used-all = used-by w i (word w (heldAt i))
+      used-all : ((k : ℕ) → k < word w (keptCountAt i) → 1 ≤ word w (indexAt i k)) → Used w i (word w (keptCountAt i))
+      used-all = used-by w i (word w (keptCountAt i))
 
-      places-there : (x : List Interval) → table (word (vectored w (words .size) i in-range x) (heldAt i)) (checkpointIn (vectored w (words .size) i in-range x) i) ≡ placesOf w i
-      places-there x = places-by (vectored w (words .size) i in-range x) i ∙ vectored-places w (words .size) i in-range x held-most
+      places-there : (x : List Interval) → table (word (vectored w (words .size) i in-range x) (keptCountAt i)) (checkpointIn (vectored w (words .size) i in-range x) i) ≡ placesOf w i
+      places-there x = places-by (vectored w (words .size) i in-range x) i ∙ vectored-places w (words .size) i in-range x kept-count-most
 
   -- A checkpoint but the last is named by a pin that is not the own one.
-  other-pin : (k : ℕ) → k < word w (heldAt i) - 1 → (f : ℕ) × (f < 16) × (f ≡ i → ⊥) × (names (getD (P .pins) f Nothing) (checkpointIn w i k .index) ≡ true)
-  unfolding named processIn pinsIn checkpointIn
+  other-pin : (k : ℕ) → k < word w (keptCountAt i) - 1 → (f : ℕ) × (f < 16) × (f ≡ i → ⊥) × (names (getD (P .pins) f Nothing) (checkpointIn w i k .index) ≡ true)
+  unfolding isPinned processIn pinsIn checkpointIn
   other-pin k less =
       let all = rw (same, facts .kept-is) at (sound-known w h i lt .kept-pinned) in
-      let one = every-at (named (P .pins)) (table (word w (heldAt i)) (checkpointIn w i)) k noCheckpoint (omega (arith, length-table (word w (heldAt i)) (checkpointIn w i))) all in
-      let here = rw (getD-table (word w (heldAt i)) (checkpointIn w i) k noCheckpoint (omega arith)) at one in
+      let one = every-at (isPinned (P .pins)) (table (word w (keptCountAt i)) (checkpointIn w i)) k noCheckpoint (omega (arith, length-table (word w (keptCountAt i)) (checkpointIn w i))) all in
+      let here = rw (getD-table (word w (keptCountAt i)) (checkpointIn w i) k noCheckpoint (omega arith)) at one in
       let found = some-where (λ pin. names pin (checkpointIn w i k .index)) (P .pins) Nothing here in
       let f = found .0 in
       let small : f < 16 = omega (arith, found .1, pins-length w (pinsAt i)) in (
@@ -240,12 +240,12 @@ module _ (w : List ℕ) (h : sound (runOf w) ≡ true) (i : ℕ) (lt : i < count
         λ e.
             let by = rw (getD-table 16 (λ g. pinOf (word w (pinsAt i + g))) f Nothing small) at (found .2) in
             let is = eqb-true (word w (pinsAt i + f)) (word w (indexAt i k)) (sym (names-word (word w (pinsAt i + f)) (word w (indexAt i k)) (facts .used k (omega arith))) ∙ by) in
-            omega (arith, is, ap (λ (g : ℕ). word w (pinsAt i + g)) e, facts .own-pin, facts .last-index, facts .ascend k (word w (heldAt i) - 1) less (omega (arith, facts .held-some))),
+            omega (arith, is, ap (λ (g : ℕ). word w (pinsAt i + g)) e, facts .own-pin, facts .last-index, facts .ascend k (word w (keptCountAt i) - 1) less (omega (arith, facts .kept-count-some))),
         found .2,
       )
 
-  others-name : (a : Pin) (k : ℕ) → k < word w (heldAt i) - 1 → named (set (P .pins) i a) (checkpointIn w i k) ≡ true
-  unfolding named processIn
+  others-name : (a : Pin) (k : ℕ) → k < word w (keptCountAt i) - 1 → isPinned (set (P .pins) i a) (checkpointIn w i k) ≡ true
+  unfolding isPinned processIn
   others-name a k less =
       let o = other-pin k less in
       some-at (λ pin. names pin (checkpointIn w i k .index)) (set (P .pins) i a) (o .0) Nothing (omega (arith, o .1, length-set (P .pins) i a, pins-length w (pinsAt i)))
@@ -282,30 +282,30 @@ module _ (w : List ℕ) (h : sound (runOf w) ≡ true) (i : ℕ) (lt : i < count
       vector = advanced i vec;
       pins = own-pins j;
       mark = false;
-      kept = (ap (λ (l : List Pin). select (named l) (P .kept ++ (stored ∷ []))) own-pins
-          ∙ stays-behind (pinRow r) i stored there own-there (P .kept)
-          ∙ (λ k. select (named (pinRow r)) (sym kept-places k) ++ (sym stored-is k ∷ []))) j;
+      kept = (ap (λ (l : List Pin). select (isPinned l) (P .kept ++ (stored ∷ []))) own-pins
+          ∙ stays-after (pinRow r) i stored there own-there (P .kept)
+          ∙ (λ k. select (isPinned (pinRow r)) (sym kept-places k) ++ (sym stored-is k ∷ []))) j;
     })
       where
         own-pins : set (P .pins) i (At (liveIndex (entry vec i))) ≡ pinRow r
         own-pins = ap (λ (a : CheckpointIndex). set (P .pins) i (At a)) (sym is) ∙ sym pins-are
 
-    pub checkpoint-gone : unnamedIn w i (pinRow r) ≡ gone (checkpointed basic i P)
-    unfolding unnamedIn gone checkpointed processIn
-    checkpoint-gone = ap (λ (l : List Checkpoint). select (λ c. not (named (pinRow r) c)) l) kept-places ∙ sym (deleted-before (pinRow r) i stored there own-there (P .kept))
-        ∙ ap (λ (l : List Pin). select (λ c. not (named l c)) (P .kept ++ (stored ∷ []))) (pins-are ∙ ap (λ (a : CheckpointIndex). set (P .pins) i (At a)) is)
+    pub checkpoint-gone : unpinnedIn w i (pinRow r) ≡ gone (checkpointed basic i P)
+    unfolding unpinnedIn gone checkpointed processIn
+    checkpoint-gone = ap (λ (l : List Checkpoint). select (λ c. not (isPinned (pinRow r) c)) l) kept-places ∙ sym (deleted-before (pinRow r) i stored there own-there (P .kept))
+        ∙ ap (λ (l : List Pin). select (λ c. not (isPinned l c)) (P .kept ++ (stored ∷ []))) (pins-are ∙ ap (λ (a : CheckpointIndex). set (P .pins) i (At a)) is)
 
     last-under : orElse (lastOf (P .kept)) noCheckpoint .index .0 < stored .index .0
     unfolding storing processIn
     last-under = last-less
 
-    pub checkpoint-room : length (select (named (pinRow r)) (placesOf w i)) < 16
-    checkpoint-room = rw kept-places (omega (arith, row-length r, room-behind (pinRow r) i stored there own-there 0 noCheckpoint (P .kept) up last-under))
+    pub checkpoint-room : length (select (isPinned (pinRow r)) (placesOf w i)) < 16
+    checkpoint-room = rw kept-places (omega (arith, row-length r, room-after (pinRow r) i stored there own-there 0 noCheckpoint (P .kept) up last-under))
 
     -- The pins that do not move name each checkpoint but the last.
-    pub checkpoint-named : AllNamed w i (pinRow r) (word w (heldAt i) - 1)
-    unfolding AllNamed
-    checkpoint-named k less = rw pins-are (others-name (At index) k less)
+    pub checkpoint-pinned : AllPinned w i (pinRow r) (word w (keptCountAt i) - 1)
+    unfolding AllPinned
+    checkpoint-pinned k less = rw pins-are (others-name (At index) k less)
 
   -- A receipt, before which a checkpoint is stored if `stores`.
   module _ (stores : Bool) (carried : List Interval) (r : List ℕ) (index : CheckpointIndex) (is : index ≡ liveIndex (entry vec i)) (x : ℕ)
@@ -336,23 +336,23 @@ module _ (w : List ℕ) (h : sound (runOf w) ≡ true) (i : ℕ) (lt : i < count
       kept = keptThen stores (taken-pins j) (kept-places j) (forced-is j);
     }) ∙ sym (receipt-leaves forced i carried P in-pins in-range stores)
 
-    pub receive-gone : unnamedIn w i (pinRow r) ≡ gone (received i stores carried P)
-    unfolding unnamedIn received processIn
-    receive-gone = (λ j. select (λ c. not (named (taken-pins j) c)) (kept-places j)) ∙ sym (receipt-gone forced i carried P in-pins in-range stores)
+    pub receive-gone : unpinnedIn w i (pinRow r) ≡ gone (received i stores carried P)
+    unfolding unpinnedIn received processIn
+    receive-gone = (λ j. select (λ c. not (isPinned (taken-pins j) c)) (kept-places j)) ∙ sym (receipt-gone forced i carried P in-pins in-range stores)
 
-    pub receive-room : stores ≡ true → length (select (named (pinRow r)) (placesOf w i)) < 16
+    pub receive-room : stores ≡ true → length (select (isPinned (pinRow r)) (placesOf w i)) < 16
     unfolding processIn
     receive-room e =
         let free = receipt-room forced i carried P in-pins in-range up last-less in
         rw (taken-pins, kept-places, e) free
 
-  pub named-none : (pins : List Pin) → AllNamed w i pins 0
-  unfolding AllNamed
-  named-none pins k less = absurd (omega arith)
+  pub pinned-none : (pins : List Pin) → AllPinned w i pins 0
+  unfolding AllPinned
+  pinned-none pins k less = absurd (omega arith)
 
-  unnamed-blocks : (pins : List Pin) → length (unnamedIn w i pins) * word w (blocksAt i) ≡ blocksOf (unnamedIn w i pins)
-  unfolding unnamedIn
-  unnamed-blocks pins = rw kept-places (selected-blocks (λ c. not (named pins c)))
+  unpinned-blocks : (pins : List Pin) → length (unpinnedIn w i pins) * word w (blocksAt i) ≡ blocksOf (unpinnedIn w i pins)
+  unfolding unpinnedIn
+  unpinned-blocks pins = rw kept-places (selected-blocks (λ c. not (isPinned pins c)))
 
   -- The own entry of a vector that was read.
   pub own-number : (v : List Interval) → v ≡ vectorIn w (partAt i) → entry v i .0 ≡ word w (partAt i + i)
@@ -362,33 +362,33 @@ module _ (w : List ℕ) (h : sound (runOf w) ≡ true) (i : ℕ) (lt : i < count
   module _ (x : List Interval) (long : length x ≡ 16) (u : List ℕ) (e : u ≡ vectored w (words .size) i in-range x) (r : List ℕ) (stores : Bool) (index : CheckpointIndex) (cause : ℕ)
       (vector : List Interval) (Q : Process)
       (part : record { vector = x; pins = pinRow r; mark = pick stores false (markIn w i); kept = keptThen stores (pinRow r) (placesOf w i) (storedIn w i index cause vector) } ≡ settled Q)
-      (lost : unnamedIn w i (pinRow r) ≡ gone Q) where
-    unnamed-there : unnamedIn u i (pinRow r) ≡ unnamedIn w i (pinRow r)
-    unfolding unnamedIn
-    unnamed-there = ap (λ (y : List ℕ). select (λ c. not (named (pinRow r) c)) (placesOf y i)) e ∙ ap (select (λ c. not (named (pinRow r) c))) (vectored-places w (words .size) i in-range x held-most)
+      (lost : unpinnedIn w i (pinRow r) ≡ gone Q) where
+    unpinned-there : unpinnedIn u i (pinRow r) ≡ unpinnedIn w i (pinRow r)
+    unfolding unpinnedIn
+    unpinned-there = ap (λ (y : List ℕ). select (λ c. not (isPinned (pinRow r) c)) (placesOf y i)) e ∙ ap (select (λ c. not (isPinned (pinRow r) c))) (vectored-places w (words .size) i in-range x kept-count-most)
 
     blocks-there : word u (blocksAt i) ≡ word w (blocksAt i)
     blocks-there = ap (λ (y : List ℕ). word y (blocksAt i)) e ∙ vectored-low w (words .size) i in-range x (blocksAt i) (omega (arith, in-range))
 
-    module _ (y : List ℕ) (g : ℕ) (many : g ≡ length (unnamedIn u i (pinRow r))) where
+    module _ (y : List ℕ) (g : ℕ) (many : g ≡ length (unpinnedIn u i (pinRow r))) where
       bill : billed (diskIn u) (pick stores (word u (blocksAt i)) 0) (g * word u (blocksAt i)) ≡ billed (diskIn w) (pick stores (word w (blocksAt i)) 0) (blocksOf (gone Q))
       bill = λ j. billed ((ap diskIn e ∙ vectored-bill w (words .size) i in-range x) j) (pick stores (blocks-there j) 0)
-          ((ap (λ (n : ℕ). g * n) blocks-there ∙ ap (λ (n : ℕ). n * word w (blocksAt i)) (many ∙ ap length unnamed-there) ∙ unnamed-blocks (pinRow r) ∙ ap blocksOf lost) j)
+          ((ap (λ (n : ℕ). g * n) blocks-there ∙ ap (λ (n : ℕ). n * word w (blocksAt i)) (many ∙ ap length unpinned-there) ∙ unpinned-blocks (pinRow r) ∙ ap blocksOf lost) j)
 
       pub moved : Moves u i (settledPart u i (pinRow r) stores (storedIn u i index cause vector)) (billed (diskIn u) (pick stores (word u (blocksAt i)) 0) (g * word u (blocksAt i))) y
           → Moves w i (settled Q) (billed (diskIn w) (pick stores (word w (blocksAt i)) 0) (blocksOf (gone Q))) y
       moved m = vectored-moves w (words .size) i in-range x _ (settled Q) _ (billed (diskIn w) (pick stores (word w (blocksAt i)) 0) (blocksOf (gone Q))) y
-          (vectored-part w (words .size) i in-range x long held-most (pinRow r) stores index cause vector ∙ part)
+          (vectored-part w (words .size) i in-range x long kept-count-most (pinRow r) stores index cause vector ∙ part)
           (rw e at bill)
           (rw e at m)
 
       pub deletes : g ≡ length (deletions i Q)
       unfolding deletions
-      deletes = many ∙ ap length (unnamed-there ∙ lost) ∙ sym (listed-length i (gone Q))
+      deletes = many ∙ ap length (unpinned-there ∙ lost) ∙ sym (listed-length i (gone Q))
 
-    pub lists : (l : List ℕ) → sets l 0 (pairs (listed i (unnamedIn u i (pinRow r)))) ≡ sets l 0 (pairs (deletions i Q))
+    pub lists : (l : List ℕ) → sets l 0 (pairs (listed i (unpinnedIn u i (pinRow r)))) ≡ sets l 0 (pairs (deletions i Q))
     unfolding deletions
-    lists l = ap (λ (q : List Checkpoint). sets l 0 (pairs (listed i q))) (unnamed-there ∙ lost)
+    lists l = ap (λ (q : List Checkpoint). sets l 0 (pairs (listed i q))) (unpinned-there ∙ lost)
 
 -- A vector put twice.
 pub put-again : (w : List ℕ) (at : ℕ) (a b : List Interval) → at + 16 ≤ length w → puts (puts w (vectorPut at a ∷ [])) (vectorPut at b ∷ []) ≡ puts w (vectorPut at b ∷ [])

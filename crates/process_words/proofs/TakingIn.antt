@@ -16,7 +16,7 @@ use Rattle.model.specs.Words.{entry, below}
 use Rattle.model.specs.Steps.{takenEntry, takenVector, risen}
 use Rattle.words.specs.Layout.{word, intervalOf, vectorIn}
 use Rattle.words.specs.Puts.{putFrom, puts, one, vectorPut}
-use Rattle.words.proofs.Reading.{untouched, put-turn}
+use Rattle.words.proofs.Reading.{untouched, put-step}
 use Rattle.words.proofs.Same.{vector-word}
 use Rattle.process_words.specs.TakingIn.{takenWord, risenBit}
 use Rattle.process_words.proofs.Sets.{or-higher}
@@ -61,7 +61,7 @@ module _ (w : List ℕ) (at : ℕ) (carried : List Interval) where
     step-words = ap (λ (x : ℕ). putFrom v (at + f) 1 (λ k. x)) taken-is ∙ one-put
       where
         one-put : putFrom v (at + f) 1 (λ k. word-then f) ≡ putFrom w at (f + 1) word-then
-        one-put = let z : at + f + 0 ≡ at + f = omega arith in rw z (put-turn w at word-then f v (word-then f) e refl)
+        one-put = let z : at + f + 0 ≡ at + f = omega arith in rw z (put-step w at word-then f v (word-then f) e refl)
 
     bit-is : risenBit v at carried f ≡ pick (rises f) (2 ^ f) 0
     unfolding risenBit

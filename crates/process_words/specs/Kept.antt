@@ -9,7 +9,7 @@ use Rattle.laws.specs.Lists.{select, table}
 use Rattle.model.specs.declared.Interval.{Interval}
 use Rattle.model.specs.declared.CheckpointIndex.{CheckpointIndex}
 use Rattle.model.specs.declared.Pin.{Pin}
-use Rattle.model.specs.Words.{named, mostProcesses}
+use Rattle.model.specs.Words.{isPinned, mostProcesses}
 use Rattle.words.specs.Layout.{word, indexAt, causeAt, storedAt, rowIn, checkpointIn}
 use Rattle.words.specs.Puts.{Put, puts, one, rowPut, vectorPut, zeroPut}
 
@@ -33,8 +33,8 @@ unfoldable pub Used : List ℕ → ℕ → ℕ → Type 0
 Used w p n = (k : ℕ) → k < n → 1 ≤ word w (indexAt p k)
 
 -- A pin names each of the first n checkpoints of process p.
-unfoldable pub AllNamed : List ℕ → ℕ → List Pin → ℕ → Type 0
-AllNamed w p pins n = (k : ℕ) → k < n → named pins (checkpointIn w p k) ≡ true
+unfoldable pub AllPinned : List ℕ → ℕ → List Pin → ℕ → Type 0
+AllPinned w p pins n = (k : ℕ) → k < n → isPinned pins (checkpointIn w p k) ≡ true
 
 -- Only the 16 places of kept checkpoints of process p have changed.
 pub record OnlyKept (w : List ℕ) (p : ℕ) (v : List ℕ) : Type 0 where
@@ -64,7 +64,7 @@ pub record Cleared (w : List ℕ) (p from to : ℕ) (v : List ℕ) : Type 0 wher
 pub record Split (w : List ℕ) (p n : ℕ) (pins : List Pin) (v : List ℕ) (stay : ℕ) : Type 0 where
   pub only : OnlyKept w p v
   pub most : stay ≤ n
-  pub front : table stay (checkpointIn v p) ≡ select (named pins) (table n (checkpointIn w p))
+  pub front : table stay (checkpointIn v p) ≡ select (isPinned pins) (table n (checkpointIn w p))
   pub used : Used v p stay
   pub after : (k : ℕ) → n ≤ k → k < mostProcesses → SamePlace w p k v k
 
@@ -72,7 +72,7 @@ pub record Split (w : List ℕ) (p n : ℕ) (pins : List Pin) (v : List ℕ) (st
 pub record Collected (w : List ℕ) (p n : ℕ) (pins : List Pin) (v : List ℕ) (stay : ℕ) : Type 0 where
   pub only : OnlyKept w p v
   pub most : stay ≤ n
-  pub front : table stay (checkpointIn v p) ≡ select (named pins) (table n (checkpointIn w p))
+  pub front : table stay (checkpointIn v p) ≡ select (isPinned pins) (table n (checkpointIn w p))
   pub used : Used v p stay
   pub zero : (k : ℕ) → stay ≤ k → k < n → ZeroPlace v p k
   pub after : (k : ℕ) → n ≤ k → k < mostProcesses → SamePlace w p k v k

@@ -7,7 +7,7 @@ use Rattle.model.specs.declared.Disk.{Disk}
 use Rattle.model.specs.Words.{Process, mostProcesses}
 use Rattle.words.specs.Clean.{CleanKept}
 use Rattle.words.specs.Frames.{OnlyProcess, OnlyDisk}
-use Rattle.words.specs.Layout.{word, wide4, heldAt}
+use Rattle.words.specs.Layout.{word, wide4, keptCountAt}
 use Rattle.words.specs.Parts.{processIn}
 
 -- The blocks written and deleted of words.
@@ -19,7 +19,7 @@ pub record Moves (w : List ℕ) (i : ℕ) (P : Process) (d : Disk) (v : List ℕ
   pub between : List ℕ
   pub process : OnlyProcess w between i
   pub part : processIn between i ≡ P
-  pub held : word between (heldAt i) ≤ mostProcesses
+  pub «kept_count» : word between (keptCountAt i) ≤ mostProcesses
   pub clean : CleanKept w i → CleanKept between i
   pub disk : OnlyDisk between v
   pub blocks : diskIn v ≡ d

@@ -10,10 +10,10 @@ use Rattle.model.specs.declared.Interval.{Interval}
 use Rattle.model.specs.declared.CheckpointIndex.{CheckpointIndex}
 use Rattle.model.specs.declared.Pin.{Pin}
 use Rattle.model.specs.declared.Checkpoint.{Checkpoint}
-use Rattle.model.specs.Words.{forced, named, Process}
+use Rattle.model.specs.Words.{forced, isPinned, Process}
 use Rattle.model.specs.Steps.{checkpointed, takenIn}
 use Rattle.receipts.specs.Receipt.{keptThen}
-use Rattle.words.specs.Layout.{word, heldAt, blocksAt, partAt, vectorIn, markIn, checkpointIn}
+use Rattle.words.specs.Layout.{word, keptCountAt, blocksAt, partAt, vectorIn, markIn, checkpointIn}
 
 -- The checkpoint that process i stores.
 unfoldable pub storedIn : List ℕ → ℕ → CheckpointIndex → ℕ → List Interval → Checkpoint
@@ -21,10 +21,10 @@ storedIn w i index cause vector = record { index = index; vector = vector; cause
 
 -- The checkpoints that process i keeps, as they stand in their places, and those of them that no pin names.
 unfoldable pub placesOf : List ℕ → ℕ → List Checkpoint
-placesOf w i = table (word w (heldAt i)) (checkpointIn w i)
+placesOf w i = table (word w (keptCountAt i)) (checkpointIn w i)
 
-unfoldable pub unnamedIn : List ℕ → ℕ → List Pin → List Checkpoint
-unnamedIn w i pins = select (λ c. not (named pins c)) (placesOf w i)
+unfoldable pub unpinnedIn : List ℕ → ℕ → List Pin → List Checkpoint
+unpinnedIn w i pins = select (λ c. not (isPinned pins c)) (placesOf w i)
 
 -- The part of process i once it has these pins: what they name stays, and then the new checkpoint is stored, if one is.
 unfoldable pub settledPart : List ℕ → ℕ → List Pin → Bool → Checkpoint → Process

@@ -9,12 +9,12 @@ ghost use Prim.Native.Nat.{_+_, _*_, _≤_, _<_};
 ghost use lib.ListN.{length, set};
 ghost use lib.Seq.{sets};
 ghost use Rattle.laws.specs.Lists.{select, table};
-ghost use Rattle.model.specs.Words.{named, mostProcesses, mostInterval, keptPlaces, mostDeletions};
+ghost use Rattle.model.specs.Words.{isPinned, mostProcesses, mostInterval, keptPlaces, mostDeletions};
 ghost use Rattle.model.specs.Steps.{listed};
 ghost use Rattle.whole_runs.specs.Outcomes.{pairs};
 ghost use Rattle.words.specs.Layout.{checkpointIn, stateSize};
 ghost use Rattle.words.specs.Puts.{puts};
-ghost use Rattle.process_words.specs.Kept.{storedPuts, movedUp, clearedPuts, Used, AllNamed, Cleared, Split, Collected};
+ghost use Rattle.process_words.specs.Kept.{storedPuts, movedUp, clearedPuts, Used, AllPinned, Cleared, Split, Collected};
 ghost use Rattle.process_words.specs.Pins.{pinRow};
 
 // A checkpoint of process p is stored in place k.
@@ -79,15 +79,15 @@ fn write_pair(deleted: &mut [u16], gone: usize, p: usize, index: CheckpointIndex
     deleted[2 * gone + 1] = index.0;
 }
 
-// The first of the places from `from` up to `held` whose checkpoint no pin names; `held` if a pin names each.
-fn first_unnamed(w: &[u16], p: usize, from: usize, held: usize, pins: [u16; PROCESSES]) -> usize
-    requires { ⌜ (length (now w) ≡ stateSize) × (p < mostProcesses) × (from ≤ held) × (held ≤ mostProcesses) × Used (now w) p held × AllNamed (now w) p (pinRow pins) from ⌝ }
-    ensures { λ r. ⌜ (from ≤ r) × (r ≤ held) × AllNamed (now (w .entry)) p (pinRow pins) r ⌝ }
+// The first of the places from `from` up to `kept_count` whose checkpoint no pin names; `kept_count` if a pin names each.
+fn first_unpinned(w: &[u16], p: usize, from: usize, kept_count: usize, pins: [u16; PROCESSES]) -> usize
+    requires { ⌜ (length (now w) ≡ stateSize) × (p < mostProcesses) × (from ≤ «kept_count») × («kept_count» ≤ mostProcesses) × Used (now w) p «kept_count» × AllPinned (now w) p (pinRow pins) from ⌝ }
+    ensures { λ r. ⌜ (from ≤ r) × (r ≤ «kept_count») × AllPinned (now (w .entry)) p (pinRow pins) r ⌝ }
 {
     let mut k = from;
-    while k < held {
-        let named = super::pins::is_named(pins, w[places::INDEXES + places::PART * p + k]);
-        if !named {
+    while k < kept_count {
+        let pinned = super::pins::is_pinned(pins, w[places::INDEXES + places::PART * p + k]);
+        if !pinned {
             return k;
         }
         k += 1;
@@ -95,28 +95,28 @@ fn first_unnamed(w: &[u16], p: usize, from: usize, held: usize, pins: [u16; PROC
     k
 }
 
-// Of the checkpoints in the places from `from` up to `held` those that a pin names move up to `from`; the pairs of the others go after those of the `before` that
+// Of the checkpoints in the places from `from` up to `kept_count` those that a pin names move up to `from`; the pairs of the others go after those of the `before` that
 // were deleted before them. The result says where the last that stays ends.
 fn split(
     w: &mut [u16],
     p: usize,
     from: usize,
-    held: usize,
+    kept_count: usize,
     pins: [u16; PROCESSES],
     deleted: &mut [u16],
     before: usize,
 ) -> usize
-    requires { ⌜ (length (now w) ≡ stateSize) × (p < mostProcesses) × (from ≤ held) × (held ≤ mostProcesses) × Used (now w) p held × AllNamed (now w) p (pinRow pins) from ⌝ }
-    requires { ⌜ (2 * before + 2 * held ≤ length (now deleted)) × (before ≤ keptPlaces) ⌝ }
-    ensures { λ r. ⌜ Split (now (w .entry)) p held (pinRow pins) (now (w .exit)) r ⌝ }
-    ensures { λ r. ⌜ now (deleted .exit) ≡ sets (now (deleted .entry)) (2 * before) (pairs (listed p (select (λ c. not (named (pinRow pins) c)) (table held (checkpointIn (now (w .entry)) p))))) ⌝ }
-    ensures { λ r. ⌜ held ≡ r + length (select (λ c. not (named (pinRow pins) c)) (table held (checkpointIn (now (w .entry)) p))) ⌝ }
+    requires { ⌜ (length (now w) ≡ stateSize) × (p < mostProcesses) × (from ≤ «kept_count») × («kept_count» ≤ mostProcesses) × Used (now w) p «kept_count» × AllPinned (now w) p (pinRow pins) from ⌝ }
+    requires { ⌜ (2 * before + 2 * «kept_count» ≤ length (now deleted)) × (before ≤ keptPlaces) ⌝ }
+    ensures { λ r. ⌜ Split (now (w .entry)) p «kept_count» (pinRow pins) (now (w .exit)) r ⌝ }
+    ensures { λ r. ⌜ now (deleted .exit) ≡ sets (now (deleted .entry)) (2 * before) (pairs (listed p (select (λ c. not (isPinned (pinRow pins) c)) (table «kept_count» (checkpointIn (now (w .entry)) p))))) ⌝ }
+    ensures { λ r. ⌜ «kept_count» ≡ r + length (select (λ c. not (isPinned (pinRow pins) c)) (table «kept_count» (checkpointIn (now (w .entry)) p))) ⌝ }
 {
     let mut to = from;
-    for k in from..held {
+    for k in from..kept_count {
         let word = w[places::INDEXES + places::PART * p + k];
-        let named = super::pins::is_named(pins, word);
-        if named {
+        let pinned = super::pins::is_pinned(pins, word);
+        if pinned {
             move_up(w, p, k, to);
             to += 1;
         } else {
@@ -126,25 +126,25 @@ fn split(
     to
 }
 
-// Of the `held` checkpoints of process p those that a pin names stay; a pin names each before place `from`. The result says how many stay; the pairs of the others
+// Of the `kept_count` checkpoints of process p those that a pin names stay; a pin names each before place `from`. The result says how many stay; the pairs of the others
 // go after those of the `before` that were deleted before them.
 pub fn collect(
     w: &mut [u16],
     p: usize,
     from: usize,
-    held: usize,
+    kept_count: usize,
     pins: [u16; PROCESSES],
     deleted: &mut [u16],
     before: usize,
 ) -> usize
-    requires { ⌜ (length (now w) ≡ stateSize) × (p < mostProcesses) × (from ≤ held) × (held ≤ mostProcesses) × Used (now w) p held × AllNamed (now w) p (pinRow pins) from ⌝ }
-    requires { ⌜ (2 * before + 2 * held ≤ length (now deleted)) × (before ≤ keptPlaces) ⌝ }
-    ensures { λ r. ⌜ Collected (now (w .entry)) p held (pinRow pins) (now (w .exit)) r ⌝ }
-    ensures { λ r. ⌜ now (deleted .exit) ≡ sets (now (deleted .entry)) (2 * before) (pairs (listed p (select (λ c. not (named (pinRow pins) c)) (table held (checkpointIn (now (w .entry)) p))))) ⌝ }
-    ensures { λ r. ⌜ held ≡ r + length (select (λ c. not (named (pinRow pins) c)) (table held (checkpointIn (now (w .entry)) p))) ⌝ }
+    requires { ⌜ (length (now w) ≡ stateSize) × (p < mostProcesses) × (from ≤ «kept_count») × («kept_count» ≤ mostProcesses) × Used (now w) p «kept_count» × AllPinned (now w) p (pinRow pins) from ⌝ }
+    requires { ⌜ (2 * before + 2 * «kept_count» ≤ length (now deleted)) × (before ≤ keptPlaces) ⌝ }
+    ensures { λ r. ⌜ Collected (now (w .entry)) p «kept_count» (pinRow pins) (now (w .exit)) r ⌝ }
+    ensures { λ r. ⌜ now (deleted .exit) ≡ sets (now (deleted .entry)) (2 * before) (pairs (listed p (select (λ c. not (isPinned (pinRow pins) c)) (table «kept_count» (checkpointIn (now (w .entry)) p))))) ⌝ }
+    ensures { λ r. ⌜ «kept_count» ≡ r + length (select (λ c. not (isPinned (pinRow pins) c)) (table «kept_count» (checkpointIn (now (w .entry)) p))) ⌝ }
 {
-    let first = first_unnamed(w, p, from, held, pins);
-    let to = split(w, p, first, held, pins, deleted, before);
-    clear_from(w, p, to, held);
+    let first = first_unpinned(w, p, from, kept_count, pins);
+    let to = split(w, p, first, kept_count, pins, deleted, before);
+    clear_from(w, p, to, kept_count);
     to
 }

@@ -9,7 +9,7 @@ ghost use Rattle.words.specs.Layout.{indexOf};
 ghost use Rattle.process_words.specs.Pins.{pinRow, movedRow, risenOrOwn};
 
 // Some pin of the row names the checkpoint of this word: it is kept.
-pub fn is_named(pins: [u16; PROCESSES], word: u16) -> bool
+pub fn is_pinned(pins: [u16; PROCESSES], word: u16) -> bool
     requires { ⌜ 1 ≤ word ⌝ }
     ensures { λ r. ⌜ r ≡ some-of (λ pin. names pin (indexOf word)) (pinRow pins) ⌝ }
 {

@@ -11,18 +11,18 @@ ghost use lib.ListN.{length, getD};
 ghost use lib.Seq.{sets};
 ghost use Rattle.laws.specs.Choice.{pick};
 ghost use Rattle.laws.specs.Lists.{select, table};
-ghost use Rattle.model.specs.Words.{basic, forced, entry, named, blocksOf, mostProcesses, mostInterval, mostBlocks};
+ghost use Rattle.model.specs.Words.{basic, forced, entry, isPinned, blocksOf, mostProcesses, mostInterval, mostBlocks};
 ghost use Rattle.model.specs.Sound.{sound};
 ghost use Rattle.model.specs.Steps.{listed, settled, gone, deletions, billed, advanced, checkpointed, takenVector, risen};
 ghost use Rattle.receipts.specs.Receipt.{vectorFirst};
 ghost use Rattle.whole_runs.specs.Outcomes.{pairs};
-ghost use Rattle.words.specs.Layout.{word, countOf, heldAt, markAt, blocksAt, partAt, pinsAt, intervalOf, vectorIn, checkpointIn, runOf, stateSize};
+ghost use Rattle.words.specs.Layout.{word, countOf, keptCountAt, markAt, blocksAt, partAt, pinsAt, intervalOf, vectorIn, checkpointIn, runOf, stateSize};
 ghost use Rattle.words.specs.Parts.{processIn};
 ghost use Rattle.words.specs.Puts.{puts, one, vectorPut};
-ghost use Rattle.process_words.specs.Kept.{storedPuts, Used, AllNamed};
+ghost use Rattle.process_words.specs.Kept.{storedPuts, Used, AllPinned};
 ghost use Rattle.process_words.specs.Moves.{diskIn, Moves};
 ghost use Rattle.process_words.specs.Pins.{pinRow};
-ghost use Rattle.process_words.specs.Steps.{storedIn, settledPart, unnamedIn, received};
+ghost use Rattle.process_words.specs.Steps.{storedIn, settledPart, unpinnedIn, received};
 
 // Why a checkpoint is stored. (0 is the initial one's.)
 const BASIC: u16 = 1;
@@ -78,7 +78,7 @@ fn store_if(
 }
 
 // How many checkpoints a process keeps, where `stay` of the old ones stay.
-fn held_then(stores: bool, stay: usize) -> u16
+fn kept_count_then(stores: bool, stay: usize) -> u16
     requires { ⌜ stay ≤ mostProcesses ⌝ }
     ensures { λ r. ⌜ r ≡ stay + pick stores 1 0 ⌝ }
 {
@@ -99,20 +99,20 @@ fn settle(
     deleted: &mut [u16],
 ) -> usize
     requires { ⌜ (length (now w) ≡ stateSize) × (i < mostProcesses) × (stores ≡ true → index .0 < mostInterval) × (diskIn (now w) .written ≤ mostBlocks) × (diskIn (now w) .deleted ≤ mostBlocks) ⌝ }
-    requires { ⌜ (from ≤ word (now w) (heldAt i)) × (word (now w) (heldAt i) ≤ mostProcesses) × Used (now w) i (word (now w) (heldAt i)) × AllNamed (now w) i (pinRow pins) from ⌝ }
-    requires { ⌜ (stores ≡ true → length (select (named (pinRow pins)) (table (word (now w) (heldAt i)) (checkpointIn (now w) i))) < mostProcesses) × (2 * word (now w) (heldAt i) ≤ length (now deleted)) ⌝ }
+    requires { ⌜ (from ≤ word (now w) (keptCountAt i)) × (word (now w) (keptCountAt i) ≤ mostProcesses) × Used (now w) i (word (now w) (keptCountAt i)) × AllPinned (now w) i (pinRow pins) from ⌝ }
+    requires { ⌜ (stores ≡ true → length (select (isPinned (pinRow pins)) (table (word (now w) (keptCountAt i)) (checkpointIn (now w) i))) < mostProcesses) × (2 * word (now w) (keptCountAt i) ≤ length (now deleted)) ⌝ }
     ensures { λ r. ⌜ Moves (now (w .entry)) i (settledPart (now (w .entry)) i (pinRow pins) stores (storedIn (now (w .entry)) i index cause vector)) (billed (diskIn (now (w .entry))) (pick stores (word (now (w .entry)) (blocksAt i)) 0) (r * word (now (w .entry)) (blocksAt i))) (now (w .exit)) ⌝ }
-    ensures { λ r. ⌜ now (deleted .exit) ≡ sets (now (deleted .entry)) 0 (pairs (listed i (unnamedIn (now (w .entry)) i (pinRow pins)))) ⌝ }
-    ensures { λ r. ⌜ r ≡ length (unnamedIn (now (w .entry)) i (pinRow pins)) ⌝ }
+    ensures { λ r. ⌜ now (deleted .exit) ≡ sets (now (deleted .entry)) 0 (pairs (listed i (unpinnedIn (now (w .entry)) i (pinRow pins)))) ⌝ }
+    ensures { λ r. ⌜ r ≡ length (unpinnedIn (now (w .entry)) i (pinRow pins)) ⌝ }
 {
-    let held = w[places::HELD + i] as usize;
+    let kept_count = w[places::KEPT + i] as usize;
     let blocks = w[places::BLOCKS + i];
     words::put_row(w, places::PINS + places::PART * i, pins);
-    let stay = crate::kept::collect(w, i, from, held, pins, deleted, 0);
+    let stay = crate::kept::collect(w, i, from, kept_count, pins, deleted, 0);
     store_if(w, i, stores, stay, index, cause, vector);
-    w[places::HELD + i] = held_then(stores, stay);
-    crate::disk::bill(w, stores, held - stay, blocks);
-    held - stay
+    w[places::KEPT + i] = kept_count_then(stores, stay);
+    crate::disk::bill(w, stores, kept_count - stay, blocks);
+    kept_count - stay
 }
 
 // Process i takes a checkpoint. The pins that do not move name each of its checkpoints but the last, which the own pin named. The result says how many are deleted.
@@ -124,11 +124,11 @@ pub fn checkpoint(w: &mut [u16], i: usize, deleted: &mut [u16]) -> usize
 {
     let vector = words::vector_at(w, places::PARTS + places::PART * i);
     let old = words::row_at(w, places::PINS + places::PART * i);
-    let held = w[places::HELD + i] as usize;
+    let kept_count = w[places::KEPT + i] as usize;
     let index = rows::vector::live_index(vector[i]);
     let pins = crate::pins::taken_pins(0, old, i, words::pin_word(index));
     words::put_vector(w, places::PARTS + places::PART * i, advanced(vector, i));
-    settle(w, i, pins, held - 1, true, index, BASIC, vector, deleted)
+    settle(w, i, pins, kept_count - 1, true, index, BASIC, vector, deleted)
 }
 
 // What a receipt answers: the set of the entries that rose, and how many checkpoints were deleted.

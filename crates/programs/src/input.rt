@@ -10,12 +10,12 @@ pub struct Brought {
 }
 
 // One read after the bytes held, which are as they were.
-pub fn read_behind(fd: i32, input: &mut [u8], held: usize) -> Brought
-    requires { ⌜ held ≤ length (now input) ⌝ }
-    ensures { λ r. ⌜ (held + r .more ≤ length (now (input .entry))) × (take held (now (input .exit)) ≡ take held (now (input .entry))) ⌝ }
+pub fn read_after(fd: i32, input: &mut [u8], buffered: usize) -> Brought
+    requires { ⌜ buffered ≤ length (now input) ⌝ }
+    ensures { λ r. ⌜ (buffered + r .more ≤ length (now (input .entry))) × (take buffered (now (input .exit)) ≡ take buffered (now (input .entry))) ⌝ }
 {
-    let got = libc::read(fd, &mut input[held..]);
-    let more = io::count(got, &input[held..]);
+    let got = libc::read(fd, &mut input[buffered..]);
+    let more = io::count(got, &input[buffered..]);
     Brought {
         failed: got < 0,
         more,

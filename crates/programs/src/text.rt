@@ -24,9 +24,9 @@ pub fn write_figure(out: &mut [u8], at: usize, name: &[u8], x: u64) -> usize
     requires { ⌜ at + (length (now name) + longestFigure) ≤ length (now out) ⌝ }
     ensures { λ r. ⌜ Printed (now (out .entry)) at (figureText (now (name .entry)) x) (now (out .exit)) r × (r ≤ at + (length (now (name .entry)) + longestFigure)) ⌝ }
 {
-    let named = write_word(out, at, name);
-    let told = listing::write_number(out, named, x);
-    listing::write_byte(out, told, b'\n')
+    let after_name = write_word(out, at, name);
+    let after_figure = listing::write_number(out, after_name, x);
+    listing::write_byte(out, after_figure, b'\n')
 }
 
 // `refused` and the number, at the front.

@@ -1,4 +1,4 @@
 -- Laws that belong to no one function.
-pub mod Held
+pub mod Owned
 pub mod Room
 pub mod Whole

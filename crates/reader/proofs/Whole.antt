@@ -18,7 +18,7 @@ use Rattle.whole_runs.specs.Listing.{perform, records, stateAfterRecords}
 use Rattle.trace.specs.Answers.{recordAt}
 use Rattle.reader.specs.declared.Reader.{Reader}
 use Rattle.reader.specs.Reading.{recordAfter, recordLeft, takenAfter, newReader, readerAfter}
-use Rattle.reader.specs.Whole.{handedOn, turned, parts, leftOver, joined, linesOfParts, stateAfterParts, Partition, ReadsWhole, RecordByRecord}
+use Rattle.reader.specs.Whole.{handedOn, advancedBy, parts, leftOver, joined, linesOfParts, stateAfterParts, Partition, ReadsWhole, RecordByRecord}
 
 -- Bytes of a record or more, and fewer.
 parts-more : (l : List ℕ) → 4 ≤ length l → parts l ≡ take 4 l ∷ parts (drop 4 l)
@@ -109,37 +109,37 @@ module _ (s : RefT (List ℕ)) where
   abbrev at : ℕ → Reader
   at j = record { trace = s; taken = j }
 
-  abbrev behind : ℕ → List ℕ
-  behind j = drop (1 + 4 * j) (now s)
+  abbrev afterRecords : ℕ → List ℕ
+  afterRecords j = drop (1 + 4 * j) (now s)
 
-  behind-next : (j : ℕ) → drop 4 (behind j) ≡ behind (j + 1)
-  behind-next j =
+  after-next : (j : ℕ) → drop 4 (afterRecords j) ≡ afterRecords (j + 1)
+  after-next j =
       let e : 1 + 4 * j + 4 ≡ 1 + 4 * (j + 1) = omega arith in
       drop-drop 4 (1 + 4 * j) (now s) ∙ ap (λ (m : ℕ). drop m (now s)) e
 
   -- A record is left: one iteration hands it on.
   module _ (j : ℕ) (left : recordLeft (now s) j ≡ true) where
-    room : 4 ≤ length (behind j)
+    room : 4 ≤ length (afterRecords j)
     unfolding recordLeft
     room = omega (arith, leb-true (1 + 4 * j + 4) (length (now s)) left, length-drop (1 + 4 * j) (now s))
 
-    next-parts : parts (behind j) ≡ take 4 (behind j) ∷ parts (behind (j + 1))
-    next-parts = parts-more (behind j) room ∙ ap (λ (l : List ℕ). take 4 (behind j) ∷ parts l) (behind-next j)
+    next-parts : parts (afterRecords j) ≡ take 4 (afterRecords j) ∷ parts (afterRecords (j + 1))
+    next-parts = parts-more (afterRecords j) room ∙ ap (λ (l : List ℕ). take 4 (afterRecords j) ∷ parts l) (after-next j)
 
-    next-left : leftOver (behind j) ≡ leftOver (behind (j + 1))
-    next-left = left-more (behind j) room ∙ ap leftOver (behind-next j)
+    next-left : leftOver (afterRecords j) ≡ leftOver (afterRecords (j + 1))
+    next-left = left-more (afterRecords j) room ∙ ap leftOver (after-next j)
 
     next-at : readerAfter (at j) ≡ at (j + 1)
     unfolding readerAfter takenAfter
     next-at = rw left
 
-    next-handed : (k : ℕ) → handedOn (suc k) (at j) ≡ take 4 (behind j) ∷ handedOn k (at (j + 1))
+    next-handed : (k : ℕ) → handedOn (suc k) (at j) ≡ take 4 (afterRecords j) ∷ handedOn k (at (j + 1))
     unfolding handedOn recordLeft recordAfter recordAt
     next-handed k = rw (left, next-at)
 
   -- None is left: an iteration hands on nothing and takes nothing.
   module _ (j : ℕ) (none-left : recordLeft (now s) j ≡ false) where
-    no-room : length (behind j) < 4
+    no-room : length (afterRecords j) < 4
     unfolding recordLeft
     no-room = omega (arith, leb-false (1 + 4 * j + 4) (length (now s)) none-left, length-drop (1 + 4 * j) (now s))
 
@@ -147,47 +147,47 @@ module _ (s : RefT (List ℕ)) where
     unfolding readerAfter takenAfter
     stays-at = rw none-left
 
-    stopped : (k : ℕ) → turned k (at j) ≡ at j
-    unfolding turned
+    stopped : (k : ℕ) → advancedBy k (at j) ≡ at j
+    unfolding advancedBy
     stopped zero = refl
-    stopped (suc k) = ap (turned k) stays-at ∙ stopped k
+    stopped (suc k) = ap (advancedBy k) stays-at ∙ stopped k
 
     none-handed : (k : ℕ) → handedOn k (at j) ≡ []
     unfolding handedOn
     none-handed zero = refl
     none-handed (suc k) = rw none-left
 
-    count-none : j + length (parts (behind j)) ≡ j
-    count-none = omega (arith, ap length (no-parts (behind j) no-room))
+    count-none : j + length (parts (afterRecords j)) ≡ j
+    count-none = omega (arith, ap length (no-parts (afterRecords j) no-room))
 
-    ends-here : behind (j + length (parts (behind j))) ≡ leftOver (behind j)
-    ends-here = ap behind count-none ∙ sym (all-left (behind j) no-room)
+    ends-here : afterRecords (j + length (parts (afterRecords j))) ≡ leftOver (afterRecords j)
+    ends-here = ap afterRecords count-none ∙ sym (all-left (afterRecords j) no-room)
 
-  count-next : (j : ℕ) → recordLeft (now s) j ≡ true → length (parts (behind j)) ≡ length (parts (behind (j + 1))) + 1
+  count-next : (j : ℕ) → recordLeft (now s) j ≡ true → length (parts (afterRecords j)) ≡ length (parts (afterRecords (j + 1))) + 1
   count-next j left = ap length (next-parts j left) ∙ omega arith
 
   -- In at least as many iterations as there are parts after the reader: what is handed on, where the reader is then, and what is after it.
-  handed : (k j : ℕ) → length (parts (behind j)) ≤ k → handedOn k (at j) ≡ parts (behind j)
+  handed : (k j : ℕ) → length (parts (afterRecords j)) ≤ k → handedOn k (at j) ≡ parts (afterRecords j)
   handed zero j h =
       by-bool (recordLeft (now s) j)
       (λ e. absurd (omega (arith, count-next j e)))
-      (λ e. none-handed j e zero ∙ sym (no-parts (behind j) (no-room j e)))
+      (λ e. none-handed j e zero ∙ sym (no-parts (afterRecords j) (no-room j e)))
   handed (suc k) j h =
       by-bool (recordLeft (now s) j)
-      (λ e. next-handed j e k ∙ ap (λ (t : List (List ℕ)). take 4 (behind j) ∷ t) (handed k (j + 1) (omega (arith, count-next j e))) ∙ sym (next-parts j e))
-      (λ e. none-handed j e (suc k) ∙ sym (no-parts (behind j) (no-room j e)))
+      (λ e. next-handed j e k ∙ ap (λ (t : List (List ℕ)). take 4 (afterRecords j) ∷ t) (handed k (j + 1) (omega (arith, count-next j e))) ∙ sym (next-parts j e))
+      (λ e. none-handed j e (suc k) ∙ sym (no-parts (afterRecords j) (no-room j e)))
 
-  come : (k j : ℕ) → length (parts (behind j)) ≤ k → turned k (at j) ≡ at (j + length (parts (behind j)))
-  unfolding turned
-  come zero j h = let e : j ≡ j + length (parts (behind j)) = omega arith in ap at e
+  come : (k j : ℕ) → length (parts (afterRecords j)) ≤ k → advancedBy k (at j) ≡ at (j + length (parts (afterRecords j)))
+  unfolding advancedBy
+  come zero j h = let e : j ≡ j + length (parts (afterRecords j)) = omega arith in ap at e
   come (suc k) j h =
       by-bool (recordLeft (now s) j)
       (λ e.
-      let same : (j + 1) + length (parts (behind (j + 1))) ≡ j + length (parts (behind j)) = omega (arith, count-next j e) in
-      ap (turned k) (next-at j e) ∙ come k (j + 1) (omega (arith, count-next j e)) ∙ ap at same)
+      let same : (j + 1) + length (parts (afterRecords (j + 1))) ≡ j + length (parts (afterRecords j)) = omega (arith, count-next j e) in
+      ap (advancedBy k) (next-at j e) ∙ come k (j + 1) (omega (arith, count-next j e)) ∙ ap at same)
       (λ e. stopped j e (suc k) ∙ ap at (sym (count-none j e)))
 
-  ends : (k j : ℕ) → length (parts (behind j)) ≤ k → behind (j + length (parts (behind j))) ≡ leftOver (behind j)
+  ends : (k j : ℕ) → length (parts (afterRecords j)) ≤ k → afterRecords (j + length (parts (afterRecords j))) ≡ leftOver (afterRecords j)
   ends zero j h =
       by-bool (recordLeft (now s) j)
       (λ e. absurd (omega (arith, count-next j e)))
@@ -195,8 +195,8 @@ module _ (s : RefT (List ℕ)) where
   ends (suc k) j h =
       by-bool (recordLeft (now s) j)
       (λ e.
-      let same : j + length (parts (behind j)) ≡ (j + 1) + length (parts (behind (j + 1))) = omega (arith, count-next j e) in
-      ap behind same ∙ ends k (j + 1) (omega (arith, count-next j e)) ∙ sym (next-left j e))
+      let same : j + length (parts (afterRecords j)) ≡ (j + 1) + length (parts (afterRecords (j + 1))) = omega (arith, count-next j e) in
+      ap afterRecords same ∙ ends k (j + 1) (omega (arith, count-next j e)) ∙ sym (next-left j e))
       (λ e. ends-here j e)
 
   at-start : newReader s ≡ at 0
@@ -205,11 +205,11 @@ module _ (s : RefT (List ℕ)) where
 
   reads-whole : (k : ℕ) → length (parts (drop 1 (now s))) ≤ k → ReadsWhole s k
   reads-whole k h =
-      let then : turned k (newReader s) .taken ≡ 0 + length (parts (behind 0)) = ap (λ (r : Reader). turned k r .taken) at-start ∙ ap (λ (r : Reader). r .taken) (come k 0 h) in
+      let then : advancedBy k (newReader s) .taken ≡ 0 + length (parts (afterRecords 0)) = ap (λ (r : Reader). advancedBy k r .taken) at-start ∙ ap (λ (r : Reader). r .taken) (come k 0 h) in
       record {
         all-parts = ap (handedOn k) at-start ∙ handed k 0 h;
         counted = then ∙ omega arith;
-        left-behind = ap behind then ∙ ends k 0 h;
+        left-after = ap afterRecords then ∙ ends k 0 h;
       }
 
 pub record-by-record : RecordByRecord

@@ -21,9 +21,9 @@ unfoldable pub handedOn : ℕ → Reader → List (List ℕ)
 handedOn zero r = []
 handedOn (suc k) r = pick (recordLeft (now (r .trace)) (r .taken)) (recordAfter (now (r .trace)) (r .taken) ∷ handedOn k (readerAfter r)) []
 
-unfoldable pub turned : ℕ → Reader → Reader
-turned zero r = r
-turned (suc k) r = turned k (readerAfter r)
+unfoldable pub advancedBy : ℕ → Reader → Reader
+advancedBy zero r = r
+advancedBy (suc k) r = advancedBy k (readerAfter r)
 
 -- The four-byte parts of the bytes after the first one, in their order, and the one to three bytes left over.
 unfoldable pub parts : List ℕ → List (List ℕ)
@@ -70,9 +70,9 @@ pub record ReadsWhole (trace : RefT (List ℕ)) (k : ℕ) : Type 0 where
   -- it has handed on the parts of the trace and nothing else
   pub all-parts : handedOn k (newReader trace) ≡ parts (drop 1 (now trace))
   -- its count is how many they are
-  pub counted : turned k (newReader trace) .taken ≡ length (parts (drop 1 (now trace)))
+  pub counted : advancedBy k (newReader trace) .taken ≡ length (parts (drop 1 (now trace)))
   -- after it are the left-over bytes
-  pub left-behind : drop (1 + 4 * turned k (newReader trace) .taken) (now trace) ≡ leftOver (drop 1 (now trace))
+  pub left-after : drop (1 + 4 * advancedBy k (newReader trace) .taken) (now trace) ≡ leftOver (drop 1 (now trace))
 
 -- "It hands a record on as the part of the trace with its four bytes": for every trace.
 abbrev pub RecordByRecord : Type 0

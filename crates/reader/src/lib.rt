@@ -11,7 +11,7 @@ pub struct Reader<'a> {
 }
 
 // The part after the first byte and the records taken. A fourth of the length bounds the count, so that no product wraps.
-fn part_behind<'a>(trace: &'a [u8], taken: usize) -> &'a [u8]
+fn part_after<'a>(trace: &'a [u8], taken: usize) -> &'a [u8]
     ensures { λ r. ⌜ now r ≡ recordAfter (now (trace .entry)) taken ⌝ }
 {
     if taken < trace.len() / 4 {
@@ -30,7 +30,7 @@ pub fn record_left(trace: &[u8], taken: usize) -> bool
     false
 }
 
-fn count_behind(trace: &[u8], taken: usize) -> usize
+fn count_after(trace: &[u8], taken: usize) -> usize
     ensures { λ r. ⌜ r ≡ takenAfter (now (trace .entry)) taken ⌝ }
 {
     if record_left(trace, taken) {
@@ -58,7 +58,7 @@ pub fn has_record<'a>(r: Reader<'a>) -> bool
 pub fn next_record<'a>(r: Reader<'a>) -> &'a [u8]
     ensures { λ p. ⌜ now p ≡ recordAfter (now (r .entry .trace)) (r .entry .taken) ⌝ }
 {
-    part_behind(r.trace, r.taken)
+    part_after(r.trace, r.taken)
 }
 
 // The reader after that record: the count is one higher, or as it was where no record is left.
@@ -67,7 +67,7 @@ pub fn advance<'a>(r: Reader<'a>) -> Reader<'a>
 {
     Reader {
         trace: r.trace,
-        taken: count_behind(r.trace, r.taken),
+        taken: count_after(r.trace, r.taken),
     }
 }
 

@@ -27,7 +27,7 @@ use Rattle.model.specs.Refusals.{Rule, firstOf, unsound}
 use Rattle.model.specs.laws.Refusals.{Gives, refusal-in}
 use Rattle.whole_runs.specs.Outcomes.{refusing, accepting}
 use Rattle.answers.specs.Codes.{coded, valueCode}
-use Rattle.words.specs.Layout.{word, wide2, wide4, countOf, endOf, heldAt, partAt, pinsAt, indexAt, pinOf, vectorIn, pinsIn, checkpointIn, messageIn, isMessage, messagesIn, runOf}
+use Rattle.words.specs.Layout.{word, wide2, wide4, countOf, endOf, keptCountAt, partAt, pinsAt, indexAt, pinOf, vectorIn, pinsIn, checkpointIn, messageIn, isMessage, messagesIn, runOf}
 use Rattle.words.specs.Parts.{processIn}
 use Rattle.words.proofs.Same.{vector-word}
 use Rattle.words.proofs.View.{count-is, underway-is, last-is, written-is, deleted-is}
@@ -52,13 +52,13 @@ module _ (rules : List Rule) (value : Option ℕ) (numbers lent : List ℕ) wher
   read-by h = rw (refusal-in rules none h)
 
 -- The answer and the list of an outcome.
-pub told : {r : Reading} {code : ℕ} {list : List ℕ} {q : Reading} → r ≡ q → code ≡ coded (q .report) 0 → list ≡ q .list → (code ≡ coded (r .report) 0) × (list ≡ r .list)
-told e a b = rw e (a, b)
+pub answer-is : {r : Reading} {code : ℕ} {list : List ℕ} {q : Reading} → r ≡ q → code ≡ coded (q .report) 0 → list ≡ q .list → (code ≡ coded (r .report) 0) × (list ≡ r .list)
+answer-is e a b = rw e (a, b)
 
 -- Accepted with no value, the number of the answer is 0.
-pub nothing-said : 0 ≡ coded (accepting none 0) 0
+pub nothing-reported : 0 ≡ coded (accepting none 0) 0
 unfolding coded valueCode
-nothing-said = refl
+nothing-reported = refl
 
 pin-word : (x : ℕ) → pinNumber (pinOf x) ≡ x
 unfolding pinNumber pinOf
@@ -153,11 +153,11 @@ module _ (w : List ℕ) (h : sound (runOf w) ≡ true) where
     kept-absent le past = process-absent p (3 * s .count) _ _ lent (omega (arith, n-is)) past
 
     pub kept-read : 3 * countOf w ≤ length lent → p < countOf w
-        → keptReading s p lent ≡ read (some (word w (heldAt p))) (storedNumbers (table (word w (heldAt p)) (checkpointIn w p))) lent
+        → keptReading s p lent ≡ read (some (word w (keptCountAt p))) (storedNumbers (table (word w (keptCountAt p)) (checkpointIn w p))) lent
     unfolding keptReading
     kept-read le lt = process-read p (3 * s .count) _ _ lent (omega (arith, n-is)) lt
         ∙ ap (λ (l : List Checkpoint). read (some (length l)) (storedNumbers l) lent) (sound-kept-is w h p lt)
-        ∙ ap (λ (k : ℕ). read (some k) (storedNumbers (table (word w (heldAt p)) (checkpointIn w p))) lent) (length-table (word w (heldAt p)) (checkpointIn w p))
+        ∙ ap (λ (k : ℕ). read (some k) (storedNumbers (table (word w (keptCountAt p)) (checkpointIn w p))) lent) (length-table (word w (keptCountAt p)) (checkpointIn w p))
 
   pub messages-short : (lent : List ℕ) → length lent < 192 → messagesReading s lent ≡ refusedBy ListTooShort lent
   unfolding messagesReading

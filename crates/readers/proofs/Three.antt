@@ -39,10 +39,10 @@ sent-length [] = refl
 sent-length (y ∷ l) = omega (arith, sent-length l)
 
 -- The checkpoints of the first k places, and one more.
-pub stored-turn : (f : ℕ → Checkpoint) (l₀ l : List ℕ) (k : ℕ) → l ≡ sets l₀ 0 (storedNumbers (table k f))
+pub stored-step : (f : ℕ → Checkpoint) (l₀ l : List ℕ) (k : ℕ) → l ≡ sets l₀ 0 (storedNumbers (table k f))
     → sets l (3 * k) (threeStored (f k)) ≡ sets l₀ 0 (storedNumbers (table (k + 1) f))
 unfolding table
-stored-turn f l₀ l k inv =
+stored-step f l₀ l k inv =
     rw (add-one k) (
     sets-after l₀ l 0 (3 * k) (storedNumbers (table k f)) inv (omega (arith, stored-length (table k f), length-table k f)) (threeStored (f k))
     ∙ ap (sets l₀ 0) (sym (stored-more (table k f) (f k))))
@@ -53,9 +53,9 @@ module _ (t : Message → Bool) (f : ℕ → Message) (l₀ l : List ℕ) (k man
   unfolding table
   more = rw (add-one k) (select-append t (table k f) (f k ∷ []) ∙ ap (λ (z : List Message). select t (table k f) ++ z) (select-one t (f k)))
 
-  pub sent-turn : (pick (t (f k)) (sets l (3 * many) (threeOf (f k))) l ≡ sets l₀ 0 (sentNumbers (select t (table (k + 1) f))))
+  pub sent-step : (pick (t (f k)) (sets l (3 * many) (threeOf (f k))) l ≡ sets l₀ 0 (sentNumbers (select t (table (k + 1) f))))
       × (pick (t (f k)) (many + 1) many ≡ length (select t (table (k + 1) f)))
-  sent-turn = rw more (by-bool (t (f k))
+  sent-step = rw more (by-bool (t (f k))
       (λ is. rw is (
         sets-after l₀ l 0 (3 * many) (sentNumbers (select t (table k f))) inv (omega (arith, sent-length (select t (table k f)))) (threeOf (f k))
             ∙ ap (sets l₀ 0) (sym (sent-more (select t (table k f)) (f k))),

@@ -20,7 +20,7 @@ ghost use Rattle.model.specs.Sound.{sound};
 ghost use Rattle.model.specs.Words.{mostProcesses, mostUnderWay};
 ghost use Rattle.whole_runs.specs.Outcomes.{refusing, accepting};
 ghost use Rattle.answers.specs.Codes.{coded};
-ghost use Rattle.words.specs.Layout.{word, countOf, endOf, heldAt, indexAt, checkpointIn, messageIn, isMessage, messagesIn, runOf, stateSize};
+ghost use Rattle.words.specs.Layout.{word, countOf, endOf, keptCountAt, indexAt, checkpointIn, messageIn, isMessage, messagesIn, runOf, stateSize};
 ghost use Rattle.readers.specs.Readings.{numbersReading, vectorReading, pinsReading, storedNumbers, keptReading, sentNumbers, messagesReading, carriedReading};
 ghost use Rattle.readers.specs.Written.{numbersIn, wordsFrom, rowReading, threeStored, threeOf, messagesBelow};
 
@@ -35,8 +35,8 @@ pub(crate) const THREE: usize = 3;
 pub fn refused(why: Refusal) -> u64
     ensures { λ r. ⌜ r ≡ coded (refusing why) 0 ⌝ }
 {
-    let said = summaries::refused(why);
-    code_of(said, 0)
+    let summary = summaries::refused(why);
+    code_of(summary, 0)
 }
 
 // That many things were read; the field of the answer has 24 bits.
@@ -45,12 +45,12 @@ pub fn counted(many: usize) -> u64
     ensures { λ r. ⌜ r ≡ coded (accepting (some many) 0) 0 ⌝ }
 {
     let value = Value::Number(many as u64);
-    let said = Summary {
+    let summary = Summary {
         refused: 0,
         value,
         deletions: 0,
     };
-    code_of(said, 0)
+    code_of(summary, 0)
 }
 
 fn number_of(x: u16) -> usize
@@ -115,12 +115,12 @@ fn write_checkpoint(w: &[u16], p: usize, k: usize, out: &mut [u32])
     put_three(out, THREE * k, number, cause, blocks);
 }
 
-// The first `held` checkpoints in the places of process p, three numbers each.
-fn write_kept(w: &[u16], p: usize, held: usize, out: &mut [u32])
-    requires { ⌜ (length (now w) ≡ stateSize) × (p < mostProcesses) × (held ≤ mostProcesses) × (3 * held ≤ length (now out)) × ((k : ℕ) → k < held → 1 ≤ word (now w) (indexAt p k)) ⌝ }
-    ensures { λ u. ⌜ now (out .exit) ≡ sets (now (out .entry)) 0 (storedNumbers (table held (checkpointIn (now (w .entry)) p))) ⌝ }
+// The first `kept_count` checkpoints in the places of process p, three numbers each.
+fn write_kept(w: &[u16], p: usize, kept_count: usize, out: &mut [u32])
+    requires { ⌜ (length (now w) ≡ stateSize) × (p < mostProcesses) × («kept_count» ≤ mostProcesses) × (3 * «kept_count» ≤ length (now out)) × ((k : ℕ) → k < «kept_count» → 1 ≤ word (now w) (indexAt p k)) ⌝ }
+    ensures { λ u. ⌜ now (out .exit) ≡ sets (now (out .entry)) 0 (storedNumbers (table «kept_count» (checkpointIn (now (w .entry)) p))) ⌝ }
 {
-    for k in 0..held {
+    for k in 0..kept_count {
         write_checkpoint(w, p, k, out);
     }
 }
@@ -235,10 +235,10 @@ pub fn kept_on(w: &[u16], process: usize, kept: &mut [u32]) -> u64
     if n <= process {
         return refused(Refusal::NoSuchProcess);
     }
-    let held_at = places::held_at(process);
-    let held = number_of(w[held_at]);
-    write_kept(w, process, held, kept);
-    counted(held)
+    let kept_count_at = places::kept_count_at(process);
+    let kept_count = number_of(w[kept_count_at]);
+    write_kept(w, process, kept_count, kept);
+    counted(kept_count)
 }
 
 // The messages under way.

@@ -95,7 +95,7 @@ pub fn lost_on(w: &[u16], failed: u32, messages: &mut [u32]) -> u64
         return refused(Refusal::ListTooShort);
     }
     let n = count_in(w);
-    let outside = verdicts::is_outside(failed, n);
+    let outside = admissions::is_outside(failed, n);
     if outside {
         return refused(Refusal::NoSuchFailedProcess);
     }

@@ -17,5 +17,5 @@ module _ (s : Run) (h : sound s ≡ true) where
 
   module _ (p : ℕ) (lt : p < s .count) where
     -- no more checkpoints are kept than there are places
-    pub held-places : getD (s .held) p 0 ≤ mostProcesses
-    held-places = omega (arith, sound-state s h .processes p lt .held-most, sound-state s h .count-most)
+    pub kept-count-places : getD (s .«kept_count») p 0 ≤ mostProcesses
+    kept-count-places = omega (arith, sound-state s h .processes p lt .kept-count-most, sound-state s h .count-most)

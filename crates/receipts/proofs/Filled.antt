@@ -20,7 +20,7 @@ use Rattle.model.specs.Words.{mostProcesses, zeroVector, noCheckpoint, process,
 use Rattle.model.specs.Sound.{zeroFrom, unusedCheckpoint, sound}
 use Rattle.model.specs.laws.Sound.{sound-state}
 use Rattle.receipts.specs.Sized.{Sized}
-use Rattle.receipts.proofs.Facts.{place, held-places}
+use Rattle.receipts.proofs.Facts.{place, kept-count-places}
 
 -- A list whose entries from place k on pass a test, where an entry that passes is x: it is its first k entries, filled up with x.
 module _ {A : Type 0} (t : A → Bool) (x : A) where
@@ -76,11 +76,11 @@ module _ (s : Run) (size : Sized s) (h : sound s ≡ true) where
     pub row-filled : getD (s .kept .0) p [] ≡ placed mostProcesses noCheckpoint (process s p .kept)
     unfolding process
     row-filled =
-        filled unusedCheckpoint noCheckpoint (getD (s .held) p 0) (getD (s .kept .0) p []) (sound-state s h .processes p lt .row-unused)
+        filled unusedCheckpoint noCheckpoint (getD (s .«kept_count») p 0) (getD (s .kept .0) p []) (sound-state s h .processes p lt .row-unused)
         (λ j less e. zero-checkpoint (getD (getD (s .kept .0) p []) j noCheckpoint) e (size .stored p j (place s h p lt) (omega (arith, size .kept-row p (place s h p lt)))))
-        ∙ ap (λ (n : ℕ). placed n noCheckpoint (take (getD (s .held) p 0) (getD (s .kept .0) p []))) (size .kept-row p (place s h p lt))
+        ∙ ap (λ (n : ℕ). placed n noCheckpoint (take (getD (s .«kept_count») p 0) (getD (s .kept .0) p []))) (size .kept-row p (place s h p lt))
 
-    pub row-many : length (process s p .kept) ≡ getD (s .held) p 0
+    pub row-many : length (process s p .kept) ≡ getD (s .«kept_count») p 0
     unfolding process
     row-many =
-        rw length-take (min-eq-left (omega (arith, held-places s h p lt, size .kept-row p (place s h p lt))))
+        rw length-take (min-eq-left (omega (arith, kept-count-places s h p lt, size .kept-row p (place s h p lt))))

@@ -13,11 +13,11 @@ use Rattle.model.specs.declared.Interval.{Interval}
 use Rattle.model.specs.declared.Pin.{Pin}
 use Rattle.model.specs.declared.Pin.the-variants.{Nothing, At}
 use Rattle.model.specs.declared.Checkpoint.{Checkpoint}
-use Rattle.model.specs.Words.{entry, liveIndex, named, noCheckpoint, Process}
+use Rattle.model.specs.Words.{entry, liveIndex, isPinned, noCheckpoint, Process}
 use Rattle.model.specs.Steps.{settled, gone, storing, checkpointed, takenIn}
 use Rattle.model.specs.Sound.{ascending}
 use Rattle.receipts.specs.Receipt.{vectorFirst, pinsFirst, vectorThen, pinsThen, keptThen}
-use Rattle.receipts.proofs.Settling.{indexes, room-behind, stays-behind, deleted-before, moved-own, taken-own, taken-length}
+use Rattle.receipts.proofs.Settling.{indexes, room-after, stays-after, deleted-before, moved-own, taken-own, taken-length}
 
 module _ (cause i : ℕ) (carried : List Interval) (P : Process) where
   abbrev pub received : Bool → Process
@@ -38,12 +38,12 @@ module _ (cause i : ℕ) (carried : List Interval) (P : Process) where
 
     -- and so a place is free for it, whatever is taken in
     pub receipt-room : ascending 0 (indexes (P .kept)) ≡ true → orElse (lastOf (P .kept)) noCheckpoint .index .0 < liveIndex (entry (P .vector) i) .0
-        → length (select (named (pinsAfter true)) (P .kept)) < 16
+        → length (select (isPinned (pinsAfter true)) (P .kept)) < 16
     unfolding pinsThen storing
     receipt-room up before =
         omega (
           arith,
-          room-behind (pinsAfter true) i (storing cause i P) there own-pin 0 noCheckpoint (P .kept) up before,
+          room-after (pinsAfter true) i (storing cause i P) there own-pin 0 noCheckpoint (P .kept) up before,
           taken-length i (vectorFirst true i (P .vector)) carried (pinsFirst true i (liveIndex (entry (P .vector) i)) (P .pins)),
         )
 
@@ -58,10 +58,10 @@ module _ (cause i : ℕ) (carried : List Interval) (P : Process) where
     unfolding settled takenIn checkpointed storing vectorThen pinsThen keptThen vectorFirst pinsFirst
     receipt-leaves true =
         ap (λ (l : List Checkpoint). record { vector = vectorThen true i (P .vector) carried; pins = pinsAfter true; mark = false; kept = l })
-        (stays-behind (pinsAfter true) i (storing cause i P) there own-pin (P .kept))
+        (stays-after (pinsAfter true) i (storing cause i P) there own-pin (P .kept))
     receipt-leaves false = refl
 
-    pub receipt-gone : (stores : Bool) → gone (received stores) ≡ select (λ c. not (named (pinsAfter stores) c)) (P .kept)
+    pub receipt-gone : (stores : Bool) → gone (received stores) ≡ select (λ c. not (isPinned (pinsAfter stores) c)) (P .kept)
     unfolding gone takenIn checkpointed storing pinsThen vectorFirst pinsFirst
     receipt-gone true = deleted-before (pinsAfter true) i (storing cause i P) there own-pin (P .kept)
     receipt-gone false = refl

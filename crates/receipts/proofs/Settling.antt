@@ -23,19 +23,19 @@ use Rattle.model.specs.declared.CheckpointIndex.{CheckpointIndex}
 use Rattle.model.specs.declared.Pin.{Pin}
 use Rattle.model.specs.declared.Pin.the-variants.{Nothing, At}
 use Rattle.model.specs.declared.Checkpoint.{Checkpoint}
-use Rattle.model.specs.Words.{entry, below, names, named}
+use Rattle.model.specs.Words.{entry, below, names, isPinned}
 use Rattle.model.specs.Steps.{takenPin, takenPins}
 use Rattle.model.specs.Sound.{ascending}
 
 -- the kept ones that a pin names
-abbrev pub namedBy : Pin → List Checkpoint → List Checkpoint
-namedBy pin l = select (λ c. names pin (c .index)) l
+abbrev pub pinnedBy : Pin → List Checkpoint → List Checkpoint
+pinnedBy pin l = select (λ c. names pin (c .index)) l
 
 abbrev pub indexes : List Checkpoint → List ℕ
 indexes l = map (λ c. c .index .0) l
 
 -- Where indexes ascend from above a pin's, the pin names none.
-pub ascending-none : (low : ℕ) (a : CheckpointIndex) (l : List Checkpoint) → ascending low (indexes l) ≡ true → a .0 < low → namedBy (At a) l ≡ []
+pub ascending-none : (low : ℕ) (a : CheckpointIndex) (l : List Checkpoint) → ascending low (indexes l) ≡ true → a .0 < low → pinnedBy (At a) l ≡ []
 unfolding select ascending
 ascending-none low a [] h b = refl
 ascending-none low a (c ∷ l) h b =
@@ -44,7 +44,7 @@ ascending-none low a (c ∷ l) h b =
     rw (ne-eqb (a .0) (c .index .0) other) (ascending-none (suc (c .index .0)) a l (and-right (leb low (c .index .0)) _ h) (omega arith))
 
 -- Where indexes ascend, a pin names at most one.
-pub ascending-one : (low : ℕ) (pin : Pin) (l : List Checkpoint) → ascending low (indexes l) ≡ true → length (namedBy pin l) ≤ 1
+pub ascending-one : (low : ℕ) (pin : Pin) (l : List Checkpoint) → ascending low (indexes l) ≡ true → length (pinnedBy pin l) ≤ 1
 unfolding select ascending
 ascending-one low pin [] h = omega arith
 ascending-one low Nothing (c ∷ l) h = ascending-one (suc (c .index .0)) Nothing l (and-right (leb low (c .index .0)) _ h)
@@ -68,7 +68,7 @@ ascending-last low d (c ∷ l) h b =
 
 -- So a pin above the last names none.
 pub ascending-above : (low : ℕ) (d : Checkpoint) (a : CheckpointIndex) (l : List Checkpoint) → ascending low (indexes l) ≡ true
-    → orElse (lastOf l) d .index .0 < a .0 → namedBy (At a) l ≡ []
+    → orElse (lastOf l) d .index .0 < a .0 → pinnedBy (At a) l ≡ []
 unfolding select lastOf ascending
 ascending-above low d a [] h b = refl
 ascending-above low d a (c ∷ l) h b =
@@ -78,43 +78,43 @@ ascending-above low d a (c ∷ l) h b =
     rw (ne-eqb (a .0) (c .index .0) other) (ascending-above (suc (c .index .0)) c a l rest b)
 
 -- Where each pin names at most one, no more are named than there are pins.
-module _ (l : List Checkpoint) (one : (pin : Pin) → length (namedBy pin l) ≤ 1) where
-  pub named-most : (pins : List Pin) → length (select (named pins) l) ≤ length pins
-  unfolding named some-of
-  named-most [] = omega (arith, ap length (select-none (λ c. some-of (λ q. names q (c .index)) []) l (λ c. refl)))
-  named-most (pin ∷ pins) =
-      omega (arith, select-or (λ c. names pin (c .index)) (λ c. some-of (λ q. names q (c .index)) pins) l, one pin, named-most pins)
+module _ (l : List Checkpoint) (one : (pin : Pin) → length (pinnedBy pin l) ≤ 1) where
+  pub pinned-most : (pins : List Pin) → length (select (isPinned pins) l) ≤ length pins
+  unfolding isPinned some-of
+  pinned-most [] = omega (arith, ap length (select-none (λ c. some-of (λ q. names q (c .index)) []) l (λ c. refl)))
+  pinned-most (pin ∷ pins) =
+      omega (arith, select-or (λ c. names pin (c .index)) (λ c. some-of (λ q. names q (c .index)) pins) l, one pin, pinned-most pins)
 
   -- and where one of them names none, there are fewer
-  pub named-fewer : (pins : List Pin) (i : ℕ) → i < length pins → namedBy (getD pins i Nothing) l ≡ [] → length (select (named pins) l) < length pins
-  unfolding named some-of
-  named-fewer [] i h e = absurd (omega arith)
-  named-fewer (pin ∷ pins) zero h e =
-      omega (arith, select-or (λ c. names pin (c .index)) (λ c. some-of (λ q. names q (c .index)) pins) l, ap length e, named-most pins)
-  named-fewer (pin ∷ pins) (suc i) h e =
-      omega (arith, select-or (λ c. names pin (c .index)) (λ c. some-of (λ q. names q (c .index)) pins) l, one pin, named-fewer pins i (omega arith) e)
+  pub pinned-fewer : (pins : List Pin) (i : ℕ) → i < length pins → pinnedBy (getD pins i Nothing) l ≡ [] → length (select (isPinned pins) l) < length pins
+  unfolding isPinned some-of
+  pinned-fewer [] i h e = absurd (omega arith)
+  pinned-fewer (pin ∷ pins) zero h e =
+      omega (arith, select-or (λ c. names pin (c .index)) (λ c. some-of (λ q. names q (c .index)) pins) l, ap length e, pinned-most pins)
+  pinned-fewer (pin ∷ pins) (suc i) h e =
+      omega (arith, select-or (λ c. names pin (c .index)) (λ c. some-of (λ q. names q (c .index)) pins) l, one pin, pinned-fewer pins i (omega arith) e)
 
 -- The own pin, at place i, names checkpoint c, which is put after others.
 module _ (pins : List Pin) (i : ℕ) (c : Checkpoint) (h : i < length pins) (own-pin : getD pins i Nothing ≡ At (c .index)) where
-  pub own-named : named pins c ≡ true
-  unfolding named
-  own-named = some-at (λ pin. names pin (c .index)) pins i Nothing h (rw own-pin (eq-eqb (c .index .0) (c .index .0) refl))
+  pub own-pinned : isPinned pins c ≡ true
+  unfolding isPinned
+  own-pinned = some-at (λ pin. names pin (c .index)) pins i Nothing h (rw own-pin (eq-eqb (c .index .0) (c .index .0) refl))
 
   -- it stays after those that stay
-  pub stays-behind : (l : List Checkpoint) → select (named pins) (l ++ (c ∷ [])) ≡ select (named pins) l ++ (c ∷ [])
+  pub stays-after : (l : List Checkpoint) → select (isPinned pins) (l ++ (c ∷ [])) ≡ select (isPinned pins) l ++ (c ∷ [])
   unfolding select
-  stays-behind l = rw (select-append, own-named)
+  stays-after l = rw (select-append, own-pinned)
 
   -- it is not deleted
-  pub deleted-before : (l : List Checkpoint) → select (λ x. not (named pins x)) (l ++ (c ∷ [])) ≡ select (λ x. not (named pins x)) l
+  pub deleted-before : (l : List Checkpoint) → select (λ x. not (isPinned pins x)) (l ++ (c ∷ [])) ≡ select (λ x. not (isPinned pins x)) l
   unfolding select
-  deleted-before l = rw (select-append, own-named, append-nil)
+  deleted-before l = rw (select-append, own-pinned, append-nil)
 
   -- and there is room for it
-  pub room-behind : (low : ℕ) (d : Checkpoint) (l : List Checkpoint) → ascending low (indexes l) ≡ true → orElse (lastOf l) d .index .0 < c .index .0
-      → length (select (named pins) l) < length pins
-  room-behind low d l up last =
-      named-fewer l (λ pin. ascending-one low pin l up) pins i h (rw own-pin (ascending-above low d (c .index) l up last))
+  pub room-after : (low : ℕ) (d : Checkpoint) (l : List Checkpoint) → ascending low (indexes l) ≡ true → orElse (lastOf l) d .index .0 < c .index .0
+      → length (select (isPinned pins) l) < length pins
+  room-after low d l up last =
+      pinned-fewer l (λ pin. ascending-one low pin l up) pins i h (rw own-pin (ascending-above low d (c .index) l up last))
 
 -- The own pin after it was moved.
 pub moved-own : (pins : List Pin) (i : ℕ) (a : CheckpointIndex) → i < length pins → getD (set pins i (At a)) i Nothing ≡ At a

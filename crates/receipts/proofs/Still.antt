@@ -15,7 +15,7 @@ use Rattle.model.specs.declared.Pin.{Pin}
 use Rattle.model.specs.declared.Pin.the-variants.{Nothing}
 use Rattle.model.specs.declared.Checkpoint.{Checkpoint}
 use Rattle.model.specs.declared.Run.{Run}
-use Rattle.model.specs.Words.{entry, below, named, Process, process}
+use Rattle.model.specs.Words.{entry, below, isPinned, Process, process}
 use Rattle.model.specs.Steps.{settled, gone, newer, takenEntry, takenVector, takenPin, takenPins, takenIn}
 use Rattle.model.specs.Sound.{sound}
 use Rattle.model.specs.laws.Sound.{sound-state}
@@ -52,14 +52,14 @@ taken-still i carried P vector pins still = λ j. record {
 
 -- "every kept one is pinned": where the pins have not moved, nothing is deleted.
 module _ (s : Run) (h : sound s ≡ true) (i : ℕ) (lt : i < s .count) where
-  kept-named : every (named (process s i .pins)) (process s i .kept) ≡ true
-  kept-named = sound-state s h .processes i lt .kept-pinned
+  all-kept-pinned : every (isPinned (process s i .pins)) (process s i .kept) ≡ true
+  all-kept-pinned = sound-state s h .processes i lt .kept-pinned
 
   pub settled-still : settled (process s i) ≡ process s i
   unfolding settled
   settled-still = ap (λ (l : List Checkpoint). record { vector = process s i .vector; pins = process s i .pins; mark = process s i .mark; kept = l })
-      (all-chosen (named (process s i .pins)) (process s i .kept) kept-named)
+      (all-chosen (isPinned (process s i .pins)) (process s i .kept) all-kept-pinned)
 
   pub gone-still : gone (process s i) ≡ []
   unfolding gone
-  gone-still = none-chosen (named (process s i .pins)) (process s i .kept) kept-named
+  gone-still = none-chosen (isPinned (process s i .pins)) (process s i .kept) all-kept-pinned

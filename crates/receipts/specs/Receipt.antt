@@ -12,7 +12,7 @@ use Rattle.model.specs.declared.CheckpointIndex.{CheckpointIndex}
 use Rattle.model.specs.declared.Pin.{Pin}
 use Rattle.model.specs.declared.Pin.the-variants.{At}
 use Rattle.model.specs.declared.Checkpoint.{Checkpoint}
-use Rattle.model.specs.Words.{named}
+use Rattle.model.specs.Words.{isPinned}
 use Rattle.model.specs.Steps.{advanced, takenVector, takenPins}
 
 -- the vector and the pins once the checkpoint is stored
@@ -30,4 +30,4 @@ unfoldable pub pinsThen : Bool → ℕ → CheckpointIndex → List Interval →
 pinsThen stores i index vector carried pins = takenPins i (vectorFirst stores i vector) carried (pinsFirst stores i index pins)
 
 unfoldable pub keptThen : Bool → List Pin → List Checkpoint → Checkpoint → List Checkpoint
-keptThen stores pins l live = pick stores (select (named pins) l ++ (live ∷ [])) (select (named pins) l)
+keptThen stores pins l live = pick stores (select (isPinned pins) l ++ (live ∷ [])) (select (isPinned pins) l)

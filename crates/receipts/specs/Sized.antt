@@ -16,6 +16,6 @@ pub record Sized (s : Run) : Type 0 where
   pub kept : length (s .kept .0) ≡ mostProcesses
   pub kept-row : (p : ℕ) → p < mostProcesses → length (getD (s .kept .0) p []) ≡ mostProcesses
   pub stored : (p k : ℕ) → p < mostProcesses → k < mostProcesses → length (getD (getD (s .kept .0) p []) k noCheckpoint .vector) ≡ mostProcesses
-  pub held : length (s .held) ≡ mostProcesses
+  pub «kept_count» : length (s .«kept_count») ≡ mostProcesses
   pub messages : length (s .messages) ≡ mostUnderWay
   pub carried : (k : ℕ) → k < mostUnderWay → length (getD (s .messages) k noMessage .vector) ≡ mostProcesses

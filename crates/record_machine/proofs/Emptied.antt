@@ -24,7 +24,7 @@ use Rattle.whole_runs.specs.Listing.{callOf}
 use Rattle.recording.specs.Replay.{recordBytes}
 use Rattle.recording.specs.Recording.{Recorded, Tape, Taped, unwritten, appended, recording, taped, recorded, recordedCheckpoint, recordedSend, recordedDeliver, recordedLose, recordedRecover, tapeAfter}
 use Rattle.record_machine.specs.Recorded.{callIn, callsIn, lent, inFront, recordedIn, lineFor, linesIn}
-use Rattle.record_machine.specs.Records.{Standing, emptied, taken, standingBehind, bytesOf, lineOf, standingAfter, bytesAfter, linesAfter, StandsAt}
+use Rattle.record_machine.specs.Records.{Standing, emptied, taken, standingNext, bytesOf, lineOf, standingAfter, bytesAfter, linesAfter, StandsAt}
 
 -- Two tapes with the same state, and both with room for a record or both without.
 pub record SameRoom (t u : Tape) : Type 0 where
@@ -169,8 +169,8 @@ module _ (g : Standing) (t : Tape) (w : StandsAt g t) where
   one o = record-alike t (emptied g) same-room o
 
   -- One record leaves a long buffer that stands where the emptied one does,
-  pub stands-on : (o : Option Event) → StandsAt (standingBehind g o) (recordedIn t o .tape)
-  unfolding standingBehind emptied
+  pub stands-on : (o : Option Event) → StandsAt (standingNext g o) (recordedIn t o .tape)
+  unfolding standingNext emptied
   stands-on o =
       let x = one o in
       let size : length (recordedIn t o .tape .buffer) ≡ length (t .buffer) = ap (λ (l : List ℕ). length l) (x .buffer) ∙ length-sets (t .buffer) (t .place) (x .bytes) in
@@ -192,10 +192,10 @@ module _ (g : Standing) (t : Tape) (w : StandsAt g t) where
   same-line o = ap (λ (r : Reply). lineFor (g .done + 1) (r .report .refused)) (one o .reply)
 
 -- The calls of a record and of those after it.
-calls-behind : (t : Tape) (o : Option Event) (l : List Call) → tapeAfter t (callIn o ++ l) ≡ tapeAfter (recordedIn t o .tape) l
+calls-after : (t : Tape) (o : Option Event) (l : List Call) → tapeAfter t (callIn o ++ l) ≡ tapeAfter (recordedIn t o .tape) l
 unfolding callIn recordedIn tapeAfter
-calls-behind t none l = refl
-calls-behind t (some e) l = refl
+calls-after t none l = refl
+calls-after t (some e) l = refl
 
 -- What the records of some bytes leave of a long buffer, and what emptied buffers leave of them.
 pub record Same (g : Standing) (t : Tape) (l : List ℕ) : Type 0 where
@@ -208,19 +208,19 @@ unfolding tapeAfter
 none-taken g t l w a b c d = record { stands = rw (a, b) w; bytes = rw (b, c) (sym (append-nil (inFront t))); lines = d }
 
 pub same : (g : Standing) (t : Tape) → StandsAt g t → (l : List ℕ) → Same g t l
-unfolding standingAfter standingBehind callsIn bytesAfter linesIn linesAfter
+unfolding standingAfter standingNext callsIn bytesAfter linesIn linesAfter
 same g t w [] = none-taken g t [] w refl refl refl refl
 same g t w (a ∷ []) = none-taken g t (a ∷ []) w refl refl refl refl
 same g t w (a ∷ b ∷ []) = none-taken g t (a ∷ b ∷ []) w refl refl refl refl
 same g t w (a ∷ b ∷ c ∷ []) = none-taken g t (a ∷ b ∷ c ∷ []) w refl refl refl refl
 same g t w (a ∷ b ∷ c ∷ d ∷ l) =
     let o = decoded (a ∷ b ∷ c ∷ d ∷ []) in
-    let x = same (standingBehind g o) (recordedIn t o .tape) (stands-on g t w o) l in
+    let x = same (standingNext g o) (recordedIn t o .tape) (stands-on g t w o) l in
     record {
-      stands = rw (calls-behind t o (callsIn l)) (x .stands);
+      stands = rw (calls-after t o (callsIn l)) (x .stands);
       bytes =
-          ap inFront (calls-behind t o (callsIn l)) ∙ x .bytes
-          ∙ ap (λ (m : List ℕ). m ++ bytesAfter (standingBehind g o) l) (front-grows g t w o)
-          ∙ append-assoc (inFront t) (bytesOf g o) (bytesAfter (standingBehind g o) l);
+          ap inFront (calls-after t o (callsIn l)) ∙ x .bytes
+          ∙ ap (λ (m : List ℕ). m ++ bytesAfter (standingNext g o) l) (front-grows g t w o)
+          ∙ append-assoc (inFront t) (bytesOf g o) (bytesAfter (standingNext g o) l);
       lines = ap (λ (m : List ℕ). m ++ linesIn (g .done + 1) (recordedIn t o .tape) l) (same-line g t w o) ∙ ap (λ (m : List ℕ). lineOf g o ++ m) (x .lines);
     }

@@ -11,12 +11,12 @@ use borrow.Author.Tests.{ltb-true, le-ltb, leb-true, eqb-true}
 use Rattle.laws.specs.Choice.{by-bool}
 use Rattle.whole_runs.specs.Listing.{mostRecords}
 use Rattle.programs.specs.Numbers.{numberIn}
-use Rattle.machines.specs.Machines.{Count, Argument, Read, Write, Say, Fail, Stop, Answer, Number, Bytes, End, Done, Failed, Exchange, heard, heardRead, stepped, stateAfter, exchanges, written, said, writtenOf, saidOf, brought, readBy, readOf, requestsOf}
-use Rattle.machines.proofs.Runs.{throughout, requests-then, written-then, said-then, read-then, written-one, said-one}
+use Rattle.machines.specs.Machines.{Count, Argument, Read, Write, Say, Fail, Stop, Answer, Number, Bytes, End, Done, Failed, Exchange, heard, heardRead, stepped, stateAfter, exchanges, written, errorText, writtenOf, errorTextOf, brought, readBy, readOf, requestsOf}
+use Rattle.machines.proofs.Runs.{throughout, requests-then, written-then, error-text-then, read-then, written-one, error-text-one}
 use Rattle.record_machine.specs.Recorded.{longEnough, startNumber, recordedTrace, refusedLines, leftOver}
 use Rattle.record_machine.specs.Records.{standingAfter, bytesAfter, linesAfter}
-use Rattle.record_machine.specs.Machine.{Position, State, counting, naming, beginning, writing, saying, reading, ending, failing, stopped, machine, ask, next, mostToRead, toRead, toSay, toWrite, toEnd, counted, sized, begun as machine-begun, beginsWith, blockTaken, longestWord, largestBuffer}
-use Rattle.record_machine.specs.Promised.{wordsIn, sizeNamed, sizeAsked}
+use Rattle.record_machine.specs.Machine.{Position, State, counting, naming, beginning, writing, reporting, reading, ending, failing, stopped, machine, ask, next, mostToRead, toRead, toReport, toWrite, toEnd, counted, sized, begun as machine-begun, beginsWith, blockTaken, longestWord, largestBuffer}
+use Rattle.record_machine.specs.Promised.{wordsIn, sizeGiven, sizeAsked}
 use Rattle.record_machine.proofs.Starts.{first, trace-is, lines-are}
 use Rattle.record_machine.proofs.Parts.{standing-append, left-append, bytes-append, lines-append}
 
@@ -31,8 +31,8 @@ Settled size talk = (more : List Exchange) → sizeAsked (talk ++ more) ≡ size
 abbrev wrote : List Exchange → List ℕ
 wrote talk = writtenOf (requestsOf talk)
 
-abbrev told : List Exchange → List ℕ
-told talk = saidOf (requestsOf talk)
+abbrev errorsIn : List Exchange → List ℕ
+errorsIn talk = errorTextOf (requestsOf talk)
 
 -- The recorder stands after the records of what was read, with the bytes left over kept.
 pub record At (p : Position) (talk : List Exchange) (out lines : List ℕ) : Type 0 where
@@ -45,7 +45,7 @@ pub record At (p : Position) (talk : List Exchange) (out lines : List ℕ) : Typ
   pub standing : p .standing ≡ standingAfter (first size n) l
   pub rest : p .rest ≡ leftOver l
   pub all-written : wrote talk ++ out ≡ recordedTrace size (readOf talk)
-  pub all-said : told talk ++ lines ≡ refusedLines size (readOf talk)
+  pub all-reported : errorsIn talk ++ lines ≡ refusedLines size (readOf talk)
 
 -- Nothing more is read; what was written is all that was recorded.
 abbrev Over : List Exchange → Type 0
@@ -53,14 +53,14 @@ Over talk = (size : ℕ) × Settled size talk × (wrote talk ≡ recordedTrace s
 
 -- Nothing was read, written or reported yet.
 abbrev Nothing : List Exchange → Type 0
-Nothing talk = (readOf talk ≡ []) × (wrote talk ≡ []) × (told talk ≡ [])
+Nothing talk = (readOf talk ≡ []) × (wrote talk ≡ []) × (errorsIn talk ≡ [])
 
 abbrev pub Stands : State → List Exchange → Type 0
 Stands counting talk = talk ≡ []
 Stands naming talk = (e : Exchange) × (talk ≡ e ∷ []) × (eqb (wordsIn (e .answer)) 2 ≡ true) × Nothing talk
 Stands (beginning size) talk = Settled size talk × Nothing talk
 Stands (writing out lines p) talk = At p talk out lines
-Stands (saying lines p) talk = At p talk [] lines
+Stands (reporting lines p) talk = At p talk [] lines
 Stands (reading p) talk = At p talk [] [] × (p .standing .done < mostRecords)
 Stands (ending text) talk = Over talk
 Stands (failing text) talk = Over talk
@@ -79,9 +79,9 @@ module _ (talk : List Exchange) (e : Exchange) where
   unfolding requestsOf
   wrote-more = ap writtenOf (requests-then talk (e ∷ [])) ∙ written-then (requestsOf talk) (e .request ∷ []) ∙ ap (λ (x : List ℕ). wrote talk ++ x) (written-one (e .request))
 
-  told-more : told more ≡ told talk ++ said (e .request)
+  errors-more : errorsIn more ≡ errorsIn talk ++ errorText (e .request)
   unfolding requestsOf
-  told-more = ap saidOf (requests-then talk (e ∷ [])) ∙ said-then (requestsOf talk) (e .request ∷ []) ∙ ap (λ (x : List ℕ). told talk ++ x) (said-one (e .request))
+  errors-more = ap errorTextOf (requests-then talk (e ∷ [])) ∙ error-text-then (requestsOf talk) (e .request ∷ []) ∙ ap (λ (x : List ℕ). errorsIn talk ++ x) (error-text-one (e .request))
 
   settled-more : (size : ℕ) → Settled size talk → Settled size more
   settled-more size h = λ k. ap sizeAsked (append-assoc talk (e ∷ []) k) ∙ h (e ∷ k)
@@ -90,7 +90,7 @@ module _ (talk : List Exchange) (e : Exchange) where
   read-none h = read-more ∙ ap (λ (x : List ℕ). readOf talk ++ x) h ∙ append-nil (readOf talk)
 
   -- Some of what is to be written or reported was asked for.
-  at-more : (p : Position) (out lines out′ lines′ : List ℕ) → At p talk out lines → readBy (e .request) (e .answer) ≡ [] → written (e .request) ++ out′ ≡ out → said (e .request) ++ lines′ ≡ lines
+  at-more : (p : Position) (out lines out′ lines′ : List ℕ) → At p talk out lines → readBy (e .request) (e .answer) ≡ [] → written (e .request) ++ out′ ≡ out → errorText (e .request) ++ lines′ ≡ lines
       → At p more out′ lines′
   at-more p out lines out′ lines′ w none-read o s = record {
     size = w .size;
@@ -107,11 +107,11 @@ module _ (talk : List Exchange) (e : Exchange) where
         ∙ ap (λ (x : List ℕ). wrote talk ++ x) o
         ∙ w .all-written
         ∙ ap (recordedTrace (w .size)) (sym (read-none none-read));
-    all-said =
-        ap (λ (x : List ℕ). x ++ lines′) told-more
-        ∙ append-assoc (told talk) (said (e .request)) lines′
-        ∙ ap (λ (x : List ℕ). told talk ++ x) s
-        ∙ w .all-said
+    all-reported =
+        ap (λ (x : List ℕ). x ++ lines′) errors-more
+        ∙ append-assoc (errorsIn talk) (errorText (e .request)) lines′
+        ∙ ap (λ (x : List ℕ). errorsIn talk ++ x) s
+        ∙ w .all-reported
         ∙ ap (refusedLines (w .size)) (sym (read-none none-read));
   }
 
@@ -121,8 +121,8 @@ module _ (talk : List Exchange) (e : Exchange) where
   over-silent : Over talk → readBy (e .request) (e .answer) ≡ [] → written (e .request) ≡ [] → Over more
   over-silent w none-read o = over-more (w .0) (w .1) none-read (ap (λ (x : List ℕ). wrote talk ++ x) o ∙ append-nil (wrote talk) ∙ w .2)
 
-  nothing-more : Nothing talk → readBy (e .request) (e .answer) ≡ [] → written (e .request) ≡ [] → said (e .request) ≡ [] → Nothing more
-  nothing-more w r o s = (read-none r ∙ w .0, wrote-more ∙ ap (λ (x : List ℕ). wrote talk ++ x) o ∙ append-nil (wrote talk) ∙ w .1, told-more ∙ ap (λ (x : List ℕ). told talk ++ x) s ∙ append-nil (told talk) ∙ w .2)
+  nothing-more : Nothing talk → readBy (e .request) (e .answer) ≡ [] → written (e .request) ≡ [] → errorText (e .request) ≡ [] → Nothing more
+  nothing-more w r o s = (read-none r ∙ w .0, wrote-more ∙ ap (λ (x : List ℕ). wrote talk ++ x) o ∙ append-nil (wrote talk) ∙ w .1, errors-more ∙ ap (λ (x : List ℕ). errorsIn talk ++ x) s ∙ append-nil (errorsIn talk) ∙ w .2)
 
 -- Before anything is read, nothing is recorded.
 none-over : (size : ℕ) (talk : List Exchange) → Settled size talk → Nothing talk → Over talk
@@ -136,14 +136,14 @@ to-read p talk w = by-bool (ltb (p .standing .done) mostRecords)
     (λ t. rw t (w, ltb-true (p .standing .done) mostRecords t))
     (λ t. rw t (w .size, w .settled, sym (append-nil (wrote talk)) ∙ w .all-written))
 
-to-say : (lines : List ℕ) (p : Position) (talk : List Exchange) → At p talk [] lines → Stands (toSay lines p) talk
-unfolding toSay
-to-say [] p talk w = to-read p talk w
-to-say (b ∷ lines) p talk w = w
+to-report : (lines : List ℕ) (p : Position) (talk : List Exchange) → At p talk [] lines → Stands (toReport lines p) talk
+unfolding toReport
+to-report [] p talk w = to-read p talk w
+to-report (b ∷ lines) p talk w = w
 
 to-write : (out lines : List ℕ) (p : Position) (talk : List Exchange) → At p talk out lines → Stands (toWrite out lines p) talk
 unfolding toWrite
-to-write [] lines p talk w = to-say lines p talk w
+to-write [] lines p talk w = to-report lines p talk w
 to-write (b ∷ out) lines p talk w = w
 
 to-end : (text : List ℕ) (talk : List Exchange) → Over talk → Stands (toEnd text) talk
@@ -152,7 +152,7 @@ to-end [] talk w = w
 to-end (b ∷ text) talk w = w
 
 -- A block.
-at-block : (p : Position) (talk : List Exchange) (e : Exchange) (m : List ℕ) → At p talk [] [] → readBy (e .request) (e .answer) ≡ m → written (e .request) ≡ [] → said (e .request) ≡ []
+at-block : (p : Position) (talk : List Exchange) (e : Exchange) (m : List ℕ) → At p talk [] [] → readBy (e .request) (e .answer) ≡ m → written (e .request) ≡ [] → errorText (e .request) ≡ []
     → let block = p .rest ++ m in
     At (record { standing = standingAfter (p .standing) block; rest = leftOver block }) (talk ++ (e ∷ [])) (bytesAfter (p .standing) block) (linesAfter (p .standing) block)
 at-block p talk e m w brings o s =
@@ -176,8 +176,8 @@ at-block p talk e m w brings o s =
           ∙ ap (λ (x : List ℕ). (w .n ∷ []) ++ x) (sym (bytes-append f l m))
           ∙ sym (trace-is (w .size) (w .n) (l ++ m) (w .fine))
           ∙ ap (recordedTrace (w .size)) (sym now-read);
-      all-said =
-          ap (λ (x : List ℕ). x ++ linesAfter (p .standing) (p .rest ++ m)) (told-more talk e ∙ ap (λ (x : List ℕ). told talk ++ x) s ∙ w .all-said ∙ ap (refusedLines (w .size)) (w .read) ∙ lines-are (w .size) (w .n) l (w .fine))
+      all-reported =
+          ap (λ (x : List ℕ). x ++ linesAfter (p .standing) (p .rest ++ m)) (errors-more talk e ∙ ap (λ (x : List ℕ). errorsIn talk ++ x) s ∙ w .all-reported ∙ ap (refusedLines (w .size)) (w .read) ∙ lines-are (w .size) (w .n) l (w .fine))
           ∙ (λ j. linesAfter f l ++ linesAfter (w .standing j) (block-is j))
           ∙ sym (lines-append f l m)
           ∙ sym (lines-are (w .size) (w .n) (l ++ m) (w .fine))
@@ -185,7 +185,7 @@ at-block p talk e m w brings o s =
     }
 
 -- The start.
-at-start : (size n : ℕ) (talk : List Exchange) (e : Exchange) → Settled size talk → Nothing talk → readBy (e .request) (e .answer) ≡ n ∷ [] → written (e .request) ≡ [] → said (e .request) ≡ []
+at-start : (size n : ℕ) (talk : List Exchange) (e : Exchange) → Settled size talk → Nothing talk → readBy (e .request) (e .answer) ≡ n ∷ [] → written (e .request) ≡ [] → errorText (e .request) ≡ []
     → eqb (startNumber size n) 0 ≡ true → At (record { standing = first size n; rest = [] }) (talk ++ (e ∷ [])) (n ∷ []) []
 unfolding standingAfter leftOver bytesAfter linesAfter
 at-start size n talk e h w brings o s fine =
@@ -203,8 +203,8 @@ at-start size n talk e h w brings o s fine =
           ap (λ (x : List ℕ). x ++ (n ∷ [])) (wrote-more talk e ∙ ap (λ (x : List ℕ). wrote talk ++ x) o ∙ append-nil (wrote talk) ∙ w .1)
           ∙ sym (trace-is size n [] fine)
           ∙ ap (recordedTrace size) (sym now-read);
-      all-said =
-          ap (λ (x : List ℕ). x ++ []) (told-more talk e ∙ ap (λ (x : List ℕ). told talk ++ x) s ∙ append-nil (told talk) ∙ w .2)
+      all-reported =
+          ap (λ (x : List ℕ). x ++ []) (errors-more talk e ∙ ap (λ (x : List ℕ). errorsIn talk ++ x) s ∙ append-nil (errorsIn talk) ∙ w .2)
           ∙ sym (lines-are size n [] fine)
           ∙ ap (refusedLines size) (sym now-read);
     }
@@ -227,7 +227,7 @@ Fits (beginning size) End = Unit {0}
 Fits (beginning size) Done = Unit {0}
 Fits (beginning size) Failed = Unit {0}
 Fits (writing out lines p) a = Unit {0}
-Fits (saying lines p) a = Unit {0}
+Fits (reporting lines p) a = Unit {0}
 Fits (reading p) (Bytes m) = (1 ≤ length m) × (length m ≤ mostToRead p)
 Fits (reading p) (Number x) = Unit {0}
 Fits (reading p) End = Unit {0}
@@ -258,7 +258,7 @@ fits (beginning size) End = tt
 fits (beginning size) Done = tt
 fits (beginning size) Failed = tt
 fits (writing out lines p) a = tt
-fits (saying lines p) a = tt
+fits (reporting lines p) a = tt
 fits (reading p) (Bytes m) = read-fits (Fits (reading p)) (mostToRead p) m (λ h k. (h, k)) tt
 fits (reading p) (Number x) = tt
 fits (reading p) End = tt
@@ -273,16 +273,16 @@ settled-words : (e : Exchange) → eqb (wordsIn (e .answer)) 2 ≡ false → Set
 unfolding sizeAsked
 settled-words e h = λ k. rw h refl
 
-settled-named : (e f : Exchange) → eqb (wordsIn (e .answer)) 2 ≡ true → Settled (numberIn (brought (f .answer))) (e ∷ f ∷ [])
-unfolding sizeAsked sizeNamed
-settled-named e f h = λ k. rw h refl
+settled-asked : (e f : Exchange) → eqb (wordsIn (e .answer)) 2 ≡ true → Settled (numberIn (brought (f .answer))) (e ∷ f ∷ [])
+unfolding sizeAsked sizeGiven
+settled-asked e f h = λ k. rw h refl
 
 module _ (b : Answer) where
   abbrev counted-one : List Exchange
   counted-one = record { request = Count; answer = b } ∷ []
 
   nothing-yet : Nothing counted-one
-  unfolding readOf readBy requestsOf writtenOf written saidOf said
+  unfolding readOf readBy requestsOf writtenOf written errorTextOf errorText
   nothing-yet = (refl, refl, refl)
 
   over-early : eqb (wordsIn b) 2 ≡ false → Over counted-one
@@ -298,25 +298,25 @@ stands-counted words = by-bool (eqb words 2)
 
 stands-sized : (e : Exchange) (talk : List Exchange) (word : List ℕ) → talk ≡ e ∷ [] → eqb (wordsIn (e .answer)) 2 ≡ true → Nothing talk
     → Stands (sized (numberIn word)) (talk ++ (record { request = Argument 1 longestWord; answer = Bytes word } ∷ []))
-unfolding sized readBy written said brought
+unfolding sized readBy written errorText brought
 stands-sized e talk word is two none-yet =
     let f : Exchange = record { request = Argument 1 longestWord; answer = Bytes word } in
-    let settled : Settled (numberIn word) (talk ++ (f ∷ [])) = rw is (settled-named e f two) in
+    let settled : Settled (numberIn word) (talk ++ (f ∷ [])) = rw is (settled-asked e f two) in
     let none-now = nothing-more talk f none-yet refl refl refl in
     by-bool (ltb largestBuffer (numberIn word))
     (λ t. rw t (none-over (numberIn word) (talk ++ (f ∷ [])) settled none-now))
     (λ t. rw t (settled, none-now))
 
-over-named : (e : Exchange) (talk : List Exchange) (b : Answer) → talk ≡ e ∷ [] → eqb (wordsIn (e .answer)) 2 ≡ true → Nothing talk
+over-asked : (e : Exchange) (talk : List Exchange) (b : Answer) → talk ≡ e ∷ [] → eqb (wordsIn (e .answer)) 2 ≡ true → Nothing talk
     → Over (talk ++ (record { request = Argument 1 longestWord; answer = b } ∷ []))
-unfolding readBy written said
-over-named e talk b is two none-yet =
+unfolding readBy written errorText
+over-asked e talk b is two none-yet =
     let f : Exchange = record { request = Argument 1 longestWord; answer = b } in
-    none-over (numberIn (brought b)) (talk ++ (f ∷ [])) (rw is (settled-named e f two)) (nothing-more talk f none-yet refl refl refl)
+    none-over (numberIn (brought b)) (talk ++ (f ∷ [])) (rw is (settled-asked e f two)) (nothing-more talk f none-yet refl refl refl)
 
 -- The first byte.
 stands-begun : (size n : ℕ) (talk : List Exchange) → Settled size talk → Nothing talk → Stands (machine-begun size n) (talk ++ (record { request = Read 1; answer = Bytes (n ∷ []) } ∷ []))
-unfolding machine-begun readBy brought written said
+unfolding machine-begun readBy brought written errorText
 stands-begun size n talk h w = by-bool (eqb (startNumber size n) 0)
     (λ t. rw t (at-start size n talk (record { request = Read 1; answer = Bytes (n ∷ []) }) h w refl refl refl t))
     (λ t. rw t (refused-start size n talk (record { request = Read 1; answer = Bytes (n ∷ []) }) h w refl refl t))
@@ -335,17 +335,17 @@ unfolding readBy written
 over-write p talk out lines b w = over-more talk (record { request = Write out; answer = b }) (w .size) (w .settled) refl (w .all-written)
 
 kept-next : (s : State) (talk : List Exchange) (b : Answer) → Fits s b → Stands s talk → Stands (next s b) (talk ++ (record { request = ask s; answer = b } ∷ []))
-unfolding ask next beginsWith blockTaken brought readBy written said wordsIn
+unfolding ask next beginsWith blockTaken brought readBy written errorText wordsIn
 kept-next counting talk (Number words) fit h = rw h (stands-counted words)
 kept-next counting talk (Bytes l) fit h = rw h (over-early (Bytes l) refl)
 kept-next counting talk End fit h = rw h (over-early End refl)
 kept-next counting talk Done fit h = rw h (over-early Done refl)
 kept-next counting talk Failed fit h = rw h (over-early Failed refl)
 kept-next naming talk (Bytes word) fit h = stands-sized (h .0) talk word (h .1) (h .2) (h .3)
-kept-next naming talk (Number x) fit h = over-named (h .0) talk (Number x) (h .1) (h .2) (h .3)
-kept-next naming talk End fit h = over-named (h .0) talk End (h .1) (h .2) (h .3)
-kept-next naming talk Done fit h = over-named (h .0) talk Done (h .1) (h .2) (h .3)
-kept-next naming talk Failed fit h = over-named (h .0) talk Failed (h .1) (h .2) (h .3)
+kept-next naming talk (Number x) fit h = over-asked (h .0) talk (Number x) (h .1) (h .2) (h .3)
+kept-next naming talk End fit h = over-asked (h .0) talk End (h .1) (h .2) (h .3)
+kept-next naming talk Done fit h = over-asked (h .0) talk Done (h .1) (h .2) (h .3)
+kept-next naming talk Failed fit h = over-asked (h .0) talk Failed (h .1) (h .2) (h .3)
 kept-next (beginning size) talk (Bytes []) fit h = absurd (omega (arith, fit))
 kept-next (beginning size) talk (Bytes (n ∷ [])) fit h = stands-begun size n talk (h .0) (h .1)
 kept-next (beginning size) talk (Bytes (n ∷ k ∷ l)) fit h = absurd (omega (arith, fit))
@@ -354,12 +354,12 @@ kept-next (beginning size) talk (Number x) fit h = over-begun size talk (Number 
 kept-next (beginning size) talk Done fit h = over-begun size talk Done refl (h .0) (h .1)
 kept-next (beginning size) talk Failed fit h = over-begun size talk Failed refl (h .0) (h .1)
 kept-next (writing out lines p) talk Done fit h =
-    to-say lines p _ (at-more talk (record { request = Write out; answer = Done }) p out lines [] lines h refl (append-nil out) refl)
+    to-report lines p _ (at-more talk (record { request = Write out; answer = Done }) p out lines [] lines h refl (append-nil out) refl)
 kept-next (writing out lines p) talk (Number x) fit h = over-write p talk out lines (Number x) h
 kept-next (writing out lines p) talk (Bytes l) fit h = over-write p talk out lines (Bytes l) h
 kept-next (writing out lines p) talk End fit h = over-write p talk out lines End h
 kept-next (writing out lines p) talk Failed fit h = over-write p talk out lines Failed h
-kept-next (saying lines p) talk b fit h = to-read p _ (at-more talk (record { request = Say lines; answer = b }) p [] lines [] [] h refl refl (append-nil lines))
+kept-next (reporting lines p) talk b fit h = to-read p _ (at-more talk (record { request = Say lines; answer = b }) p [] lines [] [] h refl refl (append-nil lines))
 kept-next (reading p) talk (Bytes m) fit h =
     to-write _ _ _ _ (at-block p talk (record { request = Read (mostToRead p); answer = Bytes m }) m (h .0) refl refl refl)
 kept-next (reading p) talk End fit h = to-end _ _ (over-read p talk (mostToRead p) End refl (h .0))

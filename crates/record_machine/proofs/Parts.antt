@@ -7,7 +7,7 @@ use native.Mathlib.Omega.{arith}
 use lib.ListN.{length}
 use Rattle.model.specs.Trace.{decoded}
 use Rattle.record_machine.specs.Recorded.{wholeRecords, leftOver}
-use Rattle.record_machine.specs.Records.{Standing, standingBehind, bytesOf, lineOf, standingAfter, bytesAfter, linesAfter}
+use Rattle.record_machine.specs.Records.{Standing, standingNext, bytesOf, lineOf, standingAfter, bytesAfter, linesAfter}
 
 -- Fewer than four bytes are no record.
 pub few-bytes : (g : Standing) (l : List ℕ) → length l < 4 → (standingAfter g l ≡ g) × (bytesAfter g l ≡ []) × (linesAfter g l ≡ []) × (leftOver l ≡ l)
@@ -36,12 +36,12 @@ counted (a ∷ b ∷ c ∷ []) = refl
 counted (a ∷ b ∷ c ∷ d ∷ l) = omega (arith, counted l)
 
 pub done-after : (g : Standing) (l : List ℕ) → standingAfter g l .done ≡ g .done + wholeRecords l
-unfolding standingAfter standingBehind wholeRecords
+unfolding standingAfter standingNext wholeRecords
 done-after g [] = omega arith
 done-after g (a ∷ []) = omega arith
 done-after g (a ∷ b ∷ []) = omega arith
 done-after g (a ∷ b ∷ c ∷ []) = omega arith
-done-after g (a ∷ b ∷ c ∷ d ∷ l) = omega (arith, done-after (standingBehind g (decoded (a ∷ b ∷ c ∷ d ∷ []))) l)
+done-after g (a ∷ b ∷ c ∷ d ∷ l) = omega (arith, done-after (standingNext g (decoded (a ∷ b ∷ c ∷ d ∷ []))) l)
 
 pub standing-append : (g : Standing) (l m : List ℕ) → standingAfter g (l ++ m) ≡ standingAfter (standingAfter g l) (leftOver l ++ m)
 unfolding standingAfter leftOver
@@ -49,7 +49,7 @@ standing-append g [] m = refl
 standing-append g (a ∷ []) m = refl
 standing-append g (a ∷ b ∷ []) m = refl
 standing-append g (a ∷ b ∷ c ∷ []) m = refl
-standing-append g (a ∷ b ∷ c ∷ d ∷ l) m = standing-append (standingBehind g (decoded (a ∷ b ∷ c ∷ d ∷ []))) l m
+standing-append g (a ∷ b ∷ c ∷ d ∷ l) m = standing-append (standingNext g (decoded (a ∷ b ∷ c ∷ d ∷ []))) l m
 
 pub left-append : (l m : List ℕ) → leftOver (l ++ m) ≡ leftOver (leftOver l ++ m)
 unfolding leftOver
@@ -67,7 +67,7 @@ bytes-append g (a ∷ b ∷ []) m = refl
 bytes-append g (a ∷ b ∷ c ∷ []) m = refl
 bytes-append g (a ∷ b ∷ c ∷ d ∷ l) m =
     let o = decoded (a ∷ b ∷ c ∷ d ∷ []) in
-    let h = standingBehind g o in
+    let h = standingNext g o in
     ap (λ (x : List ℕ). bytesOf g o ++ x) (bytes-append h l m) ∙ sym (append-assoc (bytesOf g o) (bytesAfter h l) (bytesAfter (standingAfter h l) (leftOver l ++ m)))
 
 pub lines-append : (g : Standing) (l m : List ℕ) → linesAfter g (l ++ m) ≡ linesAfter g l ++ linesAfter (standingAfter g l) (leftOver l ++ m)
@@ -78,5 +78,5 @@ lines-append g (a ∷ b ∷ []) m = refl
 lines-append g (a ∷ b ∷ c ∷ []) m = refl
 lines-append g (a ∷ b ∷ c ∷ d ∷ l) m =
     let o = decoded (a ∷ b ∷ c ∷ d ∷ []) in
-    let h = standingBehind g o in
+    let h = standingNext g o in
     ap (λ (x : List ℕ). lineOf g o ++ x) (lines-append h l m) ∙ sym (append-assoc (lineOf g o) (linesAfter h l) (linesAfter (standingAfter h l) (leftOver l ++ m)))

@@ -10,11 +10,11 @@ use lib.ListN.{length}
 use borrow.Author.Tests.{ltb-true, ltb-false}
 use Rattle.laws.specs.Choice.{by-bool}
 use Rattle.whole_runs.specs.Listing.{mostRecords}
-use Rattle.machines.specs.Machines.{Request, Read, Write, Say, Fail, Stop, Answer, Bytes, End, Failed, Exchange, heard, heardRead, stepped, stateAfter, asked, exchanges, written, said, writtenOf, saidOf, readOf, requestsOf}
-use Rattle.machines.proofs.Runs.{asked-is, said-then, said-one, written-is}
+use Rattle.machines.specs.Machines.{Request, Read, Write, Say, Fail, Stop, Answer, Bytes, End, Failed, Exchange, heard, heardRead, stepped, stateAfter, asked, exchanges, written, errorText, writtenOf, errorTextOf, readOf, requestsOf}
+use Rattle.machines.proofs.Runs.{asked-is, error-text-then, error-text-one, written-is}
 use Rattle.record_machine.specs.Recorded.{startNumber, recordedTrace, refusedLine, refusedLines, leftOver, endLine, lastLine}
 use Rattle.record_machine.specs.Records.{Standing, standingAfter}
-use Rattle.record_machine.specs.Machine.{Position, State, counting, naming, beginning, writing, saying, reading, ending, failing, stopped, machine, ask, next, mostToRead, toEnd, begun, beginsWith, inputName, outputName}
+use Rattle.record_machine.specs.Machine.{Position, State, counting, naming, beginning, writing, reporting, reading, ending, failing, stopped, machine, ask, next, mostToRead, toEnd, begun, beginsWith, inputName, outputName}
 use Rattle.record_machine.specs.Promised.{sizeAsked, RecordsItsInput}
 use Rattle.record_machine.proofs.Parts.{left-few, counted, done-after}
 use Rattle.record_machine.proofs.Starts.{first}
@@ -37,51 +37,51 @@ all-written counting talk h = rw h refl
 all-written naming talk h = append-nil _ ∙ h .3 .1 ∙ ap (recordedTrace (sizeAsked talk)) (sym (h .3 .0))
 all-written (beginning size) talk h = append-nil _ ∙ h .1 .1 ∙ ap (recordedTrace (sizeAsked talk)) (sym (h .1 .0))
 all-written (writing out lines p) talk h = h .all-written ∙ same-size (h .size) talk (h .settled)
-all-written (saying lines p) talk h = h .all-written ∙ same-size (h .size) talk (h .settled)
+all-written (reporting lines p) talk h = h .all-written ∙ same-size (h .size) talk (h .settled)
 all-written (reading p) talk h = h .0 .all-written ∙ same-size (h .0 .size) talk (h .0 .settled)
 all-written (ending text) talk h = append-nil _ ∙ h .2 ∙ same-size (h .0) talk (h .1)
 all-written (failing text) talk h = append-nil _ ∙ h .2 ∙ same-size (h .0) talk (h .1)
 all-written stopped talk h = append-nil _ ∙ h .2 ∙ same-size (h .0) talk (h .1)
 
 -- What was said, whenever bytes are asked for.
-all-said : (s : State) (talk : List Exchange) (most : ℕ) → Stands s talk → ask s ≡ Read most → saidOf (requestsOf talk) ++ said (ask s) ≡ refusedLines (sizeAsked talk) (readOf talk)
-unfolding ask said refusedLines
-all-said counting talk most h e = absurd (let z : _≡_ {A = ℕ} 0 1 = cc in omega arith)
-all-said naming talk most h e = absurd (let z : _≡_ {A = ℕ} 0 1 = cc in omega arith)
-all-said (beginning size) talk most h e = append-nil _ ∙ h .1 .2 ∙ ap (refusedLines (sizeAsked talk)) (sym (h .1 .0))
-all-said (writing out lines p) talk most h e = absurd (let z : _≡_ {A = ℕ} 0 1 = cc in omega arith)
-all-said (saying lines p) talk most h e = absurd (let z : _≡_ {A = ℕ} 0 1 = cc in omega arith)
-all-said (reading p) talk most h e = h .0 .all-said ∙ ap (λ (k : ℕ). refusedLines k (readOf talk)) (size-is (h .0 .size) talk (h .0 .settled))
-all-said (ending text) talk most h e = absurd (let z : _≡_ {A = ℕ} 0 1 = cc in omega arith)
-all-said (failing text) talk most h e = absurd (let z : _≡_ {A = ℕ} 0 1 = cc in omega arith)
-all-said stopped talk most h e = absurd (let z : _≡_ {A = ℕ} 0 1 = cc in omega arith)
+all-reported : (s : State) (talk : List Exchange) (most : ℕ) → Stands s talk → ask s ≡ Read most → errorTextOf (requestsOf talk) ++ errorText (ask s) ≡ refusedLines (sizeAsked talk) (readOf talk)
+unfolding ask errorText refusedLines
+all-reported counting talk most h e = absurd (let z : _≡_ {A = ℕ} 0 1 = cc in omega arith)
+all-reported naming talk most h e = absurd (let z : _≡_ {A = ℕ} 0 1 = cc in omega arith)
+all-reported (beginning size) talk most h e = append-nil _ ∙ h .1 .2 ∙ ap (refusedLines (sizeAsked talk)) (sym (h .1 .0))
+all-reported (writing out lines p) talk most h e = absurd (let z : _≡_ {A = ℕ} 0 1 = cc in omega arith)
+all-reported (reporting lines p) talk most h e = absurd (let z : _≡_ {A = ℕ} 0 1 = cc in omega arith)
+all-reported (reading p) talk most h e = h .0 .all-reported ∙ ap (λ (k : ℕ). refusedLines k (readOf talk)) (size-is (h .0 .size) talk (h .0 .settled))
+all-reported (ending text) talk most h e = absurd (let z : _≡_ {A = ℕ} 0 1 = cc in omega arith)
+all-reported (failing text) talk most h e = absurd (let z : _≡_ {A = ℕ} 0 1 = cc in omega arith)
+all-reported stopped talk most h e = absurd (let z : _≡_ {A = ℕ} 0 1 = cc in omega arith)
 
-said-is : (answers : List Answer) → saidOf (asked machine answers) ≡ saidOf (requestsOf (exchanges machine answers)) ++ said (ask (stateAfter machine answers))
-said-is answers =
-    ap saidOf (asked-is machine answers)
-    ∙ said-then (requestsOf (exchanges machine answers)) (ask (stateAfter machine answers) ∷ [])
-    ∙ ap (λ (x : List ℕ). saidOf (requestsOf (exchanges machine answers)) ++ x) (said-one (ask (stateAfter machine answers)))
+error-text-is : (answers : List Answer) → errorTextOf (asked machine answers) ≡ errorTextOf (requestsOf (exchanges machine answers)) ++ errorText (ask (stateAfter machine answers))
+error-text-is answers =
+    ap errorTextOf (asked-is machine answers)
+    ∙ error-text-then (requestsOf (exchanges machine answers)) (ask (stateAfter machine answers) ∷ [])
+    ∙ ap (λ (x : List ℕ). errorTextOf (requestsOf (exchanges machine answers)) ++ x) (error-text-one (ask (stateAfter machine answers)))
 
 -- What is reported at the end of the input.
-end-said : (text : List ℕ) → said (ask (toEnd text)) ≡ text
-unfolding toEnd ask said
-end-said [] = refl
-end-said (b ∷ text) = refl
+end-reported : (text : List ℕ) → errorText (ask (toEnd text)) ≡ text
+unfolding toEnd ask errorText
+end-reported [] = refl
+end-reported (b ∷ text) = refl
 
 last-is : (size n : ℕ) (l : List ℕ) → eqb (startNumber size n) 0 ≡ true → endLine (standingAfter (first size n) l .done) (leftOver l) ≡ lastLine size (n ∷ l)
 unfolding lastLine
 last-is size n l h = rw h (ap (λ (k : ℕ). endLine k (leftOver l)) (omega (arith, done-after (first size n) l)))
 
-all-ended : (s : State) (talk : List Exchange) (most : ℕ) → Stands s talk → ask s ≡ Read most → said (ask (stepped machine s End)) ≡ lastLine (sizeAsked talk) (readOf talk)
-unfolding ask stepped heard heardRead next said lastLine
+all-ended : (s : State) (talk : List Exchange) (most : ℕ) → Stands s talk → ask s ≡ Read most → errorText (ask (stepped machine s End)) ≡ lastLine (sizeAsked talk) (readOf talk)
+unfolding ask stepped heard heardRead next errorText lastLine
 all-ended counting talk most h e = absurd (let z : _≡_ {A = ℕ} 0 1 = cc in omega arith)
 all-ended naming talk most h e = absurd (let z : _≡_ {A = ℕ} 0 1 = cc in omega arith)
 all-ended (beginning size) talk most h e = ap (lastLine (sizeAsked talk)) (sym (h .1 .0))
 all-ended (writing out lines p) talk most h e = absurd (let z : _≡_ {A = ℕ} 0 1 = cc in omega arith)
-all-ended (saying lines p) talk most h e = absurd (let z : _≡_ {A = ℕ} 0 1 = cc in omega arith)
+all-ended (reporting lines p) talk most h e = absurd (let z : _≡_ {A = ℕ} 0 1 = cc in omega arith)
 all-ended (reading p) talk most h e =
     let w = h .0 in
-    end-said (endLine (p .standing .done) (p .rest))
+    end-reported (endLine (p .standing .done) (p .rest))
     ∙ (λ j. endLine (w .standing j .done) (w .rest j))
     ∙ last-is (w .size) (w .n) (w .l) (w .fine)
     ∙ (λ j. lastLine (size-is (w .size) talk (w .settled) j) (sym (w .read) j))
@@ -109,7 +109,7 @@ all-read (beginning size) talk most h e =
     let one = read-size 1 most e in
     (omega (arith, one), omega (arith, one, ap (λ (x : List ℕ). length x) (h .1 .0)))
 all-read (writing out lines p) talk most h e = absurd (let z : _≡_ {A = ℕ} 0 1 = cc in omega arith)
-all-read (saying lines p) talk most h e = absurd (let z : _≡_ {A = ℕ} 0 1 = cc in omega arith)
+all-read (reporting lines p) talk most h e = absurd (let z : _≡_ {A = ℕ} 0 1 = cc in omega arith)
 all-read (reading p) talk most h e =
     let m = read-size (mostToRead p) most e in
     let w = within p talk (h .0) (h .1) in
@@ -130,7 +130,7 @@ fails-on-read counting most a e f = absurd (let z : _≡_ {A = ℕ} 0 1 = cc in 
 fails-on-read naming most a e f = absurd (let z : _≡_ {A = ℕ} 0 1 = cc in omega arith)
 fails-on-read (beginning size) most a e f = rw (ap (λ (r : Request). heard r a) e ∙ f) refl
 fails-on-read (writing out lines p) most a e f = absurd (let z : _≡_ {A = ℕ} 0 1 = cc in omega arith)
-fails-on-read (saying lines p) most a e f = absurd (let z : _≡_ {A = ℕ} 0 1 = cc in omega arith)
+fails-on-read (reporting lines p) most a e f = absurd (let z : _≡_ {A = ℕ} 0 1 = cc in omega arith)
 fails-on-read (reading p) most a e f = rw (ap (λ (r : Request). heard r a) e ∙ f) refl
 fails-on-read (ending text) most a e f = absurd (let z : _≡_ {A = ℕ} 0 1 = cc in omega arith)
 fails-on-read (failing text) most a e f = absurd (let z : _≡_ {A = ℕ} 0 1 = cc in omega arith)
@@ -142,7 +142,7 @@ fails-on-write counting text a e f = absurd (let z : _≡_ {A = ℕ} 0 1 = cc in
 fails-on-write naming text a e f = absurd (let z : _≡_ {A = ℕ} 0 1 = cc in omega arith)
 fails-on-write (beginning size) text a e f = absurd (let z : _≡_ {A = ℕ} 0 1 = cc in omega arith)
 fails-on-write (writing out lines p) text a e f = rw (ap (λ (r : Request). heard r a) e ∙ f) refl
-fails-on-write (saying lines p) text a e f = absurd (let z : _≡_ {A = ℕ} 0 1 = cc in omega arith)
+fails-on-write (reporting lines p) text a e f = absurd (let z : _≡_ {A = ℕ} 0 1 = cc in omega arith)
 fails-on-write (reading p) text a e f = absurd (let z : _≡_ {A = ℕ} 0 1 = cc in omega arith)
 fails-on-write (ending text′) text a e f = absurd (let z : _≡_ {A = ℕ} 0 1 = cc in omega arith)
 fails-on-write (failing text′) text a e f = absurd (let z : _≡_ {A = ℕ} 0 1 = cc in omega arith)
@@ -154,7 +154,7 @@ after-failure counting text a e = absurd (let z : _≡_ {A = ℕ} 0 1 = cc in om
 after-failure naming text a e = absurd (let z : _≡_ {A = ℕ} 0 1 = cc in omega arith)
 after-failure (beginning size) text a e = absurd (let z : _≡_ {A = ℕ} 0 1 = cc in omega arith)
 after-failure (writing out lines p) text a e = absurd (let z : _≡_ {A = ℕ} 0 1 = cc in omega arith)
-after-failure (saying lines p) text a e = absurd (let z : _≡_ {A = ℕ} 0 1 = cc in omega arith)
+after-failure (reporting lines p) text a e = absurd (let z : _≡_ {A = ℕ} 0 1 = cc in omega arith)
 after-failure (reading p) text a e = absurd (let z : _≡_ {A = ℕ} 0 1 = cc in omega arith)
 after-failure (ending text′) text a e = absurd (let z : _≡_ {A = ℕ} 0 1 = cc in omega arith)
 after-failure (failing text′) text a e = refl
@@ -171,7 +171,7 @@ after-end counting most a e = absurd (let z : _≡_ {A = ℕ} 0 1 = cc in omega 
 after-end naming most a e = absurd (let z : _≡_ {A = ℕ} 0 1 = cc in omega arith)
 after-end (beginning size) most a e = refl
 after-end (writing out lines p) most a e = absurd (let z : _≡_ {A = ℕ} 0 1 = cc in omega arith)
-after-end (saying lines p) most a e = absurd (let z : _≡_ {A = ℕ} 0 1 = cc in omega arith)
+after-end (reporting lines p) most a e = absurd (let z : _≡_ {A = ℕ} 0 1 = cc in omega arith)
 after-end (reading p) most a e = after-text (endLine (p .standing .done) (p .rest)) a
 after-end (ending text) most a e = absurd (let z : _≡_ {A = ℕ} 0 1 = cc in omega arith)
 after-end (failing text) most a e = absurd (let z : _≡_ {A = ℕ} 0 1 = cc in omega arith)
@@ -185,7 +185,7 @@ all-stops answers h =
 pub records-its-input : RecordsItsInput
 records-its-input = record {
   written = λ answers. written-is machine answers ∙ all-written (stateAfter machine answers) (exchanges machine answers) (stands answers);
-  said = λ answers most e. said-is answers ∙ all-said (stateAfter machine answers) (exchanges machine answers) most (stands answers) e;
+  reported = λ answers most e. error-text-is answers ∙ all-reported (stateAfter machine answers) (exchanges machine answers) most (stands answers) e;
   ended = λ answers most e. all-ended (stateAfter machine answers) (exchanges machine answers) most (stands answers) e;
   refused = start-refused;
   reads = λ answers most e. all-read (stateAfter machine answers) (exchanges machine answers) most (stands answers) e;

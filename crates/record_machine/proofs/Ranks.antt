@@ -14,7 +14,7 @@ use Rattle.machines.specs.Machines.{Stop, Answer, Number, Bytes, End, Done, Fai
 use Rattle.machines.proofs.Runs.{throughout, read-then}
 use Rattle.record_machine.specs.Recorded.{startNumber, endLine, leftOver}
 use Rattle.record_machine.specs.Records.{standingAfter, bytesAfter, linesAfter}
-use Rattle.record_machine.specs.Machine.{Position, State, counting, naming, beginning, writing, saying, reading, ending, failing, stopped, machine, ask, next, mostToRead, toRead, toSay, toWrite, toEnd, counted, sized, begun, beginsWith, blockTaken, largestBuffer}
+use Rattle.record_machine.specs.Machine.{Position, State, counting, naming, beginning, writing, reporting, reading, ending, failing, stopped, machine, ask, next, mostToRead, toRead, toReport, toWrite, toEnd, counted, sized, begun, beginsWith, blockTaken, largestBuffer}
 use Rattle.record_machine.proofs.Parts.{counted as all-counted, done-after}
 use Rattle.record_machine.proofs.Observed.{Fits, fits}
 
@@ -27,7 +27,7 @@ unread counting = 1 + 4 * mostRecords
 unread naming = 1 + 4 * mostRecords
 unread (beginning size) = 1 + 4 * mostRecords
 unread (writing out lines p) = bytesLeft p
-unread (saying lines p) = bytesLeft p
+unread (reporting lines p) = bytesLeft p
 unread (reading p) = bytesLeft p
 unread (ending text) = 0
 unread (failing text) = 0
@@ -38,7 +38,7 @@ rank counting = 4
 rank naming = 3
 rank (beginning size) = 2
 rank (writing out lines p) = 4
-rank (saying lines p) = 3
+rank (reporting lines p) = 3
 rank (reading p) = 2
 rank (ending text) = 1
 rank (failing text) = 1
@@ -52,14 +52,14 @@ read-within : (p : Position) → Within (toRead p) 2 (bytesLeft p)
 unfolding toRead rank unread
 read-within p = by-bool (ltb (p .standing .done) mostRecords) (λ t. rw t (omega arith, omega arith)) (λ t. rw t (omega arith, omega arith))
 
-say-within : (lines : List ℕ) (p : Position) → Within (toSay lines p) 3 (bytesLeft p)
-unfolding toSay rank unread
-say-within [] p = let w = read-within p in (omega (arith, w .0), w .1)
-say-within (b ∷ lines) p = (omega arith, omega arith)
+report-within : (lines : List ℕ) (p : Position) → Within (toReport lines p) 3 (bytesLeft p)
+unfolding toReport rank unread
+report-within [] p = let w = read-within p in (omega (arith, w .0), w .1)
+report-within (b ∷ lines) p = (omega arith, omega arith)
 
 write-within : (out lines : List ℕ) (p : Position) → Within (toWrite out lines p) 4 (bytesLeft p)
 unfolding toWrite rank unread
-write-within [] lines p = let w = say-within lines p in (omega (arith, w .0), w .1)
+write-within [] lines p = let w = report-within lines p in (omega (arith, w .0), w .1)
 write-within (b ∷ out) lines p = (omega arith, omega arith)
 
 end-within : (text : List ℕ) → Within (toEnd text) 1 0
@@ -109,12 +109,12 @@ nearer (beginning size) End fit h = (omega arith, omega arith)
 nearer (beginning size) (Number x) fit h = (omega arith, omega arith)
 nearer (beginning size) Done fit h = (omega arith, omega arith)
 nearer (beginning size) Failed fit h = (omega arith, omega arith)
-nearer (writing out lines p) Done fit h = let w = (say-within lines p) in (omega (arith, w .0), omega (arith, w .1))
+nearer (writing out lines p) Done fit h = let w = (report-within lines p) in (omega (arith, w .0), omega (arith, w .1))
 nearer (writing out lines p) (Number x) fit h = (omega arith, omega arith)
 nearer (writing out lines p) (Bytes l) fit h = (omega arith, omega arith)
 nearer (writing out lines p) End fit h = (omega arith, omega arith)
 nearer (writing out lines p) Failed fit h = (omega arith, omega arith)
-nearer (saying lines p) b fit h = let w = (read-within p) in (omega (arith, w .0), omega (arith, w .1))
+nearer (reporting lines p) b fit h = let w = (read-within p) in (omega (arith, w .0), omega (arith, w .1))
 nearer (reading p) (Bytes m) fit h =
     let block = p .rest ++ m in
     let w = write-within (bytesAfter (p .standing) block) (linesAfter (p .standing) block) (record { standing = standingAfter (p .standing) block; rest = leftOver block }) in
@@ -134,7 +134,7 @@ still counting b h = absurd (omega (arith, h))
 still naming b h = absurd (omega (arith, h))
 still (beginning size) b h = absurd (omega (arith, h))
 still (writing out lines p) b h = absurd (omega (arith, h))
-still (saying lines p) b h = absurd (omega (arith, h))
+still (reporting lines p) b h = absurd (omega (arith, h))
 still (reading p) b h = absurd (omega (arith, h))
 still (ending text) b h = absurd (omega (arith, h))
 still (failing text) b h = absurd (omega (arith, h))
@@ -146,7 +146,7 @@ no-rank counting h = absurd (omega (arith, h))
 no-rank naming h = absurd (omega (arith, h))
 no-rank (beginning size) h = absurd (omega (arith, h))
 no-rank (writing out lines p) h = absurd (omega (arith, h))
-no-rank (saying lines p) h = absurd (omega (arith, h))
+no-rank (reporting lines p) h = absurd (omega (arith, h))
 no-rank (reading p) h = absurd (omega (arith, h))
 no-rank (ending text) h = absurd (omega (arith, h))
 no-rank (failing text) h = absurd (omega (arith, h))
@@ -186,7 +186,7 @@ is-stopped counting e = absurd (let z : _≡_ {A = ℕ} 0 1 = cc in omega arith)
 is-stopped naming e = absurd (let z : _≡_ {A = ℕ} 0 1 = cc in omega arith)
 is-stopped (beginning size) e = absurd (let z : _≡_ {A = ℕ} 0 1 = cc in omega arith)
 is-stopped (writing out lines p) e = absurd (let z : _≡_ {A = ℕ} 0 1 = cc in omega arith)
-is-stopped (saying lines p) e = absurd (let z : _≡_ {A = ℕ} 0 1 = cc in omega arith)
+is-stopped (reporting lines p) e = absurd (let z : _≡_ {A = ℕ} 0 1 = cc in omega arith)
 is-stopped (reading p) e = absurd (let z : _≡_ {A = ℕ} 0 1 = cc in omega arith)
 is-stopped (ending text) e = absurd (let z : _≡_ {A = ℕ} 0 1 = cc in omega arith)
 is-stopped (failing text) e = absurd (let z : _≡_ {A = ℕ} 0 1 = cc in omega arith)

@@ -29,7 +29,7 @@ pub data State : Type 0 where
   beginning : ℕ → State
   -- what was recorded is written, and then lines are reported
   writing : List ℕ → List ℕ → Position → State
-  saying : List ℕ → Position → State
+  reporting : List ℕ → Position → State
   reading : Position → State
   -- the last text is reported, or that the system failed
   ending : List ℕ → State
@@ -68,7 +68,7 @@ ask counting = Count
 ask naming = Argument 1 longestWord
 ask (beginning size) = Read 1
 ask (writing out lines p) = Write out
-ask (saying lines p) = Say lines
+ask (reporting lines p) = Say lines
 ask (reading p) = Read (mostToRead p)
 ask (ending text) = Say text
 ask (failing text) = Fail text
@@ -79,12 +79,12 @@ unfoldable pub toRead : Position → State
 toRead p = pick (ltb (p .standing .done) mostRecords) (reading p) stopped
 
 -- Nothing is reported or written where there is nothing to report or to write.
-unfoldable pub toSay : List ℕ → Position → State
-toSay [] p = toRead p
-toSay (b ∷ lines) p = saying (b ∷ lines) p
+unfoldable pub toReport : List ℕ → Position → State
+toReport [] p = toRead p
+toReport (b ∷ lines) p = reporting (b ∷ lines) p
 
 unfoldable pub toWrite : List ℕ → List ℕ → Position → State
-toWrite [] lines p = toSay lines p
+toWrite [] lines p = toReport lines p
 toWrite (b ∷ out) lines p = writing (b ∷ out) lines p
 
 unfoldable pub toEnd : List ℕ → State
@@ -129,12 +129,12 @@ next (beginning size) End = ending (refusedLine 0 (number NoFirstByte))
 next (beginning size) (Number x) = failing inputName
 next (beginning size) Done = failing inputName
 next (beginning size) Failed = failing inputName
-next (writing out lines p) Done = toSay lines p
+next (writing out lines p) Done = toReport lines p
 next (writing out lines p) (Number x) = failing outputName
 next (writing out lines p) (Bytes l) = failing outputName
 next (writing out lines p) End = failing outputName
 next (writing out lines p) Failed = failing outputName
-next (saying lines p) a = toRead p
+next (reporting lines p) a = toRead p
 next (reading p) (Bytes l) = blockTaken (p .standing) (p .rest ++ l)
 next (reading p) End = toEnd (endLine (p .standing .done) (p .rest))
 next (reading p) (Number x) = failing inputName

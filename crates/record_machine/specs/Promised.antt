@@ -11,7 +11,7 @@ use Rattle.model.specs.Words.{ones}
 use Rattle.whole_runs.specs.Listing.{mostRecords}
 use Rattle.programs.specs.Numbers.{numberIn}
 use Rattle.recording.specs.Recording.{begun, entries, traceOf, ReplaysTheSame}
-use Rattle.machines.specs.Machines.{Read, Write, Say, Fail, Stop, Answer, Number, Bytes, End, Done, Failed, Exchange, Ends, heard, stepped, stateAfter, asked, exchanges, said as said-by, writtenOf, saidOf, brought, readOf}
+use Rattle.machines.specs.Machines.{Read, Write, Say, Fail, Stop, Answer, Number, Bytes, End, Done, Failed, Exchange, Ends, heard, stepped, stateAfter, asked, exchanges, errorText as reported-by, writtenOf, errorTextOf, brought, readOf}
 use Rattle.record_machine.specs.Recorded.{callsIn, lent, longEnough, startNumber, tapeOf, recordedTrace, refusedLine, refusedLines, lastLine}
 use Rattle.record_machine.specs.Machine.{State, beginning, machine, ask, inputName, outputName}
 
@@ -23,23 +23,23 @@ wordsIn End = 0
 wordsIn Done = 0
 wordsIn Failed = 0
 
-unfoldable pub sizeNamed : List Exchange → ℕ
-sizeNamed [] = longEnough
-sizeNamed (e ∷ talk) = numberIn (brought (e .answer))
+unfoldable pub sizeGiven : List Exchange → ℕ
+sizeGiven [] = longEnough
+sizeGiven (e ∷ talk) = numberIn (brought (e .answer))
 
 unfoldable pub sizeAsked : List Exchange → ℕ
 sizeAsked [] = longEnough
-sizeAsked (e ∷ talk) = pick (eqb (wordsIn (e .answer)) 2) (sizeNamed talk) longEnough
+sizeAsked (e ∷ talk) = pick (eqb (wordsIn (e .answer)) 2) (sizeGiven talk) longEnough
 
 pub record RecordsItsInput : Type 0 where
   -- What it asked to be written is exactly the recorded trace of the input's own calls, as far as was read.
   pub written : (answers : List Answer) → let talk = exchanges machine answers in writtenOf (asked machine answers) ≡ recordedTrace (sizeAsked talk) (readOf talk)
   -- Whenever it asks to read, a line was reported for each refused record, and nothing else;
-  pub said : (answers : List Answer) (most : ℕ) → ask (stateAfter machine answers) ≡ Read most
-      → let talk = exchanges machine answers in saidOf (asked machine answers) ≡ refusedLines (sizeAsked talk) (readOf talk)
+  pub reported : (answers : List Answer) (most : ℕ) → ask (stateAfter machine answers) ≡ Read most
+      → let talk = exchanges machine answers in errorTextOf (asked machine answers) ≡ refusedLines (sizeAsked talk) (readOf talk)
   -- at the end of the input one more for left-over bytes or for want of a first byte.
   pub ended : (answers : List Answer) (most : ℕ) → ask (stateAfter machine answers) ≡ Read most
-      → let talk = exchanges machine answers in said-by (ask (stepped machine (stateAfter machine answers) End)) ≡ lastLine (sizeAsked talk) (readOf talk)
+      → let talk = exchanges machine answers in reported-by (ask (stepped machine (stateAfter machine answers) End)) ≡ lastLine (sizeAsked talk) (readOf talk)
   -- A refused first byte is reported, and nothing more is read.
   pub refused : (size n : ℕ) → eqb (startNumber size n) 0 ≡ false → ask (stepped machine (beginning size) (Bytes (n ∷ []))) ≡ Say (refusedLine 0 (startNumber size n))
   -- It asks to read one byte or more, and none past record 1,000,000,000.

@@ -25,8 +25,8 @@ emptied g = record { run = g .run; buffer = lent (g .left); place = 0 }
 unfoldable pub taken : Standing → Option Event → Taped
 taken g o = recordedIn (emptied g) o
 
-unfoldable pub standingBehind : Standing → Option Event → Standing
-standingBehind g o = record { run = taken g o .tape .run; left = g .left - taken g o .tape .place; done = g .done + 1 }
+unfoldable pub standingNext : Standing → Option Event → Standing
+standingNext g o = record { run = taken g o .tape .run; left = g .left - taken g o .tape .place; done = g .done + 1 }
 
 unfoldable pub bytesOf : Standing → Option Event → List ℕ
 bytesOf g o = inFront (taken g o .tape)
@@ -40,21 +40,21 @@ standingAfter g [] = g
 standingAfter g (a ∷ []) = g
 standingAfter g (a ∷ b ∷ []) = g
 standingAfter g (a ∷ b ∷ c ∷ []) = g
-standingAfter g (a ∷ b ∷ c ∷ d ∷ l) = standingAfter (standingBehind g (decoded (a ∷ b ∷ c ∷ d ∷ []))) l
+standingAfter g (a ∷ b ∷ c ∷ d ∷ l) = standingAfter (standingNext g (decoded (a ∷ b ∷ c ∷ d ∷ []))) l
 
 unfoldable pub bytesAfter : Standing → List ℕ → List ℕ
 bytesAfter g [] = []
 bytesAfter g (a ∷ []) = []
 bytesAfter g (a ∷ b ∷ []) = []
 bytesAfter g (a ∷ b ∷ c ∷ []) = []
-bytesAfter g (a ∷ b ∷ c ∷ d ∷ l) = bytesOf g (decoded (a ∷ b ∷ c ∷ d ∷ [])) ++ bytesAfter (standingBehind g (decoded (a ∷ b ∷ c ∷ d ∷ []))) l
+bytesAfter g (a ∷ b ∷ c ∷ d ∷ l) = bytesOf g (decoded (a ∷ b ∷ c ∷ d ∷ [])) ++ bytesAfter (standingNext g (decoded (a ∷ b ∷ c ∷ d ∷ []))) l
 
 unfoldable pub linesAfter : Standing → List ℕ → List ℕ
 linesAfter g [] = []
 linesAfter g (a ∷ []) = []
 linesAfter g (a ∷ b ∷ []) = []
 linesAfter g (a ∷ b ∷ c ∷ []) = []
-linesAfter g (a ∷ b ∷ c ∷ d ∷ l) = lineOf g (decoded (a ∷ b ∷ c ∷ d ∷ [])) ++ linesAfter (standingBehind g (decoded (a ∷ b ∷ c ∷ d ∷ []))) l
+linesAfter g (a ∷ b ∷ c ∷ d ∷ l) = lineOf g (decoded (a ∷ b ∷ c ∷ d ∷ [])) ++ linesAfter (standingNext g (decoded (a ∷ b ∷ c ∷ d ∷ []))) l
 
 -- A long buffer that stands where an emptied one does: the same state, and as many bytes left.
 pub record StandsAt (g : Standing) (t : Tape) : Type 0 where

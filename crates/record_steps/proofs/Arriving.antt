@@ -18,14 +18,14 @@ use Rattle.machines.specs.declared.Request.the-variants as request
 use Rattle.machines.specs.Machines.{Answer, stepped}
 use Rattle.record_steps.specs.declared.marks.Marks.{Marks}
 use Rattle.record_machine.specs.Recorded.{refusedLine, endLine}
-use Rattle.record_machine.specs.Machine.{Position, counting, naming, beginning, writing, saying, ending, failing, stopped, machine, next, toRead, toSay, toWrite, toEnd}
+use Rattle.record_machine.specs.Machine.{Position, counting, naming, beginning, writing, reporting, ending, failing, stopped, machine, next, toRead, toReport, toWrite, toEnd}
 use Rattle.record_steps.specs.Played.{blockLines}
 use Rattle.record_steps.specs.Lent.{inBounds, positionOf, stateIn, Arrives}
 use Rattle.record_machine.proofs.Emptied.{front}
 
-pub bounds : (m : Marks) (out : ℕ) → m .left ≤ 4000000001 → m .done ≤ mostRecords → m .kept ≤ 3 → m .size ≤ out → m .told ≤ blockLines → inBounds m out ≡ true
+pub bounds : (m : Marks) (out : ℕ) → m .left ≤ 4000000001 → m .done ≤ mostRecords → m .kept ≤ 3 → m .size ≤ out → m .pending ≤ blockLines → inBounds m out ≡ true
 unfolding inBounds
-bounds m out a b c d e = rw (le-leb (m .left) 4000000001 a, le-leb (m .done) mostRecords b, le-leb (m .kept) 3 c, le-leb (m .size) out d, le-leb (m .told) blockLines e) refl
+bounds m out a b c d e = rw (le-leb (m .left) 4000000001 a, le-leb (m .done) mostRecords b, le-leb (m .kept) 3 c, le-leb (m .size) out d, le-leb (m .pending) blockLines e) refl
 
 -- A text printed to the front.
 pub printed-front : (out text out′ : List ℕ) (size : ℕ) → length text ≤ length out → Printed out 0 text out′ size → take size out′ ≡ text
@@ -35,24 +35,24 @@ pub printed-inside : (out text out′ : List ℕ) (size : ℕ) → length text �
 printed-inside out text out′ size h p = omega (arith, p .next-place, ap (λ (x : List ℕ). length x) (p .holds), length-sets out 0 text, h)
 
 module _ (words input lines : List ℕ) where
-  pub arrives-stopped : (out : List ℕ) → Arrives (record { phase = 0; left = 0; done = 0; kept = 0; size = 0; told = 0 }) words input out lines stopped
+  pub arrives-stopped : (out : List ℕ) → Arrives (record { phase = 0; left = 0; done = 0; kept = 0; size = 0; pending = 0 }) words input out lines stopped
   unfolding stateIn
   arrives-stopped out = record { bounds = bounds _ (length out) (omega arith) (omega arith) (omega arith) (omega arith) (omega arith); state = refl }
 
-  pub arrives-counting : (out : List ℕ) → Arrives (record { phase = 1; left = 0; done = 0; kept = 0; size = 0; told = 0 }) words input out lines counting
+  pub arrives-counting : (out : List ℕ) → Arrives (record { phase = 1; left = 0; done = 0; kept = 0; size = 0; pending = 0 }) words input out lines counting
   unfolding stateIn
   arrives-counting out = record { bounds = bounds _ (length out) (omega arith) (omega arith) (omega arith) (omega arith) (omega arith); state = refl }
 
-  pub arrives-naming : (out : List ℕ) → Arrives (record { phase = 2; left = 0; done = 0; kept = 0; size = 0; told = 0 }) words input out lines naming
+  pub arrives-naming : (out : List ℕ) → Arrives (record { phase = 2; left = 0; done = 0; kept = 0; size = 0; pending = 0 }) words input out lines naming
   unfolding stateIn
   arrives-naming out = record { bounds = bounds _ (length out) (omega arith) (omega arith) (omega arith) (omega arith) (omega arith); state = refl }
 
-  pub arrives-beginning : (out : List ℕ) (left : ℕ) → left ≤ 4000000001 → Arrives (record { phase = 3; left = left; done = 0; kept = 0; size = 0; told = 0 }) words input out lines (beginning left)
+  pub arrives-beginning : (out : List ℕ) (left : ℕ) → left ≤ 4000000001 → Arrives (record { phase = 3; left = left; done = 0; kept = 0; size = 0; pending = 0 }) words input out lines (beginning left)
   unfolding stateIn
   arrives-beginning out left h = record { bounds = bounds _ (length out) h (omega arith) (omega arith) (omega arith) (omega arith); state = refl }
 
   pub arrives-ending : (out text out′ : List ℕ) (size : ℕ) → length text ≤ length out → Printed out 0 text out′ size
-      → Arrives (record { phase = 7; left = 0; done = 0; kept = 0; size = size; told = 0 }) words input out′ lines (ending text)
+      → Arrives (record { phase = 7; left = 0; done = 0; kept = 0; size = size; pending = 0 }) words input out′ lines (ending text)
   unfolding stateIn
   arrives-ending out text out′ size h p = record {
     bounds = bounds _ (length out′) (omega arith) (omega arith) (omega arith) (printed-inside out text out′ size h p) (omega arith);
@@ -60,7 +60,7 @@ module _ (words input lines : List ℕ) where
   }
 
   pub arrives-failing : (out text out′ : List ℕ) (size : ℕ) → length text ≤ length out → Printed out 0 text out′ size
-      → Arrives (record { phase = 8; left = 0; done = 0; kept = 0; size = size; told = 0 }) words input out′ lines (failing text)
+      → Arrives (record { phase = 8; left = 0; done = 0; kept = 0; size = size; pending = 0 }) words input out′ lines (failing text)
   unfolding stateIn
   arrives-failing out text out′ size h p = record {
     bounds = bounds _ (length out′) (omega arith) (omega arith) (omega arith) (printed-inside out text out′ size h p) (omega arith);
@@ -68,7 +68,7 @@ module _ (words input lines : List ℕ) where
   }
 
   pub arrives-read : (m : Marks) (out : List ℕ) → m .left ≤ 4000000001 → m .done < mostRecords → m .kept ≤ 3
-      → Arrives (record { phase = 6; left = m .left; done = m .done; kept = m .kept; size = 0; told = 0 }) words input out lines (toRead (positionOf m words input))
+      → Arrives (record { phase = 6; left = m .left; done = m .done; kept = m .kept; size = 0; pending = 0 }) words input out lines (toRead (positionOf m words input))
   unfolding stateIn toRead
   arrives-read m out a b c = record {
     bounds = bounds _ (length out) a (omega (arith, b)) c (omega arith) (omega arith);
@@ -80,25 +80,25 @@ module _ (words input lines : List ℕ) where
   arrives-last m out h = rw (le-ltb (m .done) mostRecords h) refl
 
   -- Lines that are left to say.
-  pub none-to-say : (m : Marks) → m .told ≡ 0 → toSay (take (m .told) lines) (positionOf m words input) ≡ toRead (positionOf m words input)
-  unfolding toSay
-  none-to-say m e = rw e refl
+  pub none-to-report : (m : Marks) → m .pending ≡ 0 → toReport (take (m .pending) lines) (positionOf m words input) ≡ toRead (positionOf m words input)
+  unfolding toReport
+  none-to-report m e = rw e refl
 
-  some-to-say : (text : List ℕ) (p : Position) → (length text ≡ 0 → ⊥) → toSay text p ≡ saying text p
-  unfolding toSay
-  some-to-say [] p h = absurd (h refl)
-  some-to-say (b ∷ text) p h = refl
+  some-to-report : (text : List ℕ) (p : Position) → (length text ≡ 0 → ⊥) → toReport text p ≡ reporting text p
+  unfolding toReport
+  some-to-report [] p h = absurd (h refl)
+  some-to-report (b ∷ text) p h = refl
 
-  pub arrives-say : (m : Marks) (out out′ : List ℕ) (size : ℕ) → m .left ≤ 4000000001 → m .done ≤ mostRecords → m .kept ≤ 3 → m .told ≤ length lines → m .told ≤ length out → (m .told ≡ 0 → ⊥)
-      → Printed out 0 (take (m .told) lines) out′ size
-      → Arrives (record { phase = 5; left = m .left; done = m .done; kept = m .kept; size = size; told = 0 }) words input out′ lines (toSay (take (m .told) lines) (positionOf m words input))
+  pub arrives-report : (m : Marks) (out out′ : List ℕ) (size : ℕ) → m .left ≤ 4000000001 → m .done ≤ mostRecords → m .kept ≤ 3 → m .pending ≤ length lines → m .pending ≤ length out → (m .pending ≡ 0 → ⊥)
+      → Printed out 0 (take (m .pending) lines) out′ size
+      → Arrives (record { phase = 5; left = m .left; done = m .done; kept = m .kept; size = size; pending = 0 }) words input out′ lines (toReport (take (m .pending) lines) (positionOf m words input))
   unfolding stateIn
-  arrives-say m out out′ size a b c d e some p =
-      let many : length (take (m .told) lines) ≡ m .told = length-take-le (m .told) lines d in
-      let fits : length (take (m .told) lines) ≤ length out = omega (arith, many, e) in
+  arrives-report m out out′ size a b c d e some p =
+      let many : length (take (m .pending) lines) ≡ m .pending = length-take-le (m .pending) lines d in
+      let fits : length (take (m .pending) lines) ≤ length out = omega (arith, many, e) in
       record {
-        bounds = bounds _ (length out′) a b c (printed-inside out (take (m .told) lines) out′ size fits p) (omega arith);
-        state = ap (λ (x : List ℕ). saying x (positionOf m words input)) (printed-front out (take (m .told) lines) out′ size fits p) ∙ sym (some-to-say (take (m .told) lines) (positionOf m words input) (λ h. some (sym many ∙ h)));
+        bounds = bounds _ (length out′) a b c (printed-inside out (take (m .pending) lines) out′ size fits p) (omega arith);
+        state = ap (λ (x : List ℕ). reporting x (positionOf m words input)) (printed-front out (take (m .pending) lines) out′ size fits p) ∙ sym (some-to-report (take (m .pending) lines) (positionOf m words input) (λ h. some (sym many ∙ h)));
       }
 
   -- What is left over at the end.
@@ -114,24 +114,24 @@ module _ (words input lines : List ℕ) where
       left-text (b ∷ rest) none-there = unfold toEnd endLine number refusedLine in refl
 
 -- Texts of the program.
-pub lines-empty : (p : Position) (lines : List ℕ) → toSay (take 0 lines) p ≡ toRead p
-unfolding toSay
+pub lines-empty : (p : Position) (lines : List ℕ) → toReport (take 0 lines) p ≡ toRead p
+unfolding toReport
 lines-empty p lines = refl
 
 -- Where a block was recorded.
-pub arrives-write : (m : Marks) (words input out lines : List ℕ) → m .phase ≡ 4 → m .left ≤ 4000000001 → m .done ≤ mostRecords → m .kept ≤ 3 → m .size ≤ length out → m .told ≤ blockLines
-    → (m .size ≡ 0 → ⊥) → Arrives m words input out lines (toWrite (take (m .size) out) (take (m .told) lines) (positionOf m words input))
+pub arrives-write : (m : Marks) (words input out lines : List ℕ) → m .phase ≡ 4 → m .left ≤ 4000000001 → m .done ≤ mostRecords → m .kept ≤ 3 → m .size ≤ length out → m .pending ≤ blockLines
+    → (m .size ≡ 0 → ⊥) → Arrives m words input out lines (toWrite (take (m .size) out) (take (m .pending) lines) (positionOf m words input))
 unfolding stateIn
 arrives-write m words input out lines e a b c d f some = record {
   bounds = bounds m (length out) a b c d f;
-  state = rw e (sym (some-to-write (take (m .size) out) (take (m .told) lines) (positionOf m words input) (λ h. some (sym (length-take-le (m .size) out d) ∙ h))));
+  state = rw e (sym (some-to-write (take (m .size) out) (take (m .pending) lines) (positionOf m words input) (λ h. some (sym (length-take-le (m .size) out d) ∙ h))));
 }
   where
     some-to-write : (text more : List ℕ) (p : Position) → (length text ≡ 0 → ⊥) → toWrite text more p ≡ writing text more p
     some-to-write [] more p h = absurd (h refl)
     some-to-write (x ∷ text) more p h = unfold toWrite in refl
 
-pub none-to-write : (m : Marks) (words input out lines : List ℕ) → m .size ≡ 0 → toWrite (take (m .size) out) (take (m .told) lines) (positionOf m words input) ≡ toSay (take (m .told) lines) (positionOf m words input)
+pub none-to-write : (m : Marks) (words input out lines : List ℕ) → m .size ≡ 0 → toWrite (take (m .size) out) (take (m .pending) lines) (positionOf m words input) ≡ toReport (take (m .pending) lines) (positionOf m words input)
 unfolding toWrite
 none-to-write m words input out lines e = rw e refl
 

@@ -11,7 +11,7 @@ use Rattle.words.specs.Layout.{runOf}
 use Rattle.record_steps.specs.declared.block.Taken.{Taken}
 use Rattle.record_steps.specs.declared.marks.Marks.{Marks}
 use Rattle.record_machine.specs.Recorded.{wholeRecords, leftOver}
-use Rattle.record_machine.specs.Records.{Standing, standingBehind, standingAfter}
+use Rattle.record_machine.specs.Records.{Standing, standingNext, standingAfter}
 use Rattle.record_machine.specs.Machine.{blockTaken, toWrite}
 use Rattle.record_machine.proofs.Emptied.{front}
 use Rattle.record_machine.proofs.Parts.{left-few, counted, done-after}
@@ -28,12 +28,12 @@ left-drop (a ∷ b ∷ c ∷ d ∷ l) = left-drop l ∙ ap (λ (k : ℕ). drop k
 
 -- No bytes of the buffer come back.
 left-falls : (g : Standing) (l : List ℕ) → standingAfter g l .left ≤ g .left
-unfolding standingAfter standingBehind
+unfolding standingAfter standingNext
 left-falls g [] = omega arith
 left-falls g (a ∷ []) = omega arith
 left-falls g (a ∷ b ∷ []) = omega arith
 left-falls g (a ∷ b ∷ c ∷ []) = omega arith
-left-falls g (a ∷ b ∷ c ∷ d ∷ l) = omega (arith, left-falls (standingBehind g (decoded (a ∷ b ∷ c ∷ d ∷ []))) l)
+left-falls g (a ∷ b ∷ c ∷ d ∷ l) = omega (arith, left-falls (standingNext g (decoded (a ∷ b ∷ c ∷ d ∷ []))) l)
 
 drop-front : (from rest : ℕ) (l : List ℕ) → from ≤ length l → drop from (take (from + rest) l) ≡ take rest (drop from l)
 drop-front from rest l h = ap (drop from) (take-add from rest l) ∙ drop-at (take from l) (take rest (drop from l)) from (length-take-le from l h)
@@ -87,7 +87,7 @@ module _ (m : Marks) (words words′ input out lines out′ lines′ : List ℕ)
       ∙ left-bytes
 
   pub block-is : (input′ : List ℕ) → input′ ≡ sets input 0 (take (end - from) (drop from input))
-      → let next : Marks = record { phase = 4; left = t .left; done = t .done; kept = end - from; size = t .size; told = t .told } in
-      blockTaken g block ≡ toWrite (take (t .size) out′) (take (t .told) lines′) (positionOf next words′ input′)
+      → let next : Marks = record { phase = 4; left = t .left; done = t .done; kept = end - from; size = t .size; pending = t .pending } in
+      blockTaken g block ≡ toWrite (take (t .size) out′) (take (t .pending) lines′) (positionOf next words′ input′)
   unfolding blockTaken
-  block-is input′ e = λ j. toWrite (sym (w .written) j) (sym (w .said) j) (record { standing = sym (w .standing) j; rest = sym (kept-bytes input′ e) j })
+  block-is input′ e = λ j. toWrite (sym (w .written) j) (sym (w .reported) j) (record { standing = sym (w .standing) j; rest = sym (kept-bytes input′ e) j })

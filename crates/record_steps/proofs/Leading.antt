@@ -21,7 +21,7 @@ use Rattle.machines.specs.Machines.{Answer, Number, Bytes, End, Done, Failed, h
 use Rattle.machines.specs.Forms.{answerOf, takenOf}
 use Rattle.record_steps.specs.declared.marks.Marks.{Marks}
 use Rattle.record_machine.specs.Recorded.{longEnough, refusedLine, endLine}
-use Rattle.record_machine.specs.Machine.{Position, State, counting, naming, beginning, writing, saying, reading, ending, failing, machine, ask, next, mostToRead, toRead, toSay, toEnd, counted, sized, begun, beginsWith, blockTaken, usage, argumentsName, inputName, outputName, largestBuffer, longestWord, blockBytes}
+use Rattle.record_machine.specs.Machine.{Position, State, counting, naming, beginning, writing, reporting, reading, ending, failing, machine, ask, next, mostToRead, toRead, toReport, toEnd, counted, sized, begun, beginsWith, blockTaken, usage, argumentsName, inputName, outputName, largestBuffer, longestWord, blockBytes}
 use Rattle.record_steps.specs.Lent.{positionOf, Arrives}
 
 pub led : {m : Marks} {words input out lines : List ℕ} {s t : State} → t ≡ s → Arrives m words input out lines s → Arrives m words input out lines t
@@ -74,24 +74,24 @@ sized-small size h = rw (le-ltb largestBuffer size h) refl
 
 -- A word, as it is taken.
 module _ (a : answers.Answer) (kept : ℕ) (input : List ℕ) (r : takens.Taken) (h : heardWord longestWord (answerOf a kept input) ≡ takenOf r kept input) where
-  abbrev named : State
-  named = stepped machine naming (answerOf a kept input)
+  abbrev after-word : State
+  after-word = stepped machine naming (answerOf a kept input)
 
-  heard-word : named ≡ next naming (takenOf r kept input)
+  heard-word : after-word ≡ next naming (takenOf r kept input)
   unfolding stepped ask heard
   heard-word = ap (next naming) h
 
-  pub named-word : (size : ℕ) → r ≡ taken.Brought size → named ≡ sized (numberIn (take size (drop kept input)))
+  pub word-taken : (size : ℕ) → r ≡ taken.Brought size → after-word ≡ sized (numberIn (take size (drop kept input)))
   unfolding takenOf next
-  named-word size e = heard-word ∙ ap (λ (x : takens.Taken). next naming (takenOf x kept input)) e
+  word-taken size e = heard-word ∙ ap (λ (x : takens.Taken). next naming (takenOf x kept input)) e
 
-  pub named-end : r ≡ taken.Ended → named ≡ ending usage
+  pub word-end : r ≡ taken.Ended → after-word ≡ ending usage
   unfolding takenOf next
-  named-end e = heard-word ∙ ap (λ (x : takens.Taken). next naming (takenOf x kept input)) e
+  word-end e = heard-word ∙ ap (λ (x : takens.Taken). next naming (takenOf x kept input)) e
 
-  pub named-failed : r ≡ taken.Failed → named ≡ ending usage
+  pub word-failed : r ≡ taken.Failed → after-word ≡ ending usage
   unfolding takenOf next
-  named-failed e = heard-word ∙ ap (λ (x : takens.Taken). next naming (takenOf x kept input)) e
+  word-failed e = heard-word ∙ ap (λ (x : takens.Taken). next naming (takenOf x kept input)) e
 
 -- The first byte.
 one-at : (l : List ℕ) (k : ℕ) → k < length l → take 1 (drop k l) ≡ getD l k 0 ∷ []
@@ -132,7 +132,7 @@ module _ (out lines : List ℕ) (p : Position) (a : Answer) (r : Bool) (h : hear
   unfolding stepped ask heard
   heard-write = ap (next (writing out lines p)) h
 
-  pub write-done : r ≡ true → after-writing ≡ toSay lines p
+  pub write-done : r ≡ true → after-writing ≡ toReport lines p
   unfolding next
   write-done e = heard-write ∙ rw e refl
 
@@ -140,9 +140,9 @@ module _ (out lines : List ℕ) (p : Position) (a : Answer) (r : Bool) (h : hear
   unfolding next
   write-failed e = heard-write ∙ rw e refl
 
-pub said-then-read : (lines : List ℕ) (p : Position) (a : Answer) → stepped machine (saying lines p) a ≡ toRead p
+pub reported-then-read : (lines : List ℕ) (p : Position) (a : Answer) → stepped machine (reporting lines p) a ≡ toRead p
 unfolding stepped next
-said-then-read lines p a = refl
+reported-then-read lines p a = refl
 
 -- A block.
 take-both : (k n : ℕ) (l : List ℕ) → take k l ++ take n (drop k l) ≡ take (k + n) l

@@ -8,7 +8,7 @@ use lib.ListN.{length, set}
 use Rattle.record_steps.specs.declared.marks.Marks.{Marks}
 use Rattle.record_steps.specs.Lent.{marksOf}
 
-pub all-put : (l : List ℕ) (m : Marks) → 6 ≤ length l → marksOf (set (set (set (set (set (set l 0 (m .phase)) 1 (m .left)) 2 (m .done)) 3 (m .kept)) 4 (m .size)) 5 (m .told)) ≡ m
+pub all-put : (l : List ℕ) (m : Marks) → 6 ≤ length l → marksOf (set (set (set (set (set (set l 0 (m .phase)) 1 (m .left)) 2 (m .done)) 3 (m .kept)) 4 (m .size)) 5 (m .pending)) ≡ m
 unfolding marksOf
 all-put [] m h = absurd (omega (arith, h))
 all-put (a ∷ []) m h = absurd (omega (arith, h))

@@ -23,7 +23,7 @@ use Rattle.model.specs.laws.Refusals.{by-refusal}
 use Rattle.whole_runs.specs.Outcomes.{Outcome, Report, startReport, startOutcome}
 use Rattle.whole_runs.proofs.whole.Reached.{refused-number}
 use Rattle.listing.specs.declared.Summary.{Summary}
-use Rattle.listing.specs.Said.{reportIn}
+use Rattle.listing.specs.Summarised.{reportIn}
 use Rattle.recording.specs.Recording.{unwritten, appended, recording, recordedStart}
 use Rattle.words.specs.Layout.{stateSize, runOf}
 use Rattle.in_place.specs.Starting.{startRefusalIn, startOutcomeIn}
@@ -92,10 +92,10 @@ one-set [] n h = absurd (omega (arith, h))
 one-set (a ∷ []) n h = refl
 one-set (a ∷ b ∷ l) n h = absurd (omega (arith, h))
 
-pub number-is : (many n left : ℕ) (buffer : List ℕ) (said : Summary) (a : StartAnswer) → many ≡ 6464 → length buffer ≡ min left 1 → a ≡ recordedStartIn many n ones buffer 0 .outcome .answer → reportIn said ≡ startReport a
-    → said .refused ≡ startNumber left n
+pub number-is : (many n left : ℕ) (buffer : List ℕ) (summary : Summary) (a : StartAnswer) → many ≡ 6464 → length buffer ≡ min left 1 → a ≡ recordedStartIn many n ones buffer 0 .outcome .answer → reportIn summary ≡ startReport a
+    → summary .refused ≡ startNumber left n
 unfolding startNumber reportIn
-number-is many n left buffer said a whole e is sum =
+number-is many n left buffer summary a whole e is sum =
     ap (λ (r : Report). r .refused) (sum ∙ ap startReport (is ∙ ap (λ (k : ℕ). recordedStartIn k n ones buffer 0 .outcome .answer) whole ∙ ap (λ (o : Outcome StartAnswer). o .answer) (outcome-in n left buffer e)))
 
 -- The machine after a start.
@@ -109,15 +109,15 @@ start-fine n left x e h = eq-eqb (startNumber left n) 0 (sym e ∙ h)
 pub long-enough : (x out : List ℕ) (room : ℕ) → length x ≡ length (take room out) → room ≤ length out → blockLines ≤ length out → longestLine ≤ length (x ++ drop room out)
 long-enough x out room e h long = omega (arith, length-append x (drop room out), length-drop room out, length-take-le room out h, e, long)
 
-pub arrives-started : (many n left : ℕ) (words′ input out′ lines buffer buffer′ behind : List ℕ) → many ≡ 6464 → eqb (startNumber left n) 0 ≡ true → left ≤ 4000000001 → length buffer ≡ min left 1
-    → runOf words′ ≡ recordedStartIn many n ones buffer 0 .outcome .run → buffer′ ≡ recordedStartIn many n ones buffer 0 .buffer → out′ ≡ buffer′ ++ behind
-    → Arrives (record { phase = 4; left = left - 1; done = 0; kept = 0; size = 1; told = 0 }) words′ input out′ lines (machine-begun left n)
+pub arrives-started : (many n left : ℕ) (words′ input out′ lines buffer buffer′ rest-after : List ℕ) → many ≡ 6464 → eqb (startNumber left n) 0 ≡ true → left ≤ 4000000001 → length buffer ≡ min left 1
+    → runOf words′ ≡ recordedStartIn many n ones buffer 0 .outcome .run → buffer′ ≡ recordedStartIn many n ones buffer 0 .buffer → out′ ≡ buffer′ ++ rest-after
+    → Arrives (record { phase = 4; left = left - 1; done = 0; kept = 0; size = 1; pending = 0 }) words′ input out′ lines (machine-begun left n)
 unfolding machine-begun stateIn
-arrives-started many n left words′ input out′ lines buffer buffer′ behind whole fine most e run bytes is =
+arrives-started many n left words′ input out′ lines buffer buffer′ rest-after whole fine most e run bytes is =
     let w = accepted n left fine in
     let one : length buffer ≡ 1 = omega (arith, e, w .some-left) in
     let state : runOf words′ ≡ startState n ones = run ∙ ap (λ (k : ℕ). recordedStartIn k n ones buffer 0 .outcome .run) whole ∙ ap (λ (o : Outcome StartAnswer). o .run) (outcome-in n left buffer e) ∙ w .run in
-    let text : out′ ≡ n ∷ behind = is ∙ ap (λ (x : List ℕ). x ++ behind) (bytes ∙ ap (λ (k : ℕ). recordedStartIn k n ones buffer 0 .buffer) whole ∙ buffer-in n left buffer w one ∙ one-set buffer n one) in
+    let text : out′ ≡ n ∷ rest-after = is ∙ ap (λ (x : List ℕ). x ++ rest-after) (bytes ∙ ap (λ (k : ℕ). recordedStartIn k n ones buffer 0 .buffer) whole ∙ buffer-in n left buffer w one ∙ one-set buffer n one) in
     record {
       bounds = bounds _ (length out′) (omega (arith, most)) (omega arith) (omega arith) (omega (arith, ap (λ (x : List ℕ). length x) text)) (omega arith);
       state = rw (fine, text, state) refl;

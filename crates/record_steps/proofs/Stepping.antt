@@ -28,7 +28,7 @@ pub record Bounded (m : Marks) (out : ℕ) : Type 0 where
   pub done : m .done ≤ mostRecords
   pub kept : m .kept ≤ 3
   pub size : m .size ≤ out
-  pub told : m .told ≤ blockLines
+  pub pending : m .pending ≤ blockLines
 
 pub bounded : (m : Marks) (out : ℕ) → inBounds m out ≡ true → Bounded m out
 unfolding inBounds
@@ -37,7 +37,7 @@ bounded m out h =
     let b = leb (m .done) mostRecords in
     let c = leb (m .kept) 3 in
     let d = leb (m .size) out in
-    let e = leb (m .told) blockLines in
+    let e = leb (m .pending) blockLines in
     let bs = and-right a (b && (c && (d && e))) h in
     let cs = and-right b (c && (d && e)) bs in
     let ds = and-right c (d && e) cs in
@@ -46,7 +46,7 @@ bounded m out h =
       done = leb-true (m .done) mostRecords (and-left b (c && (d && e)) bs);
       kept = leb-true (m .kept) 3 (and-left c (d && e) cs);
       size = leb-true (m .size) out (and-left d e ds);
-      told = leb-true (m .told) blockLines (and-right d e ds);
+      pending = leb-true (m .pending) blockLines (and-right d e ds);
     }
 
 -- There is room.
@@ -57,9 +57,9 @@ pub record Room (memory words input out lines : ℕ) : Type 0 where
   pub out-room : blockLines ≤ out
   pub lines-room : blockLines ≤ lines
 
-pub roomy : (memory words input out lines : ℕ) → hasRoom memory words input out lines ≡ true → Room memory words input out lines
+pub enoughRoom : (memory words input out lines : ℕ) → hasRoom memory words input out lines ≡ true → Room memory words input out lines
 unfolding hasRoom
-roomy memory words input out lines h =
+enoughRoom memory words input out lines h =
     let a = leb 6 memory in
     let b = eqb words 6464 in
     let c = leb 4099 input in
@@ -124,7 +124,7 @@ pub put-stands : (memory words input out lines : List ℕ) (m : Marks) (s : Stat
 unfolding stateOf isState
 put-stands memory words input out lines m s room is w =
     let b = bounded m (length out) (w .bounds) in
-    let r = roomy _ _ _ _ _ room in
+    let r = enoughRoom _ _ _ _ _ room in
     let there = place-kept memory m is in
     record {
       state = rw (room, is, w .bounds) (w .state);

@@ -16,7 +16,7 @@ use Rattle.model.specs.declared.Run.{Run}
 use Rattle.model.specs.Refusals.{number}
 use Rattle.whole_runs.specs.Outcomes.{Report}
 use Rattle.listing.specs.declared.Summary.{Summary}
-use Rattle.listing.specs.Said.{reportIn}
+use Rattle.listing.specs.Summarised.{reportIn}
 use Rattle.listing.specs.Printed.{Printed}
 use Rattle.recording.specs.Recording.{Recorded, Tape, taped}
 use Rattle.trace.specs.declared.Decoded.{Decoded}
@@ -26,16 +26,16 @@ use Rattle.whole_runs.specs.Calls.{Reply, answered}
 use Rattle.record_steps.specs.declared.calls.Played.{Played}
 use Rattle.record_steps.specs.declared.block.Taken.{Taken}
 use Rattle.record_machine.specs.Recorded.{lent, inFront, recordedIn, lineFor}
-use Rattle.record_machine.specs.Records.{Standing, emptied, taken, standingBehind, bytesOf, lineOf}
+use Rattle.record_machine.specs.Records.{Standing, emptied, taken, standingNext, bytesOf, lineOf}
 use Rattle.record_steps.specs.Played.{tape, Plays, longestLine, placeFor, standingOf, TakesOne}
 use Rattle.record_machine.proofs.Emptied.{SameLeft, record-alike, front}
 
 -- A call through the recorder, by what its contract says and what its answer is summed up to.
 pub plays : {A : Type 0} (report : A → Report) (s : Run) (buffer : List ℕ) (place : ℕ) (o : Option Event) (x : Recorded A) → recordedIn (tape s buffer place) o ≡ taped report x
-    → (said : Summary) {s′ : Run} {b : List ℕ} {p : ℕ} {a : A} → s′ ≡ x .outcome .run → a ≡ x .outcome .answer → b ≡ x .buffer → p ≡ x .place → reportIn said ≡ report a
-    → Plays s buffer place o s′ b (record { refused = said .refused; place = p })
+    → (summary : Summary) {s′ : Run} {b : List ℕ} {p : ℕ} {a : A} → s′ ≡ x .outcome .run → a ≡ x .outcome .answer → b ≡ x .buffer → p ≡ x .place → reportIn summary ≡ report a
+    → Plays s buffer place o s′ b (record { refused = summary .refused; place = p })
 unfolding taped reportIn answered
-plays report s buffer place o x is said run answer bytes next sum = record {
+plays report s buffer place o x is summary run answer bytes next sum = record {
   left = (λ j. tape (run j) (bytes j) (next j)) ∙ ap (λ (y : _). y .tape) (sym is);
   number = ap (λ (r : Report). r .refused) (sum ∙ ap report answer) ∙ ap (λ (y : _). y .reply .report .refused) (sym is);
 }
@@ -58,7 +58,7 @@ nowhere b [] p q h = refl
 nowhere b (a ∷ x) p q h = absurd (omega (arith, h))
 
 -- One record at the place for it.
-module _ (s : Run) (t : Taken) (o : Option Event) (out : List ℕ) (s′ : Run) (out′ : List ℕ) (r : Played) (roomy : t .size + 4 ≤ length out)
+module _ (s : Run) (t : Taken) (o : Option Event) (out : List ℕ) (s′ : Run) (out′ : List ℕ) (r : Played) (enoughRoom : t .size + 4 ≤ length out)
     (place : ℕ) (there : place ≡ placeFor (t .left) (t .size) (length out)) (w : Plays s out place o s′ out′ r) where
   abbrev g : Standing
   g = standingOf s t
@@ -72,13 +72,13 @@ module _ (s : Run) (t : Taken) (o : Option Event) (out : List ℕ) (s′ : Run) 
   here h = there ∙ rw h refl
 
   place-inside : place ≤ length out
-  place-inside = by-bool (ltb (t .left) 4) (λ h. omega (arith, at-end h)) (λ h. omega (arith, here h, roomy))
+  place-inside = by-bool (ltb (t .left) 4) (λ h. omega (arith, at-end h)) (λ h. omega (arith, here h, enoughRoom))
 
   same-test : ltb (length out - place) 4 ≡ ltb (length (lent (t .left)) - 0) 4
   unfolding lent
   same-test = by-bool (ltb (t .left) 4)
       (λ h. lt-ltb (length out - place) 4 (omega (arith, at-end h)) ∙ sym (lt-ltb (length (lent (t .left)) - 0) 4 (omega (arith, ltb-true (t .left) 4 h, length-replicate {A = ℕ} (t .left) 0))))
-      (λ h. le-ltb (length out - place) 4 (omega (arith, here h, roomy)) ∙ sym (le-ltb (length (lent (t .left)) - 0) 4 (omega (arith, ltb-false (t .left) 4 h, length-replicate {A = ℕ} (t .left) 0))))
+      (λ h. le-ltb (length out - place) 4 (omega (arith, here h, enoughRoom)) ∙ sym (le-ltb (length (lent (t .left)) - 0) 4 (omega (arith, ltb-false (t .left) 4 h, length-replicate {A = ℕ} (t .left) 0))))
 
   alike : SameLeft (tape s out place) (emptied g) (recordedIn (tape s out place) o) (taken g o)
   unfolding taken emptied
@@ -115,19 +115,19 @@ module _ (s : Run) (t : Taken) (o : Option Event) (out : List ℕ) (s′ : Run) 
       (λ h. nowhere out bytes place (t .size) (none-fit h))
       (λ h. ap (λ (k : ℕ). sets out k bytes) (here h))
 
-  pub one-taken : (lines lines′ : List ℕ) (told : ℕ) → Printed lines (t .told) (lineFor (t .done + 1) (r .refused)) lines′ told → told ≤ t .told + longestLine
-      → TakesOne s t o out lines s′ (record { left = t .left - (r .place - place); done = t .done + 1; size = t .size + (r .place - place); told = told }) out′ lines′
-  unfolding standingBehind lineOf emptied
-  one-taken lines lines′ told printed short =
+  pub one-taken : (lines lines′ : List ℕ) (pending : ℕ) → Printed lines (t .pending) (lineFor (t .done + 1) (r .refused)) lines′ pending → pending ≤ t .pending + longestLine
+      → TakesOne s t o out lines s′ (record { left = t .left - (r .place - place); done = t .done + 1; size = t .size + (r .place - place); pending = pending }) out′ lines′
+  unfolding standingNext lineOf emptied
+  one-taken lines lines′ pending printed short =
       let more : r .place - place ≡ length (bytesOf g o) = omega (arith, place-after, ap (λ (x : List ℕ). length x) bytes-are) in
       let gone : r .place - place ≡ taken g o .tape .place = omega (arith, place-after, alike .place-other) in
-      let said : lineFor (t .done + 1) (r .refused) ≡ lineOf g o = ap (lineFor (t .done + 1)) (w .number ∙ ap (λ (y : Reply). y .report .refused) (alike .reply)) in
+      let summary : lineFor (t .done + 1) (r .refused) ≡ lineOf g o = ap (lineFor (t .done + 1)) (w .number ∙ ap (λ (y : Reply). y .report .refused) (alike .reply)) in
       record {
         standing = λ j. record { run = (ap (λ (x : Tape). x .run) (w .left) ∙ alike .run) j; left = t .left - gone j; done = t .done + 1 };
         written = ap (λ (x : Tape). x .buffer) (w .left) ∙ alike .buffer ∙ written-there ∙ ap (sets out (t .size)) (sym bytes-are);
         size = ap (λ (k : ℕ). t .size + k) more;
         few = omega (arith, at-most-four);
-        said = printed .holds ∙ ap (sets lines (t .told)) said;
-        told = printed .next-place ∙ ap (λ (x : List ℕ). t .told + length x) said;
+        reported = printed .holds ∙ ap (sets lines (t .pending)) summary;
+        pending = printed .next-place ∙ ap (λ (x : List ℕ). t .pending + length x) summary;
         short = short;
       }

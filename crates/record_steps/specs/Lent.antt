@@ -15,7 +15,7 @@ use Rattle.machines.specs.Forms.{Asks}
 use Rattle.whole_runs.specs.Listing.{mostRecords}
 use Rattle.record_steps.specs.declared.marks.Marks.{Marks}
 use Rattle.record_steps.specs.Played.{blockLines}
-use Rattle.record_machine.specs.Machine.{Position, State, counting, naming, beginning, writing, saying, reading, ending, failing, stopped, ask, longestWord, blockBytes}
+use Rattle.record_machine.specs.Machine.{Position, State, counting, naming, beginning, writing, reporting, reading, ending, failing, stopped, ask, longestWord, blockBytes}
 
 -- As many bytes as are kept of a record, and a word or a block after them; and as many as the longest trace has (`longEnough`).
 abbrev pub inputSize : ℕ
@@ -35,13 +35,13 @@ marksOf memory = record {
   done = getD memory 2 0;
   kept = getD memory 3 0;
   size = getD memory 4 0;
-  told = getD memory 5 0;
+  pending = getD memory 5 0;
 }
 
 -- The numbers are those of a state: no more is left than the longest buffer has, no more records were taken than a replay takes, no whole record is kept, and what is to be
 -- written and reported stands in the buffers.
 unfoldable pub inBounds : Marks → ℕ → Bool
-inBounds m out = leb (m .left) longestTrace && (leb (m .done) mostRecords && (leb (m .kept) 3 && (leb (m .size) out && leb (m .told) blockLines)))
+inBounds m out = leb (m .left) longestTrace && (leb (m .done) mostRecords && (leb (m .kept) 3 && (leb (m .size) out && leb (m .pending) blockLines)))
 
 abbrev pub positionOf : Marks → List ℕ → List ℕ → Position
 positionOf m words input = record { standing = record { run = runOf words; left = m .left; done = m .done }; rest = take (m .kept) input }
@@ -52,8 +52,8 @@ stateIn m words input out lines =
     pick (eqb (m .phase) 1) counting
     (pick (eqb (m .phase) 2) naming
     (pick (eqb (m .phase) 3) (beginning (m .left))
-    (pick (eqb (m .phase) 4) (writing (take (m .size) out) (take (m .told) lines) (positionOf m words input))
-    (pick (eqb (m .phase) 5) (saying (take (m .size) out) (positionOf m words input))
+    (pick (eqb (m .phase) 4) (writing (take (m .size) out) (take (m .pending) lines) (positionOf m words input))
+    (pick (eqb (m .phase) 5) (reporting (take (m .size) out) (positionOf m words input))
     (pick (eqb (m .phase) 6) (reading (positionOf m words input))
     (pick (eqb (m .phase) 7) (ending (take (m .size) out))
     (pick (eqb (m .phase) 8) (failing (take (m .size) out))

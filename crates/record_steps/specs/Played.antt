@@ -14,7 +14,7 @@ use Rattle.recording.specs.Recording.{Tape}
 use Rattle.record_steps.specs.declared.calls.Played.{Played}
 use Rattle.record_steps.specs.declared.block.Taken.{Taken}
 use Rattle.record_machine.specs.Recorded.{recordedIn}
-use Rattle.record_machine.specs.Records.{Standing, standingBehind, bytesOf, lineOf, standingAfter, bytesAfter, linesAfter}
+use Rattle.record_machine.specs.Records.{Standing, standingNext, bytesOf, lineOf, standingAfter, bytesAfter, linesAfter}
 
 abbrev pub tape : Run → List ℕ → ℕ → Tape
 tape s buffer place = record { run = s; buffer = buffer; place = place }
@@ -41,20 +41,20 @@ standingOf s t = record { run = s; left = t .left; done = t .done }
 
 -- One record: what it wrote goes to `out` after what was there, what is reported of it to `lines`.
 pub record TakesOne (s : Run) (t : Taken) (o : Option Event) (out lines : List ℕ) (s′ : Run) (t′ : Taken) (out′ lines′ : List ℕ) : Type 0 where
-  pub standing : standingOf s′ t′ ≡ standingBehind (standingOf s t) o
+  pub standing : standingOf s′ t′ ≡ standingNext (standingOf s t) o
   pub written : out′ ≡ sets out (t .size) (bytesOf (standingOf s t) o)
   pub size : t′ .size ≡ t .size + length (bytesOf (standingOf s t) o)
   pub few : t′ .size ≤ t .size + 4
-  pub said : lines′ ≡ sets lines (t .told) (lineOf (standingOf s t) o)
-  pub told : t′ .told ≡ t .told + length (lineOf (standingOf s t) o)
-  pub short : t′ .told ≤ t .told + longestLine
+  pub reported : lines′ ≡ sets lines (t .pending) (lineOf (standingOf s t) o)
+  pub pending : t′ .pending ≡ t .pending + length (lineOf (standingOf s t) o)
+  pub short : t′ .pending ≤ t .pending + longestLine
 
 -- The records of a block: what they wrote is the front of `out`, what is reported of them the front of `lines`.
 pub record TakesAll (s : Run) (left done : ℕ) (block : List ℕ) (out lines : ℕ) (s′ : Run) (t : Taken) (out′ lines′ : List ℕ) : Type 0 where
   pub standing : standingOf s′ t ≡ standingAfter (record { run = s; left = left; done = done }) block
   pub written : take (t .size) out′ ≡ bytesAfter (record { run = s; left = left; done = done }) block
-  pub said : take (t .told) lines′ ≡ linesAfter (record { run = s; left = left; done = done }) block
+  pub reported : take (t .pending) lines′ ≡ linesAfter (record { run = s; left = left; done = done }) block
   pub size : t .size ≤ out
-  pub told : t .told ≤ blockLines
+  pub pending : t .pending ≤ blockLines
   pub out-length : length out′ ≡ out
   pub lines-length : length lines′ ≡ lines

@@ -16,7 +16,7 @@ pub struct Taken {
     pub left: u64,
     pub done: u64,
     pub size: usize,
-    pub told: usize,
+    pub pending: usize,
 }
 
 // The place for a record in `out`: none where the buffer that the trace is recorded into has no room.
@@ -31,19 +31,19 @@ fn place_for(left: u64, at: usize, end: usize) -> usize
 
 // One record, which is the four bytes of `part`.
 fn take_one(w: &mut [u16], t: Taken, part: &[u8], out: &mut [u8], lines: &mut [u8]) -> Taken
-    requires { ⌜ (t .size + 4 ≤ length (now out)) × (t .told + longestLine ≤ length (now lines)) × (t .done ≤ mostRecords) × (t .size ≤ blockBytes) ⌝ }
+    requires { ⌜ (t .size + 4 ≤ length (now out)) × (t .pending + longestLine ≤ length (now lines)) × (t .done ≤ mostRecords) × (t .size ≤ blockBytes) ⌝ }
     ensures { λ r. ⌜ TakesOne (runOf (now (w .entry))) t (eventIn (now (part .entry))) (now (out .entry)) (now (lines .entry)) (runOf (now (w .exit))) r (now (out .exit)) (now (lines .exit)) ⌝ }
 {
     let place = place_for(t.left, t.size, out.len());
     let played = calls::play(w, part, out, place);
     let more = played.place - place;
     let count = t.done + 1;
-    let told = text::write_line(lines, t.told, count, played.refused as u64);
+    let pending = text::write_line(lines, t.pending, count, played.refused as u64);
     Taken {
         left: t.left - more as u64,
         done: count,
         size: t.size + more,
-        told,
+        pending,
     }
 }
 
@@ -63,7 +63,7 @@ pub fn take_all(
         left,
         done,
         size: 0,
-        told: 0,
+        pending: 0,
     };
     let mut at = 0;
     while 4 <= block.len() - at {

@@ -22,9 +22,9 @@ fn checkpoint(w: &mut [u16], i: usize, buffer: &mut [u8], place: usize) -> Playe
     let mut deleted = [0u16; DELETIONS];
     let recorded = recorder_in_place::checkpoint(w, i, &mut deleted, buffer, place);
     let answer = recorded.answer;
-    let said = summaries::of_checkpoint(answer);
+    let summary = summaries::of_checkpoint(answer);
     Played {
-        refused: said.refused,
+        refused: summary.refused,
         place: recorded.place,
     }
 }
@@ -34,9 +34,9 @@ fn send(w: &mut [u16], i: usize, j: usize, buffer: &mut [u8], place: usize) -> P
 {
     let recorded = recorder_in_place::send(w, i, j, buffer, place);
     let answer = recorded.answer;
-    let said = summaries::of_send(answer);
+    let summary = summaries::of_send(answer);
     Played {
-        refused: said.refused,
+        refused: summary.refused,
         place: recorded.place,
     }
 }
@@ -47,9 +47,9 @@ fn deliver(w: &mut [u16], m: u32, buffer: &mut [u8], place: usize) -> Played
     let mut deleted = [0u16; DELETIONS];
     let recorded = recorder_in_place::deliver(w, m, &mut deleted, buffer, place);
     let answer = recorded.answer;
-    let said = summaries::of_deliver(answer);
+    let summary = summaries::of_deliver(answer);
     Played {
-        refused: said.refused,
+        refused: summary.refused,
         place: recorded.place,
     }
 }
@@ -59,9 +59,9 @@ fn lose(w: &mut [u16], m: u32, buffer: &mut [u8], place: usize) -> Played
 {
     let recorded = recorder_in_place::lose(w, m, buffer, place);
     let answer = recorded.answer;
-    let said = summaries::of_lose(answer);
+    let summary = summaries::of_lose(answer);
     Played {
-        refused: said.refused,
+        refused: summary.refused,
         place: recorded.place,
     }
 }
@@ -73,9 +73,9 @@ fn recover(w: &mut [u16], failed: u32, buffer: &mut [u8], place: usize) -> Playe
     let mut line = [0u16; PROCESSES];
     let recorded = recorder_in_place::recover(w, failed, &mut deleted, &mut line, buffer, place);
     let answer = recorded.answer;
-    let said = summaries::of_recover(answer);
+    let summary = summaries::of_recover(answer);
     Played {
-        refused: said.refused,
+        refused: summary.refused,
         place: recorded.place,
     }
 }

@@ -20,7 +20,7 @@ ghost use Rattle.programs.specs.Numbers.{numberIn};
 ghost use Rattle.machines.specs.Machines.{stepped};
 ghost use Rattle.machines.specs.Forms.{answerOf};
 ghost use Rattle.record_machine.specs.Recorded.{refusedLine, endLine};
-ghost use Rattle.record_machine.specs.Machine.{machine, counting, naming, beginning, writing, saying, reading, ending, failing, stopped, sized, begun, toRead, toSay, toEnd, blockTaken, blockBytes};
+ghost use Rattle.record_machine.specs.Machine.{machine, counting, naming, beginning, writing, reporting, reading, ending, failing, stopped, sized, begun, toRead, toReport, toEnd, blockTaken, blockBytes};
 ghost use Rattle.record_steps.specs.Played.{longestLine, blockLines};
 ghost use Rattle.record_steps.specs.Lent.{inBounds, positionOf, stateIn, Arrives, inputSize, longestTrace};
 
@@ -42,7 +42,7 @@ fn end_with(out: &mut [u8], text: &[u8]) -> Marks
         done: 0,
         kept: 0,
         size,
-        told: 0,
+        pending: 0,
     }
 }
 
@@ -58,7 +58,7 @@ fn fail(out: &mut [u8], name: &[u8]) -> Marks
         done: 0,
         kept: 0,
         size,
-        told: 0,
+        pending: 0,
     }
 }
 
@@ -74,7 +74,7 @@ fn end_refused(out: &mut [u8], number: u64, x: u64) -> Marks
         done: 0,
         kept: 0,
         size,
-        told: 0,
+        pending: 0,
     }
 }
 
@@ -103,7 +103,7 @@ fn after_count(out: &mut [u8], answer: Answer) -> Marks
 }
 
 // The number that a word is: the size of the buffer.
-fn size_named(word: &[u8], out: &mut [u8]) -> Marks
+fn take_size(word: &[u8], out: &mut [u8]) -> Marks
     requires { ⌜ blockLines ≤ length (now out) ⌝ }
     ensures { λ r. ⌜ ((words input lines : List ℕ) → Arrives r words input (now (out .exit)) lines (sized (numberIn (now (word .entry))))) ⌝ }
 {
@@ -122,7 +122,7 @@ fn after_word(input: &[u8], out: &mut [u8], kept: usize, answer: Answer) -> Mark
     match taken {
         Taken::Brought(size) => {
             let end = kept + size;
-            size_named(&input[kept..end], out)
+            take_size(&input[kept..end], out)
         }
         Taken::Ended => end_with(out, b"usage: record [BYTES], at most 1048576\n"),
         Taken::Failed => end_with(out, b"usage: record [BYTES], at most 1048576\n"),
@@ -143,12 +143,12 @@ fn start(words: &mut [u16], n: u8, left: u64, out: &mut [u8]) -> Marks
     requires { ⌜ (length (now words) ≡ stateSize) × (blockLines ≤ length (now out)) × (left ≤ longestTrace) ⌝ }
     ensures { λ r. ⌜ ((input lines : List ℕ) → Arrives r (now (words .exit)) input (now (out .exit)) lines (begun left n)) ⌝ }
 {
-    let counts = [1u32; PROCESSES];
+    let block_counts = [1u32; PROCESSES];
     let room = least(left);
-    let started = recorder_in_place::start(words, n as usize, &counts, &mut out[..room], 0);
+    let started = recorder_in_place::start(words, n as usize, &block_counts, &mut out[..room], 0);
     let answer = started.answer;
-    let said = summaries::of_start(answer);
-    let refused = said.refused;
+    let summary = summaries::of_start(answer);
+    let refused = summary.refused;
     if refused != 0 {
         return end_refused(out, 0, refused as u64);
     }
@@ -158,7 +158,7 @@ fn start(words: &mut [u16], n: u8, left: u64, out: &mut [u8]) -> Marks
         done: 0,
         kept: 0,
         size: 1,
-        told: 0,
+        pending: 0,
     }
 }
 
@@ -195,36 +195,36 @@ fn to_read(m: Marks) -> Marks
         done: m.done,
         kept: m.kept,
         size: 0,
-        told: 0,
+        pending: 0,
     }
 }
 
 // The lines that are left to report are put to the front of `out`.
-fn to_say(m: Marks, out: &mut [u8], lines: &[u8]) -> Marks
-    requires { ⌜ (m .left ≤ longestTrace) × (m .done ≤ mostRecords) × (m .kept ≤ 3) × (m .told ≤ length (now lines)) × (m .told ≤ length (now out)) ⌝ }
-    ensures { λ r. ⌜ ((words input : List ℕ) → Arrives r words input (now (out .exit)) (now (lines .entry)) (toSay (take (m .told) (now (lines .entry))) (positionOf m words input))) ⌝ }
+fn to_report(m: Marks, out: &mut [u8], lines: &[u8]) -> Marks
+    requires { ⌜ (m .left ≤ longestTrace) × (m .done ≤ mostRecords) × (m .kept ≤ 3) × (m .pending ≤ length (now lines)) × (m .pending ≤ length (now out)) ⌝ }
+    ensures { λ r. ⌜ ((words input : List ℕ) → Arrives r words input (now (out .exit)) (now (lines .entry)) (toReport (take (m .pending) (now (lines .entry))) (positionOf m words input))) ⌝ }
 {
-    let told = m.told;
-    if told == 0 {
+    let pending = m.pending;
+    if pending == 0 {
         return to_read(m);
     }
-    let size = programs::text::write_word(out, 0, &lines[..told]);
+    let size = programs::text::write_word(out, 0, &lines[..pending]);
     Marks {
-        phase: marks::SAYING,
+        phase: marks::REPORTING,
         left: m.left,
         done: m.done,
         kept: m.kept,
         size,
-        told: 0,
+        pending: 0,
     }
 }
 
 fn after_write(m: Marks, out: &mut [u8], lines: &[u8], answer: Answer) -> Marks
-    requires { ⌜ (m .left ≤ longestTrace) × (m .done ≤ mostRecords) × (m .kept ≤ 3) × (m .told ≤ blockLines) × (blockLines ≤ length (now lines)) × (blockLines ≤ length (now out)) ⌝ }
-    ensures { λ r. ⌜ ((words input : List ℕ) (at : ℕ) → Arrives r words input (now (out .exit)) (now (lines .entry)) (stepped machine (writing (take (m .size) (now (out .entry))) (take (m .told) (now (lines .entry))) (positionOf m words input)) (answerOf answer at input))) ⌝ }
+    requires { ⌜ (m .left ≤ longestTrace) × (m .done ≤ mostRecords) × (m .kept ≤ 3) × (m .pending ≤ blockLines) × (blockLines ≤ length (now lines)) × (blockLines ≤ length (now out)) ⌝ }
+    ensures { λ r. ⌜ ((words input : List ℕ) (at : ℕ) → Arrives r words input (now (out .exit)) (now (lines .entry)) (stepped machine (writing (take (m .size) (now (out .entry))) (take (m .pending) (now (lines .entry))) (positionOf m words input)) (answerOf answer at input))) ⌝ }
 {
     if heard::is_done(answer) {
-        return to_say(m, out, lines);
+        return to_report(m, out, lines);
     }
     fail(out, b"record: standard output")
 }
@@ -263,10 +263,10 @@ fn take_block(
         done: t.done,
         kept: rest,
         size: t.size,
-        told: t.told,
+        pending: t.pending,
     };
     if t.size == 0 {
-        return to_say(next, out, lines);
+        return to_report(next, out, lines);
     }
     next
 }
@@ -300,7 +300,7 @@ pub fn on(
     lines: &mut [u8],
     answer: Answer,
 ) -> Marks
-    requires { ⌜ (m .left ≤ longestTrace) × (m .done ≤ mostRecords) × (m .kept ≤ 3) × (m .told ≤ blockLines) × (length (now words) ≡ stateSize) × (inputSize ≤ length (now input)) × (blockLines ≤ length (now out)) × (blockLines ≤ length (now lines)) ⌝ }
+    requires { ⌜ (m .left ≤ longestTrace) × (m .done ≤ mostRecords) × (m .kept ≤ 3) × (m .pending ≤ blockLines) × (length (now words) ≡ stateSize) × (inputSize ≤ length (now input)) × (blockLines ≤ length (now out)) × (blockLines ≤ length (now lines)) ⌝ }
     ensures { λ r. ⌜ Arrives r (now (words .exit)) (now (input .exit)) (now (out .exit)) (now (lines .exit)) (stepped machine (stateIn m (now (words .entry)) (now (input .entry)) (now (out .entry)) (now (lines .entry))) (answerOf answer (m .kept) (now (input .entry)))) ⌝ }
 {
     let phase = m.phase;

@@ -19,7 +19,7 @@ pub struct Marks {
     pub done: u64,
     pub kept: usize,
     pub size: usize,
-    pub told: usize,
+    pub pending: usize,
 }
 
 pub const COUNTING: u64 = 1;
@@ -30,7 +30,7 @@ pub const BEGINNING: u64 = 3;
 
 pub const WRITING: u64 = 4;
 
-pub const SAYING: u64 = 5;
+pub const REPORTING: u64 = 5;
 
 pub const READING: u64 = 6;
 
@@ -47,7 +47,7 @@ const WHOLE_BLOCK: u64 = BLOCK_BYTES as u64;
 
 // A phase in which nothing is counted but the bytes of the buffer.
 pub fn at(phase: u64, left: u64) -> Marks
-    ensures { λ r. ⌜ r ≡ record { phase = phase; left = left; done = 0; kept = 0; size = 0; told = 0 } ⌝ }
+    ensures { λ r. ⌜ r ≡ record { phase = phase; left = left; done = 0; kept = 0; size = 0; pending = 0 } ⌝ }
 {
     Marks {
         phase,
@@ -55,7 +55,7 @@ pub fn at(phase: u64, left: u64) -> Marks
         done: 0,
         kept: 0,
         size: 0,
-        told: 0,
+        pending: 0,
     }
 }
 
@@ -75,7 +75,7 @@ pub fn in_bounds(m: Marks, out: usize) -> bool
     if out < m.size {
         return false;
     }
-    m.told <= BLOCK_LINES
+    m.pending <= BLOCK_LINES
 }
 
 pub fn read(memory: &[u64]) -> Marks
@@ -88,7 +88,7 @@ pub fn read(memory: &[u64]) -> Marks
         done: memory[2],
         kept: memory[3] as usize,
         size: memory[4] as usize,
-        told: memory[5] as usize,
+        pending: memory[5] as usize,
     }
 }
 
@@ -101,7 +101,7 @@ pub fn put(memory: &mut [u64], m: Marks)
     memory[2] = m.done;
     memory[3] = m.kept as u64;
     memory[4] = m.size as u64;
-    memory[5] = m.told as u64;
+    memory[5] = m.pending as u64;
 }
 
 // How many bytes are asked for after those that are kept: no block is larger than 4,096 bytes, and none reaches past record 1,000,000,000.

@@ -11,9 +11,9 @@ pub fn write_refused(out: &mut [u8], at: usize, number: u64, x: u64) -> usize
     requires { ⌜ at + longestLine ≤ length (now out) ⌝ }
     ensures { λ r. ⌜ Printed (now (out .entry)) at (refusedLine number x) (now (out .exit)) r × (r ≤ at + longestLine) ⌝ }
 {
-    let named = write_word(out, at, b"record: record ");
-    let numbered = listing::write_number(out, named, number);
-    write_figure(out, numbered, b": refused ", x)
+    let after_name = write_word(out, at, b"record: record ");
+    let after_number = listing::write_number(out, after_name, number);
+    write_figure(out, after_number, b": refused ", x)
 }
 
 // Nothing is reported of a record that is accepted.

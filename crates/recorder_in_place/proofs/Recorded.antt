@@ -44,59 +44,59 @@ clash : {P : Type 0} (x : Refusal) → _≡_ {A = StartAnswer} (Refused x) Start
 clash x z = absurd (let y : _≡_ {A = ℕ} 0 1 = cc in omega arith)
 
 -- An accepted start in place through the recorder is that of the crate recording.
-module _ (w : List ℕ) (n : ℕ) (counts buffer : List ℕ) (place : ℕ) (e : recordedStartIn (length w) n counts buffer place .outcome .answer ≡ Started) where
-  says-refused : (x : Refusal) → startRefusalIn (length w) n counts ≡ some x → recordedStartIn (length w) n counts buffer place .outcome .answer ≡ Refused x
+module _ (w : List ℕ) (n : ℕ) (blockCounts buffer : List ℕ) (place : ℕ) (e : recordedStartIn (length w) n blockCounts buffer place .outcome .answer ≡ Started) where
+  says-refused : (x : Refusal) → startRefusalIn (length w) n blockCounts ≡ some x → recordedStartIn (length w) n blockCounts buffer place .outcome .answer ≡ Refused x
   unfolding recordedStartIn unwritten startOutcomeIn
   says-refused x h = rw h refl
 
-  says-short : startRefusalIn (length w) n counts ≡ none → ltb (length buffer) 1 ≡ true → recordedStartIn (length w) n counts buffer place .outcome .answer ≡ Refused BufferTooShort
+  says-short : startRefusalIn (length w) n blockCounts ≡ none → ltb (length buffer) 1 ≡ true → recordedStartIn (length w) n blockCounts buffer place .outcome .answer ≡ Refused BufferTooShort
   unfolding recordedStartIn unwritten
   says-short h b = rw (h, b) refl
 
-  fine : startRefusalIn (length w) n counts ≡ none
-  fine = by-refusal (startRefusalIn (length w) n counts) (λ h. h) (λ x h. clash x (sym (says-refused x h) ∙ e))
+  fine : startRefusalIn (length w) n blockCounts ≡ none
+  fine = by-refusal (startRefusalIn (length w) n blockCounts) (λ h. h) (λ x h. clash x (sym (says-refused x h) ∙ e))
 
   room : 1 ≤ length buffer
   room = ltb-false (length buffer) 1 (by-bool (ltb (length buffer) 1) (λ b. clash BufferTooShort (sym (says-short fine b) ∙ e)) (λ b. b))
 
-  same : startOutcomeIn (length w) n counts ≡ startOutcome n counts
+  same : startOutcomeIn (length w) n blockCounts ≡ startOutcome n blockCounts
   unfolding StartsTheSame
-  same = ap (λ (k : ℕ). startOutcomeIn k n counts) (accepted-size (length w) n counts fine) ∙ starts-the-same n counts (accepted-long (length w) n counts fine)
+  same = ap (λ (k : ℕ). startOutcomeIn k n blockCounts) (accepted-size (length w) n blockCounts fine) ∙ starts-the-same n blockCounts (accepted-long (length w) n blockCounts fine)
 
-  says-own : (x : Refusal) → startRefusal n counts ≡ some x → startOutcome n counts .answer ≡ Refused x
+  says-own : (x : Refusal) → startRefusal n blockCounts ≡ some x → startOutcome n blockCounts .answer ≡ Refused x
   unfolding startOutcome
   says-own x h = rw h refl
 
-  says-started : startOutcomeIn (length w) n counts .answer ≡ Started
+  says-started : startOutcomeIn (length w) n blockCounts .answer ≡ Started
   unfolding startOutcomeIn
   says-started = rw fine refl
 
-  own : startRefusal n counts ≡ none
-  own = by-refusal (startRefusal n counts) (λ h. h) (λ x h. clash x (sym (says-own x h) ∙ ap (λ (o : Outcome StartAnswer). o .answer) (sym same) ∙ says-started))
+  own : startRefusal n blockCounts ≡ none
+  own = by-refusal (startRefusal n blockCounts) (λ h. h) (λ x h. clash x (sym (says-own x h) ∙ ap (λ (o : Outcome StartAnswer). o .answer) (sym same) ∙ says-started))
 
-  by-value : recordedStart n counts buffer ≡ appended (startOutcome n counts) (n ∷ []) buffer 0
+  by-value : recordedStart n blockCounts buffer ≡ appended (startOutcome n blockCounts) (n ∷ []) buffer 0
   unfolding recordedStart recording
   by-value = let h = room in rw (own, le-ltb (length buffer - 0) 1 (omega arith)) refl
 
-  whole : recordedStartIn (length w) n counts buffer place ≡ recordedStart n counts buffer
-  whole = done-is w n counts buffer place fine room ∙ ap (λ (o : Outcome StartAnswer). appended o (n ∷ []) buffer 0) same ∙ sym by-value
+  whole : recordedStartIn (length w) n blockCounts buffer place ≡ recordedStart n blockCounts buffer
+  whole = done-is w n blockCounts buffer place fine room ∙ ap (λ (o : Outcome StartAnswer). appended o (n ∷ []) buffer 0) same ∙ sym by-value
 
-  run-is : runOf (recordedStartWords w n counts buffer) ≡ recordedStartIn (length w) n counts buffer place .outcome .run
-  run-is = ap runOf (done-words w n counts buffer place room) ∙ start-run w n counts ∙ leaves-written _ _ _ _ _ (done-is w n counts buffer place fine room) .run
+  run-is : runOf (recordedStartWords w n blockCounts buffer) ≡ recordedStartIn (length w) n blockCounts buffer place .outcome .run
+  run-is = ap runOf (done-words w n blockCounts buffer place room) ∙ start-run w n blockCounts ∙ leaves-written _ _ _ _ _ (done-is w n blockCounts buffer place fine room) .run
 
-  begins : tapeOf (begunIn w n counts buffer place) ≡ begun n counts buffer
+  begins : tapeOf (begunIn w n blockCounts buffer place) ≡ begun n blockCounts buffer
   unfolding tapeOf begunIn begun
   begins =
-      ap (λ (s : Run). record { run = s; buffer = recordedStartIn (length w) n counts buffer place .buffer; place = recordedStartIn (length w) n counts buffer place .place }) run-is
+      ap (λ (s : Run). record { run = s; buffer = recordedStartIn (length w) n blockCounts buffer place .buffer; place = recordedStartIn (length w) n blockCounts buffer place .place }) run-is
       ∙ ap (λ (r : Recorded StartAnswer). record { run = r .outcome .run; buffer = r .buffer; place = r .place }) whole
 
-  begins-clean : Clean (begunIn w n counts buffer place .words)
+  begins-clean : Clean (begunIn w n blockCounts buffer place .words)
   unfolding begunIn
-  begins-clean = rw (done-words w n counts buffer place room) (start-clean w n counts (accepted-size (length w) n counts fine))
+  begins-clean = rw (done-words w n blockCounts buffer place room) (start-clean w n blockCounts (accepted-size (length w) n blockCounts fine))
 
 pub recording-replays-in : RecordingReplaysIn
 unfolding RecordingReplaysIn RecordingReplays
-recording-replays-in w n counts buffer place e calls u h =
-    let t : tapeOf u ≡ tapeAfter (begun n counts buffer) calls = tape-after (begunIn w n counts buffer place) calls u h ∙ ap (λ (s : Tape). tapeAfter s calls) (begins w n counts buffer place e) in
-    let started : recordedStart n counts buffer .outcome .answer ≡ Started = ap (λ (r : Recorded StartAnswer). r .outcome .answer) (sym (whole w n counts buffer place e)) ∙ e in
-    (rw t (recording-replays n counts buffer started calls), clean-after (begunIn w n counts buffer place) calls u h (begins-clean w n counts buffer place e))
+recording-replays-in w n blockCounts buffer place e calls u h =
+    let t : tapeOf u ≡ tapeAfter (begun n blockCounts buffer) calls = tape-after (begunIn w n blockCounts buffer place) calls u h ∙ ap (λ (s : Tape). tapeAfter s calls) (begins w n blockCounts buffer place e) in
+    let started : recordedStart n blockCounts buffer .outcome .answer ≡ Started = ap (λ (r : Recorded StartAnswer). r .outcome .answer) (sym (whole w n blockCounts buffer place e)) ∙ e in
+    (rw t (recording-replays n blockCounts buffer started calls), clean-after (begunIn w n blockCounts buffer place) calls u h (begins-clean w n blockCounts buffer place e))

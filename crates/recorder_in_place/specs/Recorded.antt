@@ -21,15 +21,15 @@ use Rattle.in_place.specs.Starting.{startRefusalIn, startOutcomeIn, startWords}
 
 -- "whose first byte is the count; the start writes that byte". "21, after all numbers of the call itself": a refused start writes no byte and leaves the place as it was.
 unfoldable pub recordedStartIn : ℕ → ℕ → List ℕ → List ℕ → ℕ → Recorded StartAnswer
-recordedStartIn many n counts buffer place = judged (startRefusalIn many n counts)
-    (λ r. unwritten (startOutcomeIn many n counts) buffer place)
+recordedStartIn many n blockCounts buffer place = judged (startRefusalIn many n blockCounts)
+    (λ r. unwritten (startOutcomeIn many n blockCounts) buffer place)
     (pick (ltb (length buffer) 1)
     (unwritten (record { run = blank 0; answer = Refused BufferTooShort; rose = 0; deleted = []; line = [] }) buffer place)
-    (appended (startOutcomeIn many n counts) (n ∷ []) buffer 0))
+    (appended (startOutcomeIn many n blockCounts) (n ∷ []) buffer 0))
 
 -- The words then: with no byte in the buffer every start is refused, and leaves what a start of no process does.
 unfoldable pub recordedStartWords : List ℕ → ℕ → List ℕ → List ℕ → List ℕ
-recordedStartWords w n counts buffer = pick (ltb (length buffer) 1) (startWords w 0 counts) (startWords w n counts)
+recordedStartWords w n blockCounts buffer = pick (ltb (length buffer) 1) (startWords w 0 blockCounts) (startWords w n blockCounts)
 
 -- The words, the buffer and the place: what a call through the recorder is handed, and what it leaves to the next.
 pub record WordTape : Type 0 where
@@ -51,15 +51,15 @@ RecordedAll t (c ∷ calls) u = (v : WordTape) × RecordedIn t c v × RecordedAl
 
 -- What a start through the recorder leaves.
 unfoldable pub begunIn : List ℕ → ℕ → List ℕ → List ℕ → ℕ → WordTape
-begunIn w n counts buffer place = record {
-  words = recordedStartWords w n counts buffer;
-  buffer = recordedStartIn (length w) n counts buffer place .buffer;
-  place = recordedStartIn (length w) n counts buffer place .place;
+begunIn w n blockCounts buffer place = record {
+  words = recordedStartWords w n blockCounts buffer;
+  buffer = recordedStartIn (length w) n blockCounts buffer place .buffer;
+  place = recordedStartIn (length w) n blockCounts buffer place .place;
 }
 
 -- Note 9 in place: "Where every call of a run, the start first, goes through the writer, each with the state, buffer and place the one before left", a replay of what was
 -- recorded is the same; and every place of the words that is not in use is zero.
 unfoldable pub RecordingReplaysIn : Type 0
-RecordingReplaysIn = (w : List ℕ) (n : ℕ) (counts buffer : List ℕ) (place : ℕ) → recordedStartIn (length w) n counts buffer place .outcome .answer ≡ Started
-    → (calls : List Call) (u : WordTape) → RecordedAll (begunIn w n counts buffer place) calls u
-    → ReplaysTheSame n counts buffer (tapeOf u) (entries (begun n counts buffer) calls) × Clean (u .words)
+RecordingReplaysIn = (w : List ℕ) (n : ℕ) (blockCounts buffer : List ℕ) (place : ℕ) → recordedStartIn (length w) n blockCounts buffer place .outcome .answer ≡ Started
+    → (calls : List Call) (u : WordTape) → RecordedAll (begunIn w n blockCounts buffer place) calls u
+    → ReplaysTheSame n blockCounts buffer (tapeOf u) (entries (begun n blockCounts buffer) calls) × Clean (u .words)

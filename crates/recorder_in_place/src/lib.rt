@@ -67,24 +67,24 @@ pub struct RecoverRecorded {
 pub fn start(
     w: &mut [u16],
     n: usize,
-    counts: &[u32],
+    block_counts: &[u32],
     buffer: &mut [u8],
     place: usize,
 ) -> StartRecorded
-    ensures { λ r. ⌜ runOf (now (w .exit)) ≡ recordedStartIn (length (now (w .entry))) n (now (counts .entry)) (now (buffer .entry)) place .outcome .run ⌝ }
-    ensures { λ r. ⌜ r .answer ≡ recordedStartIn (length (now (w .entry))) n (now (counts .entry)) (now (buffer .entry)) place .outcome .answer ⌝ }
-    ensures { λ r. ⌜ now (buffer .exit) ≡ recordedStartIn (length (now (w .entry))) n (now (counts .entry)) (now (buffer .entry)) place .buffer ⌝ }
-    ensures { λ r. ⌜ r .place ≡ recordedStartIn (length (now (w .entry))) n (now (counts .entry)) (now (buffer .entry)) place .place ⌝ }
-    ensures { λ r. ⌜ now (w .exit) ≡ recordedStartWords (now (w .entry)) n (now (counts .entry)) (now (buffer .entry)) ⌝ }
+    ensures { λ r. ⌜ runOf (now (w .exit)) ≡ recordedStartIn (length (now (w .entry))) n (now («block_counts» .entry)) (now (buffer .entry)) place .outcome .run ⌝ }
+    ensures { λ r. ⌜ r .answer ≡ recordedStartIn (length (now (w .entry))) n (now («block_counts» .entry)) (now (buffer .entry)) place .outcome .answer ⌝ }
+    ensures { λ r. ⌜ now (buffer .exit) ≡ recordedStartIn (length (now (w .entry))) n (now («block_counts» .entry)) (now (buffer .entry)) place .buffer ⌝ }
+    ensures { λ r. ⌜ r .place ≡ recordedStartIn (length (now (w .entry))) n (now («block_counts» .entry)) (now (buffer .entry)) place .place ⌝ }
+    ensures { λ r. ⌜ now (w .exit) ≡ recordedStartWords (now (w .entry)) n (now («block_counts» .entry)) (now (buffer .entry)) ⌝ }
     ensures { λ r. ⌜ (length (now (w .entry)) ≡ stateSize → Clean (now (w .exit))) ⌝ }
 {
-    let answer = in_place::start::start(w, n, counts);
+    let answer = in_place::start::start(w, n, block_counts);
     let done = accepted::start(answer);
     if !done {
         return StartRecorded { answer, place };
     }
     if buffer.len() == 0 {
-        in_place::start::start(w, 0, counts);
+        in_place::start::start(w, 0, block_counts);
         let answer = StartAnswer::Refused(Refusal::BufferTooShort);
         return StartRecorded { answer, place };
     }

@@ -333,11 +333,11 @@ module _ (buffer bytes : List ℕ) (p : ℕ) (fitting : p + length bytes ≤ len
   up-to : take (p + length bytes) (sets buffer p bytes) ≡ take p buffer ++ bytes
   up-to = rw pasted (take-at (take p buffer ++ bytes) (drop (p + length bytes) buffer) (p + length bytes) in-front)
 
-  behind : drop (p + length bytes) (sets buffer p bytes) ≡ drop (p + length bytes) buffer
-  behind = rw pasted (drop-at (take p buffer ++ bytes) (drop (p + length bytes) buffer) (p + length bytes) in-front)
+  beyond : drop (p + length bytes) (sets buffer p bytes) ≡ drop (p + length bytes) buffer
+  beyond = rw pasted (drop-at (take p buffer ++ bytes) (drop (p + length bytes) buffer) (p + length bytes) in-front)
 
   further : (k : ℕ) → drop ((p + length bytes) + k) (sets buffer p bytes) ≡ drop ((p + length bytes) + k) buffer
-  further k = sym (drop-drop k (p + length bytes) (sets buffer p bytes)) ∙ ap (λ (l : List ℕ). drop k l) behind ∙ drop-drop k (p + length bytes) buffer
+  further k = sym (drop-drop k (p + length bytes) (sets buffer p bytes)) ∙ ap (λ (l : List ℕ). drop k l) beyond ∙ drop-drop k (p + length bytes) buffer
 
 -- One record more in front. `c` is the call that was made, with the record `bytes` of its event.
 module _ (n : ℕ) (t u : Tape) (c : Call) (e : Event) (l : List EventReply) (four : length (recordBytes e) ≡ 4) (stands-for : decoded (recordBytes e) ≡ some e) (small-bytes : every (λ b. ltb b 256) (recordBytes e) ≡ true)
@@ -413,10 +413,10 @@ all-follow n t g h (c ∷ calls) = elim (way t c) [
 ]
 
 -- The start.
-start-begun : (n : ℕ) (counts buffer : List ℕ) → recordedStart n counts buffer .outcome .answer ≡ start-answer.Started
-    → (startRefusal n counts ≡ none) × (1 ≤ length buffer) × (begun n counts buffer ≡ record { run = startState n counts; buffer = sets buffer 0 (n ∷ []); place = 1 })
+start-begun : (n : ℕ) (blockCounts buffer : List ℕ) → recordedStart n blockCounts buffer .outcome .answer ≡ start-answer.Started
+    → (startRefusal n blockCounts ≡ none) × (1 ≤ length buffer) × (begun n blockCounts buffer ≡ record { run = startState n blockCounts; buffer = sets buffer 0 (n ∷ []); place = 1 })
 unfolding recordedStart recording unwritten appended begun startOutcome
-start-begun n counts buffer e = by-refusal (startRefusal n counts)
+start-begun n blockCounts buffer e = by-refusal (startRefusal n blockCounts)
     (λ h. by-bool (ltb (length buffer - 0) (length (n ∷ [])))
     (λ b. absurd (not-started BufferTooShort (rw (h, b) at e)))
     (λ b. (h, omega (arith, ltb-false (length buffer - 0) (length (n ∷ [])) b), rw (h, b))))
@@ -469,35 +469,35 @@ replay-accepted n s l e h = sym (none-handed n (repliesOf s (traceOf l))) ∙ ap
 one-of : (n p : ℕ) → n ≤ mostProcesses → p < n → getD ones p 0 ≡ 1
 one-of n p few lt = getD-replicate 16 p 1 0 (omega arith)
 
-one-start : (n : ℕ) (counts : List ℕ) → n ≤ mostProcesses → OneEach n counts → startState n counts ≡ startState n ones
+one-start : (n : ℕ) (blockCounts : List ℕ) → n ≤ mostProcesses → OneEach n blockCounts → startState n blockCounts ≡ startState n ones
 unfolding OneEach
-one-start n counts few one = same-start n counts ones (λ p lt. one p lt ∙ sym (one-of n p few lt))
+one-start n blockCounts few one = same-start n blockCounts ones (λ p lt. one p lt ∙ sym (one-of n p few lt))
 
-replay-starts : (n : ℕ) (counts : List ℕ) → startRefusal n counts ≡ none → startRefusal n ones ≡ none
-replay-starts n counts ok =
-    let w = start-out n counts ok in
+replay-starts : (n : ℕ) (blockCounts : List ℕ) → startRefusal n blockCounts ≡ none → startRefusal n ones ≡ none
+replay-starts n blockCounts ok =
+    let w = start-out n blockCounts ok in
     start-in n ones (w .0) (w .1) (λ p lt. ap isBlockCount (one-of n p (w .1) lt) ∙ one-fits)
   where
     one-fits : isBlockCount 1 ≡ true
     one-fits = unfold isBlockCount in refl
 
 -- What a replay does with n and the records of what was entered, by a replay from the start that was recorded.
-module _ (n : ℕ) (counts : List ℕ) (l : List EventReply) (ok : startRefusal n counts ≡ none) (size : length (traceOf l) ≡ 4 * length l) (one : OneEach n counts) (most : length l ≤ mostRecords) where
-  reaches : (s : Run) → stateAfterRecords (startState n counts) (traceOf l) ≡ s → replayedState (n ∷ traceOf l) ≡ s
+module _ (n : ℕ) (blockCounts : List ℕ) (l : List EventReply) (ok : startRefusal n blockCounts ≡ none) (size : length (traceOf l) ≡ 4 * length l) (one : OneEach n blockCounts) (most : length l ≤ mostRecords) where
+  reaches : (s : Run) → stateAfterRecords (startState n blockCounts) (traceOf l) ≡ s → replayedState (n ∷ traceOf l) ≡ s
   unfolding replayedState
   reaches s e =
       ap (stateAfterRecords (startState n ones)) (take-all (4 * mostRecords) (traceOf l) (omega arith))
-      ∙ ap (λ (t : Run). stateAfterRecords t (traceOf l)) (sym (one-start n counts (start-out n counts ok .1) one))
+      ∙ ap (λ (t : Run). stateAfterRecords t (traceOf l)) (sym (one-start n blockCounts (start-out n blockCounts ok .1) one))
       ∙ e
 
-  handed-alike : map (handed n) (repliesOf (startState n counts) (traceOf l)) ≡ map (λ x. handed n (x .reply)) l
+  handed-alike : map (handed n) (repliesOf (startState n blockCounts) (traceOf l)) ≡ map (λ x. handed n (x .reply)) l
       → map (handed n) (repliesOf (startState n ones) (traceOf l)) ≡ map (λ x. handed n (x .reply)) l
-  handed-alike e = ap (λ (t : Run). map (handed n) (repliesOf t (traceOf l))) (sym (one-start n counts (start-out n counts ok .1) one)) ∙ e
+  handed-alike e = ap (λ (t : Run). map (handed n) (repliesOf t (traceOf l))) (sym (one-start n blockCounts (start-out n blockCounts ok .1) one)) ∙ e
 
-  prints : map (handed n) (repliesOf (startState n counts) (traceOf l)) ≡ map (λ x. handed n (x .reply)) l → noneRefused (map (λ x. x .reply) l) ≡ true → (all : Bool)
+  prints : map (handed n) (repliesOf (startState n blockCounts) (traceOf l)) ≡ map (λ x. handed n (x .reply)) l → noneRefused (map (λ x. x .reply) l) ≡ true → (all : Bool)
       → listing all (n ∷ traceOf l) ≡ linesOf 0 (map (λ x. x .reply) l)
   prints e none-refused all =
-      listing-started all n (traceOf l) (replay-starts n counts ok)
+      listing-started all n (traceOf l) (replay-starts n blockCounts ok)
       ∙ lines-replayed all (length l) 0 (startState n ones) (traceOf l) size (omega arith) (replay-accepted n (startState n ones) l (handed-alike e) none-refused)
       ∙ sym (lines-handed n 0 (repliesOf (startState n ones) (traceOf l)))
       ∙ ap (linesOf 0) (handed-alike e)
@@ -509,11 +509,11 @@ stands : (n place : ℕ) (l : List EventReply) (buffer now-buffer : List ℕ) �
 stands n place l buffer now-buffer e far = ap (take place) e ∙ take-at (n ∷ traceOf l) (drop place buffer) place (sym far)
 
 -- Note 9.
-begun-follows : (n : ℕ) (counts buffer : List ℕ) (t u : Tape) (l : List EventReply) → startRefusal n counts ≡ none → 1 ≤ length buffer
-    → t ≡ record { run = startState n counts; buffer = sets buffer 0 (n ∷ []); place = 1 } → Follows n t u l → ReplaysTheSame n counts buffer u l
+begun-follows : (n : ℕ) (blockCounts buffer : List ℕ) (t u : Tape) (l : List EventReply) → startRefusal n blockCounts ≡ none → 1 ≤ length buffer
+    → t ≡ record { run = startState n blockCounts; buffer = sets buffer 0 (n ∷ []); place = 1 } → Follows n t u l → ReplaysTheSame n blockCounts buffer u l
 unfolding every
-begun-follows n counts buffer t u l ok some-room is w₀ =
-    let w : Follows n (record { run = startState n counts; buffer = sets buffer 0 (n ∷ []); place = 1 }) u l = rw is at w₀ in
+begun-follows n blockCounts buffer t u l ok some-room is w₀ =
+    let w : Follows n (record { run = startState n blockCounts; buffer = sets buffer 0 (n ∷ []); place = 1 }) u l = rw is at w₀ in
     let fitting : 0 + length (n ∷ []) ≤ length buffer = omega arith in
     let far : u .place ≡ (0 + length (n ∷ [])) + 4 * length l = omega (arith, w .place) in
     let whole : u .buffer ≡ (n ∷ traceOf l) ++ drop (u .place) buffer =
@@ -524,23 +524,23 @@ begun-follows n counts buffer t u l ok some-room is w₀ =
     record {
       written = whole;
       size = w .size;
-      are-bytes = rw (lt-ltb n 256 (omega (arith, start-out n counts ok .1))) (w .are-bytes);
+      are-bytes = rw (lt-ltb n 256 (omega (arith, start-out n blockCounts ok .1))) (w .are-bytes);
       place = w .place;
       inside = omega (arith, w .inside, length-sets buffer 0 (n ∷ []));
       same = w .state;
       replies = w .replies;
       accepted = w .accepted;
-      state = λ one most. ap replayedState front ∙ reaches n counts l ok (w .size) one most (u .run) (w .state);
-      printed = λ one most all. ap (listing all) front ∙ prints n counts l ok (w .size) one most (w .replies) (w .accepted) all;
+      state = λ one most. ap replayedState front ∙ reaches n blockCounts l ok (w .size) one most (u .run) (w .state);
+      printed = λ one most all. ap (listing all) front ∙ prints n blockCounts l ok (w .size) one most (w .replies) (w .accepted) all;
     }
 
-replays-from : (n : ℕ) (counts buffer : List ℕ) → recordedStart n counts buffer .outcome .answer ≡ start-answer.Started → (calls : List Call)
-    → ReplaysTheSame n counts buffer (tapeAfter (begun n counts buffer) calls) (entries (begun n counts buffer) calls)
-replays-from n counts buffer e calls =
-    let b = start-begun n counts buffer e in
-    let good : Good n (startState n counts) = record { history = beginning n counts; ideal = run-begun n counts; reached = rw (started-state n counts (b .0)) at (start-reached n counts (b .0)) } in
-    begun-follows n counts buffer (begun n counts buffer) (tapeAfter (begun n counts buffer) calls) (entries (begun n counts buffer) calls) (b .0) (b .1) (b .2)
-    (rw (b .2) (all-follow n (record { run = startState n counts; buffer = sets buffer 0 (n ∷ []); place = 1 }) good (omega (arith, length-sets buffer 0 (n ∷ []), b .1)) calls))
+replays-from : (n : ℕ) (blockCounts buffer : List ℕ) → recordedStart n blockCounts buffer .outcome .answer ≡ start-answer.Started → (calls : List Call)
+    → ReplaysTheSame n blockCounts buffer (tapeAfter (begun n blockCounts buffer) calls) (entries (begun n blockCounts buffer) calls)
+replays-from n blockCounts buffer e calls =
+    let b = start-begun n blockCounts buffer e in
+    let good : Good n (startState n blockCounts) = record { history = beginning n blockCounts; ideal = run-begun n blockCounts; reached = rw (started-state n blockCounts (b .0)) at (start-reached n blockCounts (b .0)) } in
+    begun-follows n blockCounts buffer (begun n blockCounts buffer) (tapeAfter (begun n blockCounts buffer) calls) (entries (begun n blockCounts buffer) calls) (b .0) (b .1) (b .2)
+    (rw (b .2) (all-follow n (record { run = startState n blockCounts; buffer = sets buffer 0 (n ∷ []); place = 1 }) good (omega (arith, length-sets buffer 0 (n ∷ []), b .1)) calls))
 
 pub recording-replays : RecordingReplays
 unfolding RecordingReplays

@@ -62,7 +62,7 @@ recording own outcome short bytes buffer place = judged own
 
 -- "whose first byte is the count; the start writes that byte". A refused start leaves a state of zeros and the place 0.
 unfoldable pub recordedStart : ℕ → List ℕ → List ℕ → Recorded StartAnswer
-recordedStart n counts buffer = recording (startRefusal n counts) (startOutcome n counts)
+recordedStart n blockCounts buffer = recording (startRefusal n blockCounts) (startOutcome n blockCounts)
     (record { run = blank 0; answer = start-answer.Refused BufferTooShort; rose = 0; deleted = []; line = [] })
     (n ∷ []) buffer 0
 
@@ -126,8 +126,8 @@ recorded t (earliest l lent) = taped lineReport (recordedEarliest (t .run) l len
 
 -- "Where every call of a run, the start first, goes through the writer, each with the state, buffer and place the one before left"
 unfoldable pub begun : ℕ → List ℕ → List ℕ → Tape
-begun n counts buffer =
-    record { run = recordedStart n counts buffer .outcome .run; buffer = recordedStart n counts buffer .buffer; place = recordedStart n counts buffer .place }
+begun n blockCounts buffer =
+    record { run = recordedStart n blockCounts buffer .outcome .run; buffer = recordedStart n blockCounts buffer .buffer; place = recordedStart n blockCounts buffer .place }
 
 unfoldable pub tapeAfter : Tape → List Call → Tape
 tapeAfter t [] = t
@@ -170,10 +170,10 @@ traceOf l = recordsOf (map (λ x. x .event) l)
 
 -- "with block counts 1": of the n processes. Note 5: counts "at n and above are neither judged nor stored".
 unfoldable pub OneEach : ℕ → List ℕ → Type 0
-OneEach n counts = (p : ℕ) → p < n → getD counts p 0 ≡ 1
+OneEach n blockCounts = (p : ℕ) → p < n → getD blockCounts p 0 ≡ 1
 
 -- "a replay of what was recorded .. must reach the same state, message numbers, deletions and all".
-pub record ReplaysTheSame (n : ℕ) (counts buffer : List ℕ) (t : Tape) (l : List EventReply) : Type 0 where
+pub record ReplaysTheSame (n : ℕ) (blockCounts buffer : List ℕ) (t : Tape) (l : List EventReply) : Type 0 where
   -- the buffer: n, the records of the accepted calls, and past the place what it was lent with
   pub written : t .buffer ≡ (n ∷ traceOf l) ++ drop (t .place) buffer
   pub size : length (traceOf l) ≡ 4 * length l
@@ -181,16 +181,16 @@ pub record ReplaysTheSame (n : ℕ) (counts buffer : List ℕ) (t : Tape) (l : L
   pub place : t .place ≡ 1 + 4 * length l
   pub inside : t .place ≤ length buffer
   -- a replay from a start with the same block counts ends in the same state
-  pub same : stateAfterRecords (startState n counts) (traceOf l) ≡ t .run
+  pub same : stateAfterRecords (startState n blockCounts) (traceOf l) ≡ t .run
   -- and each of its records hands out what the recorded call handed out
-  pub replies : map (handed n) (repliesOf (startState n counts) (traceOf l)) ≡ map (λ x. handed n (x .reply)) l
+  pub replies : map (handed n) (repliesOf (startState n blockCounts) (traceOf l)) ≡ map (λ x. handed n (x .reply)) l
   pub accepted : noneRefused (map (λ x. x .reply) l) ≡ true
   -- "with block counts 1, up to 1,000,000,000 records": the replay program reaches the same state with what stands in the buffer
-  pub state : OneEach n counts → length l ≤ mostRecords → replayedState (take (t .place) (t .buffer)) ≡ t .run
+  pub state : OneEach n blockCounts → length l ≤ mostRecords → replayedState (take (t .place) (t .buffer)) ≡ t .run
   -- and prints the lines of the recorded replies, with or without `all`
-  pub printed : OneEach n counts → length l ≤ mostRecords → (all : Bool) → listing all (take (t .place) (t .buffer)) ≡ linesOf 0 (map (λ x. x .reply) l)
+  pub printed : OneEach n blockCounts → length l ≤ mostRecords → (all : Bool) → listing all (take (t .place) (t .buffer)) ≡ linesOf 0 (map (λ x. x .reply) l)
 
 -- Note 9: for every accepted start through the writer, with any block counts and any buffer, and every list of calls after it.
 unfoldable pub RecordingReplays : Type 0
-RecordingReplays = (n : ℕ) (counts buffer : List ℕ) → recordedStart n counts buffer .outcome .answer ≡ start-answer.Started → (calls : List Call)
-    → ReplaysTheSame n counts buffer (tapeAfter (begun n counts buffer) calls) (entries (begun n counts buffer) calls)
+RecordingReplays = (n : ℕ) (blockCounts buffer : List ℕ) → recordedStart n blockCounts buffer .outcome .answer ≡ start-answer.Started → (calls : List Call)
+    → ReplaysTheSame n blockCounts buffer (tapeAfter (begun n blockCounts buffer) calls) (entries (begun n blockCounts buffer) calls)

@@ -13,17 +13,17 @@ use Rattle.laws.specs.Tables.{table-same}
 use Rattle.model.specs.declared.Interval.{Interval}
 use Rattle.model.specs.declared.Disk.{Disk}
 use Rattle.model.specs.declared.Pin.{Pin}
-use Rattle.model.specs.Words.{named, Process}
+use Rattle.model.specs.Words.{isPinned, Process}
 use Rattle.model.specs.Steps.{advanced}
 use Rattle.words.specs.Frames.{OnlyProcess, OnlyDisk}
-use Rattle.words.specs.Layout.{word, heldAt, markAt, blocksAt, partAt, pinsAt, indexAt, storedAt, rowIn, vectorIn, pinsIn, markIn, checkpointIn}
-use Rattle.words.proofs.Frames.{process-held, process-mark, process-blocks, process-part}
+use Rattle.words.specs.Layout.{word, keptCountAt, markAt, blocksAt, partAt, pinsAt, indexAt, storedAt, rowIn, vectorIn, pinsIn, markIn, checkpointIn}
+use Rattle.words.proofs.Frames.{process-kept-count, process-mark, process-blocks, process-part}
 use Rattle.words.proofs.Same.{row-same, vector-same, pins-same, checkpoint-same}
 use Rattle.line_words.specs.Restored.{knownRow, foundIn}
-use Rattle.process_words.specs.Kept.{Used, AllNamed}
+use Rattle.process_words.specs.Kept.{Used, AllPinned}
 use Rattle.process_words.specs.Moves.{Moves}
 use Rattle.process_words.specs.Pins.{pinRow}
-use Rattle.process_words.specs.Steps.{placesOf, unnamedIn}
+use Rattle.process_words.specs.Steps.{placesOf, unpinnedIn}
 use Rattle.recover_in_place.specs.Restored.{goesBack, restoredVector, restoredPins, restoredPart, restoredGone, Restorable, SameProcess}
 
 module _ (w v : List ℕ) (p : ℕ) (room : p < 16) (same : SameProcess w v p) where
@@ -47,24 +47,24 @@ module _ (w v : List ℕ) (p : ℕ) (room : p < 16) (same : SameProcess w v p) w
   mark-same = rw (same .mark)
 
   here-same : (k : ℕ) → k < 16 → checkpointIn v p k ≡ checkpointIn w p k
-  here-same = checkpoint-same v w p (same .held) (same .blocks) (λ k low less. part-word k (omega arith) less)
+  here-same = checkpoint-same v w p (same .«kept_count») (same .blocks) (λ k low less. part-word k (omega arith) less)
 
   back-same : (past : ℕ) → goesBack v p past ≡ goesBack w p past
-  back-same past = ap (leb past) (same .held)
+  back-same past = ap (leb past) (same .«kept_count»)
 
   found-same : (owns : List Interval) (n : ℕ) → n ≤ 16 → foundIn v owns p n ≡ foundIn w owns p n
   unfolding foundIn
   found-same owns zero le = refl
   found-same owns (suc n) le = rw (found-same owns n (omega arith), stored-same n (omega arith), part-word (indexAt p n) (omega arith) (omega arith))
 
-  module _ (most : word w (heldAt p) ≤ 16) where
+  module _ (most : word w (keptCountAt p) ≤ 16) where
     places-same : placesOf v p ≡ placesOf w p
     unfolding placesOf
-    places-same = ap (λ (n : ℕ). table n (checkpointIn v p)) (same .held) ∙ table-same (word w (heldAt p)) (checkpointIn v p) (checkpointIn w p) (λ k lt. here-same k (omega arith))
+    places-same = ap (λ (n : ℕ). table n (checkpointIn v p)) (same .«kept_count») ∙ table-same (word w (keptCountAt p)) (checkpointIn v p) (checkpointIn w p) (λ k lt. here-same k (omega arith))
 
     module _ (past : ℕ) where
       under : goesBack w p past ≡ true → past ≤ 16
-      under e = omega (arith, leb-true past (word w (heldAt p)) e)
+      under e = omega (arith, leb-true past (word w (keptCountAt p)) e)
 
       restored-vector-same : restoredVector v p past ≡ restoredVector w p past
       unfolding restoredVector
@@ -86,34 +86,34 @@ module _ (w v : List ℕ) (p : ℕ) (room : p < 16) (same : SameProcess w v p) w
           vector = restored-vector-same j;
           pins = pinRow (restored-pins-same j);
           mark = mark-same j && not (back-same past j);
-          kept = select (named (pinRow (restored-pins-same j))) (places-same j);
+          kept = select (isPinned (pinRow (restored-pins-same j))) (places-same j);
         }
 
         pub gone-same : restoredGone v p past owns ≡ restoredGone w p past owns
-        unfolding restoredGone unnamedIn
-        gone-same = λ j. select (λ c. not (named (pinRow (restored-pins-same j)) c)) (places-same j)
+        unfolding restoredGone unpinnedIn
+        gone-same = λ j. select (λ c. not (isPinned (pinRow (restored-pins-same j)) c)) (places-same j)
 
   pub restorable-same : (past : ℕ) → Restorable w p past → Restorable v p past
-  unfolding Used AllNamed
+  unfolding Used AllPinned
   restorable-same past h =
       let a = h .0 in (
         (
-          omega (arith, same .held, a .0),
+          omega (arith, same .«kept_count», a .0),
           a .1,
-          omega (arith, same .held, a .2),
-          λ le. omega (arith, a .3 (omega (arith, same .held)), part-word (storedAt p (past - 1) + p) (omega arith) (omega (arith, same .held, a .0))),
+          omega (arith, same .«kept_count», a .2),
+          λ le. omega (arith, a .3 (omega (arith, same .«kept_count»)), part-word (storedAt p (past - 1) + p) (omega arith) (omega (arith, same .«kept_count», a .0))),
         ),
-        λ k lt. omega (arith, h .1 k (omega (arith, same .held)), part-word (indexAt p k) (omega arith) (omega (arith, same .held, a .0))),
-        λ k lt. ap (λ (pins : List Pin). named pins (checkpointIn v p k)) pins-here-same ∙ ap (named (pinsIn w (pinsAt p))) (here-same k (omega (arith, same .held, a .0))) ∙ h .2 k (omega (arith, same .held)),
+        λ k lt. omega (arith, h .1 k (omega (arith, same .«kept_count»)), part-word (indexAt p k) (omega arith) (omega (arith, same .«kept_count», a .0))),
+        λ k lt. ap (λ (pins : List Pin). isPinned pins (checkpointIn v p k)) pins-here-same ∙ ap (isPinned (pinsIn w (pinsAt p))) (here-same k (omega (arith, same .«kept_count», a .0))) ∙ h .2 k (omega (arith, same .«kept_count»)),
       )
 
 pub same-stays : (w : List ℕ) (p : ℕ) → SameProcess w w p
-same-stays w p = record { held = refl; mark = refl; blocks = refl; part = λ k a b. refl }
+same-stays w p = record { «kept_count» = refl; mark = refl; blocks = refl; part = λ k a b. refl }
 
 module _ (w v u : List ℕ) (p : ℕ) (room : p < 16) (same : SameProcess w v p) where
   pub same-process : (q : ℕ) → q < 16 → (p ≡ q → ⊥) → OnlyProcess v u q → SameProcess w u p
   same-process q lt ne only = record {
-    held = process-held v u q only p lt room ne ∙ same .held;
+    «kept_count» = process-kept-count v u q only p lt room ne ∙ same .«kept_count»;
     mark = process-mark v u q only p lt room ne ∙ same .mark;
     blocks = process-blocks v u q only p lt room ∙ same .blocks;
     part = λ k a b. process-part v u q only p lt room ne k a b ∙ same .part k a b;
@@ -121,7 +121,7 @@ module _ (w v u : List ℕ) (p : ℕ) (room : p < 16) (same : SameProcess w v p)
 
   pub same-disk : OnlyDisk v u → SameProcess w u p
   same-disk only = record {
-    held = only .rest (heldAt p) (omega arith) ∙ same .held;
+    «kept_count» = only .rest (keptCountAt p) (omega arith) ∙ same .«kept_count»;
     mark = only .rest (markAt p) (omega arith) ∙ same .mark;
     blocks = only .rest (blocksAt p) (omega arith) ∙ same .blocks;
     part = λ k a b. only .rest k (omega arith) ∙ same .part k a b;

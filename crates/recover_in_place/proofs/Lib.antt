@@ -1,7 +1,7 @@
 -- Laws that belong to no one function.
 --
 -- Frame: words that agree on what is process p's (SameProcess) restore it alike.
---   restored-same, gone-same : (w v) (p) → p < 16 → SameProcess w v p → word w (heldAt p) ≤ 16 → (past) (owns) → restoredPart v p past owns ≡ restoredPart w p past owns, ..
+--   restored-same, gone-same : (w v) (p) → p < 16 → SameProcess w v p → word w (keptCountAt p) ≤ 16 → (past) (owns) → restoredPart v p past owns ≡ restoredPart w p past owns, ..
 --   restorable-same : (w v) (p) → p < 16 → SameProcess w v p → (past) → Restorable w p past → Restorable v p past
 --   same-stays; same-process, same-disk, same-moves: what changes of another process, and of the blocks, leave
 -- Recovery: (w) → sound (runOf w) ≡ true → (F) → hasMembers w (countOf w) (limitsIn w (countOf w) F) ≡ true →, with `pasts` of these members and `owns` of these,

@@ -29,12 +29,12 @@ use Rattle.model.specs.Sound.{sound}
 use Rattle.model.specs.Steps.{Deletion, listed, billed, withProcesses, rolledBack, recovered, stillUnderWay, goneAt, deletedAt, recoverState, recoverDeletions, rolledBackCount}
 use Rattle.model.specs.Refusals.{outside, noMember, shortDeletions, shortLine, recoverRefusal}
 use Rattle.model.specs.laws.Refusals.{refusal-in}
-use Rattle.verdicts.specs.declared.Verdict.the-variants as verdict
-use Rattle.verdicts.specs.Verdicts.{recoveryVerdict}
+use Rattle.admissions.specs.declared.Admission.the-variants as admission
+use Rattle.admissions.specs.Admissions.{recoveryAdmission}
 use Rattle.whole_runs.specs.Outcomes.{pairs, recoverOutcome}
 use Rattle.words.specs.Layout.{word, wide2, countOf, endOf, senderAt, isMessage, messagesIn, runOf}
 use Rattle.words.proofs.View.{count-is, last-is, fits-size}
-use Rattle.words.proofs.ViewChange.{with-messages, mail-same, messages-same}
+use Rattle.words.proofs.ViewChange.{with-messages, message-words-same, messages-same}
 use Rattle.words.proofs.ViewClean.{clean-messages}
 use Rattle.words.proofs.ViewSound.{sound-words}
 use Rattle.line_words.specs.Line.{limitsIn, hasMembers, pastsIn, indexesIn}
@@ -98,20 +98,20 @@ module _ (w : List ℕ) (h : sound (runOf w) ≡ true) (F : ℕ) (lent line : Li
     unfolding recoverRefusal
     outside-refused o = refused NoSuchFailedProcess (refusal-in _ (some NoSuchFailedProcess) (2, (rw h, (short-is ∙ long, tt)), rw count o, refl))
 
-    pub set-refused : (why : Refusal) → recoveryVerdict n F ≡ verdict.Refused why → Left w F lent line (Refused why) w lent line
-    unfolding recoveryVerdict
+    pub set-refused : (why : Refusal) → recoveryAdmission n F ≡ admission.Refused why → Left w F lent line (Refused why) w lent line
+    unfolding recoveryAdmission
     set-refused why e = by-bool (leb (2 ^ n) F)
         (λ o.
-        let q : verdict.Refused NoSuchFailedProcess ≡ verdict.Refused why = rw o at e in
+        let q : admission.Refused NoSuchFailedProcess ≡ admission.Refused why = rw o at e in
         let same : NoSuchFailedProcess ≡ why = cc in
         rw (← same) (outside-refused o))
-        (λ o. let q : verdict.Accepted ≡ verdict.Refused why = rw o at e in absurd (false≢true cc))
+        (λ o. let q : admission.Accepted ≡ admission.Refused why = rw o at e in absurd (false≢true cc))
 
-    module _ (passed : recoveryVerdict n F ≡ verdict.Accepted) where
+    module _ (passed : recoveryAdmission n F ≡ admission.Accepted) where
       inside : outside s F ≡ false
-      unfolding recoveryVerdict
+      unfolding recoveryAdmission
       inside = by-bool (leb (2 ^ n) F)
-          (λ o. let q : verdict.Refused NoSuchFailedProcess ≡ verdict.Accepted = rw o at passed in absurd (false≢true cc))
+          (λ o. let q : admission.Refused NoSuchFailedProcess ≡ admission.Accepted = rw o at passed in absurd (false≢true cc))
           (λ o. rw count o)
 
       pub no-member : noMember s F ≡ true → Left w F lent line (Refused UnsoundState) w lent line
@@ -161,7 +161,7 @@ module _ (w : List ℕ) (h : sound (runOf w) ≡ true) (F : ℕ) (lent line : Li
         -- The processes are done, then the lost messages are no longer under way.
         module _ (v u : List ℕ) (done : Restored w pasts owns n v) (sifted : Sifted indexes v u) where
           left : messagesIn u ≡ stillUnderWay s F
-          left = sifted .left ∙ ap (select (λ x. not (lostTo indexes x))) (messages-same w v (done .end) (done .mail)) ∙ still-are w h F there
+          left = sifted .left ∙ ap (select (λ x. not (lostTo indexes x))) (messages-same w v (done .end) (done .message-words)) ∙ still-are w h F there
 
           last : wide2 u 2 ≡ s .last
           last = sifted .last ∙ (λ j. done .front 2 (omega arith) j + 65_536 * done .front 3 (omega arith) j) ∙ sym (last-is w (sound-words w h .fit))
@@ -221,5 +221,5 @@ senders-still w v pasts owns k h done = (
   fits-size v (done .fit),
   omega (arith, done .end, sound-words w h .end),
   λ j lt is.
-      omega (arith, done .mail (senderAt j) (omega arith), senders-present w h j (omega (arith, done .end)) (ap isMessage (sym (mail-same w v (done .end) (done .mail) j)) ∙ is)),
+      omega (arith, done .message-words (senderAt j) (omega arith), senders-present w h j (omega (arith, done .end)) (ap isMessage (sym (message-words-same w v (done .end) (done .message-words) j)) ∙ is)),
 )

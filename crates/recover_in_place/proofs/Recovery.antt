@@ -13,7 +13,7 @@ use Rattle.laws.specs.Choice.{pick, by-bool, by-eq, pick-same}
 use Rattle.laws.specs.Elements.{every-table}
 use Rattle.laws.specs.Lists.{select, lastOf, table}
 use Rattle.laws.specs.Prefixes.{select-none}
-use Rattle.laws.specs.Rows.{by-lt, every-behind}
+use Rattle.laws.specs.Rows.{by-lt, every-beyond}
 use Rattle.laws.specs.Search.{anyBelow, any-in, any-out}
 use Rattle.laws.specs.Select.{all-chosen}
 use Rattle.laws.specs.Tables.{getD-table, table-same}
@@ -24,11 +24,11 @@ use Rattle.model.specs.declared.Checkpoint.{Checkpoint}
 use Rattle.model.specs.declared.Pin.{Pin}
 use Rattle.model.specs.declared.Pin.the-variants.{Nothing}
 use Rattle.model.specs.declared.Run.{Run}
-use Rattle.model.specs.Words.{entry, below, named, names, zeroVector, live, Process, process, own, blocksOf}
+use Rattle.model.specs.Words.{entry, below, isPinned, names, zeroVector, live, Process, process, own, blocksOf}
 use Rattle.model.specs.Refusals.{noMember}
 use Rattle.model.specs.Sound.{isNothing, nothingFrom, sound}
 use Rattle.model.specs.Steps.{advanced, member, rolledBack, vectorAfter, notLost, ownAfter, latestPin, movedPin, pinAfter, pinsAfter, recovered, goneAt}
-use Rattle.words.specs.Layout.{word, countOf, heldAt, blocksAt, partAt, pinsAt, indexAt, storedAt, intervalOf, indexOf, pinOf, rowIn, vectorIn, pinsIn, markIn, checkpointIn, decoded, runOf}
+use Rattle.words.specs.Layout.{word, countOf, keptCountAt, blocksAt, partAt, pinsAt, indexAt, storedAt, intervalOf, indexOf, pinOf, rowIn, vectorIn, pinsIn, markIn, checkpointIn, decoded, runOf}
 use Rattle.words.specs.Parts.{processIn}
 use Rattle.words.proofs.Same.{row-word, vector-length, vector-word, pins-length}
 use Rattle.words.proofs.View.{run-fits, count-is, part-past}
@@ -37,22 +37,22 @@ use Rattle.words.proofs.ViewSound.{SoundPart, sound-fits, sound-few, sound-know
 use Rattle.line_words.specs.Line.{limitsIn, pastLatest, stateIn, hasMembers, pastsIn}
 use Rattle.line_words.specs.Restored.{foundIn}
 use Rattle.line_words.proofs.LineRule.{past-most, pasts-length, member-is, all-found, past-at, past-beyond, found-one}
-use Rattle.process_words.specs.Kept.{Used, AllNamed}
+use Rattle.process_words.specs.Kept.{Used, AllPinned}
 use Rattle.process_words.specs.Pins.{pinRow}
-use Rattle.process_words.specs.Steps.{placesOf, unnamedIn}
-use Rattle.process_words.proofs.PinRows.{named-row, pins-row, row-pin}
+use Rattle.process_words.specs.Steps.{placesOf, unpinnedIn}
+use Rattle.process_words.proofs.PinRows.{pinned-row, pins-row, row-pin}
 use Rattle.process_words.proofs.Stepping.{selected-blocks}
 use Rattle.recover_in_place.specs.Restored.{goesBack, restoredVector, restoredOwn, ownsAfter, restoredPins, restoredPart, restoredGone, Returns, AllReturn, Restorable}
 use Rattle.recover_in_place.proofs.Found.{select-alike, select-short, found-is, found-under, known-at, pick-least, pin-pick, nothing-is, advanced-own}
 
 -- "every kept one is pinned"
-each-named : (w : List ℕ) → sound (runOf w) ≡ true → (p : ℕ) → p < countOf w → AllNamed w p (pinsIn w (pinsAt p)) (word w (heldAt p))
-unfolding AllNamed named checkpointIn
-each-named w h p lt k less =
+each-pinned : (w : List ℕ) → sound (runOf w) ≡ true → (p : ℕ) → p < countOf w → AllPinned w p (pinsIn w (pinsAt p)) (word w (keptCountAt p))
+unfolding AllPinned isPinned checkpointIn
+each-pinned w h p lt k less =
     let one = kept-pinned w h p lt k less in
     let here = sound-part w h p lt .used k less in
     ap (some-of (λ pin. names pin (indexOf (word w (indexAt p k))))) (pins-row w (pinsAt p))
-    ∙ named-row (rowIn w (pinsAt p)) (word w (indexAt p k)) here
+    ∙ pinned-row (rowIn w (pinsAt p)) (word w (indexAt p k)) here
     ∙ any-in 16 (λ f. eqb (getD (rowIn w (pinsAt p)) f 0) (word w (indexAt p k))) (one .0) (one .1) (eq-eqb _ _ (row-word w (pinsAt p) (one .0) (one .1) ∙ one .2))
 
 module _ (w : List ℕ) (h : sound (runOf w) ≡ true) (F : ℕ) (all : hasMembers w (countOf w) (limitsIn w (countOf w) F) ≡ true) where
@@ -78,8 +78,8 @@ module _ (w : List ℕ) (h : sound (runOf w) ≡ true) (F : ℕ) (all : hasMembe
   there = by-bool (noMember s F) (λ e. never-both (not (noMember s F)) (sym (all-found w h F) ∙ all) (ap not e)) (λ e. e)
 
   module _ (p : ℕ) (lt : p < countOf w) where
-    abbrev held : ℕ
-    held = word w (heldAt p)
+    abbrev keptCount : ℕ
+    keptCount = word w (keptCountAt p)
 
     part : SoundPart w p
     part = sound-part w h p lt
@@ -87,8 +87,8 @@ module _ (w : List ℕ) (h : sound (runOf w) ≡ true) (F : ℕ) (all : hasMembe
     room : p < 16
     room = omega (arith, few)
 
-    held-most : held ≤ 16
-    held-most = omega (arith, part .held-most, few)
+    kept-count-most : keptCount ≤ 16
+    kept-count-most = omega (arith, part .kept-count-most, few)
 
     past-is : pastOf p ≡ pastLatest w limits p
     past-is = past-at w h F p lt
@@ -96,26 +96,26 @@ module _ (w : List ℕ) (h : sound (runOf w) ≡ true) (F : ℕ) (all : hasMembe
     past-some : 1 ≤ pastOf p
     past-some = omega (arith, past-is, found-one w h F there p lt)
 
-    past-least : pastOf p ≤ held + 1
+    past-least : pastOf p ≤ keptCount + 1
     past-least = omega (arith, past-is, past-most w limits p)
 
     -- The line's member.
     member-state : member s F p ≡ stateIn w p (pastOf p - 1)
     member-state = rw past-is (member-is w h F p lt (found-one w h F there p lt))
 
-    member-stored : pastOf p ≤ held → member s F p ≡ checkpointIn w p (pastOf p - 1)
+    member-stored : pastOf p ≤ keptCount → member s F p ≡ checkpointIn w p (pastOf p - 1)
     unfolding stateIn
-    member-stored le = member-state ∙ rw (lt-ltb (pastOf p - 1) held (omega (arith, past-some)))
+    member-stored le = member-state ∙ rw (lt-ltb (pastOf p - 1) keptCount (omega (arith, past-some)))
 
-    member-live : held < pastOf p → member s F p ≡ live p (processIn w p)
+    member-live : keptCount < pastOf p → member s F p ≡ live p (processIn w p)
     unfolding stateIn
-    member-live less = member-state ∙ rw (le-ltb (pastOf p - 1) held (omega (arith, past-some)))
+    member-live less = member-state ∙ rw (le-ltb (pastOf p - 1) keptCount (omega (arith, past-some)))
 
-    stored-index : pastOf p ≤ held → member s F p .index .0 ≡ word w (indexAt p (pastOf p - 1)) - 1
+    stored-index : pastOf p ≤ keptCount → member s F p .index .0 ≡ word w (indexAt p (pastOf p - 1)) - 1
     unfolding checkpointIn
     stored-index le = ap (λ (c : Checkpoint). c .index .0) (member-stored le)
 
-    live-index : held < pastOf p → member s F p .index .0 ≡ word w (partAt p + p)
+    live-index : keptCount < pastOf p → member s F p .index .0 ≡ word w (partAt p + p)
     unfolding live processIn
     live-index less = ap (λ (c : Checkpoint). c .index .0) (member-live less) ∙ ap (λ (x : Interval). x .0) (vector-word w (partAt p) p room)
 
@@ -124,16 +124,16 @@ module _ (w : List ℕ) (h : sound (runOf w) ≡ true) (F : ℕ) (all : hasMembe
 
     pub rolled : goesBack w p (pastOf p) ≡ rolledBack s F p
     unfolding rolledBack
-    rolled = by-lt held (pastOf p)
-        (λ less. lt-leb (pastOf p) held less ∙ sym (le-ltb (member s F p .index .0) (own s p .0) (omega (arith, live-index less, own-here))))
-        (λ le. le-leb (pastOf p) held le
+    rolled = by-lt keptCount (pastOf p)
+        (λ less. lt-leb (pastOf p) keptCount less ∙ sym (le-ltb (member s F p .index .0) (own s p .0) (omega (arith, live-index less, own-here))))
+        (λ le. le-leb (pastOf p) keptCount le
         ∙ sym (lt-ltb (member s F p .index .0) (own s p .0)
         (omega (arith, stored-index le, own-here, part .used (pastOf p - 1) (omega (arith, past-some)), part .index-most (pastOf p - 1) (omega (arith, past-some))))))
 
     vector-is : restoredVector w p (pastOf p) ≡ vectorAfter s F p
     unfolding restoredVector vectorAfter processIn checkpointIn
     vector-is = by-bool (goesBack w p (pastOf p))
-        (λ e. rw (sym rolled, e) (ap (λ (c : Checkpoint). advanced p (c .vector)) (sym (member-stored (leb-true (pastOf p) held e)))))
+        (λ e. rw (sym rolled, e) (ap (λ (c : Checkpoint). advanced p (c .vector)) (sym (member-stored (leb-true (pastOf p) keptCount e)))))
         (λ e. rw (sym rolled, e) (ap (λ (P : Process). P .vector) (sym (sound-process-is w h p lt))))
 
     -- The own entry.
@@ -180,19 +180,19 @@ module _ (w : List ℕ) (h : sound (runOf w) ≡ true) (F : ℕ) (all : hasMembe
     abbrev row : List ℕ
     row = restoredPins w p (pastOf p) owns
 
-    kept-here : process s p .kept ≡ table (word w (heldAt p)) (checkpointIn w p)
+    kept-here : process s p .kept ≡ table (word w (keptCountAt p)) (checkpointIn w p)
     kept-here = ap (λ (P : Process). P .kept) (sound-process-is w h p lt) ∙ part p lt .kept-is
 
     -- "later checkpoints": those in the places after the member's.
-    not-later : (k : ℕ) → k < word w (heldAt p) → k < pastOf p → leb (checkpointIn w p k .index .0) (member s F p .index .0) ≡ true
+    not-later : (k : ℕ) → k < word w (keptCountAt p) → k < pastOf p → leb (checkpointIn w p k .index .0) (member s F p .index .0) ≡ true
     unfolding checkpointIn
-    not-later k less before = le-leb (word w (indexAt p k) - 1) (member s F p .index .0) (by-lt (word w (heldAt p)) (pastOf p)
+    not-later k less before = le-leb (word w (indexAt p k) - 1) (member s F p .index .0) (by-lt (word w (keptCountAt p)) (pastOf p)
         (λ over. omega (arith, live-index p lt over, part p lt .index-most k less))
         (λ le. by-eq k (pastOf p - 1)
         (λ e. rw e (omega (arith, stored-index p lt le)))
         (λ ne. omega (arith, stored-index p lt le, part p lt .ascend k (pastOf p - 1) (omega arith) (omega (arith, past-some p lt))))))
 
-    later : pastOf p ≤ word w (heldAt p) → (k : ℕ) → pastOf p ≤ k → k < word w (heldAt p) → leb (checkpointIn w p k .index .0) (member s F p .index .0) ≡ false
+    later : pastOf p ≤ word w (keptCountAt p) → (k : ℕ) → pastOf p ≤ k → k < word w (keptCountAt p) → leb (checkpointIn w p k .index .0) (member s F p .index .0) ≡ false
     unfolding checkpointIn
     later le k after less = lt-leb (word w (indexAt p k) - 1) (member s F p .index .0) (omega (
       arith,
@@ -202,19 +202,19 @@ module _ (w : List ℕ) (h : sound (runOf w) ≡ true) (F : ℕ) (all : hasMembe
       part p lt .used (pastOf p - 1) (omega (arith, past-some p lt)),
     ))
 
-    lost-not : pastOf p ≤ word w (heldAt p) → notLost s F p ≡ table (pastOf p) (checkpointIn w p)
+    lost-not : pastOf p ≤ word w (keptCountAt p) → notLost s F p ≡ table (pastOf p) (checkpointIn w p)
     unfolding notLost
     lost-not le =
         rw kept-here
-        (select-short (checkpointIn w p) (λ c. leb (c .index .0) (member s F p .index .0)) (pastOf p) (word w (heldAt p)) le (later le)
+        (select-short (checkpointIn w p) (λ c. leb (c .index .0) (member s F p .index .0)) (pastOf p) (word w (keptCountAt p)) le (later le)
         ∙ all-chosen (λ c. leb (c .index .0) (member s F p .index .0)) (table (pastOf p) (checkpointIn w p)) (every-table _ (pastOf p) (checkpointIn w p) (λ k less. not-later k (omega arith) less)))
 
-    lost-none : word w (heldAt p) < pastOf p → notLost s F p ≡ table (word w (heldAt p)) (checkpointIn w p)
+    lost-none : word w (keptCountAt p) < pastOf p → notLost s F p ≡ table (word w (keptCountAt p)) (checkpointIn w p)
     unfolding notLost
-    lost-none over = rw kept-here (all-chosen (λ c. leb (c .index .0) (member s F p .index .0)) (table (word w (heldAt p)) (checkpointIn w p)) (every-table _ (word w (heldAt p)) (checkpointIn w p) (λ k less. not-later k less (omega arith))))
+    lost-none over = rw kept-here (all-chosen (λ c. leb (c .index .0) (member s F p .index .0)) (table (word w (keptCountAt p)) (checkpointIn w p)) (every-table _ (word w (keptCountAt p)) (checkpointIn w p) (λ k less. not-later k less (omega arith))))
 
     -- The pins.
-    moved-pin : pastOf p ≤ word w (heldAt p) → (f : ℕ) → f < 16 → entry owns f ≡ ownAfter s F f → pinOf (getD (foundIn w owns p (pastOf p)) f 0) ≡ movedPin s F p f
+    moved-pin : pastOf p ≤ word w (keptCountAt p) → (f : ℕ) → f < 16 → entry owns f ≡ ownAfter s F f → pinOf (getD (foundIn w owns p (pastOf p)) f 0) ≡ movedPin s F p f
     unfolding movedPin
     moved-pin le f less is = found-is w owns p f less (pastOf p) (λ j under. part p lt .used j (omega arith)) ∙ (λ j. latestPin (lastOf (select (λ c. below (entry (c .vector) f) (is j)) (sym (lost-not le) j))))
 
@@ -225,7 +225,7 @@ module _ (w : List ℕ) (h : sound (runOf w) ≡ true) (F : ℕ) (all : hasMembe
     chosen-pin : (f : ℕ) → f < 16 → entry owns f ≡ ownAfter s F f → pinOf (getD (pick (goesBack w p (pastOf p)) (foundIn w owns p (pastOf p)) (rowIn w (pinsAt p))) f 0)
         ≡ pick (rolledBack s F p) (movedPin s F p f) (getD (process s p .pins) f Nothing)
     chosen-pin f less is = by-bool (goesBack w p (pastOf p))
-        (λ e. rw (sym (rolled p lt), e) (moved-pin (leb-true (pastOf p) (word w (heldAt p)) e) f less is))
+        (λ e. rw (sym (rolled p lt), e) (moved-pin (leb-true (pastOf p) (word w (keptCountAt p)) e) f less is))
         (λ e. rw (sym (rolled p lt), e) (kept-pin f less))
 
     pin-known : (f : ℕ) → f < 16 → entry owns f ≡ ownAfter s F f → pinOf (getD row f 0) ≡ pinAfter s F p f
@@ -241,7 +241,7 @@ module _ (w : List ℕ) (h : sound (runOf w) ≡ true) (F : ℕ) (all : hasMembe
       unfolding restoredVector advanced
       entry-unused = by-bool (goesBack w p (pastOf p))
           (λ e. rw e (ap (λ (x : Interval). x .0) (getD-set-other (vectorIn w (storedAt p (pastOf p - 1))) p f _ (record { 0 = 0 }) (omega arith) ∙ vector-word w (storedAt p (pastOf p - 1)) f less)
-          ∙ stored-zero w h p lt (pastOf p - 1) (omega (arith, leb-true (pastOf p) (word w (heldAt p)) e, past-some p lt)) f le less))
+          ∙ stored-zero w h p lt (pastOf p - 1) (omega (arith, leb-true (pastOf p) (word w (keptCountAt p)) e, past-some p lt)) f le less))
           (λ e. rw e (ap (λ (x : Interval). x .0) (vector-word w (partAt p) f less) ∙ vector-zero w h p lt f le less))
 
       moved-unused : movedPin s F p f ≡ Nothing
@@ -254,7 +254,7 @@ module _ (w : List ℕ) (h : sound (runOf w) ≡ true) (F : ℕ) (all : hasMembe
       kept-unused =
           let e = rw (sound-process-is w h p lt) at (sound-known w h p lt .pins-unused) in
           ap (λ (P : Process). getD (P .pins) f Nothing) (sound-process-is w h p lt)
-          ∙ nothing-is (getD (pinsIn w (pinsAt p)) f Nothing) (every-behind isNothing (s .count) (pinsIn w (pinsAt p)) f Nothing e (omega (arith, count-is w (sound-fits w h))) (omega (arith, pins-length w (pinsAt p))))
+          ∙ nothing-is (getD (pinsIn w (pinsAt p)) f Nothing) (every-beyond isNothing (s .count) (pinsIn w (pinsAt p)) f Nothing e (omega (arith, count-is w (sound-fits w h))) (omega (arith, pins-length w (pinsAt p))))
 
       pin-unused : pinAfter s F p f ≡ Nothing
       unfolding pinAfter
@@ -279,29 +279,29 @@ module _ (w : List ℕ) (h : sound (runOf w) ≡ true) (F : ℕ) (all : hasMembe
     pins-are = table-same 16 _ _ pin-is
 
     -- They name none of the later checkpoints.
-    row-under : pastOf p ≤ word w (heldAt p) → (k : ℕ) → pastOf p ≤ k → k < word w (heldAt p) → (f : ℕ) → f < 16 → getD row f 0 < word w (indexAt p k)
+    row-under : pastOf p ≤ word w (keptCountAt p) → (k : ℕ) → pastOf p ≤ k → k < word w (keptCountAt p) → (f : ℕ) → f < 16 → getD row f 0 < word w (indexAt p k)
     unfolding restoredPins
     row-under le k after less f small =
-        let back : goesBack w p (pastOf p) ≡ true = le-leb (pastOf p) (word w (heldAt p)) le in
+        let back : goesBack w p (pastOf p) ≡ true = le-leb (pastOf p) (word w (keptCountAt p)) le in
         let is : getD row f 0 ≡ pick (eqb (entry (restoredVector w p (pastOf p)) f .0) (entry owns f .0)) (getD (foundIn w owns p (pastOf p)) f 0) 0
         = known-at (restoredVector w p (pastOf p)) owns (pick (goesBack w p (pastOf p)) (foundIn w owns p (pastOf p)) (rowIn w (pinsAt p))) f small ∙ rw back in
         let under = found-under w owns p f small (pastOf p) (word w (indexAt p k)) (part p lt .used k less) (λ j a. part p lt .ascend j k (omega arith) less) in
         omega (arith, is, pick-least (eqb (entry (restoredVector w p (pastOf p)) f .0) (entry owns f .0)) (getD (foundIn w owns p (pastOf p)) f 0) (word w (indexAt p k)) under)
 
-    later-unnamed : pastOf p ≤ word w (heldAt p) → (k : ℕ) → pastOf p ≤ k → k < word w (heldAt p) → named (pinRow row) (checkpointIn w p k) ≡ false
-    unfolding named checkpointIn
-    later-unnamed le k after less =
-        named-row row (word w (indexAt p k)) (part p lt .used k less)
+    later-unpinned : pastOf p ≤ word w (keptCountAt p) → (k : ℕ) → pastOf p ≤ k → k < word w (keptCountAt p) → isPinned (pinRow row) (checkpointIn w p k) ≡ false
+    unfolding isPinned checkpointIn
+    later-unpinned le k after less =
+        pinned-row row (word w (indexAt p k)) (part p lt .used k less)
         ∙ by-bool (anyBelow 16 (λ f. eqb (getD row f 0) (word w (indexAt p k))))
         (λ e. let x = any-out 16 (λ f. eqb (getD row f 0) (word w (indexAt p k))) e in
         absurd (let z = row-under le k after less (x .0) (x .1) in omega (arith, eqb-true (getD row (x .0) 0) (word w (indexAt p k)) (x .2))))
         (λ e. e)
 
-    kept-is : select (named (pinRow row)) (placesOf w p) ≡ recovered s F p .kept
+    kept-is : select (isPinned (pinRow row)) (placesOf w p) ≡ recovered s F p .kept
     unfolding placesOf recovered
-    kept-is = by-lt (word w (heldAt p)) (pastOf p)
-        (λ over. λ j. select (named (pins-are j)) (sym (lost-none over) j))
-        (λ le. select-short (checkpointIn w p) (named (pinRow row)) (pastOf p) (word w (heldAt p)) le (later-unnamed le) ∙ (λ j. select (named (pins-are j)) (sym (lost-not le) j)))
+    kept-is = by-lt (word w (keptCountAt p)) (pastOf p)
+        (λ over. λ j. select (isPinned (pins-are j)) (sym (lost-none over) j))
+        (λ le. select-short (checkpointIn w p) (isPinned (pinRow row)) (pastOf p) (word w (keptCountAt p)) le (later-unpinned le) ∙ (λ j. select (isPinned (pins-are j)) (sym (lost-not le) j)))
 
     mark-is : (markIn w p && not (goesBack w p (pastOf p))) ≡ (process s p .mark && not (rolledBack s F p))
     unfolding processIn
@@ -312,29 +312,29 @@ module _ (w : List ℕ) (h : sound (runOf w) ≡ true) (F : ℕ) (all : hasMembe
     unfolding restoredPart recovered
     recovered-is = λ j. record { vector = vector-is p lt j; pins = pins-are j; mark = mark-is j; kept = kept-is j }
 
-    stays-alike : (k : ℕ) → k < word w (heldAt p)
-        → not (named (pinRow row) (checkpointIn w p k)) ≡ not (leb (checkpointIn w p k .index .0) (member s F p .index .0) && named (pinsAfter s F p) (checkpointIn w p k))
+    stays-alike : (k : ℕ) → k < word w (keptCountAt p)
+        → not (isPinned (pinRow row) (checkpointIn w p k)) ≡ not (leb (checkpointIn w p k .index .0) (member s F p .index .0) && isPinned (pinsAfter s F p) (checkpointIn w p k))
     stays-alike k less = by-lt k (pastOf p)
         (λ before. rw (not-later k less before, pins-are))
-        (λ after. let le : pastOf p ≤ word w (heldAt p) = omega arith in rw (later le k after less, later-unnamed le k after less))
+        (λ after. let le : pastOf p ≤ word w (keptCountAt p) = omega arith in rw (later le k after less, later-unpinned le k after less))
 
     pub gone-is : restoredGone w p (pastOf p) owns ≡ goneAt s F p
-    unfolding restoredGone unnamedIn placesOf goneAt
-    gone-is = select-alike (checkpointIn w p) (λ c. not (named (pinRow row) c)) (λ c. not (leb (c .index .0) (member s F p .index .0) && named (pinsAfter s F p) c)) (word w (heldAt p)) stays-alike
-        ∙ ap (select (λ c. not (leb (c .index .0) (member s F p .index .0) && named (pinsAfter s F p) c))) (sym kept-here)
+    unfolding restoredGone unpinnedIn placesOf goneAt
+    gone-is = select-alike (checkpointIn w p) (λ c. not (isPinned (pinRow row) c)) (λ c. not (leb (c .index .0) (member s F p .index .0) && isPinned (pinsAfter s F p) c)) (word w (keptCountAt p)) stays-alike
+        ∙ ap (select (λ c. not (leb (c .index .0) (member s F p .index .0) && isPinned (pinsAfter s F p) c))) (sym kept-here)
 
     pub gone-blocks : length (restoredGone w p (pastOf p) owns) * word w (blocksAt p) ≡ blocksOf (goneAt s F p)
-    unfolding restoredGone unnamedIn placesOf
-    gone-blocks = ap (λ (l : List Checkpoint). length (select (λ c. not (named (pinRow row) c)) l) * word w (blocksAt p)) (sym (part p lt .kept-is))
-        ∙ selected-blocks w h p lt (λ c. not (named (pinRow row) c))
-        ∙ ap (λ (l : List Checkpoint). blocksOf (select (λ c. not (named (pinRow row) c)) l)) (part p lt .kept-is)
+    unfolding restoredGone unpinnedIn placesOf
+    gone-blocks = ap (λ (l : List Checkpoint). length (select (λ c. not (isPinned (pinRow row) c)) l) * word w (blocksAt p)) (sym (part p lt .kept-is))
+        ∙ selected-blocks w h p lt (λ c. not (isPinned (pinRow row) c))
+        ∙ ap (λ (l : List Checkpoint). blocksOf (select (λ c. not (isPinned (pinRow row) c)) l)) (part p lt .kept-is)
         ∙ ap blocksOf gone-is
 
     -- It may be restored: no word is above 65,535.
     module _ (small : (k : ℕ) → word w k < 65536) where
       pub returns-there : Returns w p (pastOf p)
       returns-there = (
-        held-most p lt,
+        kept-count-most p lt,
         past-some p lt,
         past-least p lt,
         λ le. omega (arith, small (indexAt p (pastOf p - 1)), part p lt .stored-own (pastOf p - 1) (omega (arith, past-some p lt))),
@@ -342,7 +342,7 @@ module _ (w : List ℕ) (h : sound (runOf w) ≡ true) (F : ℕ) (all : hasMembe
 
       pub restorable : Restorable w p (pastOf p)
       unfolding Used
-      restorable = (returns-there, part p lt .used, each-named w h p lt)
+      restorable = (returns-there, part p lt .used, each-pinned w h p lt)
 
   pub all-return : ((k : ℕ) → word w k < 65536) → AllReturn pasts w
   all-return small = (

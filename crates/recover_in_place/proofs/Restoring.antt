@@ -20,20 +20,20 @@ use Rattle.model.specs.declared.Checkpoint.{Checkpoint}
 use Rattle.model.specs.declared.Disk.{Disk}
 use Rattle.model.specs.declared.Interval.{Interval}
 use Rattle.model.specs.declared.Run.{Run}
-use Rattle.model.specs.Words.{named, Process, blocksOf, process, withProcess, withDisk}
+use Rattle.model.specs.Words.{isPinned, Process, blocksOf, process, withProcess, withDisk}
 use Rattle.model.specs.Sound.{sound, keptBlocks}
 use Rattle.model.specs.laws.Sound.{sound-state}
 use Rattle.model.specs.Steps.{Deletion, listed, billed, withProcesses}
 use Rattle.whole_runs.specs.Outcomes.{pairs}
-use Rattle.words.specs.Layout.{word, countOf, heldAt, blocksAt, checkpointIn, runOf}
+use Rattle.words.specs.Layout.{word, countOf, keptCountAt, blocksAt, checkpointIn, runOf}
 use Rattle.words.specs.Parts.{processIn}
-use Rattle.words.proofs.Frames.{process-head, process-mail}
+use Rattle.words.proofs.Frames.{process-head, process-message-words}
 use Rattle.words.proofs.View.{count-is, written-is, deleted-is, fits-size}
 use Rattle.words.proofs.ViewChange.{process-fits, disk-fits}
 use Rattle.words.proofs.ViewSound.{sound-words, sound-part, sound-process-is}
 use Rattle.process_words.specs.Moves.{diskIn, Moves}
 use Rattle.process_words.specs.Pins.{pinRow}
-use Rattle.process_words.specs.Steps.{placesOf, unnamedIn}
+use Rattle.process_words.specs.Steps.{placesOf, unpinnedIn}
 use Rattle.process_words.proofs.Stepping.{selected-blocks}
 use Rattle.recover_in_place.specs.Restored.{restoredPins, restoredPart, restoredGone, SameProcess, Restorable}
 use Rattle.recover_in_place.proofs.Frame.{restored-same, gone-same, restorable-same, same-stays, same-moves}
@@ -118,24 +118,24 @@ module _ (w : List ℕ) (h : sound (runOf w) ≡ true) (pasts : List ℕ) (owns 
 
   -- What is deleted of a process: some of what it keeps, that many blocks for each.
   module _ (p : ℕ) (lt : p < countOf w) where
-    chosen : goneThen w pasts owns p ≡ select (λ c. not (named (pinRow (restoredPins w p (getD pasts p 0) owns)) c)) (processIn w p .kept)
-    unfolding restoredGone unnamedIn placesOf
-    chosen = ap (select (λ c. not (named (pinRow (restoredPins w p (getD pasts p 0) owns)) c))) (sym (sound-part w h p lt .kept-is))
+    chosen : goneThen w pasts owns p ≡ select (λ c. not (isPinned (pinRow (restoredPins w p (getD pasts p 0) owns)) c)) (processIn w p .kept)
+    unfolding restoredGone unpinnedIn placesOf
+    chosen = ap (select (λ c. not (isPinned (pinRow (restoredPins w p (getD pasts p 0) owns)) c))) (sym (sound-part w h p lt .kept-is))
 
     pub gone-most : length (goneThen w pasts owns p) ≤ countOf w
-    unfolding restoredGone unnamedIn placesOf
+    unfolding restoredGone unpinnedIn placesOf
     gone-most = omega (
       arith,
-      select-length (λ c. not (named (pinRow (restoredPins w p (getD pasts p 0) owns)) c)) (table (word w (heldAt p)) (checkpointIn w p)),
-      length-table (word w (heldAt p)) (checkpointIn w p),
-      sound-part w h p lt .held-most,
+      select-length (λ c. not (isPinned (pinRow (restoredPins w p (getD pasts p 0) owns)) c)) (table (word w (keptCountAt p)) (checkpointIn w p)),
+      length-table (word w (keptCountAt p)) (checkpointIn w p),
+      sound-part w h p lt .kept-count-most,
     )
 
     pub gone-blocks : length (goneThen w pasts owns p) * word w (blocksAt p) ≡ blocksOf (goneThen w pasts owns p)
-    gone-blocks = rw chosen (selected-blocks w h p lt (λ c. not (named (pinRow (restoredPins w p (getD pasts p 0) owns)) c)))
+    gone-blocks = rw chosen (selected-blocks w h p lt (λ c. not (isPinned (pinRow (restoredPins w p (getD pasts p 0) owns)) c)))
 
     gone-kept : blocksOf (goneThen w pasts owns p) ≤ blocksOf (process s p .kept)
-    gone-kept = rw (chosen, sound-process-is w h p lt) (blocks-fewer (λ c. not (named (pinRow (restoredPins w p (getD pasts p 0) owns)) c)) (processIn w p .kept))
+    gone-kept = rw (chosen, sound-process-is w h p lt) (blocks-fewer (λ c. not (isPinned (pinRow (restoredPins w p (getD pasts p 0) owns)) c)) (processIn w p .kept))
 
   -- That many for k processes.
   pub losses-count : (k : ℕ) → length (lossesThen w pasts owns k) ≡ sumBelow k (λ p. length (listed p (goneThen w pasts owns p)))
@@ -178,7 +178,7 @@ module _ (w : List ℕ) (h : sound (runOf w) ≡ true) (pasts : List ℕ) (owns 
     front = λ q lt. refl;
     end = refl;
     later = λ q le lt. same-stays w q;
-    mail = λ q le. refl;
+    message-words = λ q le. refl;
     clean = λ c. c;
   }
 
@@ -204,14 +204,14 @@ module _ (w : List ℕ) (h : sound (runOf w) ≡ true) (pasts : List ℕ) (owns 
     same : SameProcess w v k
     same = so-far .later k (omega arith) room
 
-    most : word w (heldAt k) ≤ 16
-    most = omega (arith, sound-part w h k lt .held-most, few)
+    most : word w (keptCountAt k) ≤ 16
+    most = omega (arith, sound-part w h k lt .kept-count-most, few)
 
     pub still-size : length v ≡ 6464
     still-size = fits-size v (so-far .fit)
 
-    pub still-held : word v (heldAt k) ≡ word w (heldAt k)
-    still-held = same .held
+    pub still-kept-count : word v (keptCountAt k) ≡ word w (keptCountAt k)
+    still-kept-count = same .«kept_count»
 
     pub still-disk : (diskIn v .written ≤ 1000000000000000) × (diskIn v .deleted ≤ 1000000000000000)
     still-disk =
@@ -221,11 +221,11 @@ module _ (w : List ℕ) (h : sound (runOf w) ≡ true) (pasts : List ℕ) (owns 
     pub still-restorable : Restorable w k past → Restorable v k past
     still-restorable = restorable-same w v k room same past
 
-    pub still-room : (n lent : ℕ) → n ≡ countOf w → 2 * n * n ≤ lent → 2 * length (lossesThen w pasts owns k) + 2 * word v (heldAt k) ≤ lent
+    pub still-room : (n lent : ℕ) → n ≡ countOf w → 2 * n * n ≤ lent → 2 * length (lossesThen w pasts owns k) + 2 * word v (keptCountAt k) ≤ lent
     still-room n lent is enough = omega (
       arith,
       enough,
-      room-more n k (length (lossesThen w pasts owns k)) (word v (heldAt k)) (omega arith) (rw is (losses-most k (omega arith))) (omega (arith, still-held, sound-part w h k lt .held-most)),
+      room-more n k (length (lossesThen w pasts owns k)) (word v (keptCountAt k)) (omega arith) (rw is (losses-most k (omega arith))) (omega (arith, still-kept-count, sound-part w h k lt .kept-count-most)),
     )
 
     module _ (u : List ℕ) (r : ℕ) (many : r ≡ length (restoredGone v k past owns))
@@ -262,17 +262,17 @@ module _ (w : List ℕ) (h : sound (runOf w) ≡ true) (pasts : List ℕ) (owns 
         front = λ q less. move .disk .front q less ∙ process-head v (move .between) k (move .process) q (omega arith) ∙ so-far .front q less;
         end = move .disk .rest 12 (omega arith) ∙ process-head v (move .between) k (move .process) 12 (omega arith) ∙ so-far .end;
         later = λ q le less. same-moves w v u q k _ _ less room (λ e. omega arith) move (so-far .later q (omega arith) less);
-        mail = λ q low. move .disk .rest q (omega arith) ∙ process-mail v (move .between) k (move .process) room q low ∙ so-far .mail q low;
+        message-words = λ q low. move .disk .rest q (omega arith) ∙ process-message-words v (move .between) k (move .process) room q low ∙ so-far .message-words q low;
         clean = λ c. moved-leaves v u k (restoredPart v k past owns) (billed (diskIn v) 0 (r * word v (blocksAt k))) (so-far .fit) below small move .clean (so-far .clean c);
       }
 
     pub more-listed : (l d e : List ℕ) (total : ℕ) → total ≡ length (lossesThen w pasts owns k) → d ≡ sets l 0 (pairs (lossesThen w pasts owns k))
         → e ≡ sets d (2 * total) (pairs (listed k (restoredGone v k past owns))) → e ≡ sets l 0 (pairs (lossesThen w pasts owns (k + 1)))
     more-listed l d e total many before after =
-        let behind : 2 * total ≡ 0 + length (pairs (lossesThen w pasts owns k)) = omega (arith, many, two-each (lossesThen w pasts owns k)) in
+        let rest-after : 2 * total ≡ 0 + length (pairs (lossesThen w pasts owns k)) = omega (arith, many, two-each (lossesThen w pasts owns k)) in
         after
         ∙ ap (λ (g : List Checkpoint). sets d (2 * total) (pairs (listed k g))) (gone-same w v k room same most past owns)
-        ∙ sets-after l d 0 (2 * total) (pairs (lossesThen w pasts owns k)) before behind (pairs (listed k (goneThen w pasts owns k)))
+        ∙ sets-after l d 0 (2 * total) (pairs (lossesThen w pasts owns k)) before rest-after (pairs (listed k (goneThen w pasts owns k)))
         ∙ ap (sets l 0) (sym (ap pairs (losses-next k) ∙ pairs-append (lossesThen w pasts owns k) (listed k (goneThen w pasts owns k))))
 
     pub more-counted : (total r : ℕ) → total ≡ length (lossesThen w pasts owns k) → r ≡ length (restoredGone v k past owns) → total + r ≡ length (lossesThen w pasts owns (k + 1))

@@ -43,5 +43,5 @@ pub record Restored (w pasts : List ℕ) (owns : List Interval) (k : ℕ) (v : L
   pub front : (q : ℕ) → q < 4 → word v q ≡ word w q
   pub end : endOf v ≡ endOf w
   pub later : (q : ℕ) → k ≤ q → q < mostProcesses → SameProcess w v q
-  pub mail : (q : ℕ) → 5184 ≤ q → word v q ≡ word w q
+  pub message-words : (q : ℕ) → 5184 ≤ q → word v q ≡ word w q
   pub clean : Clean w → Clean v

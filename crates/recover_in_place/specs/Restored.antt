@@ -12,17 +12,17 @@ use Rattle.laws.specs.Lists.{select, table}
 use Rattle.model.specs.declared.Interval.{Interval}
 use Rattle.model.specs.declared.Pin.{Pin}
 use Rattle.model.specs.declared.Checkpoint.{Checkpoint}
-use Rattle.model.specs.Words.{mostProcesses, named, Process, mostInterval}
+use Rattle.model.specs.Words.{mostProcesses, isPinned, Process, mostInterval}
 use Rattle.model.specs.Steps.{advanced}
-use Rattle.words.specs.Layout.{word, heldAt, markAt, blocksAt, partAt, pinsAt, storedAt, intervalOf, rowIn, vectorIn, pinsIn, markIn}
+use Rattle.words.specs.Layout.{word, keptCountAt, markAt, blocksAt, partAt, pinsAt, storedAt, intervalOf, rowIn, vectorIn, pinsIn, markIn}
 use Rattle.line_words.specs.Restored.{knownRow, foundIn}
-use Rattle.process_words.specs.Kept.{Used, AllNamed}
+use Rattle.process_words.specs.Kept.{Used, AllPinned}
 use Rattle.process_words.specs.Pins.{pinRow}
-use Rattle.process_words.specs.Steps.{placesOf, unnamedIn}
+use Rattle.process_words.specs.Steps.{placesOf, unpinnedIn}
 
 -- "A process whose member is stored": the member is one of the kept checkpoints.
 abbrev pub goesBack : List ℕ → ℕ → ℕ → Bool
-goesBack w p past = leb past (word w (heldAt p))
+goesBack w p past = leb past (word w (keptCountAt p))
 
 -- ".. takes that vector with 1 added to its own entry"; "Then let own(f) be the own entries after this."
 unfoldable pub restoredVector : List ℕ → ℕ → ℕ → List Interval
@@ -41,8 +41,8 @@ unfoldable pub restoredPins : List ℕ → ℕ → ℕ → List Interval → Lis
 restoredPins w p past owns = knownRow (restoredVector w p past) owns (pick (goesBack w p past) (foundIn w owns p past) (rowIn w (pinsAt p)))
 
 -- The part of process p once it has these pins: what they name stays.
-unfoldable pub namedPart : List ℕ → ℕ → List Pin → Process
-namedPart w p pins = record { vector = vectorIn w (partAt p); pins = pins; mark = markIn w p; kept = select (named pins) (placesOf w p) }
+unfoldable pub pinnedPart : List ℕ → ℕ → List Pin → Process
+pinnedPart w p pins = record { vector = vectorIn w (partAt p); pins = pins; mark = markIn w p; kept = select (isPinned pins) (placesOf w p) }
 
 -- ".. loses its sent mark and later checkpoints". What these pins name stays: they name none of the later ones.
 unfoldable pub restoredPart : List ℕ → ℕ → ℕ → List Interval → Process
@@ -50,27 +50,27 @@ restoredPart w p past owns = record {
   vector = restoredVector w p past;
   pins = pinRow (restoredPins w p past owns);
   mark = markIn w p && not (goesBack w p past);
-  kept = select (named (pinRow (restoredPins w p past owns))) (placesOf w p);
+  kept = select (isPinned (pinRow (restoredPins w p past owns))) (placesOf w p);
 }
 
 unfoldable pub restoredGone : List ℕ → ℕ → ℕ → List Interval → List Checkpoint
-restoredGone w p past owns = unnamedIn w p (pinRow (restoredPins w p past owns))
+restoredGone w p past owns = unpinnedIn w p (pinRow (restoredPins w p past owns))
 
 -- What the functions rely on: the member's place is there, and 1 can be added to its own entry.
 abbrev pub Returns : List ℕ → ℕ → ℕ → Type 0
 Returns w p past =
-    (word w (heldAt p) ≤ mostProcesses) × (1 ≤ past) × (past ≤ word w (heldAt p) + 1) × (past ≤ word w (heldAt p) → word w (storedAt p (past - 1) + p) < mostInterval)
+    (word w (keptCountAt p) ≤ mostProcesses) × (1 ≤ past) × (past ≤ word w (keptCountAt p) + 1) × (past ≤ word w (keptCountAt p) → word w (storedAt p (past - 1) + p) < mostInterval)
 
 abbrev pub AllReturn : List ℕ → List ℕ → Type 0
 AllReturn pasts w = (mostProcesses ≤ length pasts) × ((p : ℕ) → p < mostProcesses → 1 ≤ getD pasts p 0 → Returns w p (getD pasts p 0))
 
 -- Each kept checkpoint has an index, and a pin names it.
 abbrev pub Restorable : List ℕ → ℕ → ℕ → Type 0
-Restorable w p past = Returns w p past × Used w p (word w (heldAt p)) × AllNamed w p (pinsIn w (pinsAt p)) (word w (heldAt p))
+Restorable w p past = Returns w p past × Used w p (word w (keptCountAt p)) × AllPinned w p (pinsIn w (pinsAt p)) (word w (keptCountAt p))
 
 -- Words that agree on what is process p's: how many checkpoints it keeps, its mark, its block count, the 320 words of its part.
 pub record SameProcess (w v : List ℕ) (p : ℕ) : Type 0 where
-  pub held : word v (heldAt p) ≡ word w (heldAt p)
+  pub «kept_count» : word v (keptCountAt p) ≡ word w (keptCountAt p)
   pub mark : word v (markAt p) ≡ word w (markAt p)
   pub blocks : word v (blocksAt p) ≡ word w (blocksAt p)
   pub part : (k : ℕ) → partAt p ≤ k → k < partAt p + 320 → word v k ≡ word w k

@@ -4,7 +4,7 @@ use model::Interval;
 use model::PROCESSES;
 use model::RecoverAnswer;
 use model::Refusal;
-use verdicts::Verdict;
+use admissions::Admission;
 use words::places;
 ghost use mathlib.Core.Path.{_≡_};
 ghost use mathlib.Core.Bool.{true};
@@ -17,8 +17,8 @@ ghost use Rattle.model.specs.Sound.{sound};
 ghost use Rattle.model.specs.declared.Refusal.{Refusal};
 ghost use Rattle.model.specs.declared.RecoverAnswer.the-variants.{Refused};
 ghost use Rattle.model.specs.Words.{mostProcesses};
-ghost use Rattle.verdicts.specs.declared.Verdict.the-variants.{Accepted};
-ghost use Rattle.verdicts.specs.Verdicts.{recoveryVerdict};
+ghost use Rattle.admissions.specs.declared.Admission.the-variants.{Accepted};
+ghost use Rattle.admissions.specs.Admissions.{recoveryAdmission};
 ghost use Rattle.whole_runs.specs.Outcomes.{pairs, recoverOutcome};
 ghost use Rattle.whole_runs.specs.Calls as made;
 ghost use Rattle.whole_runs.specs.Clean.{CleanPromise};
@@ -33,22 +33,22 @@ ghost use Rattle.recover_in_place.specs.Recovering.{lossesThen, AllResto
 pub mod process;
 
 // 1 if the member of process p, in the place before this one, is a kept checkpoint: the process goes back to it.
-fn one_if_back(w: &[u16], p: usize, past: u16) -> usize
+fn one_if_rolled_back(w: &[u16], p: usize, past: u16) -> usize
     requires { ⌜ (length (now w) ≡ stateSize) × (p < mostProcesses) ⌝ }
     ensures { λ r. ⌜ r ≡ pick (goesBack (now (w .entry)) p past) 1 0 ⌝ }
 {
-    if past <= w[places::HELD + p] { 1 } else { 0 }
+    if past <= w[places::KEPT + p] { 1 } else { 0 }
 }
 
 // How many of n processes go back.
-fn count_back(w: &[u16], n: usize, pasts: &[u16]) -> usize
+fn count_rolled_back(w: &[u16], n: usize, pasts: &[u16]) -> usize
     requires { ⌜ (length (now w) ≡ stateSize) × (n ≤ mostProcesses) × (n ≤ length (now pasts)) ⌝ }
     ensures { λ r. ⌜ r ≡ countBelow n (λ p. goesBack (now (w .entry)) p (getD (now (pasts .entry)) p 0)) ⌝ }
 {
     let mut back = 0;
     for p in 0..n {
         let past = pasts[p];
-        let one = one_if_back(w, p, past);
+        let one = one_if_rolled_back(w, p, past);
         back += one;
     }
     back
@@ -84,7 +84,7 @@ fn recover_within(
     deleted: &mut [u16],
     line: &mut [u16],
 ) -> RecoverAnswer
-    requires { ⌜ (sound (runOf (now w)) ≡ true) × (n ≡ countOf (now w)) × (2 * n * n ≤ length (now deleted)) × (n ≤ length (now line)) × (recoveryVerdict n failed ≡ Accepted) ⌝ }
+    requires { ⌜ (sound (runOf (now w)) ≡ true) × (n ≡ countOf (now w)) × (2 * n * n ≤ length (now deleted)) × (n ≤ length (now line)) × (recoveryAdmission n failed ≡ Accepted) ⌝ }
     ensures { λ r. ⌜ runOf (now (w .exit)) ≡ recoverOutcome (runOf (now (w .entry))) failed (now (deleted .entry)) (now (line .entry)) .run ⌝ }
     ensures { λ r. ⌜ r ≡ recoverOutcome (runOf (now (w .entry))) failed (now (deleted .entry)) (now (line .entry)) .answer ⌝ }
     ensures { λ r. ⌜ now (deleted .exit) ≡ recoverOutcome (runOf (now (w .entry))) failed (now (deleted .entry)) (now (line .entry)) .deleted ⌝ }
@@ -101,7 +101,7 @@ fn recover_within(
     }
     let indexes = line_words::line::indexes_of(w, n, pasts);
     let owns = crate::process::owns::owns_after(w, pasts);
-    let back = count_back(w, n, pasts);
+    let back = count_rolled_back(w, n, pasts);
     in_place::line::write_line(line, indexes, n);
     let gone = restore_all(w, n, pasts, owns, deleted);
     line_words::sifted::sift(w, indexes);
@@ -124,14 +124,14 @@ pub fn recover_on(
     ensures { λ r. ⌜ Leaves (now (w .entry)) (now (w .exit)) ⌝ }
 {
     let n = w[places::COUNT] as usize;
-    let short = verdicts::is_too_short(deleted.len(), line.len(), n);
+    let short = admissions::is_too_short(deleted.len(), line.len(), n);
     if short {
         return RecoverAnswer::Refused(Refusal::ListTooShort);
     }
-    let verdict = verdicts::recovery_verdict(failed, n);
-    match verdict {
-        Verdict::Refused(why) => RecoverAnswer::Refused(why),
-        Verdict::Accepted => recover_within(w, n, failed, deleted, line),
+    let admission = admissions::recovery_admission(failed, n);
+    match admission {
+        Admission::Refused(why) => RecoverAnswer::Refused(why),
+        Admission::Accepted => recover_within(w, n, failed, deleted, line),
     }
 }
 

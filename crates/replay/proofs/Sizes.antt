@@ -11,10 +11,10 @@ use Rattle.machines.specs.declared.Request as requests
 use Rattle.machines.specs.Machines.{Answer, stepped}
 use Rattle.machines.specs.Forms.{Asks}
 use Rattle.replay_machine.specs.Replaying.{State, asks, replaying}
-use Rattle.replay_machine.specs.Standing.{leastInput, roomy}
+use Rattle.replay_machine.specs.Standing.{leastInput, enoughRoom}
 
-pub large-enough : (words input out : ℕ) → words ≡ stateSize → leastInput ≤ input → longestLine ≤ out → roomy words input out ≡ true
-unfolding roomy
+pub large-enough : (words input out : ℕ) → words ≡ stateSize → leastInput ≤ input → longestLine ≤ out → enoughRoom words input out ≡ true
+unfolding enoughRoom
 large-enough words input out w i o = rw (eq-eqb words stateSize w, le-leb leastInput input i, le-leb longestLine out o)
 
 module _ (size room size′ room′ : ℕ) (same-size : size′ ≡ size) (same-room : room′ ≡ room) where

@@ -24,7 +24,7 @@ fn drive(words: &mut [u16], memory: &mut [u64], input: &mut [u8], out: &mut [u8]
         let answer = obeyed.answer;
         let next = obeyed.source;
         source = next;
-        request = replay_machine::step::step_led(words, memory, input, out, answer);
+        request = replay_machine::step::step_reached(words, memory, input, out, answer);
     }
     request
 }

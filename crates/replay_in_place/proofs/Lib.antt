@@ -1,5 +1,5 @@
 -- Laws that belong to no one function.
 pub mod Deleted
 pub mod Onward
-pub mod Said
-pub mod Turns
+pub mod Summarised
+pub mod Iterations

@@ -14,7 +14,7 @@ use Rattle.laws.specs.Truth.{and-left, and-right, never-both}
 use Rattle.model.specs.declared.Run.{Run}
 use Rattle.model.specs.Trace.{decoded}
 use Rattle.whole_runs.specs.Calls.{Answered}
-use Rattle.whole_runs.specs.Listing.{lineText, perform, mostRecords, goesOn, records, goesOnBehind}
+use Rattle.whole_runs.specs.Listing.{lineText, perform, mostRecords, goesOn, records, goesOnAfterAll}
 use Rattle.listing.specs.Lines.{longestLine}
 use Rattle.replay_in_place.specs.Taken.{mayTake, takenOf, Within, BlocksGoOn}
 
@@ -24,7 +24,7 @@ none-within all done s block room none-may = record {
   inside = omega arith;
   few = λ h. omega arith;
   went-on = λ k lt. absurd (omega arith);
-  roomy = λ k lt. absurd (omega arith);
+  enoughRoom = λ k lt. absurd (omega arith);
   some = λ four may. absurd (none-may four may);
 }
 
@@ -47,27 +47,27 @@ module _ (a b c d : ℕ) (l : List ℕ) where
 
     -- the first is taken, and the replay stops
     one-within : Within all done s (a ∷ b ∷ c ∷ d ∷ l) room 1
-    unfolding goesOnBehind records
+    unfolding goesOnAfterAll records
     one-within = record {
       inside = omega arith;
       few = λ h. omega (arith, below done room may);
       went-on = first-went-on;
-      roomy = first-roomy;
+      enoughRoom = first-enough-room;
       some = λ four m. omega arith;
     }
       where
-        first-went-on : (k : ℕ) → k < 1 → goesOnBehind all s (take (4 * k) (a ∷ b ∷ c ∷ d ∷ l)) ≡ true
+        first-went-on : (k : ℕ) → k < 1 → goesOnAfterAll all s (take (4 * k) (a ∷ b ∷ c ∷ d ∷ l)) ≡ true
         first-went-on zero lt = refl
         first-went-on (suc k) lt = absurd (omega arith)
 
-        first-roomy : (k : ℕ) → k < 1 → length (records all done s (take (4 * k) (a ∷ b ∷ c ∷ d ∷ l))) + longestLine ≤ room
-        first-roomy zero lt = omega (arith, space done room may)
-        first-roomy (suc k) lt = absurd (omega arith)
+        first-enough-room : (k : ℕ) → k < 1 → length (records all done s (take (4 * k) (a ∷ b ∷ c ∷ d ∷ l))) + longestLine ≤ room
+        first-enough-room zero lt = omega (arith, space done room may)
+        first-enough-room (suc k) lt = absurd (omega arith)
 
     module _ (goes : goesOn all (perform s (decoded (a ∷ b ∷ c ∷ d ∷ [])) .reply .report .refused) ≡ true) (more : ℕ)
         (h : Within all (done + 1) (perform s (decoded (a ∷ b ∷ c ∷ d ∷ [])) .run) l (room - length (lineText (done + 1) (perform s (decoded (a ∷ b ∷ c ∷ d ∷ [])) .reply))) more) where
-      went : (k : ℕ) → k < suc more → goesOnBehind all s (take (4 * k) (a ∷ b ∷ c ∷ d ∷ l)) ≡ true
-      unfolding goesOnBehind
+      went : (k : ℕ) → k < suc more → goesOnAfterAll all s (take (4 * k) (a ∷ b ∷ c ∷ d ∷ l)) ≡ true
+      unfolding goesOnAfterAll
       went zero lt = refl
       went (suc k) lt = rw (take-four k, goes) (h .went-on k (omega arith))
 
@@ -77,14 +77,14 @@ module _ (a b c d : ℕ) (l : List ℕ) where
       roomed (suc k) lt =
           let lines = records all (done + 1) (o .run) (take (4 * k) l) in
           rw (take-four k, lt-ltb done mostRecords (below done room may), goes)
-          (omega (arith, h .roomy k (omega arith), length-append (lineText (done + 1) (o .reply)) lines))
+          (omega (arith, h .enoughRoom k (omega arith), length-append (lineText (done + 1) (o .reply)) lines))
 
       more-within : Within all done s (a ∷ b ∷ c ∷ d ∷ l) room (suc more)
       more-within = record {
         inside = omega (arith, h .inside);
         few = λ few. omega (arith, h .few (omega (arith, below done room may)));
         went-on = went;
-        roomy = roomed;
+        enoughRoom = roomed;
         some = λ four m. omega arith;
       }
 

@@ -9,7 +9,7 @@ use lib.ListN.{length, take}
 use Rattle.laws.specs.Choice.{pick}
 use Rattle.model.specs.declared.Run.{Run}
 use Rattle.model.specs.Trace.{decoded}
-use Rattle.whole_runs.specs.Listing.{perform, lineText, mostRecords, goesOn, records, goesOnBehind, stateAfterRecords}
+use Rattle.whole_runs.specs.Listing.{perform, lineText, mostRecords, goesOn, records, goesOnAfterAll, stateAfterRecords}
 use Rattle.trace.specs.Answers.{recordAt}
 use Rattle.listing.specs.Lines.{longestLine}
 
@@ -41,7 +41,7 @@ pub record BlockOutcome : Type 0 where
 unfoldable pub outcomeOf : Bool → ℕ → Run → List ℕ → ℕ → BlockOutcome
 outcomeOf all done s block taken =
     let part = take (4 * taken) block in
-    record { taken = taken; lines = records all done s part; going = goesOnBehind all s part; run = stateAfterRecords s part }
+    record { taken = taken; lines = records all done s part; going = goesOnAfterAll all s part; run = stateAfterRecords s part }
 
 unfoldable pub blockOutcome : Bool → ℕ → Run → List ℕ → ℕ → BlockOutcome
 blockOutcome all done s block room = outcomeOf all done s block (takenOf all done s block room)
@@ -62,8 +62,8 @@ takesNext going done block taken room = going && mayTake (done + taken) room && 
 pub record Within (all : Bool) (done : ℕ) (s : Run) (block : List ℕ) (room taken : ℕ) : Type 0 where
   pub inside : 4 * taken ≤ length block
   pub few : done ≤ mostRecords → done + taken ≤ mostRecords
-  pub went-on : (k : ℕ) → k < taken → goesOnBehind all s (take (4 * k) block) ≡ true
-  pub roomy : (k : ℕ) → k < taken → length (records all done s (take (4 * k) block)) + longestLine ≤ room
+  pub went-on : (k : ℕ) → k < taken → goesOnAfterAll all s (take (4 * k) block) ≡ true
+  pub enoughRoom : (k : ℕ) → k < taken → length (records all done s (take (4 * k) block)) + longestLine ≤ room
   pub some : 4 ≤ length block → mayTake done room ≡ true → 1 ≤ taken
 
 unfoldable pub BlocksGoOn : Type 0

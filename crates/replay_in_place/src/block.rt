@@ -62,7 +62,7 @@ fn takes_next(going: bool, done: u64, block: &[u8], taken: usize, room: usize) -
 
 // The records of a block on words of which `tested` says whether they stand for a sound state, and `reached` whether calls from a start led to them; with lists for
 // what is deleted and for the line.
-fn replay_beside(
+fn replay_with_lists(
     w: &mut [u16],
     tested: bool,
     reached: bool,
@@ -90,10 +90,10 @@ fn replay_beside(
         let d = trace::decode(part);
         taken += 1;
         let applied = record::apply(w, still, reached, d, deleted, line);
-        let said = applied.said;
+        let summary = applied.summary;
         still = applied.sound;
-        going = output::line::goes_on(all, said.refused);
-        written = output::line::print(said, deleted, done + (taken as u64), out, written);
+        going = output::line::goes_on(all, summary.refused);
+        written = output::line::print(summary, deleted, done + (taken as u64), out, written);
     }
     Progress {
         taken,
@@ -124,7 +124,7 @@ fn replay_from(
     let deleted: &mut [u16] = &mut deletions;
     let mut indexes = [0u16; PROCESSES];
     let line: &mut [u16] = &mut indexes;
-    replay_beside(w, tested, reached, all, done, block, out, deleted, line)
+    replay_with_lists(w, tested, reached, all, done, block, out, deleted, line)
 }
 
 // The records of a block on any words. It stops where no whole record is left, where the longest line might not fit, after record 1,000,000,000, and after a refusal

@@ -15,66 +15,66 @@ ghost use Rattle.model.specs.Words.{mostDeletions, mostProcesses};
 ghost use Rattle.whole_runs.specs.Outcomes.{refusing};
 ghost use Rattle.whole_runs.specs.WholeRuns.{Reachable};
 ghost use Rattle.trace.specs.Answers.{eventRead};
-ghost use Rattle.listing.specs.Said.{reportIn, Performs};
+ghost use Rattle.listing.specs.Summarised.{reportIn, Performs};
 ghost use Rattle.words.specs.Layout.{runOf};
 ghost use Rattle.in_place.specs.Left.{Leaves};
 
 // What a record comes to: what its line says, and whether the words then stand for a sound state.
 pub struct Applied {
-    pub said: Summary,
+    pub summary: Summary,
     pub sound: bool,
 }
 
 fn refuse(why: Refusal, still: bool) -> Applied
-    ensures { λ r. ⌜ (reportIn (r .said) ≡ refusing why) × (r .sound ≡ still) ⌝ }
+    ensures { λ r. ⌜ (reportIn (r .summary) ≡ refusing why) × (r .sound ≡ still) ⌝ }
 {
-    let said = summaries::refused(why);
-    Applied { said, sound: still }
+    let summary = summaries::refused(why);
+    Applied { summary, sound: still }
 }
 
 fn checkpoint(w: &mut [u16], i: usize, deleted: &mut [u16]) -> Applied
     requires { ⌜ (sound (runOf (now w)) ≡ true) × (length (now deleted) ≡ mostDeletions) ⌝ }
-    ensures { λ r. ⌜ Performs (runOf (now (w .entry))) (some (event.Checkpoint i)) (runOf (now (w .exit))) (r .said) (now (deleted .exit)) ⌝ }
+    ensures { λ r. ⌜ Performs (runOf (now (w .entry))) (some (event.Checkpoint i)) (runOf (now (w .exit))) (r .summary) (now (deleted .exit)) ⌝ }
     ensures { λ r. ⌜ r .sound ≡ sound (runOf (now (w .exit))) ⌝ }
     ensures { λ r. ⌜ Leaves (now (w .entry)) (now (w .exit)) ⌝ }
 {
     let answer = in_place::checkpoint::checkpoint_on(w, i, deleted);
-    let said = summaries::of_checkpoint(answer);
-    Applied { said, sound: true }
+    let summary = summaries::of_checkpoint(answer);
+    Applied { summary, sound: true }
 }
 
 fn send(w: &mut [u16], i: usize, j: usize) -> Applied
     requires { ⌜ sound (runOf (now w)) ≡ true ⌝ }
-    ensures { λ r. ⌜ ((deleted : List ℕ) → Performs (runOf (now (w .entry))) (some (event.Send i j)) (runOf (now (w .exit))) (r .said) deleted) ⌝ }
+    ensures { λ r. ⌜ ((deleted : List ℕ) → Performs (runOf (now (w .entry))) (some (event.Send i j)) (runOf (now (w .exit))) (r .summary) deleted) ⌝ }
     ensures { λ r. ⌜ r .sound ≡ sound (runOf (now (w .exit))) ⌝ }
     ensures { λ r. ⌜ Leaves (now (w .entry)) (now (w .exit)) ⌝ }
 {
     let answer = in_place::send::send_on(w, i, j);
-    let said = summaries::of_send(answer);
-    Applied { said, sound: true }
+    let summary = summaries::of_send(answer);
+    Applied { summary, sound: true }
 }
 
 fn deliver(w: &mut [u16], m: u32, deleted: &mut [u16]) -> Applied
     requires { ⌜ (sound (runOf (now w)) ≡ true) × (length (now deleted) ≡ mostDeletions) ⌝ }
-    ensures { λ r. ⌜ Performs (runOf (now (w .entry))) (some (event.Deliver m)) (runOf (now (w .exit))) (r .said) (now (deleted .exit)) ⌝ }
+    ensures { λ r. ⌜ Performs (runOf (now (w .entry))) (some (event.Deliver m)) (runOf (now (w .exit))) (r .summary) (now (deleted .exit)) ⌝ }
     ensures { λ r. ⌜ r .sound ≡ sound (runOf (now (w .exit))) ⌝ }
     ensures { λ r. ⌜ Leaves (now (w .entry)) (now (w .exit)) ⌝ }
 {
     let delivered = in_place::deliver::deliver_on(w, m, deleted);
     let answer = delivered.answer;
-    let said = summaries::of_deliver(answer);
-    Applied { said, sound: true }
+    let summary = summaries::of_deliver(answer);
+    Applied { summary, sound: true }
 }
 
 fn lose(w: &mut [u16], m: u32) -> Applied
     requires { ⌜ sound (runOf (now w)) ≡ true ⌝ }
-    ensures { λ r. ⌜ ((deleted : List ℕ) → Performs (runOf (now (w .entry))) (some (event.Lose m)) (runOf (now (w .exit))) (r .said) deleted) ⌝ }
+    ensures { λ r. ⌜ ((deleted : List ℕ) → Performs (runOf (now (w .entry))) (some (event.Lose m)) (runOf (now (w .exit))) (r .summary) deleted) ⌝ }
     ensures { λ r. ⌜ r .sound ≡ sound (runOf (now (w .exit))) ⌝ }
     ensures { λ r. ⌜ Leaves (now (w .entry)) (now (w .exit)) ⌝ }
 {
     let answer = in_place::lose::lose_on(w, m);
-    let said = summaries::of_lose(answer);
-    Applied { said, sound: true }
+    let summary = summaries::of_lose(answer);
+    Applied { summary, sound: true }
 }
 
 // Whether the words stand for a sound state after a recovery that deleted so many checkpoints. They do where calls from a start led to them, and where none was deleted, as
@@ -100,14 +100,14 @@ fn recover(
     line: &mut [u16],
 ) -> Applied
     requires { ⌜ (sound (runOf (now w)) ≡ true) × (reached ≡ true → Reachable (runOf (now w))) × (length (now deleted) ≡ mostDeletions) × (length (now line) ≡ mostProcesses) ⌝ }
-    ensures { λ r. ⌜ Performs (runOf (now (w .entry))) (some (event.Recover failed)) (runOf (now (w .exit))) (r .said) (now (deleted .exit)) ⌝ }
+    ensures { λ r. ⌜ Performs (runOf (now (w .entry))) (some (event.Recover failed)) (runOf (now (w .exit))) (r .summary) (now (deleted .exit)) ⌝ }
     ensures { λ r. ⌜ r .sound ≡ sound (runOf (now (w .exit))) ⌝ }
     ensures { λ r. ⌜ Leaves (now (w .entry)) (now (w .exit)) ⌝ }
 {
     let answer = recover_in_place::recover_on(w, failed, deleted, line);
-    let said = summaries::of_recover(answer);
-    let still = sound_after(w, reached, said.deletions);
-    Applied { said, sound: still }
+    let summary = summaries::of_recover(answer);
+    let still = sound_after(w, reached, summary.deletions);
+    Applied { summary, sound: still }
 }
 
 // The call of an event, on words that stand for a sound state.
@@ -119,7 +119,7 @@ fn event_on(
     line: &mut [u16],
 ) -> Applied
     requires { ⌜ (sound (runOf (now w)) ≡ true) × (reached ≡ true → Reachable (runOf (now w))) × (length (now deleted) ≡ mostDeletions) × (length (now line) ≡ mostProcesses) ⌝ }
-    ensures { λ r. ⌜ Performs (runOf (now (w .entry))) (some e) (runOf (now (w .exit))) (r .said) (now (deleted .exit)) ⌝ }
+    ensures { λ r. ⌜ Performs (runOf (now (w .entry))) (some e) (runOf (now (w .exit))) (r .summary) (now (deleted .exit)) ⌝ }
     ensures { λ r. ⌜ r .sound ≡ sound (runOf (now (w .exit))) ⌝ }
     ensures { λ r. ⌜ Leaves (now (w .entry)) (now (w .exit)) ⌝ }
 {
@@ -143,7 +143,7 @@ pub fn apply(
     line: &mut [u16],
 ) -> Applied
     requires { ⌜ (still ≡ sound (runOf (now w))) × (reached ≡ true → Reachable (runOf (now w))) × (length (now deleted) ≡ mostDeletions) × (length (now line) ≡ mostProcesses) ⌝ }
-    ensures { λ r. ⌜ Performs (runOf (now (w .entry))) (eventRead d) (runOf (now (w .exit))) (r .said) (now (deleted .exit)) ⌝ }
+    ensures { λ r. ⌜ Performs (runOf (now (w .entry))) (eventRead d) (runOf (now (w .exit))) (r .summary) (now (deleted .exit)) ⌝ }
     ensures { λ r. ⌜ r .sound ≡ sound (runOf (now (w .exit))) ⌝ }
     ensures { λ r. ⌜ Leaves (now (w .entry)) (now (w .exit)) ⌝ }
 {

@@ -21,8 +21,8 @@ use Rattle.replay_in_place.specs.Taken.{BlockOutcome, mayTake, takenOf, outcome
 use Rattle.replay_in_place.proofs.Onward.{blocks-go-on}
 use Rattle.replay_machine.specs.declared.place.Place.{Place}
 use Rattle.replay_machine.specs.Replaying.{Between, State, reading, printing, ending, taking, onward}
-use Rattle.replay_machine.specs.Standing.{roomy, inside, stateIn, betweenIn, textPlace, waitingPlace, Lies, Blocked}
-use Rattle.replay_machine.proofs.Places.{roomy-out, inside-in, is-reading, is-printing, text-ending}
+use Rattle.replay_machine.specs.Standing.{enoughRoom, inside, stateIn, betweenIn, textPlace, waitingPlace, Lies, Blocked}
+use Rattle.replay_machine.proofs.Places.{enough-out, inside-in, is-reading, is-printing, text-ending}
 
 -- The rest of a part, after its first k.
 drop-of-part : (k n : ℕ) (l : List ℕ) → k ≤ n → drop k (take n l) ≡ take (n - k) (drop k l)
@@ -32,10 +32,10 @@ drop-of-part (suc k) (suc n) [] h = sym (take-nil (suc n - suc k))
 drop-of-part (suc k) (suc n) (x ∷ l) h = let e : suc n - suc k ≡ n - k = omega arith in rw e (drop-of-part k n l (omega arith))
 
 module _ (p : Place) (words input out : List ℕ) (lies : Lies p words input out) (made : Progress) (then-words then-out : List ℕ)
-    (blocked : Blocked (p .all) (p .count) words (take (p .held) (drop (p .from) input)) out made then-words then-out)
+    (blocked : Blocked (p .all) (p .count) words (take (p .buffered) (drop (p .from) input)) out made then-words then-out)
     (same-words : length then-words ≡ length words) (same-out : length then-out ≡ length out) where
   abbrev block : List ℕ
-  block = take (p .held) (drop (p .from) input)
+  block = take (p .buffered) (drop (p .from) input)
 
   abbrev between : Between
   between = betweenIn p words input
@@ -47,10 +47,10 @@ module _ (p : Place) (words input out : List ℕ) (lies : Lies p words input out
   unfolding blockOutcome outcomeOf BlocksGoOn
   within = blocks-go-on (p .all) (p .count) (runOf words) block (length out)
 
-  block-length : length block ≡ p .held
-  block-length = length-take-le (p .held) (drop (p .from) input) (omega (arith, lies .within, length-drop (p .from) input))
+  block-length : length block ≡ p .buffered
+  block-length = length-take-le (p .buffered) (drop (p .from) input) (omega (arith, lies .within, length-drop (p .from) input))
 
-  pub inside-block : 4 * made .taken ≤ p .held
+  pub inside-block : 4 * made .taken ≤ p .buffered
   inside-block = omega (arith, blocked .taken, within .inside, block-length)
 
   pub few-then : p .count + made .taken ≤ mostRecords
@@ -65,25 +65,25 @@ module _ (p : Place) (words input out : List ℕ) (lies : Lies p words input out
       ap (take (made .written)) (blocked .lines ∙ written-front out (o .lines) (omega (arith, blocked .written, blocked .fits)))
       ∙ take-at (o .lines) (drop (length (o .lines)) out) (made .written) (sym (blocked .written))
 
-  room-then : (then-input : List ℕ) → length then-input ≡ length input → roomy (length then-words) (length then-input) (length then-out) ≡ true
+  room-then : (then-input : List ℕ) → length then-input ≡ length input → enoughRoom (length then-words) (length then-input) (length then-out) ≡ true
   room-then then-input same = rw (same-words, same, same-out) (lies .room)
 
   -- No record is taken.
-  module _ (none : made .taken ≡ 0) (then-input : List ℕ) (front : take (p .held) then-input ≡ take (p .held) (drop (p .from) input)) (same-input : length then-input ≡ length input) where
+  module _ (none : made .taken ≡ 0) (then-input : List ℕ) (front : take (p .buffered) then-input ≡ take (p .buffered) (drop (p .from) input)) (same-input : length then-input ≡ length input) where
     taken-none : o .taken ≡ 0
     taken-none = sym (blocked .taken) ∙ none
 
-    pub few-held : p .held < 4
+    pub few-buffered : p .buffered < 4
     unfolding mayTake
-    few-held = by-bool (leb 4 (p .held))
+    few-buffered = by-bool (leb 4 (p .buffered))
         (λ e. absurd (omega (
           arith,
           none,
           blocked .taken,
-          within .some (omega (arith, block-length, leb-true 4 (p .held) e))
-              (rw (lt-ltb (p .count) mostRecords (lies .few), le-leb longestLine (length out) (roomy-out (length words) (length input) (length out) (lies .room)))),
+          within .some (omega (arith, block-length, leb-true 4 (p .buffered) e))
+              (rw (lt-ltb (p .count) mostRecords (lies .few), le-leb longestLine (length out) (enough-out (length words) (length input) (length out) (lies .room)))),
         )))
-        (λ e. leb-false 4 (p .held) e)
+        (λ e. leb-false 4 (p .buffered) e)
 
     same-run : runOf then-words ≡ runOf words
     unfolding blockOutcome outcomeOf stateAfterRecords
@@ -91,7 +91,7 @@ module _ (p : Place) (words input out : List ℕ) (lies : Lies p words input out
 
     waiting-inside : inside (waitingPlace p) (length then-input) (length then-out) ≡ true
     unfolding waitingPlace
-    waiting-inside = inside-in (waitingPlace p) (length then-input) (length then-out) (lies .few) (omega arith) (omega (arith, lies .within)) (rw (lt-ltb (p .held) 4 few-held))
+    waiting-inside = inside-in (waitingPlace p) (length then-input) (length then-out) (lies .few) (omega arith) (omega (arith, lies .within)) (rw (lt-ltb (p .buffered) 4 few-buffered))
 
     pub waits : stateIn (waitingPlace p) then-words then-input then-out ≡ onward (length out) between
     unfolding waitingPlace taking betweenIn
@@ -121,27 +121,27 @@ module _ (p : Place) (words input out : List ℕ) (lies : Lies p words input out
     stops-last h = stops (rw (← blocked .taken, le-ltb (p .count + made .taken) mostRecords h) (and-no-right (o .going) false refl))
 
     module _ (next : Place) (phase : next .phase ≡ 4) (all : next .all ≡ p .all) (count : next .count ≡ p .count + made .taken) (from : next .from ≡ p .from + 4 * made .taken)
-        (held : next .held ≡ p .held - 4 * made .taken) (written : next .written ≡ made .written) (going : made .going ≡ true) (less : p .count + made .taken < mostRecords) where
+        (buffered : next .buffered ≡ p .buffered - 4 * made .taken) (written : next .written ≡ made .written) (going : made .going ≡ true) (less : p .count + made .taken < mostRecords) where
       goes-on : goes ≡ true
       goes-on = rw (← blocked .going, ← blocked .taken, going, lt-ltb (p .count + made .taken) mostRecords less)
 
       next-inside : inside next (length input) (length then-out) ≡ true
-      next-inside = inside-in next (length input) (length then-out) (omega (arith, count, less)) (omega (arith, written, blocked .fits, same-out)) (omega (arith, from, held, lies .within, inside-block)) (rw phase)
+      next-inside = inside-in next (length input) (length then-out) (omega (arith, count, less)) (omega (arith, written, blocked .fits, same-out)) (omega (arith, from, buffered, lies .within, inside-block)) (rw phase)
 
-      next-held : take (next .held) (drop (next .from) input) ≡ drop (4 * o .taken) block
-      next-held = rw (from, held, ← blocked .taken) (sym (ap (λ (l : List ℕ). take (p .held - 4 * made .taken) l) (drop-drop (4 * made .taken) (p .from) input)) ∙ sym (drop-of-part (4 * made .taken) (p .held) (drop (p .from) input) inside-block))
+      next-buffered : take (next .buffered) (drop (next .from) input) ≡ drop (4 * o .taken) block
+      next-buffered = rw (from, buffered, ← blocked .taken) (sym (ap (λ (l : List ℕ). take (p .buffered - 4 * made .taken) l) (drop-drop (4 * made .taken) (p .from) input)) ∙ sym (drop-of-part (4 * made .taken) (p .buffered) (drop (p .from) input) inside-block))
 
       pub prints : stateIn next then-words input then-out ≡ onward (length out) between
       unfolding taking betweenIn
       prints =
           is-printing next then-words input then-out (room-then input refl, next-inside) phase
-          ∙ rw (all, count, written, next-held, lines-front, blocked .run, blocked .taken) (sym (is-onward ∙ rw (some-taken, goes-on)))
+          ∙ rw (all, count, written, next-buffered, lines-front, blocked .run, blocked .taken) (sym (is-onward ∙ rw (some-taken, goes-on)))
 
 -- The bytes held, moved to the front.
-pub kept-front : (input then : List ℕ) (from held : ℕ) → from + held ≤ length input → then ≡ sets input 0 (take (from + held - from) (drop from input))
-    → take held then ≡ take held (drop from input)
-kept-front input then from held h e =
-    let same : from + held - from ≡ held = omega arith in
-    let xs = take held (drop from input) in
-    let many : length xs ≡ held = length-take-le held (drop from input) (omega (arith, length-drop from input)) in
-    ap (take held) (rw same at e ∙ written-front input xs (omega arith)) ∙ take-at xs (drop (length xs) input) held many
+pub kept-front : (input then : List ℕ) (from buffered : ℕ) → from + buffered ≤ length input → then ≡ sets input 0 (take (from + buffered - from) (drop from input))
+    → take buffered then ≡ take buffered (drop from input)
+kept-front input then from buffered h e =
+    let same : from + buffered - from ≡ buffered = omega arith in
+    let xs = take buffered (drop from input) in
+    let many : length xs ≡ buffered = length-take-le buffered (drop from input) (omega (arith, length-drop from input)) in
+    ap (take buffered) (rw same at e ∙ written-front input xs (omega arith)) ∙ take-at xs (drop (length xs) input) buffered many

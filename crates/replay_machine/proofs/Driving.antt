@@ -17,7 +17,7 @@ use Rattle.machines.proofs.Runs.{reached-first, reached-next}
 use Rattle.machines.proofs.Places.{going-is, stopped-is, leaves-front}
 use Rattle.replay_machine.specs.declared.place.Place.{Place}
 use Rattle.replay_machine.specs.Replaying.{Between, State, starting, printing, stopped, asks, replaying}
-use Rattle.replay_machine.specs.Standing.{numbers, roomy, inside, betweenIn, byPhase, stateIn, stateOf, placeIn, placeOf, Led}
+use Rattle.replay_machine.specs.Standing.{numbers, enoughRoom, inside, betweenIn, byPhase, stateIn, stateOf, placeIn, placeOf, FromStart}
 use Rattle.replay_machine.proofs.Places.{Inside, inside-out, is-printing}
 use Rattle.replay_machine.proofs.Steps.{state-of}
 use Rattle.replay_machine.proofs.Ending.{left, next-falls}
@@ -57,14 +57,14 @@ module _ (words memory input after out : List ℕ) (r : requests.Request) (size 
   same-size : length after ≡ length input
   same-size = leaves-front r (placeOf memory) input after (asks-it .there) leaves .1
 
-  front : take (p .held) after ≡ take (p .held) input
+  front : take (p .buffered) after ≡ take (p .buffered) input
   unfolding placeOf
   front = leaves-front r (placeOf memory) input after (asks-it .there) leaves .0
 
   module _ (many : 6 ≤ length memory) where
-    held-same : roomy (length words) (length input) (length out) ≡ true → inside p (length input) (length out) ≡ true → betweenIn p words after ≡ betweenIn p words input
+    buffered-same : enoughRoom (length words) (length input) (length out) ≡ true → inside p (length input) (length out) ≡ true → betweenIn p words after ≡ betweenIn p words input
     unfolding betweenIn asks
-    held-same room in-lists =
+    buffered-same room in-lists =
         let there = inside-out p (length input) (length out) in-lists in
         by-eq (p .phase) 4
         (λ e. let printed = state-of words memory input out many p refl ∙ is-printing p words input out (room, in-lists) e in
@@ -73,9 +73,9 @@ module _ (words memory input after out : List ℕ) (r : requests.Request) (size 
 
     in-same : stateIn p words after out ≡ stateIn p words input out
     unfolding stateIn byPhase
-    in-same = by-bool (roomy (length words) (length input) (length out))
+    in-same = by-bool (enoughRoom (length words) (length input) (length out))
         (λ room. by-bool (inside p (length input) (length out))
-        (λ in-lists. rw (same-size, room, in-lists, held-same room in-lists))
+        (λ in-lists. rw (same-size, room, in-lists, buffered-same room in-lists))
         (λ no. rw (same-size, room, no)))
         (λ narrow. rw (same-size, narrow))
 
@@ -85,12 +85,12 @@ module _ (words memory input after out : List ℕ) (r : requests.Request) (size 
 
 pub record Driven (size room : ℕ) (words memory input out : List ℕ) (r : requests.Request) : Type 0 where
   pub reached : Reached (replaying size room) (stateOf words memory input out)
-  pub led : Led (stateOf words memory input out)
+  pub led : FromStart (stateOf words memory input out)
   pub asked : Asks r (placeOf memory) input out (asks size (stateOf words memory input out))
 
 pub driven-first : (size room : ℕ) (words memory input out : List ℕ) (r : requests.Request) → stateOf words memory input out ≡ starting
     → Asks r (placeOf memory) input out (asks size (stateOf words memory input out)) → Driven size room words memory input out r
-unfolding Led
+unfolding FromStart
 driven-first size room words memory input out r e h = record { reached = rw e (reached-first (replaying size room)); led = rw e tt; asked = h }
 
 -- One request is obeyed, and its answer taken.
@@ -98,11 +98,11 @@ module _ (size room : ℕ) (words memory input out : List ℕ) (r : requests.Req
   same-state : stateOf words memory after out ≡ stateOf words memory input out
   same-state = kept words memory input after out r size (h .asked) leaves
 
-  pub led-still : Led (stateOf words memory after out)
-  led-still = subst Led (sym same-state) (h .led)
+  pub still-from-start : FromStart (stateOf words memory after out)
+  still-from-start = subst FromStart (sym same-state) (h .led)
 
   module _ (words′ memory′ input′ out′ : List ℕ) (r′ : requests.Request) (a : Answer) (is : stateOf words′ memory′ input′ out′ ≡ stepped (replaying size room) (stateOf words memory after out) a) where
-    pub driven-next : Asks r′ (placeOf memory′) input′ out′ (asks size (stateOf words′ memory′ input′ out′)) → Led (stateOf words′ memory′ input′ out′) → Driven size room words′ memory′ input′ out′ r′
+    pub driven-next : Asks r′ (placeOf memory′) input′ out′ (asks size (stateOf words′ memory′ input′ out′)) → FromStart (stateOf words′ memory′ input′ out′) → Driven size room words′ memory′ input′ out′ r′
     driven-next asked led = record {
       reached = rw (is, same-state) (reached-next (replaying size room) (stateOf words memory input out) a (h .reached));
       led = led;

@@ -22,7 +22,7 @@ use Rattle.replay_machine.specs.Replaying.{Between, State, starting, cou
 
 -- How many bytes it may still read, three for each of them, and those that it has read and not taken.
 bytesLeft : Between → ℕ
-bytesLeft b = 3 * (4 * mostRecords - (4 * b .done + length (b .held))) + length (b .held)
+bytesLeft b = 3 * (4 * mostRecords - (4 * b .done + length (b .buffered))) + length (b .buffered)
 
 pub left : State → ℕ
 left starting = 12 * mostRecords + 7
@@ -54,18 +54,18 @@ module _ (size room : ℕ) where
   onward-falls : (b : Between) → left (onward room b) < bytesLeft b + 4
   unfolding left bytesLeft onward taking blockOutcome outcomeOf BlocksGoOn
   onward-falls b =
-      let o = blockOutcome (b .all) (b .done) (b .run) (b .held) room in
-      let within = blocks-go-on (b .all) (b .done) (b .run) (b .held) room in
+      let o = blockOutcome (b .all) (b .done) (b .run) (b .buffered) room in
+      let within = blocks-go-on (b .all) (b .done) (b .run) (b .buffered) room in
       by-bool (eqb (o .taken) 0)
       (λ e. rw e (omega arith))
       (λ e. by-bool (o .going && ltb (b .done + o .taken) mostRecords)
-      (λ g. rw (e, g) (omega (arith, eqb-false (o .taken) 0 e, within .inside, length-drop (4 * o .taken) (b .held))))
+      (λ g. rw (e, g) (omega (arith, eqb-false (o .taken) 0 e, within .inside, length-drop (4 * o .taken) (b .buffered))))
       (λ g. rw (e, g) (omega arith)))
 
   more-falls : (b : Between) (l : List ℕ) → 1 ≤ length l → length l ≤ mostToRead size b
-      → left (onward room (record { all = b .all; done = b .done; run = b .run; held = b .held ++ l })) < bytesLeft b + 3
+      → left (onward room (record { all = b .all; done = b .done; run = b .run; buffered = b .buffered ++ l })) < bytesLeft b + 3
   unfolding mostToRead bytesLeft
-  more-falls b l one most = omega (arith, onward-falls (record { all = b .all; done = b .done; run = b .run; held = b .held ++ l }), length-append (b .held) l)
+  more-falls b l one most = omega (arith, onward-falls (record { all = b .all; done = b .done; run = b .run; buffered = b .buffered ++ l }), length-append (b .buffered) l)
 
   filled-falls : (b : Between) (a : Answer) → left (filled room b (heardRead (mostToRead size b) a)) < bytesLeft b + 3
   unfolding left filled heardRead

@@ -15,7 +15,7 @@ use Rattle.model.specs.declared.Run.{Run}
 use Rattle.model.specs.Words.{ones}
 use Rattle.model.specs.Refusals.{startRefusal}
 use Rattle.model.specs.Steps.{startState}
-use Rattle.whole_runs.specs.Listing.{mostRecords, records, goesOnBehind, stateAfterRecords, started, listing}
+use Rattle.whole_runs.specs.Listing.{mostRecords, records, goesOnAfterAll, stateAfterRecords, started, listing}
 use Rattle.whole_runs.proofs.Blocks.{past-limit, block-by-block, goes-on-by-block, states-by-block}
 use Rattle.replay_machine.specs.Replaying.{Between}
 use Rattle.replay_machine.specs.Printing.{linesOf, goesOnAfter, isStart}
@@ -29,13 +29,13 @@ pub record Going (read written : List ℕ) (b : Between) : Type 0 where
   pub below : length rest ≤ 4 * mostRecords
   pub less : b .done < mostRecords
   pub state : b .run ≡ stateAfterRecords (startState n ones) (take (4 * b .done) rest)
-  pub bytes : b .held ≡ drop (4 * b .done) rest
-  pub goes : goesOnBehind (b .all) (startState n ones) (take (4 * b .done) rest) ≡ true
+  pub bytes : b .buffered ≡ drop (4 * b .done) rest
+  pub goes : goesOnAfterAll (b .all) (startState n ones) (take (4 * b .done) rest) ≡ true
   pub lines : written ≡ records (b .all) 0 (startState n ones) (take (4 * b .done) rest)
 
 -- Nothing is taken yet.
-pub begun-going : (all : Bool) (n : ℕ) → startRefusal n ones ≡ none → Going (n ∷ []) [] (record { all = all; done = 0; run = startState n ones; held = [] })
-unfolding stateAfterRecords goesOnBehind records
+pub begun-going : (all : Bool) (n : ℕ) → startRefusal n ones ≡ none → Going (n ∷ []) [] (record { all = all; done = 0; run = startState n ones; buffered = [] })
+unfolding stateAfterRecords goesOnAfterAll records
 begun-going all n ok = record { n = n; rest = []; is-read = refl; accepted = ok; taken = omega arith; below = omega arith; less = omega arith; state = refl; bytes = refl; goes = refl; lines = refl }
 
 module _ (read written : List ℕ) (b : Between) (g : Going read written b) where
@@ -51,24 +51,24 @@ module _ (read written : List ℕ) (b : Between) (g : Going read written b) wher
   part-length : length part ≡ d
   part-length = length-take-le d (g .rest) (g .taken)
 
-  pub held-length : length (g .rest) ≡ d + length (b .held)
-  held-length = omega (arith, g .taken, ap length (g .bytes), length-drop d (g .rest))
+  pub buffered-length : length (g .rest) ≡ d + length (b .buffered)
+  buffered-length = omega (arith, g .taken, ap length (g .bytes), length-drop d (g .rest))
 
-  pub read-length : length read ≡ 1 + (d + length (b .held))
-  read-length = omega (arith, ap length (g .is-read), held-length)
+  pub read-length : length read ≡ 1 + (d + length (b .buffered))
+  read-length = omega (arith, ap length (g .is-read), buffered-length)
 
   -- What is still to be written.
-  pub owed : (unread : List ℕ) → listing (b .all) (read ++ unread) ≡ written ++ records (b .all) (b .done) (b .run) (b .held ++ unread)
+  pub owed : (unread : List ℕ) → listing (b .all) (read ++ unread) ≡ written ++ records (b .all) (b .done) (b .run) (b .buffered ++ unread)
   unfolding listing started
   owed unread =
       let zero-then : 0 + b .done ≡ b .done = omega arith in
       rw (g .is-read, g .accepted)
-      (ap (records (b .all) 0 first) (ap (λ (l : List ℕ). l ++ unread) (sym (take-append-drop d (g .rest)) ∙ ap (λ (l : List ℕ). part ++ l) (sym (g .bytes))) ∙ append-assoc part (b .held) unread)
-      ∙ block-by-block (b .all) (b .done) 0 first part (b .held ++ unread) part-length
+      (ap (records (b .all) 0 first) (ap (λ (l : List ℕ). l ++ unread) (sym (take-append-drop d (g .rest)) ∙ ap (λ (l : List ℕ). part ++ l) (sym (g .bytes))) ∙ append-assoc part (b .buffered) unread)
+      ∙ block-by-block (b .all) (b .done) 0 first part (b .buffered ++ unread) part-length
       ∙ rw (g .goes, ← g .lines, ← g .state, zero-then))
 
   -- More is read.
-  pub going-filled : (l : List ℕ) → length (g .rest) + length l ≤ 4 * mostRecords → Going (read ++ l) written (record { all = b .all; done = b .done; run = b .run; held = b .held ++ l })
+  pub going-filled : (l : List ℕ) → length (g .rest) + length l ≤ 4 * mostRecords → Going (read ++ l) written (record { all = b .all; done = b .done; run = b .run; buffered = b .buffered ++ l })
   going-filled l below = record {
     n = g .n;
     rest = g .rest ++ l;
@@ -84,9 +84,9 @@ module _ (read written : List ℕ) (b : Between) (g : Going read written b) wher
   }
 
   -- Records are taken.
-  module _ (k : ℕ) (fits : 4 * k ≤ length (b .held)) where
+  module _ (k : ℕ) (fits : 4 * k ≤ length (b .buffered)) where
     abbrev more : List ℕ
-    more = take (4 * k) (b .held)
+    more = take (4 * k) (b .buffered)
 
     abbrev then-run : Run
     then-run = stateAfterRecords (b .run) more
@@ -95,7 +95,7 @@ module _ (read written : List ℕ) (b : Between) (g : Going read written b) wher
     then-lines = records (b .all) (b .done) (b .run) more
 
     more-length : length more ≡ 4 * k
-    more-length = length-take-le (4 * k) (b .held) fits
+    more-length = length-take-le (4 * k) (b .buffered) fits
 
     both : take (4 * (b .done + k)) (g .rest) ≡ part ++ more
     both =
@@ -104,21 +104,21 @@ module _ (read written : List ℕ) (b : Between) (g : Going read written b) wher
 
     -- What is still to be written then.
     pub owed-then : (unread : List ℕ) → listing (b .all) (read ++ unread)
-        ≡ written ++ (then-lines ++ pick (goesOnBehind (b .all) (b .run) more) (records (b .all) (b .done + k) then-run (drop (4 * k) (b .held) ++ unread)) [])
+        ≡ written ++ (then-lines ++ pick (goesOnAfterAll (b .all) (b .run) more) (records (b .all) (b .done + k) then-run (drop (4 * k) (b .buffered) ++ unread)) [])
     owed-then unread =
         owed unread
         ∙ ap (λ (l : List ℕ). written ++ records (b .all) (b .done) (b .run) l)
-        (ap (λ (l : List ℕ). l ++ unread) (sym (take-append-drop (4 * k) (b .held))) ∙ append-assoc more (drop (4 * k) (b .held)) unread)
-        ∙ ap (λ (l : List ℕ). written ++ l) (block-by-block (b .all) k (b .done) (b .run) more (drop (4 * k) (b .held) ++ unread) more-length)
+        (ap (λ (l : List ℕ). l ++ unread) (sym (take-append-drop (4 * k) (b .buffered))) ∙ append-assoc more (drop (4 * k) (b .buffered)) unread)
+        ∙ ap (λ (l : List ℕ). written ++ l) (block-by-block (b .all) k (b .done) (b .run) more (drop (4 * k) (b .buffered) ++ unread) more-length)
 
-    pub going-taken : goesOnBehind (b .all) (b .run) more ≡ true → b .done + k < mostRecords
-        → Going read (written ++ then-lines) (record { all = b .all; done = b .done + k; run = then-run; held = drop (4 * k) (b .held) })
+    pub going-taken : goesOnAfterAll (b .all) (b .run) more ≡ true → b .done + k < mostRecords
+        → Going read (written ++ then-lines) (record { all = b .all; done = b .done + k; run = then-run; buffered = drop (4 * k) (b .buffered) })
     going-taken on less = record {
       n = g .n;
       rest = g .rest;
       is-read = g .is-read;
       accepted = g .accepted;
-      taken = omega (arith, held-length);
+      taken = omega (arith, buffered-length);
       below = g .below;
       less = less;
       state = ap (λ (r : Run). stateAfterRecords r more) (g .state) ∙ sym (states-by-block (b .done) first part more part-length) ∙ ap (stateAfterRecords first) (sym both);
@@ -131,17 +131,17 @@ module _ (read written : List ℕ) (b : Between) (g : Going read written b) wher
     }
 
     -- Nothing more is written where the replay stops.
-    pub owed-last : (goesOnBehind (b .all) (b .run) more && ltb (b .done + k) mostRecords) ≡ false → (unread : List ℕ) → listing (b .all) (read ++ unread) ≡ written ++ then-lines
-    owed-last stops unread = by-bool (goesOnBehind (b .all) (b .run) more)
+    pub owed-last : (goesOnAfterAll (b .all) (b .run) more && ltb (b .done + k) mostRecords) ≡ false → (unread : List ℕ) → listing (b .all) (read ++ unread) ≡ written ++ then-lines
+    owed-last stops unread = by-bool (goesOnAfterAll (b .all) (b .run) more)
         (λ e. owed-then unread
-        ∙ rw (e, past-limit (b .all) (b .done + k) then-run (drop (4 * k) (b .held) ++ unread) (omega (arith, ltb-false (b .done + k) mostRecords (rw e at stops))))
+        ∙ rw (e, past-limit (b .all) (b .done + k) then-run (drop (4 * k) (b .buffered) ++ unread) (omega (arith, ltb-false (b .done + k) mostRecords (rw e at stops))))
         (ap (λ (l : List ℕ). written ++ l) (append-nil then-lines)))
         (λ e. owed-then unread ∙ rw e (ap (λ (l : List ℕ). written ++ l) (append-nil then-lines)))
 
   -- Where less than a record is held.
-  module _ (few : length (b .held) < 4) where
-    short-goes-on : (s : Run) (l : List ℕ) → length l < 4 → goesOnBehind (b .all) s l ≡ true
-    unfolding goesOnBehind
+  module _ (few : length (b .buffered) < 4) where
+    short-goes-on : (s : Run) (l : List ℕ) → length l < 4 → goesOnAfterAll (b .all) s l ≡ true
+    unfolding goesOnAfterAll
     short-goes-on s [] h = refl
     short-goes-on s (x ∷ []) h = refl
     short-goes-on s (x ∷ y ∷ []) h = refl
@@ -151,13 +151,13 @@ module _ (read written : List ℕ) (b : Between) (g : Going read written b) wher
     pub lines-so-far : written ≡ linesOf (b .all) read
     unfolding linesOf listing started
     lines-so-far =
-        let whole : 4 * (length (g .rest) / 4) ≡ d = omega (arith, held-length, few) in
+        let whole : 4 * (length (g .rest) / 4) ≡ d = omega (arith, buffered-length, few) in
         g .lines ∙ sym (rw (g .is-read, whole, g .accepted))
 
     pub goes-on-after : goesOnAfter (b .all) read ≡ true
     unfolding goesOnAfter isStart
     goes-on-after =
         rw (g .is-read, g .accepted)
-        (ap (goesOnBehind (b .all) first) (sym (take-append-drop d (g .rest)) ∙ ap (λ (l : List ℕ). part ++ l) (sym (g .bytes)))
-        ∙ goes-on-by-block (b .all) (b .done) first part (b .held) part-length
-        ∙ rw (g .goes, short-goes-on (stateAfterRecords first part) (b .held) few))
+        (ap (goesOnAfterAll (b .all) first) (sym (take-append-drop d (g .rest)) ∙ ap (λ (l : List ℕ). part ++ l) (sym (g .bytes)))
+        ∙ goes-on-by-block (b .all) (b .done) first part (b .buffered) part-length
+        ∙ rw (g .goes, short-goes-on (stateAfterRecords first part) (b .buffered) few))

@@ -15,57 +15,57 @@ use Rattle.listing.specs.Lines.{longestLine}
 use Rattle.words.specs.Layout.{stateSize}
 use Rattle.replay_machine.specs.declared.place.Place.{Place}
 use Rattle.replay_machine.specs.Replaying.{State, starting, counted, opening, reading, printing, ending, failing, stopped}
-use Rattle.replay_machine.specs.Standing.{leastInput, bitOf, placeIn, roomy, inside, byPhase, stateIn, betweenIn, plainPlace, textPlace, Holds, Lies}
+use Rattle.replay_machine.specs.Standing.{leastInput, bitOf, placeIn, enoughRoom, inside, byPhase, stateIn, betweenIn, plainPlace, textPlace, Holds, Lies}
 
-module _ (words input out : ℕ) (h : roomy words input out ≡ true) where
-  pub roomy-words : words ≡ stateSize
-  unfolding roomy
-  roomy-words = eqb-true words stateSize (and-left (eqb words stateSize) (leb leastInput input && leb longestLine out) h)
+module _ (words input out : ℕ) (h : enoughRoom words input out ≡ true) where
+  pub enough-words : words ≡ stateSize
+  unfolding enoughRoom
+  enough-words = eqb-true words stateSize (and-left (eqb words stateSize) (leb leastInput input && leb longestLine out) h)
 
-  pub roomy-input : 8 ≤ input
-  unfolding roomy
-  roomy-input = leb-true leastInput input (and-left (leb leastInput input) (leb longestLine out) (and-right (eqb words stateSize) (leb leastInput input && leb longestLine out) h))
+  pub enough-input : 8 ≤ input
+  unfolding enoughRoom
+  enough-input = leb-true leastInput input (and-left (leb leastInput input) (leb longestLine out) (and-right (eqb words stateSize) (leb leastInput input && leb longestLine out) h))
 
-  pub roomy-out : longestLine ≤ out
-  unfolding roomy
-  roomy-out = leb-true longestLine out (and-right (leb leastInput input) (leb longestLine out) (and-right (eqb words stateSize) (leb leastInput input && leb longestLine out) h))
+  pub enough-out : longestLine ≤ out
+  unfolding enoughRoom
+  enough-out = leb-true longestLine out (and-right (leb leastInput input) (leb longestLine out) (and-right (eqb words stateSize) (leb leastInput input && leb longestLine out) h))
 
 -- The numbers that lie inside.
 pub record Inside (p : Place) (input out : ℕ) : Type 0 where
   pub few : p .count < mostRecords
   pub text : p .written ≤ out
-  pub bytes : p .held ≤ input
-  pub within : p .from + p .held ≤ input
-  pub front : (p .phase ≡ 4 → ⊥) → (p .held < 4) × (p .from ≡ 0)
+  pub bytes : p .buffered ≤ input
+  pub within : p .from + p .buffered ≤ input
+  pub front : (p .phase ≡ 4 → ⊥) → (p .buffered < 4) × (p .from ≡ 0)
 
 module _ (p : Place) (input out : ℕ) where
   abbrev last-test : Bool
-  last-test = pick (eqb (p .phase) 4) true (ltb (p .held) 4 && eqb (p .from) 0)
+  last-test = pick (eqb (p .phase) 4) true (ltb (p .buffered) 4 && eqb (p .from) 0)
 
   abbrev from-test : Bool
-  from-test = leb (p .from) (input - p .held)
+  from-test = leb (p .from) (input - p .buffered)
 
   pub inside-out : inside p input out ≡ true → Inside p input out
   unfolding inside
   inside-out h =
-      let h1 = and-right (ltb (p .count) mostRecords) (leb (p .written) out && (leb (p .held) input && (from-test && last-test))) h in
-      let h2 = and-right (leb (p .written) out) (leb (p .held) input && (from-test && last-test)) h1 in
-      let h3 = and-right (leb (p .held) input) (from-test && last-test) h2 in
-      let bytes = leb-true (p .held) input (and-left (leb (p .held) input) (from-test && last-test) h2) in
-      let from = leb-true (p .from) (input - p .held) (and-left from-test last-test h3) in
+      let h1 = and-right (ltb (p .count) mostRecords) (leb (p .written) out && (leb (p .buffered) input && (from-test && last-test))) h in
+      let h2 = and-right (leb (p .written) out) (leb (p .buffered) input && (from-test && last-test)) h1 in
+      let h3 = and-right (leb (p .buffered) input) (from-test && last-test) h2 in
+      let bytes = leb-true (p .buffered) input (and-left (leb (p .buffered) input) (from-test && last-test) h2) in
+      let from = leb-true (p .from) (input - p .buffered) (and-left from-test last-test h3) in
       let last = and-right from-test last-test h3 in record {
-        few = ltb-true (p .count) mostRecords (and-left (ltb (p .count) mostRecords) (leb (p .written) out && (leb (p .held) input && (from-test && last-test))) h);
-        text = leb-true (p .written) out (and-left (leb (p .written) out) (leb (p .held) input && (from-test && last-test)) h1);
+        few = ltb-true (p .count) mostRecords (and-left (ltb (p .count) mostRecords) (leb (p .written) out && (leb (p .buffered) input && (from-test && last-test))) h);
+        text = leb-true (p .written) out (and-left (leb (p .written) out) (leb (p .buffered) input && (from-test && last-test)) h1);
         bytes = bytes;
         within = omega arith;
-        front = λ ne. let both : (ltb (p .held) 4 && eqb (p .from) 0) ≡ true = rw (ne-eqb (p .phase) 4 ne) at last in
-            (ltb-true (p .held) 4 (and-left (ltb (p .held) 4) (eqb (p .from) 0) both), eqb-true (p .from) 0 (and-right (ltb (p .held) 4) (eqb (p .from) 0) both));
+        front = λ ne. let both : (ltb (p .buffered) 4 && eqb (p .from) 0) ≡ true = rw (ne-eqb (p .phase) 4 ne) at last in
+            (ltb-true (p .buffered) 4 (and-left (ltb (p .buffered) 4) (eqb (p .from) 0) both), eqb-true (p .from) 0 (and-right (ltb (p .buffered) 4) (eqb (p .from) 0) both));
       }
 
-  pub inside-in : p .count < mostRecords → p .written ≤ out → p .from + p .held ≤ input → last-test ≡ true → inside p input out ≡ true
+  pub inside-in : p .count < mostRecords → p .written ≤ out → p .from + p .buffered ≤ input → last-test ≡ true → inside p input out ≡ true
   unfolding inside
   inside-in few text within last =
-      rw (lt-ltb (p .count) mostRecords few, le-leb (p .written) out text, le-leb (p .held) input (omega arith), le-leb (p .from) (input - p .held) (omega arith), last)
+      rw (lt-ltb (p .count) mostRecords few, le-leb (p .written) out text, le-leb (p .buffered) input (omega arith), le-leb (p .from) (input - p .buffered) (omega arith), last)
 
 module _ (p : Place) (words input out : List ℕ) (h : Holds p words input out) where
   pub in-lists : Inside p (length input) (length out)
@@ -115,9 +115,9 @@ module _ (p : Place) (words input out : List ℕ) (h : Holds p words input out) 
 -- Numbers that do not lie inside.
 pub outside-stopped : (p : Place) (words input out : List ℕ) → inside p (length input) (length out) ≡ false → stateIn p words input out ≡ stopped
 unfolding stateIn
-outside-stopped p words input out h = by-bool (roomy (length words) (length input) (length out)) (λ e. rw (e, h)) (λ e. rw e)
+outside-stopped p words input out h = by-bool (enoughRoom (length words) (length input) (length out)) (λ e. rw (e, h)) (λ e. rw e)
 
-pub narrow-stopped : (p : Place) (words input out : List ℕ) → roomy (length words) (length input) (length out) ≡ false → stateIn p words input out ≡ stopped
+pub narrow-stopped : (p : Place) (words input out : List ℕ) → enoughRoom (length words) (length input) (length out) ≡ false → stateIn p words input out ≡ stopped
 unfolding stateIn
 narrow-stopped p words input out h = rw h
 
@@ -127,7 +127,7 @@ unfolding textPlace
 text-inside k written input out h =
     inside-in (textPlace k written) input out (omega arith) h (omega arith) (by-bool (eqb k 4) (λ e. rw e) (λ e. rw e))
 
-module _ (written : ℕ) (words input out : List ℕ) (room : roomy (length words) (length input) (length out) ≡ true) (h : written ≤ length out) where
+module _ (written : ℕ) (words input out : List ℕ) (room : enoughRoom (length words) (length input) (length out) ≡ true) (h : written ≤ length out) where
   pub text-ending : stateIn (textPlace 5 written) words input out ≡ ending (take written out)
   unfolding textPlace
   text-ending = is-ending (textPlace 5 written) words input out (room, text-inside 5 written (length input) (length out) h) refl
@@ -147,7 +147,7 @@ module _ (written : ℕ) (words input out : List ℕ) (room : roomy (length word
   text-starting = is-starting (textPlace 0 written) words input out (room, text-inside 0 written (length input) (length out) h) refl
 
 -- A place with nothing but a way.
-module _ (all : Bool) (words input out : List ℕ) (room : roomy (length words) (length input) (length out) ≡ true) where
+module _ (all : Bool) (words input out : List ℕ) (room : enoughRoom (length words) (length input) (length out) ≡ true) where
   plain-inside : (k : ℕ) → inside (plainPlace k all) (length input) (length out) ≡ true
   unfolding plainPlace
   plain-inside k = inside-in (plainPlace k all) (length input) (length out) (omega arith) (omega arith) (omega arith) (by-bool (eqb k 4) (λ e. rw e) (λ e. rw e))
@@ -171,7 +171,7 @@ bit-there true = refl
 bit-there false = refl
 
 pub stored : (l : List ℕ) (p : Place) → 6 ≤ length l
-    → placeIn (set (set (set (set (set (set l 0 (p .phase)) 1 (bitOf (p .all))) 2 (p .count)) 3 (p .from)) 4 (p .held)) 5 (p .written)) ≡ p
+    → placeIn (set (set (set (set (set (set l 0 (p .phase)) 1 (bitOf (p .all))) 2 (p .count)) 3 (p .from)) 4 (p .buffered)) 5 (p .written)) ≡ p
 unfolding placeIn
 stored [] p h = absurd (omega arith)
 stored (a ∷ []) p h = absurd (omega arith)

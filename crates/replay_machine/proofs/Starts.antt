@@ -83,12 +83,12 @@ first-byte k (suc at) [] h = nothing-of k
 first-byte k (suc at) (x ∷ l) h = first-byte k at l h
 
 -- The bytes that are read after those that are held at the front.
-module _ (p : Place) (words input : List ℕ) (front : p .from ≡ 0) (fits : p .held ≤ length input) where
-  pub most-same : min (length input) (4 * (mostRecords - p .count)) - p .held ≡ mostToRead (length input) (betweenIn p words input)
+module _ (p : Place) (words input : List ℕ) (front : p .from ≡ 0) (fits : p .buffered ≤ length input) where
+  pub most-same : min (length input) (4 * (mostRecords - p .count)) - p .buffered ≡ mostToRead (length input) (betweenIn p words input)
   unfolding mostToRead betweenIn
-  most-same = rw (front, length-take-le (p .held) input fits)
+  most-same = rw (front, length-take-le (p .buffered) input fits)
 
-  pub more-held : (more : ℕ) → betweenIn (holding p more) words input
-      ≡ record { all = betweenIn p words input .all; done = betweenIn p words input .done; run = betweenIn p words input .run; held = betweenIn p words input .held ++ take more (drop (p .held) input) }
+  pub more-buffered : (more : ℕ) → betweenIn (holding p more) words input
+      ≡ record { all = betweenIn p words input .all; done = betweenIn p words input .done; run = betweenIn p words input .run; buffered = betweenIn p words input .buffered ++ take more (drop (p .buffered) input) }
   unfolding betweenIn holding
-  more-held more = rw (front, take-add (p .held) more input)
+  more-buffered more = rw (front, take-add (p .buffered) more input)

@@ -17,7 +17,7 @@ use Rattle.whole_runs.specs.Outcomes.{startOutcome}
 use Rattle.whole_runs.specs.WholeRuns.{Reachable}
 use Rattle.whole_runs.proofs.WholeRuns.{reachable-start}
 use Rattle.replay_in_place.specs.Taken.{BlockOutcome, blockOutcome}
-use Rattle.replay_in_place.proofs.Turns.{block-reachable}
+use Rattle.replay_in_place.proofs.Iterations.{block-reachable}
 use Rattle.machines.specs.declared.Answer as answers
 use Rattle.machines.specs.declared.Request as requests
 use Rattle.machines.specs.declared.Request.the-variants as request
@@ -25,7 +25,7 @@ use Rattle.machines.specs.Machines.{Answer, Number, Bytes, End, Done, Failed, s
 use Rattle.machines.specs.Forms.{requestOf, answerOf, Placed, GoesTo, Asks}
 use Rattle.replay_machine.specs.declared.place.Place.{Place}
 use Rattle.replay_machine.specs.Replaying.{Between, State, starting, counted, opening, reading, printing, ending, failing, stopped, asks, taking, onward, begun, opened, filled, wrote, next, replaying}
-use Rattle.replay_machine.specs.Standing.{placeIn, placeOf, stateIn, stateOf, Led}
+use Rattle.replay_machine.specs.Standing.{placeIn, placeOf, stateIn, stateOf, FromStart}
 
 module _ (words memory input out : List ℕ) where
   pub state-of : 6 ≤ length memory → (p : Place) → p ≡ placeIn memory → stateOf words memory input out ≡ stateIn p words input out
@@ -39,13 +39,13 @@ module _ (words memory input out : List ℕ) where
   -- Where a state stands, its place is that of the numbers.
   module _ (p : Place) (is-p : p ≡ placeIn memory) (stands : stateOf words memory input out ≡ stateIn p words input out) where
     pub stepped-there : (size room : ℕ) (form : answers.Answer)
-        → stepped (replaying size room) (stateIn p words input out) (answerOf form (p .held) input) ≡ stepped (replaying size room) (stateOf words memory input out) (answerOf form (placeOf memory) input)
+        → stepped (replaying size room) (stateIn p words input out) (answerOf form (p .buffered) input) ≡ stepped (replaying size room) (stateOf words memory input out) (answerOf form (placeOf memory) input)
     unfolding placeOf
-    stepped-there size room form = rw stands (ap (λ (q : Place). stepped (replaying size room) (stateIn p words input out) (answerOf form (q .held) input)) is-p)
+    stepped-there size room form = rw stands (ap (λ (q : Place). stepped (replaying size room) (stateIn p words input out) (answerOf form (q .buffered) input)) is-p)
 
-    pub asks-there : (r : requests.Request) (size : ℕ) → Asks r (p .held) input out (asks size (stateIn p words input out)) → Asks r (placeOf memory) input out (asks size (stateOf words memory input out))
+    pub asks-there : (r : requests.Request) (size : ℕ) → Asks r (p .buffered) input out (asks size (stateIn p words input out)) → Asks r (placeOf memory) input out (asks size (stateOf words memory input out))
     unfolding placeOf
-    asks-there r size h = rw stands (subst (λ (q : Place). Asks r (q .held) input out (asks size (stateIn p words input out))) is-p h)
+    asks-there r size h = rw stands (subst (λ (q : Place). Asks r (q .buffered) input out (asks size (stateIn p words input out))) is-p h)
 
   -- Lists in which no state stands.
   module _ (none-stands : stateOf words memory input out ≡ stopped) where
@@ -62,57 +62,57 @@ by-refusal : {P : Type 0} (o : Option Refusal) → (o ≡ none → P) → ((x : 
 by-refusal none a b = a refl
 by-refusal (some x) a b = b x refl
 
-begun-led : (all : Bool) (n : ℕ) → Led (begun all n (startRefusal n ones))
-unfolding begun Led startOutcome
-begun-led all n = by-refusal (startRefusal n ones)
+begun-from-start : (all : Bool) (n : ℕ) → FromStart (begun all n (startRefusal n ones))
+unfolding begun FromStart startOutcome
+begun-from-start all n = by-refusal (startRefusal n ones)
     (λ ok. rw ok (rw ok at (reachable-start n ones ok)))
     (λ why e. rw e tt)
 
-onward-led : (room : ℕ) (b : Between) → Reachable (b .run) → Led (onward room b)
-unfolding onward taking Led
-onward-led room b v =
-    let o = blockOutcome (b .all) (b .done) (b .run) (b .held) room in
+onward-from-start : (room : ℕ) (b : Between) → Reachable (b .run) → FromStart (onward room b)
+unfolding onward taking FromStart
+onward-from-start room b v =
+    let o = blockOutcome (b .all) (b .done) (b .run) (b .buffered) room in
     by-bool (eqb (o .taken) 0)
     (λ e. rw e v)
     (λ e. by-bool (o .going && ltb (b .done + o .taken) 1_000_000_000)
-    (λ g. rw (e, g) (block-reachable (b .run) v (b .all) (b .done) (b .held) room (o .run) refl))
+    (λ g. rw (e, g) (block-reachable (b .run) v (b .all) (b .done) (b .buffered) room (o .run) refl))
     (λ g. rw (e, g) tt))
 
-opened-led : (all : Bool) (a : Answer) → Led (opened all a)
-unfolding opened Led
-opened-led all (Bytes l) = begun-led all (getD l 0 0)
-opened-led all End = tt
-opened-led all (Number k) = tt
-opened-led all Done = tt
-opened-led all Failed = tt
+opened-from-start : (all : Bool) (a : Answer) → FromStart (opened all a)
+unfolding opened FromStart
+opened-from-start all (Bytes l) = begun-from-start all (getD l 0 0)
+opened-from-start all End = tt
+opened-from-start all (Number k) = tt
+opened-from-start all Done = tt
+opened-from-start all Failed = tt
 
-filled-led : (room : ℕ) (b : Between) (a : Answer) → Reachable (b .run) → Led (filled room b a)
-unfolding filled Led
-filled-led room b (Bytes l) v = onward-led room _ v
-filled-led room b End v = tt
-filled-led room b (Number k) v = tt
-filled-led room b Done v = tt
-filled-led room b Failed v = tt
+filled-from-start : (room : ℕ) (b : Between) (a : Answer) → Reachable (b .run) → FromStart (filled room b a)
+unfolding filled FromStart
+filled-from-start room b (Bytes l) v = onward-from-start room _ v
+filled-from-start room b End v = tt
+filled-from-start room b (Number k) v = tt
+filled-from-start room b Done v = tt
+filled-from-start room b Failed v = tt
 
-wrote-led : (then : State) (a : Answer) → Led then → Led (wrote then a)
-unfolding wrote Led
-wrote-led then Done v = v
-wrote-led then (Number k) v = tt
-wrote-led then (Bytes l) v = tt
-wrote-led then End v = tt
-wrote-led then Failed v = tt
+wrote-from-start : (then : State) (a : Answer) → FromStart then → FromStart (wrote then a)
+unfolding wrote FromStart
+wrote-from-start then Done v = v
+wrote-from-start then (Number k) v = tt
+wrote-from-start then (Bytes l) v = tt
+wrote-from-start then End v = tt
+wrote-from-start then Failed v = tt
 
-next-led : (room : ℕ) (s : State) (a : Answer) → Led s → Led (next room s a)
-unfolding next Led
-next-led room starting a v = tt
-next-led room (counted single) a v = tt
-next-led room (opening all) a v = opened-led all a
-next-led room (reading b) a v = filled-led room b a v
-next-led room (printing b lines) a v = wrote-led (onward room b) a (onward-led room b v)
-next-led room (ending lines) a v = wrote-led stopped a tt
-next-led room (failing text) a v = tt
-next-led room stopped a v = tt
+next-from-start : (room : ℕ) (s : State) (a : Answer) → FromStart s → FromStart (next room s a)
+unfolding next FromStart
+next-from-start room starting a v = tt
+next-from-start room (counted single) a v = tt
+next-from-start room (opening all) a v = opened-from-start all a
+next-from-start room (reading b) a v = filled-from-start room b a v
+next-from-start room (printing b lines) a v = wrote-from-start (onward room b) a (onward-from-start room b v)
+next-from-start room (ending lines) a v = wrote-from-start stopped a tt
+next-from-start room (failing text) a v = tt
+next-from-start room stopped a v = tt
 
-pub led-on : (size room : ℕ) (s : State) (a : Answer) → Led s → Led (stepped (replaying size room) s a)
+pub from-start-on : (size room : ℕ) (s : State) (a : Answer) → FromStart s → FromStart (stepped (replaying size room) s a)
 unfolding stepped
-led-on size room s a v = next-led room s (heard (asks size s) a) v
+from-start-on size room s a v = next-from-start room s (heard (asks size s) a) v

@@ -10,8 +10,8 @@ use Rattle.model.specs.declared.Refusal.{Refusal}
 use Rattle.model.specs.Words.{ones}
 use Rattle.model.specs.Refusals.{startRefusal}
 use Rattle.model.specs.Steps.{startState}
-use Rattle.whole_runs.specs.Listing.{mostRecords, asksForAll, goesOnBehind, listing}
-use Rattle.machines.specs.Machines.{Request, Read, Stop, Answer, Number, Bytes, End, Done, Failed, Machine, Exchange, brought, stateAfter, exchanges, asked, writtenOf, saidOf, readOf}
+use Rattle.whole_runs.specs.Listing.{mostRecords, asksForAll, goesOnAfterAll, listing}
+use Rattle.machines.specs.Machines.{Request, Read, Stop, Answer, Number, Bytes, End, Done, Failed, Machine, Exchange, brought, stateAfter, exchanges, asked, writtenOf, errorTextOf, readOf}
 use Rattle.replay_machine.specs.Replaying.{State, replaying}
 
 -- How many words the program was started with, its own name among them.
@@ -52,7 +52,7 @@ isStart (some why) = false
 
 unfoldable pub goesOnAfter : Bool → List ℕ → Bool
 goesOnAfter all [] = true
-goesOnAfter all (n ∷ l) = isStart (startRefusal n ones) && goesOnBehind all (startState n ones) l
+goesOnAfter all (n ∷ l) = isStart (startRefusal n ones) && goesOnAfterAll all (startState n ones) l
 
 -- Bytes that may follow those that were read: any, until the input has ended.
 abbrev pub MayFollow : List Exchange → List ℕ → Type 0
@@ -78,6 +78,6 @@ module _ (size room : ℕ) (answers : List Answer) where
     -- Before more is read, the lines of all that was read are written.
     pub before-reading : (most : ℕ) → request ≡ Read most → written ≡ linesOf (wayOf talk) (readOf talk)
     -- Where it stops and no failure was reported, the whole listing is written, whatever may follow.
-    pub at-the-stop : request ≡ Stop → saidOf (asked machine answers) ≡ [] → (unread : List ℕ) → MayFollow talk unread → written ≡ listing (wayOf talk) (readOf talk ++ unread)
+    pub at-the-stop : request ≡ Stop → errorTextOf (asked machine answers) ≡ [] → (unread : List ℕ) → MayFollow talk unread → written ≡ listing (wayOf talk) (readOf talk ++ unread)
     -- It asks to read nothing past the end, a refusal that stops it, or record 1,000,000,000.
     pub no-further : (most : ℕ) → request ≡ Read most → (hasEnded talk ≡ false) × (goesOnAfter (wayOf talk) (readOf talk) ≡ true) × (length (readOf talk) + most ≤ 1 + 4 * mostRecords)

@@ -27,10 +27,10 @@ Lying (Stay q) words input out = Unit {0}
 -- The state after an answer to a read, and to a write of lines, with this much room for lines.
 unfoldable pub readState : Place → List ℕ → List ℕ → ℕ → Answer → State
 readState p words input room answer =
-    filled room (betweenIn p words input) (heardRead (mostToRead (length input) (betweenIn p words input)) (answerOf answer (p .held) input))
+    filled room (betweenIn p words input) (heardRead (mostToRead (length input) (betweenIn p words input)) (answerOf answer (p .buffered) input))
 
 unfoldable pub linesState : Place → List ℕ → List ℕ → ℕ → Answer → State
-linesState p words input room answer = wrote (onward room (betweenIn p words input)) (heardDone (answerOf answer (p .held) input))
+linesState p words input room answer = wrote (onward room (betweenIn p words input)) (heardDone (answerOf answer (p .buffered) input))
 
 -- The state after either, by the phase.
 unfoldable pub bytesState : Place → List ℕ → List ℕ → ℕ → Answer → State

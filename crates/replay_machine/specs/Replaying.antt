@@ -24,7 +24,7 @@ pub record Between : Type 0 where
   pub all : Bool
   pub done : ℕ
   pub run : Run
-  pub held : List ℕ
+  pub buffered : List ℕ
 
 pub data State : Type 0 where
   starting : State
@@ -60,7 +60,7 @@ longestWord = 4
 
 -- Reads as much as fits into a buffer of that many bytes, and nothing past the last record that a replay takes.
 unfoldable pub mostToRead : ℕ → Between → ℕ
-mostToRead size b = min size (4 * (mostRecords - b .done)) - length (b .held)
+mostToRead size b = min size (4 * (mostRecords - b .done)) - length (b .buffered)
 
 unfoldable pub asks : ℕ → State → Request
 asks size starting = Count
@@ -78,15 +78,15 @@ unfoldable pub taking : Between → ℕ → List ℕ → Bool → Run → State
 taking b taken lines going run =
     pick (eqb taken 0) (reading b)
     (pick (going && ltb (b .done + taken) mostRecords)
-    (printing (record { all = b .all; done = b .done + taken; run = run; held = drop (4 * taken) (b .held) }) lines)
+    (printing (record { all = b .all; done = b .done + taken; run = run; buffered = drop (4 * taken) (b .buffered) }) lines)
     (ending lines))
 
 unfoldable pub onward : ℕ → Between → State
-onward room b = let o = blockOutcome (b .all) (b .done) (b .run) (b .held) room in taking b (o .taken) (o .lines) (o .going) (o .run)
+onward room b = let o = blockOutcome (b .all) (b .done) (b .run) (b .buffered) room in taking b (o .taken) (o .lines) (o .going) (o .run)
 
 -- "The first byte is n." "A bad first byte prints record number 0 and the refusal and ends".
 unfoldable pub begun : Bool → ℕ → Option Refusal → State
-begun all n none = reading (record { all = all; done = 0; run = startState n ones; held = [] })
+begun all n none = reading (record { all = all; done = 0; run = startState n ones; buffered = [] })
 begun all n (some why) = ending (refusalText 0 why)
 
 unfoldable pub opened : Bool → Answer → State
@@ -98,8 +98,8 @@ opened all Failed = failing inputText
 
 -- At the end "13 prints under the next record number", if bytes are left over.
 unfoldable pub filled : ℕ → Between → Answer → State
-filled room b (Bytes l) = onward room (record { all = b .all; done = b .done; run = b .run; held = b .held ++ l })
-filled room b End = ending (records (b .all) (b .done) (b .run) (b .held))
+filled room b (Bytes l) = onward room (record { all = b .all; done = b .done; run = b .run; buffered = b .buffered ++ l })
+filled room b End = ending (records (b .all) (b .done) (b .run) (b .buffered))
 filled room b (Number k) = failing inputText
 filled room b Done = failing inputText
 filled room b Failed = failing inputText

@@ -32,7 +32,7 @@ placeIn memory = record {
   all = eqb (getD memory 1 0) 1;
   count = getD memory 2 0;
   from = getD memory 3 0;
-  held = getD memory 4 0;
+  buffered = getD memory 4 0;
   written = getD memory 5 0;
 }
 
@@ -66,17 +66,17 @@ abbrev pub leastInput : ℕ
 leastInput = 8
 
 unfoldable pub betweenIn : Place → List ℕ → List ℕ → Between
-betweenIn p words input = record { all = p .all; done = p .count; run = runOf words; held = take (p .held) (drop (p .from) input) }
+betweenIn p words input = record { all = p .all; done = p .count; run = runOf words; buffered = take (p .buffered) (drop (p .from) input) }
 
 -- There is room for the words of a run, for what is read, and for the longest line.
-unfoldable pub roomy : ℕ → ℕ → ℕ → Bool
-roomy words input out = eqb words stateSize && (leb leastInput input && leb longestLine out)
+unfoldable pub enoughRoom : ℕ → ℕ → ℕ → Bool
+enoughRoom words input out = eqb words stateSize && (leb leastInput input && leb longestLine out)
 
 -- The numbers lie inside the lists. But while lines are written, less than a record is held, at the front.
 unfoldable pub inside : Place → ℕ → ℕ → Bool
 inside p input out =
-    ltb (p .count) mostRecords && (leb (p .written) out && (leb (p .held) input && (leb (p .from) (input - p .held)
-    && pick (eqb (p .phase) printingPhase) true (ltb (p .held) 4 && eqb (p .from) 0))))
+    ltb (p .count) mostRecords && (leb (p .written) out && (leb (p .buffered) input && (leb (p .from) (input - p .buffered)
+    && pick (eqb (p .phase) printingPhase) true (ltb (p .buffered) 4 && eqb (p .from) 0))))
 
 unfoldable pub byPhase : Place → List ℕ → List ℕ → List ℕ → State
 byPhase p words input out =
@@ -91,35 +91,35 @@ byPhase p words input out =
 
 -- Lists in which no state stands count as stopped.
 unfoldable pub stateIn : Place → List ℕ → List ℕ → List ℕ → State
-stateIn p words input out = pick (roomy (length words) (length input) (length out) && inside p (length input) (length out)) (byPhase p words input out) stopped
+stateIn p words input out = pick (enoughRoom (length words) (length input) (length out) && inside p (length input) (length out)) (byPhase p words input out) stopped
 
 unfoldable pub stateOf : List ℕ → List ℕ → List ℕ → List ℕ → State
 stateOf words memory input out = pick (leb numbers (length memory)) (stateIn (placeIn memory) words input out) stopped
 
 -- The bytes that are asked for go to the place after those that are held.
 unfoldable pub placeOf : List ℕ → ℕ
-placeOf memory = placeIn memory .held
+placeOf memory = placeIn memory .buffered
 
 -- Calls from an accepted start led to the run of a state that has one.
-unfoldable pub Led : State → Type 0
-Led starting = Unit {0}
-Led (counted one) = Unit {0}
-Led (opening all) = Unit {0}
-Led (reading b) = Reachable (b .run)
-Led (printing b lines) = Reachable (b .run)
-Led (ending lines) = Unit {0}
-Led (failing text) = Unit {0}
-Led stopped = Unit {0}
+unfoldable pub FromStart : State → Type 0
+FromStart starting = Unit {0}
+FromStart (counted one) = Unit {0}
+FromStart (opening all) = Unit {0}
+FromStart (reading b) = Reachable (b .run)
+FromStart (printing b lines) = Reachable (b .run)
+FromStart (ending lines) = Unit {0}
+FromStart (failing text) = Unit {0}
+FromStart stopped = Unit {0}
 
 -- A state that stands in its lists.
 abbrev pub Holds : Place → List ℕ → List ℕ → List ℕ → Type 0
-Holds p words input out = (roomy (length words) (length input) (length out) ≡ true) × (inside p (length input) (length out) ≡ true)
+Holds p words input out = (enoughRoom (length words) (length input) (length out) ≡ true) × (inside p (length input) (length out) ≡ true)
 
 -- The places of the bytes held, and of the records yet to take.
 pub record Lies (p : Place) (words input out : List ℕ) : Type 0 where
-  pub room : roomy (length words) (length input) (length out) ≡ true
+  pub room : enoughRoom (length words) (length input) (length out) ≡ true
   pub few : p .count < mostRecords
-  pub within : p .from + p .held ≤ length input
+  pub within : p .from + p .buffered ≤ length input
 
 -- What a block of records comes to, in lent lists.
 pub record Blocked (all : Bool) (done : ℕ) (words block out : List ℕ) (made : Progress) (then-words then-out : List ℕ) : Type 0 where
@@ -132,13 +132,13 @@ pub record Blocked (all : Bool) (done : ℕ) (words block out : List ℕ) (made 
 
 -- Places: with a way and nothing else; with a text and nothing else; with less than a record held, at the front; with more bytes held.
 unfoldable pub plainPlace : ℕ → Bool → Place
-plainPlace phase all = record { phase = phase; all = all; count = 0; from = 0; held = 0; written = 0 }
+plainPlace phase all = record { phase = phase; all = all; count = 0; from = 0; buffered = 0; written = 0 }
 
 unfoldable pub textPlace : ℕ → ℕ → Place
-textPlace phase written = record { phase = phase; all = false; count = 0; from = 0; held = 0; written = written }
+textPlace phase written = record { phase = phase; all = false; count = 0; from = 0; buffered = 0; written = written }
 
 unfoldable pub waitingPlace : Place → Place
-waitingPlace p = record { phase = readingPhase; all = p .all; count = p .count; from = 0; held = p .held; written = 0 }
+waitingPlace p = record { phase = readingPhase; all = p .all; count = p .count; from = 0; buffered = p .buffered; written = 0 }
 
 unfoldable pub holding : Place → ℕ → Place
-holding p more = record { phase = readingPhase; all = p .all; count = p .count; from = 0; held = p .held + more; written = 0 }
+holding p more = record { phase = readingPhase; all = p .all; count = p .count; from = 0; buffered = p .buffered + more; written = 0 }

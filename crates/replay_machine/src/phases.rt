@@ -20,14 +20,14 @@ ghost use Rattle.words.specs.Layout.{runOf};
 ghost use Rattle.machines.specs.Machines.{heardRead, heardDone, heardCount, heardWord, brought, isNumber};
 ghost use Rattle.machines.specs.Forms.{answerOf, takenOf, Between};
 ghost use Rattle.replay_machine.specs.Replaying as m;
-ghost use Rattle.replay_machine.specs.Standing.{roomy, Holds, stateIn, holding, plainPlace};
+ghost use Rattle.replay_machine.specs.Standing.{enoughRoom, Holds, stateIn, holding, plainPlace};
 ghost use Rattle.replay_machine.specs.Ready.{comesTo, Lying, readState, linesState, bytesState};
 
 // The longest word that is compared.
 const LONGEST_WORD: usize = 4;
 
 fn fail_input(words: &[u16], input: &[u8], out: &mut [u8]) -> Place
-    requires { ⌜ roomy (length (now words)) (length (now input)) (length (now out)) ≡ true ⌝ }
+    requires { ⌜ enoughRoom (length (now words)) (length (now input)) (length (now out)) ≡ true ⌝ }
     ensures { λ r. ⌜ stateIn r (now (words .entry)) (now (input .entry)) (now (out .exit)) ≡ m.failing m.inputText ⌝ }
 {
     let size = programs::text::write_word(out, 0, b"replay: standard input");
@@ -35,7 +35,7 @@ fn fail_input(words: &[u16], input: &[u8], out: &mut [u8]) -> Place
 }
 
 fn fail_output(words: &[u16], input: &[u8], out: &mut [u8]) -> Place
-    requires { ⌜ roomy (length (now words)) (length (now input)) (length (now out)) ≡ true ⌝ }
+    requires { ⌜ enoughRoom (length (now words)) (length (now input)) (length (now out)) ≡ true ⌝ }
     ensures { λ r. ⌜ stateIn r (now (words .entry)) (now (input .entry)) (now (out .exit)) ≡ m.failing m.outputText ⌝ }
 {
     let size = programs::text::write_word(out, 0, b"replay: standard output");
@@ -51,18 +51,18 @@ fn plain(phase: u64, all: bool) -> Place
         all,
         count: 0,
         from: 0,
-        held: 0,
+        buffered: 0,
         written: 0,
     }
 }
 
 // "The first byte is n."
 fn begin_run(n: u8, all: bool, words: &mut [u16], input: &[u8], out: &mut [u8]) -> Place
-    requires { ⌜ roomy (length (now words)) (length (now input)) (length (now out)) ≡ true ⌝ }
+    requires { ⌜ enoughRoom (length (now words)) (length (now input)) (length (now out)) ≡ true ⌝ }
     ensures { λ r. ⌜ stateIn r (now (words .exit)) (now (input .entry)) (now (out .exit)) ≡ m.begun all n (startRefusal n ones) ⌝ }
 {
-    let counts = [1u32; PROCESSES];
-    let answer = in_place::start::start(words, n as usize, &counts);
+    let block_counts = [1u32; PROCESSES];
+    let answer = in_place::start::start(words, n as usize, &block_counts);
     match answer {
         StartAnswer::Refused(why) => {
             let size = output::line::refuse(0, why, out);
@@ -80,8 +80,8 @@ pub(crate) fn after_count(
     out: &[u8],
     answer: Answer,
 ) -> Place
-    requires { ⌜ roomy (length (now words)) (length (now input)) (length (now out)) ≡ true ⌝ }
-    ensures { λ r. ⌜ stateIn r (now (words .entry)) (now (input .entry)) (now (out .entry)) ≡ m.counted (isNumber (heardCount (answerOf answer (p .held) (now (input .entry)))) 2) ⌝ }
+    requires { ⌜ enoughRoom (length (now words)) (length (now input)) (length (now out)) ≡ true ⌝ }
+    ensures { λ r. ⌜ stateIn r (now (words .entry)) (now (input .entry)) (now (out .entry)) ≡ m.counted (isNumber (heardCount (answerOf answer (p .buffered) (now (input .entry)))) 2) ⌝ }
 {
     let is_one = heard::is_number(answer, 2);
     plain(place::COUNTED, is_one)
@@ -101,11 +101,11 @@ fn is_all(taken: Taken, at: usize, input: &[u8]) -> bool
 
 // The one argument.
 pub(crate) fn after_word(p: Place, words: &[u16], input: &[u8], out: &[u8], answer: Answer) -> Place
-    requires { ⌜ (roomy (length (now words)) (length (now input)) (length (now out)) ≡ true) × (p .held < 4) ⌝ }
-    ensures { λ r. ⌜ stateIn r (now (words .entry)) (now (input .entry)) (now (out .entry)) ≡ m.next (length (now (out .entry))) (m.counted (p .all)) (heardWord 4 (answerOf answer (p .held) (now (input .entry)))) ⌝ }
+    requires { ⌜ (enoughRoom (length (now words)) (length (now input)) (length (now out)) ≡ true) × (p .buffered < 4) ⌝ }
+    ensures { λ r. ⌜ stateIn r (now (words .entry)) (now (input .entry)) (now (out .entry)) ≡ m.next (length (now (out .entry))) (m.counted (p .all)) (heardWord 4 (answerOf answer (p .buffered) (now (input .entry)))) ⌝ }
 {
     let taken = heard::word(answer, LONGEST_WORD);
-    let is_it = is_all(taken, p.held, input);
+    let is_it = is_all(taken, p.buffered, input);
     plain(place::OPENING, p.all & is_it)
 }
 
@@ -117,10 +117,10 @@ pub(crate) fn after_first(
     out: &mut [u8],
     answer: Answer,
 ) -> Place
-    requires { ⌜ (roomy (length (now words)) (length (now input)) (length (now out)) ≡ true) × (p .held < 4) ⌝ }
-    ensures { λ r. ⌜ stateIn r (now (words .exit)) (now (input .entry)) (now (out .exit)) ≡ m.opened (p .all) (heardRead 1 (answerOf answer (p .held) (now (input .entry)))) ⌝ }
+    requires { ⌜ (enoughRoom (length (now words)) (length (now input)) (length (now out)) ≡ true) × (p .buffered < 4) ⌝ }
+    ensures { λ r. ⌜ stateIn r (now (words .exit)) (now (input .entry)) (now (out .exit)) ≡ m.opened (p .all) (heardRead 1 (answerOf answer (p .buffered) (now (input .entry)))) ⌝ }
 {
-    let at = p.held;
+    let at = p.buffered;
     let taken = heard::read(answer, 1);
     match taken {
         Taken::Brought(_) => begin_run(input[at], p.all, words, input, out),
@@ -134,7 +134,7 @@ pub(crate) fn after_first(
 
 // That many bytes more are held.
 fn with_more(p: Place, more: usize) -> Place
-    requires { ⌜ (p .held < 4) × (more < 4 * mostRecords + 4) ⌝ }
+    requires { ⌜ (p .buffered < 4) × (more < 4 * mostRecords + 4) ⌝ }
     ensures { λ r. ⌜ r ≡ holding p more ⌝ }
 {
     Place {
@@ -142,7 +142,7 @@ fn with_more(p: Place, more: usize) -> Place
         all: p.all,
         count: p.count,
         from: 0,
-        held: p.held + more,
+        buffered: p.buffered + more,
         written: 0,
     }
 }
@@ -159,7 +159,7 @@ fn ready_read(p: Place, words: &[u16], input: &[u8], out: &mut [u8], answer: Ans
     ensures { λ r. ⌜ comesTo r (now (words .entry)) (now (input .entry)) (now (out .exit)) ≡ readState p (now (words .entry)) (now (input .entry)) (length (now (out .entry))) answer ⌝ }
     ensures { λ r. ⌜ Lying r (now (words .entry)) (now (input .entry)) (now (out .exit)) ⌝ }
 {
-    let at = p.held;
+    let at = p.buffered;
     let most = replay_input::buffer::fill_to(p.count, input.len()) - at;
     let taken = heard::read(answer, most);
     match taken {
@@ -223,8 +223,8 @@ pub(crate) fn after_last(
     out: &mut [u8],
     answer: Answer,
 ) -> Place
-    requires { ⌜ roomy (length (now words)) (length (now input)) (length (now out)) ≡ true ⌝ }
-    ensures { λ r. ⌜ stateIn r (now (words .entry)) (now (input .entry)) (now (out .exit)) ≡ m.wrote m.stopped (heardDone (answerOf answer (p .held) (now (input .entry)))) ⌝ }
+    requires { ⌜ enoughRoom (length (now words)) (length (now input)) (length (now out)) ≡ true ⌝ }
+    ensures { λ r. ⌜ stateIn r (now (words .entry)) (now (input .entry)) (now (out .exit)) ≡ m.wrote m.stopped (heardDone (answerOf answer (p .buffered) (now (input .entry)))) ⌝ }
 {
     let is_written = heard::is_done(answer);
     if is_written {

@@ -5,7 +5,7 @@ use words::WORDS;
 ghost use mathlib.Core.Path.{_≡_};
 ghost use Prim.Native.Nat.{_≤_};
 ghost use lib.ListN.{length};
-ghost use Rattle.replay_machine.specs.Standing.{numbers, bitOf, placeIn, roomy, inside};
+ghost use Rattle.replay_machine.specs.Standing.{numbers, bitOf, placeIn, enoughRoom, inside};
 
 // Whether it goes on after a refusal; how many records were taken; where the bytes that belong to none of them begin in the buffer, and how many they are; how long the
 // text is that is written.
@@ -14,7 +14,7 @@ pub struct Place {
     pub all: bool,
     pub count: u64,
     pub from: usize,
-    pub held: usize,
+    pub buffered: usize,
     pub written: usize,
 }
 
@@ -48,14 +48,14 @@ pub fn load(memory: &[u64]) -> Place
 {
     let all = memory[1] == 1;
     let from = memory[3] as usize;
-    let held = memory[4] as usize;
+    let buffered = memory[4] as usize;
     let written = memory[5] as usize;
     Place {
         phase: memory[0],
         all,
         count: memory[2],
         from,
-        held,
+        buffered,
         written,
     }
 }
@@ -75,13 +75,13 @@ pub fn store(memory: &mut [u64], p: Place)
     memory[1] = all;
     memory[2] = p.count;
     memory[3] = p.from as u64;
-    memory[4] = p.held as u64;
+    memory[4] = p.buffered as u64;
     memory[5] = p.written as u64;
 }
 
 // Whether there is room for the words of a run, for what is read, and for the longest line.
-pub fn is_roomy(words: usize, input: usize, out: usize) -> bool
-    ensures { λ r. ⌜ r ≡ roomy words input out ⌝ }
+pub fn is_room_enough(words: usize, input: usize, out: usize) -> bool
+    ensures { λ r. ⌜ r ≡ enoughRoom words input out ⌝ }
 {
     if words != WORDS {
         return false;
@@ -102,16 +102,16 @@ pub fn is_inside(p: Place, input: usize, out: usize) -> bool
     if out < p.written {
         return false;
     }
-    if input < p.held {
+    if input < p.buffered {
         return false;
     }
-    if input - p.held < p.from {
+    if input - p.buffered < p.from {
         return false;
     }
     if p.phase == PRINTING {
         return true;
     }
-    if RECORD <= p.held {
+    if RECORD <= p.buffered {
         return false;
     }
     p.from == 0

@@ -21,7 +21,7 @@ pub(crate) fn with_text(phase: u64, written: usize) -> Place
         all: false,
         count: 0,
         from: 0,
-        held: 0,
+        buffered: 0,
         written,
     }
 }
@@ -46,18 +46,18 @@ fn replay(
 
 // No whole record is held: the bytes held go to the front, and more are read.
 fn wait(p: Place, input: &mut [u8]) -> Place
-    requires { ⌜ p .from + p .held ≤ length (now input) ⌝ }
-    ensures { λ r. ⌜ (r ≡ waitingPlace p) × (take (p .held) (now (input .exit)) ≡ take (p .held) (drop (p .from) (now (input .entry)))) ⌝ }
+    requires { ⌜ p .from + p .buffered ≤ length (now input) ⌝ }
+    ensures { λ r. ⌜ (r ≡ waitingPlace p) × (take (p .buffered) (now (input .exit)) ≡ take (p .buffered) (drop (p .from) (now (input .entry)))) ⌝ }
 {
     let from = p.from;
-    let held = p.held;
-    replay_input::buffer::keep(input, 0, from, from + held);
+    let buffered = p.buffered;
+    replay_input::buffer::keep(input, 0, from, from + buffered);
     Place {
         phase: place::READING,
         all: p.all,
         count: p.count,
         from: 0,
-        held,
+        buffered,
         written: 0,
     }
 }
@@ -73,7 +73,7 @@ pub(crate) fn take(
     ensures { λ r. ⌜ stateIn r (now (words .exit)) (now (input .exit)) (now (out .exit)) ≡ onward (length (now (out .entry))) (betweenIn p (now (words .entry)) (now (input .entry))) ⌝ }
 {
     let from = p.from;
-    let end = from + p.held;
+    let end = from + p.buffered;
     let made = replay(words, reached, p.all, p.count, &input[from..end], out);
     let taken = made.taken;
     if taken == 0 {
@@ -91,7 +91,7 @@ pub(crate) fn take(
         all: p.all,
         count,
         from: from + 4 * taken,
-        held: p.held - 4 * taken,
+        buffered: p.buffered - 4 * taken,
         written: made.written,
     }
 }

@@ -12,7 +12,7 @@ ghost use lib.ListN.{length};
 ghost use Rattle.machines.specs.Machines.{stepped};
 ghost use Rattle.machines.specs.Forms.{answerOf, Asks};
 ghost use Rattle.replay_machine.specs.Replaying.{starting, asks, replaying};
-ghost use Rattle.replay_machine.specs.Standing.{numbers, roomy, Holds, stateIn, stateOf, placeOf, Led};
+ghost use Rattle.replay_machine.specs.Standing.{numbers, enoughRoom, Holds, stateIn, stateOf, placeOf, FromStart};
 
 fn after(
     p: Place,
@@ -22,8 +22,8 @@ fn after(
     answer: Answer,
     reached: bool,
 ) -> Place
-    requires { ⌜ Holds p (now words) (now input) (now out) × (reached ≡ true → Led (stateIn p (now words) (now input) (now out))) ⌝ }
-    ensures { λ r. ⌜ stateIn r (now (words .exit)) (now (input .exit)) (now (out .exit)) ≡ stepped (replaying (length (now (input .entry))) (length (now (out .entry)))) (stateIn p (now (words .entry)) (now (input .entry)) (now (out .entry))) (answerOf answer (p .held) (now (input .entry))) ⌝ }
+    requires { ⌜ Holds p (now words) (now input) (now out) × (reached ≡ true → FromStart (stateIn p (now words) (now input) (now out))) ⌝ }
+    ensures { λ r. ⌜ stateIn r (now (words .exit)) (now (input .exit)) (now (out .exit)) ≡ stepped (replaying (length (now (input .entry))) (length (now (out .entry)))) (stateIn p (now (words .entry)) (now (input .entry)) (now (out .entry))) (answerOf answer (p .buffered) (now (input .entry))) ⌝ }
 {
     let phase = p.phase;
     if (phase == place::READING) | (phase == place::PRINTING) {
@@ -39,14 +39,14 @@ fn after(
 }
 
 fn request_of(p: Place, words: &[u16], input: &[u8], out: &[u8]) -> Request
-    requires { ⌜ roomy (length (now words)) (length (now input)) (length (now out)) ≡ true ⌝ }
-    ensures { λ r. ⌜ Asks r (p .held) (now (input .entry)) (now (out .entry)) (asks (length (now (input .entry))) (stateIn p (now (words .entry)) (now (input .entry)) (now (out .entry)))) ⌝ }
+    requires { ⌜ enoughRoom (length (now words)) (length (now input)) (length (now out)) ≡ true ⌝ }
+    ensures { λ r. ⌜ Asks r (p .buffered) (now (input .entry)) (now (out .entry)) (asks (length (now (input .entry))) (stateIn p (now (words .entry)) (now (input .entry)) (now (out .entry)))) ⌝ }
 {
     if !place::is_inside(p, input.len(), out.len()) {
         return Request::Stop;
     }
     let phase = p.phase;
-    let at = p.held;
+    let at = p.buffered;
     let written = p.written;
     match phase {
         place::STARTING => Request::Count,
@@ -65,7 +65,7 @@ fn request_of(p: Place, words: &[u16], input: &[u8], out: &[u8]) -> Request
 
 // The first request.
 pub fn begin(words: &[u16], memory: &mut [u64], input: &[u8], out: &[u8]) -> Request
-    requires { ⌜ (numbers ≤ length (now memory)) × (roomy (length (now words)) (length (now input)) (length (now out)) ≡ true) ⌝ }
+    requires { ⌜ (numbers ≤ length (now memory)) × (enoughRoom (length (now words)) (length (now input)) (length (now out)) ≡ true) ⌝ }
     ensures { λ r. ⌜ stateOf (now (words .entry)) (now (memory .exit)) (now (input .entry)) (now (out .entry)) ≡ starting ⌝ }
     ensures { λ r. ⌜ Asks r (placeOf (now (memory .exit))) (now (input .entry)) (now (out .entry)) (asks (length (now (input .entry))) (stateOf (now (words .entry)) (now (memory .exit)) (now (input .entry)) (now (out .entry)))) ⌝ }
 {
@@ -83,14 +83,14 @@ fn step_from(
     answer: Answer,
     reached: bool,
 ) -> Request
-    requires { ⌜ (reached ≡ true → Led (stateOf (now words) (now memory) (now input) (now out))) ⌝ }
+    requires { ⌜ (reached ≡ true → FromStart (stateOf (now words) (now memory) (now input) (now out))) ⌝ }
     ensures { λ r. ⌜ stateOf (now (words .exit)) (now (memory .exit)) (now (input .exit)) (now (out .exit)) ≡ stepped (replaying (length (now (input .entry))) (length (now (out .entry)))) (stateOf (now (words .entry)) (now (memory .entry)) (now (input .entry)) (now (out .entry))) (answerOf answer (placeOf (now (memory .entry))) (now (input .entry))) ⌝ }
     ensures { λ r. ⌜ Asks r (placeOf (now (memory .exit))) (now (input .exit)) (now (out .exit)) (asks (length (now (input .exit))) (stateOf (now (words .exit)) (now (memory .exit)) (now (input .exit)) (now (out .exit)))) ⌝ }
 {
     if memory.len() < place::NUMBERS {
         return Request::Stop;
     }
-    if !place::is_roomy(words.len(), input.len(), out.len()) {
+    if !place::is_room_enough(words.len(), input.len(), out.len()) {
         return Request::Stop;
     }
     let p = place::load(memory);
@@ -117,17 +117,17 @@ pub fn step(
 }
 
 // The same on lists that `begin` and these steps alone left: their words need no test.
-pub fn step_led(
+pub fn step_reached(
     words: &mut [u16],
     memory: &mut [u64],
     input: &mut [u8],
     out: &mut [u8],
     answer: Answer,
 ) -> Request
-    requires { ⌜ Led (stateOf (now words) (now memory) (now input) (now out)) ⌝ }
+    requires { ⌜ FromStart (stateOf (now words) (now memory) (now input) (now out)) ⌝ }
     ensures { λ r. ⌜ stateOf (now (words .exit)) (now (memory .exit)) (now (input .exit)) (now (out .exit)) ≡ stepped (replaying (length (now (input .entry))) (length (now (out .entry)))) (stateOf (now (words .entry)) (now (memory .entry)) (now (input .entry)) (now (out .entry))) (answerOf answer (placeOf (now (memory .entry))) (now (input .entry))) ⌝ }
     ensures { λ r. ⌜ Asks r (placeOf (now (memory .exit))) (now (input .exit)) (now (out .exit)) (asks (length (now (input .exit))) (stateOf (now (words .exit)) (now (memory .exit)) (now (input .exit)) (now (out .exit)))) ⌝ }
-    ensures { λ r. ⌜ Led (stateOf (now (words .exit)) (now (memory .exit)) (now (input .exit)) (now (out .exit))) ⌝ }
+    ensures { λ r. ⌜ FromStart (stateOf (now (words .exit)) (now (memory .exit)) (now (input .exit)) (now (out .exit))) ⌝ }
 {
     step_from(words, memory, input, out, answer, true)
 }

@@ -123,9 +123,9 @@ denial answer s deleted line = record { run = s; answer = answer; rose = 0; dele
 
 -- The console's start: the operator's alone. "A refused start returns a state of zeros with every pin none."
 unfoldable pub consoleStart : Caller → ℕ → List ℕ → Outcome StartAnswer
-consoleStart c n counts = pick (denied c Start)
+consoleStart c n blockCounts = pick (denied c Start)
     (denial (start-answer.Refused Denied) (blank 0) [] [])
-    (startOutcome n counts)
+    (startOutcome n blockCounts)
 
 -- "a job owner checkpoint .. its own processes"
 unfoldable pub consoleCheckpoint : Caller → Run → ℕ → List ℕ → Outcome CheckpointAnswer

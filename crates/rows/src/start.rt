@@ -35,7 +35,7 @@ pub fn no_checkpoint() -> Checkpoint
 // The vector of process p, one of 16: its own entry is 1, the others are 0.
 pub fn first_vector(p: usize) -> [Interval; PROCESSES]
     requires { ⌜ p < mostProcesses ⌝ }
-    ensures { λ r. ⌜ ((counts : List ℕ) → r ≡ started counts p .vector) ⌝ }
+    ensures { λ r. ⌜ ((«block_counts» : List ℕ) → r ≡ started «block_counts» p .vector) ⌝ }
 {
     let mut v = zero_vector();
     v[p] = Interval(1);

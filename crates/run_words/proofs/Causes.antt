@@ -54,6 +54,6 @@ module _ (s : Run) (small : Small s) where
   -- The checkpoints of a process.
   pub small-kept : (i : ℕ) → i < s .count → (k : ℕ) → k < length (process s i .kept) → k < 16 → getD (process s i .kept) k noCheckpoint .cause < 256
   unfolding process
-  small-kept i lt k under less = by-lt k (getD (s .held) i 0)
-      (λ h. rw (getD-take (getD (s .held) i 0) (getD (s .kept .0) i []) k noCheckpoint h) (small .causes i k lt less))
-      (λ h. absurd (omega (arith, under, h, length-take-most (getD (s .held) i 0) (getD (s .kept .0) i []))))
+  small-kept i lt k under less = by-lt k (getD (s .«kept_count») i 0)
+      (λ h. rw (getD-take (getD (s .«kept_count») i 0) (getD (s .kept .0) i []) k noCheckpoint h) (small .causes i k lt less))
+      (λ h. absurd (omega (arith, under, h, length-take-most (getD (s .«kept_count») i 0) (getD (s .kept .0) i []))))

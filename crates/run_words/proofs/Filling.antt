@@ -35,28 +35,28 @@ unfolding fitsWords
 many-messages s few more = rw (le-leb (s .count) 16 few, lt-leb (s .underway) 64 more)
 
 module _ (s : Run) (w : List ℕ) (size : Sized s) (long : length w ≡ 6464) (few : s .count ≤ 16) (most : s .underway ≤ 64) where
-  words-are : (a b d v : List ℕ) → a ≡ iter 256 (keptFilled (s .kept .0) (s .held)) w
-      → b ≡ iter 16 (rowsFilled (s .count) (s .vectors .0) (s .pins .0) (s .held) (s .sent)) a
+  words-are : (a b d v : List ℕ) → a ≡ iter 256 (keptFilled (s .kept .0) (s .«kept_count»)) w
+      → b ≡ iter 16 (rowsFilled (s .count) (s .vectors .0) (s .pins .0) (s .«kept_count») (s .sent)) a
       → d ≡ iter 64 (messagesFilled (s .underway) (s .messages)) b → v ≡ puts d (numberPuts (s .count) (s .underway) (s .last) (s .disk)) → v ≡ filled s w
   unfolding filled
   words-are a b d v e f g h = rw (h, g, f, e)
 
-  verdict-is : (x y z : Bool) → x ≡ keptFits (s .kept .0) (s .held) → y ≡ rowsFit (s .count) (s .vectors .0) (s .pins .0) (s .held) (s .sent)
+  judged-is : (x y z : Bool) → x ≡ keptFits (s .kept .0) (s .«kept_count») → y ≡ rowsFit (s .count) (s .vectors .0) (s .pins .0) (s .«kept_count») (s .sent)
       → z ≡ messagesFit (s .underway) (s .messages) → (x && y && z) ≡ fitsWords s
   unfolding fitsWords
-  verdict-is x y z e f g = rw (le-leb (s .count) 16 few, le-leb (s .underway) 64 most, e, f, g)
+  judged-is x y z e f g = rw (le-leb (s .count) 16 few, le-leb (s .underway) 64 most, e, f, g)
 
   pub fill-ends : (kept : List (List Checkpoint)) (vectors : List (List Interval)) (pins : List (List Pin)) (a b d v : List ℕ) (x y z : Bool)
       → kept ≡ s .kept .0 → vectors ≡ s .vectors .0 → pins ≡ s .pins .0
-      → x ≡ keptFits kept (s .held) → a ≡ iter 256 (keptFilled kept (s .held)) w
-      → y ≡ rowsFit (s .count) vectors pins (s .held) (s .sent) → b ≡ iter 16 (rowsFilled (s .count) vectors pins (s .held) (s .sent)) a
+      → x ≡ keptFits kept (s .«kept_count») → a ≡ iter 256 (keptFilled kept (s .«kept_count»)) w
+      → y ≡ rowsFit (s .count) vectors pins (s .«kept_count») (s .sent) → b ≡ iter 16 (rowsFilled (s .count) vectors pins (s .«kept_count») (s .sent)) a
       → z ≡ messagesFit (s .underway) (s .messages) → d ≡ iter 64 (messagesFilled (s .underway) (s .messages)) b
       → v ≡ puts d (numberPuts (s .count) (s .underway) (s .last) (s .disk))
       → ((x && y && z) ≡ fitsWords s) × ((x && y && z) ≡ true → runOf v ≡ s)
   fill-ends kept vectors pins a b d v x y z k p q ex ea ey eb ez ed ev =
-      let verdict = verdict-is x y z (rw k at ex) (rw (p, q) at ey) ez in
+      let judged = judged-is x y z (rw k at ex) (rw (p, q) at ey) ez in
       let words = words-are a b d v (rw k at ea) (rw (p, q) at eb) ed ev in
-      (verdict, λ t. ap runOf words ∙ read-back (filled s w) s (all-holds s w long) size (sym verdict ∙ t))
+      (judged, λ t. ap runOf words ∙ read-back (filled s w) s (all-holds s w long) size (sym judged ∙ t))
 
 -- A state that does not fit its words is not sound.
 pub unfit-unsound : (s : Run) → Sized s → fitsWords s ≡ false → false ≡ sound s

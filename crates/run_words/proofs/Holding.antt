@@ -17,7 +17,7 @@ use Rattle.model.specs.declared.Checkpoint.{Checkpoint}
 use Rattle.model.specs.declared.Message.{Message}
 use Rattle.model.specs.declared.Run.{Run}
 use Rattle.model.specs.Words.{entry, pastEnd}
-use Rattle.words.specs.Layout.{word, wide2, wide4, heldAt, markAt, blocksAt, partAt, pinsAt, indexAt, causeAt, storedAt, lowAt, highAt, senderAt, receiverAt, carriedAt}
+use Rattle.words.specs.Layout.{word, wide2, wide4, keptCountAt, markAt, blocksAt, partAt, pinsAt, indexAt, causeAt, storedAt, lowAt, highAt, senderAt, receiverAt, carriedAt}
 use Rattle.words.specs.Puts.{Put, puts}
 use Rattle.words.proofs.Reading.{Clear, Hits, nth, puts-length, untouched, touched, wide2-back, wide4-back}
 use Rattle.run_words.specs.Fits.{pastMessages, indexFits, messageFits}
@@ -35,7 +35,7 @@ message s k = getD (s .messages) k pastMessages
 pub record HoldsProcess (v : List ℕ) (s : Run) (p : ℕ) : Type 0 where
   pub vector : (f : ℕ) → f < 16 → word v (partAt p + f) ≡ entry (getD (s .vectors .0) p []) f .0
   pub pins : (f : ℕ) → f < 16 → word v (pinsAt p + f) ≡ pinWord (getD (getD (s .pins .0) p []) f Nothing)
-  pub held : word v (heldAt p) ≡ getD (s .held) p 0
+  pub «kept_count» : word v (keptCountAt p) ≡ getD (s .«kept_count») p 0
   pub blocks : word v (blocksAt p) ≡ stored s p 0 .blocks
   pub mark : word v (markAt p) ≡ markWord (getD (s .sent) p false)
 
@@ -62,36 +62,36 @@ pub record Holds (v : List ℕ) (s : Run) : Type 0 where
   pub written : wide4 v 4 ≡ s .disk .written
   pub deleted : wide4 v 8 ≡ s .disk .deleted
   pub end : word v 12 ≡ s .underway
-  pub process : (p : ℕ) → p < s .count → p < 16 → getD (s .held) p 0 ≤ 16 → HoldsProcess v s p
-  pub kept : (p k : ℕ) → p < 16 → k < 16 → k < getD (s .held) p 0 → indexFits (stored s p k .index) ≡ true → HoldsStored v s p k
-  pub mail : (k : ℕ) → k < s .underway → k < 64 → messageFits (message s k) ≡ true → HoldsMessage v s k
+  pub process : (p : ℕ) → p < s .count → p < 16 → getD (s .«kept_count») p 0 ≤ 16 → HoldsProcess v s p
+  pub kept : (p k : ℕ) → p < 16 → k < 16 → k < getD (s .«kept_count») p 0 → indexFits (stored s p k .index) ≡ true → HoldsStored v s p k
+  pub each-message : (k : ℕ) → k < s .underway → k < 64 → messageFits (message s k) ≡ true → HoldsMessage v s k
 
 -- One step: what it leaves alone, and where it does something, what it does.
-module _ (p k held : ℕ) (c : Checkpoint) (v : List ℕ) where
-  place-size : length (placeFilled p k held c v) ≡ length v
+module _ (p k keptCount : ℕ) (c : Checkpoint) (v : List ℕ) where
+  place-size : length (placeFilled p k keptCount c v) ≡ length v
   unfolding placeFilled
-  place-size = by-bool (ltb k held && indexFits (c .index)) (λ e. rw e (puts-length v (checkpointPuts p k c))) (λ e. rw e)
+  place-size = by-bool (ltb k keptCount && indexFits (c .index)) (λ e. rw e (puts-length v (checkpointPuts p k c))) (λ e. rw e)
 
-  place-stays : (m : ℕ) → Clear (checkpointPuts p k c) m → word (placeFilled p k held c v) m ≡ word v m
+  place-stays : (m : ℕ) → Clear (checkpointPuts p k c) m → word (placeFilled p k keptCount c v) m ≡ word v m
   unfolding placeFilled
-  place-stays m clear = by-bool (ltb k held && indexFits (c .index)) (λ e. rw e (untouched v (checkpointPuts p k c) m clear)) (λ e. rw e)
+  place-stays m clear = by-bool (ltb k keptCount && indexFits (c .index)) (λ e. rw e (untouched v (checkpointPuts p k c) m clear)) (λ e. rw e)
 
-  place-is : k < held → indexFits (c .index) ≡ true → placeFilled p k held c v ≡ puts v (checkpointPuts p k c)
+  place-is : k < keptCount → indexFits (c .index) ≡ true → placeFilled p k keptCount c v ≡ puts v (checkpointPuts p k c)
   unfolding placeFilled
-  place-is lt fit = rw (lt-ltb k held lt, fit)
+  place-is lt fit = rw (lt-ltb k keptCount lt, fit)
 
-module _ (p n : ℕ) (vector : List Interval) (pins : List Pin) (held : ℕ) (mark : Bool) (v : List ℕ) where
-  row-size : length (rowFilled p n vector pins held mark v) ≡ length v
+module _ (p n : ℕ) (vector : List Interval) (pins : List Pin) (keptCount : ℕ) (mark : Bool) (v : List ℕ) where
+  row-size : length (rowFilled p n vector pins keptCount mark v) ≡ length v
   unfolding rowFilled
-  row-size = by-bool (ltb p n && leb held 16) (λ e. rw e (puts-length v (processPuts p vector pins held mark))) (λ e. rw e)
+  row-size = by-bool (ltb p n && leb keptCount 16) (λ e. rw e (puts-length v (processPuts p vector pins keptCount mark))) (λ e. rw e)
 
-  row-stays : (m : ℕ) → Clear (processPuts p vector pins held mark) m → word (rowFilled p n vector pins held mark v) m ≡ word v m
+  row-stays : (m : ℕ) → Clear (processPuts p vector pins keptCount mark) m → word (rowFilled p n vector pins keptCount mark v) m ≡ word v m
   unfolding rowFilled
-  row-stays m clear = by-bool (ltb p n && leb held 16) (λ e. rw e (untouched v (processPuts p vector pins held mark) m clear)) (λ e. rw e)
+  row-stays m clear = by-bool (ltb p n && leb keptCount 16) (λ e. rw e (untouched v (processPuts p vector pins keptCount mark) m clear)) (λ e. rw e)
 
-  row-is : p < n → held ≤ 16 → rowFilled p n vector pins held mark v ≡ puts v (processPuts p vector pins held mark)
+  row-is : p < n → keptCount ≤ 16 → rowFilled p n vector pins keptCount mark v ≡ puts v (processPuts p vector pins keptCount mark)
   unfolding rowFilled
-  row-is lt fit = rw (lt-ltb p n lt, le-leb held 16 fit)
+  row-is lt fit = rw (lt-ltb p n lt, le-leb keptCount 16 fit)
 
 module _ (k many : ℕ) (x : Message) (v : List ℕ) where
   one-size : length (oneFilled k many x v) ≡ length v
@@ -119,13 +119,13 @@ module _ (p k j : ℕ) (room : k < 16) (after : 16 * p + k < j) (c : Checkpoint)
 
 module _ (s : Run) (w : List ℕ) (long : length w ≡ 6464) where
   abbrev keptStep : ℕ → List ℕ → List ℕ
-  keptStep = keptFilled (s .kept .0) (s .held)
+  keptStep = keptFilled (s .kept .0) (s .«kept_count»)
 
   abbrev rowStep : ℕ → List ℕ → List ℕ
-  rowStep = rowsFilled (s .count) (s .vectors .0) (s .pins .0) (s .held) (s .sent)
+  rowStep = rowsFilled (s .count) (s .vectors .0) (s .pins .0) (s .«kept_count») (s .sent)
 
-  abbrev mailStep : ℕ → List ℕ → List ℕ
-  mailStep = messagesFilled (s .underway) (s .messages)
+  abbrev messageStep : ℕ → List ℕ → List ℕ
+  messageStep = messagesFilled (s .underway) (s .messages)
 
   kept-size : (q : ℕ) (v : List ℕ) → length (keptStep q v) ≡ length v
   unfolding keptFilled
@@ -135,9 +135,9 @@ module _ (s : Run) (w : List ℕ) (long : length w ≡ 6464) where
   unfolding rowsFilled
   rows-size p v = row-size p _ _ _ _ _ v
 
-  mail-size : (k : ℕ) (v : List ℕ) → length (mailStep k v) ≡ length v
+  message-step-size : (k : ℕ) (v : List ℕ) → length (messageStep k v) ≡ length v
   unfolding messagesFilled
-  mail-size k v = one-size k _ _ v
+  message-step-size k v = one-size k _ _ v
 
   abbrev a : List ℕ
   a = iter 256 keptStep w
@@ -146,7 +146,7 @@ module _ (s : Run) (w : List ℕ) (long : length w ≡ 6464) where
   b = iter 16 rowStep a
 
   abbrev d : List ℕ
-  d = iter 64 mailStep b
+  d = iter 64 messageStep b
 
   abbrev all : List ℕ
   all = puts d (numberPuts (s .count) (s .underway) (s .last) (s .disk))
@@ -158,32 +158,32 @@ module _ (s : Run) (w : List ℕ) (long : length w ≡ 6464) where
   b-long = iter-length rowStep rows-size a 16 ∙ a-long
 
   d-long : length d ≡ 6464
-  d-long = iter-length mailStep mail-size b 64 ∙ b-long
+  d-long = iter-length messageStep message-step-size b 64 ∙ b-long
 
   -- Words that the messages and the numbers leave alone; those that the rows do.
   numbers-stay : (m : ℕ) → 16 ≤ m → word all m ≡ word d m
   numbers-stay m low = untouched d (numberPuts (s .count) (s .underway) (s .last) (s .disk)) m (omega arith)
 
-  mail-stays : (m : ℕ) → 16 ≤ m → m < 5184 → word all m ≡ word b m
+  message-steps-stay : (m : ℕ) → 16 ≤ m → m < 5184 → word all m ≡ word b m
   unfolding messagesFilled
-  mail-stays m low under = numbers-stay m low ∙ iter-stays mailStep mail-size b 64 m (λ k lt v. one-stays k _ _ v m (omega arith))
+  message-steps-stay m low under = numbers-stay m low ∙ iter-stays messageStep message-step-size b 64 m (λ k lt v. one-stays k _ _ v m (omega arith))
 
   rows-stay : (p m : ℕ) → p < 16 → 96 + 320 * p ≤ m → m < 384 + 320 * p → word all m ≡ word a m
   unfolding rowsFilled
-  rows-stay p m lt low under = mail-stays m (omega arith) (omega arith) ∙ iter-stays rowStep rows-size a 16 m (λ q less v. row-stays q _ _ _ _ _ v m (omega arith))
+  rows-stay p m lt low under = message-steps-stay m (omega arith) (omega arith) ∙ iter-stays rowStep rows-size a 16 m (λ q less v. row-stays q _ _ _ _ _ v m (omega arith))
 
-  module _ (p k : ℕ) (lt : p < 16) (room : k < 16) (used : k < getD (s .held) p 0) (fit : indexFits (stored s p k .index) ≡ true) where
+  module _ (p k : ℕ) (lt : p < 16) (room : k < 16) (used : k < getD (s .«kept_count») p 0) (fit : indexFits (stored s p k .index) ≡ true) where
     this : (v : List ℕ) → keptStep (16 * p + k) v ≡ puts (puts v (blocksPut p (s .kept .0) ∷ [])) (checkpointPuts p k (stored s p k))
     unfolding keptFilled
     this v =
         let e : (16 * p + k) / 16 ≡ p = omega arith in
         let r : (16 * p + k) % 16 ≡ k = omega arith in
-        rw (e, r) (place-is p k (getD (s .held) p 0) (stored s p k) _ used fit)
+        rw (e, r) (place-is p k (getD (s .«kept_count») p 0) (stored s p k) _ used fit)
 
     other : (m : ℕ) → 64 ≤ m → ((j : ℕ) → 16 * p + k < j → (c : Checkpoint) → Clear (checkpointPuts (j / 16) (j % 16) c) m) → (j : ℕ) → 16 * p + k < j → j < 256 → (v : List ℕ) → word (keptStep j v) m ≡ word v m
     unfolding keptFilled
     other m past clear j less under v =
-        place-stays (j / 16) (j % 16) (getD (s .held) (j / 16) 0) (stored s (j / 16) (j % 16)) _ m (clear j less (stored s (j / 16) (j % 16)))
+        place-stays (j / 16) (j % 16) (getD (s .«kept_count») (j / 16) 0) (stored s (j / 16) (j % 16)) _ m (clear j less (stored s (j / 16) (j % 16)))
         ∙ untouched v (blocksPut (j / 16) (s .kept .0) ∷ []) m (omega arith)
 
     there : (m x : ℕ) → 64 ≤ m → ((v : List ℕ) → length v ≡ 6464 → word (puts v (checkpointPuts p k (stored s p k))) m ≡ x)
@@ -205,7 +205,7 @@ module _ (s : Run) (w : List ℕ) (long : length w ≡ 6464) where
   blocks-there : (p : ℕ) → p < 16 → word all (blocksAt p) ≡ stored s p 0 .blocks
   unfolding keptFilled rowsFilled
   blocks-there p lt =
-      mail-stays (blocksAt p) (omega arith) (omega arith)
+      message-steps-stay (blocksAt p) (omega arith) (omega arith)
       ∙ iter-stays rowStep rows-size a 16 (blocksAt p) (λ q less v. row-stays q _ _ _ _ _ v (blocksAt p) (omega arith))
       ∙ iter-at keptStep kept-size w 256 (16 * p + 15) (blocksAt p) (stored s p 0 .blocks) (omega arith)
       (λ v same.
@@ -213,17 +213,17 @@ module _ (s : Run) (w : List ℕ) (long : length w ≡ 6464) where
       rw e (place-stays p _ _ _ _ (blocksAt p) (omega arith) ∙ touched v (blocksPut p (s .kept .0) ∷ []) 0 0 (blocksAt p) (omega (arith, same, long))))
       (λ j less most v. place-stays (j / 16) _ _ _ _ (blocksAt p) (omega arith) ∙ untouched v (blocksPut (j / 16) (s .kept .0) ∷ []) (blocksAt p) (omega arith))
 
-  module _ (p : ℕ) (lt : p < s .count) (room : p < 16) (few : getD (s .held) p 0 ≤ 16) where
-    this-row : (v : List ℕ) → rowStep p v ≡ puts v (processPuts p (getD (s .vectors .0) p []) (getD (s .pins .0) p []) (getD (s .held) p 0) (getD (s .sent) p false))
+  module _ (p : ℕ) (lt : p < s .count) (room : p < 16) (few : getD (s .«kept_count») p 0 ≤ 16) where
+    this-row : (v : List ℕ) → rowStep p v ≡ puts v (processPuts p (getD (s .vectors .0) p []) (getD (s .pins .0) p []) (getD (s .«kept_count») p 0) (getD (s .sent) p false))
     unfolding rowsFilled
     this-row v = row-is p _ _ _ _ _ v lt few
 
     abbrev rowPuts : ℕ → List Put
-    rowPuts q = processPuts q (getD (s .vectors .0) q []) (getD (s .pins .0) q []) (getD (s .held) q 0) (getD (s .sent) q false)
+    rowPuts q = processPuts q (getD (s .vectors .0) q []) (getD (s .pins .0) q []) (getD (s .«kept_count») q 0) (getD (s .sent) q false)
 
     there-row : (m x : ℕ) → 16 ≤ m → m < 5184 → ((v : List ℕ) → length v ≡ 6464 → word (puts v (rowPuts p)) m ≡ x) → ((q : ℕ) → p < q → q < 16 → Clear (rowPuts q) m) → word all m ≡ x
     unfolding rowsFilled
-    there-row m x low under here clear = mail-stays m low under ∙ iter-at rowStep rows-size a 16 p m x room
+    there-row m x low under here clear = message-steps-stay m low under ∙ iter-at rowStep rows-size a 16 p m x room
         (λ v same. ap (λ (u : List ℕ). word u m) (this-row v) ∙ here v (same ∙ a-long))
         (λ q less most v. row-stays q _ _ _ _ _ v m (clear q less most))
 
@@ -231,19 +231,19 @@ module _ (s : Run) (w : List ℕ) (long : length w ≡ 6464) where
     holds-process = record {
       vector = λ f less. there-row (partAt p + f) _ (omega arith) (omega arith) (λ v l. touched v (rowPuts p) 0 f (partAt p + f) (omega arith)) (λ q more most. omega arith);
       pins = λ f less. there-row (pinsAt p + f) _ (omega arith) (omega arith) (λ v l. touched v (rowPuts p) 1 f (pinsAt p + f) (omega arith)) (λ q more most. omega arith);
-      held = there-row (heldAt p) _ (omega arith) (omega arith) (λ v l. touched v (rowPuts p) 2 0 (heldAt p) (omega arith)) (λ q more most. omega arith);
+      «kept_count» = there-row (keptCountAt p) _ (omega arith) (omega arith) (λ v l. touched v (rowPuts p) 2 0 (keptCountAt p) (omega arith)) (λ q more most. omega arith);
       blocks = blocks-there p room;
       mark = there-row (markAt p) _ (omega arith) (omega arith) (λ v l. touched v (rowPuts p) 3 0 (markAt p) (omega arith)) (λ q more most. omega arith);
     }
 
   module _ (k : ℕ) (lt : k < s .underway) (room : k < 64) (fit : messageFits (message s k) ≡ true) where
-    this-one : (v : List ℕ) → mailStep k v ≡ puts v (messagePuts k (message s k))
+    this-one : (v : List ℕ) → messageStep k v ≡ puts v (messagePuts k (message s k))
     unfolding messagesFilled
     this-one v = one-is k _ _ v lt fit
 
     there-one : (m x : ℕ) → 16 ≤ m → ((v : List ℕ) → length v ≡ 6464 → word (puts v (messagePuts k (message s k))) m ≡ x) → ((q : ℕ) → k < q → q < 64 → Clear (messagePuts q (message s q)) m) → word all m ≡ x
     unfolding messagesFilled
-    there-one m x low here clear = numbers-stay m low ∙ iter-at mailStep mail-size b 64 k m x room
+    there-one m x low here clear = numbers-stay m low ∙ iter-at messageStep message-step-size b 64 k m x room
         (λ v same. ap (λ (u : List ℕ). word u m) (this-one v) ∙ here v (same ∙ b-long))
         (λ q less most v. one-stays q _ _ v m (clear q less most))
 
@@ -275,5 +275,5 @@ module _ (s : Run) (w : List ℕ) (long : length w ≡ 6464) where
         end = number 12 12 (omega arith);
         process = λ p lt room few. holds-process p lt room few;
         kept = λ p k lt room used fit. holds-stored p k lt room used fit;
-        mail = λ k lt room fit. holds-message k lt room fit;
+        each-message = λ k lt room fit. holds-message k lt room fit;
       }

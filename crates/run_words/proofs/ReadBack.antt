@@ -26,7 +26,7 @@ use Rattle.model.specs.declared.Message.{Message}
 use Rattle.model.specs.declared.Run.{Run}
 use Rattle.model.specs.Words.{mostProcesses, mostUnderWay, entry, zeroVector, noPins, noCheckpoint, noMessage, pastEnd}
 use Rattle.model.specs.Sound.{zeroFrom, isNothing, nothingFrom, unusedCheckpoint, unusedMessage}
-use Rattle.words.specs.Layout.{word, countOf, heldAt, partAt, pinsAt, indexAt, storedAt, highAt, carriedAt, indexOf, pinOf, vectorIn, pinsIn, markIn, checkpointIn, isKeptIn, keptIn, messageIn, isMessage, messagesIn, ofProcesses, decoded, endFits, runOf}
+use Rattle.words.specs.Layout.{word, countOf, keptCountAt, partAt, pinsAt, indexAt, storedAt, highAt, carriedAt, indexOf, pinOf, vectorIn, pinsIn, markIn, checkpointIn, isKeptIn, keptIn, messageIn, isMessage, messagesIn, ofProcesses, decoded, endFits, runOf}
 use Rattle.words.proofs.Reading.{index-back, pin-back, wide2-back}
 use Rattle.words.proofs.Same.{vector-is}
 use Rattle.words.proofs.View.{run-fits, fits-by, placed-at, placed-past}
@@ -99,13 +99,13 @@ mark-back false = refl
 
 module _ (v : List ℕ) (s : Run) (h : Holds v s) (z : Sized s) (fit : fitsWords s ≡ true) where
   -- The clauses of a state that fits.
-  clauses : (s .count ≤ 16) × (s .underway ≤ 64) × (keptFits (s .kept .0) (s .held) ≡ true)
-      × (rowsFit (s .count) (s .vectors .0) (s .pins .0) (s .held) (s .sent) ≡ true) × (messagesFit (s .underway) (s .messages) ≡ true)
+  clauses : (s .count ≤ 16) × (s .underway ≤ 64) × (keptFits (s .kept .0) (s .«kept_count») ≡ true)
+      × (rowsFit (s .count) (s .vectors .0) (s .pins .0) (s .«kept_count») (s .sent) ≡ true) × (messagesFit (s .underway) (s .messages) ≡ true)
   unfolding fitsWords
   clauses =
       let d = and-out _ (messagesFit (s .underway) (s .messages)) fit in
-      let c = and-out _ (rowsFit (s .count) (s .vectors .0) (s .pins .0) (s .held) (s .sent)) (d .0) in
-      let b = and-out _ (keptFits (s .kept .0) (s .held)) (c .0) in
+      let c = and-out _ (rowsFit (s .count) (s .vectors .0) (s .pins .0) (s .«kept_count») (s .sent)) (d .0) in
+      let b = and-out _ (keptFits (s .kept .0) (s .«kept_count»)) (c .0) in
       let a = and-out (leb (s .count) 16) (leb (s .underway) 64) (b .0) in
       (leb-true (s .count) 16 (a .0), leb-true (s .underway) 64 (a .1), b .1, c .1, d .1)
 
@@ -115,16 +115,16 @@ module _ (v : List ℕ) (s : Run) (h : Holds v s) (z : Sized s) (fit : fitsWords
   most : s .underway ≤ 64
   most = clauses .1
 
-  row-fits : (p : ℕ) → p < 16 → rowFits p (s .count) (getD (s .vectors .0) p []) (getD (s .pins .0) p []) (getD (s .held) p 0) (getD (s .sent) p false) ≡ true
+  row-fits : (p : ℕ) → p < 16 → rowFits p (s .count) (getD (s .vectors .0) p []) (getD (s .pins .0) p []) (getD (s .«kept_count») p 0) (getD (s .sent) p false) ≡ true
   unfolding rowsFit
-  row-fits p lt = all-out 16 (λ q. rowFits q (s .count) (getD (s .vectors .0) q []) (getD (s .pins .0) q []) (getD (s .held) q 0) (getD (s .sent) q false)) (clauses .3) p lt
+  row-fits p lt = all-out 16 (λ q. rowFits q (s .count) (getD (s .vectors .0) q []) (getD (s .pins .0) q []) (getD (s .«kept_count») q 0) (getD (s .sent) q false)) (clauses .3) p lt
 
-  place-fits : (p k : ℕ) → p < 16 → k < 16 → placeFits k (getD (s .held) p 0) (stored s p 0 .blocks) (stored s p k) ≡ true
+  place-fits : (p k : ℕ) → p < 16 → k < 16 → placeFits k (getD (s .«kept_count») p 0) (stored s p 0 .blocks) (stored s p k) ≡ true
   unfolding keptFits
   place-fits p k lt less =
       let e : (16 * p + k) / 16 ≡ p = omega arith in
       let r : (16 * p + k) % 16 ≡ k = omega arith in
-      let g = all-out 256 (λ q. placeFits (q % 16) (getD (s .held) (q / 16) 0) (stored s (q / 16) 0 .blocks) (stored s (q / 16) (q % 16))) (clauses .2) (16 * p + k) (omega arith) in
+      let g = all-out 256 (λ q. placeFits (q % 16) (getD (s .«kept_count») (q / 16) 0) (stored s (q / 16) 0 .blocks) (stored s (q / 16) (q % 16))) (clauses .2) (16 * p + k) (omega arith) in
       rw (e, r) at g
 
   one-fits : (k : ℕ) → k < 64 → oneFits k (s .underway) (message s k) ≡ true
@@ -133,11 +133,11 @@ module _ (v : List ℕ) (s : Run) (h : Holds v s) (z : Sized s) (fit : fitsWords
 
   -- A process of the run.
   module _ (p : ℕ) (lt : p < s .count) (room : p < 16) where
-    used-row : (getD (s .held) p 0 ≤ 16) × (allBelow 16 (λ f. pinFits (getD (getD (s .pins .0) p []) f Nothing)) ≡ true)
+    used-row : (getD (s .«kept_count») p 0 ≤ 16) × (allBelow 16 (λ f. pinFits (getD (getD (s .pins .0) p []) f Nothing)) ≡ true)
     unfolding rowFits
     used-row =
-        let g = and-out (leb (getD (s .held) p 0) 16) (allBelow 16 (λ f. pinFits (getD (getD (s .pins .0) p []) f Nothing))) (rw (lt-ltb p (s .count) lt) at (row-fits p room)) in
-        (leb-true (getD (s .held) p 0) 16 (g .0), g .1)
+        let g = and-out (leb (getD (s .«kept_count») p 0) 16) (allBelow 16 (λ f. pinFits (getD (getD (s .pins .0) p []) f Nothing))) (rw (lt-ltb p (s .count) lt) at (row-fits p room)) in
+        (leb-true (getD (s .«kept_count») p 0) 16 (g .0), g .1)
 
     there : HoldsProcess v s p
     there = h .process p lt room (used-row .0)
@@ -155,12 +155,12 @@ module _ (v : List ℕ) (s : Run) (h : Holds v s) (z : Sized s) (fit : fitsWords
     mark-row = sym (ap (λ (x : ℕ). not (eqb x 0)) (there .mark) ∙ mark-back (getD (s .sent) p false))
 
     module _ (k : ℕ) (less : k < 16) where
-      is-there : k < getD (s .held) p 0 → stored s p k ≡ pick (isKeptIn v p k) (checkpointIn v p k) noCheckpoint
+      is-there : k < getD (s .«kept_count») p 0 → stored s p k ≡ pick (isKeptIn v p k) (checkpointIn v p k) noCheckpoint
       unfolding placeFits checkpointFits isKeptIn checkpointIn
       is-there under =
-          let g = and-out (indexFits (stored s p k .index)) (eqb (stored s p k .blocks) (stored s p 0 .blocks)) (rw (lt-ltb k (getD (s .held) p 0) under) at (place-fits p k room less)) in
+          let g = and-out (indexFits (stored s p k .index)) (eqb (stored s p k .blocks) (stored s p 0 .blocks)) (rw (lt-ltb k (getD (s .«kept_count») p 0) under) at (place-fits p k room less)) in
           let o : HoldsStored v s p k = h .kept p k room less under (g .0) in
-          let used : ltb k (word v (heldAt p)) ≡ true = rw (there .held) (lt-ltb k (getD (s .held) p 0) under) in
+          let used : ltb k (word v (keptCountAt p)) ≡ true = rw (there .«kept_count») (lt-ltb k (getD (s .«kept_count») p 0) under) in
           let some : eqb (word v (indexAt p k)) 0 ≡ false = rw (o .index) (ne-eqb (stored s p k .index .0 + 1) 0 (λ e. omega arith)) in
           rw (used, some)
           (λ j. record {
@@ -170,34 +170,34 @@ module _ (v : List ℕ) (s : Run) (h : Holds v s) (z : Sized s) (fit : fitsWords
             blocks = (eqb-true (stored s p k .blocks) (stored s p 0 .blocks) (g .1) ∙ sym (there .blocks)) j;
           })
 
-      is-none : getD (s .held) p 0 ≤ k → stored s p k ≡ pick (isKeptIn v p k) (checkpointIn v p k) noCheckpoint
+      is-none : getD (s .«kept_count») p 0 ≤ k → stored s p k ≡ pick (isKeptIn v p k) (checkpointIn v p k) noCheckpoint
       unfolding placeFits isKeptIn
       is-none past =
-          let g : unusedCheckpoint (stored s p k) ≡ true = rw (le-ltb k (getD (s .held) p 0) past) at (place-fits p k room less) in
-          let unused : ltb k (word v (heldAt p)) ≡ false = rw (there .held) (le-ltb k (getD (s .held) p 0) past) in
+          let g : unusedCheckpoint (stored s p k) ≡ true = rw (le-ltb k (getD (s .«kept_count») p 0) past) at (place-fits p k room less) in
+          let unused : ltb k (word v (keptCountAt p)) ≡ false = rw (there .«kept_count») (le-ltb k (getD (s .«kept_count») p 0) past) in
           rw unused (zero-checkpoint (stored s p k) g (z .stored p k room less))
 
     kept-row : getD (s .kept .0) p [] ≡ keptIn v p
     unfolding keptIn
     kept-row = table-is pastEnd (getD (s .kept .0) p []) 16 (λ k. pick (isKeptIn v p k) (checkpointIn v p k) noCheckpoint) (z .kept-row p room)
-        (λ k less. by-lt k (getD (s .held) p 0) (is-there k less) (is-none k less))
+        (λ k less. by-lt k (getD (s .«kept_count») p 0) (is-there k less) (is-none k less))
 
   -- A row at n and above.
   module _ (p : ℕ) (le : s .count ≤ p) (room : p < 16) where
-    unused-row : (zeroFrom 0 (getD (s .vectors .0) p []) ≡ true) × (nothingFrom 0 (getD (s .pins .0) p []) ≡ true) × (getD (s .held) p 0 ≡ 0) × (getD (s .sent) p false ≡ false)
+    unused-row : (zeroFrom 0 (getD (s .vectors .0) p []) ≡ true) × (nothingFrom 0 (getD (s .pins .0) p []) ≡ true) × (getD (s .«kept_count») p 0 ≡ 0) × (getD (s .sent) p false ≡ false)
     unfolding rowFits
     unused-row =
-        let g : (zeroFrom 0 (getD (s .vectors .0) p []) && nothingFrom 0 (getD (s .pins .0) p []) && eqb (getD (s .held) p 0) 0 && not (getD (s .sent) p false)) ≡ true
+        let g : (zeroFrom 0 (getD (s .vectors .0) p []) && nothingFrom 0 (getD (s .pins .0) p []) && eqb (getD (s .«kept_count») p 0) 0 && not (getD (s .sent) p false)) ≡ true
         = rw (le-ltb p (s .count) le) at (row-fits p room) in
         let c = and-out _ (not (getD (s .sent) p false)) g in
-        let b = and-out _ (eqb (getD (s .held) p 0) 0) (c .0) in
+        let b = and-out _ (eqb (getD (s .«kept_count») p 0) 0) (c .0) in
         let a = and-out (zeroFrom 0 (getD (s .vectors .0) p [])) (nothingFrom 0 (getD (s .pins .0) p [])) (b .0) in
-        (a .0, a .1, eqb-true (getD (s .held) p 0) 0 (b .1), not-true (getD (s .sent) p false) (c .1))
+        (a .0, a .1, eqb-true (getD (s .«kept_count») p 0) 0 (b .1), not-true (getD (s .sent) p false) (c .1))
 
     kept-unused : getD (s .kept .0) p [] ≡ replicate mostProcesses noCheckpoint
     unfolding placeFits
     kept-unused = table-is pastEnd (getD (s .kept .0) p []) 16 (λ k. noCheckpoint) (z .kept-row p room)
-        (λ k less. zero-checkpoint (stored s p k) (rw (le-ltb k (getD (s .held) p 0) (omega (arith, unused-row .2))) at (place-fits p k room less)) (z .stored p k room less))
+        (λ k less. zero-checkpoint (stored s p k) (rw (le-ltb k (getD (s .«kept_count») p 0) (omega (arith, unused-row .2))) at (place-fits p k room less)) (z .stored p k room less))
         ∙ sym (table-replicate 16 noCheckpoint)
 
   -- A table of all rows.
@@ -215,7 +215,7 @@ module _ (v : List ℕ) (s : Run) (h : Holds v s) (z : Sized s) (fit : fitsWords
     message-fits = rw (lt-ltb k (s .underway) lt) at (one-fits k (omega (arith, most)))
 
     message-there : HoldsMessage v s k
-    message-there = h .mail k lt (omega (arith, most)) message-fits
+    message-there = h .each-message k lt (omega (arith, most)) message-fits
 
     message-back : messageIn v k ≡ message s k
     unfolding messageIn
@@ -270,7 +270,7 @@ module _ (v : List ℕ) (s : Run) (h : Holds v s) (z : Sized s) (fit : fitsWords
     pins = record { 0 = rows-back [] (s .pins .0) (λ p. pinsIn v (pinsAt p)) noPins (z .pins) pins-row (λ p le room. no-pins (getD (s .pins .0) p []) (unused-row p le room .1) (z .pin-row p room)) j };
     sent = rows-back false (s .sent) (markIn v) false (z .sent) mark-row (λ p le room. unused-row p le room .3) j;
     kept = record { 0 = rows-back [] (s .kept .0) (keptIn v) (replicate mostProcesses noCheckpoint) (z .kept) kept-row kept-unused j };
-    held = rows-back 0 (s .held) (λ p. word v (heldAt p)) 0 (z .held) (λ p lt room. sym (there p lt room .held)) (λ p le room. unused-row p le room .2) j;
+    «kept_count» = rows-back 0 (s .«kept_count») (λ p. word v (keptCountAt p)) 0 (z .«kept_count») (λ p lt room. sym (there p lt room .«kept_count»)) (λ p le room. unused-row p le room .2) j;
     messages = messages-back j;
     underway = h .underway j;
     last = h .last j;

@@ -17,18 +17,18 @@ use Rattle.model.specs.declared.Pins.{Pins}
 use Rattle.model.specs.declared.Kept.{Kept}
 use Rattle.model.specs.declared.Run.{Run}
 use Rattle.model.specs.Words.{mostProcesses, mostUnderWay, zeroVector, noPins, noCheckpoint, noMessage, blank}
-use Rattle.words.specs.Layout.{word, wide2, wide4, countOf, heldAt, partAt, pinsAt, causeAt, vectorIn, pinsIn, markIn, checkpointIn, isKeptIn, keptIn, messagesIn, ofProcesses, decoded, fits, runOf}
+use Rattle.words.specs.Layout.{word, wide2, wide4, countOf, keptCountAt, partAt, pinsAt, causeAt, vectorIn, pinsIn, markIn, checkpointIn, isKeptIn, keptIn, messagesIn, ofProcesses, decoded, fits, runOf}
 use Rattle.words.proofs.View.{run-fits, run-unfit, count-is, row-is}
 use Rattle.run_words.specs.Readable.{Readable, afterSend, afterLose}
 
-pub read-ends : (w : List ℕ) → Readable w → (vectors : Vectors) (pins : Pins) (sent : List Bool) (kept : Kept) (held : List ℕ) (messages : List Message) (last : ℕ) (disk : Disk) (n many : ℕ)
+pub read-ends : (w : List ℕ) → Readable w → (vectors : Vectors) (pins : Pins) (sent : List Bool) (kept : Kept) (keptCount : List ℕ) (messages : List Message) (last : ℕ) (disk : Disk) (n many : ℕ)
     → vectors ≡ record { 0 = ofProcesses w (λ p. vectorIn w (partAt p)) zeroVector } → pins ≡ record { 0 = ofProcesses w (λ p. pinsIn w (pinsAt p)) noPins }
     → sent ≡ ofProcesses w (markIn w) false → kept ≡ record { 0 = ofProcesses w (keptIn w) (replicate mostProcesses noCheckpoint) }
-    → held ≡ ofProcesses w (λ p. word w (heldAt p)) 0 → messages ≡ placed mostUnderWay noMessage (messagesIn w) → last ≡ wide2 w 2 → disk ≡ record { written = wide4 w 4; deleted = wide4 w 8 }
+    → keptCount ≡ ofProcesses w (λ p. word w (keptCountAt p)) 0 → messages ≡ placed mostUnderWay noMessage (messagesIn w) → last ≡ wide2 w 2 → disk ≡ record { written = wide4 w 4; deleted = wide4 w 8 }
     → n ≡ word w 0 → many ≡ word w 1
-    → record { count = n; vectors = vectors; pins = pins; sent = sent; kept = kept; held = held; messages = messages; underway = many; last = last; disk = disk } ≡ runOf w
+    → record { count = n; vectors = vectors; pins = pins; sent = sent; kept = kept; «kept_count» = keptCount; messages = messages; underway = many; last = last; disk = disk } ≡ runOf w
 unfolding decoded
-read-ends w r vectors pins sent kept held messages last disk n many a b c d e f g h i j = rw (a, b, c, d, e, f, g, h, i, j) (sym (run-fits w (r .fit)))
+read-ends w r vectors pins sent kept keptCount messages last disk n many a b c d e f g h i j = rw (a, b, c, d, e, f, g, h, i, j) (sym (run-fits w (r .fit)))
 
 -- The same after a send and after a loss, where the rest comes from the state before.
 module _ (w : List ℕ) (s : Run) (r : Readable w) where
@@ -38,12 +38,12 @@ module _ (w : List ℕ) (s : Run) (r : Readable w) where
 
   pub sent-ends : runOf w ≡ afterSend s (runOf w) → (sent : List Bool) (messages : List Message) (last many : ℕ)
       → sent ≡ ofProcesses w (markIn w) false → messages ≡ placed mostUnderWay noMessage (messagesIn w) → last ≡ wide2 w 2 → many ≡ word w 1
-      → record { count = s .count; vectors = s .vectors; pins = s .pins; sent = sent; kept = s .kept; held = s .held; messages = messages; underway = many; last = last; disk = s .disk } ≡ runOf w
+      → record { count = s .count; vectors = s .vectors; pins = s .pins; sent = sent; kept = s .kept; «kept_count» = s .«kept_count»; messages = messages; underway = many; last = last; disk = s .disk } ≡ runOf w
   unfolding decoded afterSend
   sent-ends same sent messages last many a b c d = rw (a, b, c, d) (sym (same ∙ ap (afterSend s) (run-fits w (r .fit))))
 
   pub lost-ends : runOf w ≡ afterLose s (runOf w) → (messages : List Message) (many : ℕ) → messages ≡ placed mostUnderWay noMessage (messagesIn w) → many ≡ word w 1
-      → record { count = s .count; vectors = s .vectors; pins = s .pins; sent = s .sent; kept = s .kept; held = s .held; messages = messages; underway = many; last = s .last; disk = s .disk } ≡ runOf w
+      → record { count = s .count; vectors = s .vectors; pins = s .pins; sent = s .sent; kept = s .kept; «kept_count» = s .«kept_count»; messages = messages; underway = many; last = s .last; disk = s .disk } ≡ runOf w
   unfolding decoded afterLose
   lost-ends same messages many a b = rw (a, b) (sym (same ∙ ap (afterLose s) (run-fits w (r .fit))))
 

@@ -31,7 +31,7 @@ pub record Sized (s : Run) : Type 0 where
   pub kept : length (s .kept .0) ≡ 16
   pub kept-row : (p : ℕ) → p < 16 → length (getD (s .kept .0) p []) ≡ 16
   pub stored : (p k : ℕ) → p < 16 → k < 16 → length (getD (getD (s .kept .0) p []) k pastEnd .vector) ≡ 16
-  pub held : length (s .held) ≡ 16
+  pub «kept_count» : length (s .«kept_count») ≡ 16
   pub messages : length (s .messages) ≡ 64
   -- a vector's entry has 16 bits: of each row the own entry
   pub own-small : (p : ℕ) → p < 16 → entry (getD (s .vectors .0) p []) p .0 < 65536
@@ -54,7 +54,7 @@ sizes s vs p =
     let pins-known = g .1 .1 .0 .1 .1 .0 in
     let sent-known = g .1 .1 .1 .0 in
     let kept-known = g .1 .1 .1 .1 .0 .1 .1 .0 in
-    let held-known = g .1 .1 .1 .1 .1 .0 in
+    let kept-count-known = g .1 .1 .1 .1 .1 .0 in
     let messages-known = g .1 .1 .1 .1 .1 .1 .0 in
     let vectors : length (s .vectors .0) ≡ 16 = sym (length-map (s .vectors .0) _) ∙ vectors-known .1 .0 .1 in
     let pins : length (s .pins .0) ≡ 16 = sym (length-map (s .pins .0) _) ∙ pins-known .1 .0 .1 in
@@ -76,7 +76,7 @@ sizes s vs p =
           each-at _ _ (λ (r : List Checkpoint). (k : ℕ) → k < length r → length (getD r k pastEnd .vector) ≡ 16)
           (λ r us q k lt. each-at _ _ (λ (c : Checkpoint). length (c .vector) ≡ 16) (λ c us q. sym (length-map (c .vector) _) ∙ q .1 .1 .1 .0 .1 .0 .1) r _ (q .1 .1) k pastEnd lt)
           (s .kept .0) _ (kept-known .1 .1) p [] (omega arith) k (omega (arith, kept-row p lt));
-      held = sym (length-map (s .held) _) ∙ held-known .1 .0 .1;
+      «kept_count» = sym (length-map (s .«kept_count») _) ∙ kept-count-known .1 .0 .1;
       messages = messages;
       own-small = λ p lt.
           each-at _ _ (λ (r : List Interval). (f : ℕ) → f < length r → entry r f .0 < 65536)

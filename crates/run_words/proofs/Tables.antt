@@ -22,7 +22,7 @@ use Rattle.model.specs.declared.Checkpoint.{Checkpoint}
 use Rattle.model.specs.declared.Message.{Message}
 use Rattle.model.specs.Words.{mostProcesses, noCheckpoint, noMessage}
 use Rattle.laws.specs.Truth.{and-out}
-use Rattle.words.specs.Layout.{word, heldAt, indexAt, countOf, checkpointIn, isKeptIn, keptIn, messageIn, isMessage, ofProcesses}
+use Rattle.words.specs.Layout.{word, keptCountAt, indexAt, countOf, checkpointIn, isKeptIn, keptIn, messageIn, isMessage, ofProcesses}
 
 -- A row for each process.
 pub rows-of : {A : Type 0} (w : List ℕ) (n : ℕ) (part : ℕ → A) (unused : A) → n ≡ countOf w → n ≤ 16 → setBelow n part (replicate 16 unused) ≡ ofProcesses w part unused
@@ -95,9 +95,9 @@ module _ (w : List ℕ) where
         (λ ne. upd-other (λ i. table 16 (placeAt q i)) (q / 16) (table 16 (placeAt (q + 1) (q / 16))) j ne
         ∙ table-same 16 (placeAt q j) (placeAt (q + 1) j) (λ i less. same-place q j i (λ e. ne (omega arith)))))
 
-    pub so-far-turn : (kept : List (List Checkpoint)) (c : Checkpoint) → kept ≡ soFar q → c ≡ checkpointIn w (q / 16) (q % 16) → isKeptIn w (q / 16) (q % 16) ≡ true
+    pub so-far-step : (kept : List (List Checkpoint)) (c : Checkpoint) → kept ≡ soFar q → c ≡ checkpointIn w (q / 16) (q % 16) → isKeptIn w (q / 16) (q % 16) ≡ true
         → set kept (q / 16) (set (getD kept (q / 16) []) (q % 16) c) ≡ soFar (q + 1)
-    so-far-turn kept c e f used = rw (e, f) (so-far-set used)
+    so-far-step kept c e f used = rw (e, f) (so-far-set used)
 
     none-place : isKeptIn w (q / 16) (q % 16) ≡ false → (b : Bool) → pick (b && isKeptIn w (q / 16) (q % 16)) (checkpointIn w (q / 16) (q % 16)) noCheckpoint ≡ noCheckpoint
     none-place unused true = rw unused
@@ -128,33 +128,33 @@ module _ (w : List ℕ) where
   pub kept-some : (p k : ℕ) → isKeptIn w p k ≡ true → 1 ≤ word w (indexAt p k)
   unfolding isKeptIn
   kept-some p k used = by-eq (word w (indexAt p k)) 0
-      (λ e. absurd (false≢true (rw e at (and-out (ltb k (word w (heldAt p))) (not (eqb (word w (indexAt p k)) 0)) used .1))))
+      (λ e. absurd (false≢true (rw e at (and-out (ltb k (word w (keptCountAt p))) (not (eqb (word w (indexAt p k)) 0)) used .1))))
       (λ ne. omega arith)
 
   -- The messages of the first k places.
-  abbrev pub mail : ℕ → List Message
-  mail k = select isMessage (table k (messageIn w))
+  abbrev pub firstMessages : ℕ → List Message
+  firstMessages k = select isMessage (table k (messageIn w))
 
-  mail-more : (k : ℕ) → mail (k + 1) ≡ mail k ++ pick (isMessage (messageIn w k)) (messageIn w k ∷ []) []
+  first-messages-more : (k : ℕ) → firstMessages (k + 1) ≡ firstMessages k ++ pick (isMessage (messageIn w k)) (messageIn w k ∷ []) []
   unfolding table
-  mail-more k = rw (add-one k) (select-append isMessage (table k (messageIn w)) (messageIn w k ∷ []) ∙ ap (λ (l : List Message). mail k ++ l) (select-one isMessage (messageIn w k)))
+  first-messages-more k = rw (add-one k) (select-append isMessage (table k (messageIn w)) (messageIn w k ∷ []) ∙ ap (λ (l : List Message). firstMessages k ++ l) (select-one isMessage (messageIn w k)))
 
-  pub mail-few : (k : ℕ) → length (mail k) ≤ k
-  mail-few k = omega (arith, select-length isMessage (table k (messageIn w)), length-table k (messageIn w))
+  pub first-messages-few : (k : ℕ) → length (firstMessages k) ≤ k
+  first-messages-few k = omega (arith, select-length isMessage (table k (messageIn w)), length-table k (messageIn w))
 
-  module _ (k many : ℕ) (messages : List Message) (x : Message) (room : k < 64) (here : x ≡ messageIn w k) (so-many : many ≡ length (mail k)) (laid : messages ≡ placed 64 noMessage (mail k)) where
-    pub mail-yes : (x .number ≡ 0 → ⊥) → (many + 1 ≡ length (mail (k + 1))) × (set messages many x ≡ placed 64 noMessage (mail (k + 1)))
+  module _ (k many : ℕ) (messages : List Message) (x : Message) (room : k < 64) (here : x ≡ messageIn w k) (so-many : many ≡ length (firstMessages k)) (laid : messages ≡ placed 64 noMessage (firstMessages k)) where
+    pub first-messages-used : (x .number ≡ 0 → ⊥) → (many + 1 ≡ length (firstMessages (k + 1))) × (set messages many x ≡ placed 64 noMessage (firstMessages (k + 1)))
     unfolding isMessage
-    mail-yes some =
+    first-messages-used some =
         let used : not (eqb (messageIn w k .number) 0) ≡ true = ap (λ (m : Message). not (eqb (m .number) 0)) (sym here) ∙ ap not (ne-eqb (x .number) 0 some) in
-        let e : mail (k + 1) ≡ mail k ++ (messageIn w k ∷ []) = mail-more k ∙ ap (λ (b : Bool). mail k ++ pick b (messageIn w k ∷ []) []) used in (
-          ap (λ (n : ℕ). n + 1) so-many ∙ sym (ap length e ∙ length-append (mail k) (messageIn w k ∷ [])),
-          rw (laid, so-many, here) (placed-more 64 noMessage (mail k) (messageIn w k) (omega (arith, mail-few k)) ∙ ap (placed 64 noMessage) (sym e)),
+        let e : firstMessages (k + 1) ≡ firstMessages k ++ (messageIn w k ∷ []) = first-messages-more k ∙ ap (λ (b : Bool). firstMessages k ++ pick b (messageIn w k ∷ []) []) used in (
+          ap (λ (n : ℕ). n + 1) so-many ∙ sym (ap length e ∙ length-append (firstMessages k) (messageIn w k ∷ [])),
+          rw (laid, so-many, here) (placed-more 64 noMessage (firstMessages k) (messageIn w k) (omega (arith, first-messages-few k)) ∙ ap (placed 64 noMessage) (sym e)),
         )
 
-    pub mail-no : x .number ≡ 0 → (many ≡ length (mail (k + 1))) × (messages ≡ placed 64 noMessage (mail (k + 1)))
+    pub first-messages-unused : x .number ≡ 0 → (many ≡ length (firstMessages (k + 1))) × (messages ≡ placed 64 noMessage (firstMessages (k + 1)))
     unfolding isMessage
-    mail-no none =
+    first-messages-unused none =
         let unused : not (eqb (messageIn w k .number) 0) ≡ false = ap (λ (m : Message). not (eqb (m .number) 0)) (sym here) ∙ ap (λ (n : ℕ). not (eqb n 0)) none in
-        let e : mail (k + 1) ≡ mail k = mail-more k ∙ ap (λ (b : Bool). mail k ++ pick b (messageIn w k ∷ []) []) unused ∙ append-nil (mail k) in
+        let e : firstMessages (k + 1) ≡ firstMessages k = first-messages-more k ∙ ap (λ (b : Bool). firstMessages k ++ pick b (messageIn w k ∷ []) []) unused ∙ append-nil (firstMessages k) in
         (so-many ∙ ap length (sym e), laid ∙ ap (placed 64 noMessage) (sym e))

@@ -15,7 +15,7 @@ use Rattle.model.specs.declared.Message.{Message}
 use Rattle.model.specs.declared.Disk.{Disk}
 use Rattle.model.specs.declared.Run.{Run}
 use Rattle.model.specs.Words.{mostProcesses, pastEnd, mostUnderWay, keptPlaces}
-use Rattle.words.specs.Layout.{heldAt, markAt, blocksAt, partAt, pinsAt, indexAt, causeAt, storedAt, lowAt, highAt, senderAt, receiverAt, carriedAt}
+use Rattle.words.specs.Layout.{keptCountAt, markAt, blocksAt, partAt, pinsAt, indexAt, causeAt, storedAt, lowAt, highAt, senderAt, receiverAt, carriedAt}
 use Rattle.words.specs.Puts.{Put, puts, one, vectorPut, puts2, puts4}
 use Rattle.run_words.specs.Fits.{pastMessages, indexFits, messageFits}
 
@@ -35,24 +35,24 @@ abbrev pub checkpointPuts : ℕ → ℕ → Checkpoint → List Put
 checkpointPuts p k c = one (indexAt p k) (c .index .0 + 1) ∷ one (causeAt p k) (c .cause) ∷ vectorPut (storedAt p k) (c .vector) ∷ []
 
 unfoldable pub placeFilled : ℕ → ℕ → ℕ → Checkpoint → List ℕ → List ℕ
-placeFilled p k held c w = pick (ltb k held && indexFits (c .index)) (puts w (checkpointPuts p k c)) w
+placeFilled p k keptCount c w = pick (ltb k keptCount && indexFits (c .index)) (puts w (checkpointPuts p k c)) w
 
 -- The block count of process p, which is its first checkpoint's.
 abbrev pub blocksPut : ℕ → List (List Checkpoint) → Put
 blocksPut p kept = one (blocksAt p) (getD (getD kept p []) 0 pastEnd .blocks)
 
 unfoldable pub keptFilled : List (List Checkpoint) → List ℕ → ℕ → List ℕ → List ℕ
-keptFilled kept held q w = placeFilled (q / mostProcesses) (q % mostProcesses) (getD held (q / mostProcesses) 0) (getD (getD kept (q / mostProcesses) []) (q % mostProcesses) pastEnd) (puts w (blocksPut (q / mostProcesses) kept ∷ []))
+keptFilled kept keptCount q w = placeFilled (q / mostProcesses) (q % mostProcesses) (getD keptCount (q / mostProcesses) 0) (getD (getD kept (q / mostProcesses) []) (q % mostProcesses) pastEnd) (puts w (blocksPut (q / mostProcesses) kept ∷ []))
 
 -- What else process p has.
 abbrev pub processPuts : ℕ → List Interval → List Pin → ℕ → Bool → List Put
-processPuts p vector pins held mark = vectorPut (partAt p) vector ∷ pinsPut (pinsAt p) pins ∷ one (heldAt p) held ∷ one (markAt p) (markWord mark) ∷ []
+processPuts p vector pins keptCount mark = vectorPut (partAt p) vector ∷ pinsPut (pinsAt p) pins ∷ one (keptCountAt p) keptCount ∷ one (markAt p) (markWord mark) ∷ []
 
 unfoldable pub rowFilled : ℕ → ℕ → List Interval → List Pin → ℕ → Bool → List ℕ → List ℕ
-rowFilled p n vector pins held mark w = pick (ltb p n && leb held mostProcesses) (puts w (processPuts p vector pins held mark)) w
+rowFilled p n vector pins keptCount mark w = pick (ltb p n && leb keptCount mostProcesses) (puts w (processPuts p vector pins keptCount mark)) w
 
 unfoldable pub rowsFilled : ℕ → List (List Interval) → List (List Pin) → List ℕ → List Bool → ℕ → List ℕ → List ℕ
-rowsFilled n vectors pins held sent p w = rowFilled p n (getD vectors p []) (getD pins p []) (getD held p 0) (getD sent p false) w
+rowsFilled n vectors pins keptCount sent p w = rowFilled p n (getD vectors p []) (getD pins p []) (getD keptCount p 0) (getD sent p false) w
 
 -- A message in place k.
 abbrev pub messagePuts : ℕ → Message → List Put
@@ -74,6 +74,6 @@ numberPuts n many last disk =
 unfoldable pub filled : Run → List ℕ → List ℕ
 filled s w = puts
     (iter mostUnderWay (messagesFilled (s .underway) (s .messages))
-    (iter mostProcesses (rowsFilled (s .count) (s .vectors .0) (s .pins .0) (s .held) (s .sent))
-    (iter keptPlaces (keptFilled (s .kept .0) (s .held)) w)))
+    (iter mostProcesses (rowsFilled (s .count) (s .vectors .0) (s .pins .0) (s .«kept_count») (s .sent))
+    (iter keptPlaces (keptFilled (s .kept .0) (s .«kept_count»)) w)))
     (numberPuts (s .count) (s .underway) (s .last) (s .disk))

@@ -39,13 +39,13 @@ checkpointFits blocks c = indexFits (c .index) && eqb (c .blocks) blocks
 
 -- "anything in unused places": those after the kept checkpoints,
 unfoldable pub placeFits : ℕ → ℕ → ℕ → Checkpoint → Bool
-placeFits k held blocks c = pick (ltb k held) (checkpointFits blocks c) (unusedCheckpoint c)
+placeFits k keptCount blocks c = pick (ltb k keptCount) (checkpointFits blocks c) (unusedCheckpoint c)
 
 -- in the row of a process at n and above,
 unfoldable pub rowFits : ℕ → ℕ → List Interval → List Pin → ℕ → Bool → Bool
-rowFits p n vector pins held mark = pick (ltb p n)
-    (leb held mostProcesses && allBelow mostProcesses (λ f. pinFits (getD pins f Nothing)))
-    (zeroFrom 0 vector && nothingFrom 0 pins && eqb held 0 && not mark)
+rowFits p n vector pins keptCount mark = pick (ltb p n)
+    (leb keptCount mostProcesses && allBelow mostProcesses (λ f. pinFits (getD pins f Nothing)))
+    (zeroFrom 0 vector && nothingFrom 0 pins && eqb keptCount 0 && not mark)
 
 -- and after the messages under way.
 unfoldable pub oneFits : ℕ → ℕ → Message → Bool
@@ -53,10 +53,10 @@ oneFits k many x = pick (ltb k many) (messageFits x) (unusedMessage x)
 
 -- The same of all places of kept checkpoints, of all rows, of all places of messages: place k of process p is number 16 p + k.
 unfoldable pub keptFits : List (List Checkpoint) → List ℕ → Bool
-keptFits kept held = allBelow keptPlaces (λ q. placeFits (q % mostProcesses) (getD held (q / mostProcesses) 0) (getD (getD kept (q / mostProcesses) []) 0 pastEnd .blocks) (getD (getD kept (q / mostProcesses) []) (q % mostProcesses) pastEnd))
+keptFits kept keptCount = allBelow keptPlaces (λ q. placeFits (q % mostProcesses) (getD keptCount (q / mostProcesses) 0) (getD (getD kept (q / mostProcesses) []) 0 pastEnd .blocks) (getD (getD kept (q / mostProcesses) []) (q % mostProcesses) pastEnd))
 
 unfoldable pub rowsFit : ℕ → List (List Interval) → List (List Pin) → List ℕ → List Bool → Bool
-rowsFit n vectors pins held sent = allBelow mostProcesses (λ p. rowFits p n (getD vectors p []) (getD pins p []) (getD held p 0) (getD sent p false))
+rowsFit n vectors pins keptCount sent = allBelow mostProcesses (λ p. rowFits p n (getD vectors p []) (getD pins p []) (getD keptCount p 0) (getD sent p false))
 
 unfoldable pub messagesFit : ℕ → List Message → Bool
 messagesFit many messages = allBelow mostUnderWay (λ k. oneFits k many (getD messages k pastMessages))
@@ -64,6 +64,6 @@ messagesFit many messages = allBelow mostUnderWay (λ k. oneFits k many (getD me
 unfoldable pub fitsWords : Run → Bool
 fitsWords s =
     leb (s .count) mostProcesses && leb (s .underway) mostUnderWay
-    && keptFits (s .kept .0) (s .held)
-    && rowsFit (s .count) (s .vectors .0) (s .pins .0) (s .held) (s .sent)
+    && keptFits (s .kept .0) (s .«kept_count»)
+    && rowsFit (s .count) (s .vectors .0) (s .pins .0) (s .«kept_count») (s .sent)
     && messagesFit (s .underway) (s .messages)

@@ -139,11 +139,11 @@ fn put_checkpoint(w: &mut [u16], p: usize, k: usize, c: Checkpoint)
     );
 }
 
-fn put_place(w: &mut [u16], p: usize, k: usize, c: Checkpoint, held: usize, blocks: u16) -> bool
+fn put_place(w: &mut [u16], p: usize, k: usize, c: Checkpoint, kept_count: usize, blocks: u16) -> bool
     requires { ⌜ (length (now w) ≡ stateSize) × (p < mostProcesses) × (k < mostProcesses) ⌝ }
-    ensures { λ r. ⌜ (r ≡ placeFits k held blocks c) × (now (w .exit) ≡ placeFilled p k held c (now (w .entry))) ⌝ }
+    ensures { λ r. ⌜ (r ≡ placeFits k «kept_count» blocks c) × (now (w .exit) ≡ placeFilled p k «kept_count» c (now (w .entry))) ⌝ }
 {
-    if k < held {
+    if k < kept_count {
         let fit = is_index_fit(c.index);
         if !fit {
             return false;
@@ -157,10 +157,10 @@ fn put_place(w: &mut [u16], p: usize, k: usize, c: Checkpoint, held: usize, bloc
 fn put_kept(
     w: &mut [u16],
     kept: [[Checkpoint; PROCESSES]; PROCESSES],
-    held: [usize; PROCESSES],
+    kept_count: [usize; PROCESSES],
 ) -> bool
     requires { ⌜ length (now w) ≡ stateSize ⌝ }
-    ensures { λ r. ⌜ (r ≡ keptFits kept held) × (now (w .exit) ≡ iter keptPlaces (keptFilled kept held) (now (w .entry))) ⌝ }
+    ensures { λ r. ⌜ (r ≡ keptFits kept «kept_count») × (now (w .exit) ≡ iter keptPlaces (keptFilled kept «kept_count») (now (w .entry))) ⌝ }
 {
     let mut all = true;
     for q in 0..PLACES {
@@ -169,7 +169,7 @@ fn put_kept(
         let c = kept[p][k];
         let first = kept[p][0];
         w[places::BLOCKS + p] = first.blocks;
-        let fit = put_place(w, p, k, c, held[p], first.blocks);
+        let fit = put_place(w, p, k, c, kept_count[p], first.blocks);
         all = all & fit;
     }
     all
@@ -186,15 +186,15 @@ fn put_process(
     p: usize,
     vector: [Interval; PROCESSES],
     pins: [Pin; PROCESSES],
-    held: usize,
+    kept_count: usize,
     mark: bool,
 ) -> bool
-    requires { ⌜ (length (now w) ≡ stateSize) × (p < mostProcesses) × (held ≤ mostProcesses) ⌝ }
-    ensures { λ r. ⌜ (r ≡ allBelow mostProcesses (λ f. pinFits (getD pins f Nothing))) × (now (w .exit) ≡ puts (now (w .entry)) (processPuts p vector pins held mark)) ⌝ }
+    requires { ⌜ (length (now w) ≡ stateSize) × (p < mostProcesses) × («kept_count» ≤ mostProcesses) ⌝ }
+    ensures { λ r. ⌜ (r ≡ allBelow mostProcesses (λ f. pinFits (getD pins f Nothing))) × (now (w .exit) ≡ puts (now (w .entry)) (processPuts p vector pins «kept_count» mark)) ⌝ }
 {
     words::put_vector(w, places::PARTS + places::PART * p, vector);
     let fit = put_pins(w, places::PINS + places::PART * p, pins);
-    w[places::HELD + p] = held as u16;
+    w[places::KEPT + p] = kept_count as u16;
     let x = mark_word(mark);
     w[places::MARKS + p] = x;
     fit
@@ -206,21 +206,21 @@ fn put_row(
     n: usize,
     vector: [Interval; PROCESSES],
     pins: [Pin; PROCESSES],
-    held: usize,
+    kept_count: usize,
     mark: bool,
 ) -> bool
     requires { ⌜ (length (now w) ≡ stateSize) × (p < mostProcesses) ⌝ }
-    ensures { λ r. ⌜ (r ≡ rowFits p n vector pins held mark) × (now (w .exit) ≡ rowFilled p n vector pins held mark (now (w .entry))) ⌝ }
+    ensures { λ r. ⌜ (r ≡ rowFits p n vector pins «kept_count» mark) × (now (w .exit) ≡ rowFilled p n vector pins «kept_count» mark (now (w .entry))) ⌝ }
 {
     if p < n {
-        if PROCESSES < held {
+        if PROCESSES < kept_count {
             return false;
         }
-        return put_process(w, p, vector, pins, held, mark);
+        return put_process(w, p, vector, pins, kept_count, mark);
     }
     let zero = is_zero(vector);
     let nothing = are_nothing(pins);
-    zero & nothing & (held == 0) & !mark
+    zero & nothing & (kept_count == 0) & !mark
 }
 
 fn put_rows(
@@ -228,18 +228,18 @@ fn put_rows(
     n: usize,
     vectors: [[Interval; PROCESSES]; PROCESSES],
     pins: [[Pin; PROCESSES]; PROCESSES],
-    held: [usize; PROCESSES],
+    kept_count: [usize; PROCESSES],
     sent: [bool; PROCESSES],
 ) -> bool
     requires { ⌜ length (now w) ≡ stateSize ⌝ }
-    ensures { λ r. ⌜ (r ≡ rowsFit n vectors pins held sent) × (now (w .exit) ≡ iter mostProcesses (rowsFilled n vectors pins held sent) (now (w .entry))) ⌝ }
+    ensures { λ r. ⌜ (r ≡ rowsFit n vectors pins «kept_count» sent) × (now (w .exit) ≡ iter mostProcesses (rowsFilled n vectors pins «kept_count» sent) (now (w .entry))) ⌝ }
 {
     let mut all = true;
     for p in 0..PROCESSES {
         let vector = vectors[p];
         let row = pins[p];
         let mark = sent[p];
-        let fit = put_row(w, p, n, vector, row, held[p], mark);
+        let fit = put_row(w, p, n, vector, row, kept_count[p], mark);
         all = all & fit;
     }
     all
@@ -326,13 +326,13 @@ pub fn fill(w: &mut [u16], s: Run) -> bool
         return false;
     }
     let sent = s.sent;
-    let held = s.held;
+    let kept_count = s.kept_count;
     let messages = s.messages;
     let vectors = rows::squares::vector_rows(s.vectors);
     let pins = rows::squares::pin_rows(s.pins);
     let kept = rows::squares::kept_rows(s.kept);
-    let places_fit = put_kept(w, kept, held);
-    let rows_fit = put_rows(w, n, vectors, pins, held, sent);
+    let places_fit = put_kept(w, kept, kept_count);
+    let rows_fit = put_rows(w, n, vectors, pins, kept_count, sent);
     let messages_fit = put_messages(w, messages, many);
     put_numbers(w, n, many, s.last, s.disk);
     places_fit & rows_fit & messages_fit

@@ -14,7 +14,7 @@ ghost use Prim.Native.Nat.{_+_, _≤_, _<_};
 ghost use lib.ListN.{length};
 ghost use Rattle.laws.specs.Lists.{placed};
 ghost use Rattle.model.specs.Words.{mostUnderWay, zeroVector, noPins, noMessage, mostProcesses};
-ghost use Rattle.words.specs.Layout.{word, wide4, countOf, endOf, heldAt, partAt, pinsAt, indexAt, causeAt, vectorIn, pinsIn, markIn, checkpointIn, isKeptIn, messageIn, messagesIn, ofProcesses, runOf, stateSize};
+ghost use Rattle.words.specs.Layout.{word, wide4, countOf, endOf, keptCountAt, partAt, pinsAt, indexAt, causeAt, vectorIn, pinsIn, markIn, checkpointIn, isKeptIn, messageIn, messagesIn, ofProcesses, runOf, stateSize};
 ghost use Rattle.run_words.specs.Readable.{Readable, afterSend, afterLose};
 
 fn pins_at(w: &[u16], at: usize) -> [Pin; PROCESSES]
@@ -63,8 +63,8 @@ fn is_kept(w: &[u16], p: usize, k: usize) -> bool
     requires { ⌜ (length (now w) ≡ stateSize) × (p < mostProcesses) × (k < mostProcesses) ⌝ }
     ensures { λ r. ⌜ r ≡ isKeptIn (now (w .entry)) p k ⌝ }
 {
-    let held = number_of(w[places::HELD + p]);
-    (k < held) & (w[places::INDEXES + places::PART * p + k] != 0)
+    let kept_count = number_of(w[places::KEPT + p]);
+    (k < kept_count) & (w[places::INDEXES + places::PART * p + k] != 0)
 }
 
 fn message_at(w: &[u16], k: usize) -> Message
@@ -138,16 +138,16 @@ fn pins_of(w: &[u16], n: usize) -> [[Pin; PROCESSES]; PROCESSES]
     pins
 }
 
-fn held_of(w: &[u16], n: usize) -> [usize; PROCESSES]
+fn kept_count_of(w: &[u16], n: usize) -> [usize; PROCESSES]
     requires { ⌜ (length (now w) ≡ stateSize) × (n ≡ countOf (now w)) × (n ≤ mostProcesses) ⌝ }
-    ensures { λ r. ⌜ r ≡ ofProcesses (now (w .entry)) (λ p. word (now (w .entry)) (heldAt p)) 0 ⌝ }
+    ensures { λ r. ⌜ r ≡ ofProcesses (now (w .entry)) (λ p. word (now (w .entry)) (keptCountAt p)) 0 ⌝ }
 {
-    let mut held = [0usize; PROCESSES];
+    let mut kept_count = [0usize; PROCESSES];
     for p in 0..n {
-        let many = number_of(w[places::HELD + p]);
-        held[p] = many;
+        let many = number_of(w[places::KEPT + p]);
+        kept_count[p] = many;
     }
-    held
+    kept_count
 }
 
 fn marks_of(w: &[u16], n: usize) -> [bool; PROCESSES]
@@ -180,7 +180,7 @@ pub fn read(w: &[u16]) -> Run
     let vectors = rows::squares::vectors_from(vectors_of(w, n));
     let pins = rows::squares::pins_from(pins_of(w, n));
     let sent = marks_of(w, n);
-    let held = held_of(w, n);
+    let kept_count = kept_count_of(w, n);
     let end = number_of(w[places::END]);
     let messages = messages_of(w, end);
     let disk = disk_of(w);
@@ -206,7 +206,7 @@ pub fn read(w: &[u16]) -> Run
         pins,
         sent,
         kept,
-        held,
+        kept_count,
         messages,
         underway,
         last,

@@ -140,29 +140,29 @@ module _ (w : List ℕ) (size : length w ≡ 6464) where
       (λ k less. in-front k (omega arith) ∙ at-heading w k less)
       (sum-back ∙ ap crc32c (sym (saved-front w size)))
 
-pub held-length : (bytes : List ℕ) → length (wordsIn bytes) ≡ 6464
+pub loaded-length : (bytes : List ℕ) → length (wordsIn bytes) ≡ 6464
 unfolding wordsIn
-held-length bytes = length-table 6464 (wordIn bytes)
+loaded-length bytes = length-table 6464 (wordIn bytes)
 
 -- Bytes that are whole are those of the words that they hold.
 module _ (bytes : List ℕ) (small : Bytes bytes) (whole : isWhole bytes ≡ true) where
   size : length bytes ≡ 12942
   size = whole-size bytes whole
 
-  held : (k : ℕ) → k < 6464 → getD (wordsIn bytes) k 0 ≡ getD bytes (10 + 2 * k) 0 + 256 * getD bytes (11 + 2 * k) 0
+  loaded : (k : ℕ) → k < 6464 → getD (wordsIn bytes) k 0 ≡ getD bytes (10 + 2 * k) 0 + 256 * getD bytes (11 + 2 * k) 0
   unfolding wordsIn wordIn
-  held k less = getD-table 6464 (wordIn bytes) k 0 less
+  loaded k less = getD-table 6464 (wordIn bytes) k 0 less
 
   -- Byte k after the heading.
-  byte-held : (k : ℕ) → k < 12928 → getD (wordBytes (wordsIn bytes)) k 0 ≡ getD bytes (10 + k) 0
-  byte-held k less = by-parity k
+  byte-loaded : (k : ℕ) → k < 12928 → getD (wordBytes (wordsIn bytes)) k 0 ≡ getD bytes (10 + k) 0
+  byte-loaded k less = by-parity k
       (λ zero. let even : k ≡ 2 * (k / 2) = omega arith in
-      let e = held (k / 2) (omega arith) in
+      let e = loaded (k / 2) (omega arith) in
       let lower = small (10 + 2 * (k / 2)) in
       let low : getD (wordsIn bytes) (k / 2) 0 % 256 ≡ getD bytes (10 + 2 * (k / 2)) 0 = omega arith in
       ap (λ (n : ℕ). getD (wordBytes (wordsIn bytes)) n 0) even ∙ low-byte (wordsIn bytes) (k / 2) ∙ low ∙ ap (λ (n : ℕ). getD bytes (10 + n) 0) (sym even))
       (λ one. let odd : k ≡ 1 + 2 * (k / 2) = omega arith in
-      let e = held (k / 2) (omega arith) in
+      let e = loaded (k / 2) (omega arith) in
       let lower = small (10 + 2 * (k / 2)) in
       let place : 11 + 2 * (k / 2) ≡ 10 + k = omega arith in
       let high : getD (wordsIn bytes) (k / 2) 0 / 256 ≡ getD bytes (11 + 2 * (k / 2)) 0 = omega arith in
@@ -172,29 +172,29 @@ module _ (bytes : List ℕ) (small : Bytes bytes) (whole : isWhole bytes ≡ tru
   byte-summed k less = by-lt k 10
       (λ early. whole-heading bytes whole k early ∙ sym (at-heading (wordsIn bytes) k early))
       (λ late. let e : 10 + (k - 10) ≡ k = omega arith in
-      let same = sym (byte-held (k - 10) (omega arith)) ∙ sym (at-words (wordsIn bytes) (k - 10)) in
+      let same = sym (byte-loaded (k - 10) (omega arith)) ∙ sym (at-words (wordsIn bytes) (k - 10)) in
       rw e at same)
 
-  front-held : take 12938 bytes ≡ summedBytes (wordsIn bytes)
-  front-held =
+  front-loaded : take 12938 bytes ≡ summedBytes (wordsIn bytes)
+  front-loaded =
       let short : length (take 12938 bytes) ≡ 12938 = length-take-le 12938 bytes (omega (arith, size)) in
-      ext-getD 0 (take 12938 bytes) _ (short ∙ sym (summed-length (wordsIn bytes) (held-length bytes)))
+      ext-getD 0 (take 12938 bytes) _ (short ∙ sym (summed-length (wordsIn bytes) (loaded-length bytes)))
       (λ k less. let few : k < 12938 = rw short at less in getD-take 12938 bytes k 0 few ∙ byte-summed k few)
 
-  pub end-held : drop 12938 bytes ≡ sumBytes (sumIn bytes)
-  end-held = end-by bytes small size
+  pub end-loaded : drop 12938 bytes ≡ sumBytes (sumIn bytes)
+  end-loaded = end-by bytes small size
 
   pub whole-saved : bytes ≡ savedBytes (wordsIn bytes)
   unfolding savedBytes
   whole-saved =
-      let summed : sumIn bytes ≡ crc32c (summedBytes (wordsIn bytes)) = whole-sum bytes whole ∙ ap crc32c front-held in
-      sym (take-append-drop 12938 bytes) ∙ ap (λ (l : List ℕ). l ++ drop 12938 bytes) front-held
-      ∙ ap (λ (l : List ℕ). summedBytes (wordsIn bytes) ++ l) (end-held ∙ ap sumBytes summed)
+      let summed : sumIn bytes ≡ crc32c (summedBytes (wordsIn bytes)) = whole-sum bytes whole ∙ ap crc32c front-loaded in
+      sym (take-append-drop 12938 bytes) ∙ ap (λ (l : List ℕ). l ++ drop 12938 bytes) front-loaded
+      ∙ ap (λ (l : List ℕ). summedBytes (wordsIn bytes) ++ l) (end-loaded ∙ ap sumBytes summed)
 
 -- What is left of whole bytes is the same for all of them: their checksum stands after them.
-number-held : (bytes : List ℕ) → length bytes ≡ 12942 → number (drop 12938 bytes) ≡ sumIn bytes
+number-loaded : (bytes : List ℕ) → length bytes ≡ 12942 → number (drop 12938 bytes) ≡ sumIn bytes
 unfolding number sumIn
-number-held bytes size =
+number-loaded bytes size =
     let l = drop 12938 bytes in
     let first : getD l 0 0 ≡ getD bytes 12_938 0 = getD-drop 12938 bytes 0 0 in
     let second : getD l 1 0 ≡ getD bytes 12_939 0 = getD-drop 12938 bytes 1 0 in
@@ -207,17 +207,17 @@ whole-left bytes small whole =
     let size = whole-size bytes whole in
     ap (remainder ones) (sym (take-append-drop 12938 bytes))
     ∙ with-sum (take 12938 bytes) (drop 12938 bytes) (bytes-take 12938 bytes small) (bytes-drop 12938 bytes small) (length-drop 12938 bytes ∙ omega (arith, size))
-    (number-held bytes size ∙ whole-sum bytes whole)
+    (number-loaded bytes size ∙ whole-sum bytes whole)
 
 -- Bytes in the place of up to four in a row: both are whole only if they are the same.
-module _ (before l m behind : List ℕ) (small : Bytes (before ++ l ++ behind)) (others : Bytes m) (same : length l ≡ length m) (few : length l ≤ 4) where
+module _ (before l m rest : List ℕ) (small : Bytes (before ++ l ++ rest)) (others : Bytes m) (same : length l ≡ length m) (few : length l ≤ 4) where
   front-small : Bytes (before ++ l)
-  front-small = bytes-left (before ++ l) behind small
+  front-small = bytes-left (before ++ l) rest small
 
-  changed-small : Bytes (before ++ m ++ behind)
-  changed-small = bytes-both (before ++ m) behind (bytes-both before m (bytes-left before l front-small) others) (bytes-right (before ++ l) behind small)
+  changed-small : Bytes (before ++ m ++ rest)
+  changed-small = bytes-both (before ++ m) rest (bytes-both before m (bytes-left before l front-small) others) (bytes-right (before ++ l) rest small)
 
-  pub four-changed : isWhole (before ++ l ++ behind) ≡ true → isWhole (before ++ m ++ behind) ≡ true → l ≡ m
+  pub four-changed : isWhole (before ++ l ++ rest) ≡ true → isWhole (before ++ m ++ rest) ≡ true → l ≡ m
   four-changed whole again =
-      four-bytes before behind l m (bytes-left before l front-small) (bytes-right (before ++ l) behind small) (bytes-right before l front-small) others same few
-      (whole-left (before ++ l ++ behind) small whole ∙ sym (whole-left (before ++ m ++ behind) changed-small again))
+      four-bytes before rest l m (bytes-left before l front-small) (bytes-right (before ++ l) rest small) (bytes-right before l front-small) others same few
+      (whole-left (before ++ l ++ rest) small whole ∙ sym (whole-left (before ++ m ++ rest) changed-small again))

@@ -108,14 +108,14 @@ unfolding byteTaken eight
 byte-is x a = refl
 
 -- The exclusive or of three numbers.
-differ-turn : (x y z : ℕ) → x < 2 → y < 2 → z < 2 → differ (differ x y) z ≡ differ x (differ y z)
-differ-turn zero y z h g f = refl
-differ-turn (suc zero) zero z h g f = refl
-differ-turn (suc zero) (suc zero) zero h g f = refl
-differ-turn (suc zero) (suc zero) (suc zero) h g f = refl
-differ-turn (suc zero) (suc zero) (suc (suc z)) h g f = absurd (omega arith)
-differ-turn (suc zero) (suc (suc y)) z h g f = absurd (omega arith)
-differ-turn (suc (suc x)) y z h g f = absurd (omega arith)
+differ-step : (x y z : ℕ) → x < 2 → y < 2 → z < 2 → differ (differ x y) z ≡ differ x (differ y z)
+differ-step zero y z h g f = refl
+differ-step (suc zero) zero z h g f = refl
+differ-step (suc zero) (suc zero) zero h g f = refl
+differ-step (suc zero) (suc zero) (suc zero) h g f = refl
+differ-step (suc zero) (suc zero) (suc (suc z)) h g f = absurd (omega arith)
+differ-step (suc zero) (suc (suc y)) z h g f = absurd (omega arith)
+differ-step (suc (suc x)) y z h g f = absurd (omega arith)
 
 -- Half of an exclusive or, and its lowest bit.
 module _ (a b : ℕ) where
@@ -128,14 +128,14 @@ module _ (a b : ℕ) where
   xor-odd : bitXor a b % 2 ≡ differ (a % 2) (b % 2)
   xor-odd = omega (arith, xor-step a b, low)
 
-xor-turned : (k a b c : ℕ) → a < 2 ^ k → b < 2 ^ k → c < 2 ^ k → bitXor (bitXor a b) c ≡ bitXor a (bitXor b c)
-xor-turned zero a b c h g f =
+xor-inverted : (k a b c : ℕ) → a < 2 ^ k → b < 2 ^ k → c < 2 ^ k → bitXor (bitXor a b) c ≡ bitXor a (bitXor b c)
+xor-inverted zero a b c h g f =
     let none-a : a ≡ 0 = omega arith in
     let none-b : b ≡ 0 = omega arith in
     rw (none-a, none-b)
-xor-turned (suc k) a b c h g f =
-    let upper = xor-turned k (a / 2) (b / 2) (c / 2) (omega (arith, pow-suc 2 k)) (omega (arith, pow-suc 2 k)) (omega (arith, pow-suc 2 k)) in
-    let lower = differ-turn (a % 2) (b % 2) (c % 2) (omega arith) (omega arith) (omega arith) in
+xor-inverted (suc k) a b c h g f =
+    let upper = xor-inverted k (a / 2) (b / 2) (c / 2) (omega (arith, pow-suc 2 k)) (omega (arith, pow-suc 2 k)) (omega (arith, pow-suc 2 k)) in
+    let lower = differ-step (a % 2) (b % 2) (c % 2) (omega arith) (omega arith) (omega arith) in
     let left : bitXor (bitXor a b) c ≡ bitXor (bitXor (a / 2) (b / 2)) (c / 2) * 2 + differ (differ (a % 2) (b % 2)) (c % 2) =
     xor-step (bitXor a b) c ∙ ap (λ (x : ℕ). bitXor x (c / 2) * 2 + differ (bitXor a b % 2) (c % 2)) (xor-half a b)
     ∙ ap (λ (x : ℕ). bitXor (bitXor (a / 2) (b / 2)) (c / 2) * 2 + differ x (c % 2)) (xor-odd a b) in
@@ -145,7 +145,7 @@ xor-turned (suc k) a b c h g f =
     left ∙ ap (λ (x : ℕ). x * 2 + differ (differ (a % 2) (b % 2)) (c % 2)) upper ∙ ap (λ (x : ℕ). bitXor (a / 2) (bitXor (b / 2) (c / 2)) * 2 + x) lower ∙ sym right
 
 xor-three : (a b c : ℕ) → Short a → Short b → Short c → bitXor (bitXor a b) c ≡ bitXor a (bitXor b c)
-xor-three a b c h g f = xor-turned 32 a b c h g f
+xor-three a b c h g f = xor-inverted 32 a b c h g f
 
 -- A step of x with something above its lowest bit is a step of x with half of that.
 differ-none : (x : ℕ) → differ x 0 ≡ x
@@ -255,19 +255,19 @@ remainder-back (a ∷ l) x y h g bytes e =
     xor-back x y a h g (eight-back (bitXor x a) (bitXor y a) (xor-short x a h (omega (arith, bytes 0))) (xor-short y a g (omega (arith, bytes 0))) (sym (byte-is x a) ∙ same ∙ byte-is y a))
 
 -- Bytes that differ within four in a row, with the same before and after them.
-module _ (before behind l m : List ℕ) (p : Bytes before) (q : Bytes behind) (small : Bytes l) (others : Bytes m) (same : length l ≡ length m) (few : length l ≤ 4) where
+module _ (before rest l m : List ℕ) (p : Bytes before) (q : Bytes rest) (small : Bytes l) (others : Bytes m) (same : length l ≡ length m) (few : length l ≤ 4) where
   abbrev reached : ℕ
   reached = remainder ones before
 
   reached-short : Short reached
   reached-short = remainder-short ones before (omega arith) p
 
-  split : (k : List ℕ) → remainder ones (before ++ k ++ behind) ≡ remainder (remainder reached k) behind
-  split k = remainder-append ones (before ++ k) behind ∙ ap (λ (x : ℕ). remainder x behind) (remainder-append ones before k)
+  split : (k : List ℕ) → remainder ones (before ++ k ++ rest) ≡ remainder (remainder reached k) rest
+  split k = remainder-append ones (before ++ k) rest ∙ ap (λ (x : ℕ). remainder x rest) (remainder-append ones before k)
 
-  pub four-bytes : remainder ones (before ++ l ++ behind) ≡ remainder ones (before ++ m ++ behind) → l ≡ m
+  pub four-bytes : remainder ones (before ++ l ++ rest) ≡ remainder ones (before ++ m ++ rest) → l ≡ m
   four-bytes e =
-      let all = remainder-back behind (remainder reached l) (remainder reached m) (remainder-short reached l reached-short small) (remainder-short reached m reached-short others) q
+      let all = remainder-back rest (remainder reached l) (remainder reached m) (remainder-short reached l reached-short small) (remainder-short reached m reached-short others) q
       (sym (split l) ∙ e ∙ split m) in
       let left = divided l reached reached-short small few in
       let right = divided m reached reached-short others (rw (sym same) few) ∙ ap (λ (n : ℕ). eights n (bitXor reached (number m))) (sym same) in

@@ -22,8 +22,8 @@ use Rattle.saved.specs.Format.{savedBytes, wordsIn, isWhole}
 use Rattle.saved.specs.Saving.{saving, loadedWords, notLoaded, loadedInto, loading}
 
 -- The answer and the list of an outcome.
-pub told : {r : Reading} {code : ℕ} {list : List ℕ} {q : Reading} → r ≡ q → code ≡ coded (q .report) 0 → list ≡ q .list → (code ≡ coded (r .report) 0) × (list ≡ r .list)
-told e a b = rw e (a, b)
+pub answer-is : {r : Reading} {code : ℕ} {list : List ℕ} {q : Reading} → r ≡ q → code ≡ coded (q .report) 0 → list ≡ q .list → (code ≡ coded (r .report) 0) × (list ≡ r .list)
+answer-is e a b = rw e (a, b)
 
 module _ (w lent : List ℕ) where
   pub save-unsound : sound (runOf w) ≡ false → saving w lent ≡ refusedBy UnsoundState lent

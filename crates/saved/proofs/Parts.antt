@@ -125,6 +125,6 @@ module _ (bytes : List ℕ) where
   unfolding isWhole
   not-headed size off = rw (eq-eqb (length bytes) 12942 size, off)
 
-  pub summed-or-not : length bytes ≡ 12942 → hasHeading bytes ≡ true → (said sum : ℕ) → said ≡ sumIn bytes → sum ≡ crc32c (take 12938 bytes) → eqb said sum ≡ isWhole bytes
+  pub summed-or-not : length bytes ≡ 12942 → hasHeading bytes ≡ true → (stored sum : ℕ) → stored ≡ sumIn bytes → sum ≡ crc32c (take 12938 bytes) → eqb stored sum ≡ isWhole bytes
   unfolding isWhole hasSum
-  summed-or-not size on said sum e f = rw (eq-eqb (length bytes) 12942 size, on, e, f)
+  summed-or-not size on stored sum e f = rw (eq-eqb (length bytes) 12942 size, on, e, f)

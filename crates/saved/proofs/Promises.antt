@@ -39,7 +39,7 @@ loaded-was-saved bytes small w e =
     let sure = and-right (isWhole bytes) (sound (runOf (wordsIn bytes))) (found .0) in (
       whole-saved bytes small whole ∙ ap savedBytes (found .1),
       rw (found .1) at sure,
-      λ before l m behind cut others same few off. broken (before ++ m ++ behind) (by-bool (isWhole (before ++ m ++ behind))
-          (λ again. absurd (off (four-changed before l m behind (rw cut at small) others same few (rw cut at whole) again)))
+      λ before l m rest cut others same few off. broken (before ++ m ++ rest) (by-bool (isWhole (before ++ m ++ rest))
+          (λ again. absurd (off (four-changed before l m rest (rw cut at small) others same few (rw cut at whole) again)))
           (λ q. q)),
     )

@@ -47,4 +47,4 @@ SavedIsLoaded w = sound (runOf w) ≡ true → loadedWords (savedBytes w) ≡ so
 unfoldable pub LoadedWasSaved : List ℕ → Type 0
 LoadedWasSaved bytes = Bytes bytes → (w : List ℕ) → loadedWords bytes ≡ some w
     → (bytes ≡ savedBytes w) × (sound (runOf w) ≡ true)
-    × ((before l m behind : List ℕ) → bytes ≡ before ++ l ++ behind → Bytes m → length l ≡ length m → length l ≤ 4 → (l ≡ m → ⊥) → loadedWords (before ++ m ++ behind) ≡ none)
+    × ((before l m rest : List ℕ) → bytes ≡ before ++ l ++ rest → Bytes m → length l ≡ length m → length l ≤ 4 → (l ≡ m → ⊥) → loadedWords (before ++ m ++ rest) ≡ none)

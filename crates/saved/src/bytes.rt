@@ -122,8 +122,8 @@ pub fn is_whole(bytes: &[u8]) -> bool
         return false;
     }
     let sum = crate::checksum::crc32c_of(bytes, SUMMED);
-    let said = sum_in(bytes);
-    said == sum
+    let stored = sum_in(bytes);
+    stored == sum
 }
 
 fn word_in(bytes: &[u8], k: usize) -> u16

@@ -41,11 +41,11 @@ pub fn load(bytes: &[u8], w: &mut [u16]) -> u64
     if !whole {
         return refused(Refusal::UnsoundState);
     }
-    let held = crate::bytes::words_in(bytes);
-    let sound = sound_words::is_sound(&held);
+    let loaded = crate::bytes::words_in(bytes);
+    let sound = sound_words::is_sound(&loaded);
     if !sound {
         return refused(Refusal::UnsoundState);
     }
-    copy_words(&held, 0, WORDS, w);
+    copy_words(&loaded, 0, WORDS, w);
     0
 }

@@ -6,11 +6,11 @@ use machines::Request;
 ghost use lib.ListN.{length};
 ghost use Rattle.machines.specs.Machines.{Ended};
 ghost use Rattle.simulate_machine.specs.Simulating.{simulating};
-ghost use Rattle.simulate_machine.specs.Words.{Roomy, stateOf};
+ghost use Rattle.simulate_machine.specs.Words.{EnoughRoom, stateOf};
 
 // Each request is obeyed, and what came of it handed back, until the machine stops.
 fn drive(memory: &mut [u64], input: &mut [u8], out: &mut [u8]) -> Request
-    requires { ⌜ Roomy (length (now memory)) (length (now input)) (length (now out)) ⌝ }
+    requires { ⌜ EnoughRoom (length (now memory)) (length (now input)) (length (now out)) ⌝ }
     ensures { λ r. ⌜ Ended simulating (stateOf (now (memory .exit)) (now (input .exit)) (now (out .exit))) ⌝ }
 {
     let mut request = simulate_machine::begin(memory, input, out);

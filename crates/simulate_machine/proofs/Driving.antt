@@ -12,11 +12,11 @@ use Rattle.machines.specs.Forms.{goesOn, Leaves, Asks}
 use Rattle.machines.proofs.Runs.{reached-first, reached-next}
 use Rattle.machines.proofs.Places.{going-is, stopped-is, leaves-front}
 use Rattle.simulate_machine.specs.Simulating.{State, Counting, ask, simulating}
-use Rattle.simulate_machine.specs.Words.{Roomy, stateOf, StandsFor}
+use Rattle.simulate_machine.specs.Words.{EnoughRoom, stateOf, StandsFor}
 use Rattle.simulate_machine.proofs.Ending.{left, simulating-ends}
 
 pub record Driven (memory input out : List ℕ) (r : requests.Request) : Type 0 where
-  pub room : Roomy (length memory) (length input) (length out)
+  pub room : EnoughRoom (length memory) (length input) (length out)
   pub reached : Reached simulating (stateOf memory input out)
   pub asks : Asks r 0 input out (ask (stateOf memory input out))
 
@@ -25,14 +25,14 @@ state-kept : (memory input after out : List ℕ) → length after ≡ length inp
 unfolding stateOf
 state-kept memory input after out same = rw same
 
-stands-driven : (memory input out : List ℕ) (r : requests.Request) (s : State) → Roomy (length memory) (length input) (length out) → Reached simulating s → StandsFor memory input out r s → Driven memory input out r
+stands-driven : (memory input out : List ℕ) (r : requests.Request) (s : State) → EnoughRoom (length memory) (length input) (length out) → Reached simulating s → StandsFor memory input out r s → Driven memory input out r
 stands-driven memory input out r s room reached h = record {
   room = room;
   reached = subst (Reached simulating) (sym (h .state)) reached;
   asks = subst (λ (x : State). Asks r 0 input out (ask x)) (sym (h .state)) (h .asks);
 }
 
-pub driven-first : (memory input out : List ℕ) (r : requests.Request) → Roomy (length memory) (length input) (length out) → StandsFor memory input out r Counting → Driven memory input out r
+pub driven-first : (memory input out : List ℕ) (r : requests.Request) → EnoughRoom (length memory) (length input) (length out) → StandsFor memory input out r Counting → Driven memory input out r
 driven-first memory input out r room h = stands-driven memory input out r Counting room (reached-first simulating) h
 
 -- One request is obeyed, and its answer taken.
@@ -41,7 +41,7 @@ module _ (memory input out : List ℕ) (r : requests.Request) (h : Driven memory
   kept = let f = leaves-front r 0 input input′ (h .asks .there) leaves in state-kept memory input input′ out (f .1)
 
   module _ (memory′ out′ : List ℕ) (r′ : requests.Request) (a : Answer) (stands : StandsFor memory′ input′ out′ r′ (stepped simulating (stateOf memory input′ out) a)) where
-    pub driven-next : Roomy (length memory′) (length input′) (length out′) → Driven memory′ input′ out′ r′
+    pub driven-next : EnoughRoom (length memory′) (length input′) (length out′) → Driven memory′ input′ out′ r′
     driven-next room =
         stands-driven memory′ input′ out′ r′ (stepped simulating (stateOf memory input′ out) a) room
         (subst (λ (s : State). Reached simulating (stepped simulating s a)) (sym kept) (reached-next simulating (stateOf memory input out) a (h .reached)))

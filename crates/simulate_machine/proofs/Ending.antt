@@ -12,15 +12,15 @@ use Rattle.machines.specs.Machines.{Stop, Answer, Number, Bytes, End, Done, Fai
 use Rattle.simulate_machine.specs.declared.words.Numbers.{Numbers}
 use Rattle.simulate_machine.specs.Arguments.{isWrong, isRefused, withWord}
 use Rattle.simulate_machine.specs.Text.{resultText, trialOf}
-use Rattle.simulate_machine.specs.Simulating.{State, Counting, Asking, Telling, Tabling, Saying, Failing, Stopped, ask, next, tabled, answered, decided, afterCount, afterWord, nextRow, withoutFirst, afterWrite, simulating}
+use Rattle.simulate_machine.specs.Simulating.{State, Counting, Asking, Printing, Tabling, Reporting, Failing, Stopped, ask, next, tabled, answered, decided, afterCount, afterWord, nextRow, withoutFirst, afterWrite, simulating}
 use Rattle.simulate_machine.proofs.Numbers.{in-table}
 
 abbrev pub left : State → ℕ
 left Counting = 1007
 left (Asking i k) = 1003 + (4 - i)
-left (Telling text) = 2
+left (Printing text) = 2
 left (Tabling text k) = 2 + (k .spacings .to + 1 - k .spacings .from)
-left (Saying text) = 1
+left (Reporting text) = 1
 left (Failing name) = 1
 left Stopped = 0
 
@@ -34,11 +34,11 @@ tabled-left k =
 
 pub answered-table : (k : Numbers) → k .spacings .many ≡ true → answered k ≡ tabled k
 unfolding answered
-answered-table k e = ap (λ (b : Bool). pick b (tabled k) (Telling (resultText (trialOf (k .n) (k .spacings .from) (k .steps) (k .seed))))) e
+answered-table k e = ap (λ (b : Bool). pick b (tabled k) (Printing (resultText (trialOf (k .n) (k .spacings .from) (k .steps) (k .seed))))) e
 
-pub answered-one : (k : Numbers) → k .spacings .many ≡ false → answered k ≡ Telling (resultText (trialOf (k .n) (k .spacings .from) (k .steps) (k .seed)))
+pub answered-one : (k : Numbers) → k .spacings .many ≡ false → answered k ≡ Printing (resultText (trialOf (k .n) (k .spacings .from) (k .steps) (k .seed)))
 unfolding answered
-answered-one k e = ap (λ (b : Bool). pick b (tabled k) (Telling (resultText (trialOf (k .n) (k .spacings .from) (k .steps) (k .seed))))) e
+answered-one k e = ap (λ (b : Bool). pick b (tabled k) (Printing (resultText (trialOf (k .n) (k .spacings .from) (k .steps) (k .seed))))) e
 
 answered-left : (k : Numbers) → left (answered k) ≤ 1002
 answered-left k = by-bool (k .spacings .many) (λ e. omega (arith, ap left (answered-table k e), tabled-left k)) (λ e. omega (arith, ap left (answered-one k e)))
@@ -77,9 +77,9 @@ pub falls : (s : State) (a : Answer) → (ask s ≡ Stop → ⊥) → left (step
 unfolding stepped ask next heard
 falls Counting a h = count-falls (heardCount a)
 falls (Asking i k) a h = word-falls i k _
-falls (Telling text) a h = write-falls Stopped 2 (omega arith) (omega arith) a
+falls (Printing text) a h = write-falls Stopped 2 (omega arith) (omega arith) a
 falls (Tabling text k) a h = write-falls (nextRow k) (2 + (k .spacings .to + 1 - k .spacings .from)) (row-falls k) (omega arith) a
-falls (Saying text) a h = omega arith
+falls (Reporting text) a h = omega arith
 falls (Failing name) a h = omega arith
 falls Stopped a h = absurd (h refl)
 
@@ -87,9 +87,9 @@ pub stays : (s : State) (a : Answer) → ask s ≡ Stop → ask (stepped simulat
 unfolding stepped ask next
 stays Counting a e = cc
 stays (Asking i k) a e = cc
-stays (Telling text) a e = cc
+stays (Printing text) a e = cc
 stays (Tabling text k) a e = cc
-stays (Saying text) a e = cc
+stays (Reporting text) a e = cc
 stays (Failing name) a e = cc
 stays Stopped a e = refl
 

@@ -15,8 +15,8 @@ use Rattle.machines.specs.declared.Request.the-variants as request
 use Rattle.machines.specs.Forms.{requestOf, Placed, GoesTo}
 use Rattle.simulate_machine.specs.declared.words.Numbers.{Numbers}
 use Rattle.simulate_machine.specs.Text.{longestText}
-use Rattle.simulate_machine.specs.Simulating.{longestWord, State, Counting, Asking, Telling, Tabling, Saying, Failing, Stopped, ask}
-use Rattle.simulate_machine.specs.Words.{Roomy, lacksRoom, keptIn, inPhase, stateOf, Puts, StandsFor}
+use Rattle.simulate_machine.specs.Simulating.{longestWord, State, Counting, Asking, Printing, Tabling, Reporting, Failing, Stopped, ask}
+use Rattle.simulate_machine.specs.Words.{EnoughRoom, lacksRoom, keptIn, inPhase, stateOf, Puts, StandsFor}
 
 -- Eight numbers that are put are read back.
 flag-back : (b : Bool) → eqb (pick b 1 0) 1 ≡ b
@@ -41,11 +41,11 @@ puts-all (m0 ∷ m1 ∷ m2 ∷ m3 ∷ m4 ∷ m5 ∷ m6 ∷ m7 ∷ l) h p c k b e
     (refl, refl, λ j. record { n = k .n; spacings = record { many = back j; from = k .spacings .from; to = k .spacings .to }; steps = k .steps; seed = k .seed })
 
 -- Room, as a test and as a fact.
-pub room-is : (memory input out : ℕ) → Roomy memory input out → lacksRoom memory input out ≡ false
+pub room-is : (memory input out : ℕ) → EnoughRoom memory input out → lacksRoom memory input out ≡ false
 unfolding lacksRoom
 room-is memory input out (a, b, c) = rw (le-ltb memory 8 a, le-ltb input longestWord b, le-ltb out longestText c)
 
-pub room-by : (memory input out : ℕ) → lacksRoom memory input out ≡ false → Roomy memory input out
+pub room-by : (memory input out : ℕ) → lacksRoom memory input out ≡ false → EnoughRoom memory input out
 unfolding lacksRoom
 room-by memory input out e =
     let a = or-none (ltb memory 8) (ltb input longestWord || ltb out longestText) e in
@@ -53,7 +53,7 @@ room-by memory input out e =
     (ltb-false memory 8 (a .0), ltb-false input longestWord (b .0), ltb-false out longestText (b .1))
 
 module _ (memory input out : List ℕ) where
-  pub state-in : Roomy (length memory) (length input) (length out) → stateOf memory input out ≡ inPhase (getD memory 0 0) (getD memory 1 0) (keptIn memory) out
+  pub state-in : EnoughRoom (length memory) (length input) (length out) → stateOf memory input out ≡ inPhase (getD memory 0 0) (getD memory 1 0) (keptIn memory) out
   unfolding stateOf
   state-in room = rw (room-is (length memory) (length input) (length out) room)
 
@@ -62,9 +62,9 @@ phase-asking : (i count : ℕ) (k : Numbers) (out : List ℕ) → 1 ≤ i → i 
 unfolding inPhase
 phase-asking i count k out low high = rw (ne-eqb i 0 (λ e. omega (arith, e, low)), le-leb i 4 high)
 
-phase-telling : (count : ℕ) (k : Numbers) (out : List ℕ) → inPhase 5 count k out ≡ Telling (take count out)
+phase-printing : (count : ℕ) (k : Numbers) (out : List ℕ) → inPhase 5 count k out ≡ Printing (take count out)
 unfolding inPhase
-phase-telling count k out = refl
+phase-printing count k out = refl
 
 pub phase-tabling : (count : ℕ) (k : Numbers) (out : List ℕ) → k .spacings .to ≤ 1000 → inPhase 6 count k out ≡ Tabling (take count out) k
 unfolding inPhase
@@ -74,9 +74,9 @@ pub phase-far : (count : ℕ) (k : Numbers) (out : List ℕ) → 1000 < k .spaci
 unfolding inPhase
 phase-far count k out h = rw (lt-leb (k .spacings .to) 1000 h)
 
-phase-saying : (count : ℕ) (k : Numbers) (out : List ℕ) → inPhase 7 count k out ≡ Saying (take count out)
+phase-reporting : (count : ℕ) (k : Numbers) (out : List ℕ) → inPhase 7 count k out ≡ Reporting (take count out)
 unfolding inPhase
-phase-saying count k out = refl
+phase-reporting count k out = refl
 
 phase-failing : (count : ℕ) (k : Numbers) (out : List ℕ) → inPhase 8 count k out ≡ Failing (take count out)
 unfolding inPhase
@@ -101,7 +101,7 @@ stopped-stands memory count k puts input out = record {
   asks = record { stands = refl; inside = tt; there = tt };
 }
 
-module _ (memory input out : List ℕ) (room : Roomy (length memory) (length input) (length out)) (k : Numbers) where
+module _ (memory input out : List ℕ) (room : EnoughRoom (length memory) (length input) (length out)) (k : Numbers) where
   state-put : (phase count : ℕ) → Puts memory phase count k → stateOf memory input out ≡ inPhase phase count k out
   state-put phase count puts =
       state-in memory input out room
@@ -123,10 +123,10 @@ module _ (memory input out : List ℕ) (room : Roomy (length memory) (length inp
     asks = record { stands = refl; inside = omega (arith, room .1); there = refl };
   }
 
-  pub telling-stands : (size : ℕ) → size ≤ length out → Puts memory 5 size k → StandsFor memory input out (request.Write size) (Telling (take size out))
+  pub printing-stands : (size : ℕ) → size ≤ length out → Puts memory 5 size k → StandsFor memory input out (request.Write size) (Printing (take size out))
   unfolding requestOf Placed GoesTo ask
-  telling-stands size fits puts = record {
-    state = state-put 5 size puts ∙ phase-telling size k out;
+  printing-stands size fits puts = record {
+    state = state-put 5 size puts ∙ phase-printing size k out;
     asks = record { stands = refl; inside = fits; there = tt };
   }
 
@@ -137,10 +137,10 @@ module _ (memory input out : List ℕ) (room : Roomy (length memory) (length inp
     asks = record { stands = refl; inside = fits; there = tt };
   }
 
-  pub saying-stands : (size : ℕ) (text : List ℕ) → size ≤ length out → take size out ≡ text → Puts memory 7 size k → StandsFor memory input out (request.Say size) (Saying text)
+  pub reporting-stands : (size : ℕ) (text : List ℕ) → size ≤ length out → take size out ≡ text → Puts memory 7 size k → StandsFor memory input out (request.Say size) (Reporting text)
   unfolding requestOf Placed GoesTo ask
-  saying-stands size text fits e puts = record {
-    state = state-put 7 size puts ∙ phase-saying size k out ∙ ap Saying e;
+  reporting-stands size text fits e puts = record {
+    state = state-put 7 size puts ∙ phase-reporting size k out ∙ ap Reporting e;
     asks = record { stands = rw e; inside = fits; there = tt };
   }
 

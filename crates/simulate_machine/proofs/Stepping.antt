@@ -21,8 +21,8 @@ use Rattle.machines.specs.Forms.{answerOf, takenOf, Between, requestOf, Placed,
 use Rattle.simulate_machine.specs.declared.words.Numbers.{Numbers}
 use Rattle.simulate_machine.specs.Arguments.{isWrong, isRefused, noNumbers, withWord}
 use Rattle.simulate_machine.specs.Text.{headLine, rowText, trialOf}
-use Rattle.simulate_machine.specs.Simulating.{longestWord, usage, outputName, State, Counting, Asking, Telling, Tabling, Saying, Failing, Stopped, ask, next, tabled, answered, decided, withoutFirst, nextRow, afterCount, afterWord, afterWrite, simulating}
-use Rattle.simulate_machine.specs.Words.{Roomy, lacksRoom, keptIn, inPhase, stateOf, StandsFor}
+use Rattle.simulate_machine.specs.Simulating.{longestWord, usage, outputName, State, Counting, Asking, Printing, Tabling, Reporting, Failing, Stopped, ask, next, tabled, answered, decided, withoutFirst, nextRow, afterCount, afterWord, afterWrite, simulating}
+use Rattle.simulate_machine.specs.Words.{EnoughRoom, lacksRoom, keptIn, inPhase, stateOf, StandsFor}
 use Rattle.simulate_machine.proofs.Standing.{state-in, stands-as, phase-tabling, phase-far}
 
 -- How long a word is, by what an answer brings.
@@ -48,7 +48,7 @@ module _ (a : Answer) (b : Bool) (h : b ≡ isNumber (heardCount a) 5) where
   unfolding stepped ask next heard afterCount
   led-counted e = rw (sym h ∙ e)
 
-  pub led-miscounted : b ≡ false → stepped simulating Counting a ≡ Saying usage
+  pub led-miscounted : b ≡ false → stepped simulating Counting a ≡ Reporting usage
   unfolding stepped ask next heard afterCount
   led-miscounted e = rw (sym h ∙ e)
 
@@ -71,13 +71,13 @@ module _ (input : List ℕ) (long : longestWord ≤ length input) (a : answers.A
 
 -- What an answer to a write comes to.
 module _ (text : List ℕ) (a : Answer) (b : Bool) (h : heardDone a ≡ pick b Done Failed) where
-  pub told-done : b ≡ true → stepped simulating (Telling text) a ≡ Stopped
+  pub printed-done : b ≡ true → stepped simulating (Printing text) a ≡ Stopped
   unfolding stepped ask next heard afterWrite
-  told-done e = ap (afterWrite Stopped) (h ∙ ap (λ (x : Bool). pick x Done Failed) e)
+  printed-done e = ap (afterWrite Stopped) (h ∙ ap (λ (x : Bool). pick x Done Failed) e)
 
-  pub told-failed : b ≡ false → stepped simulating (Telling text) a ≡ Failing outputName
+  pub printed-failed : b ≡ false → stepped simulating (Printing text) a ≡ Failing outputName
   unfolding stepped ask next heard afterWrite
-  told-failed e = ap (afterWrite Stopped) (h ∙ ap (λ (x : Bool). pick x Done Failed) e)
+  printed-failed e = ap (afterWrite Stopped) (h ∙ ap (λ (x : Bool). pick x Done Failed) e)
 
   module _ (k : Numbers) where
     pub row-done : b ≡ true → stepped simulating (Tabling text k) a ≡ nextRow k
@@ -90,7 +90,7 @@ module _ (text : List ℕ) (a : Answer) (b : Bool) (h : heardDone a ≡ pick b D
 
 -- What four numbers ask for, by the tests.
 module _ (k : Numbers) where
-  pub tabled-refused : isRefused (k .n) (k .spacings .from) (k .spacings .to) (k .steps) ≡ true → tabled k ≡ Telling (refusedText TrialOutsideRange)
+  pub tabled-refused : isRefused (k .n) (k .spacings .from) (k .spacings .to) (k .steps) ≡ true → tabled k ≡ Printing (refusedText TrialOutsideRange)
   unfolding tabled
   tabled-refused e = rw e
 
@@ -98,7 +98,7 @@ module _ (k : Numbers) where
   unfolding tabled
   tabled-begins e = rw e
 
-  pub decided-wrong : isWrong (k .n) (k .spacings) (k .steps) (k .seed) ≡ true → decided k ≡ Saying usage
+  pub decided-wrong : isWrong (k .n) (k .spacings) (k .steps) (k .seed) ≡ true → decided k ≡ Reporting usage
   unfolding decided
   decided-wrong e = rw e
 
@@ -141,7 +141,7 @@ module _ (memory input out : List ℕ) where
         asks = record { stands = refl; inside = tt; there = tt };
       })
 
-  module _ (room : Roomy (length memory) (length input) (length out)) where
+  module _ (room : EnoughRoom (length memory) (length input) (length out)) where
     pub is-counting : phase ≡ 0 → stateOf memory input out ≡ Counting
     unfolding inPhase
     is-counting e = state-in memory input out room ∙ ap (λ (p : ℕ). inPhase p count (keptIn memory) out) e
@@ -150,9 +150,9 @@ module _ (memory input out : List ℕ) where
     unfolding inPhase
     is-asking e h = state-in memory input out room ∙ rw (ne-eqb phase 0 e, le-leb phase 4 h)
 
-    pub is-telling : phase ≡ 5 → stateOf memory input out ≡ Telling (take count out)
+    pub is-printing : phase ≡ 5 → stateOf memory input out ≡ Printing (take count out)
     unfolding inPhase
-    is-telling e = state-in memory input out room ∙ ap (λ (p : ℕ). inPhase p count (keptIn memory) out) e
+    is-printing e = state-in memory input out room ∙ ap (λ (p : ℕ). inPhase p count (keptIn memory) out) e
 
     pub is-tabling : phase ≡ 6 → (k : Numbers) → k ≡ keptIn memory → k .spacings .to ≤ 1000 → stateOf memory input out ≡ Tabling (take count out) k
     is-tabling e k w h =

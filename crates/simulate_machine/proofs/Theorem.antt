@@ -12,28 +12,28 @@ use Rattle.laws.specs.Rows.{or-false}
 use Rattle.model.specs.declared.Refusal.the-variants.{TrialOutsideRange}
 use Rattle.programs.specs.Numbers.{numberIn}
 use Rattle.programs.specs.Texts.{refusedText}
-use Rattle.machines.specs.Machines.{Request, Count, Argument, Write, Say, Fail, Stop, Answer, Number, Bytes, End, Done, Failed, Exchange, heard, heardCount, heardWord, heardDone, isNumber, brought, stepped, exchanged, stateAfter, exchanges, written, said, writtenOf, saidOf, requestsOf}
-use Rattle.machines.proofs.Runs.{throughout, written-next, said-next, written-is, said-is, stops}
+use Rattle.machines.specs.Machines.{Request, Count, Argument, Write, Say, Fail, Stop, Answer, Number, Bytes, End, Done, Failed, Exchange, heard, heardCount, heardWord, heardDone, isNumber, brought, stepped, exchanged, stateAfter, exchanges, written, errorText, writtenOf, errorTextOf, requestsOf}
+use Rattle.machines.proofs.Runs.{throughout, written-next, error-text-next, written-is, error-text-is, stops}
 use Rattle.simulate_machine.specs.declared.words.Numbers.{Numbers}
 use Rattle.simulate_machine.specs.Arguments.{spacingsIn, isWrong, isRefused, noNumbers, withWord, numbersIn}
 use Rattle.simulate_machine.specs.Text.{headLine, resultText, rowText, trialOf, rowsText, rowsOf, tableText, rightText, textOf}
-use Rattle.simulate_machine.specs.Simulating.{usage, outputName, longestWord, State, Counting, Asking, Telling, Tabling, Saying, Failing, Stopped, ask, next, tabled, answered, decided, afterCount, afterWord, withoutFirst, nextRow, afterWrite, simulating, wordBy, wordOf, numbersOf, isLast, lastAsked, failure, failures, wrongWords, SimulatesAlways, StopsAfterFailure}
+use Rattle.simulate_machine.specs.Simulating.{usage, outputName, longestWord, State, Counting, Asking, Printing, Tabling, Reporting, Failing, Stopped, ask, next, tabled, answered, decided, afterCount, afterWord, withoutFirst, nextRow, afterWrite, simulating, wordBy, wordOf, numbersOf, isLast, lastAsked, failure, failures, wrongWords, SimulatesAlways, StopsAfterFailure}
 use Rattle.simulate_machine.proofs.Ending.{simulating-ends, answered-table, answered-one}
 
 -- What is to be reported of all exchanges.
 abbrev due : List Exchange → List ℕ
 due talk = wrongWords (lastAsked talk) (numbersOf talk) ++ failures talk
 
-abbrev told : List Exchange → List ℕ
-told talk = writtenOf (requestsOf talk)
+abbrev printedIn : List Exchange → List ℕ
+printedIn talk = writtenOf (requestsOf talk)
 
 abbrev Front : List Exchange → Type 0
-Front talk = (rest : List ℕ) × (told talk ++ rest ≡ textOf (numbersOf talk))
+Front talk = (rest : List ℕ) × (printedIn talk ++ rest ≡ textOf (numbersOf talk))
 
 -- Nothing is written or reported so far, and nothing failed.
 record Quiet (talk : List Exchange) : Type 0 where
-  silent : told talk ≡ []
-  mute : saidOf (requestsOf talk) ≡ []
+  silent : printedIn talk ≡ []
+  mute : errorTextOf (requestsOf talk) ≡ []
   fine : failures talk ≡ []
 
 record InCounting (talk : List Exchange) : Type 0 where
@@ -52,28 +52,28 @@ record InAsking (i : ℕ) (k : Numbers) (talk : List Exchange) : Type 0 where
   three : 3 < i → k .steps ≡ numberIn (wordOf 3 talk)
 
 -- A text is written next, and then the rest.
-record InTelling (rest text : List ℕ) (talk : List Exchange) : Type 0 where
-  right : told talk ++ (text ++ rest) ≡ textOf (numbersOf talk)
-  mute : saidOf (requestsOf talk) ≡ []
+record InPrinting (rest text : List ℕ) (talk : List Exchange) : Type 0 where
+  right : printedIn talk ++ (text ++ rest) ≡ textOf (numbersOf talk)
+  mute : errorTextOf (requestsOf talk) ≡ []
   clean : due talk ≡ []
 
 record InLast (text : List ℕ) (talk : List Exchange) : Type 0 where
   why : due talk ≡ text
-  mute : saidOf (requestsOf talk) ≡ []
+  mute : errorTextOf (requestsOf talk) ≡ []
   front : Front talk
-  whole : failures talk ≡ [] → told talk ≡ textOf (numbersOf talk)
+  whole : failures talk ≡ [] → printedIn talk ≡ textOf (numbersOf talk)
 
 record InStopped (talk : List Exchange) : Type 0 where
-  why : saidOf (requestsOf talk) ≡ due talk
+  why : errorTextOf (requestsOf talk) ≡ due talk
   front : Front talk
-  whole : failures talk ≡ [] → told talk ≡ textOf (numbersOf talk)
+  whole : failures talk ≡ [] → printedIn talk ≡ textOf (numbersOf talk)
 
 abbrev Holds : State → List Exchange → Type 0
 Holds Counting talk = InCounting talk
 Holds (Asking i k) talk = InAsking i k talk
-Holds (Telling text) talk = InTelling [] text talk
-Holds (Tabling text k) talk = InTelling (rowsOf k) text talk
-Holds (Saying text) talk = InLast text talk
+Holds (Printing text) talk = InPrinting [] text talk
+Holds (Tabling text k) talk = InPrinting (rowsOf k) text talk
+Holds (Reporting text) talk = InLast text talk
 Holds (Failing name) talk = InLast name talk
 Holds Stopped talk = InStopped talk
 
@@ -119,17 +119,17 @@ module _ (talk : List Exchange) (r : Request) (a : Answer) where
   unfolding failures
   failures-next = failures-then talk (record { request = r; answer = a } ∷ []) ∙ ap (λ (x : List ℕ). failures talk ++ x) (append-nil (failure r a))
 
-  writes : told more ≡ told talk ++ written r
+  writes : printedIn more ≡ printedIn talk ++ written r
   writes = written-next talk (record { request = r; answer = a })
 
-  tells : saidOf (requestsOf more) ≡ saidOf (requestsOf talk) ++ said r
-  tells = said-next talk (record { request = r; answer = a })
+  tells : errorTextOf (requestsOf more) ≡ errorTextOf (requestsOf talk) ++ errorText r
+  tells = error-text-next talk (record { request = r; answer = a })
 
   -- An exchange that writes, says and fails nothing.
-  still : Quiet talk → written r ≡ [] → said r ≡ [] → failure r a ≡ [] → Quiet more
+  still : Quiet talk → written r ≡ [] → errorText r ≡ [] → failure r a ≡ [] → Quiet more
   still q w s f = record {
-    silent = writes ∙ ap (λ (x : List ℕ). told talk ++ x) w ∙ append-nil (told talk) ∙ q .silent;
-    mute = tells ∙ ap (λ (x : List ℕ). saidOf (requestsOf talk) ++ x) s ∙ append-nil (saidOf (requestsOf talk)) ∙ q .mute;
+    silent = writes ∙ ap (λ (x : List ℕ). printedIn talk ++ x) w ∙ append-nil (printedIn talk) ∙ q .silent;
+    mute = tells ∙ ap (λ (x : List ℕ). errorTextOf (requestsOf talk) ++ x) s ∙ append-nil (errorTextOf (requestsOf talk)) ∙ q .mute;
     fine = failures-next ∙ ap (λ (x : List ℕ). failures talk ++ x) f ∙ append-nil (failures talk) ∙ q .fine;
   }
 
@@ -174,9 +174,9 @@ module _ (k : Numbers) (talk : List Exchange) (numbers : numbersOf talk ≡ k) (
   }
 
   module _ (right : isWrong (k .n) (k .spacings) (k .steps) (k .seed) ≡ false) where
-    telling-now : (text rest : List ℕ) → textOf k ≡ text ++ rest → InTelling rest text talk
+    printing-now : (text rest : List ℕ) → textOf k ≡ text ++ rest → InPrinting rest text talk
     unfolding wrongWords
-    telling-now text rest e = record {
+    printing-now text rest e = record {
       right = ap (λ (x : List ℕ). x ++ (text ++ rest)) (quiet .silent) ∙ sym (ap textOf numbers ∙ e);
       mute = quiet .mute;
       clean = rw (last, numbers, quiet .fine, right);
@@ -186,8 +186,8 @@ module _ (k : Numbers) (talk : List Exchange) (numbers : numbersOf talk ≡ k) (
     unfolding tabled textOf rightText tableText
     tabled-holds m =
         by-bool (isRefused (k .n) (k .spacings .from) (k .spacings .to) (k .steps))
-        (λ e. rw e (telling-now (refusedText TrialOutsideRange) [] (rw (right, m, e) (sym (append-nil (refusedText TrialOutsideRange))))))
-        (λ e. rw e (telling-now headLine (rowsOf k) (rw (right, m, e))))
+        (λ e. rw e (printing-now (refusedText TrialOutsideRange) [] (rw (right, m, e) (sym (append-nil (refusedText TrialOutsideRange))))))
+        (λ e. rw e (printing-now headLine (rowsOf k) (rw (right, m, e))))
 
     one-text : k .spacings .many ≡ false → textOf k ≡ resultText (trialOf (k .n) (k .spacings .from) (k .steps) (k .seed)) ++ []
     unfolding textOf rightText
@@ -200,7 +200,7 @@ module _ (k : Numbers) (talk : List Exchange) (numbers : numbersOf talk ≡ k) (
     answered-holds =
         by-bool (k .spacings .many)
         (λ m. subst (λ (s : State). Holds s talk) (sym (answered-table k m)) (tabled-holds m))
-        (λ m. subst (λ (s : State). Holds s talk) (sym (answered-one k m)) (telling-now (resultText (trialOf (k .n) (k .spacings .from) (k .steps) (k .seed))) [] (one-text m)))
+        (λ m. subst (λ (s : State). Holds s talk) (sym (answered-one k m)) (printing-now (resultText (trialOf (k .n) (k .spacings .from) (k .steps) (k .seed))) [] (one-text m)))
 
   decided-holds : Holds (decided k) talk
   unfolding decided
@@ -209,7 +209,7 @@ module _ (k : Numbers) (talk : List Exchange) (numbers : numbersOf talk ≡ k) (
 -- The count is answered.
 module _ (talk : List Exchange) (h : InCounting talk) (a : Answer) where
   counted : isNumber a 5 ≡ true → InAsking 1 noNumbers (more talk Count a)
-  unfolding written said failure wordBy isLast
+  unfolding written errorText failure wordBy isLast
   counted e = record {
     low = omega arith;
     high = omega arith;
@@ -222,13 +222,13 @@ module _ (talk : List Exchange) (h : InCounting talk) (a : Answer) where
   }
 
   miscounted : isNumber a 5 ≡ false → InLast usage (more talk Count a)
-  unfolding written said failure wordBy isLast
+  unfolding written errorText failure wordBy isLast
   miscounted e =
       let fails : failure Count a ≡ usage = rw e in
-      let nothing : told (more talk Count a) ≡ [] = writes talk Count a ∙ append-nil (told talk) ∙ h .quiet .silent in
+      let nothing : printedIn (more talk Count a) ≡ [] = writes talk Count a ∙ append-nil (printedIn talk) ∙ h .quiet .silent in
       record {
         why = due-next talk Count a (λ i. refl) refl ∙ ap (λ (x : List ℕ). x ++ failure Count a) (due-none talk (h .unasked) (h .quiet .fine)) ∙ fails;
-        mute = tells talk Count a ∙ append-nil (saidOf (requestsOf talk)) ∙ h .quiet .mute;
+        mute = tells talk Count a ∙ append-nil (errorTextOf (requestsOf talk)) ∙ h .quiet .mute;
         front = (textOf (numbersOf (more talk Count a)), ap (λ (x : List ℕ). x ++ textOf (numbersOf (more talk Count a))) nothing);
         whole = λ f. absurd (not-empty (failures talk) _ _ (ap (λ (x : List ℕ). failures talk ++ x) (sym fails) ∙ sym (failures-next talk Count a) ∙ f));
       }
@@ -254,7 +254,7 @@ module _ (i : ℕ) (k : Numbers) (talk : List Exchange) (h : InAsking i k talk) 
   other-word j other = word-next talk (Argument i longestWord) a j ∙ rw (ne-eqb i j other) (append-nil (wordOf j talk))
 
   quiet-now : Quiet now
-  unfolding written said failure
+  unfolding written errorText failure
   quiet-now = still talk (Argument i longestWord) a (h .quiet) refl refl refl
 
   first-known : known .n ≡ numberIn (wordOf 1 now)
@@ -333,18 +333,18 @@ module _ (i : ℕ) (k : Numbers) (talk : List Exchange) (h : InAsking i k talk) 
       (λ e. rw e (let least = ltb-false i 4 e in decided-holds known now (all-known least) (last-known least) quiet-now))
 
 -- A text is written, or not.
-module _ (rest text : List ℕ) (talk : List Exchange) (h : InTelling rest text talk) where
-  written-on : (a : Answer) → told (more talk (Write text) a) ++ rest ≡ textOf (numbersOf (more talk (Write text) a))
+module _ (rest text : List ℕ) (talk : List Exchange) (h : InPrinting rest text talk) where
+  written-on : (a : Answer) → printedIn (more talk (Write text) a) ++ rest ≡ textOf (numbersOf (more talk (Write text) a))
   unfolding written wordBy isLast
   written-on a =
       ap (λ (x : List ℕ). x ++ rest) (writes talk (Write text) a)
-      ∙ append-assoc (told talk) text rest
+      ∙ append-assoc (printedIn talk) text rest
       ∙ h .right
       ∙ sym (same-text talk (Write text) a (λ i. refl) refl)
 
-  mute-on : (a : Answer) → saidOf (requestsOf (more talk (Write text) a)) ≡ []
-  unfolding said
-  mute-on a = tells talk (Write text) a ∙ append-nil (saidOf (requestsOf talk)) ∙ h .mute
+  mute-on : (a : Answer) → errorTextOf (requestsOf (more talk (Write text) a)) ≡ []
+  unfolding errorText
+  mute-on a = tells talk (Write text) a ∙ append-nil (errorTextOf (requestsOf talk)) ∙ h .mute
 
   due-on : (a : Answer) → due (more talk (Write text) a) ≡ failure (Write text) a
   unfolding wordBy isLast
@@ -362,17 +362,17 @@ module _ (rest text : List ℕ) (talk : List Exchange) (h : InTelling rest text 
   done-last : rest ≡ [] → InStopped (more talk (Write text) Done)
   unfolding failure
   done-last e =
-      let all = sym (append-nil (told (more talk (Write text) Done))) ∙ ap (λ (x : List ℕ). told (more talk (Write text) Done) ++ x) (sym e) ∙ written-on Done in
+      let all = sym (append-nil (printedIn (more talk (Write text) Done))) ∙ ap (λ (x : List ℕ). printedIn (more talk (Write text) Done) ++ x) (sym e) ∙ written-on Done in
       record {
         why = mute-on Done ∙ sym (due-on Done);
         front = (rest, written-on Done);
         whole = λ f. all;
       }
 
-  done-more : (line others : List ℕ) → rest ≡ line ++ others → InTelling others line (more talk (Write text) Done)
+  done-more : (line others : List ℕ) → rest ≡ line ++ others → InPrinting others line (more talk (Write text) Done)
   unfolding failure
   done-more line others e = record {
-    right = ap (λ (x : List ℕ). told (more talk (Write text) Done) ++ x) (sym e) ∙ written-on Done;
+    right = ap (λ (x : List ℕ). printedIn (more talk (Write text) Done) ++ x) (sym e) ∙ written-on Done;
     mute = mute-on Done;
     clean = due-on Done;
   }
@@ -398,7 +398,7 @@ rows-more k h =
     let some : k .spacings .to + 1 - k .spacings .from ≡ suc (k .spacings .to + 1 - (k .spacings .from + 1)) = omega (arith, h) in
     ap (λ (x : ℕ). rowsText (k .n) (k .steps) (k .seed) x (k .spacings .from)) some
 
-row-holds : (text : List ℕ) (k : Numbers) (talk : List Exchange) → InTelling (rowsOf k) text talk → Holds (nextRow k) (more talk (Write text) Done)
+row-holds : (text : List ℕ) (k : Numbers) (talk : List Exchange) → InPrinting (rowsOf k) text talk → Holds (nextRow k) (more talk (Write text) Done)
 unfolding nextRow
 row-holds text k talk h =
     by-bool (ltb (k .spacings .to) (k .spacings .from))
@@ -406,46 +406,46 @@ row-holds text k talk h =
     (λ e. rw e (done-more (rowsOf k) text talk h _ _ (rows-more k (ltb-false (k .spacings .to) (k .spacings .from) e))))
 
 -- What is said last; then nothing more.
-module _ (text : List ℕ) (talk : List Exchange) (h : InLast text talk) (r : Request) (a : Answer) (says : said r ≡ text) (writes-none : written r ≡ []) (fails : failure r a ≡ [])
+module _ (text : List ℕ) (talk : List Exchange) (h : InLast text talk) (r : Request) (a : Answer) (says : errorText r ≡ text) (writes-none : written r ≡ []) (fails : failure r a ≡ [])
     (none : (i : ℕ) → wordBy i r a ≡ []) (on : isLast r ≡ false) where
-  same-told : told (more talk r a) ≡ told talk
-  same-told = writes talk r a ∙ ap (λ (x : List ℕ). told talk ++ x) writes-none ∙ append-nil (told talk)
+  same-printed : printedIn (more talk r a) ≡ printedIn talk
+  same-printed = writes talk r a ∙ ap (λ (x : List ℕ). printedIn talk ++ x) writes-none ∙ append-nil (printedIn talk)
 
   after-last : InStopped (more talk r a)
   after-last = record {
     why =
         tells talk r a
-        ∙ ap (λ (x : List ℕ). x ++ said r) (h .mute)
+        ∙ ap (λ (x : List ℕ). x ++ errorText r) (h .mute)
         ∙ says
         ∙ sym (due-next talk r a none on ∙ ap (λ (x : List ℕ). due talk ++ x) fails ∙ append-nil (due talk) ∙ h .why);
-    front = (h .front .0, ap (λ (x : List ℕ). x ++ h .front .0) same-told ∙ h .front .1 ∙ sym (same-text talk r a none on));
-    whole = λ f. same-told ∙ h .whole (sym (failures-next talk r a ∙ ap (λ (x : List ℕ). failures talk ++ x) fails ∙ append-nil (failures talk)) ∙ f) ∙ sym (same-text talk r a none on);
+    front = (h .front .0, ap (λ (x : List ℕ). x ++ h .front .0) same-printed ∙ h .front .1 ∙ sym (same-text talk r a none on));
+    whole = λ f. same-printed ∙ h .whole (sym (failures-next talk r a ∙ ap (λ (x : List ℕ). failures talk ++ x) fails ∙ append-nil (failures talk)) ∙ f) ∙ sym (same-text talk r a none on);
   }
 
 after-stop : (talk : List Exchange) → InStopped talk → InStopped (more talk Stop Failed)
-unfolding written said failure wordBy isLast
+unfolding written errorText failure wordBy isLast
 after-stop talk h =
-    let same : told (more talk Stop Failed) ≡ told talk = writes talk Stop Failed ∙ append-nil (told talk) in
+    let same : printedIn (more talk Stop Failed) ≡ printedIn talk = writes talk Stop Failed ∙ append-nil (printedIn talk) in
     record {
-      why = tells talk Stop Failed ∙ append-nil (saidOf (requestsOf talk)) ∙ h .why ∙ sym (due-next talk Stop Failed (λ i. refl) refl ∙ append-nil (due talk));
+      why = tells talk Stop Failed ∙ append-nil (errorTextOf (requestsOf talk)) ∙ h .why ∙ sym (due-next talk Stop Failed (λ i. refl) refl ∙ append-nil (due talk));
       front = (h .front .0, ap (λ (x : List ℕ). x ++ h .front .0) same ∙ h .front .1 ∙ sym (same-text talk Stop Failed (λ i. refl) refl));
       whole = λ f. same ∙ h .whole (sym (failures-next talk Stop Failed ∙ append-nil (failures talk)) ∙ f) ∙ sym (same-text talk Stop Failed (λ i. refl) refl);
     }
 
 -- So every answer keeps what holds,
 holds-on : (s : State) (talk : List Exchange) (a : Answer) → Holds s talk → Holds (stepped simulating s a) (talk ++ (exchanged simulating s a ∷ []))
-unfolding stepped ask next heard written said failure wordBy isLast
+unfolding stepped ask next heard written errorText failure wordBy isLast
 holds-on Counting talk a h = after-count talk h (heardCount a)
 holds-on (Asking i k) talk a h = after-word i k talk h (heardWord longestWord a)
-holds-on (Telling text) talk a h = after-write [] text talk h Stopped (done-last [] text talk h refl) a
+holds-on (Printing text) talk a h = after-write [] text talk h Stopped (done-last [] text talk h refl) a
 holds-on (Tabling text k) talk a h = after-write (rowsOf k) text talk h (nextRow k) (row-holds text k talk h) a
-holds-on (Saying text) talk a h = after-last text talk h (Say text) Done refl refl refl (λ i. refl) refl
+holds-on (Reporting text) talk a h = after-last text talk h (Say text) Done refl refl refl (λ i. refl) refl
 holds-on (Failing name) talk a h = after-last name talk h (Fail name) Done refl refl refl (λ i. refl) refl
 holds-on Stopped talk a h = after-stop talk h
 
 -- and it holds before the first.
 at-first : Holds Counting []
-unfolding failures lastAsked wordOf requestsOf writtenOf saidOf
+unfolding failures lastAsked wordOf requestsOf writtenOf errorTextOf
 at-first = record { quiet = record { silent = refl; mute = refl; fine = refl }; unasked = refl; later = λ j. refl }
 
 always : (answers : List Answer) → Holds (stateAfter simulating answers) (exchanges simulating answers)
@@ -453,40 +453,40 @@ always answers = throughout simulating Holds holds-on at-first answers
 
 -- What follows in each state.
 abbrev FrontIn : State → List Exchange → Type 0
-FrontIn s talk = (rest : List ℕ) × ((told talk ++ written (ask s)) ++ rest ≡ textOf (numbersOf talk))
+FrontIn s talk = (rest : List ℕ) × ((printedIn talk ++ written (ask s)) ++ rest ≡ textOf (numbersOf talk))
 
-silent-front : (talk : List Exchange) → told talk ≡ [] → (told talk ++ []) ++ textOf (numbersOf talk) ≡ textOf (numbersOf talk)
+silent-front : (talk : List Exchange) → printedIn talk ≡ [] → (printedIn talk ++ []) ++ textOf (numbersOf talk) ≡ textOf (numbersOf talk)
 silent-front talk e = ap (λ (x : List ℕ). (x ++ []) ++ textOf (numbersOf talk)) e
 
 front-in : (s : State) (talk : List Exchange) → Holds s talk → FrontIn s talk
 unfolding written ask
 front-in Counting talk h = (textOf (numbersOf talk), silent-front talk (h .quiet .silent))
 front-in (Asking i k) talk h = (textOf (numbersOf talk), silent-front talk (h .quiet .silent))
-front-in (Telling text) talk h = ([], append-assoc (told talk) text [] ∙ h .right)
-front-in (Tabling text k) talk h = (rowsOf k, append-assoc (told talk) text (rowsOf k) ∙ h .right)
-front-in (Saying text) talk h = (h .front .0, ap (λ (x : List ℕ). x ++ h .front .0) (append-nil (told talk)) ∙ h .front .1)
-front-in (Failing name) talk h = (h .front .0, ap (λ (x : List ℕ). x ++ h .front .0) (append-nil (told talk)) ∙ h .front .1)
-front-in Stopped talk h = (h .front .0, ap (λ (x : List ℕ). x ++ h .front .0) (append-nil (told talk)) ∙ h .front .1)
+front-in (Printing text) talk h = ([], append-assoc (printedIn talk) text [] ∙ h .right)
+front-in (Tabling text k) talk h = (rowsOf k, append-assoc (printedIn talk) text (rowsOf k) ∙ h .right)
+front-in (Reporting text) talk h = (h .front .0, ap (λ (x : List ℕ). x ++ h .front .0) (append-nil (printedIn talk)) ∙ h .front .1)
+front-in (Failing name) talk h = (h .front .0, ap (λ (x : List ℕ). x ++ h .front .0) (append-nil (printedIn talk)) ∙ h .front .1)
+front-in Stopped talk h = (h .front .0, ap (λ (x : List ℕ). x ++ h .front .0) (append-nil (printedIn talk)) ∙ h .front .1)
 
-whole-in : (s : State) (talk : List Exchange) → Holds s talk → ask s ≡ Stop → failures talk ≡ [] → told talk ++ written (ask s) ≡ textOf (numbersOf talk)
+whole-in : (s : State) (talk : List Exchange) → Holds s talk → ask s ≡ Stop → failures talk ≡ [] → printedIn talk ++ written (ask s) ≡ textOf (numbersOf talk)
 unfolding written ask
 whole-in Counting talk h e f = absurd (let z : _≡_ {A = ℕ} 0 1 = cc in omega arith)
 whole-in (Asking i k) talk h e f = absurd (let z : _≡_ {A = ℕ} 0 1 = cc in omega arith)
-whole-in (Telling text) talk h e f = absurd (let z : _≡_ {A = ℕ} 0 1 = cc in omega arith)
+whole-in (Printing text) talk h e f = absurd (let z : _≡_ {A = ℕ} 0 1 = cc in omega arith)
 whole-in (Tabling text k) talk h e f = absurd (let z : _≡_ {A = ℕ} 0 1 = cc in omega arith)
-whole-in (Saying text) talk h e f = absurd (let z : _≡_ {A = ℕ} 0 1 = cc in omega arith)
+whole-in (Reporting text) talk h e f = absurd (let z : _≡_ {A = ℕ} 0 1 = cc in omega arith)
 whole-in (Failing name) talk h e f = absurd (let z : _≡_ {A = ℕ} 0 1 = cc in omega arith)
-whole-in Stopped talk h e f = append-nil (told talk) ∙ h .whole f
+whole-in Stopped talk h e f = append-nil (printedIn talk) ∙ h .whole f
 
-says-in : (s : State) (talk : List Exchange) → Holds s talk → saidOf (requestsOf talk) ++ said (ask s) ≡ due talk
-unfolding said ask
-says-in Counting talk h = append-nil (saidOf (requestsOf talk)) ∙ h .quiet .mute ∙ sym (due-none talk (h .unasked) (h .quiet .fine))
-says-in (Asking i k) talk h = append-nil (saidOf (requestsOf talk)) ∙ h .quiet .mute ∙ sym (due-none talk (h .unasked) (h .quiet .fine))
-says-in (Telling text) talk h = append-nil (saidOf (requestsOf talk)) ∙ h .mute ∙ sym (h .clean)
-says-in (Tabling text k) talk h = append-nil (saidOf (requestsOf talk)) ∙ h .mute ∙ sym (h .clean)
-says-in (Saying text) talk h = ap (λ (x : List ℕ). x ++ text) (h .mute) ∙ sym (h .why)
+says-in : (s : State) (talk : List Exchange) → Holds s talk → errorTextOf (requestsOf talk) ++ errorText (ask s) ≡ due talk
+unfolding errorText ask
+says-in Counting talk h = append-nil (errorTextOf (requestsOf talk)) ∙ h .quiet .mute ∙ sym (due-none talk (h .unasked) (h .quiet .fine))
+says-in (Asking i k) talk h = append-nil (errorTextOf (requestsOf talk)) ∙ h .quiet .mute ∙ sym (due-none talk (h .unasked) (h .quiet .fine))
+says-in (Printing text) talk h = append-nil (errorTextOf (requestsOf talk)) ∙ h .mute ∙ sym (h .clean)
+says-in (Tabling text k) talk h = append-nil (errorTextOf (requestsOf talk)) ∙ h .mute ∙ sym (h .clean)
+says-in (Reporting text) talk h = ap (λ (x : List ℕ). x ++ text) (h .mute) ∙ sym (h .why)
 says-in (Failing name) talk h = ap (λ (x : List ℕ). x ++ name) (h .mute) ∙ sym (h .why)
-says-in Stopped talk h = append-nil (saidOf (requestsOf talk)) ∙ h .why
+says-in Stopped talk h = append-nil (errorTextOf (requestsOf talk)) ∙ h .why
 
 pub simulates-always : SimulatesAlways
 simulates-always answers =
@@ -496,7 +496,7 @@ simulates-always answers =
     record {
       fronts = (front .0, ap (λ (x : List ℕ). x ++ front .0) (written-is simulating answers) ∙ front .1);
       whole = λ e f. written-is simulating answers ∙ whole-in s talk (always answers) e f;
-      says = said-is simulating answers ∙ says-in s talk (always answers);
+      says = error-text-is simulating answers ∙ says-in s talk (always answers);
       stops = λ h. stops simulating simulating-ends answers h;
     }
 
@@ -509,9 +509,9 @@ output-fails : (s : State) (text : List ℕ) (a : Answer) → ask s ≡ Write te
 unfolding stepped ask next heard
 output-fails Counting text a e f = absurd (let z : _≡_ {A = ℕ} 0 1 = cc in omega arith)
 output-fails (Asking i k) text a e f = absurd (let z : _≡_ {A = ℕ} 0 1 = cc in omega arith)
-output-fails (Telling line) text a e f = fails-so (Telling line) Stopped a f
+output-fails (Printing line) text a e f = fails-so (Printing line) Stopped a f
 output-fails (Tabling line k) text a e f = fails-so (Tabling line k) (nextRow k) a f
-output-fails (Saying line) text a e f = absurd (let z : _≡_ {A = ℕ} 0 1 = cc in omega arith)
+output-fails (Reporting line) text a e f = absurd (let z : _≡_ {A = ℕ} 0 1 = cc in omega arith)
 output-fails (Failing name) text a e f = absurd (let z : _≡_ {A = ℕ} 0 1 = cc in omega arith)
 output-fails Stopped text a e f = absurd (let z : _≡_ {A = ℕ} 0 1 = cc in omega arith)
 
@@ -519,9 +519,9 @@ stops-after : (s : State) (text : List ℕ) (a : Answer) → ask s ≡ Fail text
 unfolding stepped ask next
 stops-after Counting text a e = absurd (let z : _≡_ {A = ℕ} 0 1 = cc in omega arith)
 stops-after (Asking i k) text a e = absurd (let z : _≡_ {A = ℕ} 0 1 = cc in omega arith)
-stops-after (Telling line) text a e = absurd (let z : _≡_ {A = ℕ} 0 1 = cc in omega arith)
+stops-after (Printing line) text a e = absurd (let z : _≡_ {A = ℕ} 0 1 = cc in omega arith)
 stops-after (Tabling line k) text a e = absurd (let z : _≡_ {A = ℕ} 0 1 = cc in omega arith)
-stops-after (Saying line) text a e = absurd (let z : _≡_ {A = ℕ} 0 1 = cc in omega arith)
+stops-after (Reporting line) text a e = absurd (let z : _≡_ {A = ℕ} 0 1 = cc in omega arith)
 stops-after (Failing name) text a e = refl
 stops-after Stopped text a e = absurd (let z : _≡_ {A = ℕ} 0 1 = cc in omega arith)
 

@@ -9,7 +9,7 @@ use lib.ListN.{length}
 use Rattle.laws.specs.Choice.{pick}
 use Rattle.model.specs.declared.Refusal.the-variants.{TrialOutsideRange}
 use Rattle.programs.specs.Texts.{refusedText}
-use Rattle.machines.specs.Machines.{Request, Count, Argument, Open, Read, Write, Say, Fail, Stop, Answer, Number, Bytes, End, Done, Failed, Machine, Exchange, heard, isNumber, brought, stepped, asked, exchanges, stateAfter, writtenOf, saidOf}
+use Rattle.machines.specs.Machines.{Request, Count, Argument, Open, Read, Write, Say, Fail, Stop, Answer, Number, Bytes, End, Done, Failed, Machine, Exchange, heard, isNumber, brought, stepped, asked, exchanges, stateAfter, writtenOf, errorTextOf}
 use Rattle.simulate_machine.specs.declared.words.Numbers.{Numbers}
 use Rattle.simulate_machine.specs.Arguments.{isWrong, isRefused, noNumbers, withWord, numbersIn}
 use Rattle.simulate_machine.specs.Text.{headLine, resultText, rowText, trialOf, textOf}
@@ -31,11 +31,11 @@ pub data State : Type 0 where
   -- Which word is this, 1 to 4? The numbers of the words before it.
   Asking : ℕ → Numbers → State
   -- The last text that is to be written.
-  Telling : List ℕ → State
+  Printing : List ℕ → State
   -- A line of a table that is to be written, and the numbers of the rows after it.
   Tabling : List ℕ → Numbers → State
   -- How the program is used.
-  Saying : List ℕ → State
+  Reporting : List ℕ → State
   -- What failed.
   Failing : List ℕ → State
   Stopped : State
@@ -43,26 +43,26 @@ pub data State : Type 0 where
 unfoldable pub ask : State → Request
 ask Counting = Count
 ask (Asking i k) = Argument i longestWord
-ask (Telling text) = Write text
+ask (Printing text) = Write text
 ask (Tabling text k) = Write text
-ask (Saying text) = Say text
+ask (Reporting text) = Say text
 ask (Failing name) = Fail name
 ask Stopped = Stop
 
 -- A table is refused, or begins with its first line.
 unfoldable pub tabled : Numbers → State
-tabled k = pick (isRefused (k .n) (k .spacings .from) (k .spacings .to) (k .steps)) (Telling (refusedText TrialOutsideRange)) (Tabling headLine k)
+tabled k = pick (isRefused (k .n) (k .spacings .from) (k .spacings .to) (k .steps)) (Printing (refusedText TrialOutsideRange)) (Tabling headLine k)
 
 -- What four numbers ask for: a table, or the figures of one simulation.
 unfoldable pub answered : Numbers → State
-answered k = pick (k .spacings .many) (tabled k) (Telling (resultText (trialOf (k .n) (k .spacings .from) (k .steps) (k .seed))))
+answered k = pick (k .spacings .many) (tabled k) (Printing (resultText (trialOf (k .n) (k .spacings .from) (k .steps) (k .seed))))
 
 unfoldable pub decided : Numbers → State
-decided k = pick (isWrong (k .n) (k .spacings) (k .steps) (k .seed)) (Saying usage) (answered k)
+decided k = pick (isWrong (k .n) (k .spacings) (k .steps) (k .seed)) (Reporting usage) (answered k)
 
 -- Program and four words: five.
 unfoldable pub afterCount : Answer → State
-afterCount a = pick (isNumber a 5) (Asking 1 noNumbers) (Saying usage)
+afterCount a = pick (isNumber a 5) (Asking 1 noNumbers) (Reporting usage)
 
 -- The number of a word takes the place of the word. One that is too long counts as an empty one.
 unfoldable pub afterWord : ℕ → Numbers → List ℕ → State
@@ -86,9 +86,9 @@ afterWrite s Failed = Failing outputName
 unfoldable pub next : State → Answer → State
 next Counting a = afterCount a
 next (Asking i k) a = afterWord i k (brought a)
-next (Telling text) a = afterWrite Stopped a
+next (Printing text) a = afterWrite Stopped a
 next (Tabling text k) a = afterWrite (nextRow k) a
-next (Saying text) a = Stopped
+next (Reporting text) a = Stopped
 next (Failing name) a = Stopped
 next Stopped a = Stopped
 
@@ -160,7 +160,7 @@ pub record Simulates (answers : List Answer) : Type 0 where
   pub whole : ask (stateAfter simulating answers) ≡ Stop → failures (exchanges simulating answers) ≡ []
       → writtenOf (asked simulating answers) ≡ textOf (numbersOf (exchanges simulating answers))
   -- the usage is reported where there are not four words or one of them is wrong, what failed is reported, and nothing else;
-  pub says : let talk = exchanges simulating answers in saidOf (asked simulating answers) ≡ wrongWords (lastAsked talk) (numbersOf talk) ++ failures talk
+  pub says : let talk = exchanges simulating answers in errorTextOf (asked simulating answers) ≡ wrongWords (lastAsked talk) (numbersOf talk) ++ failures talk
   -- and after more than 1,007 answers it has stopped.
   pub stops : 1007 < length answers → ask (stateAfter simulating answers) ≡ Stop
 

@@ -12,11 +12,11 @@ use Rattle.machines.specs.declared.Request as requests
 use Rattle.machines.specs.Forms.{Asks}
 use Rattle.simulate_machine.specs.declared.words.Numbers.{Numbers}
 use Rattle.simulate_machine.specs.Text.{longestText}
-use Rattle.simulate_machine.specs.Simulating.{longestWord, State, Counting, Asking, Telling, Tabling, Saying, Failing, Stopped, ask}
+use Rattle.simulate_machine.specs.Simulating.{longestWord, State, Counting, Asking, Printing, Tabling, Reporting, Failing, Stopped, ask}
 
 -- There is room for the eight numbers, for the longest word, and for the longest text.
-abbrev pub Roomy : ℕ → ℕ → ℕ → Type 0
-Roomy memory input out = (8 ≤ memory) × (longestWord ≤ input) × (longestText ≤ out)
+abbrev pub EnoughRoom : ℕ → ℕ → ℕ → Type 0
+EnoughRoom memory input out = (8 ≤ memory) × (longestWord ≤ input) × (longestText ≤ out)
 
 unfoldable pub lacksRoom : ℕ → ℕ → ℕ → Bool
 lacksRoom memory input out = ltb memory 8 || (ltb input longestWord || ltb out longestText)
@@ -36,9 +36,9 @@ unfoldable pub inPhase : ℕ → ℕ → Numbers → List ℕ → State
 inPhase phase count k out =
     pick (eqb phase 0) Counting
     (pick (leb phase 4) (Asking phase k)
-    (pick (eqb phase 5) (Telling (take count out))
+    (pick (eqb phase 5) (Printing (take count out))
     (pick (eqb phase 6 && leb (k .spacings .to) 1000) (Tabling (take count out) k)
-    (pick (eqb phase 7) (Saying (take count out))
+    (pick (eqb phase 7) (Reporting (take count out))
     (pick (eqb phase 8) (Failing (take count out))
     Stopped)))))
 

@@ -25,17 +25,17 @@ ghost use Rattle.spacing.specs.Spacing.{mostSpacing};
 ghost use Rattle.machines.specs.Machines.{brought, stepped};
 ghost use Rattle.machines.specs.Forms.{answerOf, takenOf, Between};
 ghost use Rattle.simulate_machine.specs.Text.{longestText, trialOf};
-ghost use Rattle.simulate_machine.specs.Simulating.{longestWord, usage, outputName, Counting, Asking, Telling, Tabling, Saying, Failing, Stopped, tabled, answered, decided, nextRow, simulating};
-ghost use Rattle.simulate_machine.specs.Words.{Roomy, lacksRoom, keptIn, stateOf, Puts, StandsFor};
+ghost use Rattle.simulate_machine.specs.Simulating.{longestWord, usage, outputName, Counting, Asking, Printing, Tabling, Reporting, Failing, Stopped, tabled, answered, decided, nextRow, simulating};
+ghost use Rattle.simulate_machine.specs.Words.{EnoughRoom, lacksRoom, keptIn, stateOf, Puts, StandsFor};
 
 // The phases; 1 to 4 are the words. Every other number stands for a machine that has stopped.
 const COUNTING: u64 = 0;
 
-const TELLING: u64 = 5;
+const PRINTING: u64 = 5;
 
 const TABLING: u64 = 6;
 
-const SAYING: u64 = 7;
+const REPORTING: u64 = 7;
 
 const FAILING: u64 = 8;
 
@@ -111,7 +111,7 @@ fn stop(memory: &mut [u64]) -> Request
 
 // Word i is asked for.
 fn ask_word(memory: &mut [u64], input: &[u8], out: &[u8], i: usize, k: Numbers) -> Request
-    requires { ⌜ Roomy (length (now memory)) (length (now input)) (length (now out)) × (1 ≤ i) × (i ≤ 4) ⌝ }
+    requires { ⌜ EnoughRoom (length (now memory)) (length (now input)) (length (now out)) × (1 ≤ i) × (i ≤ 4) ⌝ }
     ensures { λ r. ⌜ StandsFor (now (memory .exit)) (now (input .entry)) (now (out .entry)) r (Asking i k) ⌝ }
 {
     put(memory, i as u64, 0, k);
@@ -119,17 +119,17 @@ fn ask_word(memory: &mut [u64], input: &[u8], out: &[u8], i: usize, k: Numbers) 
 }
 
 // The front of the buffer is the last text.
-fn tell(memory: &mut [u64], input: &[u8], out: &[u8], size: usize) -> Request
-    requires { ⌜ Roomy (length (now memory)) (length (now input)) (length (now out)) × (size ≤ longestText) ⌝ }
-    ensures { λ r. ⌜ StandsFor (now (memory .exit)) (now (input .entry)) (now (out .entry)) r (Telling (take size (now (out .entry)))) ⌝ }
+fn print_last(memory: &mut [u64], input: &[u8], out: &[u8], size: usize) -> Request
+    requires { ⌜ EnoughRoom (length (now memory)) (length (now input)) (length (now out)) × (size ≤ longestText) ⌝ }
+    ensures { λ r. ⌜ StandsFor (now (memory .exit)) (now (input .entry)) (now (out .entry)) r (Printing (take size (now (out .entry)))) ⌝ }
 {
-    put(memory, TELLING, size, words::no_numbers());
+    put(memory, PRINTING, size, words::no_numbers());
     Request::Write(size)
 }
 
 // The front of the buffer is a line of a table; these rows follow.
 fn tabulate(memory: &mut [u64], input: &[u8], out: &[u8], size: usize, k: Numbers) -> Request
-    requires { ⌜ Roomy (length (now memory)) (length (now input)) (length (now out)) × (size ≤ longestText) × (k .spacings .to ≤ mostSpacing) ⌝ }
+    requires { ⌜ EnoughRoom (length (now memory)) (length (now input)) (length (now out)) × (size ≤ longestText) × (k .spacings .to ≤ mostSpacing) ⌝ }
     ensures { λ r. ⌜ StandsFor (now (memory .exit)) (now (input .entry)) (now (out .entry)) r (Tabling (take size (now (out .entry))) k) ⌝ }
 {
     put(memory, TABLING, size, k);
@@ -137,22 +137,22 @@ fn tabulate(memory: &mut [u64], input: &[u8], out: &[u8], size: usize, k: Number
 }
 
 // The usage line is reported.
-fn say_usage(memory: &mut [u64], input: &[u8], out: &mut [u8]) -> Request
-    requires { ⌜ Roomy (length (now memory)) (length (now input)) (length (now out)) ⌝ }
-    ensures { λ r. ⌜ StandsFor (now (memory .exit)) (now (input .entry)) (now (out .exit)) r (Saying usage) ⌝ }
+fn report_usage(memory: &mut [u64], input: &[u8], out: &mut [u8]) -> Request
+    requires { ⌜ EnoughRoom (length (now memory)) (length (now input)) (length (now out)) ⌝ }
+    ensures { λ r. ⌜ StandsFor (now (memory .exit)) (now (input .entry)) (now (out .exit)) r (Reporting usage) ⌝ }
 {
     let size = programs::text::write_word(
         out,
         0,
         b"usage: simulate N SPACING STEPS SEED, or simulate N FROM-TO STEPS SEED\n",
     );
-    put(memory, SAYING, size, words::no_numbers());
+    put(memory, REPORTING, size, words::no_numbers());
     Request::Say(size)
 }
 
 // A failed write is reported.
 fn fail(memory: &mut [u64], input: &[u8], out: &mut [u8]) -> Request
-    requires { ⌜ Roomy (length (now memory)) (length (now input)) (length (now out)) ⌝ }
+    requires { ⌜ EnoughRoom (length (now memory)) (length (now input)) (length (now out)) ⌝ }
     ensures { λ r. ⌜ StandsFor (now (memory .exit)) (now (input .entry)) (now (out .exit)) r (Failing outputName) ⌝ }
 {
     let size = programs::text::write_word(out, 0, b"simulate: standard output");
@@ -173,13 +173,13 @@ fn trial(k: Numbers, spacing: u64) -> TrialResult
 
 // A table is refused, or begins with its first line.
 fn table(memory: &mut [u64], input: &[u8], out: &mut [u8], k: Numbers) -> Request
-    requires { ⌜ Roomy (length (now memory)) (length (now input)) (length (now out)) ⌝ }
+    requires { ⌜ EnoughRoom (length (now memory)) (length (now input)) (length (now out)) ⌝ }
     ensures { λ r. ⌜ StandsFor (now (memory .exit)) (now (input .entry)) (now (out .exit)) r (tabled k) ⌝ }
 {
     let spacings = k.spacings;
     if words::is_refused(k.n, spacings.from, spacings.to, k.steps) {
         let refused = programs::text::write_refused(out, Refusal::TrialOutsideRange);
-        return tell(memory, input, out, refused);
+        return print_last(memory, input, out, refused);
     }
     let size = programs::text::write_word(
         out,
@@ -191,7 +191,7 @@ fn table(memory: &mut [u64], input: &[u8], out: &mut [u8], k: Numbers) -> Reques
 
 // What four numbers ask for: a table, or the figures of one simulation.
 fn answer_with(memory: &mut [u64], input: &[u8], out: &mut [u8], k: Numbers) -> Request
-    requires { ⌜ Roomy (length (now memory)) (length (now input)) (length (now out)) ⌝ }
+    requires { ⌜ EnoughRoom (length (now memory)) (length (now input)) (length (now out)) ⌝ }
     ensures { λ r. ⌜ StandsFor (now (memory .exit)) (now (input .entry)) (now (out .exit)) r (answered k) ⌝ }
 {
     let spacings = k.spacings;
@@ -200,23 +200,23 @@ fn answer_with(memory: &mut [u64], input: &[u8], out: &mut [u8], k: Numbers) -> 
     }
     let result = trial(k, spacings.from);
     let size = print::write_result(out, result);
-    tell(memory, input, out, size)
+    print_last(memory, input, out, size)
 }
 
 fn decide(memory: &mut [u64], input: &[u8], out: &mut [u8], k: Numbers) -> Request
-    requires { ⌜ Roomy (length (now memory)) (length (now input)) (length (now out)) ⌝ }
+    requires { ⌜ EnoughRoom (length (now memory)) (length (now input)) (length (now out)) ⌝ }
     ensures { λ r. ⌜ StandsFor (now (memory .exit)) (now (input .entry)) (now (out .exit)) r (decided k) ⌝ }
 {
     let spacings = k.spacings;
     if words::is_wrong(k.n, spacings, k.steps, k.seed) {
-        return say_usage(memory, input, out);
+        return report_usage(memory, input, out);
     }
     answer_with(memory, input, out, k)
 }
 
 // The row of the spacing that is next, unless it is past the last.
 fn next_row(memory: &mut [u64], input: &[u8], out: &mut [u8], k: Numbers) -> Request
-    requires { ⌜ Roomy (length (now memory)) (length (now input)) (length (now out)) × (k .spacings .to ≤ mostSpacing) ⌝ }
+    requires { ⌜ EnoughRoom (length (now memory)) (length (now input)) (length (now out)) × (k .spacings .to ≤ mostSpacing) ⌝ }
     ensures { λ r. ⌜ StandsFor (now (memory .exit)) (now (input .entry)) (now (out .exit)) r (nextRow k) ⌝ }
 {
     let spacings = k.spacings;
@@ -238,13 +238,13 @@ fn next_row(memory: &mut [u64], input: &[u8], out: &mut [u8], k: Numbers) -> Req
 
 // The count is answered.
 fn after_count(memory: &mut [u64], input: &[u8], out: &mut [u8], answer: Answer) -> Request
-    requires { ⌜ Roomy (length (now memory)) (length (now input)) (length (now out)) ⌝ }
+    requires { ⌜ EnoughRoom (length (now memory)) (length (now input)) (length (now out)) ⌝ }
     ensures { λ r. ⌜ StandsFor (now (memory .exit)) (now (input .entry)) (now (out .exit)) r (stepped simulating Counting (answerOf answer 0 (now (input .entry)))) ⌝ }
 {
     if heard::is_number(answer, 5) {
         return ask_word(memory, input, out, 1, words::no_numbers());
     }
-    say_usage(memory, input, out)
+    report_usage(memory, input, out)
 }
 
 // How long a word is. One that is too long counts as an empty one.
@@ -268,7 +268,7 @@ fn after_word(
     k: Numbers,
     answer: Answer,
 ) -> Request
-    requires { ⌜ Roomy (length (now memory)) (length (now input)) (length (now out)) × (1 ≤ i) × (i ≤ 4) ⌝ }
+    requires { ⌜ EnoughRoom (length (now memory)) (length (now input)) (length (now out)) × (1 ≤ i) × (i ≤ 4) ⌝ }
     ensures { λ r. ⌜ StandsFor (now (memory .exit)) (now (input .entry)) (now (out .exit)) r (stepped simulating (Asking i k) (answerOf answer 0 (now (input .entry)))) ⌝ }
 {
     let size = size_of(heard::word(answer, LONGEST_WORD));
@@ -281,8 +281,8 @@ fn after_word(
 
 // The last text is written, or not.
 fn after_last(memory: &mut [u64], input: &[u8], out: &mut [u8], answer: Answer) -> Request
-    requires { ⌜ Roomy (length (now memory)) (length (now input)) (length (now out)) ⌝ }
-    ensures { λ r. ⌜ ((text : List ℕ) → StandsFor (now (memory .exit)) (now (input .entry)) (now (out .exit)) r (stepped simulating (Telling text) (answerOf answer 0 (now (input .entry))))) ⌝ }
+    requires { ⌜ EnoughRoom (length (now memory)) (length (now input)) (length (now out)) ⌝ }
+    ensures { λ r. ⌜ ((text : List ℕ) → StandsFor (now (memory .exit)) (now (input .entry)) (now (out .exit)) r (stepped simulating (Printing text) (answerOf answer 0 (now (input .entry))))) ⌝ }
 {
     if heard::is_done(answer) {
         return stop(memory);
@@ -298,7 +298,7 @@ fn after_line(
     k: Numbers,
     answer: Answer,
 ) -> Request
-    requires { ⌜ Roomy (length (now memory)) (length (now input)) (length (now out)) × (k .spacings .to ≤ mostSpacing) ⌝ }
+    requires { ⌜ EnoughRoom (length (now memory)) (length (now input)) (length (now out)) × (k .spacings .to ≤ mostSpacing) ⌝ }
     ensures { λ r. ⌜ ((text : List ℕ) → StandsFor (now (memory .exit)) (now (input .entry)) (now (out .exit)) r (stepped simulating (Tabling text k) (answerOf answer 0 (now (input .entry))))) ⌝ }
 {
     if heard::is_done(answer) {
@@ -309,7 +309,7 @@ fn after_line(
 
 // A table goes on, if it is one that can be.
 fn go_on(memory: &mut [u64], input: &[u8], out: &mut [u8], answer: Answer) -> Request
-    requires { ⌜ Roomy (length (now memory)) (length (now input)) (length (now out)) × (getD (now memory) 0 0 ≡ 6) ⌝ }
+    requires { ⌜ EnoughRoom (length (now memory)) (length (now input)) (length (now out)) × (getD (now memory) 0 0 ≡ 6) ⌝ }
     ensures { λ r. ⌜ StandsFor (now (memory .exit)) (now (input .entry)) (now (out .exit)) r (stepped simulating (stateOf (now (memory .entry)) (now (input .entry)) (now (out .entry))) (answerOf answer 0 (now (input .entry)))) ⌝ }
 {
     let k = kept(memory);
@@ -322,7 +322,7 @@ fn go_on(memory: &mut [u64], input: &[u8], out: &mut [u8], answer: Answer) -> Re
 
 // The first state.
 pub fn begin(memory: &mut [u64], input: &[u8], out: &[u8]) -> Request
-    requires { ⌜ Roomy (length (now memory)) (length (now input)) (length (now out)) ⌝ }
+    requires { ⌜ EnoughRoom (length (now memory)) (length (now input)) (length (now out)) ⌝ }
     ensures { λ r. ⌜ StandsFor (now (memory .exit)) (now (input .entry)) (now (out .entry)) r Counting ⌝ }
 {
     put(memory, COUNTING, 0, words::no_numbers());
@@ -344,7 +344,7 @@ pub fn step(memory: &mut [u64], input: &[u8], out: &mut [u8], answer: Answer) ->
         let k = kept(memory);
         return after_word(memory, input, out, phase as usize, k, answer);
     }
-    if phase == TELLING {
+    if phase == PRINTING {
         return after_last(memory, input, out, answer);
     }
     if phase == TABLING {

@@ -44,8 +44,8 @@ fn write_field(out: &mut [u8], at: usize, x: u64) -> usize
     requires { ⌜ at + 21 ≤ length (now out) ⌝ }
     ensures { λ r. ⌜ Printed (now (out .entry)) at (space ∷ decimal x) (now (out .exit)) r × (r ≤ at + 21) ⌝ }
 {
-    let spaced = listing::write_byte(out, at, b' ');
-    listing::write_number(out, spaced, x)
+    let after_space = listing::write_byte(out, at, b' ');
+    listing::write_number(out, after_space, x)
 }
 
 // The spacing and the five figures, in one row.

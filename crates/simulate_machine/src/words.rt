@@ -66,8 +66,8 @@ pub fn spacings_in(word: &[u8]) -> Spacings
             to: from,
         };
     }
-    let behind = place + 1;
-    let to = number_in(&word[behind..]);
+    let next = place + 1;
+    let to = number_in(&word[next..]);
     Spacings {
         many: true,
         from,

@@ -30,7 +30,7 @@ module _ (s : Run) (h : SoundState s) where
     kept-sound : keptSound s p ≡ true
     unfolding keptSound
     kept-sound =
-        and-both _ _ (and-both _ _ (and-both _ _ (and-both _ _ (and-both _ _ (le-leb _ _ (q .held-some)) (le-leb _ _ (q .held-most))) (q .kept-ascend)) (q .kept-own))
+        and-both _ _ (and-both _ _ (and-both _ _ (and-both _ _ (and-both _ _ (le-leb _ _ (q .kept-count-some)) (le-leb _ _ (q .kept-count-most))) (q .kept-ascend)) (q .kept-own))
         (eq-eqb _ _ (q .kept-last))) (q .own-pin)
 
     pins-sound : pinsSound s p ≡ true
@@ -48,8 +48,8 @@ module _ (s : Run) (h : SoundState s) where
   unused-sound : unusedSound s ≡ true
   unfolding unusedSound
   unused-sound =
-      and-both _ _ (and-both _ _ (and-both _ _ (and-both _ _ (and-both _ _ (and-both _ _ (and-both _ _ (all-in _ (rowUnused s) row-unused) (h .vectors-behind)) (h .pins-behind))
-      (h .sent-behind)) (h .kept-behind)) (h .held-behind)) (h .carried-unused)) (h .messages-unused)
+      and-both _ _ (and-both _ _ (and-both _ _ (and-both _ _ (and-both _ _ (and-both _ _ (and-both _ _ (all-in _ (rowUnused s) row-unused) (h .vectors-beyond)) (h .pins-beyond))
+      (h .sent-beyond)) (h .kept-beyond)) (h .kept-count-beyond)) (h .carried-unused)) (h .messages-unused)
 
   disk-sound : diskSound s ≡ true
   unfolding diskSound

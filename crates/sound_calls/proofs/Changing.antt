@@ -57,8 +57,8 @@ module _ (s : Run) (h : SoundState s) (l : List Message) (last : ℕ) where
     own-some = q .own-some;
     current-within = q .current-within;
     stored-within = q .stored-within;
-    held-some = q .held-some;
-    held-most = q .held-most;
+    kept-count-some = q .kept-count-some;
+    kept-count-most = q .kept-count-most;
     kept-ascend = q .kept-ascend;
     kept-own = q .kept-own;
     kept-last = q .kept-last;
@@ -76,9 +76,9 @@ module _ (s : Run) (h : SoundState s) (l : List Message) (last : ℕ) where
   unfolding withMessages underWay
   these = take-placed mostUnderWay noMessage l
 
-  behind : length l ≤ mostUnderWay → every unusedMessage (drop (withMessages s l last .underway) (withMessages s l last .messages)) ≡ true
+  rest-after : length l ≤ mostUnderWay → every unusedMessage (drop (withMessages s l last .underway) (withMessages s l last .messages)) ≡ true
   unfolding withMessages
-  behind few = placed-unused unusedMessage mostUnderWay noMessage l no-message few
+  rest-after few = placed-unused unusedMessage mostUnderWay noMessage l no-message few
 
   pub messages-stay : length l ≤ mostUnderWay → last ≤ mostMessages → every (λ x. within s (x .vector)) l ≡ true → ascending 1 (map (λ x. x .number) l) ≡ true
       → every (messageSound (withMessages s l last)) l ≡ true → every (λ x. zeroFrom (s .count) (x .vector)) l ≡ true → SoundState (withMessages s l last)
@@ -92,13 +92,13 @@ module _ (s : Run) (h : SoundState s) (l : List Message) (last : ℕ) where
     messages-ascend = rw these up;
     messages-sound = rw these each;
     last-most = most;
-    vectors-behind = h .vectors-behind;
-    pins-behind = h .pins-behind;
-    sent-behind = h .sent-behind;
-    kept-behind = h .kept-behind;
-    held-behind = h .held-behind;
+    vectors-beyond = h .vectors-beyond;
+    pins-beyond = h .pins-beyond;
+    sent-beyond = h .sent-beyond;
+    kept-beyond = h .kept-beyond;
+    kept-count-beyond = h .kept-count-beyond;
     carried-unused = rw these zeros;
-    messages-unused = behind few;
+    messages-unused = rest-after few;
     written-sum = h .written-sum;
     written-most = h .written-most;
   }
@@ -168,7 +168,7 @@ module _ (s : Run) (size : Sized s) (whole : sound s ≡ true) (p : ℕ) (lt : p
           own-some = q .own-some;
           current-within = q .current-within;
           stored-within = q .stored-within;
-          held-some = omega (arith, q .held-some, many);
+          kept-count-some = omega (arith, q .kept-count-some, many);
           kept-ascend = q .kept-ascend;
           kept-own = q .kept-own;
           kept-last = q .kept-last;
@@ -179,7 +179,7 @@ module _ (s : Run) (size : Sized s) (whole : sound s ≡ true) (p : ℕ) (lt : p
           stored-unused = q .stored-unused;
           records-sound = q .records-sound;
         };
-        held-most = omega (arith, q .held-most, many);
+        kept-count-most = omega (arith, q .kept-count-most, many);
         kept-pinned = q .kept-pinned;
       }
 
@@ -198,18 +198,18 @@ module _ (s : Run) (size : Sized s) (whole : sound s ≡ true) (i : ℕ) (inside
     getD-set-same (s .pins .0) i (Q .pins) [] (omega (arith, size .pins, row-there)),
     getD-set-same (s .sent) i (Q .mark) false (omega (arith, size .sent, row-there)),
     getD-set-same (s .kept .0) i (placed mostProcesses noCheckpoint (Q .kept)) [] (omega (arith, size .kept, row-there)),
-    getD-set-same (s .held) i (length (Q .kept)) 0 (omega (arith, size .held, row-there)),
+    getD-set-same (s .«kept_count») i (length (Q .kept)) 0 (omega (arith, size .«kept_count», row-there)),
     take-placed mostProcesses noCheckpoint (Q .kept),
   )
 
-  held-own : getD (withDisk (withProcess s i Q) D .held) i 0 ≡ length (Q .kept)
+  kept-count-own : getD (withDisk (withProcess s i Q) D .«kept_count») i 0 ≡ length (Q .kept)
   unfolding withProcess withDisk
-  held-own = getD-set-same (s .held) i (length (Q .kept)) 0 (omega (arith, size .held, row-there))
+  kept-count-own = getD-set-same (s .«kept_count») i (length (Q .kept)) 0 (omega (arith, size .«kept_count», row-there))
 
-  unused-own : length (Q .kept) ≤ mostProcesses → every unusedCheckpoint (drop (getD (withDisk (withProcess s i Q) D .held) i 0) (getD (withDisk (withProcess s i Q) D .kept .0) i [])) ≡ true
+  unused-own : length (Q .kept) ≤ mostProcesses → every unusedCheckpoint (drop (getD (withDisk (withProcess s i Q) D .«kept_count») i 0) (getD (withDisk (withProcess s i Q) D .kept .0) i [])) ≡ true
   unfolding withProcess withDisk
   unused-own few = rw (
-    getD-set-same (s .held) i (length (Q .kept)) 0 (omega (arith, size .held, row-there)),
+    getD-set-same (s .«kept_count») i (length (Q .kept)) 0 (omega (arith, size .«kept_count», row-there)),
     getD-set-same (s .kept .0) i (placed mostProcesses noCheckpoint (Q .kept)) [] (omega (arith, size .kept, row-there)),
   ) (placed-unused unusedCheckpoint mostProcesses noCheckpoint (Q .kept) no-checkpoint few)
 
@@ -221,16 +221,16 @@ module _ (s : Run) (size : Sized s) (whole : sound s ≡ true) (i : ℕ) (inside
       getD-set-other (s .pins .0) i p (Q .pins) [] ne,
       getD-set-other (s .sent) i p (Q .mark) false ne,
       getD-set-other (s .kept .0) i p (placed mostProcesses noCheckpoint (Q .kept)) [] ne,
-      getD-set-other (s .held) i p (length (Q .kept)) 0 ne,
+      getD-set-other (s .«kept_count») i p (length (Q .kept)) 0 ne,
     )
 
     own-other : own (withDisk (withProcess s i Q) D) p ≡ own s p
     unfolding own
     own-other = ap (λ (P : Process). entry (P .vector) p) part-other
 
-    held-other : getD (withDisk (withProcess s i Q) D .held) p 0 ≡ getD (s .held) p 0
+    kept-count-other : getD (withDisk (withProcess s i Q) D .«kept_count») p 0 ≡ getD (s .«kept_count») p 0
     unfolding withProcess withDisk
-    held-other = getD-set-other (s .held) i p (length (Q .kept)) 0 ne
+    kept-count-other = getD-set-other (s .«kept_count») i p (length (Q .kept)) 0 ne
 
     row-other : getD (withDisk (withProcess s i Q) D .kept .0) p [] ≡ getD (s .kept .0) p []
     unfolding withProcess withDisk
@@ -265,8 +265,8 @@ module _ (s : Run) (size : Sized s) (whole : sound s ≡ true) (i : ℕ) (inside
             own-some = rw part-own (q .own-some);
             current-within = rw part-own (q .current-within);
             stored-within = rw part-own (q .stored-within);
-            held-some = rw held-own (q .held-some);
-            held-most = rw (count-then, held-own) (fine .held-most);
+            kept-count-some = rw kept-count-own (q .kept-count-some);
+            kept-count-most = rw (count-then, kept-count-own) (fine .kept-count-most);
             kept-ascend = rw part-own (q .kept-ascend);
             kept-own = rw part-own (q .kept-own);
             kept-last = rw part-own (q .kept-last);
@@ -276,7 +276,7 @@ module _ (s : Run) (size : Sized s) (whole : sound s ≡ true) (i : ℕ) (inside
             vector-unused = ap (λ (P : Process). zeroFrom (t .count) (P .vector)) part-own ∙ ap (λ (k : ℕ). zeroFrom k (Q .vector)) count-then ∙ q .vector-unused;
             pins-unused = ap (λ (P : Process). nothingFrom (t .count) (P .pins)) part-own ∙ ap (λ (k : ℕ). nothingFrom k (Q .pins)) count-then ∙ q .pins-unused;
             stored-unused = ap (λ (P : Process). every (λ c. zeroFrom (t .count) (c .vector)) (P .kept)) part-own ∙ ap (λ (k : ℕ). every (λ c. zeroFrom k (c .vector)) (Q .kept)) count-then ∙ q .stored-unused;
-            row-unused = unused-own (omega (arith, fine .held-most, sound-state s whole .count-most));
+            row-unused = unused-own (omega (arith, fine .kept-count-most, sound-state s whole .count-most));
             records-sound = rw part-own (q .records-sound);
           }
 
@@ -285,8 +285,8 @@ module _ (s : Run) (size : Sized s) (whole : sound s ≡ true) (i : ℕ) (inside
         own-some = rw (own-other p ne) (q .own-some);
         current-within = rw (part-other p ne) (within-rises (process s p .vector) (q .current-within));
         stored-within = rw (part-other p ne) (every-then _ _ (process s p .kept) (λ c. within-rises (c .vector)) (q .stored-within));
-        held-some = rw (held-other p ne) (q .held-some);
-        held-most = rw (count-then, held-other p ne) (q .held-most);
+        kept-count-some = rw (kept-count-other p ne) (q .kept-count-some);
+        kept-count-most = rw (count-then, kept-count-other p ne) (q .kept-count-most);
         kept-ascend = rw (part-other p ne) (q .kept-ascend);
         kept-own = rw (part-other p ne) (q .kept-own);
         kept-last = rw (part-other p ne, own-other p ne) (q .kept-last);
@@ -296,7 +296,7 @@ module _ (s : Run) (size : Sized s) (whole : sound s ≡ true) (i : ℕ) (inside
         vector-unused = ap (λ (P : Process). zeroFrom (t .count) (P .vector)) (part-other p ne) ∙ ap (λ (k : ℕ). zeroFrom k (process s p .vector)) count-then ∙ q .vector-unused;
         pins-unused = ap (λ (P : Process). nothingFrom (t .count) (P .pins)) (part-other p ne) ∙ ap (λ (k : ℕ). nothingFrom k (process s p .pins)) count-then ∙ q .pins-unused;
         stored-unused = ap (λ (P : Process). every (λ c. zeroFrom (t .count) (c .vector)) (P .kept)) (part-other p ne) ∙ ap (λ (k : ℕ). every (λ c. zeroFrom k (c .vector)) (process s p .kept)) count-then ∙ q .stored-unused;
-        row-unused = rw (held-other p ne, row-other p ne) (q .row-unused);
+        row-unused = rw (kept-count-other p ne, row-other p ne) (q .row-unused);
         records-sound = rw (part-other p ne) (q .records-sound);
       }
 
@@ -319,11 +319,11 @@ module _ (s : Run) (size : Sized s) (whole : sound s ≡ true) (i : ℕ) (inside
             messages-ascend = h .messages-ascend;
             messages-sound = h .messages-sound;
             last-most = h .last-most;
-            vectors-behind = rw (drop-set-lt (s .count) (s .vectors .0) i (Q .vector) inside) (h .vectors-behind);
-            pins-behind = rw (drop-set-lt (s .count) (s .pins .0) i (Q .pins) inside) (h .pins-behind);
-            sent-behind = rw (drop-set-lt (s .count) (s .sent) i (Q .mark) inside) (h .sent-behind);
-            kept-behind = rw (drop-set-lt (s .count) (s .kept .0) i (placed mostProcesses noCheckpoint (Q .kept)) inside) (h .kept-behind);
-            held-behind = rw (drop-set-lt (s .count) (s .held) i (length (Q .kept)) inside) (h .held-behind);
+            vectors-beyond = rw (drop-set-lt (s .count) (s .vectors .0) i (Q .vector) inside) (h .vectors-beyond);
+            pins-beyond = rw (drop-set-lt (s .count) (s .pins .0) i (Q .pins) inside) (h .pins-beyond);
+            sent-beyond = rw (drop-set-lt (s .count) (s .sent) i (Q .mark) inside) (h .sent-beyond);
+            kept-beyond = rw (drop-set-lt (s .count) (s .kept .0) i (placed mostProcesses noCheckpoint (Q .kept)) inside) (h .kept-beyond);
+            kept-count-beyond = rw (drop-set-lt (s .count) (s .«kept_count») i (length (Q .kept)) inside) (h .kept-count-beyond);
             carried-unused = h .carried-unused;
             messages-unused = h .messages-unused;
             written-sum = omega (arith, blocks-then, paid, h .written-sum);

@@ -14,7 +14,7 @@ use Rattle.laws.specs.Choice.{by-bool, by-eq}
 use Rattle.laws.specs.Lists.{select, orElse, lastOf}
 use Rattle.laws.specs.Elements.{every-append, every-single, every-from, every-table}
 use Rattle.laws.specs.Prefixes.{select-same, every-select}
-use Rattle.laws.specs.Rows.{every-at, every-by, every-behind, some-at, by-lt}
+use Rattle.laws.specs.Rows.{every-at, every-by, every-beyond, some-at, by-lt}
 use Rattle.laws.specs.Select.{lastOf-snoc, some-append}
 use Rattle.laws.specs.Tables.{getD-table, length-table}
 use Rattle.laws.specs.Tests.{every, some-of}
@@ -24,11 +24,11 @@ use Rattle.model.specs.declared.CheckpointIndex.{CheckpointIndex}
 use Rattle.model.specs.declared.Pin.{Pin}
 use Rattle.model.specs.declared.Pin.the-variants.{Nothing, At}
 use Rattle.model.specs.declared.Checkpoint.{Checkpoint}
-use Rattle.model.specs.Words.{mostProcesses, entry, below, liveIndex, lastStored, names, named, Process, noCheckpoint, blockCount}
+use Rattle.model.specs.Words.{mostProcesses, entry, below, liveIndex, lastStored, names, isPinned, Process, noCheckpoint, blockCount}
 use Rattle.model.specs.Steps.{settled, advanced, storing, checkpointed, takenEntry, takenVector, takenPin, takenPins, takenIn}
 use Rattle.model.specs.Sound.{ascending, pinSound, zeroFrom, isNothing, nothingFrom, causeSound, isBlockCount, recordSound}
 use Rattle.words.proofs.Ascending.{selected-passes}
-use Rattle.receipts.proofs.Settling.{indexes, ascending-one, ascending-last, named-most, taken-own}
+use Rattle.receipts.proofs.Settling.{indexes, ascending-one, ascending-last, pinned-most, taken-own}
 
 -- What passes one test passes another.
 pub every-then : {A : Type 0} (t u : A → Bool) (l : List A) → ((x : A) → t x ≡ true → u x ≡ true) → every t l ≡ true → every u l ≡ true
@@ -44,7 +44,7 @@ pub record Loose (n : ℕ) (W : List Interval → Bool) (p : ℕ) (B P : Process
   pub own-some : 1 ≤ entry (P .vector) p .0
   pub current-within : W (P .vector) ≡ true
   pub stored-within : every (λ c. W (c .vector)) (P .kept) ≡ true
-  pub held-some : 1 ≤ length (P .kept)
+  pub kept-count-some : 1 ≤ length (P .kept)
   pub kept-ascend : ascending 0 (indexes (P .kept)) ≡ true
   pub kept-own : every (λ c. eqb (entry (c .vector) p .0) (c .index .0)) (P .kept) ≡ true
   pub kept-last : orElse (lastOf (P .kept)) noCheckpoint .index .0 ≡ entry (P .vector) p .0 - 1
@@ -58,8 +58,8 @@ pub record Loose (n : ℕ) (W : List Interval → Bool) (p : ℕ) (B P : Process
 -- And after it.
 pub record Fine (n : ℕ) (W : List Interval → Bool) (p : ℕ) (P : Process) : Type 0 where
   pub loose : Loose n W p P P
-  pub held-most : length (P .kept) ≤ n
-  pub kept-pinned : every (named (P .pins)) (P .kept) ≡ true
+  pub kept-count-most : length (P .kept) ≤ n
+  pub kept-pinned : every (isPinned (P .pins)) (P .kept) ≡ true
 
 -- Where the own entries rise.
 pub loose-rise : (n : ℕ) (U W : List Interval → Bool) (p : ℕ) (B P : Process) → ((v : List Interval) → U v ≡ true → W v ≡ true) → Loose n U p B P → Loose n W p B P
@@ -69,7 +69,7 @@ loose-rise n U W p B P rise h = record {
   own-some = h .own-some;
   current-within = rise (P .vector) (h .current-within);
   stored-within = every-then (λ c. U (c .vector)) (λ c. W (c .vector)) (P .kept) (λ c. rise (c .vector)) (h .stored-within);
-  held-some = h .held-some;
+  kept-count-some = h .kept-count-some;
   kept-ascend = h .kept-ascend;
   kept-own = h .kept-own;
   kept-last = h .kept-last;
@@ -85,10 +85,10 @@ loose-rise n U W p B P rise h = record {
 ascending-more : (low : ℕ) (d : Checkpoint) (l : List Checkpoint) (c : Checkpoint) → ascending low (indexes l) ≡ true → low ≤ c .index .0
     → (1 ≤ length l → orElse (lastOf l) d .index .0 < c .index .0) → ascending low (indexes (l ++ (c ∷ []))) ≡ true
 unfolding ascending lastOf
-ascending-more low d [] c h least behind = and-both (leb low (c .index .0)) true (le-leb low (c .index .0) least) refl
-ascending-more low d (x ∷ l) c h least behind =
+ascending-more low d [] c h least rest-after = and-both (leb low (c .index .0)) true (le-leb low (c .index .0) least) refl
+ascending-more low d (x ∷ l) c h least rest-after =
     let q = and-out (leb low (x .index .0)) (ascending (suc (x .index .0)) (indexes l)) h in
-    let last = behind (omega arith) in
+    let last = rest-after (omega arith) in
     and-both (leb low (x .index .0)) (ascending (suc (x .index .0)) (indexes (l ++ (c ∷ [])))) (q .0)
     (ascending-more (suc (x .index .0)) x l c (q .1) (omega (arith, last-least (suc (x .index .0)) x l (q .1) (omega arith), last)) (λ some-there. last))
   where
@@ -124,7 +124,7 @@ select-last t (x ∷ y ∷ l) d some-there h =
 -- A vector and a row of pins of 16 places, zero and none from n on, by place.
 zero-at : (n : ℕ) (v : List Interval) → zeroFrom n v ≡ true → (k : ℕ) → n ≤ k → k < length v → entry v k .0 ≡ 0
 unfolding zeroFrom
-zero-at n v h k le lt = eqb-true _ _ (every-behind (λ (x : Interval). eqb (x .0) 0) n v k (record { 0 = 0 }) h le lt)
+zero-at n v h k le lt = eqb-true _ _ (every-beyond (λ (x : Interval). eqb (x .0) 0) n v k (record { 0 = 0 }) h le lt)
 
 zero-by : (n : ℕ) (v : List Interval) → ((k : ℕ) → n ≤ k → k < length v → entry v k .0 ≡ 0) → zeroFrom n v ≡ true
 unfolding zeroFrom
@@ -132,7 +132,7 @@ zero-by n v h = every-from (λ (x : Interval). eqb (x .0) 0) (record { 0 = 0 }) 
 
 nothing-at : (n : ℕ) (pins : List Pin) → nothingFrom n pins ≡ true → (k : ℕ) → n ≤ k → k < length pins → isNothing (getD pins k Nothing) ≡ true
 unfolding nothingFrom
-nothing-at n pins h k le lt = every-behind isNothing n pins k Nothing h le lt
+nothing-at n pins h k le lt = every-beyond isNothing n pins k Nothing h le lt
 
 nothing-by : (n : ℕ) (pins : List Pin) → ((k : ℕ) → n ≤ k → k < length pins → isNothing (getD pins k Nothing) ≡ true) → nothingFrom n pins ≡ true
 unfolding nothingFrom
@@ -166,7 +166,7 @@ module _ (n : ℕ) (U W : List Interval → Bool) (i cause : ℕ) (P : Process) 
   own-entry = ap (λ (x : Interval). x .0) (getD-set-same (P .vector) i (record { 0 = entry (P .vector) i .0 + 1 }) (record { 0 = 0 }) (omega (arith, h .vector-long)))
 
   first-sound : recordSound P (getD (P .kept) 0 noCheckpoint) ≡ true
-  first-sound = every-at (recordSound P) (P .kept) 0 noCheckpoint (omega (arith, h .held-some)) (h .records-sound)
+  first-sound = every-at (recordSound P) (P .kept) 0 noCheckpoint (omega (arith, h .kept-count-some)) (h .records-sound)
 
   count-fits : isBlockCount (blockCount P) ≡ true
   unfolding blockCount
@@ -198,7 +198,7 @@ module _ (n : ℕ) (U W : List Interval → Bool) (i cause : ℕ) (P : Process) 
         own-some = omega (arith, own-entry);
         current-within = new;
         stored-within = every-append _ (P .kept) _ (every-then (λ c. U (c .vector)) (λ c. W (c .vector)) (P .kept) (λ c. rise (c .vector)) (h .stored-within)) (every-single _ _ (rise v (h .current-within)));
-        held-some = omega (arith, length-append (P .kept) (storing cause i P ∷ []));
+        kept-count-some = omega (arith, length-append (P .kept) (storing cause i P ∷ []));
         kept-ascend = ascending-more 0 noCheckpoint (P .kept) (storing cause i P) (h .kept-ascend) (omega arith) (λ some-there. omega (arith, h .kept-last, h .own-some));
         kept-own = every-append _ (P .kept) _ (h .kept-own) (every-single _ _ (eq-eqb (entry (P .vector) i .0) (entry (P .vector) i .0) refl));
         kept-last = ap (λ (o : Option Checkpoint). orElse o noCheckpoint .index .0) (lastOf-snoc (P .kept) (storing cause i P)) ∙ let z = own-entry in omega (arith, z);
@@ -235,7 +235,7 @@ module _ (n : ℕ) (W : List Interval → Bool) (i : ℕ) (carried : List Interv
     own-some = rw own-same (h .own-some);
     current-within = new;
     stored-within = h .stored-within;
-    held-some = h .held-some;
+    kept-count-some = h .kept-count-some;
     kept-ascend = h .kept-ascend;
     kept-own = h .kept-own;
     kept-last = h .kept-last ∙ ap (λ (x : Interval). x .0 - 1) (sym own-same);
@@ -267,8 +267,8 @@ some-select u t (x ∷ l) h e = by-bool (u x)
     (λ r. rw r (or-in-right (u x) (some-of u (select t l)) (some-select u t l h (rw q at e))))
     (λ r. rw r (some-select u t l h (rw q at e))))
 
-pin-stays : (pins : List Pin) (k : ℕ) (kept : List Checkpoint) → k < length pins → (pin : Pin) → getD pins k Nothing ≡ pin → pinSound kept pin ≡ true → pinSound (select (named pins) kept) pin ≡ true
-unfolding pinSound named
+pin-stays : (pins : List Pin) (k : ℕ) (kept : List Checkpoint) → k < length pins → (pin : Pin) → getD pins k Nothing ≡ pin → pinSound kept pin ≡ true → pinSound (select (isPinned pins) kept) pin ≡ true
+unfolding pinSound isPinned
 pin-stays pins k kept lt Nothing e h = refl
 pin-stays pins k kept lt (At a) e h =
     some-select (λ c. names (At a) (c .index)) (λ c. some-of (λ pin. names pin (c .index)) pins) kept (λ c q. some-at (λ pin. names pin (c .index)) pins k Nothing lt (rw e q)) h
@@ -292,29 +292,29 @@ unfolding recordSound
 record-same X Y e c = rw e
 
 module _ (n : ℕ) (W : List Interval → Bool) (i : ℕ) (B P : Process) (h : Loose n W i B P) (inside : i < n) (few : n ≤ mostProcesses) where
-  last-named : named (P .pins) (orElse (lastOf (P .kept)) noCheckpoint) ≡ true
-  unfolding named
-  last-named = some-at (λ pin. names pin (orElse (lastOf (P .kept)) noCheckpoint .index)) (P .pins) i Nothing (omega (arith, h .pins-long))
+  last-pinned : isPinned (P .pins) (orElse (lastOf (P .kept)) noCheckpoint) ≡ true
+  unfolding isPinned
+  last-pinned = some-at (λ pin. names pin (orElse (lastOf (P .kept)) noCheckpoint .index)) (P .pins) i Nothing (omega (arith, h .pins-long))
       (names-same (getD (P .pins) i Nothing) _ (lastStored (entry (P .vector) i)) (h .kept-last) ∙ h .own-pin)
 
-  left : (1 ≤ length (select (named (P .pins)) (P .kept))) × (lastOf (select (named (P .pins)) (P .kept)) ≡ lastOf (P .kept))
-  left = select-last (named (P .pins)) (P .kept) noCheckpoint (h .held-some) last-named
+  left : (1 ≤ length (select (isPinned (P .pins)) (P .kept))) × (lastOf (select (isPinned (P .pins)) (P .kept)) ≡ lastOf (P .kept))
+  left = select-last (isPinned (P .pins)) (P .kept) noCheckpoint (h .kept-count-some) last-pinned
 
   same-count : blockCount (settled P) ≡ blockCount B
   unfolding settled blockCount
   same-count =
-      let those = select (named (P .pins)) (P .kept) in
-      record-out B (getD those 0 noCheckpoint) (every-at (recordSound B) those 0 noCheckpoint (omega (arith, left .0)) (every-select (recordSound B) (named (P .pins)) (P .kept) (h .records-sound))) .1
+      let those = select (isPinned (P .pins)) (P .kept) in
+      record-out B (getD those 0 noCheckpoint) (every-at (recordSound B) those 0 noCheckpoint (omega (arith, left .0)) (every-select (recordSound B) (isPinned (P .pins)) (P .kept) (h .records-sound))) .1
 
-  named-front : (c : Checkpoint) → named (P .pins) c ≡ named (take n (P .pins)) c
-  unfolding named nothingFrom
-  named-front c = some-front (λ pin. names pin (c .index)) n (P .pins) (every-then isNothing (λ pin. not (names pin (c .index))) (drop n (P .pins)) (nothing-names (c .index)) (h .pins-unused))
+  pinned-front : (c : Checkpoint) → isPinned (P .pins) c ≡ isPinned (take n (P .pins)) c
+  unfolding isPinned nothingFrom
+  pinned-front c = some-front (λ pin. names pin (c .index)) n (P .pins) (every-then isNothing (λ pin. not (names pin (c .index))) (drop n (P .pins)) (nothing-names (c .index)) (h .pins-unused))
 
-  most-left : length (select (named (P .pins)) (P .kept)) ≤ n
+  most-left : length (select (isPinned (P .pins)) (P .kept)) ≤ n
   most-left = omega (
     arith,
-    ap length (select-same (named (P .pins)) (named (take n (P .pins))) (P .kept) named-front),
-    named-most (P .kept) (λ pin. ascending-one 0 pin (P .kept) (h .kept-ascend)) (take n (P .pins)),
+    ap length (select-same (isPinned (P .pins)) (isPinned (take n (P .pins))) (P .kept) pinned-front),
+    pinned-most (P .kept) (λ pin. ascending-one 0 pin (P .kept) (h .kept-ascend)) (take n (P .pins)),
     length-take-le n (P .pins) (omega (arith, h .pins-long)),
   )
 
@@ -325,19 +325,19 @@ module _ (n : ℕ) (W : List Interval → Bool) (i : ℕ) (B P : Process) (h : L
     pins-long = h .pins-long;
     own-some = h .own-some;
     current-within = h .current-within;
-    stored-within = every-select _ (named (P .pins)) (P .kept) (h .stored-within);
-    held-some = left .0;
-    kept-ascend = ascending-select (λ c. c .index .0) 0 (named (P .pins)) (P .kept) (h .kept-ascend);
-    kept-own = every-select _ (named (P .pins)) (P .kept) (h .kept-own);
+    stored-within = every-select _ (isPinned (P .pins)) (P .kept) (h .stored-within);
+    kept-count-some = left .0;
+    kept-ascend = ascending-select (λ c. c .index .0) 0 (isPinned (P .pins)) (P .kept) (h .kept-ascend);
+    kept-own = every-select _ (isPinned (P .pins)) (P .kept) (h .kept-own);
     kept-last = ap (λ (o : Option Checkpoint). orElse o noCheckpoint .index .0) (left .1) ∙ h .kept-last;
     own-pin = h .own-pin;
     pins-kept = every-by _ (P .pins) Nothing (λ k lt. pin-stays (P .pins) k (P .kept) lt _ refl (every-at _ (P .pins) k Nothing lt (h .pins-kept)));
     vector-unused = h .vector-unused;
     pins-unused = h .pins-unused;
-    stored-unused = every-select _ (named (P .pins)) (P .kept) (h .stored-unused);
-    records-sound = every-then (recordSound B) _ _ (λ c e. record-same (settled P) B same-count c ∙ e) (every-select (recordSound B) (named (P .pins)) (P .kept) (h .records-sound));
+    stored-unused = every-select _ (isPinned (P .pins)) (P .kept) (h .stored-unused);
+    records-sound = every-then (recordSound B) _ _ (λ c e. record-same (settled P) B same-count c ∙ e) (every-select (recordSound B) (isPinned (P .pins)) (P .kept) (h .records-sound));
   }
 
   pub settled-fine : Fine n W i (settled P)
   unfolding settled
-  settled-fine = record { loose = settled-loose; held-most = most-left; kept-pinned = selected-passes (named (P .pins)) (P .kept) }
+  settled-fine = record { loose = settled-loose; kept-count-most = most-left; kept-pinned = selected-passes (isPinned (P .pins)) (P .kept) }

@@ -14,7 +14,7 @@ use Rattle.laws.specs.Choice.{by-bool, by-eq}
 use Rattle.laws.specs.Elements.{every-append, every-single, every-from, every-table}
 use Rattle.laws.specs.Lists.{select, orElse, lastOf}
 use Rattle.laws.specs.Prefixes.{select-none, every-select, every-last}
-use Rattle.laws.specs.Rows.{every-at, every-by, every-behind, every-both, some-at}
+use Rattle.laws.specs.Rows.{every-at, every-by, every-beyond, every-both, some-at}
 use Rattle.laws.specs.Select.{all-chosen}
 use Rattle.laws.specs.Sums.{sumBelow, sum-none, sum-same, length-gather}
 use Rattle.laws.specs.Tables.{getD-table, length-table}
@@ -27,7 +27,7 @@ use Rattle.model.specs.declared.Checkpoint.{Checkpoint}
 use Rattle.model.specs.declared.Message.{Message}
 use Rattle.model.specs.declared.Disk.{Disk}
 use Rattle.model.specs.declared.Run.{Run}
-use Rattle.model.specs.Words.{mostProcesses, entry, below, lastStored, names, named, Process, live, blocksOf, noCheckpoint, blockCount, process, withProcess, own, underWay, withMessages, withDisk}
+use Rattle.model.specs.Words.{mostProcesses, entry, below, lastStored, names, isPinned, Process, live, blocksOf, noCheckpoint, blockCount, process, withProcess, own, underWay, withMessages, withDisk}
 use Rattle.model.specs.Steps.{Deletion, listed, advanced, withProcesses, allowed, states, latestAllowed, member, rolledBack, vectorAfter, notLost, ownAfter, latestPin, movedPin, pinAfter, pinsAfter, recovered, lostBy, stillUnderWay, goneAt, deletedAt, billed, recoverState, recoverDeletions}
 use Rattle.model.specs.Sound.{within, pinSound, messageSound, zeroFrom, isNothing, nothingFrom, recordSound, keptBlocks, sound}
 use Rattle.model.specs.laws.Sound.{SoundProcess, SoundState, sound-state}
@@ -92,12 +92,12 @@ module _ (s : Run) (size : Sized s) (whole : sound s ≡ true) (F : ℕ) (still 
     c = member s F p
 
     -- no checkpoint is lost, and a pin names each
-    stays : every (λ x. leb (x .index .0) (member s F p .index .0) && named (pinsAfter s F p) x) (process s p .kept) ≡ true
+    stays : every (λ x. leb (x .index .0) (member s F p .index .0) && isPinned (pinsAfter s F p) x) (process s p .kept) ≡ true
     unfolding goneAt
     stays = none-fails _ (process s p .kept) (still p lt)
 
-    both : (every (λ x. leb (x .index .0) (member s F p .index .0)) (process s p .kept) ≡ true) × (every (named (pinsAfter s F p)) (process s p .kept) ≡ true)
-    both = and-out _ _ (sym (every-both (λ x. leb (x .index .0) (c .index .0)) (named (pinsAfter s F p)) (process s p .kept)) ∙ stays)
+    both : (every (λ x. leb (x .index .0) (member s F p .index .0)) (process s p .kept) ≡ true) × (every (isPinned (pinsAfter s F p)) (process s p .kept) ≡ true)
+    both = and-out _ _ (sym (every-both (λ x. leb (x .index .0) (c .index .0)) (isPinned (pinsAfter s F p)) (process s p .kept)) ∙ stays)
 
     none-lost : notLost s F p ≡ process s p .kept
     unfolding notLost
@@ -105,7 +105,7 @@ module _ (s : Run) (size : Sized s) (whole : sound s ≡ true) (F : ℕ) (still 
 
     kept-after : recovered s F p .kept ≡ process s p .kept
     unfolding recovered
-    kept-after = ap (select (named (pinsAfter s F p))) none-lost ∙ all-chosen _ (process s p .kept) (both .1)
+    kept-after = ap (select (isPinned (pinsAfter s F p))) none-lost ∙ all-chosen _ (process s p .kept) (both .1)
 
     -- what holds of every state of the process, and so of its member of the line
     fits : Checkpoint → Bool
@@ -116,9 +116,9 @@ module _ (s : Run) (size : Sized s) (whole : sound s ≡ true) (F : ℕ) (still 
     stored-long k less =
         let many = row-many s size whole p lt in
         let few = place s whole p lt in
-        let held = sound-state s whole .processes p lt .held-most in
-        rw (getD-take (getD (s .held) p 0) (getD (s .kept .0) p []) k noCheckpoint (omega (arith, less, many)))
-        (size .stored p k few (omega (arith, less, many, held, sound-state s whole .count-most)))
+        let keptCount = sound-state s whole .processes p lt .kept-count-most in
+        rw (getD-take (getD (s .«kept_count») p 0) (getD (s .kept .0) p []) k noCheckpoint (omega (arith, less, many)))
+        (size .stored p k few (omega (arith, less, many, keptCount, sound-state s whole .count-most)))
 
     kept-fit : every fits (process s p .kept) ≡ true
     unfolding fits
@@ -200,7 +200,7 @@ module _ (s : Run) (size : Sized s) (whole : sound s ≡ true) (F : ℕ) (still 
         lt-ltb (entry (x .vector) p .0) (ownAfter s F p .0) (omega (arith, same, most, back-own e)))
 
     kept-some : 1 ≤ length (process s p .kept)
-    kept-some = omega (arith, q .held-some, row-many s size whole p lt)
+    kept-some = omega (arith, q .kept-count-some, row-many s size whole p lt)
 
     moved-own : rolledBack s F p ≡ true → names (movedPin s F p p) (lastStored (own s p)) ≡ true
     unfolding movedPin
@@ -232,11 +232,11 @@ module _ (s : Run) (size : Sized s) (whole : sound s ≡ true) (F : ℕ) (still 
   module _ (f : ℕ) (past : s .count ≤ f) (less : f < mostProcesses) where
     row-zero : zeroFrom 0 (process s f .vector) ≡ true
     unfolding process
-    row-zero = every-behind (zeroFrom 0) (s .count) (s .vectors .0) f [] (sound-state s whole .vectors-behind) past (omega (arith, less, size .vectors))
+    row-zero = every-beyond (zeroFrom 0) (s .count) (s .vectors .0) f [] (sound-state s whole .vectors-beyond) past (omega (arith, less, size .vectors))
 
     own-zero : own s f .0 ≡ 0
     unfolding own process zeroFrom
-    own-zero = eqb-true _ _ (every-behind (λ x. eqb (x .0) 0) 0 (process s f .vector) f (record { 0 = 0 }) row-zero (omega arith) (omega (arith, less, size .vector-row f less)))
+    own-zero = eqb-true _ _ (every-beyond (λ x. eqb (x .0) 0) 0 (process s f .vector) f (record { 0 = 0 }) row-zero (omega arith) (omega (arith, less, size .vector-row f less)))
 
     nobody : rolledBack s F f ≡ false
     unfolding rolledBack
@@ -261,7 +261,7 @@ module _ (s : Run) (size : Sized s) (whole : sound s ≡ true) (F : ℕ) (still 
         (λ e. rw e)
       where
         old : isNothing (getD (process s p .pins) f Nothing) ≡ true
-        old = every-behind isNothing (s .count) (process s p .pins) f Nothing (sound-state s whole .processes p lt .pins-unused) past (omega (arith, less, pins-long p lt))
+        old = every-beyond isNothing (s .count) (process s p .pins) f Nothing (sound-state s whole .processes p lt .pins-unused) past (omega (arith, less, pins-long p lt))
 
     pins-unused : nothingFrom (s .count) (pinsAfter s F p) ≡ true
     unfolding nothingFrom pinsAfter
@@ -276,14 +276,14 @@ module _ (s : Run) (size : Sized s) (whole : sound s ≡ true) (F : ℕ) (still 
     pins : drop (s .count) (t .pins .0) ≡ drop (s .count) (s .pins .0)
     sent : drop (s .count) (t .sent) ≡ drop (s .count) (s .sent)
     kept : t .kept .0 ≡ s .kept .0
-    held : t .held ≡ s .held
+    «kept_count» : t .«kept_count» ≡ s .«kept_count»
     messages : t .messages ≡ s .messages
     underway : t .underway ≡ s .underway
     last : t .last ≡ s .last
 
   apart : (k : ℕ) → k ≤ s .count → Apart (withProcesses k (recovered s F) s)
   unfolding withProcesses withProcess
-  apart zero le = record { count = refl; vectors = refl; pins = refl; sent = refl; kept = refl; held = refl; messages = refl; underway = refl; last = refl }
+  apart zero le = record { count = refl; vectors = refl; pins = refl; sent = refl; kept = refl; «kept_count» = refl; messages = refl; underway = refl; last = refl }
   apart (suc k) le =
       let t = withProcesses k (recovered s F) s in
       let b = apart k (omega arith) in
@@ -294,7 +294,7 @@ module _ (s : Run) (size : Sized s) (whole : sound s ≡ true) (F : ℕ) (still 
         pins = drop-set-lt (s .count) (t .pins .0) k (recovered s F k .pins) le ∙ b .pins;
         sent = drop-set-lt (s .count) (t .sent) k (recovered s F k .mark) le ∙ b .sent;
         kept = rw (b .kept, same, ← row-filled s size whole k le) (set-getD (s .kept .0) k []);
-        held = rw (b .held, same, row-many s size whole k le) (set-getD (s .held) k 0);
+        «kept_count» = rw (b .«kept_count», same, row-many s size whole k le) (set-getD (s .«kept_count») k 0);
         messages = b .messages;
         underway = b .underway;
         last = b .last;
@@ -314,7 +314,7 @@ module _ (s : Run) (size : Sized s) (whole : sound s ≡ true) (F : ℕ) (still 
         pins = b .pins;
         sent = b .sent;
         kept = b .kept;
-        held = b .held;
+        «kept_count» = b .«kept_count»;
         messages = b .messages;
         underway = b .underway;
         last = b .last;
@@ -329,7 +329,7 @@ module _ (s : Run) (size : Sized s) (whole : sound s ≡ true) (F : ℕ) (still 
           pins = omega (arith, inside, size .pins);
           sent = omega (arith, inside, size .sent);
           kept = omega (arith, inside, size .kept);
-          held = omega (arith, inside, size .held);
+          «kept_count» = omega (arith, inside, size .«kept_count»);
         }
 
     part : process t p ≡ recovered s F p
@@ -368,8 +368,8 @@ module _ (s : Run) (size : Sized s) (whole : sound s ≡ true) (F : ℕ) (still 
         own-some = rw (own-then p lt) (q .own-some);
         current-within = rw (vector-then p lt) (within-then (vectorAfter s F p) (current-within p lt));
         stored-within = rw (kept-then p lt) (every-then _ _ (P .kept) (λ x. within-then (x .vector)) (q .stored-within));
-        held-some = rw (same .held) (q .held-some);
-        held-most = rw (count, same .held) (q .held-most);
+        kept-count-some = rw (same .«kept_count») (q .kept-count-some);
+        kept-count-most = rw (count, same .«kept_count») (q .kept-count-most);
         kept-ascend = rw (kept-then p lt) (q .kept-ascend);
         kept-own = rw (kept-then p lt) (q .kept-own);
         kept-last = rw (kept-then p lt, own-then p lt) (q .kept-last);
@@ -379,7 +379,7 @@ module _ (s : Run) (size : Sized s) (whole : sound s ≡ true) (F : ℕ) (still 
         vector-unused = rw (vector-then p lt, count) (vector-unused p lt);
         pins-unused = rw (pins-then p lt, count) (pins-unused p lt);
         stored-unused = rw (kept-then p lt, count) (q .stored-unused);
-        row-unused = rw (same .held, same .kept) (q .row-unused);
+        row-unused = rw (same .«kept_count», same .kept) (q .row-unused);
         records-sound = ap (every (recordSound (process t p))) (kept-then p lt) ∙ every-then _ _ (P .kept) (λ x e. record-same (process t p) P (blocks-then p lt) x ∙ e) (q .records-sound);
       }
 
@@ -411,11 +411,11 @@ module _ (s : Run) (size : Sized s) (whole : sound s ≡ true) (F : ℕ) (still 
         messages-ascend = rw messages-same (h .messages-ascend);
         messages-sound = rw (messages-same, same .last, count) (h .messages-sound);
         last-most = rw (same .last) (h .last-most);
-        vectors-behind = rw (count, same .vectors) (h .vectors-behind);
-        pins-behind = rw (count, same .pins) (h .pins-behind);
-        sent-behind = rw (count, same .sent) (h .sent-behind);
-        kept-behind = rw (count, same .kept) (h .kept-behind);
-        held-behind = rw (count, same .held) (h .held-behind);
+        vectors-beyond = rw (count, same .vectors) (h .vectors-beyond);
+        pins-beyond = rw (count, same .pins) (h .pins-beyond);
+        sent-beyond = rw (count, same .sent) (h .sent-beyond);
+        kept-beyond = rw (count, same .kept) (h .kept-beyond);
+        kept-count-beyond = rw (count, same .«kept_count») (h .kept-count-beyond);
         carried-unused = rw (messages-same, count) (h .carried-unused);
         messages-unused = rw (same .underway, same .messages) (h .messages-unused);
         written-sum = rw (blocks-sum, disk-then) (h .written-sum);

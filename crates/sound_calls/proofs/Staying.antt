@@ -23,7 +23,7 @@ use Rattle.model.specs.declared.Checkpoint.{Checkpoint}
 use Rattle.model.specs.declared.Message.{Message}
 use Rattle.model.specs.declared.Disk.{Disk}
 use Rattle.model.specs.declared.Run.{Run}
-use Rattle.model.specs.Words.{mostProcesses, mostUnderWay, mostMessages, mostBlocks, basic, forced, entry, below, named, Process, blocksOf, blockCount, process, withProcess, own, underWay, withMessages, withDisk}
+use Rattle.model.specs.Words.{mostProcesses, mostUnderWay, mostMessages, mostBlocks, basic, forced, entry, below, isPinned, Process, blocksOf, blockCount, process, withProcess, own, underWay, withMessages, withDisk}
 use Rattle.model.specs.Steps.{settled, gone, billed, advanced, storing, checkpointed, checkpointState, sentMessage, marked, sendState, found, others, forces, takenEntry, takenVector, takenIn, delivered, deliverState, loseState}
 use Rattle.model.specs.Sound.{within, ascending, messageSound, zeroFrom, recordSound, sound}
 use Rattle.model.specs.Refusals.{checkpointRefusal, sendRefusal, deliverRefusal, loseRefusal, recoverRefusal}
@@ -35,7 +35,7 @@ use Rattle.whole_runs.proofs.Sizes.{last-passes}
 use Rattle.receipts.specs.Sized.{Sized}
 use Rattle.receipts.proofs.Filled.{messages-many}
 use Rattle.words.specs.Layout.{runOf}
-use Rattle.words.proofs.ViewSizes.{vectors-size, vector-row-size, pins-size, pin-row-size, sent-size, kept-size, kept-row-size, stored-size, held-size, messages-size, carried-size}
+use Rattle.words.proofs.ViewSizes.{vectors-size, vector-row-size, pins-size, pin-row-size, sent-size, kept-size, kept-row-size, stored-size, kept-count-size, messages-size, carried-size}
 use Rattle.sound_calls.specs.Staying.{CallsKeepSound}
 use Rattle.sound_calls.proofs.Assembling.{sound-in}
 use Rattle.sound_calls.proofs.Changing.{within-by, within-at, advanced-own, advanced-within, part-fine, messages-stay, fewer-stay, own-then, own-rises, within-rises, process-stays}
@@ -91,7 +91,7 @@ sized w = record {
   kept = kept-size w;
   kept-row = kept-row-size w;
   stored = λ p k lp lk. stored-size w p lp k lk;
-  held = held-size w;
+  «kept_count» = kept-count-size w;
   messages = messages-size w;
   carried = carried-size w;
 }
@@ -117,7 +117,7 @@ module _ (s : Run) (size : Sized s) (whole : sound s ≡ true) where
     settled-stays rises loose blocks most =
         process-stays s size whole i inside (settled R) (billed (s .disk) wrote (blocksOf (gone R))) rises
         (settled-fine (s .count) (within after) i (process s i) R loose inside (sound-state s whole .count-most))
-        (omega (arith, blocks, blocks-split (named (R .pins)) (R .kept))) most
+        (omega (arith, blocks, blocks-split (isPinned (R .pins)) (R .kept))) most
 
     count-after : withDisk (withProcess s i (settled R)) (billed (s .disk) wrote (blocksOf (gone R))) .count ≡ s .count
     unfolding withProcess withDisk
@@ -256,7 +256,7 @@ module _ (s : Run) (size : Sized s) (whole : sound s ≡ true) where
             own-some = q .own-some;
             current-within = q .current-within;
             stored-within = q .stored-within;
-            held-some = q .held-some;
+            kept-count-some = q .kept-count-some;
             kept-ascend = q .kept-ascend;
             kept-own = q .kept-own;
             kept-last = q .kept-last;
@@ -267,7 +267,7 @@ module _ (s : Run) (size : Sized s) (whole : sound s ≡ true) where
             stored-unused = q .stored-unused;
             records-sound = q .records-sound;
           };
-          held-most = fine .held-most;
+          kept-count-most = fine .kept-count-most;
           kept-pinned = fine .kept-pinned;
         }
 

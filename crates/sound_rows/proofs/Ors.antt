@@ -30,8 +30,8 @@ pub less-zero : (x y : ℕ) → eqb (x - y) 0 ≡ leb x y
 less-zero x y = same-test _ _ (λ e. let z = eqb-true (x - y) 0 e in le-leb x y (omega arith)) (λ e. let z = leb-true x y e in eq-eqb (x - y) 0 (omega arith))
 
 -- An iteration of a loop that gathers.
-pub or-turn : (t : ℕ → Bool) (f over e : ℕ) → eqb over 0 ≡ allBelow f t → eqb e 0 ≡ t f → eqb (bitOr over e) 0 ≡ allBelow (f + 1) t
-or-turn t f over e inv here = or-zero over e ∙ all-and t f (eqb over 0) (eqb e 0) inv here
+pub or-step : (t : ℕ → Bool) (f over e : ℕ) → eqb over 0 ≡ allBelow f t → eqb e 0 ≡ t f → eqb (bitOr over e) 0 ≡ allBelow (f + 1) t
+or-step t f over e inv here = or-zero over e ∙ all-and t f (eqb over 0) (eqb e 0) inv here
 
 -- Ones gathered where a test holds: the word is 0 exactly if none has.
 pub any-none : (t : ℕ → Bool) → true ≡ not (anyBelow 0 t)
@@ -48,9 +48,9 @@ ones-zero : (b : Bool) → eqb (pick b 65535 0) 0 ≡ not b
 ones-zero true = refl
 ones-zero false = refl
 
-pub any-turn : (t : ℕ → Bool) (f any here : ℕ) → eqb any 0 ≡ not (anyBelow f t) → here ≡ pick (t f) 65535 0 → eqb (bitOr any here) 0 ≡ not (anyBelow (f + 1) t)
+pub any-step : (t : ℕ → Bool) (f any here : ℕ) → eqb any 0 ≡ not (anyBelow f t) → here ≡ pick (t f) 65535 0 → eqb (bitOr any here) 0 ≡ not (anyBelow (f + 1) t)
 unfolding anyBelow
-any-turn t f any here inv e = or-zero any here ∙ rw (inv, e, ones-zero (t f), add-one f) (neither (anyBelow f t) (t f))
+any-step t f any here inv e = or-zero any here ∙ rw (inv, e, ones-zero (t f), add-one f) (neither (anyBelow f t) (t f))
 
 pub any-end : (b : Bool) (any : ℕ) → eqb any 0 ≡ not b → not (eqb any 0) ≡ b
 any-end true any e = rw e

@@ -18,7 +18,7 @@ use Rattle.laws.specs.Tests.{every}
 use Rattle.model.specs.declared.Interval.{Interval}
 use Rattle.model.specs.declared.Pin.the-variants.{At}
 use Rattle.model.specs.declared.Checkpoint.{Checkpoint}
-use Rattle.model.specs.Words.{mostProcesses, entry, names, named, noCheckpoint, blocksOf}
+use Rattle.model.specs.Words.{mostProcesses, entry, names, isPinned, noCheckpoint, blocksOf}
 use Rattle.model.specs.Sound.{ascending, pinSound, isNothing, nothingFrom, causeSound}
 use Rattle.words.specs.Layout.{word, countOf, blocksAt, pinsAt, causeAt, storedAt, indexOf, pinOf, vectorIn, pinsIn, checkpointIn}
 use Rattle.words.proofs.Reading.{names-word}
@@ -89,11 +89,11 @@ module _ (w : List ℕ) (p : ℕ) where
         ∙ all-same mostProcesses (λ f. pinSound (table h (checkpointIn w p)) (pinOf (pinIn w p f))) (pinFits w p h) (λ f lt. pin-fits (pinIn w p f))
 
     -- "every kept one is pinned"
-    pub kept-pinned : every (named (pinsIn w (pinsAt p))) (table h (checkpointIn w p)) ≡ allBelow h (λ k. anyBelow mostProcesses (λ f. eqb (pinIn w p f) (indexIn w p k)))
-    unfolding named pinsIn checkpointIn
+    pub kept-pinned : every (isPinned (pinsIn w (pinsAt p))) (table h (checkpointIn w p)) ≡ allBelow h (λ k. anyBelow mostProcesses (λ f. eqb (pinIn w p f) (indexIn w p k)))
+    unfolding isPinned pinsIn checkpointIn
     kept-pinned =
-        every-table-is (named (pinsIn w (pinsAt p))) h (checkpointIn w p)
-        ∙ all-same h (λ k. named (pinsIn w (pinsAt p)) (checkpointIn w p k)) (λ k. anyBelow mostProcesses (λ f. eqb (pinIn w p f) (indexIn w p k)))
+        every-table-is (isPinned (pinsIn w (pinsAt p))) h (checkpointIn w p)
+        ∙ all-same h (λ k. isPinned (pinsIn w (pinsAt p)) (checkpointIn w p k)) (λ k. anyBelow mostProcesses (λ f. eqb (pinIn w p f) (indexIn w p k)))
         (λ k lt. some-table (λ pin. names pin (indexOf (indexIn w p k))) mostProcesses (λ f. pinOf (pinIn w p f))
         ∙ any-same mostProcesses (λ f. names (pinOf (pinIn w p f)) (indexOf (indexIn w p k))) (λ f. eqb (pinIn w p f) (indexIn w p k)) (λ f less. names-word (pinIn w p f) (indexIn w p k) (some k lt)))
 

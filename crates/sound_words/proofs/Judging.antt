@@ -27,12 +27,12 @@ use Rattle.model.specs.declared.Interval.{Interval}
 use Rattle.model.specs.declared.CheckpointIndex.{CheckpointIndex}
 use Rattle.model.specs.Words.{mostProcesses, entry}
 use Rattle.model.specs.Sound.{sound, causeSound}
-use Rattle.words.specs.Layout.{stateSize, word, wide2, wide4, countOf, endOf, heldAt, blocksAt, partAt, pinsAt, causeAt, storedAt, senderAt, receiverAt, carriedAt, lowAt, highAt, intervalOf, indexOf, rowIn, vectorIn, runOf}
+use Rattle.words.specs.Layout.{stateSize, word, wide2, wide4, countOf, endOf, keptCountAt, blocksAt, partAt, pinsAt, causeAt, storedAt, senderAt, receiverAt, carriedAt, lowAt, highAt, intervalOf, indexOf, rowIn, vectorIn, runOf}
 use Rattle.words.proofs.Same.{vector-word, row-word}
 use Rattle.sound_rows.proofs.Ors.{or-zero, less-zero}
 use Rattle.sound_words.specs.Test.{ownIn, most, rowWithin, pinIn, unusedPins, indexIn, indexBefore, keptTests, keptFits, pinFits, countsFit, partTests, partFits, blocksIn, diskFits, numberIn, numberBefore, messageTests, messageFits, carriedFits, messagesTests, soundTests, soundIn, limitsIn}
 use Rattle.sound_words.proofs.Parts.{least}
-use Rattle.sound_words.proofs.Whole.{verdict}
+use Rattle.sound_words.proofs.Whole.{test-is-sound}
 
 -- Three tests, the first of which fails; and two that hold before a third.
 pub first-fails : (a b c : Bool) → false ≡ a → false ≡ (a && b && c)
@@ -115,8 +115,8 @@ module _ (w : List ℕ) where
       ∙ and-swap (allBelow 16 pin) (allBelow 16 row)
       ∙ ap (λ b. allBelow 16 row && b) (pins-within p pins columns owns small ep eo ec)
 
-  pub named-row : (p x : ℕ) (pins : List ℕ) → pins ≡ rowIn w (pinsAt p) → anyBelow 16 (λ f. eqb (getD pins f 0) x) ≡ anyBelow 16 (λ f. eqb (pinIn w p f) x)
-  named-row p x pins ep = rw ep (any-same 16 (λ f. eqb (getD (rowIn w (pinsAt p)) f 0) x) (λ f. eqb (pinIn w p f) x) (λ f lt. rw (row-word w (pinsAt p) f lt)))
+  pub pinned-row : (p x : ℕ) (pins : List ℕ) → pins ≡ rowIn w (pinsAt p) → anyBelow 16 (λ f. eqb (getD pins f 0) x) ≡ anyBelow 16 (λ f. eqb (pinIn w p f) x)
+  pinned-row p x pins ep = rw ep (any-same 16 (λ f. eqb (getD (rowIn w (pinsAt p)) f 0) x) (λ f. eqb (pinIn w p f) x) (λ f lt. rw (row-word w (pinsAt p) f lt)))
 
   -- The numbers of a kept checkpoint.
   pub numbered : (p k x before sa ca : ℕ) (i : Interval) (j : CheckpointIndex) (s : Bool) → before < x → sa ≡ storedAt p k → i ≡ intervalOf (word w (sa + p)) → j ≡ indexOf x → ca ≡ causeAt p k
@@ -125,9 +125,9 @@ module _ (w : List ℕ) where
 
   -- A kept checkpoint: one of its tests fails, or all but the last hold.
   module _ (p k x before : ℕ) (is : x ≡ indexIn w p k) (was : before ≡ indexBefore w p k) (r : Bool)
-      (told : r ≡ (ltb before x && eqb (word w (storedAt p k + p)) (x - 1) && causeSound (x - 1) (word w (causeAt p k)))) where
+      (answered : r ≡ (ltb before x && eqb (word w (storedAt p k + p)) (x - 1) && causeSound (x - 1) (word w (causeAt p k)))) where
     in-place : r ≡ (ltb (indexBefore w p k) (indexIn w p k) && eqb (word w (storedAt p k + p)) (indexIn w p k - 1) && causeSound (indexIn w p k - 1) (word w (causeAt p k)))
-    in-place = rw (is, was) at told
+    in-place = rw (is, was) at answered
 
     pub kept-unnumbered : not r ≡ true → false ≡ keptFits w p k
     unfolding keptFits keptTests holds
@@ -171,22 +171,22 @@ module _ (w : List ℕ) where
       (λ q. rw q (or-none (eqb (pinIn w p f) 0) (anyBelow k (λ j. eqb (pinIn w p f) (indexIn w p j))) q .0)))))
 
   -- A walk along the kept checkpoints of process p, after k of them.
-  pub record Walked (p held : ℕ) (first : List ℕ) (k before : ℕ) (off unmet : List ℕ) : Type 0 where
-    pub inside : k ≤ held
+  pub record Walked (p keptCount : ℕ) (first : List ℕ) (k before : ℕ) (off unmet : List ℕ) : Type 0 where
+    pub inside : k ≤ keptCount
     pub last : before ≡ indexBefore w p k
     pub passed : allBelow k (keptFits w p) ≡ true
     pub left : unmet ≡ table 16 (λ f. pick (pinFits w p k f) 0 (pinIn w p f))
     pub rows : (f : ℕ) → f < 16 → eqb (getD off f 0) 0 ≡ (eqb (getD first f 0) 0 && allBelow k (λ j. leb (word w (storedAt p j + f)) (most w f)))
 
-  pub none-walked : (p held : ℕ) (first pins : List ℕ) → pins ≡ rowIn w (pinsAt p) → Walked p held first 0 0 first pins
+  pub none-walked : (p keptCount : ℕ) (first pins : List ℕ) → pins ≡ rowIn w (pinsAt p) → Walked p keptCount first 0 0 first pins
   unfolding allBelow indexBefore
-  none-walked p held first pins e = record { inside = omega arith; last = refl; passed = refl; left = unmet-none p pins e; rows = λ f lt. sym (and-true (eqb (getD first f 0) 0)) }
+  none-walked p keptCount first pins e = record { inside = omega arith; last = refl; passed = refl; left = unmet-none p pins e; rows = λ f lt. sym (and-true (eqb (getD first f 0) 0)) }
 
-  pub one-walked : (p held : ℕ) (first : List ℕ) (k before x : ℕ) (pins off over unmet left : List ℕ) (v owns : List Interval) → Walked p held first k before off unmet → k < held → pins ≡ rowIn w (pinsAt p)
+  pub one-walked : (p keptCount : ℕ) (first : List ℕ) (k before x : ℕ) (pins off over unmet left : List ℕ) (v owns : List Interval) → Walked p keptCount first k before off unmet → k < keptCount → pins ≡ rowIn w (pinsAt p)
       → x ≡ indexIn w p k → (r : Bool) → r ≡ keptFits w p k → not r ≡ false → left ≡ table 16 (λ f. pick (eqb (getD pins f 0) x) 0 (getD unmet f 0))
-      → v ≡ vectorIn w (storedAt p k) → owns ≡ limitsIn w → over ≡ table 16 (λ f. bitOr (getD off f 0) (entry v f .0 - entry owns f .0)) → Walked p held first (k + 1) x over left
+      → v ≡ vectorIn w (storedAt p k) → owns ≡ limitsIn w → over ≡ table 16 (λ f. bitOr (getD off f 0) (entry v f .0 - entry owns f .0)) → Walked p keptCount first (k + 1) x over left
   unfolding allBelow indexBefore
-  one-walked p held first k before x pins off over unmet left v owns so-far lt ep ex r er n el ev eo em = record {
+  one-walked p keptCount first k before x pins off over unmet left v owns so-far lt ep ex r er n el ev eo em = record {
     inside = omega arith;
     last = rw (add-one k) ex;
     passed = rw (add-one k, sym er ∙ not-false r n) (so-far .passed);
@@ -197,21 +197,21 @@ module _ (w : List ℕ) where
   }
 
   abbrev keptRows : ℕ → ℕ → List ℕ → Bool
-  keptRows p held first = (allBelow 16 (λ f. eqb (getD first f 0) 0) && allBelow held (λ k. rowWithin w (storedAt p k))) && allBelow 16 (pinFits w p held)
+  keptRows p keptCount first = (allBelow 16 (λ f. eqb (getD first f 0) 0) && allBelow keptCount (λ k. rowWithin w (storedAt p k))) && allBelow 16 (pinFits w p keptCount)
 
-  pub walk-stops : (p held : ℕ) (first : List ℕ) (k : ℕ) → k < held → (r : Bool) → r ≡ keptFits w p k → not r ≡ true
-      → false ≡ (allBelow held (keptFits w p) && eqb (indexBefore w p held) (ownIn w p) && keptRows p held first)
-  walk-stops p held first k lt r er n = first-fails _ _ _ (all-stop held (keptFits w p) k lt (sym er ∙ not-true r n))
+  pub walk-stops : (p keptCount : ℕ) (first : List ℕ) (k : ℕ) → k < keptCount → (r : Bool) → r ≡ keptFits w p k → not r ≡ true
+      → false ≡ (allBelow keptCount (keptFits w p) && eqb (indexBefore w p keptCount) (ownIn w p) && keptRows p keptCount first)
+  walk-stops p keptCount first k lt r er n = first-fails _ _ _ (all-stop keptCount (keptFits w p) k lt (sym er ∙ not-true r n))
 
-  module _ (p held : ℕ) (first : List ℕ) (k before own : ℕ) (off unmet : List ℕ) (so-far : Walked p held first k before off unmet) (ends : held ≤ k) (is : own ≡ ownIn w p) where
-    all-walked : k ≡ held
+  module _ (p keptCount : ℕ) (first : List ℕ) (k before own : ℕ) (off unmet : List ℕ) (so-far : Walked p keptCount first k before off unmet) (ends : keptCount ≤ k) (is : own ≡ ownIn w p) where
+    all-walked : k ≡ keptCount
     all-walked = omega (arith, so-far .inside)
 
-    pub walk-misses : (before ≡ own → ⊥) → false ≡ (allBelow held (keptFits w p) && eqb (indexBefore w p held) (ownIn w p) && keptRows p held first)
-    walk-misses ne = second-fails (allBelow held (keptFits w p)) (eqb (indexBefore w p held) (ownIn w p)) _
+    pub walk-misses : (before ≡ own → ⊥) → false ≡ (allBelow keptCount (keptFits w p) && eqb (indexBefore w p keptCount) (ownIn w p) && keptRows p keptCount first)
+    walk-misses ne = second-fails (allBelow keptCount (keptFits w p)) (eqb (indexBefore w p keptCount) (ownIn w p)) _
         (ne-eqb _ _ (λ e. ne (so-far .last ∙ ap (λ (j : ℕ). indexBefore w p j) all-walked ∙ e ∙ sym is)))
 
-    rows-zero : allBelow 16 (λ f. eqb (getD off f 0) 0) ≡ (allBelow 16 (λ f. eqb (getD first f 0) 0) && allBelow held (λ j. rowWithin w (storedAt p j)))
+    rows-zero : allBelow 16 (λ f. eqb (getD off f 0) 0) ≡ (allBelow 16 (λ f. eqb (getD first f 0) 0) && allBelow keptCount (λ j. rowWithin w (storedAt p j)))
     unfolding rowWithin
     rows-zero =
         let row : ℕ → ℕ → Bool = λ j f. leb (word w (storedAt p j + f)) (most w f) in
@@ -220,12 +220,12 @@ module _ (w : List ℕ) where
         ∙ ap (λ b. allBelow 16 (λ f. eqb (getD first f 0) 0) && b) (all-swap 16 k row ∙ ap (λ (i : ℕ). allBelow i (λ j. allBelow 16 (row j))) all-walked)
 
     pub walk-ends : before ≡ own → (r : Bool) → r ≡ allBelow 16 (λ f. eqb (getD off f 0) 0 && eqb (getD unmet f 0) 0)
-        → r ≡ (allBelow held (keptFits w p) && eqb (indexBefore w p held) (ownIn w p) && keptRows p held first)
+        → r ≡ (allBelow keptCount (keptFits w p) && eqb (indexBefore w p keptCount) (ownIn w p) && keptRows p keptCount first)
     walk-ends e r er =
         (er ∙ all-both 16 (λ f. eqb (getD off f 0) 0) (λ f. eqb (getD unmet f 0) 0)
         ∙ ap (λ b. b && allBelow 16 (λ f. eqb (getD unmet f 0) 0)) rows-zero
-        ∙ ap (λ b. (allBelow 16 (λ f. eqb (getD first f 0) 0) && allBelow held (λ j. rowWithin w (storedAt p j))) && b) (unmet-zero p k unmet (so-far .left) ∙ ap (λ (j : ℕ). allBelow 16 (pinFits w p j)) all-walked))
-        ∙ third-left (allBelow held (keptFits w p)) (eqb (indexBefore w p held) (ownIn w p)) _
+        ∙ ap (λ b. (allBelow 16 (λ f. eqb (getD first f 0) 0) && allBelow keptCount (λ j. rowWithin w (storedAt p j))) && b) (unmet-zero p k unmet (so-far .left) ∙ ap (λ (j : ℕ). allBelow 16 (pinFits w p j)) all-walked))
+        ∙ third-left (allBelow keptCount (keptFits w p)) (eqb (indexBefore w p keptCount) (ownIn w p)) _
         (ap (λ (j : ℕ). allBelow j (keptFits w p)) (sym all-walked) ∙ so-far .passed)
         (eq-eqb _ _ (ap (λ (j : ℕ). indexBefore w p j) (sym all-walked) ∙ sym (so-far .last) ∙ e ∙ is))
 
@@ -240,11 +240,11 @@ module _ (w : List ℕ) where
       (λ e. let some = leb-true 1 own e in let same : own - 1 + 1 ≡ own = omega arith in rw same)
       (λ e. rw e)
 
-  pub numbers-are : (p n held ha ba oa last pa : ℕ) → ha ≡ heldAt p → held ≡ word w ha → ba ≡ blocksAt p → oa ≡ partAt p → last ≡ word w (oa + p) - 1 + 1
+  pub numbers-are : (p n keptCount ha ba oa last pa : ℕ) → ha ≡ keptCountAt p → keptCount ≡ word w ha → ba ≡ blocksAt p → oa ≡ partAt p → last ≡ word w (oa + p) - 1 + 1
       → pa ≡ pinsAt p → n ≡ countOf w
-      → (leb 1 held && leb held n && leb 1 (word w ba) && leb 1 (word w (oa + p)) && eqb (word w (pa + p)) last) ≡ (countsFit w p && leb 1 (ownIn w p) && eqb (pinIn w p p) (ownIn w p))
+      → (leb 1 keptCount && leb keptCount n && leb 1 (word w ba) && leb 1 (word w (oa + p)) && eqb (word w (pa + p)) last) ≡ (countsFit w p && leb 1 (ownIn w p) && eqb (pinIn w p p) (ownIn w p))
   unfolding countsFit
-  numbers-are p n held ha ba oa last pa e1 e2 e3 e4 e5 e6 e7 =
+  numbers-are p n keptCount ha ba oa last pa e1 e2 e3 e4 e5 e6 e7 =
       rw (e5, e4, e2, e1, e3, e6, e7)
       (and-group (countsFit w p) (leb 1 (ownIn w p)) (eqb (pinIn w p p) (ownIn w p - 1 + 1))
       ∙ ap (λ b. countsFit w p && b) (last-same (pinIn w p p) (ownIn w p))
@@ -259,35 +259,35 @@ module _ (w : List ℕ) where
     unfolding partFits every
     whole-part = refl
 
-    module _ (a : Bool) (told-a : a ≡ (countsFit w p && leb 1 (ownIn w p) && eqb (pinIn w p p) (ownIn w p))) where
+    module _ (a : Bool) (answered-a : a ≡ (countsFit w p && leb 1 (ownIn w p) && eqb (pinIn w p p) (ownIn w p))) where
       pub numbers-fail : not a ≡ true → false ≡ (countsFit w p && partFits w p)
       unfolding partTests holds
-      numbers-fail n = part-fails processTests (test 0 and test 1 and test 2) (sym told-a ∙ not-true a n) ∙ whole-part
+      numbers-fail n = part-fails processTests (test 0 and test 1 and test 2) (sym answered-a ∙ not-true a n) ∙ whole-part
 
-      pub process-whole : not a ≡ false → (first : List ℕ) → allBelow 16 (λ f. eqb (getD first f 0) 0) ≡ (rowWithin w (partAt p) && unusedPins w p) → (held : ℕ) → held ≡ word w (heldAt p) → (d : Bool)
-          → d ≡ (allBelow held (keptFits w p) && eqb (indexBefore w p held) (ownIn w p) && keptRows p held first) → d ≡ (countsFit w p && partFits w p)
+      pub process-whole : not a ≡ false → (first : List ℕ) → allBelow 16 (λ f. eqb (getD first f 0) 0) ≡ (rowWithin w (partAt p) && unusedPins w p) → (keptCount : ℕ) → keptCount ≡ word w (keptCountAt p) → (d : Bool)
+          → d ≡ (allBelow keptCount (keptFits w p) && eqb (indexBefore w p keptCount) (ownIn w p) && keptRows p keptCount first) → d ≡ (countsFit w p && partFits w p)
       unfolding partTests holds asks allBelow
-      process-whole na first ef held eh d told-d =
-          rw (ef, eh) at told-d
-          ∙ second-left _ _ (sym told-a ∙ not-false a na)
+      process-whole na first ef keptCount eh d answered-d =
+          rw (ef, eh) at answered-d
+          ∙ second-left _ _ (sym answered-a ∙ not-false a na)
           ∙ conjunction processTests ((test 0 and test 1 and test 2) and (test 5 and test 7 and (((test 3 and test 4) and test 6) and test 8))) refl
           ∙ whole-part
 
-  counts-few : (p n : ℕ) → countsFit w p ≡ true → n ≡ countOf w → n ≤ 16 → word w (heldAt p) ≤ 16
+  counts-few : (p n : ℕ) → countsFit w p ≡ true → n ≡ countOf w → n ≤ 16 → word w (keptCountAt p) ≤ 16
   unfolding countsFit
   counts-few p n counts en few =
-      let held = leb-true (word w (heldAt p)) (countOf w) (and-right (leb 1 (word w (heldAt p))) (leb (word w (heldAt p)) (countOf w)) (and-left (leb 1 (word w (heldAt p)) && leb (word w (heldAt p)) (countOf w)) (leb 1 (word w (blocksAt p))) counts)) in
+      let keptCount = leb-true (word w (keptCountAt p)) (countOf w) (and-right (leb 1 (word w (keptCountAt p))) (leb (word w (keptCountAt p)) (countOf w)) (and-left (leb 1 (word w (keptCountAt p)) && leb (word w (keptCountAt p)) (countOf w)) (leb 1 (word w (blocksAt p))) counts)) in
       omega arith
 
-  pub numbers-few : (p n : ℕ) (a : Bool) → a ≡ (countsFit w p && leb 1 (ownIn w p) && eqb (pinIn w p p) (ownIn w p)) → not a ≡ false → n ≡ countOf w → n ≤ 16 → word w (heldAt p) ≤ 16
-  numbers-few p n a told e en few =
-      counts-few p n (and-left (countsFit w p) (leb 1 (ownIn w p)) (and-left (countsFit w p && leb 1 (ownIn w p)) (eqb (pinIn w p p) (ownIn w p)) (sym told ∙ not-false a e))) en few
+  pub numbers-few : (p n : ℕ) (a : Bool) → a ≡ (countsFit w p && leb 1 (ownIn w p) && eqb (pinIn w p p) (ownIn w p)) → not a ≡ false → n ≡ countOf w → n ≤ 16 → word w (keptCountAt p) ≤ 16
+  numbers-few p n a answered e en few =
+      counts-few p n (and-left (countsFit w p) (leb 1 (ownIn w p)) (and-left (countsFit w p && leb 1 (ownIn w p)) (eqb (pinIn w p p) (ownIn w p)) (sym answered ∙ not-false a e))) en few
 
   pub numbers-own : (p : ℕ) (a : Bool) → a ≡ (countsFit w p && leb 1 (ownIn w p) && eqb (pinIn w p p) (ownIn w p)) → not a ≡ false → 1 ≤ ownIn w p
-  numbers-own p a told e = leb-true 1 (ownIn w p) (and-right (countsFit w p) (leb 1 (ownIn w p)) (and-left (countsFit w p && leb 1 (ownIn w p)) (eqb (pinIn w p p) (ownIn w p)) (sym told ∙ not-false a e)))
+  numbers-own p a answered e = leb-true 1 (ownIn w p) (and-right (countsFit w p) (leb 1 (ownIn w p)) (and-left (countsFit w p && leb 1 (ownIn w p)) (eqb (pinIn w p p) (ownIn w p)) (sym answered ∙ not-false a e)))
 
-  pub held-few : (p n : ℕ) (r : Bool) → r ≡ (countsFit w p && partFits w p) → not r ≡ false → n ≡ countOf w → n ≤ 16 → word w (heldAt p) ≤ 16
-  held-few p n r told e en few = counts-few p n (and-left (countsFit w p) (partFits w p) (sym told ∙ not-false r e)) en few
+  pub kept-count-few : (p n : ℕ) (r : Bool) → r ≡ (countsFit w p && partFits w p) → not r ≡ false → n ≡ countOf w → n ≤ 16 → word w (keptCountAt p) ≤ 16
+  kept-count-few p n r answered e en few = counts-few p n (and-left (countsFit w p) (partFits w p) (sym answered ∙ not-false r e)) en few
 
   -- All processes, one after the other, with the blocks that they keep.
   pub record Passed (n p blocks : ℕ) : Type 0 where
@@ -301,31 +301,31 @@ module _ (w : List ℕ) where
   none-passed n = record { inside = omega arith; passed = refl; summed = refl; bounded = omega arith }
 
   pub one-passed : (n p blocks more : ℕ) → Passed n p blocks → p < n → (r : Bool) → r ≡ (countsFit w p && partFits w p) → not r ≡ false
-      → more ≡ word w (heldAt p) * word w (blocksAt p) → more ≤ 1048560 → Passed n (p + 1) (blocks + more)
+      → more ≡ word w (keptCountAt p) * word w (blocksAt p) → more ≤ 1048560 → Passed n (p + 1) (blocks + more)
   unfolding allBelow blocksIn sumBelow
-  one-passed n p blocks more so-far lt r told e em most = record {
+  one-passed n p blocks more so-far lt r answered e em most = record {
     inside = omega arith;
-    passed = rw (add-one p, sym told ∙ not-false r e) (so-far .passed);
+    passed = rw (add-one p, sym answered ∙ not-false r e) (so-far .passed);
     summed = rw (add-one p, so-far .summed, em);
     bounded = omega (arith, so-far .bounded);
   }
 
   pub process-fails : (n p : ℕ) → p < n → (r : Bool) → r ≡ (countsFit w p && partFits w p) → not r ≡ true → false ≡ (allBelow n (countsFit w) && allBelow n (partFits w) && diskFits w)
-  process-fails n p lt r told e =
+  process-fails n p lt r answered e =
       let both : ℕ → Bool = λ q. countsFit w q && partFits w q in
-      rw (sym (all-both n (countsFit w) (partFits w)) ∙ sym (all-stop n both p lt (sym told ∙ not-true r e)))
+      rw (sym (all-both n (countsFit w) (partFits w)) ∙ sym (all-stop n both p lt (sym answered ∙ not-true r e)))
 
   pub all-passed : (n p blocks : ℕ) → Passed n p blocks → n ≤ p → n ≡ countOf w → (r : Bool) → r ≡ (eqb (wide4 w 4) (blocks + wide4 w 8) && leb (wide4 w 4) 1000000000000000)
       → r ≡ (allBelow n (countsFit w) && allBelow n (partFits w) && diskFits w)
   unfolding diskFits
-  all-passed n p blocks so-far ends en r told =
+  all-passed n p blocks so-far ends en r answered =
       let same : p ≡ n = omega (arith, so-far .inside) in
       let all : allBelow n (λ q. countsFit w q && partFits w q) ≡ true = ap (λ (j : ℕ). allBelow j (λ q. countsFit w q && partFits w q)) (sym same) ∙ so-far .passed in
-      told ∙ rw (sym (all-both n (countsFit w) (partFits w)) ∙ all, so-far .summed, same, en)
+      answered ∙ rw (sym (all-both n (countsFit w) (partFits w)) ∙ all, so-far .summed, same, en)
 
   -- The blocks that a process keeps.
-  pub blocks-are : (p ha ba held blocks : ℕ) → ha ≡ heldAt p → held ≡ word w ha → ba ≡ blocksAt p → blocks ≡ word w ba → held * blocks ≡ word w (heldAt p) * word w (blocksAt p)
-  blocks-are p ha ba held blocks e1 e2 e3 e4 = rw (e2, e1, e4, e3)
+  pub blocks-are : (p ha ba keptCount blocks : ℕ) → ha ≡ keptCountAt p → keptCount ≡ word w ha → ba ≡ blocksAt p → blocks ≡ word w ba → keptCount * blocks ≡ word w (keptCountAt p) * word w (blocksAt p)
+  blocks-are p ha ba keptCount blocks e1 e2 e3 e4 = rw (e2, e1, e4, e3)
 
   -- The messages.
   pub ends-are : (k n sa ra sender receiver : ℕ) → sa ≡ senderAt k → sender ≡ word w sa → ra ≡ receiverAt k → receiver ≡ word w ra
@@ -339,8 +339,8 @@ module _ (w : List ℕ) where
 
     pub message-whole : before < number → (a : Bool) → a ≡ (ltb (word w (senderAt k)) n && ltb (word w (receiverAt k)) n && not (eqb (word w (senderAt k)) (word w (receiverAt k)))) → a ≡ allOf (messageTests w k)
     unfolding messageTests holds asks allBelow
-    message-whole lt a told =
-        rw counted at told
+    message-whole lt a answered =
+        rw counted at answered
         ∙ second-left _ _ (lt-ltb (numberBefore w k) (numberIn w k) (omega arith))
         ∙ conjunction (messageTests w k) (test 0 and (test 1 and test 2 and test 3)) refl
 
@@ -361,12 +361,12 @@ module _ (w : List ℕ) where
     pub one-read : (number ≡ 0 → ⊥) → (r : Bool) → r ≡ allOf (messageTests w k) → not r ≡ false → (more : List ℕ) (v owns : List Interval) → v ≡ vectorIn w (carriedAt k) → owns ≡ limitsIn w
         → more ≡ table 16 (λ f. bitOr (getD over f 0) (entry v f .0 - entry owns f .0)) → Read end (k + 1) number (count + 1) more
     unfolding allBelow numberBefore countBelow messageFits
-    one-read ne r told e more v owns ev eo em =
+    one-read ne r answered e more v owns ev eo em =
         let some : eqb (numberIn w k) 0 ≡ false = ne-eqb (numberIn w k) 0 (λ z. ne (is ∙ z)) in
         record {
           inside = omega arith;
           last = rw (add-one k, some) is;
-          passed = rw (add-one k, some, sym told ∙ not-false r e) (so-far .passed);
+          passed = rw (add-one k, some, sym answered ∙ not-false r e) (so-far .passed);
           counted = rw (add-one k, some, so-far .counted);
           few = omega (arith, so-far .few);
           rows = λ f under. rw (add-one k, some) (over-at (carriedAt k) f over more v owns ev eo em under ∙ ap (λ b. b && leb (word w (carriedAt k + f)) (most w f)) (so-far .rows f under)
@@ -389,9 +389,9 @@ module _ (w : List ℕ) where
     pub read-fails : (number ≡ 0 → ⊥) → (r : Bool) → r ≡ allOf (messageTests w k) → not r ≡ true
         → false ≡ (allBelow end (messageFits w) && allBelow end (carriedFits w) && (eqb (countBelow end (λ k. not (eqb (numberIn w k) 0))) (word w 1) && leb (numberBefore w end) (wide2 w 2)))
     unfolding messageFits
-    read-fails ne r told e =
+    read-fails ne r answered e =
         let some : eqb (numberIn w k) 0 ≡ false = ne-eqb (numberIn w k) 0 (λ z. ne (is ∙ z)) in
-        first-fails _ _ _ (all-stop end (messageFits w) k lt (rw some (sym told ∙ not-true r e)))
+        first-fails _ _ _ (all-stop end (messageFits w) k lt (rw some (sym answered ∙ not-true r e)))
 
   module _ (end k before count last : ℕ) (over : List ℕ) (so-far : Read end k before count over) (ends : end ≤ k) (el : last ≡ wide2 w 2) where
     carried-read : (r : Bool) → r ≡ allBelow 16 (λ f. eqb (getD over f 0) 0) → r ≡ allBelow end (carriedFits w)
@@ -426,15 +426,15 @@ module _ (w : List ℕ) where
     unfolding messagesTests holds
     last-far lt = part-fails (messagesTests w) (test 6) (lt-leb (wide2 w 2) 1000000 (rw is-last at lt))
 
-    module _ (a : Bool) (told : a ≡ (eqb end 0 || not (eqb (numberIn w (end - 1)) 0))) where
+    module _ (a : Bool) (answered : a ≡ (eqb end 0 || not (eqb (numberIn w (end - 1)) 0))) where
       pub end-off : not a ≡ true → false ≡ allOf (messagesTests w)
       unfolding messagesTests holds
-      end-off e = part-fails (messagesTests w) (test 1) (rw is-end at (sym told ∙ not-true a e))
+      end-off e = part-fails (messagesTests w) (test 1) (rw is-end at (sym answered ∙ not-true a e))
 
       pub messages-whole : end ≤ 64 → last ≤ 1000000 → not a ≡ false → (r : Bool) → r ≡ placesRead end → r ≡ allOf (messagesTests w)
       unfolding messagesTests holds asks allBelow
       messages-whole le few e r er =
-          let ended : (eqb (endOf w) 0 || not (eqb (numberIn w (endOf w - 1)) 0)) ≡ true = rw is-end at (sym told ∙ not-false a e) in
+          let ended : (eqb (endOf w) 0 || not (eqb (numberIn w (endOf w - 1)) 0)) ≡ true = rw is-end at (sym answered ∙ not-false a e) in
           let short : leb (endOf w) 64 ≡ true = le-leb (endOf w) 64 (omega arith) in
           let low : leb (wide2 w 2) 1000000 ≡ true = le-leb (wide2 w 2) 1000000 (rw is-last at few) in
           rw is-end at er ∙ fourth-left _ _ _ (placesRead (endOf w)) short ended low ∙ conjunction (messagesTests w) (test 0 and test 1 and test 6 and (test 2 and test 3 and (test 4 and test 5))) refl
@@ -447,33 +447,33 @@ module _ (w : List ℕ) where
   module _ (small : (k : ℕ) → word w k ≤ 65535) where
     pub size-off : (length w ≡ 6464 → ⊥) → false ≡ sound (runOf w)
     unfolding soundIn soundTests holds
-    size-off ne = part-fails (soundTests w) (test 0) (ne-eqb (length w) stateSize ne) ∙ verdict w small
+    size-off ne = part-fails (soundTests w) (test 0) (ne-eqb (length w) stateSize ne) ∙ test-is-sound w small
 
     module _ (n : ℕ) (is : n ≡ countOf w) where
       pub count-low : n < 1 → false ≡ sound (runOf w)
       unfolding soundIn soundTests holds
-      count-low lt = part-fails (soundTests w) (test 1) (lt-leb 1 (countOf w) (omega arith)) ∙ verdict w small
+      count-low lt = part-fails (soundTests w) (test 1) (lt-leb 1 (countOf w) (omega arith)) ∙ test-is-sound w small
 
       pub count-high : 16 < n → false ≡ sound (runOf w)
       unfolding soundIn soundTests holds
-      count-high lt = part-fails (soundTests w) (test 2) (lt-leb (countOf w) 16 (omega arith)) ∙ verdict w small
+      count-high lt = part-fails (soundTests w) (test 2) (lt-leb (countOf w) 16 (omega arith)) ∙ test-is-sound w small
 
-      module _ (a : Bool) (told : a ≡ (allBelow n (countsFit w) && allBelow n (partFits w) && diskFits w)) where
+      module _ (a : Bool) (answered : a ≡ (allBelow n (countsFit w) && allBelow n (partFits w) && diskFits w)) where
         pub processes-off : not a ≡ true → false ≡ sound (runOf w)
         unfolding soundIn soundTests holds
-        processes-off e = part-fails (soundTests w) (test 3 and test 4 and test 5) (rw is at (sym told ∙ not-true a e)) ∙ verdict w small
+        processes-off e = part-fails (soundTests w) (test 3 and test 4 and test 5) (rw is at (sym answered ∙ not-true a e)) ∙ test-is-sound w small
 
         pub words-whole : length w ≡ 6464 → 1 ≤ n → n ≤ 16 → not a ≡ false → (r : Bool) → r ≡ allOf (messagesTests w) → r ≡ sound (runOf w)
         unfolding soundIn soundTests holds asks allBelow
         words-whole sized low high e r er =
-            let processes : (allBelow (countOf w) (countsFit w) && allBelow (countOf w) (partFits w) && diskFits w) ≡ true = rw is at (sym told ∙ not-false a e) in
+            let processes : (allBelow (countOf w) (countsFit w) && allBelow (countOf w) (partFits w) && diskFits w) ≡ true = rw is at (sym answered ∙ not-false a e) in
             let long : eqb (length w) stateSize ≡ true = eq-eqb (length w) stateSize sized in
             let some : leb 1 (countOf w) ≡ true = le-leb 1 (countOf w) (omega arith) in
             let few : leb (countOf w) mostProcesses ≡ true = le-leb (countOf w) mostProcesses (omega arith) in
             er
             ∙ fifth-left _ _ _ _ (allOf (messagesTests w)) long some few processes
             ∙ conjunction (soundTests w) (test 0 and test 1 and test 2 and (test 3 and test 4 and test 5) and test 6) refl
-            ∙ verdict w small
+            ∙ test-is-sound w small
 
 -- Written against what is kept and deleted. The difference is what is kept exactly if the sum is what was written.
 same-sum : (written deleted kept : ℕ) → deleted ≤ written → eqb (written - deleted) kept ≡ eqb written (kept + deleted)

@@ -13,7 +13,7 @@ use borrow.Author.Tests.{ltb-true, lt-ltb, le-ltb}
 use Rattle.laws.specs.Choice.{pick, by-bool}
 use Rattle.laws.specs.Elements.{same-test, every-from}
 use Rattle.laws.specs.Lists.{select, table}
-use Rattle.laws.specs.Rows.{and-group, and-swap, and-true, every-behind, by-lt}
+use Rattle.laws.specs.Rows.{and-group, and-swap, and-true, every-beyond, by-lt}
 use Rattle.laws.specs.Search.{allBelow, all-in, all-out}
 use Rattle.laws.specs.Select.{select-append}
 use Rattle.laws.specs.Tables.{length-table, getD-table}
@@ -50,7 +50,7 @@ pub every-after : {A : Type 0} (t : A → Bool) (h n : ℕ) (f : ℕ → A) → 
 every-after t h n f = same-test (every t (drop h (table n f))) (allBelow n (λ k. ltb k h || t (f k)))
     (λ e. all-in n (λ k. ltb k h || t (f k)) (λ k lt. by-lt k h
     (λ less. or-left (ltb k h) (t (f k)) (lt-ltb k h less))
-    (λ from. or-in-right (ltb k h) (t (f k)) (rw (getD-table n f k (f 0) lt) at (every-behind t h (table n f) k (f 0) e from (rw (length-table n f) lt))))))
+    (λ from. or-in-right (ltb k h) (t (f k)) (rw (getD-table n f k (f 0) lt) at (every-beyond t h (table n f) k (f 0) e from (rw (length-table n f) lt))))))
     (λ e. every-from t (f 0) h (table n f) (λ k from lt.
     let under : k < n = rw (length-table n f) at lt in
     rw (getD-table n f k (f 0) under) (or-right (ltb k h) (t (f k)) (le-ltb k h from) (all-out n (λ k. ltb k h || t (f k)) e k under))))

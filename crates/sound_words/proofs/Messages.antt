@@ -16,7 +16,7 @@ use Rattle.laws.specs.Elements.{same-test, every-replicate}
 use Rattle.laws.specs.Lists.{select, table, placed}
 use Rattle.laws.specs.Prefixes.{placed-length}
 use Rattle.laws.specs.Ranges.{all-same}
-use Rattle.laws.specs.Rows.{every-both, all-both, and-true, and-swap, every-at, every-behind, by-lt}
+use Rattle.laws.specs.Rows.{every-both, all-both, and-true, and-swap, every-at, every-beyond, by-lt}
 use Rattle.laws.specs.Search.{allBelow, all-in}
 use Rattle.laws.specs.Select.{map-append}
 use Rattle.laws.specs.Tables.{take-placed}
@@ -328,7 +328,7 @@ module _ (w : List ℕ) where
     fewer : word w 1 < length (chosen (endOf w)) → every unusedMessage (drop (s .underway) (s .messages)) ≡ false
     fewer lt = by-bool (every unusedMessage (drop (s .underway) (s .messages)))
         (λ q. absurd (unused-number (getD (chosen (endOf w)) (word w 1) noMessage)
-        (rw (at-front (word w 1) lt) at (every-behind unusedMessage (word w 1) laid (word w 1) noMessage (rw rest-is at q) (omega arith) (omega (arith, length-laid, count-used (endOf w), count-le (endOf w) (λ k. not (eqb (numberIn w k) 0))))))
+        (rw (at-front (word w 1) lt) at (every-beyond unusedMessage (word w 1) laid (word w 1) noMessage (rw rest-is at q) (omega arith) (omega (arith, length-laid, count-used (endOf w), count-le (endOf w) (λ k. not (eqb (numberIn w k) 0))))))
         (every-at isMessage (chosen (endOf w)) (word w 1) noMessage lt (chosen-used (endOf w)))))
         (λ q. q)
 

@@ -19,7 +19,7 @@ use Rattle.model.specs.declared.Interval.{Interval}
 use Rattle.model.specs.declared.Checkpoint.{Checkpoint}
 use Rattle.model.specs.Words.{mostProcesses, entry, zeroVector, noPins, noCheckpoint, process, own}
 use Rattle.model.specs.Sound.{within, zeroFrom, unusedCheckpoint}
-use Rattle.words.specs.Layout.{word, countOf, heldAt, partAt, pinsAt, vectorIn, pinsIn, checkpointIn, isKeptIn, keptIn, ofProcesses, decoded}
+use Rattle.words.specs.Layout.{word, countOf, keptCountAt, partAt, pinsAt, vectorIn, pinsIn, checkpointIn, isKeptIn, keptIn, ofProcesses, decoded}
 use Rattle.words.proofs.Same.{vector-word}
 use Rattle.sound_words.specs.Test.{ownIn, most, rowWithin, indexIn}
 use Rattle.sound_words.proofs.Laws.{every-after, all-split, take-table}
@@ -62,38 +62,38 @@ module _ (w : List ℕ) (high : countOf w ≤ 16) where
     unfolding process decoded
     pins-at = of-below (λ q. pinsIn w (pinsAt q)) noPins [] p lt
 
-    pub held-at : getD (decoded w .held) p 0 ≡ word w (heldAt p)
+    pub kept-count-at : getD (decoded w .«kept_count») p 0 ≡ word w (keptCountAt p)
     unfolding decoded
-    held-at = of-below (λ q. word w (heldAt q)) 0 0 p lt
+    kept-count-at = of-below (λ q. word w (keptCountAt q)) 0 0 p lt
 
     pub row-at : getD (decoded w .kept .0) p [] ≡ keptIn w p
     unfolding decoded
     row-at = of-below (keptIn w) (replicate mostProcesses noCheckpoint) [] p lt
 
-    kept-taken : process (decoded w) p .kept ≡ take (getD (decoded w .held) p 0) (getD (decoded w .kept .0) p [])
+    kept-taken : process (decoded w) p .kept ≡ take (getD (decoded w .«kept_count») p 0) (getD (decoded w .kept .0) p [])
     unfolding process
     kept-taken = refl
 
     abbrev place : ℕ → Checkpoint
     place k = pick (isKeptIn w p k) (checkpointIn w p k) noCheckpoint
 
-    pub kept-table : word w (heldAt p) ≤ 16 → process (decoded w) p .kept ≡ table (word w (heldAt p)) (λ k. pick (isKeptIn w p k) (checkpointIn w p k) noCheckpoint)
+    pub kept-table : word w (keptCountAt p) ≤ 16 → process (decoded w) p .kept ≡ table (word w (keptCountAt p)) (λ k. pick (isKeptIn w p k) (checkpointIn w p k) noCheckpoint)
     unfolding keptIn
-    kept-table few = kept-taken ∙ rw (held-at, row-at) (take-table (word w (heldAt p)) mostProcesses place few)
+    kept-table few = kept-taken ∙ rw (kept-count-at, row-at) (take-table (word w (keptCountAt p)) mostProcesses place few)
 
     -- Where no index is 0, the kept checkpoints are those that the words hold.
-    pub kept-at : word w (heldAt p) ≤ 16 → allBelow (word w (heldAt p)) (λ k. not (eqb (indexIn w p k) 0)) ≡ true
-        → process (decoded w) p .kept ≡ table (word w (heldAt p)) (checkpointIn w p)
+    pub kept-at : word w (keptCountAt p) ≤ 16 → allBelow (word w (keptCountAt p)) (λ k. not (eqb (indexIn w p k) 0)) ≡ true
+        → process (decoded w) p .kept ≡ table (word w (keptCountAt p)) (checkpointIn w p)
     unfolding isKeptIn
-    kept-at few filled = kept-table few ∙ table-same (word w (heldAt p)) place (checkpointIn w p)
-        (λ k less. rw (lt-ltb k (word w (heldAt p)) less, all-out (word w (heldAt p)) (λ k. not (eqb (indexIn w p k) 0)) filled k less))
+    kept-at few filled = kept-table few ∙ table-same (word w (keptCountAt p)) place (checkpointIn w p)
+        (λ k less. rw (lt-ltb k (word w (keptCountAt p)) less, all-out (word w (keptCountAt p)) (λ k. not (eqb (indexIn w p k) 0)) filled k less))
 
     -- The places after the kept checkpoints are not in use.
-    pub rest-unused : every unusedCheckpoint (drop (word w (heldAt p)) (keptIn w p)) ≡ true
+    pub rest-unused : every unusedCheckpoint (drop (word w (keptCountAt p)) (keptIn w p)) ≡ true
     unfolding keptIn isKeptIn
-    rest-unused = every-from unusedCheckpoint noCheckpoint (word w (heldAt p)) (table mostProcesses place)
+    rest-unused = every-from unusedCheckpoint noCheckpoint (word w (keptCountAt p)) (table mostProcesses place)
         (λ k from less. let under : k < 16 = rw (length-table mostProcesses place) at less in
-        rw (getD-table mostProcesses place k noCheckpoint under, le-ltb k (word w (heldAt p)) from) none-unused)
+        rw (getD-table mostProcesses place k noCheckpoint under, le-ltb k (word w (keptCountAt p)) from) none-unused)
 
     pub own-at : own (decoded w) p .0 ≡ ownIn w p
     unfolding own

@@ -21,7 +21,7 @@ use Rattle.model.specs.declared.Checkpoint.{Checkpoint}
 use Rattle.model.specs.declared.Run.{Run}
 use Rattle.model.specs.Words.{mostProcesses, mostUnderWay, mostMessages, mostBlocks, blocksOf, zeroVector, noPins, noCheckpoint, blank, process, own, underWay}
 use Rattle.model.specs.Sound.{sound, countSound, ownSound, within, vectorsSound, ascending, keptSound, pinsSound, messageSound, messagesSound, zeroFrom, unusedCheckpoint, unusedMessage, nothingFrom, isNothing, rowUnused, unusedSound, recordSound, keptBlocks, diskSound}
-use Rattle.words.specs.Layout.{stateSize, word, wide2, wide4, countOf, endOf, heldAt, blocksAt, partAt, pinsAt, vectorIn, pinsIn, keptIn, markIn, messageIn, isMessage, decoded, endFits, fits, runOf}
+use Rattle.words.specs.Layout.{stateSize, word, wide2, wide4, countOf, endOf, keptCountAt, blocksAt, partAt, pinsAt, vectorIn, pinsIn, keptIn, markIn, messageIn, isMessage, decoded, endFits, fits, runOf}
 use Rattle.sound_words.specs.Test.{ownIn, numberIn, numberBefore, indexIn, indexBefore, keptTests, keptFits, countsFit, partTests, partFits, blocksIn, diskFits, messageFits, carriedFits, messagesTests, soundTests, soundIn}
 use Rattle.sound_words.proofs.Laws.{both-false, cons-same}
 use Rattle.sound_words.proofs.Parts as parts
@@ -118,7 +118,7 @@ module _ (w : List ℕ) (small : (k : ℕ) → word w k ≤ 65535) where
         ∷ every (nothingFrom 0) (drop (s .count) (s .pins .0))
         ∷ every not (drop (s .count) (s .sent))
         ∷ every (every unusedCheckpoint) (drop (s .count) (s .kept .0))
-        ∷ every (eqb 0) (drop (s .count) (s .held))
+        ∷ every (eqb 0) (drop (s .count) (s .«kept_count»))
         ∷ []
 
     none-after : After ≡ (true ∷ true ∷ true ∷ true ∷ true ∷ [])
@@ -128,25 +128,25 @@ module _ (w : List ℕ) (small : (k : ℕ) → word w k ≤ 65535) where
         (cons-same _ _ _ _ (parts.of-after w high (nothingFrom 0) (λ p. pinsIn w (pinsAt p)) noPins nothings)
         (cons-same _ _ _ _ (parts.of-after w high not (markIn w) false refl)
         (cons-same _ _ _ _ (parts.of-after w high (every unusedCheckpoint) (keptIn w) (replicate mostProcesses noCheckpoint) (every-replicate unusedCheckpoint mostProcesses noCheckpoint parts.none-unused))
-        (cons-same _ _ _ _ (parts.of-after w high (eqb 0) (λ p. word w (heldAt p)) 0 refl) refl))))
+        (cons-same _ _ _ _ (parts.of-after w high (eqb 0) (λ p. word w (keptCountAt p)) 0 refl) refl))))
 
     -- The blocks of what each process keeps, where its counts and its part fit.
-    filled : (p : ℕ) → partFits w p ≡ true → allBelow (word w (heldAt p)) (λ k. not (eqb (indexIn w p k) 0)) ≡ true
+    filled : (p : ℕ) → partFits w p ≡ true → allBelow (word w (keptCountAt p)) (λ k. not (eqb (indexIn w p k) 0)) ≡ true
     unfolding partFits partTests
     filled p e =
         let long : 4 < length (partTests w p) = omega arith in
         let all = every-at (λ b. b) (partTests w p) 4 true long e in
-        all-in (word w (heldAt p)) (λ k. not (eqb (indexIn w p k) 0)) (λ k lt. index-some w p k (all-out (word w (heldAt p)) (keptFits w p) all k lt))
+        all-in (word w (keptCountAt p)) (λ k. not (eqb (indexIn w p k) 0)) (λ k lt. index-some w p k (all-out (word w (keptCountAt p)) (keptFits w p) all k lt))
 
-    blocks-of : (p : ℕ) → p < n → countsFit w p ≡ true → partFits w p ≡ true → blocksOf (process s p .kept) ≡ word w (heldAt p) * word w (blocksAt p)
+    blocks-of : (p : ℕ) → p < n → countsFit w p ≡ true → partFits w p ≡ true → blocksOf (process s p .kept) ≡ word w (keptCountAt p) * word w (blocksAt p)
     unfolding countsFit
     blocks-of p lt counts part =
-        let few = leb-true (word w (heldAt p)) n (and-right (leb 1 (word w (heldAt p))) (leb (word w (heldAt p)) n) (and-left (leb 1 (word w (heldAt p)) && leb (word w (heldAt p)) n) (leb 1 (word w (blocksAt p))) counts)) in
-        ap (λ (l : List Checkpoint). blocksOf l) (parts.kept-at w high p lt (omega arith) (filled p part)) ∙ clauses.kept-blocks w p (word w (heldAt p))
+        let few = leb-true (word w (keptCountAt p)) n (and-right (leb 1 (word w (keptCountAt p))) (leb (word w (keptCountAt p)) n) (and-left (leb 1 (word w (keptCountAt p)) && leb (word w (keptCountAt p)) n) (leb 1 (word w (blocksAt p))) counts)) in
+        ap (λ (l : List Checkpoint). blocksOf l) (parts.kept-at w high p lt (omega arith) (filled p part)) ∙ clauses.kept-blocks w p (word w (keptCountAt p))
 
     blocks-same : (allBelow n (countsFit w) && allBelow n (partFits w)) ≡ true → keptBlocks s ≡ blocksIn w n
     unfolding keptBlocks blocksIn decoded
-    blocks-same e = sum-same n (λ p. blocksOf (process s p .kept)) (λ p. word w (heldAt p) * word w (blocksAt p))
+    blocks-same e = sum-same n (λ p. blocksOf (process s p .kept)) (λ p. word w (keptCountAt p) * word w (blocksAt p))
         (λ p lt. blocks-of p lt (all-out n (countsFit w) (and-left (allBelow n (countsFit w)) (allBelow n (partFits w)) e) p lt) (all-out n (partFits w) (and-right (allBelow n (countsFit w)) (allBelow n (partFits w)) e) p lt))
 
     disk-words : (eqb (s .disk .written) (blocksIn w n + s .disk .deleted) && leb (s .disk .written) mostBlocks) ≡ (eqb (wide4 w 4) (blocksIn w n + wide4 w 8) && leb (wide4 w 4) mostBlocks)
@@ -192,7 +192,7 @@ module _ (w : List ℕ) (small : (k : ℕ) → word w k ≤ 65535) where
           ∷ every (nothingFrom 0) (drop (s .count) (s .pins .0))
           ∷ every not (drop (s .count) (s .sent))
           ∷ every (every unusedCheckpoint) (drop (s .count) (s .kept .0))
-          ∷ every (eqb 0) (drop (s .count) (s .held))
+          ∷ every (eqb 0) (drop (s .count) (s .«kept_count»))
           ∷ every (λ x. zeroFrom (s .count) (x .vector)) (underWay s)
           ∷ every unusedMessage (drop (s .underway) (s .messages))
           ∷ allBelow (s .count) recordsAsked
@@ -258,8 +258,8 @@ module _ (w : List ℕ) (small : (k : ℕ) → word w k ≤ 65535) where
       (λ e. rw e (sym (decoded-same (leb-true 1 n (and-left (leb 1 n) (leb n mostProcesses) e)) (leb-true n mostProcesses (and-right (leb 1 n) (leb n mostProcesses) e)) (short-of f))))
       (λ e. rw e (sym (count-off e)))
 
-  pub verdict : soundIn w ≡ sound (runOf w)
+  pub test-is-sound : soundIn w ≡ sound (runOf w)
   unfolding runOf
-  verdict = in-groups ∙ by-bool (fits w)
+  test-is-sound = in-groups ∙ by-bool (fits w)
       (λ f. rw f (fitting f))
       (λ f. rw f (sym blank-off))

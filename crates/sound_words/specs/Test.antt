@@ -15,7 +15,7 @@ use Rattle.laws.specs.Tests.{allOf, countBelow}
 use Rattle.model.specs.declared.Interval.{Interval}
 use Rattle.model.specs.Words.{mostProcesses, mostUnderWay, mostMessages, mostBlocks}
 use Rattle.model.specs.Sound.{causeSound}
-use Rattle.words.specs.Layout.{stateSize, word, wide2, wide4, countOf, endOf, heldAt, blocksAt, partAt, pinsAt, indexAt, causeAt, storedAt, lowAt, highAt, senderAt, receiverAt, carriedAt, intervalOf}
+use Rattle.words.specs.Layout.{stateSize, word, wide2, wide4, countOf, endOf, keptCountAt, blocksAt, partAt, pinsAt, indexAt, causeAt, storedAt, lowAt, highAt, senderAt, receiverAt, carriedAt, intervalOf}
 
 -- The own entry of process p.
 abbrev pub ownIn : List ℕ → ℕ → ℕ
@@ -55,13 +55,13 @@ keptTests w p k =
 unfoldable pub keptFits : List ℕ → ℕ → ℕ → Bool
 keptFits w p k = allOf (keptTests w p k)
 
--- "Every pin is none or names a kept one", one of the first `held`.
+-- "Every pin is none or names a kept one", one of the first `keptCount`.
 unfoldable pub pinFits : List ℕ → ℕ → ℕ → ℕ → Bool
-pinFits w p held f = eqb (pinIn w p f) 0 || anyBelow held (λ k. eqb (pinIn w p f) (indexIn w p k))
+pinFits w p keptCount f = eqb (pinIn w p f) 0 || anyBelow keptCount (λ k. eqb (pinIn w p f) (indexIn w p k))
 
 -- "Each process keeps 1 to n checkpoints"; Note 5: "block counts from 1": a word is at most 65,535.
 unfoldable pub countsFit : List ℕ → ℕ → Bool
-countsFit w p = leb 1 (word w (heldAt p)) && leb (word w (heldAt p)) (countOf w) && leb 1 (word w (blocksAt p))
+countsFit w p = leb 1 (word w (keptCountAt p)) && leb (word w (keptCountAt p)) (countOf w) && leb 1 (word w (blocksAt p))
 
 -- "Own entries at least 1"; the current vector; the kept checkpoints and their vectors, of which "the last is the own entry minus 1 and the own pin names it"; the pins.
 unfoldable pub partTests : List ℕ → ℕ → List Bool
@@ -70,10 +70,10 @@ partTests w p =
     ∷ eqb (pinIn w p p) (ownIn w p)
     ∷ rowWithin w (partAt p)
     ∷ unusedPins w p
-    ∷ allBelow (word w (heldAt p)) (keptFits w p)
-    ∷ allBelow (word w (heldAt p)) (λ k. rowWithin w (storedAt p k))
-    ∷ eqb (indexBefore w p (word w (heldAt p))) (ownIn w p)
-    ∷ allBelow mostProcesses (pinFits w p (word w (heldAt p)))
+    ∷ allBelow (word w (keptCountAt p)) (keptFits w p)
+    ∷ allBelow (word w (keptCountAt p)) (λ k. rowWithin w (storedAt p k))
+    ∷ eqb (indexBefore w p (word w (keptCountAt p))) (ownIn w p)
+    ∷ allBelow mostProcesses (pinFits w p (word w (keptCountAt p)))
     ∷ []
 
 unfoldable pub partFits : List ℕ → ℕ → Bool
@@ -81,7 +81,7 @@ partFits w p = allOf (partTests w p)
 
 -- Note 5: "written equals blocks of all kept checkpoints plus blocks deleted", "within the bound of 16".
 unfoldable pub blocksIn : List ℕ → ℕ → ℕ
-blocksIn w n = sumBelow n (λ p. word w (heldAt p) * word w (blocksAt p))
+blocksIn w n = sumBelow n (λ p. word w (keptCountAt p) * word w (blocksAt p))
 
 unfoldable pub diskFits : List ℕ → Bool
 diskFits w = eqb (wide4 w 4) (blocksIn w (countOf w) + wide4 w 8) && leb (wide4 w 4) mostBlocks

@@ -13,7 +13,7 @@ ghost use lib.ListN.{length};
 ghost use Rattle.laws.specs.Search.{allBelow};
 ghost use Rattle.model.specs.Sound.{sound};
 ghost use Rattle.model.specs.Words.{mostProcesses, mostBlocks};
-ghost use Rattle.words.specs.Layout.{word, wide4, countOf, heldAt, blocksAt, runOf, stateSize};
+ghost use Rattle.words.specs.Layout.{word, wide4, countOf, keptCountAt, blocksAt, runOf, stateSize};
 ghost use Rattle.sound_words.specs.Test.{limitsIn, Judged, countsFit, partFits, diskFits};
 
 // process.rt: one process, its vector, its pins and what it keeps
@@ -60,14 +60,14 @@ fn wide(x: u16) -> u64
 
 // The blocks of what process p keeps, each of its block count.
 fn blocks_kept(w: &[u16], p: usize) -> u64
-    requires { ⌜ (length (now w) ≡ stateSize) × (p < mostProcesses) × (word (now w) (heldAt p) ≤ mostProcesses) ⌝ }
-    ensures { λ r. ⌜ (r ≡ word (now (w .entry)) (heldAt p) * word (now (w .entry)) (blocksAt p)) × (r ≤ 1048560) ⌝ }
+    requires { ⌜ (length (now w) ≡ stateSize) × (p < mostProcesses) × (word (now w) (keptCountAt p) ≤ mostProcesses) ⌝ }
+    ensures { λ r. ⌜ (r ≡ word (now (w .entry)) (keptCountAt p) * word (now (w .entry)) (blocksAt p)) × (r ≤ 1048560) ⌝ }
 {
-    let held_at = places::held_at(p);
-    let held = wide(w[held_at]);
+    let kept_count_at = places::kept_count_at(p);
+    let kept_count = wide(w[kept_count_at]);
     let blocks_at = places::blocks_at(p);
     let blocks = wide(w[blocks_at]);
-    held * blocks
+    kept_count * blocks
 }
 
 // Each of the n processes is sound, and so is the sum of their blocks.

@@ -79,14 +79,14 @@ fn is_kept_sound(w: &[u16], p: usize, k: usize, x: u16, before: u16, pins: [u16;
 fn are_kept_sound(
     w: &[u16],
     p: usize,
-    held: usize,
+    kept_count: usize,
     owns: [Interval; PROCESSES],
     first: [u16; PROCESSES],
 ) -> bool
-    requires { ⌜ (length (now w) ≡ stateSize) × (p < mostProcesses) × (held ≤ mostProcesses) × (owns ≡ limitsIn (now w)) × (1 ≤ ownIn (now w) p) ⌝ }
-    ensures { λ r. ⌜ r ≡ (allBelow held (keptFits (now (w .entry)) p)
-        && eqb (indexBefore (now (w .entry)) p held) (ownIn (now (w .entry)) p)
-        && ((allBelow mostProcesses (λ f. eqb (getD first f 0) 0) && allBelow held (λ k. rowWithin (now (w .entry)) (storedAt p k))) && allBelow mostProcesses (pinFits (now (w .entry)) p held))) ⌝ }
+    requires { ⌜ (length (now w) ≡ stateSize) × (p < mostProcesses) × («kept_count» ≤ mostProcesses) × (owns ≡ limitsIn (now w)) × (1 ≤ ownIn (now w) p) ⌝ }
+    ensures { λ r. ⌜ r ≡ (allBelow «kept_count» (keptFits (now (w .entry)) p)
+        && eqb (indexBefore (now (w .entry)) p «kept_count») (ownIn (now (w .entry)) p)
+        && ((allBelow mostProcesses (λ f. eqb (getD first f 0) 0) && allBelow «kept_count» (λ k. rowWithin (now (w .entry)) (storedAt p k))) && allBelow mostProcesses (pinFits (now (w .entry)) p «kept_count»))) ⌝ }
 {
     let pins_at = places::pins_at(p);
     let pins = words::row_at(w, pins_at);
@@ -94,7 +94,7 @@ fn are_kept_sound(
     let mut unmet = pins;
     let mut off = first;
     let mut before: u16 = 0;
-    for k in 0..held {
+    for k in 0..kept_count {
         let at = places::index_at(p, k);
         let x = w[at];
         let ok = is_kept_sound(w, p, k, x, before, pins);
@@ -122,8 +122,8 @@ fn are_numbers_sound(w: &[u16], p: usize, n: usize) -> bool
     requires { ⌜ (length (now w) ≡ stateSize) × (n ≡ countOf (now w)) × (p < mostProcesses) ⌝ }
     ensures { λ r. ⌜ r ≡ (countsFit (now (w .entry)) p && leb 1 (ownIn (now (w .entry)) p) && eqb (pinIn (now (w .entry)) p p) (ownIn (now (w .entry)) p)) ⌝ }
 {
-    let held_at = places::held_at(p);
-    let held = number_of(w[held_at]);
+    let kept_count_at = places::kept_count_at(p);
+    let kept_count = number_of(w[kept_count_at]);
     let blocks_at = places::blocks_at(p);
     let blocks = w[blocks_at];
     let own_at = places::part_at(p) + p;
@@ -131,7 +131,7 @@ fn are_numbers_sound(w: &[u16], p: usize, n: usize) -> bool
     let last = last_word(own);
     let pin_at = places::pins_at(p) + p;
     let pin = w[pin_at];
-    (1 <= held) & (held <= n) & (1 <= blocks) & (1 <= own) & (pin == last)
+    (1 <= kept_count) & (kept_count <= n) & (1 <= blocks) & (1 <= own) & (pin == last)
 }
 
 // What is off in the vector and the pins of process p: 0 where the entry is not above the own one and the pin not above what it may be at most, in `columns`.
@@ -167,7 +167,7 @@ pub fn is_sound(
         return false;
     }
     let first = rows_off(w, p, owns, columns);
-    let held_at = places::held_at(p);
-    let held = number_of(w[held_at]);
-    are_kept_sound(w, p, held, owns, first)
+    let kept_count_at = places::kept_count_at(p);
+    let kept_count = number_of(w[kept_count_at]);
+    are_kept_sound(w, p, kept_count, owns, first)
 }

@@ -64,7 +64,7 @@ pub record Going (n b m : ℕ) (s : Run) : Type 0 where
   pub reached : Reached n s history ideal
   pub low : (p : ℕ) → ideal .own p ≤ b
   pub few : ideal .last ≤ m
-  pub cheap : (p : ℕ) → ideal .ledger .counts p ≤ 1
+  pub cheap : (p : ℕ) → ideal .ledger .blockCounts p ≤ 1
   pub blocks : ideal .ledger .written ≤ 15 + b
 
 -- An event that it accepts, with the bounds after it.
@@ -96,7 +96,7 @@ own-delivered r m b h p = by-bool (forces r m)
     (λ ne. rw (delivered-own-other r m p ne) (omega (arith, h p))))
     (λ f. rw (delivered-own-plain r m f p) (omega (arith, h p)))
 
-blocks-delivered : (r : Ideal) (m b : ℕ) → ((q : ℕ) → r .ledger .counts q ≤ 1) → r .ledger .written ≤ 15 + b → delivered r m .ledger .written ≤ 15 + suc b
+blocks-delivered : (r : Ideal) (m b : ℕ) → ((q : ℕ) → r .ledger .blockCounts q ≤ 1) → r .ledger .written ≤ 15 + b → delivered r m .ledger .written ≤ 15 + suc b
 unfolding stores
 blocks-delivered r m b few h = by-bool (forces r m)
     (λ f. rw (delivered-ledger-forced r m f) (omega (arith, few (r .receiver m))))
@@ -141,7 +141,7 @@ module _ (n b m : ℕ) (s : Run) (g : Going n b m s) where
       rw (length-replicate {A = ℕ} 512 0) (omega (arith, most))
 
   goes : (e : Event) (b′ m′ : ℕ) → refusal (stateOf (g .ideal)) (callOf e) ≡ none → ((p : ℕ) → stepOf (g .ideal) (callOf e) .own p ≤ b′)
-      → stepOf (g .ideal) (callOf e) .last ≤ m′ → ((p : ℕ) → stepOf (g .ideal) (callOf e) .ledger .counts p ≤ 1) → stepOf (g .ideal) (callOf e) .ledger .written ≤ 15 + b′
+      → stepOf (g .ideal) (callOf e) .last ≤ m′ → ((p : ℕ) → stepOf (g .ideal) (callOf e) .ledger .blockCounts p ≤ 1) → stepOf (g .ideal) (callOf e) .ledger .written ≤ 15 + b′
       → Goes n b′ m′ s e
   goes e b′ m′ h low few cheap blocks = record {
     fine = rw (g .reached .state) h;

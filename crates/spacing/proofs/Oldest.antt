@@ -40,7 +40,7 @@ first-of : (p low : ℕ) (l : List Message) → ascending low (map (λ x. x .num
 unfolding ascending select headOf
 first-of p low [] a x e = not-none x e
 first-of p low (z ∷ l) a x e =
-    let behind = and-right (leb low (z .number)) (ascending (suc (z .number)) (map (λ x. x .number) l)) a in
+    let rest-after = and-right (leb low (z .number)) (ascending (suc (z .number)) (map (λ x. x .number) l)) a in
     by-bool (eqb (z .receiver) p)
     (λ q. let same : z ≡ x = some-is z x (rw q at e) in
     rw (← same) (
@@ -48,10 +48,10 @@ first-of p low (z ∷ l) a x e =
       eqb-true (z .receiver) p q,
       λ y m c. elim (List·Memᴰ·cases-cons m) [
         | inl d ↦ rw d (omega arith)
-        | inr t ↦ omega (arith, above (suc (z .number)) l y behind t)
+        | inr t ↦ omega (arith, above (suc (z .number)) l y rest-after t)
       ],
     ))
-    (λ q. let w = first-of p (suc (z .number)) l behind x (rw q at e) in (
+    (λ q. let w = first-of p (suc (z .number)) l rest-after x (rw q at e) in (
       List·Memᴰ·tail (w .0),
       w .1,
       λ y m c. elim (List·Memᴰ·cases-cons m) [

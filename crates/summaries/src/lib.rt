@@ -12,7 +12,7 @@ use model::StartAnswer;
 ghost use mathlib.Core.Path.{_≡_};
 ghost use Rattle.model.specs.Refusals.{number};
 ghost use Rattle.whole_runs.specs.Outcomes.{refusing, startReport, checkpointReport, sendReport, deliverReport, loseReport, lineReport, recoverReport};
-ghost use Rattle.listing.specs.Said.{reportIn};
+ghost use Rattle.listing.specs.Summarised.{reportIn};
 
 pub fn number_of(r: Refusal) -> u8
     ensures { λ n. ⌜ n ≡ number r ⌝ }

@@ -68,5 +68,5 @@ earliestCases =
     ∷ []
 
 -- The table, and a line list of two entries, which is refused with 3 before all else.
-unfoldable pub earliestsRight : Bool
-earliestsRight = every earliestCaseRight earliestCases && eqb (call shownState (earliest (at 3 0 ∷ []) (lineList 2)) .reply .report .refused) 3
+unfoldable pub earliestCasesRight : Bool
+earliestCasesRight = every earliestCaseRight earliestCases && eqb (call shownState (earliest (at 3 0 ∷ []) (lineList 2)) .reply .report .refused) 3

@@ -51,7 +51,7 @@ pinNumber (At a) = suc (a .0)
 pub record Disks : Type 0 where
   pub kept : List (List ℕ)
   pub causes : List (List ℕ)
-  pub counts : List (List ℕ)
+  pub blockCounts : List (List ℕ)
   pub blocks : List ℕ
 
 -- A case: the calls from a start with block counts of 1, their answers, and what they leave: vectors, pins, disks and lines.
@@ -99,7 +99,7 @@ unfoldable pub disksAre : Run → Disks → Bool
 disksAre s d =
     sameRows (keptRows s (λ k. k .index .0)) (d .kept)
     && sameRows (keptRows s (λ k. k .cause)) (d .causes)
-    && sameRows (keptRows s (λ k. k .blocks)) (d .counts)
+    && sameRows (keptRows s (λ k. k .blocks)) (d .blockCounts)
     && same (s .disk .written ∷ s .disk .deleted ∷ []) (d .blocks)
 
 unfoldable pub right : Case → Bool
@@ -146,7 +146,7 @@ both a b = a ∷ b ∷ []
 -- Disks on which each kept checkpoint has one block.
 abbrev pub disksOfOnes : List (List ℕ) → List (List ℕ) → ℕ → ℕ → Disks
 disksOfOnes kept causes written deleted =
-    record { kept = kept; causes = causes; counts = map (map (λ k. 1)) kept; blocks = written ∷ deleted ∷ [] }
+    record { kept = kept; causes = causes; blockCounts = map (map (λ k. 1)) kept; blocks = written ∷ deleted ∷ [] }
 
 -- "Cases 1 to 7 use the trace above": its ten records as calls, and their answers.
 unfoldable pub traceCalls : List Call
@@ -199,8 +199,8 @@ sweptLines = lineFor 0 (both 2 3) ∷ lineFor 1 (both 1 3) ∷ lineFor 2 (both 2
 
 -- A case of two processes: calls and their answers, and the vectors, pins, disks and lines that they leave.
 unfoldable pub ofTwo : List Call → List Expected → List (List ℕ) → List (List ℕ) → Disks → List ExpectedLine → Case
-ofTwo calls answers vectors pins held lines =
-    record { count = 2; calls = calls; answers = answers; vectors = vectors; pins = pins; disks = held; lines = lines }
+ofTwo calls answers vectors pins keptCount lines =
+    record { count = 2; calls = calls; answers = answers; vectors = vectors; pins = pins; disks = keptCount; lines = lines }
 
 -- The case after some records of the trace.
 unfoldable pub after : ℕ → List (List ℕ) → List (List ℕ) → Disks → List ExpectedLine → Case
@@ -313,21 +313,21 @@ diskCalls =
 
 unfoldable pub diskCases : List Disks
 diskCases =
-    record { kept = (0 ∷ []) ∷ (0 ∷ []) ∷ []; causes = (0 ∷ []) ∷ (0 ∷ []) ∷ []; counts = (3 ∷ []) ∷ (5 ∷ []) ∷ []; blocks = 8 ∷ 0 ∷ [] }
-    ∷ record { kept = (0 ∷ []) ∷ (0 ∷ []) ∷ []; causes = (0 ∷ []) ∷ (0 ∷ []) ∷ []; counts = (3 ∷ []) ∷ (5 ∷ []) ∷ []; blocks = 8 ∷ 0 ∷ [] }
-    ∷ record { kept = (0 ∷ []) ∷ (0 ∷ []) ∷ []; causes = (0 ∷ []) ∷ (0 ∷ []) ∷ []; counts = (3 ∷ []) ∷ (5 ∷ []) ∷ []; blocks = 8 ∷ 0 ∷ [] }
+    record { kept = (0 ∷ []) ∷ (0 ∷ []) ∷ []; causes = (0 ∷ []) ∷ (0 ∷ []) ∷ []; blockCounts = (3 ∷ []) ∷ (5 ∷ []) ∷ []; blocks = 8 ∷ 0 ∷ [] }
+    ∷ record { kept = (0 ∷ []) ∷ (0 ∷ []) ∷ []; causes = (0 ∷ []) ∷ (0 ∷ []) ∷ []; blockCounts = (3 ∷ []) ∷ (5 ∷ []) ∷ []; blocks = 8 ∷ 0 ∷ [] }
+    ∷ record { kept = (0 ∷ []) ∷ (0 ∷ []) ∷ []; causes = (0 ∷ []) ∷ (0 ∷ []) ∷ []; blockCounts = (3 ∷ []) ∷ (5 ∷ []) ∷ []; blocks = 8 ∷ 0 ∷ [] }
     -- a forced checkpoint of process 1, and its checkpoint 0 goes
-    ∷ record { kept = (0 ∷ []) ∷ (1 ∷ []) ∷ []; causes = (0 ∷ []) ∷ (2 ∷ []) ∷ []; counts = (3 ∷ []) ∷ (5 ∷ []) ∷ []; blocks = 13 ∷ 5 ∷ [] }
+    ∷ record { kept = (0 ∷ []) ∷ (1 ∷ []) ∷ []; causes = (0 ∷ []) ∷ (2 ∷ []) ∷ []; blockCounts = (3 ∷ []) ∷ (5 ∷ []) ∷ []; blocks = 13 ∷ 5 ∷ [] }
     -- a basic one
-    ∷ record { kept = (0 ∷ []) ∷ (1 ∷ 2 ∷ []) ∷ []; causes = (0 ∷ []) ∷ (2 ∷ 1 ∷ []) ∷ []; counts = (3 ∷ []) ∷ (5 ∷ 5 ∷ []) ∷ []; blocks = 18 ∷ 5 ∷ [] }
+    ∷ record { kept = (0 ∷ []) ∷ (1 ∷ 2 ∷ []) ∷ []; causes = (0 ∷ []) ∷ (2 ∷ 1 ∷ []) ∷ []; blockCounts = (3 ∷ []) ∷ (5 ∷ 5 ∷ []) ∷ []; blocks = 18 ∷ 5 ∷ [] }
     -- "rolled back or not, counts once": it is deleted, and written stays
-    ∷ record { kept = (0 ∷ []) ∷ (1 ∷ []) ∷ []; causes = (0 ∷ []) ∷ (2 ∷ []) ∷ []; counts = (3 ∷ []) ∷ (5 ∷ []) ∷ []; blocks = 18 ∷ 10 ∷ [] }
+    ∷ record { kept = (0 ∷ []) ∷ (1 ∷ []) ∷ []; causes = (0 ∷ []) ∷ (2 ∷ []) ∷ []; blockCounts = (3 ∷ []) ∷ (5 ∷ []) ∷ []; blocks = 18 ∷ 10 ∷ [] }
     -- the same index is stored again, and counts again
-    ∷ record { kept = (0 ∷ []) ∷ (2 ∷ []) ∷ []; causes = (0 ∷ []) ∷ (1 ∷ []) ∷ []; counts = (3 ∷ []) ∷ (5 ∷ []) ∷ []; blocks = 23 ∷ 15 ∷ [] }
-    ∷ record { kept = (0 ∷ []) ∷ (2 ∷ []) ∷ []; causes = (0 ∷ []) ∷ (1 ∷ []) ∷ []; counts = (3 ∷ []) ∷ (5 ∷ []) ∷ []; blocks = 23 ∷ 15 ∷ [] }
-    ∷ record { kept = (0 ∷ 1 ∷ []) ∷ (2 ∷ []) ∷ []; causes = (0 ∷ 1 ∷ []) ∷ (1 ∷ []) ∷ []; counts = (3 ∷ 3 ∷ []) ∷ (5 ∷ []) ∷ []; blocks = 26 ∷ 15 ∷ [] }
+    ∷ record { kept = (0 ∷ []) ∷ (2 ∷ []) ∷ []; causes = (0 ∷ []) ∷ (1 ∷ []) ∷ []; blockCounts = (3 ∷ []) ∷ (5 ∷ []) ∷ []; blocks = 23 ∷ 15 ∷ [] }
+    ∷ record { kept = (0 ∷ []) ∷ (2 ∷ []) ∷ []; causes = (0 ∷ []) ∷ (1 ∷ []) ∷ []; blockCounts = (3 ∷ []) ∷ (5 ∷ []) ∷ []; blocks = 23 ∷ 15 ∷ [] }
+    ∷ record { kept = (0 ∷ 1 ∷ []) ∷ (2 ∷ []) ∷ []; causes = (0 ∷ 1 ∷ []) ∷ (1 ∷ []) ∷ []; blockCounts = (3 ∷ 3 ∷ []) ∷ (5 ∷ []) ∷ []; blocks = 26 ∷ 15 ∷ [] }
     -- the sweep deletes checkpoint 0 of process 0
-    ∷ record { kept = (1 ∷ []) ∷ (2 ∷ []) ∷ []; causes = (1 ∷ []) ∷ (1 ∷ []) ∷ []; counts = (3 ∷ []) ∷ (5 ∷ []) ∷ []; blocks = 26 ∷ 18 ∷ [] }
+    ∷ record { kept = (1 ∷ []) ∷ (2 ∷ []) ∷ []; causes = (1 ∷ []) ∷ (1 ∷ []) ∷ []; blockCounts = (3 ∷ []) ∷ (5 ∷ []) ∷ []; blocks = 26 ∷ 18 ∷ [] }
     ∷ []
 
 unfoldable pub disks : Bool

@@ -23,7 +23,7 @@ use Rattle.tables.specs.Exam.{deletionList, lineList}
 -- A count and block counts, and the number that a start with them meets; 0: accepted.
 pub record StartNumber : Type 0 where
   pub count : ℕ
-  pub counts : List ℕ
+  pub blockCounts : List ℕ
   pub meets : ℕ
 
 -- A call on a state, and the number that it meets; 0: accepted.
@@ -50,7 +50,7 @@ pub record Argument : Type 0 where
   pub all : Bool
 
 unfoldable pub startMeets : StartNumber → Bool
-startMeets c = eqb (startReport (startOutcome (c .count) (c .counts) .answer) .refused) (c .meets)
+startMeets c = eqb (startReport (startOutcome (c .count) (c .blockCounts) .answer) .refused) (c .meets)
 
 unfoldable pub callMeets : CallNumber → Bool
 callMeets c = eqb (call (c .state) (c .made) .reply .report .refused) (c .meets)
@@ -76,8 +76,8 @@ ofZeros s =
     && every not (s .sent)
     && eqb (length (s .kept .0)) mostProcesses
     && every (λ row. eqb (length row) mostProcesses && every unusedCheckpoint row) (s .kept .0)
-    && eqb (length (s .held)) mostProcesses
-    && every (eqb 0) (s .held)
+    && eqb (length (s .«kept_count»)) mostProcesses
+    && every (eqb 0) (s .«kept_count»)
     && eqb (length (s .messages)) mostUnderWay
     && every unusedMessage (s .messages)
     && eqb (s .underway) 0
@@ -92,27 +92,27 @@ allButOne p count = set ones p count
 -- "1: start with a count outside 1 to 16."
 unfoldable pub starts : List StartNumber
 starts =
-    record { count = 0; counts = ones; meets = 1 }
-    ∷ record { count = 1; counts = ones; meets = 0 }
-    ∷ record { count = 16; counts = ones; meets = 0 }
-    ∷ record { count = 17; counts = ones; meets = 1 }
+    record { count = 0; blockCounts = ones; meets = 1 }
+    ∷ record { count = 1; blockCounts = ones; meets = 0 }
+    ∷ record { count = 16; blockCounts = ones; meets = 0 }
+    ∷ record { count = 17; blockCounts = ones; meets = 1 }
     -- Note 5: "15, at the start after 1, for a block count outside 1 to 65,535", of the first, the only and the last process
-    ∷ record { count = 0; counts = replicate mostProcesses 0; meets = 1 }
-    ∷ record { count = 17; counts = replicate mostProcesses 0; meets = 1 }
-    ∷ record { count = 1; counts = allButOne 0 0; meets = 15 }
-    ∷ record { count = 1; counts = allButOne 0 65_535; meets = 0 }
-    ∷ record { count = 1; counts = allButOne 0 65_536; meets = 15 }
-    ∷ record { count = 2; counts = allButOne 1 0; meets = 15 }
-    ∷ record { count = 2; counts = allButOne 1 65_535; meets = 0 }
-    ∷ record { count = 2; counts = allButOne 1 65_536; meets = 15 }
-    ∷ record { count = 16; counts = allButOne 15 0; meets = 15 }
-    ∷ record { count = 16; counts = allButOne 15 65_535; meets = 0 }
-    ∷ record { count = 16; counts = allButOne 15 65_536; meets = 15 }
+    ∷ record { count = 0; blockCounts = replicate mostProcesses 0; meets = 1 }
+    ∷ record { count = 17; blockCounts = replicate mostProcesses 0; meets = 1 }
+    ∷ record { count = 1; blockCounts = allButOne 0 0; meets = 15 }
+    ∷ record { count = 1; blockCounts = allButOne 0 65_535; meets = 0 }
+    ∷ record { count = 1; blockCounts = allButOne 0 65_536; meets = 15 }
+    ∷ record { count = 2; blockCounts = allButOne 1 0; meets = 15 }
+    ∷ record { count = 2; blockCounts = allButOne 1 65_535; meets = 0 }
+    ∷ record { count = 2; blockCounts = allButOne 1 65_536; meets = 15 }
+    ∷ record { count = 16; blockCounts = allButOne 15 0; meets = 15 }
+    ∷ record { count = 16; blockCounts = allButOne 15 65_535; meets = 0 }
+    ∷ record { count = 16; blockCounts = allButOne 15 65_536; meets = 15 }
     -- "those at n and above are neither judged nor stored"
-    ∷ record { count = 1; counts = allButOne 1 0; meets = 0 }
-    ∷ record { count = 1; counts = allButOne 1 65_536; meets = 0 }
-    ∷ record { count = 2; counts = allButOne 2 0; meets = 0 }
-    ∷ record { count = 2; counts = allButOne 2 65_536; meets = 0 }
+    ∷ record { count = 1; blockCounts = allButOne 1 0; meets = 0 }
+    ∷ record { count = 1; blockCounts = allButOne 1 65_536; meets = 0 }
+    ∷ record { count = 2; blockCounts = allButOne 2 0; meets = 0 }
+    ∷ record { count = 2; blockCounts = allButOne 2 65_536; meets = 0 }
     ∷ []
 
 -- Two processes: their start; after one send from 0 to 1; after 63 and 64; with the last used number given.

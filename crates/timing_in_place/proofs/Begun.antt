@@ -19,20 +19,20 @@ use Rattle.in_place.specs.Starting.{startRefusalIn, startOutcomeIn, StartsTheSa
 use Rattle.in_place.proofs.Judging.{starts-the-same}
 use Rattle.in_place.proofs.Starting.{accepted-size, accepted-long}
 
-accepted : (n : ℕ) (counts : List ℕ) → startOutcome n counts .answer ≡ Started → startRefusal n counts ≡ none
+accepted : (n : ℕ) (blockCounts : List ℕ) → startOutcome n blockCounts .answer ≡ Started → startRefusal n blockCounts ≡ none
 unfolding startOutcome
-accepted n counts e = by-refusal (startRefusal n counts) (λ f. f)
+accepted n blockCounts e = by-refusal (startRefusal n blockCounts) (λ f. f)
     (λ why f. absurd (let z : Refused why ≡ Started = rw f at e in let y : _≡_ {A = ℕ} 0 1 = cc in omega arith))
 
-started : (many n : ℕ) (counts : List ℕ) → startRefusalIn many n counts ≡ none → startOutcomeIn many n counts .answer ≡ Started
+started : (many n : ℕ) (blockCounts : List ℕ) → startRefusalIn many n blockCounts ≡ none → startOutcomeIn many n blockCounts .answer ≡ Started
 unfolding startOutcomeIn
-started many n counts fine = rw fine
+started many n blockCounts fine = rw fine
 
-pub started-reachable : (many n : ℕ) (counts : List ℕ) (t : Run) → t ≡ startOutcomeIn many n counts .run → startRefusalIn many n counts ≡ none → Reachable t
+pub started-reachable : (many n : ℕ) (blockCounts : List ℕ) (t : Run) → t ≡ startOutcomeIn many n blockCounts .run → startRefusalIn many n blockCounts ≡ none → Reachable t
 unfolding StartsTheSame
-started-reachable many n counts t e fine =
-    let same : startOutcomeIn many n counts ≡ startOutcome n counts = rw (accepted-size many n counts fine) (starts-the-same n counts (accepted-long many n counts fine)) in
-    rw (e, same) (reachable-start n counts (accepted n counts (sym (ap (λ (o : Outcome StartAnswer). o .answer) same) ∙ started many n counts fine)))
+started-reachable many n blockCounts t e fine =
+    let same : startOutcomeIn many n blockCounts ≡ startOutcome n blockCounts = rw (accepted-size many n blockCounts fine) (starts-the-same n blockCounts (accepted-long many n blockCounts fine)) in
+    rw (e, same) (reachable-start n blockCounts (accepted n blockCounts (sym (ap (λ (o : Outcome StartAnswer). o .answer) same) ∙ started many n blockCounts fine)))
 
 -- A start is not both accepted and refused.
 pub never-both : {o : Option Refusal} (why : Refusal) → o ≡ none → o ≡ some why → ⊥

@@ -28,9 +28,9 @@ fn apply_all(w: &mut [u16], trace: &[u8], deleted: &mut [u16], line: &mut [u16])
         let part = reader::record_after(trace, taken);
         let d = trace::decode(part);
         let applied = replay_in_place::record::apply(w, still, true, d, deleted, line);
-        let said = applied.said;
+        let summary = applied.summary;
         still = applied.sound;
-        let one = timing::one_if(said.refused == 0);
+        let one = timing::one_if(summary.refused == 0);
         accepted = accepted + one;
         taken += 1;
     }
@@ -46,8 +46,8 @@ pub extern "C" fn timing_untested(w: &mut [u16], n: usize, trace: &[u8]) -> u64
     ensures { λ r. ⌜ Leaves (startWords (now (w .entry)) n ones) (now (w .exit)) ⌝ }
     ensures { λ r. ⌜ ((why : Refusal) → startRefusalIn (length (now (w .entry))) n ones ≡ some why → now (w .exit) ≡ startWords (now (w .entry)) n ones) ⌝ }
 {
-    let counts = [1u32; PROCESSES];
-    let answer = in_place::start::start(w, n, &counts);
+    let block_counts = [1u32; PROCESSES];
+    let answer = in_place::start::start(w, n, &block_counts);
     let begun = accepted::start(answer);
     if !begun {
         return 0;

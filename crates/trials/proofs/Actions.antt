@@ -60,8 +60,8 @@ rests-not s = refl
 pub deliver-is : (s : Run) (m : ℕ) (answer : DeliverAnswer) (f : ℕ) → answer ≡ deliverOutcome s m (replicate 512 0) .answer → f ≡ forcedBy answer
     → record { acted = 1; deliveries = 1; forced = f } ≡ actionOf s (some (Deliver m))
 unfolding actionOf eventsIn performed call answered callOf deliveriesIn forcedIn select isDelivery
-deliver-is s m answer f said is =
-    let all : f ≡ forcedIn (performed s (Deliver m ∷ [])) = is ∙ ap forcedBy said ∙ forced-one (deliverOutcome s m (replicate 512 0) .answer) _ in
+deliver-is s m answer f promised is =
+    let all : f ≡ forcedIn (performed s (Deliver m ∷ [])) = is ∙ ap forcedBy promised ∙ forced-one (deliverOutcome s m (replicate 512 0) .answer) _ in
     λ j. record { acted = 1; deliveries = 1; forced = all j }
 
 send-is : (s : Run) (p q : ℕ) → record { acted = 1; deliveries = 0; forced = 0 } ≡ actionOf s (some (Send p q))

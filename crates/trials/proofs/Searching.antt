@@ -13,7 +13,7 @@ use Rattle.laws.specs.Lists.{select, table}
 use Rattle.laws.specs.Select.{select-append, select-select}
 use Rattle.model.specs.declared.Message.{Message}
 use Rattle.model.specs.Sound.{sound}
-use Rattle.words.specs.Layout.{word, countOf, endOf, heldAt, receiverAt, messageIn, isMessage, messagesIn, runOf}
+use Rattle.words.specs.Layout.{word, countOf, endOf, keptCountAt, receiverAt, messageIn, isMessage, messagesIn, runOf}
 use Rattle.words.proofs.View.{process-is, kept-count}
 use Rattle.words.proofs.ViewSound.{sound-words}
 use Rattle.spacing.specs.Spacing.{headOf, oldestTo, greatestBelow, mostKept}
@@ -75,8 +75,8 @@ pub greatest-more : (f : ℕ → ℕ) (p most next : ℕ) → most ≡ greatestB
 unfolding greatestBelow
 greatest-more f p most next e n = n ∙ ap (λ (m : ℕ). max m (f p)) e ∙ ap (λ (q : ℕ). greatestBelow q f) (sym (add-one p))
 
-pub most-in : (w : List ℕ) → sound (runOf w) ≡ true → mostKept (countOf w) (runOf w) ≡ greatestBelow (countOf w) (λ p. word w (heldAt p))
+pub most-in : (w : List ℕ) → sound (runOf w) ≡ true → mostKept (countOf w) (runOf w) ≡ greatestBelow (countOf w) (λ p. word w (keptCountAt p))
 unfolding mostKept
 most-in w h =
     let sw = sound-words w h in
-    greatest-same (countOf w) _ _ (λ p lt. rw (process-is w (sw .fit) p lt (sw .few)) (kept-count w p (omega (arith, sw .parts p lt .held-most, sw .few))))
+    greatest-same (countOf w) _ _ (λ p lt. rw (process-is w (sw .fit) p lt (sw .few)) (kept-count w p (omega (arith, sw .parts p lt .kept-count-most, sw .few))))

@@ -166,7 +166,7 @@ fn most_kept(w: &[u16], n: usize) -> usize
 {
     let mut most = 0;
     for p in 0..n {
-        let count = w[places::HELD + p] as usize;
+        let count = w[places::KEPT + p] as usize;
         let next = spacing::figures::greater(most, count);
         most = next;
     }
@@ -207,8 +207,8 @@ fn begin(w: &mut [u16], n: usize, seed: u32) -> Tally
     requires { ⌜ (1 ≤ n) × (n ≤ mostProcesses) × (length (now w) ≡ stateSize) ⌝ }
     ensures { λ r. ⌜ trialOf (now (w .exit)) r ≡ trialStart n seed ⌝ }
 {
-    let counts = [1u32; PROCESSES];
-    let answer = in_place::start::start(w, n, &counts);
+    let block_counts = [1u32; PROCESSES];
+    let answer = in_place::start::start(w, n, &block_counts);
     Tally {
         value: seed,
         acted: [0; PROCESSES],

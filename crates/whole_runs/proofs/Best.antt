@@ -42,9 +42,9 @@ right-best n h F written right = record {
 
 pub reported-is-best : ReportedIsBest
 unfolding ReportedIsBest RightOverWholeRuns
-reported-is-best n counts ok calls F inside =
-    right-best n (surviving n counts (transcript (startOutcome n counts .run) calls)) F (reported (stateAfter (startOutcome n counts .run) calls) F)
-    (right-over-whole-runs n counts ok calls .4 F inside .right)
+reported-is-best n blockCounts ok calls F inside =
+    right-best n (surviving n blockCounts (transcript (startOutcome n blockCounts .run) calls)) F (reported (stateAfter (startOutcome n blockCounts .run) calls) F)
+    (right-over-whole-runs n blockCounts ok calls .4 F inside .right)
 
 -- On a reached state.
 module _ (n : ℕ) (s : Run) (h : Surviving) (r : Ideal) (v : Reached n s h r) where

@@ -13,7 +13,7 @@ use borrow.Author.Tests.{lt-ltb, le-ltb, ltb-false}
 use Rattle.laws.specs.Choice.{pick, pick-same, by-bool}
 use Rattle.model.specs.declared.Run.{Run}
 use Rattle.model.specs.Trace.{decoded}
-use Rattle.whole_runs.specs.Listing.{perform, lineText, mostRecords, goesOn, records, goesOnBehind, stateAfterRecords}
+use Rattle.whole_runs.specs.Listing.{perform, lineText, mostRecords, goesOn, records, goesOnAfterAll, stateAfterRecords}
 
 -- Past the limit nothing is printed, whatever follows.
 pub past-limit : (all : Bool) (done : ℕ) (s : Run) (l : List ℕ) → mostRecords ≤ done → records all done s l ≡ []
@@ -26,8 +26,8 @@ past-limit all done s (a ∷ b ∷ c ∷ d ∷ l) h = rw (le-ltb done mostRecord
 
 -- The law of blocks, both ways and for every number of records that were taken before.
 pub block-by-block : (all : Bool) (k done : ℕ) (s : Run) (block rest : List ℕ) → length block ≡ 4 * k
-    → records all done s (block ++ rest) ≡ records all done s block ++ pick (goesOnBehind all s block) (records all (done + k) (stateAfterRecords s block) rest) []
-unfolding records stateAfterRecords goesOnBehind
+    → records all done s (block ++ rest) ≡ records all done s block ++ pick (goesOnAfterAll all s block) (records all (done + k) (stateAfterRecords s block) rest) []
+unfolding records stateAfterRecords goesOnAfterAll
 block-by-block all zero done s [] rest h = let e : done + zero ≡ done = omega arith in rw e
 block-by-block all (suc k) done s [] rest h = absurd (omega arith)
 block-by-block all k done s (a ∷ []) rest h = absurd (omega arith)
@@ -38,17 +38,17 @@ block-by-block all (suc k) done s (a ∷ b ∷ c ∷ d ∷ l) rest h =
     let o = perform s (decoded (a ∷ b ∷ c ∷ d ∷ [])) in
     let line = lineText (done + 1) (o .reply) in
     let next : done + suc k ≡ (done + 1) + k = omega arith in
-    let behind = pick (goesOnBehind all (o .run) l) (records all ((done + 1) + k) (stateAfterRecords (o .run) l) rest) [] in
+    let rest-after = pick (goesOnAfterAll all (o .run) l) (records all ((done + 1) + k) (stateAfterRecords (o .run) l) rest) [] in
     by-bool (ltb done mostRecords)
     (λ t. by-bool (goesOn all (o .reply .report .refused))
-    (λ g. rw (t, g, next, block-by-block all k (done + 1) (o .run) l rest (omega arith)) (sym (append-assoc line (records all (done + 1) (o .run) l) behind)))
+    (λ g. rw (t, g, next, block-by-block all k (done + 1) (o .run) l rest (omega arith)) (sym (append-assoc line (records all (done + 1) (o .run) l) rest-after)))
     (λ g. rw (t, g) (sym (append-nil _))))
-    (λ t. rw (t, past-limit all (done + suc k) (stateAfterRecords (o .run) l) rest (omega (arith, ltb-false done mostRecords t))) (sym (pick-same (goesOn all (o .reply .report .refused) && goesOnBehind all (o .run) l) [])))
+    (λ t. rw (t, past-limit all (done + suc k) (stateAfterRecords (o .run) l) rest (omega (arith, ltb-false done mostRecords t))) (sym (pick-same (goesOn all (o .reply .report .refused) && goesOnAfterAll all (o .run) l) [])))
 
 -- The same of going on.
 pub goes-on-by-block : (all : Bool) (k : ℕ) (s : Run) (block rest : List ℕ) → length block ≡ 4 * k
-    → goesOnBehind all s (block ++ rest) ≡ (goesOnBehind all s block && goesOnBehind all (stateAfterRecords s block) rest)
-unfolding goesOnBehind stateAfterRecords
+    → goesOnAfterAll all s (block ++ rest) ≡ (goesOnAfterAll all s block && goesOnAfterAll all (stateAfterRecords s block) rest)
+unfolding goesOnAfterAll stateAfterRecords
 goes-on-by-block all zero s [] rest h = refl
 goes-on-by-block all (suc k) s [] rest h = absurd (omega arith)
 goes-on-by-block all k s (a ∷ []) rest h = absurd (omega arith)
@@ -83,8 +83,8 @@ one-line all done s (a ∷ b ∷ c ∷ []) h l = absurd (omega arith)
 one-line all done s (a ∷ b ∷ c ∷ d ∷ []) h l = rw (lt-ltb done mostRecords l, pick-same, append-nil)
 one-line all done s (a ∷ b ∷ c ∷ d ∷ e ∷ r) h l = absurd (omega arith)
 
-pub one-goes-on : (all : Bool) (s : Run) (r : List ℕ) → length r ≡ 4 → goesOnBehind all s r ≡ goesOn all (perform s (decoded r) .reply .report .refused)
-unfolding goesOnBehind
+pub one-goes-on : (all : Bool) (s : Run) (r : List ℕ) → length r ≡ 4 → goesOnAfterAll all s r ≡ goesOn all (perform s (decoded r) .reply .report .refused)
+unfolding goesOnAfterAll
 one-goes-on all s [] h = absurd (omega arith)
 one-goes-on all s (a ∷ []) h = absurd (omega arith)
 one-goes-on all s (a ∷ b ∷ []) h = absurd (omega arith)
@@ -109,7 +109,7 @@ module _ (k done : ℕ) (s : Run) (trace : List ℕ) (more : 4 * k + 4 ≤ lengt
   pub next-length : length (take 4 (drop (4 * k) trace)) ≡ 4
   next-length = length-take-le 4 (drop (4 * k) trace) (omega (arith, length-drop (4 * k) trace))
 
-  pub next-line : (all : Bool) → done + k < mostRecords → goesOnBehind all s (take (4 * k) trace) ≡ true → records all done s (take (4 * k + 4) trace)
+  pub next-line : (all : Bool) → done + k < mostRecords → goesOnAfterAll all s (take (4 * k) trace) ≡ true → records all done s (take (4 * k + 4) trace)
       ≡ records all done s (take (4 * k) trace) ++ lineText (done + k + 1) (perform (stateAfterRecords s (take (4 * k) trace)) (decoded (take 4 (drop (4 * k) trace))) .reply)
   next-line all h going =
       let first = records all done s (take (4 * k) trace) in
@@ -119,13 +119,13 @@ module _ (k done : ℕ) (s : Run) (trace : List ℕ) (more : 4 * k + 4 ≤ lengt
       ∙ ap (λ (b : Bool). first ++ pick b (records all (done + k) (stateAfterRecords s (take (4 * k) trace)) second) []) going
       ∙ ap (λ (l : List ℕ). first ++ l) (one-line all (done + k) (stateAfterRecords s (take (4 * k) trace)) second next-length h)
 
-  pub next-goes-on : (all : Bool) → goesOnBehind all s (take (4 * k) trace) ≡ true → goesOnBehind all s (take (4 * k + 4) trace)
+  pub next-goes-on : (all : Bool) → goesOnAfterAll all s (take (4 * k) trace) ≡ true → goesOnAfterAll all s (take (4 * k + 4) trace)
       ≡ goesOn all (perform (stateAfterRecords s (take (4 * k) trace)) (decoded (take 4 (drop (4 * k) trace))) .reply .report .refused)
   next-goes-on all going =
       let second = take 4 (drop (4 * k) trace) in
-      ap (goesOnBehind all s) (take-add (4 * k) 4 trace)
+      ap (goesOnAfterAll all s) (take-add (4 * k) 4 trace)
       ∙ goes-on-by-block all k s (take (4 * k) trace) second first-records
-      ∙ ap (λ (b : Bool). b && goesOnBehind all (stateAfterRecords s (take (4 * k) trace)) second) going
+      ∙ ap (λ (b : Bool). b && goesOnAfterAll all (stateAfterRecords s (take (4 * k) trace)) second) going
       ∙ one-goes-on all (stateAfterRecords s (take (4 * k) trace)) second next-length
 
   pub next-state : stateAfterRecords s (take (4 * k + 4) trace) ≡ perform (stateAfterRecords s (take (4 * k) trace)) (decoded (take 4 (drop (4 * k) trace))) .run

@@ -53,21 +53,21 @@ recovered-reached n s h r v F deleted lent e = accepted-reached n s h r v (recov
 -- Note 6.
 pub clean-after-recovery : CleanAfterRecovery
 unfolding CleanAfterRecovery surviving
-clean-after-recovery n counts ok calls F deleted lent e =
-    let s₀ = startOutcome n counts .run in
-    let h = survivingFrom n (beginning n counts) (transcript s₀ calls) in
-    let r = runAfter (begun n counts) calls in
-    let v = reachable-reached n counts ok calls in
-    rw (after-last n s₀ (beginning n counts) calls (recover F deleted lent))
+clean-after-recovery n blockCounts ok calls F deleted lent e =
+    let s₀ = startOutcome n blockCounts .run in
+    let h = survivingFrom n (beginning n blockCounts) (transcript s₀ calls) in
+    let r = runAfter (begun n blockCounts) calls in
+    let v = reachable-reached n blockCounts ok calls in
+    rw (after-last n s₀ (beginning n blockCounts) calls (recover F deleted lent))
     (clean n (call (stateAfter s₀ calls) (recover F deleted lent) .run) (after n h (exchange (stateAfter s₀ calls) (recover F deleted lent))) r F (v .inv)
     (recovered-reached n (stateAfter s₀ calls) h r v F deleted lent e))
 
 -- Note 6 as a recover call says it of the state that it returns, which keeps what is kept by the pairs handed out.
 pub clean-promise : (s : Run) (F : ℕ) (deleted lent : List ℕ) (t : Run) → t ≡ recoverOutcome s F deleted lent .run → CleanPromise s F deleted lent t
 unfolding CleanPromise StatePromise CleanAfterRecovery
-clean-promise s F deleted lent t same n counts ok calls e fine =
-    let right = recover-promise s F deleted lent t same n counts ok calls e .0 in
-    let all = clean-after-recovery n counts ok calls F deleted lent (rw e at fine) in
+clean-promise s F deleted lent t same n blockCounts ok calls e fine =
+    let right = recover-promise s F deleted lent t same n blockCounts ok calls e .0 in
+    let all = clean-after-recovery n blockCounts ok calls F deleted lent (rw e at fine) in
     record {
       used = λ p k hp kept. all .used p k hp (sym (right .kept-in-state p k hp) ∙ kept);
       kept-if-used = λ p k F hp some-failed inside best. right .kept-in-state p k hp ∙ all .kept-if-used p k F hp some-failed inside best;

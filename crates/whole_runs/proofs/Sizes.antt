@@ -24,7 +24,7 @@ use Rattle.model.specs.declared.Run.{Run}
 use Rattle.model.specs.declared.Event.{Event}
 use Rattle.model.specs.declared.Refusal.{Refusal}
 use Rattle.model.specs.declared.Refusal.the-variants.{MalformedRecord}
-use Rattle.model.specs.Words.{basic, forced, named, Process, process, own, underWay, live}
+use Rattle.model.specs.Words.{basic, forced, isPinned, Process, process, own, underWay, live}
 use Rattle.model.specs.Steps.{Deletion, listed, gone, deletions, storing, checkpointed, checkpointDeletions, found, forces, takenIn, delivered, deliverDeletions, member, pinsAfter, goneAt, deletedAt, recoverDeletions, rolledBack, rolledBackCount}
 use Rattle.model.specs.Sound.{messageSound, sound}
 use Rattle.model.specs.Refusals.{number, checkpointRefusal, sendRefusal, deliverRefusal, loseRefusal, lineRefusal, recoverRefusal}
@@ -43,7 +43,7 @@ few-processes s h = sound-state s h .count-most
 
 few-kept : (s : Run) → sound s ≡ true → (p : ℕ) → p < s .count → length (process s p .kept) ≤ 16
 unfolding process
-few-kept s h p lt = rw (length-take (getD (s .held) p 0) (getD (s .kept .0) p [])) (omega (arith, few-processes s h, sound-state s h .processes p lt .held-most))
+few-kept s h p lt = rw (length-take (getD (s .«kept_count») p 0) (getD (s .kept .0) p [])) (omega (arith, few-processes s h, sound-state s h .processes p lt .kept-count-most))
 
 -- The last element of a list passes a test that every element passes.
 pub last-passes : {A : Type 0} (u : A → Bool) (l : List A) (x : A) → every u l ≡ true → lastOf l ≡ some x → u x ≡ true
@@ -67,7 +67,7 @@ listed-few p t l = rw (length-map {B = Deletion} (select t l) (λ c. record { pr
 
 deletions-few : (p : ℕ) (P : Process) → length (deletions p P) ≤ length (P .kept)
 unfolding deletions gone
-deletions-few p P = listed-few p (λ c. not (named (P .pins) c)) (P .kept)
+deletions-few p P = listed-few p (λ c. not (isPinned (P .pins) c)) (P .kept)
 
 -- A checkpoint keeps one more before it deletes.
 stored-few : (cause i : ℕ) (P : Process) → length (P .kept) ≤ 16 → length (checkpointed cause i P .kept) ≤ 17
@@ -90,7 +90,7 @@ deliver-few s x h =
 
 deleted-few : (s : Run) (F p : ℕ) → length (deletedAt s F p) ≤ length (process s p .kept)
 unfolding deletedAt goneAt
-deleted-few s F p = listed-few p (λ c. not (leb (c .index .0) (member s F p .index .0) && named (pinsAfter s F p) c)) (process s p .kept)
+deleted-few s F p = listed-few p (λ c. not (leb (c .index .0) (member s F p .index .0) && isPinned (pinsAfter s F p) c)) (process s p .kept)
 
 recover-few : (s : Run) (F : ℕ) → sound s ≡ true → length (recoverDeletions s F) ≤ 256
 unfolding recoverDeletions

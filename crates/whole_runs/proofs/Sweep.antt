@@ -190,11 +190,11 @@ unfolding Reachable SweepLeavesLines recoverOutcome
 sweep-leaves-lines s v deleted lent F = by-refusal (recoverRefusal s 0 deleted lent)
     (λ e. rw e (
     let n = v .0 in
-    let counts = v .1 in
-    let s₀ = startOutcome n counts .run in
+    let blockCounts = v .1 in
+    let s₀ = startOutcome n blockCounts .run in
     let calls = v .3 in
-    rw (v .4) (reached-lines n (stateAfter s₀ calls) (survivingFrom n (beginning n counts) (transcript s₀ calls)) (runAfter (begun n counts) calls)
-    (reachable-reached n counts (v .2) calls) F)))
+    rw (v .4) (reached-lines n (stateAfter s₀ calls) (survivingFrom n (beginning n blockCounts) (transcript s₀ calls)) (runAfter (begun n blockCounts) calls)
+    (reachable-reached n blockCounts (v .2) calls) F)))
     (λ x e. rw e)
 
 -- No number is 6.
@@ -206,7 +206,7 @@ never-six (some x) k e six = numbers-are-right .never-six x (sym e ∙ six)
 pub six-never-occurs : SixNeverOccurs
 six-never-occurs = record {
   calls = λ s c. never-six _ _ (reports-number s c);
-  starts = λ n counts. never-six _ _ (reports-start n counts);
+  starts = λ n blockCounts. never-six _ _ (reports-start n blockCounts);
 }
 
 -- What a line call for the empty set and a sweep leave of a sound state, and as the calls say it.

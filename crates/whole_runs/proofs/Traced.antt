@@ -70,7 +70,7 @@ module _ (n : ℕ) (ok : startRefusal n ones ≡ none) (calls : List Call) where
   reached : Reached n (stateAfter (startOutcome n ones .run) calls) (survivingFrom n (beginning n ones) (transcript (startOutcome n ones .run) calls)) (runAfter (begun n ones) calls)
   reached = reachable-reached n ones ok calls
 
-  run-counts : (p : ℕ) → p < mostProcesses → runAfter (begun n ones) calls .ledger .counts p ≡ 1
+  run-counts : (p : ℕ) → p < mostProcesses → runAfter (begun n ones) calls .ledger .blockCounts p ≡ 1
   unfolding openLedger
   run-counts p lt = ap (λ (c : ℕ → ℕ). c p) (counts-after (begun n ones) calls) ∙ one-of p lt
 
@@ -92,19 +92,19 @@ traced-kept s v = rw (v .3) (ones-kept (v .0) (v .1) (v .2))
 
 -- By the history alone: a call of a trace run writes at most one block.
 module _ (n : ℕ) where
-  count-most : (h : Surviving) → ((p : ℕ) → h .counts p ≤ 1) → (o : Option ℕ) → countOf h o ≤ 1
+  count-most : (h : Surviving) → ((p : ℕ) → h .blockCounts p ≤ 1) → (o : Option ℕ) → countOf h o ≤ 1
   unfolding countOf
   count-most h few none = omega arith
   count-most h few (some p) = few p
 
-  written-after : (h : Surviving) → ((p : ℕ) → h .counts p ≤ 1) → (e : Exchange) → (after n h e .written ≤ h .written + 1) × ((p : ℕ) → after n h e .counts p ≤ 1)
+  written-after : (h : Surviving) → ((p : ℕ) → h .blockCounts p ≤ 1) → (e : Exchange) → (after n h e .written ≤ h .written + 1) × ((p : ℕ) → after n h e .blockCounts p ≤ 1)
   unfolding after accepted
   written-after h few e = by-bool (eqb (e .reply .report .refused) 0)
       (λ q. rw q (omega (arith, count-most h few (storedBy h (e .made) (e .reply))), few))
       (λ q. rw q (omega arith, few))
 
-  written-most : (l : List Exchange) (h : Surviving) → ((p : ℕ) → h .counts p ≤ 1)
-      → (survivingFrom n h l .written ≤ h .written + length l) × ((p : ℕ) → survivingFrom n h l .counts p ≤ 1)
+  written-most : (l : List Exchange) (h : Surviving) → ((p : ℕ) → h .blockCounts p ≤ 1)
+      → (survivingFrom n h l .written ≤ h .written + length l) × ((p : ℕ) → survivingFrom n h l .blockCounts p ≤ 1)
   unfolding survivingFrom
   written-most [] h few = (omega arith, few)
   written-most (e ∷ l) h few =
@@ -171,7 +171,7 @@ module _ (n : ℕ) (ok : startRefusal n ones ≡ none) where
   unfolding beginning
   first-written = omega (arith, start-out n ones ok .1, sum-le n 1 (λ p. getD ones p 0) (λ p lt. one-most p))
 
-  first-counts : (p : ℕ) → beginning n ones .counts p ≤ 1
+  first-counts : (p : ℕ) → beginning n ones .blockCounts p ≤ 1
   unfolding beginning
   first-counts p = one-most p
 
@@ -182,7 +182,7 @@ module _ (n : ℕ) (ok : startRefusal n ones ≡ none) where
     room : (p : ℕ) → pastBound (survivingFrom n (beginning n ones) (transcript (startOutcome n ones .run) calls)) p ≡ false
     room p =
         let w = written-most n (transcript (startOutcome n ones .run) calls) (beginning n ones) first-counts in
-        le-ltb 1_000_000_000_000_000 (h .written + h .counts p) (omega (arith, w .0, w .1 p, transcript-length (startOutcome n ones .run) calls, first-written))
+        le-ltb 1_000_000_000_000_000 (h .written + h .blockCounts p) (omega (arith, w .0, w .1 p, transcript-length (startOutcome n ones .run) calls, first-written))
 
     not-16 : (c : Call) → call (stateAfter (startOutcome n ones .run) calls) c .reply .report .refused ≡ 16 → ⊥
     not-16 c e =

@@ -27,11 +27,11 @@ affirmed : (b : Bool) → not b ≡ false → b ≡ true
 affirmed true e = refl
 affirmed false e = sym e
 
-pub is-unsound : (s : Run) {verdict : Bool} → verdict ≡ sound s → not verdict ≡ true → sound s ≡ false
-is-unsound s {verdict} e t = sym e ∙ negated verdict t
+pub is-unsound : (s : Run) {judged : Bool} → judged ≡ sound s → not judged ≡ true → sound s ≡ false
+is-unsound s {judged} e t = sym e ∙ negated judged t
 
-pub is-sound : (s : Run) {verdict : Bool} → verdict ≡ sound s → not verdict ≡ false → sound s ≡ true
-is-sound s {verdict} e t = sym e ∙ affirmed verdict t
+pub is-sound : (s : Run) {judged : Bool} → judged ≡ sound s → not judged ≡ false → sound s ≡ true
+is-sound s {judged} e t = sym e ∙ affirmed judged t
 
 module _ (s : Run) (h : sound s ≡ false) where
   pub checkpoint-unsound : (i : ℕ) (deleted : List ℕ) → (s ≡ checkpointOutcome s i deleted .run)

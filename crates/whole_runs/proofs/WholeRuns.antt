@@ -69,46 +69,46 @@ begin-keeps n p k hp = same-test (keeps (begin n) p k) (eqb k 0)
     nothing-named : (k : ℕ) → _≡_ {A = Option ℕ} none (some k) → ⊥
     nothing-named k e = let z : _≡_ {A = ℕ} 0 1 = cc in omega arith
 
-begun-keeps : (n : ℕ) (counts : List ℕ) (p k : ℕ) → p < n → eqb k 0 ≡ keeps (begun n counts) p k
-begun-keeps n counts p k hp = sym (ledger-keeps (begin n) (openLedger n counts) p k ∙ begin-keeps n p k hp)
+begun-keeps : (n : ℕ) (blockCounts : List ℕ) (p k : ℕ) → p < n → eqb k 0 ≡ keeps (begun n blockCounts) p k
+begun-keeps n blockCounts p k hp = sym (ledger-keeps (begin n) (openLedger n blockCounts) p k ∙ begin-keeps n p k hp)
 
-begin-agrees : (n : ℕ) (counts : List ℕ) → Agrees (beginning n counts) (begun n counts)
+begin-agrees : (n : ℕ) (blockCounts : List ℕ) → Agrees (beginning n blockCounts) (begun n blockCounts)
 unfolding beginning begin openLedger
-begin-agrees n counts = record {
+begin-agrees n blockCounts = record {
   lists = refl;
   sends = refl;
   receiver = refl;
   underway = refl;
-  kept = λ p k hp. begun-keeps n counts p k hp;
-  counts = refl;
+  kept = λ p k hp. begun-keeps n blockCounts p k hp;
+  blockCounts = refl;
   cause = refl;
   written = refl;
-  deleted = omega (arith, start-kept-in n counts);
+  deleted = omega (arith, start-kept-in n blockCounts);
 }
 
 -- An accepted start reaches the state that it returns.
-pub started-state : (n : ℕ) (counts : List ℕ) → startRefusal n counts ≡ none → startOutcome n counts .run ≡ startState n counts
+pub started-state : (n : ℕ) (blockCounts : List ℕ) → startRefusal n blockCounts ≡ none → startOutcome n blockCounts .run ≡ startState n blockCounts
 unfolding startOutcome
-started-state n counts ok = rw ok
+started-state n blockCounts ok = rw ok
 
-started-answer : (n : ℕ) (counts : List ℕ) → startRefusal n counts ≡ none → startOutcome n counts .answer ≡ Started
+started-answer : (n : ℕ) (blockCounts : List ℕ) → startRefusal n blockCounts ≡ none → startOutcome n blockCounts .answer ≡ Started
 unfolding startOutcome
-started-answer n counts ok = rw ok
+started-answer n blockCounts ok = rw ok
 
-begun-memory : (n : ℕ) (counts : List ℕ) → Memory (begun n counts)
-begun-memory n counts = let m = begin-memory n in record { marks = m .marks; sources = m .sources }
+begun-memory : (n : ℕ) (blockCounts : List ℕ) → Memory (begun n blockCounts)
+begun-memory n blockCounts = let m = begin-memory n in record { marks = m .marks; sources = m .sources }
 
-pub start-reached : (n : ℕ) (counts : List ℕ) → startRefusal n counts ≡ none → Reached n (startOutcome n counts .run) (beginning n counts) (begun n counts)
-start-reached n counts ok =
-    let w = start-out n counts ok in
+pub start-reached : (n : ℕ) (blockCounts : List ℕ) → startRefusal n blockCounts ≡ none → Reached n (startOutcome n blockCounts .run) (beginning n blockCounts) (begun n blockCounts)
+start-reached n blockCounts ok =
+    let w = start-out n blockCounts ok in
     record {
-      inv = ledger-inv (begin n) (openLedger n counts) (begin-inv n);
-      limits = limits-begin n counts (w .0) (w .1) (w .2);
-      memory = begun-memory n counts;
+      inv = ledger-inv (begin n) (openLedger n blockCounts) (begin-inv n);
+      limits = limits-begin n blockCounts (w .0) (w .1) (w .2);
+      memory = begun-memory n blockCounts;
       size = begin-n n;
-      state = started-state n counts ok ∙ start-is n counts;
-      agrees = begin-agrees n counts;
-      restarted = begin-restarted n counts;
+      state = started-state n blockCounts ok ∙ start-is n blockCounts;
+      agrees = begin-agrees n blockCounts;
+      restarted = begin-restarted n blockCounts;
     }
 
 -- Each accepted call is a step of the run as functions.
@@ -200,33 +200,33 @@ answers-from n (c ∷ calls) s h r v (x ∷ earlier) later e q =
     let w = same-first (exchange s c) x (transcript (call s c .run) calls) (earlier ++ (e ∷ later)) q in
     rw (← w .0) (answers-from n calls (call s c .run) (after n h (exchange s c)) (unlessRefused (refusal (stateOf r) c) r (stepped r c)) (call-reached n s h r v c) earlier later e (w .1))
 
-pub answers-right : (n : ℕ) (counts : List ℕ) → startRefusal n counts ≡ none → (calls : List Call) → AnswersAreRight n counts (transcript (startOutcome n counts .run) calls)
+pub answers-right : (n : ℕ) (blockCounts : List ℕ) → startRefusal n blockCounts ≡ none → (calls : List Call) → AnswersAreRight n blockCounts (transcript (startOutcome n blockCounts .run) calls)
 unfolding AnswersAreRight surviving
-answers-right n counts ok calls = answers-from n calls (startOutcome n counts .run) (beginning n counts) (begun n counts) (start-reached n counts ok)
+answers-right n blockCounts ok calls = answers-from n calls (startOutcome n blockCounts .run) (beginning n blockCounts) (begun n blockCounts) (start-reached n blockCounts ok)
 
 -- Demand 3.
 pub right-over-whole-runs : RightOverWholeRuns
 unfolding RightOverWholeRuns surviving
-right-over-whole-runs n counts ok calls =
-    let r = runAfter (begun n counts) calls in
-    let s = stateAfter (startOutcome n counts .run) calls in
-    let h = survivingFrom n (beginning n counts) (transcript (startOutcome n counts .run) calls) in
-    let v = calls-reached n (startOutcome n counts .run) (beginning n counts) (begun n counts) (start-reached n counts ok) calls in (
-      started-answer n counts ok,
-      answers-right n counts ok calls,
+right-over-whole-runs n blockCounts ok calls =
+    let r = runAfter (begun n blockCounts) calls in
+    let s = stateAfter (startOutcome n blockCounts .run) calls in
+    let h = survivingFrom n (beginning n blockCounts) (transcript (startOutcome n blockCounts .run) calls) in
+    let v = calls-reached n (startOutcome n blockCounts .run) (beginning n blockCounts) (begun n blockCounts) (start-reached n blockCounts ok) calls in (
+      started-answer n blockCounts ok,
+      answers-right n blockCounts ok calls,
       reached-kept n s h r v,
       reached-blocks n s h r v,
       reached-line n s h r v,
     )
 
 -- The number of a start.
-pub reports-start : (n : ℕ) (counts : List ℕ) → startReport (startOutcome n counts .answer) .refused ≡ numberOf (startRefusal n counts)
+pub reports-start : (n : ℕ) (blockCounts : List ℕ) → startReport (startOutcome n blockCounts .answer) .refused ≡ numberOf (startRefusal n blockCounts)
 unfolding startReport startOutcome numberOf
-reports-start n counts = by-refusal (startRefusal n counts) (λ e. rw e) (λ x e. rw e)
+reports-start n blockCounts = by-refusal (startRefusal n blockCounts) (λ e. rw e) (λ x e. rw e)
 
 pub starts-are-right : StartsAreRight
 unfolding StartsAreRight
-starts-are-right n counts = reports-start n counts ∙ start-number n counts
+starts-are-right n blockCounts = reports-start n blockCounts ∙ start-number n blockCounts
 
 -- Counts at n and above have no part in a start.
 module _ (n : ℕ) (a b : List ℕ) (same : (p : ℕ) → p < n → getD a p 0 ≡ getD b p 0) where
@@ -255,9 +255,9 @@ unfolding CountsBelowDecide startOutcome
 counts-below-decide n a b same = rw (same-refusal n a b same, same-start n a b same)
 
 -- Reachable states: the start, what a call makes of one, and that each is sound.
-pub reachable-start : (n : ℕ) (counts : List ℕ) → startRefusal n counts ≡ none → Reachable (startOutcome n counts .run)
+pub reachable-start : (n : ℕ) (blockCounts : List ℕ) → startRefusal n blockCounts ≡ none → Reachable (startOutcome n blockCounts .run)
 unfolding Reachable stateAfter
-reachable-start n counts ok = (n, counts, ok, [], refl)
+reachable-start n blockCounts ok = (n, blockCounts, ok, [], refl)
 
 pub after-one : (s : Run) (calls : List Call) (c : Call) → stateAfter s (calls ++ (c ∷ [])) ≡ call (stateAfter s calls) c .run
 unfolding stateAfter
@@ -268,9 +268,9 @@ pub reachable-call : (s : Run) → Reachable s → (c : Call) → Reachable (cal
 unfolding Reachable
 reachable-call s v c = (v .0, v .1, v .2, v .3 ++ (c ∷ []), ap (λ (t : Run). call t c .run) (v .4) ∙ sym (after-one (startOutcome (v .0) (v .1) .run) (v .3) c))
 
-pub reachable-reached : (n : ℕ) (counts : List ℕ) → startRefusal n counts ≡ none → (calls : List Call)
-    → Reached n (stateAfter (startOutcome n counts .run) calls) (survivingFrom n (beginning n counts) (transcript (startOutcome n counts .run) calls)) (runAfter (begun n counts) calls)
-reachable-reached n counts ok calls = calls-reached n (startOutcome n counts .run) (beginning n counts) (begun n counts) (start-reached n counts ok) calls
+pub reachable-reached : (n : ℕ) (blockCounts : List ℕ) → startRefusal n blockCounts ≡ none → (calls : List Call)
+    → Reached n (stateAfter (startOutcome n blockCounts .run) calls) (survivingFrom n (beginning n blockCounts) (transcript (startOutcome n blockCounts .run) calls)) (runAfter (begun n blockCounts) calls)
+reachable-reached n blockCounts ok calls = calls-reached n (startOutcome n blockCounts .run) (beginning n blockCounts) (begun n blockCounts) (start-reached n blockCounts ok) calls
 
 pub reachable-sound : (s : Run) → Reachable s → sound s ≡ true
 unfolding Reachable
@@ -282,26 +282,26 @@ reachable-sound s v =
 -- Demand 3 as a line or recover call says it of the state that it is handed,
 pub line-promise : (s : Run) (F : ℕ) → LinePromise s F
 unfolding RightOverWholeRuns LinePromise
-line-promise s F n counts ok calls e inside =
-    let w = right-over-whole-runs n counts ok calls in
+line-promise s F n blockCounts ok calls e inside =
+    let w = right-over-whole-runs n blockCounts ok calls in
     rw e (w .4 F inside, w .2)
 
 -- Note 8 as its call says it of the state that it is handed,
 pub earliest-promise : (s : Run) (l : List Named) (lent : List ℕ) → EarliestPromise s l lent
 unfolding EarliestPromise surviving
-earliest-promise s l lent n counts ok calls e =
-    let r = runAfter (begun n counts) calls in
-    let v = reachable-reached n counts ok calls in
-    let h = survivingFrom n (beginning n counts) (transcript (startOutcome n counts .run) calls) in
+earliest-promise s l lent n blockCounts ok calls e =
+    let r = runAfter (begun n blockCounts) calls in
+    let v = reachable-reached n blockCounts ok calls in
+    let h = survivingFrom n (beginning n blockCounts) (transcript (startOutcome n blockCounts .run) calls) in
     subst (λ (t : Run). EarliestIsRight n t h l lent) (sym (e ∙ v .state))
     (subst (λ (x : ℕ). EarliestIsRight x (stateOf r) h l lent) (v .size) (earliest-right h r (v .inv) (v .limits) (v .agrees) l lent))
 
 -- and as a call says it of the state that it returns.
 state-promise : (s : Run) (c : Call) (t : Run) → t ≡ call s c .run → StatePromise s c t
 unfolding RightOverWholeRuns StatePromise
-state-promise s c t same n counts ok calls e =
-    let w = right-over-whole-runs n counts ok (calls ++ (c ∷ [])) in
-    rw (same, e, ← after-one (startOutcome n counts .run) calls c) (w .2, w .3)
+state-promise s c t same n blockCounts ok calls e =
+    let w = right-over-whole-runs n blockCounts ok (calls ++ (c ∷ [])) in
+    rw (same, e, ← after-one (startOutcome n blockCounts .run) calls c) (w .2, w .3)
 
 pub checkpoint-promise : (s : Run) (i : ℕ) (deleted : List ℕ) (t : Run) → t ≡ checkpointOutcome s i deleted .run → StatePromise s (checkpoint i deleted) t
 unfolding call answered
@@ -323,6 +323,6 @@ pub lose-promise : (s : Run) (m : ℕ) (t : Run) → t ≡ loseOutcome s m .run 
 unfolding call answered
 lose-promise s m t same = state-promise s (lose m) t same
 
-pub start-promise : (n : ℕ) (counts : List ℕ) (t : Run) → t ≡ startOutcome n counts .run → StartPromise n counts t
+pub start-promise : (n : ℕ) (blockCounts : List ℕ) (t : Run) → t ≡ startOutcome n blockCounts .run → StartPromise n blockCounts t
 unfolding RightOverWholeRuns StartPromise stateAfter transcript
-start-promise n counts t same ok = let w = right-over-whole-runs n counts ok [] in rw same (w .2, w .3)
+start-promise n blockCounts t same ok = let w = right-over-whole-runs n blockCounts ok [] in rw same (w .2, w .3)

@@ -15,7 +15,7 @@ use Rattle.laws.specs.Search.{anyBelow}
 use Rattle.laws.specs.Tests.{countBelow, some-of}
 use Rattle.model.specs.declared.Named.{Named}
 use Rattle.model.specs.Words.{inSet, failed, mostBlocks, mostProcesses, mostBlockCount, mostInterval, mostUnderWay, mostMessages}
-use Rattle.histories.specs.History.{sent, Line, checkpoints, behind, beforeCheckpoint, Consistent, before, ComesBefore}
+use Rattle.histories.specs.History.{sent, Line, checkpoints, afterState, beforeCheckpoint, Consistent, before, ComesBefore}
 use Rattle.whole_runs.specs.Calls.{Call, checkpoint, send, deliver, lose, recover, line, earliest, Exchange}
 use Rattle.whole_runs.specs.Earliest.{someAbsent, unfit}
 use Rattle.whole_runs.specs.Survival.{Surviving, after, surviving}
@@ -46,14 +46,14 @@ tooShort n deleted = ltb (length deleted) (2 * n * n)
 
 -- One more checkpoint of p "would take written past 1,000,000,000,000,000".
 abbrev pub pastBound : Surviving → ℕ → Bool
-pastBound h p = ltb mostBlocks (h .written + h .counts p)
+pastBound h p = ltb mostBlocks (h .written + h .blockCounts p)
 
 -- "1: start with a count outside 1 to 16." Note 5: "15, at the start after 1, for a block count outside 1 to 65,535"; "those at n and above are neither judged
 -- nor stored".
 unfoldable pub startReasons : ℕ → List ℕ → List Reason
-startReasons n counts =
+startReasons n blockCounts =
     record { holds = ltb n 1 || ltb mostProcesses n; number = 1 }
-    ∷ record { holds = anyBelow n (λ p. ltb (getD counts p 0) 1 || ltb mostBlockCount (getD counts p 0)); number = 15 }
+    ∷ record { holds = anyBelow n (λ p. ltb (getD blockCounts p 0) 1 || ltb mostBlockCount (getD blockCounts p 0)); number = 15 }
     ∷ []
 
 -- "4: process not below n. 5: sender is receiver." "7: failed set has a bit at n or above. 8: message not under way.
@@ -160,7 +160,7 @@ indexesOf n (earliest l lent) list = table n (λ p. getD list p 0)
 
 -- "If the sent mark is set": a send stands after the last checkpoint of p's list.
 unfoldable pub SentSince : Surviving → ℕ → Type 0
-SentSince h p = (m : ℕ) × List·Memᴰ (sent m) (behind (liveOf h p - 1) (h .lists p))
+SentSince h p = (m : ℕ) × List·Memᴰ (sent m) (afterState (liveOf h p - 1) (h .lists p))
 
 -- ".. and some carried entry is greater than i's": "Checkpoint a of f comes causally before a state exactly if a is less than that state's entry f".
 -- m brings its receiver news of f: a checkpoint of f comes before the sending of m, and not before the live state of m's receiver. The receiver then learns
@@ -254,4 +254,4 @@ pub record AnswerIsRight (n : ℕ) (h : Surviving) (e : Exchange) : Type 0 where
 
 -- Every answer of a transcript is right, judged by the surviving history of the exchanges before it.
 unfoldable pub AnswersAreRight : ℕ → List ℕ → List Exchange → Type 0
-AnswersAreRight n counts whole = (earlier later : List Exchange) (e : Exchange) → whole ≡ earlier ++ (e ∷ later) → AnswerIsRight n (surviving n counts earlier) e
+AnswersAreRight n blockCounts whole = (earlier later : List Exchange) (e : Exchange) → whole ≡ earlier ++ (e ∷ later) → AnswerIsRight n (surviving n blockCounts earlier) e

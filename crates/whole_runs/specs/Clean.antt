@@ -17,8 +17,8 @@ use Rattle.whole_runs.specs.WholeRuns.{reported}
 
 -- The line that a line or recover call reports is the best line: for every list of calls from an accepted start and every failed set.
 unfoldable pub ReportedIsBest : Type 0
-ReportedIsBest = (n : ℕ) (counts : List ℕ) → startRefusal n counts ≡ none → (calls : List Call) (F : ℕ) → F < 2 ^ n
-    → Best n (surviving n counts (transcript (startOutcome n counts .run) calls) .lists) F (reported (stateAfter (startOutcome n counts .run) calls) F)
+ReportedIsBest = (n : ℕ) (blockCounts : List ℕ) → startRefusal n blockCounts ≡ none → (calls : List Call) (F : ℕ) → F < 2 ^ n
+    → Best n (surviving n blockCounts (transcript (startOutcome n blockCounts .run) calls) .lists) F (reported (stateAfter (startOutcome n blockCounts .run) calls) F)
 
 -- "a checkpoint is kept exactly if some non-empty failed set would have it in its best line, by the message definition over the surviving history": `kept` says which
 -- checkpoints are kept.
@@ -29,13 +29,13 @@ pub record OnlyNeededKept (n : ℕ) (lists : Lists) (kept : ℕ → ℕ → Bool
 -- "straight after an accepted recovery or sweep": for every list of calls from an accepted start and an accepted recover call after it, for any failed set, the
 -- empty one of a sweep too. Kept by the pairs handed out.
 unfoldable pub CleanAfterRecovery : Type 0
-CleanAfterRecovery = (n : ℕ) (counts : List ℕ) → startRefusal n counts ≡ none → (calls : List Call) (F : ℕ) (deleted lent : List ℕ)
-    → recoverRefusal (stateAfter (startOutcome n counts .run) calls) F deleted lent ≡ none →
-    let h = surviving n counts (transcript (startOutcome n counts .run) (calls ++ (recover F deleted lent ∷ []))) in
+CleanAfterRecovery = (n : ℕ) (blockCounts : List ℕ) → startRefusal n blockCounts ≡ none → (calls : List Call) (F : ℕ) (deleted lent : List ℕ)
+    → recoverRefusal (stateAfter (startOutcome n blockCounts .run) calls) F deleted lent ≡ none →
+    let h = surviving n blockCounts (transcript (startOutcome n blockCounts .run) (calls ++ (recover F deleted lent ∷ []))) in
     OnlyNeededKept n (h .lists) (h .kept)
 
 -- Note 6 as a recover call on the state s says it of the state t that it returns: whatever calls from an accepted start led to s, if the call is accepted, t keeps
 -- a checkpoint exactly if some failure would use it, judged by the surviving history of those calls and of this one after them.
 unfoldable pub CleanPromise : Run → ℕ → List ℕ → List ℕ → Run → Type 0
-CleanPromise s F deleted lent t = (n : ℕ) (counts : List ℕ) → startRefusal n counts ≡ none → (calls : List Call) → s ≡ stateAfter (startOutcome n counts .run) calls
-    → recoverRefusal s F deleted lent ≡ none → OnlyNeededKept n (surviving n counts (transcript (startOutcome n counts .run) (calls ++ (recover F deleted lent ∷ []))) .lists) (keepsIn t)
+CleanPromise s F deleted lent t = (n : ℕ) (blockCounts : List ℕ) → startRefusal n blockCounts ≡ none → (calls : List Call) → s ≡ stateAfter (startOutcome n blockCounts .run) calls
+    → recoverRefusal s F deleted lent ≡ none → OnlyNeededKept n (surviving n blockCounts (transcript (startOutcome n blockCounts .run) (calls ++ (recover F deleted lent ∷ []))) .lists) (keepsIn t)

@@ -108,12 +108,12 @@ records all done s (a ∷ b ∷ c ∷ d ∷ l) =
     pick (ltb done mostRecords) (line ++ rest) []
 
 -- Whether the replay goes on after a part of a trace: it stops at no record of it.
-unfoldable pub goesOnBehind : Bool → Run → List ℕ → Bool
-goesOnBehind all s [] = true
-goesOnBehind all s (a ∷ []) = true
-goesOnBehind all s (a ∷ b ∷ []) = true
-goesOnBehind all s (a ∷ b ∷ c ∷ []) = true
-goesOnBehind all s (a ∷ b ∷ c ∷ d ∷ l) = let o = perform s (decoded (a ∷ b ∷ c ∷ d ∷ [])) in goesOn all (o .reply .report .refused) && goesOnBehind all (o .run) l
+unfoldable pub goesOnAfterAll : Bool → Run → List ℕ → Bool
+goesOnAfterAll all s [] = true
+goesOnAfterAll all s (a ∷ []) = true
+goesOnAfterAll all s (a ∷ b ∷ []) = true
+goesOnAfterAll all s (a ∷ b ∷ c ∷ []) = true
+goesOnAfterAll all s (a ∷ b ∷ c ∷ d ∷ l) = let o = perform s (decoded (a ∷ b ∷ c ∷ d ∷ [])) in goesOn all (o .reply .report .refused) && goesOnAfterAll all (o .run) l
 
 -- The state after the records of a part of a trace. Left-over bytes are no record and change nothing.
 unfoldable pub stateAfterRecords : Run → List ℕ → Run

@@ -53,9 +53,9 @@ abbrev pub written : List ℕ → List ℕ → List ℕ
 written lent numbers = sets lent 0 numbers
 
 unfoldable pub startOutcome : ℕ → List ℕ → Outcome StartAnswer
-startOutcome n counts = judged (startRefusal n counts)
+startOutcome n blockCounts = judged (startRefusal n blockCounts)
     (λ r. record { run = blank 0; answer = start-answer.Refused r; rose = 0; deleted = []; line = [] })
-    (record { run = startState n counts; answer = start-answer.Started; rose = 0; deleted = []; line = [] })
+    (record { run = startState n blockCounts; answer = start-answer.Started; rose = 0; deleted = []; line = [] })
 
 unfoldable pub checkpointOutcome : Run → ℕ → List ℕ → Outcome CheckpointAnswer
 checkpointOutcome s i deleted = judged (checkpointRefusal s i deleted)

@@ -24,7 +24,7 @@ pub record Surviving : Type 0 where
   pub receiver : ℕ → ℕ
   pub underway : ℕ → Bool
   pub kept : ℕ → ℕ → Bool
-  pub counts : ℕ → ℕ
+  pub blockCounts : ℕ → ℕ
   pub cause : ℕ → ℕ → ℕ
   pub written : ℕ
   pub deleted : ℕ
@@ -32,16 +32,16 @@ pub record Surviving : Type 0 where
 -- "After the start each list is checkpoint 0."
 -- Note 5: each of the n processes has then stored checkpoint 0, of cause "0 initial", with its block count, "fixed at the start for each process".
 unfoldable pub beginning : ℕ → List ℕ → Surviving
-beginning n counts = record {
+beginning n blockCounts = record {
   lists = λ p. stored ∷ [];
   restart = λ p. stored ∷ [];
   sends = 0;
   receiver = λ m. 0;
   underway = λ m. false;
   kept = λ p k. eqb k 0;
-  counts = λ p. getD counts p 0;
+  blockCounts = λ p. getD blockCounts p 0;
   cause = λ p k. initial;
-  written = sumBelow n (λ p. getD counts p 0);
+  written = sumBelow n (λ p. getD blockCounts p 0);
   deleted = 0;
 }
 
@@ -155,11 +155,11 @@ causeWith h cause (some p) = upd (h .cause) p (upd (h .cause p) (checkpoints (h 
 -- added, and nothing is taken back.
 unfoldable pub countOf : Surviving → Option ℕ → ℕ
 countOf h none = 0
-countOf h (some p) = h .counts p
+countOf h (some p) = h .blockCounts p
 
 -- Note 5: "deleted is defined from the pairs handed out": for each pair the block count of its process.
 unfoldable pub handedBlocks : Surviving → Reply → ℕ
-handedBlocks h r = sumBelow (r .report .deletions) (λ d. h .counts (getD (r .deleted) (2 * d) 0))
+handedBlocks h r = sumBelow (r .report .deletions) (λ d. h .blockCounts (getD (r .deleted) (2 * d) 0))
 
 unfoldable pub accepted : ℕ → Surviving → Call → Reply → Surviving
 accepted n h c r = record {
@@ -169,7 +169,7 @@ accepted n h c r = record {
   receiver = receiverAfter h c;
   underway = underwayAfter n h (listsAfter n h c r) c;
   kept = keptAfter h (listsAfter n h c r) r;
-  counts = h .counts;
+  blockCounts = h .blockCounts;
   cause = causeWith h (causeOf c) (storedBy h c r);
   written = h .written + countOf h (storedBy h c r);
   deleted = h .deleted + handedBlocks h r;
@@ -185,4 +185,4 @@ survivingFrom n h [] = h
 survivingFrom n h (e ∷ l) = survivingFrom n (after n h e) l
 
 unfoldable pub surviving : ℕ → List ℕ → List Exchange → Surviving
-surviving n counts = survivingFrom n (beginning n counts)
+surviving n blockCounts = survivingFrom n (beginning n blockCounts)

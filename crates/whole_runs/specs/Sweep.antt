@@ -55,7 +55,7 @@ SweepLeavesLines s = (deleted lent : List ℕ) (F : ℕ) → lineOf (recoverOutc
 -- "Refusal 6 never occurs any more": of no call, with any arguments on any state, and of no start.
 pub record SixNeverOccurs : Type 0 where
   pub calls : (s : Run) (c : Call) → call s c .reply .report .refused ≡ 6 → ⊥
-  pub starts : (n : ℕ) (counts : List ℕ) → startReport (startOutcome n counts .answer) .refused ≡ 6 → ⊥
+  pub starts : (n : ℕ) (blockCounts : List ℕ) → startReport (startOutcome n blockCounts .answer) .refused ≡ 6 → ⊥
 
 -- Note 4 as a line call for F on the state s says it of its answer and of the line list as it then stands: wherever s is sound, reached or not.
 unfoldable pub EmptyLinePromise : Run → ℕ → List ℕ → LineAnswer → List ℕ → Type 0

@@ -67,13 +67,13 @@ pub record BlocksAreRight (n : ℕ) (s : Run) (h : Surviving) : Type 0 where
   pub written-in-state : s .disk .written ≡ h .written
   pub deleted-in-state : s .disk .deleted ≡ h .deleted
   -- "At every moment written equals blocks of all kept checkpoints plus blocks deleted", kept by the pairs handed out
-  pub balance : h .written ≡ sumBelow n (λ p. countBelow (checkpoints (h .lists p)) (h .kept p) * h .counts p) + h .deleted
+  pub balance : h .written ≡ sumBelow n (λ p. countBelow (checkpoints (h .lists p)) (h .kept p) * h .blockCounts p) + h .deleted
   -- "Each kept checkpoint now records its cause .. and its process's block count"
-  pub recorded : (p : ℕ) → p < n → every (λ c. eqb (c .cause) (h .cause p (c .index .0)) && eqb (c .blocks) (h .counts p)) (process s p .kept) ≡ true
+  pub recorded : (p : ℕ) → p < n → every (λ c. eqb (c .cause) (h .cause p (c .index .0)) && eqb (c .blocks) (h .blockCounts p)) (process s p .kept) ≡ true
 
 -- The number of a start, 0 if it is accepted, by what it is handed alone.
 unfoldable pub StartsAreRight : Type 0
-StartsAreRight = (n : ℕ) (counts : List ℕ) → startReport (startOutcome n counts .answer) .refused ≡ lowest (startReasons n counts)
+StartsAreRight = (n : ℕ) (blockCounts : List ℕ) → startReport (startOutcome n blockCounts .answer) .refused ≡ lowest (startReasons n blockCounts)
 
 -- Note 5: "those at n and above are neither judged nor stored": starts whose counts below n are the same have the same outcome.
 unfoldable pub CountsBelowDecide : Type 0
@@ -84,16 +84,16 @@ CountsBelowDecide = (n : ℕ) (a b : List ℕ) → ((p : ℕ) → p < n → getD
 -- is, by the surviving history before it, is in Answers; which checkpoints are kept, by the lists alone, is in Needed. Together they leave nothing in an
 -- answer free.
 unfoldable pub RightOverWholeRuns : Type 0
-RightOverWholeRuns = (n : ℕ) (counts : List ℕ) → startRefusal n counts ≡ none → (calls : List Call) →
-    let s₀ = startOutcome n counts .run in
+RightOverWholeRuns = (n : ℕ) (blockCounts : List ℕ) → startRefusal n blockCounts ≡ none → (calls : List Call) →
+    let s₀ = startOutcome n blockCounts .run in
     let s = stateAfter s₀ calls in
-    let h = surviving n counts (transcript s₀ calls) in
-    (startOutcome n counts .answer ≡ Started) × (AnswersAreRight n counts (transcript s₀ calls)) × (KeptIsRight n s h) × (BlocksAreRight n s h)
+    let h = surviving n blockCounts (transcript s₀ calls) in
+    (startOutcome n blockCounts .answer ≡ Started) × (AnswersAreRight n blockCounts (transcript s₀ calls)) × (KeptIsRight n s h) × (BlocksAreRight n s h)
     × ((F : ℕ) → F < 2 ^ n → LineIsRight n s h F)
 
 -- A state that calls from an accepted start reach.
 unfoldable pub Reachable : Run → Type 0
-Reachable s = (n : ℕ) × (counts : List ℕ) × (startRefusal n counts ≡ none) × (calls : List Call) × (s ≡ stateAfter (startOutcome n counts .run) calls)
+Reachable s = (n : ℕ) × (blockCounts : List ℕ) × (startRefusal n blockCounts ≡ none) × (calls : List Call) × (s ≡ stateAfter (startOutcome n blockCounts .run) calls)
 
 -- Note 5: "a trace run uses 1". A state that calls from an accepted start with these block counts reach. The replay of a trace has no other states.
 unfoldable pub Traced : Run → Type 0
@@ -107,8 +107,8 @@ TraceMeetsNoBound = (n : ℕ) → startRefusal n ones ≡ none → (bytes : List
 -- Demand 3 as a line or recover call says it of the state s that it is handed: whatever calls from an accepted start led to s, the line for the
 -- failed set F and the checkpoints that are kept are right, judged by the surviving history of those calls.
 unfoldable pub LinePromise : Run → ℕ → Type 0
-LinePromise s F = (n : ℕ) (counts : List ℕ) → startRefusal n counts ≡ none → (calls : List Call) → s ≡ stateAfter (startOutcome n counts .run) calls → F < 2 ^ n →
-    let h = surviving n counts (transcript (startOutcome n counts .run) calls) in
+LinePromise s F = (n : ℕ) (blockCounts : List ℕ) → startRefusal n blockCounts ≡ none → (calls : List Call) → s ≡ stateAfter (startOutcome n blockCounts .run) calls → F < 2 ^ n →
+    let h = surviving n blockCounts (transcript (startOutcome n blockCounts .run) calls) in
     (LineIsRight n s h F) × (KeptIsRight n s h)
 
 -- Note 8: what is promised of a state s and the surviving history h before a call for the named checkpoints l, with the line list as it is lent.
@@ -120,16 +120,16 @@ pub record EarliestIsRight (n : ℕ) (s : Run) (h : Surviving) (l : List Named) 
 
 -- Note 8 as the call says it of the state that it is handed: "On every state reached from a start".
 unfoldable pub EarliestPromise : Run → List Named → List ℕ → Type 0
-EarliestPromise s l lent = (n : ℕ) (counts : List ℕ) → startRefusal n counts ≡ none → (calls : List Call) → s ≡ stateAfter (startOutcome n counts .run) calls
-    → EarliestIsRight n s (surviving n counts (transcript (startOutcome n counts .run) calls)) l lent
+EarliestPromise s l lent = (n : ℕ) (blockCounts : List ℕ) → startRefusal n blockCounts ≡ none → (calls : List Call) → s ≡ stateAfter (startOutcome n blockCounts .run) calls
+    → EarliestIsRight n s (surviving n blockCounts (transcript (startOutcome n blockCounts .run) calls)) l lent
 
 -- Demand 3 as a call c on the state s says it of the state t that it returns: whatever calls from an accepted start led to s, what t keeps and its blocks
 -- are right, judged by the surviving history of those calls and of this one after them, refused or accepted.
 unfoldable pub StatePromise : Run → Call → Run → Type 0
-StatePromise s c t = (n : ℕ) (counts : List ℕ) → startRefusal n counts ≡ none → (calls : List Call) → s ≡ stateAfter (startOutcome n counts .run) calls →
-    let h = surviving n counts (transcript (startOutcome n counts .run) (calls ++ (c ∷ []))) in
+StatePromise s c t = (n : ℕ) (blockCounts : List ℕ) → startRefusal n blockCounts ≡ none → (calls : List Call) → s ≡ stateAfter (startOutcome n blockCounts .run) calls →
+    let h = surviving n blockCounts (transcript (startOutcome n blockCounts .run) (calls ++ (c ∷ []))) in
     (KeptIsRight n t h) × (BlocksAreRight n t h)
 
 -- The same as an accepted start says it of the state t that it returns, by the history of no call.
 unfoldable pub StartPromise : ℕ → List ℕ → Run → Type 0
-StartPromise n counts t = startRefusal n counts ≡ none → let h = surviving n counts [] in (KeptIsRight n t h) × (BlocksAreRight n t h)
+StartPromise n blockCounts t = startRefusal n blockCounts ≡ none → let h = surviving n blockCounts [] in (KeptIsRight n t h) × (BlocksAreRight n t h)

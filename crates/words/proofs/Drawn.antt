@@ -7,7 +7,7 @@ use lib.ListN.{replicate}
 use Rattle.laws.specs.Lists.{select, table, placed}
 use Rattle.laws.specs.Sums.{sumBelow}
 use Rattle.laws.specs.Tests.{some-of}
-use Rattle.model.specs.Words.{named, blank, blocksOf, blockCount, process, withProcess, underWay, withMessages, withDisk}
+use Rattle.model.specs.Words.{isPinned, blank, blocksOf, blockCount, process, withProcess, underWay, withMessages, withDisk}
 use Rattle.model.specs.Steps.{settled, gone, billed, withProcesses, startState, started, checkpointZero, opening, checkpointState, checkpointed, advanced, storing, sendState, sentMessage, marked}
 use Rattle.words.specs.Layout.{wide4, pinOf, vectorIn, pinsIn, markIn, checkpointIn, isKeptIn, keptIn, messageIn, isMessage, messagesIn, decoded, endFits, fits, runOf}
 use Rattle.words.specs.Puts.{Put, one, putFrom, puts}
@@ -46,7 +46,7 @@ unfolding zeros starting sending putFrom runOf fits endFits decoded vectorIn pin
 send-is = refl
 
 checkpoint-is : runOf (puts zeros (starting ++ storing-one)) ≡ checkpointState (startState 2 (3 ∷ 5 ∷ [])) 0
-unfolding zeros starting storing-one putFrom runOf fits endFits decoded vectorIn pinsIn pinOf markIn checkpointIn isKeptIn keptIn messagesIn messageIn isMessage select table placed startState withDisk withProcesses withProcess started checkpointZero opening blank sumBelow checkpointState checkpointed advanced storing settled gone billed named some-of blocksOf blockCount process
+unfolding zeros starting storing-one putFrom runOf fits endFits decoded vectorIn pinsIn pinOf markIn checkpointIn isKeptIn keptIn messagesIn messageIn isMessage select table placed startState withDisk withProcesses withProcess started checkpointZero opening blank sumBelow checkpointState checkpointed advanced storing settled gone billed isPinned some-of blocksOf blockCount process
 checkpoint-is = refl
 
 -- What stands in places that are not in use counts for nothing.

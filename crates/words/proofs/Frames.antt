@@ -5,7 +5,7 @@ use mathlib.Core.List.{List}
 use Prim.Native.Nat.{ℕ, _+_, _≤_, _<_}
 use native.Mathlib.Omega.{arith}
 use Rattle.laws.specs.Rows.{by-lt}
-use Rattle.words.specs.Layout.{word, heldAt, markAt, blocksAt, partAt}
+use Rattle.words.specs.Layout.{word, keptCountAt, markAt, blocksAt, partAt}
 use Rattle.words.specs.Frames.{OnlyProcess, OnlyDisk}
 
 pub process-stays : (w : List ℕ) (p : ℕ) → OnlyProcess w w p
@@ -39,8 +39,8 @@ module _ (w v : List ℕ) (p : ℕ) (only : OnlyProcess w v p) where
   process-blocks q room lt = only .front (blocksAt q) (omega arith) (λ e. omega arith) (λ e. omega arith)
 
   module _ (q : ℕ) (room : p < 16) (lt : q < 16) (ne : q ≡ p → ⊥) where
-    pub process-held : word v (heldAt q) ≡ word w (heldAt q)
-    process-held = only .front (heldAt q) (omega arith) (λ e. ne (omega arith)) (λ e. omega arith)
+    pub process-kept-count : word v (keptCountAt q) ≡ word w (keptCountAt q)
+    process-kept-count = only .front (keptCountAt q) (omega arith) (λ e. ne (omega arith)) (λ e. omega arith)
 
     pub process-mark : word v (markAt q) ≡ word w (markAt q)
     process-mark = only .front (markAt q) (omega arith) (λ e. omega arith) (λ e. ne (omega arith))
@@ -48,5 +48,5 @@ module _ (w v : List ℕ) (p : ℕ) (only : OnlyProcess w v p) where
     pub process-part : (k : ℕ) → partAt q ≤ k → k < partAt q + 320 → word v k ≡ word w k
     process-part k low under = by-lt q p (λ less. only .lower k (omega arith) (omega arith)) (λ more. only .upper k (let far : p < q = omega arith in omega arith))
 
-  pub process-mail : p < 16 → (k : ℕ) → 5184 ≤ k → word v k ≡ word w k
-  process-mail room k low = only .upper k (omega arith)
+  pub process-message-words : p < 16 → (k : ℕ) → 5184 ≤ k → word v k ≡ word w k
+  process-message-words room k low = only .upper k (omega arith)

@@ -72,9 +72,9 @@ pub touched : (w : List ℕ) (l : List Put) (n k q : ℕ) → Hits w l n k q →
 touched w l n k q h = hit w l n k q (h .0) (h .1) (h .2) (h .3)
 
 -- One iteration of a loop that puts.
-pub put-turn : (w : List ℕ) (at : ℕ) (f : ℕ → ℕ) (n : ℕ) (v : List ℕ) (x : ℕ) → v ≡ putFrom w at n f → x ≡ f n → set v (at + n) x ≡ putFrom w at (n + 1) f
+pub put-step : (w : List ℕ) (at : ℕ) (f : ℕ → ℕ) (n : ℕ) (v : List ℕ) (x : ℕ) → v ≡ putFrom w at n f → x ≡ f n → set v (at + n) x ≡ putFrom w at (n + 1) f
 unfolding putFrom
-put-turn w at f n v x e g = rw (add-one, e, g)
+put-step w at f n v x e g = rw (add-one, e, g)
 
 pub put-none : (w : List ℕ) (at : ℕ) (f : ℕ → ℕ) → w ≡ putFrom w at 0 f
 unfolding putFrom
@@ -113,5 +113,5 @@ names-word (suc x) y h = by-eq (suc x) y
     (λ e. eq-eqb x (y - 1) (omega arith) ∙ sym (eq-eqb (suc x) y e))
     (λ ne. ne-eqb x (y - 1) (λ e. ne (omega arith)) ∙ sym (ne-eqb (suc x) y ne))
 
-pub named-word : (x y : ℕ) → 1 ≤ y → names (pinOf x) (indexOf y) ≡ true → x ≡ y
-named-word x y h e = eqb-true x y (sym (names-word x y h) ∙ e)
+pub pinned-word : (x y : ℕ) → 1 ≤ y → names (pinOf x) (indexOf y) ≡ true → x ≡ y
+pinned-word x y h e = eqb-true x y (sym (names-word x y h) ∙ e)

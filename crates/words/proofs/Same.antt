@@ -8,7 +8,7 @@ use lib.ListN.{length, getD}
 use Rattle.laws.specs.Tables.{length-table, getD-table, table-same, table-is}
 use Rattle.model.specs.declared.Interval.{Interval}
 use Rattle.model.specs.Words.{entry}
-use Rattle.words.specs.Layout.{word, heldAt, blocksAt, indexAt, causeAt, storedAt, lowAt, highAt, senderAt, receiverAt, carriedAt, intervalOf, pinOf, rowIn, vectorIn, pinsIn, checkpointIn, isKeptIn, keptIn, messageIn}
+use Rattle.words.specs.Layout.{word, keptCountAt, blocksAt, indexAt, causeAt, storedAt, lowAt, highAt, senderAt, receiverAt, carriedAt, intervalOf, pinOf, rowIn, vectorIn, pinsIn, checkpointIn, isKeptIn, keptIn, messageIn}
 use Rattle.words.specs.Puts.{puts, vectorPut}
 use Rattle.words.proofs.Reading.{touched}
 
@@ -63,7 +63,7 @@ unfolding checkpointIn
 checkpoint-moved w v p q k j a b c d = rw (a, b, c, vector-same w v (storedAt p k) (storedAt q j) d)
 
 -- Two that agree on how many process p keeps, on its block count and on its places of kept checkpoints.
-module _ (w v : List ℕ) (p : ℕ) (held : word w (heldAt p) ≡ word v (heldAt p)) (blocks : word w (blocksAt p) ≡ word v (blocksAt p))
+module _ (w v : List ℕ) (p : ℕ) (keptCount : word w (keptCountAt p) ≡ word v (keptCountAt p)) (blocks : word w (blocksAt p) ≡ word v (blocksAt p))
     (same : (k : ℕ) → 96 + 320 * p ≤ k → k < 384 + 320 * p → word w k ≡ word v k) where
   pub checkpoint-same : (k : ℕ) → k < 16 → checkpointIn w p k ≡ checkpointIn v p k
   checkpoint-same k lt = checkpoint-moved w v p p k k
@@ -74,7 +74,7 @@ module _ (w v : List ℕ) (p : ℕ) (held : word w (heldAt p) ≡ word v (heldAt
 
   is-kept-same : (k : ℕ) → k < 16 → isKeptIn w p k ≡ isKeptIn v p k
   unfolding isKeptIn
-  is-kept-same k lt = rw (held, same (indexAt p k) (omega arith) (omega arith))
+  is-kept-same k lt = rw (keptCount, same (indexAt p k) (omega arith) (omega arith))
 
   pub kept-same : keptIn w p ≡ keptIn v p
   unfolding keptIn

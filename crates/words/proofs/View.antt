@@ -18,7 +18,7 @@ use Rattle.laws.specs.Tables.{length-table, getD-table, table-is, take-placed}
 use Rattle.laws.specs.Truth.{and-out}
 use Rattle.model.specs.declared.Run.{Run}
 use Rattle.model.specs.Words.{mostProcesses, mostUnderWay, zeroVector, noPins, noCheckpoint, noMessage, blank, process, own, underWay}
-use Rattle.words.specs.Layout.{stateSize, word, wide2, wide4, countOf, endOf, heldAt, indexAt, partAt, pinsAt, intervalOf, vectorIn, pinsIn, markIn, checkpointIn, isKeptIn, keptIn, messageIn, isMessage, messagesIn, ofProcesses, decoded, endFits, fits, runOf}
+use Rattle.words.specs.Layout.{stateSize, word, wide2, wide4, countOf, endOf, keptCountAt, indexAt, partAt, pinsAt, intervalOf, vectorIn, pinsIn, markIn, checkpointIn, isKeptIn, keptIn, messageIn, isMessage, messagesIn, ofProcesses, decoded, endFits, fits, runOf}
 use Rattle.words.specs.Parts.{processIn}
 use Rattle.words.proofs.Same.{vector-word}
 
@@ -54,22 +54,22 @@ part-is w part unused d p lt room = getD-table 16 (λ q. pick (ltb q (countOf w)
 pub part-past : {A : Type 0} (w : List ℕ) (part : ℕ → A) (unused d : A) (p : ℕ) → countOf w ≤ p → p < 16 → getD (ofProcesses w part unused) p d ≡ unused
 part-past w part unused d p le room = getD-table 16 (λ q. pick (ltb q (countOf w)) (part q) unused) p d room ∙ rw (le-ltb p (countOf w) le)
 
--- Kept checkpoints: 16 places, unused from `held` on; where every index below `held` is there, they are the checkpoints in their places.
+-- Kept checkpoints: 16 places, unused from `keptCount` on; where every index below `keptCount` is there, they are the checkpoints in their places.
 pub kept-length : (w : List ℕ) (p : ℕ) → length (keptIn w p) ≡ 16
 unfolding keptIn
 kept-length w p = length-table 16 _
 
-pub kept-past : (w : List ℕ) (p k : ℕ) → word w (heldAt p) ≤ k → k < 16 → getD (keptIn w p) k noCheckpoint ≡ noCheckpoint
+pub kept-past : (w : List ℕ) (p k : ℕ) → word w (keptCountAt p) ≤ k → k < 16 → getD (keptIn w p) k noCheckpoint ≡ noCheckpoint
 unfolding keptIn isKeptIn
-kept-past w p k le lt = getD-table 16 _ k noCheckpoint lt ∙ rw (le-ltb k (word w (heldAt p)) le)
+kept-past w p k le lt = getD-table 16 _ k noCheckpoint lt ∙ rw (le-ltb k (word w (keptCountAt p)) le)
 
-pub kept-at : (w : List ℕ) (p k : ℕ) → k < word w (heldAt p) → 1 ≤ word w (indexAt p k) → k < 16 → getD (keptIn w p) k noCheckpoint ≡ checkpointIn w p k
+pub kept-at : (w : List ℕ) (p k : ℕ) → k < word w (keptCountAt p) → 1 ≤ word w (indexAt p k) → k < 16 → getD (keptIn w p) k noCheckpoint ≡ checkpointIn w p k
 unfolding keptIn isKeptIn
-kept-at w p k lt some room = getD-table 16 _ k noCheckpoint room ∙ rw (lt-ltb k (word w (heldAt p)) lt, ne-eqb (word w (indexAt p k)) 0 (λ e. omega arith))
+kept-at w p k lt some room = getD-table 16 _ k noCheckpoint room ∙ rw (lt-ltb k (word w (keptCountAt p)) lt, ne-eqb (word w (indexAt p k)) 0 (λ e. omega arith))
 
 pub kept-none : (w : List ℕ) (p k : ℕ) → word w (indexAt p k) ≡ 0 → k < 16 → getD (keptIn w p) k noCheckpoint ≡ noCheckpoint
 unfolding keptIn isKeptIn
-kept-none w p k none room = getD-table 16 _ k noCheckpoint room ∙ by-bool (ltb k (word w (heldAt p))) (λ e. rw (e, none)) (λ e. rw e)
+kept-none w p k none room = getD-table 16 _ k noCheckpoint room ∙ by-bool (ltb k (word w (keptCountAt p))) (λ e. rw (e, none)) (λ e. rw e)
 
 -- A list laid into a table of fixed size: its entries, and those past it. A table that holds nothing from a place on is its front, laid into a table.
 module _ {A : Type 0} (n : ℕ) (d : A) where
@@ -94,19 +94,19 @@ module _ {A : Type 0} (n : ℕ) (d : A) where
       (λ less. placed-at (take h l) k (omega arith) ∙ getD-take h l k d less)
       (λ more. placed-past (take h l) k (omega arith) (omega arith) ∙ sym (past k more (omega arith))))
 
-module _ (w : List ℕ) (p : ℕ) (most : word w (heldAt p) ≤ 16) where
+module _ (w : List ℕ) (p : ℕ) (most : word w (keptCountAt p) ≤ 16) where
   pub kept-placed : placed mostProcesses noCheckpoint (processIn w p .kept) ≡ keptIn w p
   unfolding processIn
-  kept-placed = placed-front 16 noCheckpoint (keptIn w p) (word w (heldAt p)) (kept-length w p) most (kept-past w p)
+  kept-placed = placed-front 16 noCheckpoint (keptIn w p) (word w (keptCountAt p)) (kept-length w p) most (kept-past w p)
 
-  pub kept-count : length (processIn w p .kept) ≡ word w (heldAt p)
+  pub kept-count : length (processIn w p .kept) ≡ word w (keptCountAt p)
   unfolding processIn
-  kept-count = length-take-le (word w (heldAt p)) (keptIn w p) (omega (arith, kept-length w p))
+  kept-count = length-take-le (word w (keptCountAt p)) (keptIn w p) (omega (arith, kept-length w p))
 
-  pub kept-table : ((k : ℕ) → k < word w (heldAt p) → 1 ≤ word w (indexAt p k)) → processIn w p .kept ≡ table (word w (heldAt p)) (checkpointIn w p)
+  pub kept-table : ((k : ℕ) → k < word w (keptCountAt p) → 1 ≤ word w (indexAt p k)) → processIn w p .kept ≡ table (word w (keptCountAt p)) (checkpointIn w p)
   unfolding processIn
-  kept-table some = table-is noCheckpoint (take (word w (heldAt p)) (keptIn w p)) (word w (heldAt p)) (checkpointIn w p) kept-count
-      (λ k lt. getD-take (word w (heldAt p)) (keptIn w p) k noCheckpoint lt ∙ kept-at w p k lt (some k lt) (omega arith))
+  kept-table some = table-is noCheckpoint (take (word w (keptCountAt p)) (keptIn w p)) (word w (keptCountAt p)) (checkpointIn w p) kept-count
+      (λ k lt. getD-take (word w (keptCountAt p)) (keptIn w p) k noCheckpoint lt ∙ kept-at w p k lt (some k lt) (omega arith))
 
 -- The parts of the run.
 module _ (w : List ℕ) (fit : fits w ≡ true) where
@@ -144,9 +144,9 @@ module _ (w : List ℕ) (fit : fits w ≡ true) where
   under-way-is e = rw (underway-is, messages-is, e) (take-placed mostUnderWay noMessage (messagesIn w))
 
   module _ (p : ℕ) (lt : p < countOf w) (few : countOf w ≤ 16) where
-    pub held-is : getD (runOf w .held) p 0 ≡ word w (heldAt p)
+    pub kept-count-is : getD (runOf w .«kept_count») p 0 ≡ word w (keptCountAt p)
     unfolding decoded
-    held-is = ap (λ (r : Run). getD (r .held) p 0) (run-fits w fit) ∙ part-is w (λ q. word w (heldAt q)) 0 0 p lt (omega arith)
+    kept-count-is = ap (λ (r : Run). getD (r .«kept_count») p 0) (run-fits w fit) ∙ part-is w (λ q. word w (keptCountAt q)) 0 0 p lt (omega arith)
 
     pub row-is : getD (runOf w .kept .0) p [] ≡ keptIn w p
     unfolding decoded
@@ -161,7 +161,7 @@ module _ (w : List ℕ) (fit : fits w ≡ true) where
           part-is w (λ q. vectorIn w (partAt q)) zeroVector [] p lt room,
           part-is w (λ q. pinsIn w (pinsAt q)) noPins [] p lt room,
           part-is w (markIn w) false false p lt room,
-          part-is w (λ q. word w (heldAt q)) 0 0 p lt room,
+          part-is w (λ q. word w (keptCountAt q)) 0 0 p lt room,
           part-is w (keptIn w) (replicate mostProcesses noCheckpoint) [] p lt room,
         ))
 

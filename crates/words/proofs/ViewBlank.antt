@@ -15,7 +15,7 @@ use Rattle.laws.specs.Tables.{table-same, table-replicate}
 use Rattle.model.specs.declared.Interval.{Interval}
 use Rattle.model.specs.declared.Pin.the-variants.{Nothing}
 use Rattle.model.specs.Words.{mostProcesses, mostUnderWay, zeroVector, noPins, noCheckpoint, noMessage, blank}
-use Rattle.words.specs.Layout.{word, countOf, heldAt, markAt, blocksAt, partAt, pinsAt, indexAt, causeAt, storedAt, lowAt, highAt, senderAt, receiverAt, carriedAt, pinOf, vectorIn, pinsIn, markIn, checkpointIn, isKeptIn, keptIn, messagesIn, ofProcesses, decoded, endFits, fits, runOf}
+use Rattle.words.specs.Layout.{word, countOf, keptCountAt, markAt, blocksAt, partAt, pinsAt, indexAt, causeAt, storedAt, lowAt, highAt, senderAt, receiverAt, carriedAt, pinOf, vectorIn, pinsIn, markIn, checkpointIn, isKeptIn, keptIn, messagesIn, ofProcesses, decoded, endFits, fits, runOf}
 use Rattle.words.specs.Clean.{Clean}
 use Rattle.words.proofs.Same.{vector-is}
 use Rattle.words.proofs.View.{run-fits, fits-by}
@@ -36,7 +36,7 @@ module _ (w : List ℕ) (front : (k : ℕ) → 1 ≤ k → k < 48 → word w k �
   none-kept : (p : ℕ) → p < 16 → keptIn w p ≡ replicate mostProcesses noCheckpoint
   unfolding keptIn isKeptIn
   none-kept p lt = table-same 16 (λ k. pick (isKeptIn w p k) (checkpointIn w p k) noCheckpoint) (λ k. noCheckpoint)
-      (λ k less. rw (le-ltb k (word w (heldAt p)) (omega (arith, front (heldAt p) (omega arith) (omega arith)))))
+      (λ k less. rw (le-ltb k (word w (keptCountAt p)) (omega (arith, front (keptCountAt p) (omega arith) (omega arith)))))
       ∙ sym (table-replicate 16 noCheckpoint)
 
   unused-rows : {A : Type 0} (part : ℕ → A) (unused : A) → ((p : ℕ) → p < 16 → part p ≡ unused) → ofProcesses w part unused ≡ replicate mostProcesses unused
@@ -59,7 +59,7 @@ module _ (w : List ℕ) (front : (k : ℕ) → 1 ≤ k → k < 48 → word w k �
     unused-rows (λ p. pinsIn w (pinsAt p)) noPins (λ p lt. no-pins (pinsAt p) (omega arith)),
     unused-rows (markIn w) false no-mark,
     unused-rows (keptIn w) (replicate mostProcesses noCheckpoint) none-kept,
-    unused-rows (λ p. word w (heldAt p)) 0 (λ p lt. front (heldAt p) (omega arith) (omega arith)),
+    unused-rows (λ p. word w (keptCountAt p)) 0 (λ p lt. front (keptCountAt p) (omega arith) (omega arith)),
     no-messages,
     placed-none mostUnderWay noMessage,
     front 1 (omega arith) (omega arith),
@@ -85,7 +85,7 @@ module _ (w : List ℕ) (front : (k : ℕ) → 1 ≤ k → k < 48 → word w k �
   pub blank-clean : ((p : ℕ) → countOf w ≤ p → p < 16 → word w (blocksAt p) ≡ 0) → Clean w
   blank-clean blocks = record {
     spare = λ k low lt. front k (omega arith) (omega arith);
-    held = λ q le lt. front (heldAt q) (omega arith) (omega arith);
+    «kept_count» = λ q le lt. front (keptCountAt q) (omega arith) (omega arith);
     mark = λ q le lt. front (markAt q) (omega arith) (omega arith);
     blocks = blocks;
     part = λ q k le lt less. rest (partAt q + k) (omega arith);

@@ -14,27 +14,27 @@ use Rattle.laws.specs.Tables.{table-same, table-set}
 use Rattle.laws.specs.Update.{upd, upd-same, upd-other}
 use Rattle.model.specs.declared.Run.{Run}
 use Rattle.model.specs.Words.{mostProcesses, zeroVector, noPins, noCheckpoint, withProcess, withMessages, withDisk}
-use Rattle.words.specs.Layout.{word, wide2, wide4, countOf, endOf, heldAt, markAt, blocksAt, partAt, pinsAt, lowAt, highAt, senderAt, receiverAt, carriedAt, vectorIn, pinsIn, markIn, keptIn, messageIn, isMessage, messagesIn, ofProcesses, decoded, endFits, fits, runOf}
+use Rattle.words.specs.Layout.{word, wide2, wide4, countOf, endOf, keptCountAt, markAt, blocksAt, partAt, pinsAt, lowAt, highAt, senderAt, receiverAt, carriedAt, vectorIn, pinsIn, markIn, keptIn, messageIn, isMessage, messagesIn, ofProcesses, decoded, endFits, fits, runOf}
 use Rattle.words.specs.Parts.{processIn}
 use Rattle.words.specs.Frames.{OnlyProcess, OnlyMessages, OnlyDisk}
 use Rattle.words.proofs.Same.{vector-same, pins-same, kept-same, message-same}
-use Rattle.words.proofs.Frames.{process-head, process-blocks, process-held, process-mark, process-part, process-mail}
+use Rattle.words.proofs.Frames.{process-head, process-blocks, process-kept-count, process-mark, process-part, process-message-words}
 use Rattle.words.proofs.View.{run-fits, fits-size, fits-end, fits-by, kept-placed, kept-count}
 
 -- Words that agree on the places of messages and on their end hold the same messages.
 module _ (w v : List ℕ) (end : endOf v ≡ endOf w) (same : (k : ℕ) → 5184 ≤ k → word v k ≡ word w k) where
-  pub mail-same : (k : ℕ) → messageIn v k ≡ messageIn w k
-  mail-same k = message-same v w k k
+  pub message-words-same : (k : ℕ) → messageIn v k ≡ messageIn w k
+  message-words-same k = message-same v w k k
       (same (lowAt k) (omega arith)) (same (highAt k) (omega arith)) (same (senderAt k) (omega arith)) (same (receiverAt k) (omega arith))
       (λ f lt. same (carriedAt k + f) (omega arith))
 
   pub messages-same : messagesIn v ≡ messagesIn w
   unfolding messagesIn
-  messages-same = rw (end) (ap (select isMessage) (table-same (endOf w) (messageIn v) (messageIn w) (λ k lt. mail-same k)))
+  messages-same = rw (end) (ap (select isMessage) (table-same (endOf w) (messageIn v) (messageIn w) (λ k lt. message-words-same k)))
 
   pub end-same : endFits v ≡ endFits w
   unfolding endFits
-  end-same = rw (end, mail-same (endOf w - 1))
+  end-same = rw (end, message-words-same (endOf w - 1))
 
 -- A process.
 module _ (w v : List ℕ) (p : ℕ) (fit : fits w ≡ true) (lt : p < countOf w) (few : countOf w ≤ 16) (only : OnlyProcess w v p) where
@@ -42,7 +42,7 @@ module _ (w v : List ℕ) (p : ℕ) (fit : fits w ≡ true) (lt : p < countOf w)
   room = omega arith
 
   pub process-fits : fits v ≡ true
-  process-fits = fits-by v (only .size ∙ fits-size w fit) (end-same w v (process-head w v p only 12 (omega arith)) (process-mail w v p only room) ∙ fits-end w fit)
+  process-fits = fits-by v (only .size ∙ fits-size w fit) (end-same w v (process-head w v p only 12 (omega arith)) (process-message-words w v p only room) ∙ fits-end w fit)
 
   one-changed : {A : Type 0} (f g : ℕ → A) (unused x : A) → f p ≡ x → ((q : ℕ) → q < 16 → (q ≡ p → ⊥) → f q ≡ g q) → ofProcesses v f unused ≡ set (ofProcesses w g unused) p x
   one-changed {A = A} f g unused x e same =
@@ -69,16 +69,16 @@ module _ (w v : List ℕ) (p : ℕ) (fit : fits w ≡ true) (lt : p < countOf w)
   marks-changed = one-changed (markIn v) (markIn w) false (markIn v p) refl mark-same
 
   pub rows-same : (q : ℕ) → q < 16 → (q ≡ p → ⊥) → keptIn v q ≡ keptIn w q
-  rows-same q less ne = kept-same v w q (process-held w v p only q room less ne) (process-blocks w v p only q room less)
+  rows-same q less ne = kept-same v w q (process-kept-count w v p only q room less ne) (process-blocks w v p only q room less)
       (λ k low under. process-part w v p only q room less ne k (omega arith) (omega arith))
 
   kept-changed : ofProcesses v (keptIn v) (replicate mostProcesses noCheckpoint) ≡ set (ofProcesses w (keptIn w) (replicate mostProcesses noCheckpoint)) p (keptIn v p)
   kept-changed = one-changed (keptIn v) (keptIn w) (replicate mostProcesses noCheckpoint) (keptIn v p) refl rows-same
 
-  held-changed : ofProcesses v (λ q. word v (heldAt q)) 0 ≡ set (ofProcesses w (λ q. word w (heldAt q)) 0) p (word v (heldAt p))
-  held-changed = one-changed (λ q. word v (heldAt q)) (λ q. word w (heldAt q)) 0 (word v (heldAt p)) refl (λ q less ne. process-held w v p only q room less ne)
+  kept-count-changed : ofProcesses v (λ q. word v (keptCountAt q)) 0 ≡ set (ofProcesses w (λ q. word w (keptCountAt q)) 0) p (word v (keptCountAt p))
+  kept-count-changed = one-changed (λ q. word v (keptCountAt q)) (λ q. word w (keptCountAt q)) 0 (word v (keptCountAt p)) refl (λ q less ne. process-kept-count w v p only q room less ne)
 
-  decoded-process : word v (heldAt p) ≤ 16 → decoded v ≡ withProcess (decoded w) p (processIn v p)
+  decoded-process : word v (keptCountAt p) ≤ 16 → decoded v ≡ withProcess (decoded w) p (processIn v p)
   unfolding decoded withProcess processIn
   decoded-process most = rw (
     kept-placed v p most,
@@ -87,8 +87,8 @@ module _ (w v : List ℕ) (p : ℕ) (fit : fits w ≡ true) (lt : p < countOf w)
     pins-changed,
     marks-changed,
     kept-changed,
-    held-changed,
-    messages-same w v (process-head w v p only 12 (omega arith)) (process-mail w v p only room),
+    kept-count-changed,
+    messages-same w v (process-head w v p only 12 (omega arith)) (process-message-words w v p only room),
     process-head w v p only 0 (omega arith),
     process-head w v p only 1 (omega arith),
     process-head w v p only 2 (omega arith),
@@ -103,7 +103,7 @@ module _ (w v : List ℕ) (p : ℕ) (fit : fits w ≡ true) (lt : p < countOf w)
     process-head w v p only 11 (omega arith),
   )
 
-  pub with-process : word v (heldAt p) ≤ 16 → runOf v ≡ withProcess (runOf w) p (processIn v p)
+  pub with-process : word v (keptCountAt p) ≤ 16 → runOf v ≡ withProcess (runOf w) p (processIn v p)
   with-process most = run-fits v process-fits ∙ decoded-process most ∙ ap (λ (r : Run). withProcess r p (processIn v p)) (sym (run-fits w fit))
 
 -- The messages.
@@ -125,9 +125,9 @@ module _ (w v : List ℕ) (only : OnlyMessages w v) where
         (λ q less. pins-same v w (pinsAt q) (pinsAt q) (λ f under. only .rest (pinsAt q + f) (omega arith) (omega arith))),
     messages-parts (markIn v) (markIn w) false mark-stays,
     messages-parts (keptIn v) (keptIn w) (replicate mostProcesses noCheckpoint)
-        (λ q less. kept-same v w q (only .rest (heldAt q) (omega arith) (omega arith)) (only .rest (blocksAt q) (omega arith) (omega arith))
+        (λ q less. kept-same v w q (only .rest (keptCountAt q) (omega arith) (omega arith)) (only .rest (blocksAt q) (omega arith) (omega arith))
         (λ k low under. only .rest k (omega arith) (omega arith))),
-    messages-parts (λ q. word v (heldAt q)) (λ q. word w (heldAt q)) 0 (λ q less. only .rest (heldAt q) (omega arith) (omega arith)),
+    messages-parts (λ q. word v (keptCountAt q)) (λ q. word w (keptCountAt q)) 0 (λ q less. only .rest (keptCountAt q) (omega arith) (omega arith)),
     counted,
     only .count,
     only .disk 4 (omega arith) (omega arith),
@@ -166,8 +166,8 @@ module _ (w v : List ℕ) (only : OnlyDisk w v) where
         (λ q less. pins-same v w (pinsAt q) (pinsAt q) (λ f under. only .rest (pinsAt q + f) (omega arith))),
     disk-parts (markIn v) (markIn w) false (λ q less. disk-mark q),
     disk-parts (keptIn v) (keptIn w) (replicate mostProcesses noCheckpoint)
-        (λ q less. kept-same v w q (only .rest (heldAt q) (omega arith)) (only .rest (blocksAt q) (omega arith)) (λ k low under. only .rest k (omega arith))),
-    disk-parts (λ q. word v (heldAt q)) (λ q. word w (heldAt q)) 0 (λ q less. only .rest (heldAt q) (omega arith)),
+        (λ q less. kept-same v w q (only .rest (keptCountAt q) (omega arith)) (only .rest (blocksAt q) (omega arith)) (λ k low under. only .rest k (omega arith))),
+    disk-parts (λ q. word v (keptCountAt q)) (λ q. word w (keptCountAt q)) 0 (λ q less. only .rest (keptCountAt q) (omega arith)),
     messages-same w v (only .rest 12 (omega arith)) (λ k low. only .rest k (omega arith)),
     only .front 0 (omega arith),
     only .front 1 (omega arith),

@@ -5,16 +5,16 @@ use mathlib.Core.List.{List}
 use Prim.Native.Nat.{ℕ, _+_, _≤_, _<_}
 use native.Mathlib.Omega.{arith}
 use Rattle.laws.specs.Choice.{by-eq}
-use Rattle.words.specs.Layout.{word, countOf, endOf, heldAt, markAt, blocksAt, partAt, indexAt, causeAt, storedAt, lowAt, highAt, senderAt, receiverAt, carriedAt}
+use Rattle.words.specs.Layout.{word, countOf, endOf, keptCountAt, markAt, blocksAt, partAt, indexAt, causeAt, storedAt, lowAt, highAt, senderAt, receiverAt, carriedAt}
 use Rattle.words.specs.Parts.{isUsedIn}
 use Rattle.words.specs.Frames.{OnlyProcess, OnlyMessages, OnlyDisk}
 use Rattle.words.specs.Clean.{CleanKept, CleanMessages, Clean}
-use Rattle.words.proofs.Frames.{process-head, process-blocks, process-held, process-mark, process-part, process-mail}
-use Rattle.words.proofs.ViewChange.{mail-same}
+use Rattle.words.proofs.Frames.{process-head, process-blocks, process-kept-count, process-mark, process-part, process-message-words}
+use Rattle.words.proofs.ViewChange.{message-words-same}
 
 -- Words that agree on what a process keeps, or on the messages.
-pub clean-kept-same : (w v : List ℕ) (p : ℕ) → word v (heldAt p) ≡ word w (heldAt p) → ((k : ℕ) → partAt p ≤ k → k < partAt p + 320 → word v k ≡ word w k) → CleanKept w p → CleanKept v p
-clean-kept-same w v p held same h = record {
+pub clean-kept-same : (w v : List ℕ) (p : ℕ) → word v (keptCountAt p) ≡ word w (keptCountAt p) → ((k : ℕ) → partAt p ≤ k → k < partAt p + 320 → word v k ≡ word w k) → CleanKept w p → CleanKept v p
+clean-kept-same w v p keptCount same h = record {
   index = λ k le lt. same (indexAt p k) (omega arith) (omega arith) ∙ h .index k (omega arith) lt;
   cause = λ k le lt. same (causeAt p k) (omega arith) (omega arith) ∙ h .cause k (omega arith) lt;
   vector = λ k f le lt less. same (storedAt p k + f) (omega arith) (omega arith) ∙ h .vector k f (omega arith) lt less;
@@ -23,7 +23,7 @@ clean-kept-same w v p held same h = record {
 module _ (w v : List ℕ) (end : endOf v ≡ endOf w) (same : (k : ℕ) → 5184 ≤ k → word v k ≡ word w k) where
   used-same : (k : ℕ) → isUsedIn v k ≡ isUsedIn w k
   unfolding isUsedIn
-  used-same k = rw (end, mail-same w v end same k)
+  used-same k = rw (end, message-words-same w v end same k)
 
   pub clean-messages-same : CleanMessages w → CleanMessages v
   clean-messages-same h = record {
@@ -41,28 +41,28 @@ clean-process w v p below few only kept h =
     let count : countOf v ≡ countOf w = process-head w v p only 0 (omega arith) in
     record {
       spare = λ k low lt. process-head w v p only k lt ∙ h .spare k low lt;
-      held = λ q le lt. process-held w v p only q room lt (λ e. omega arith) ∙ h .held q (omega arith) lt;
+      «kept_count» = λ q le lt. process-kept-count w v p only q room lt (λ e. omega arith) ∙ h .«kept_count» q (omega arith) lt;
       mark = λ q le lt. process-mark w v p only q room lt (λ e. omega arith) ∙ h .mark q (omega arith) lt;
       blocks = λ q le lt. process-blocks w v p only q room lt ∙ h .blocks q (omega arith) lt;
       part = λ q k le lt less. process-part w v p only q room lt (λ e. omega arith) (partAt q + k) (omega arith) (omega arith) ∙ h .part q k (omega arith) lt less;
       kept = λ q lt. by-eq q p
           (λ e. rw e kept)
-          (λ ne. clean-kept-same w v q (process-held w v p only q room (omega arith) ne) (process-part w v p only q room (omega arith) ne) (h .kept q (omega arith)));
-      messages = clean-messages-same w v (process-head w v p only 12 (omega arith)) (process-mail w v p only room) (h .messages);
+          (λ ne. clean-kept-same w v q (process-kept-count w v p only q room (omega arith) ne) (process-part w v p only q room (omega arith) ne) (h .kept q (omega arith)));
+      messages = clean-messages-same w v (process-head w v p only 12 (omega arith)) (process-message-words w v p only room) (h .messages);
     }
 
 -- The messages have changed: the places that are not in use now are to be zero.
 pub clean-messages : (w v : List ℕ) → countOf w ≤ 16 → OnlyMessages w v → CleanMessages v → Clean w → Clean v
-clean-messages w v few only mail h =
+clean-messages w v few only message-words h =
     let count : countOf v ≡ countOf w = only .count in
     record {
       spare = λ k low lt. only .rest k low (omega arith) ∙ h .spare k low lt;
-      held = λ q le lt. only .rest (heldAt q) (omega arith) (omega arith) ∙ h .held q (omega arith) lt;
+      «kept_count» = λ q le lt. only .rest (keptCountAt q) (omega arith) (omega arith) ∙ h .«kept_count» q (omega arith) lt;
       mark = λ q le lt. only .rest (markAt q) (omega arith) (omega arith) ∙ h .mark q (omega arith) lt;
       blocks = λ q le lt. only .rest (blocksAt q) (omega arith) (omega arith) ∙ h .blocks q (omega arith) lt;
       part = λ q k le lt less. only .rest (partAt q + k) (omega arith) (omega arith) ∙ h .part q k (omega arith) lt less;
-      kept = λ q lt. clean-kept-same w v q (only .rest (heldAt q) (omega arith) (omega arith)) (λ k low under. only .rest k (omega arith) (omega arith)) (h .kept q (omega arith));
-      messages = mail;
+      kept = λ q lt. clean-kept-same w v q (only .rest (keptCountAt q) (omega arith) (omega arith)) (λ k low under. only .rest k (omega arith) (omega arith)) (h .kept q (omega arith));
+      messages = message-words;
     }
 
 -- The blocks written and deleted have changed.
@@ -71,10 +71,10 @@ clean-disk w v only h =
     let count : countOf v ≡ countOf w = only .front 0 (omega arith) in
     record {
       spare = λ k low lt. only .rest k (omega arith) ∙ h .spare k low lt;
-      held = λ q le lt. only .rest (heldAt q) (omega arith) ∙ h .held q (omega arith) lt;
+      «kept_count» = λ q le lt. only .rest (keptCountAt q) (omega arith) ∙ h .«kept_count» q (omega arith) lt;
       mark = λ q le lt. only .rest (markAt q) (omega arith) ∙ h .mark q (omega arith) lt;
       blocks = λ q le lt. only .rest (blocksAt q) (omega arith) ∙ h .blocks q (omega arith) lt;
       part = λ q k le lt less. only .rest (partAt q + k) (omega arith) ∙ h .part q k (omega arith) lt less;
-      kept = λ q lt. clean-kept-same w v q (only .rest (heldAt q) (omega arith)) (λ k low under. only .rest k (omega arith)) (h .kept q (omega arith));
+      kept = λ q lt. clean-kept-same w v q (only .rest (keptCountAt q) (omega arith)) (λ k low under. only .rest k (omega arith)) (h .kept q (omega arith));
       messages = clean-messages-same w v (only .rest 12 (omega arith)) (λ k low. only .rest k (omega arith)) (h .messages);
     }

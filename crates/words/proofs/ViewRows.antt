@@ -10,7 +10,7 @@ use lib.Dec.{eqb, leb}
 use lib.ListN.{getD}
 use borrow.Author.Tests.{eqb-true, leb-true}
 use Rattle.laws.specs.Lists.{table}
-use Rattle.laws.specs.Rows.{every-at, every-behind, some-where}
+use Rattle.laws.specs.Rows.{every-at, every-beyond, some-where}
 use Rattle.laws.specs.Search.{all-out}
 use Rattle.laws.specs.Tables.{length-table, getD-table}
 use Rattle.laws.specs.Tests.{every}
@@ -18,11 +18,11 @@ use Rattle.model.specs.declared.Interval.{Interval}
 use Rattle.model.specs.declared.Pin.{Pin}
 use Rattle.model.specs.declared.Pin.the-variants.{Nothing}
 use Rattle.model.specs.declared.Checkpoint.{Checkpoint}
-use Rattle.model.specs.Words.{entry, names, named, noCheckpoint, process, own}
+use Rattle.model.specs.Words.{entry, names, isPinned, noCheckpoint, process, own}
 use Rattle.model.specs.Sound.{within, zeroFrom, sound}
-use Rattle.words.specs.Layout.{word, countOf, heldAt, partAt, pinsAt, indexAt, storedAt, pinOf, vectorIn, pinsIn, checkpointIn, runOf}
+use Rattle.words.specs.Layout.{word, countOf, keptCountAt, partAt, pinsAt, indexAt, storedAt, pinOf, vectorIn, pinsIn, checkpointIn, runOf}
 use Rattle.words.specs.Parts.{processIn}
-use Rattle.words.proofs.Reading.{named-word}
+use Rattle.words.proofs.Reading.{pinned-word}
 use Rattle.words.proofs.Same.{vector-length, vector-word, pins-length}
 use Rattle.words.proofs.View.{count-is}
 use Rattle.words.proofs.ViewSound.{sound-fits, sound-few, sound-known, sound-process-is, sound-own-is, sound-kept-is, sound-part}
@@ -44,7 +44,7 @@ module _ (w : List ℕ) (h : sound (runOf w) ≡ true) where
   zero-word : (at : ℕ) → zeroFrom (runOf w .count) (vectorIn w at) ≡ true → (f : ℕ) → countOf w ≤ f → f < 16 → word w (at + f) ≡ 0
   unfolding zeroFrom
   zero-word at e f le lt =
-      let one = every-behind (λ (x : Interval). eqb (x .0) 0) (runOf w .count) (vectorIn w at) f (record { 0 = 0 }) e (omega (arith, count)) (omega (arith, vector-length w at)) in
+      let one = every-beyond (λ (x : Interval). eqb (x .0) 0) (runOf w .count) (vectorIn w at) f (record { 0 = 0 }) e (omega (arith, count)) (omega (arith, vector-length w at)) in
       eqb-true (word w (at + f)) 0 (rw (vector-word w at f lt) at one)
 
   module _ (p : ℕ) (lt : p < countOf w) where
@@ -58,25 +58,25 @@ module _ (w : List ℕ) (h : sound (runOf w) ≡ true) where
     vector-zero = zero-word (partAt p) (rw (sound-process-is w h p lt) at (sound-known w h p lt .vector-unused))
 
     -- a test that every kept checkpoint passes, in its place
-    kept-fact : (t : Checkpoint → Bool) → every t (process (runOf w) p .kept) ≡ true → (k : ℕ) → k < word w (heldAt p) → t (checkpointIn w p k) ≡ true
+    kept-fact : (t : Checkpoint → Bool) → every t (process (runOf w) p .kept) ≡ true → (k : ℕ) → k < word w (keptCountAt p) → t (checkpointIn w p k) ≡ true
     kept-fact t e k less =
-        let all : every t (table (word w (heldAt p)) (checkpointIn w p)) ≡ true = rw (sound-kept-is w h p lt) at e in
-        let one = every-at t (table (word w (heldAt p)) (checkpointIn w p)) k noCheckpoint (omega (arith, length-table (word w (heldAt p)) (checkpointIn w p))) all in
-        rw (getD-table (word w (heldAt p)) (checkpointIn w p) k noCheckpoint less) at one
+        let all : every t (table (word w (keptCountAt p)) (checkpointIn w p)) ≡ true = rw (sound-kept-is w h p lt) at e in
+        let one = every-at t (table (word w (keptCountAt p)) (checkpointIn w p)) k noCheckpoint (omega (arith, length-table (word w (keptCountAt p)) (checkpointIn w p))) all in
+        rw (getD-table (word w (keptCountAt p)) (checkpointIn w p) k noCheckpoint less) at one
 
-    pub stored-within : (k : ℕ) → k < word w (heldAt p) → (f : ℕ) → f < countOf w → word w (storedAt p k + f) ≤ word w (partAt f + f)
+    pub stored-within : (k : ℕ) → k < word w (keptCountAt p) → (f : ℕ) → f < countOf w → word w (storedAt p k + f) ≤ word w (partAt f + f)
     unfolding checkpointIn
     stored-within k less = within-word (storedAt p k) (kept-fact (λ c. within (runOf w) (c .vector)) (sound-known w h p lt .stored-within) k less)
 
-    pub stored-zero : (k : ℕ) → k < word w (heldAt p) → (f : ℕ) → countOf w ≤ f → f < 16 → word w (storedAt p k + f) ≡ 0
+    pub stored-zero : (k : ℕ) → k < word w (keptCountAt p) → (f : ℕ) → countOf w ≤ f → f < 16 → word w (storedAt p k + f) ≡ 0
     unfolding checkpointIn
     stored-zero k less = zero-word (storedAt p k) (kept-fact (λ c. zeroFrom (runOf w .count) (c .vector)) (sound-known w h p lt .stored-unused) k less)
 
-    pub kept-pinned : (k : ℕ) → k < word w (heldAt p) → (f : ℕ) × (f < 16) × (word w (pinsAt p + f) ≡ word w (indexAt p k))
-    unfolding processIn checkpointIn named
+    pub kept-pinned : (k : ℕ) → k < word w (keptCountAt p) → (f : ℕ) × (f < 16) × (word w (pinsAt p + f) ≡ word w (indexAt p k))
+    unfolding processIn checkpointIn isPinned
     kept-pinned k less =
-        let e = kept-fact (named (process (runOf w) p .pins)) (sound-known w h p lt .kept-pinned) k less in
+        let e = kept-fact (isPinned (process (runOf w) p .pins)) (sound-known w h p lt .kept-pinned) k less in
         let some = rw (sound-process-is w h p lt) at e in
         let found = some-where (λ (pin : Pin). names pin (checkpointIn w p k .index)) (pinsIn w (pinsAt p)) Nothing some in
         let under : found .0 < 16 = omega (arith, found .1, pins-length w (pinsAt p)) in
-        (found .0, under, named-word (word w (pinsAt p + found .0)) (word w (indexAt p k)) (sound-part w h p lt .used k less) (rw (pins-word w (pinsAt p) (found .0) under) at (found .2)))
+        (found .0, under, pinned-word (word w (pinsAt p + found .0)) (word w (indexAt p k)) (sound-part w h p lt .used k less) (rw (pins-word w (pinsAt p) (found .0) under) at (found .2)))

@@ -41,9 +41,9 @@ module _ (w : List ℕ) where
   unfolding decoded blank
   kept-size = of-all (λ (r : Run). length (r .kept .0) ≡ mostProcesses) (λ e. length-table 16 _) refl
 
-  pub held-size : length (runOf w .held) ≡ mostProcesses
+  pub kept-count-size : length (runOf w .«kept_count») ≡ mostProcesses
   unfolding decoded blank
-  held-size = of-all (λ (r : Run). length (r .held) ≡ mostProcesses) (λ e. length-table 16 _) refl
+  kept-count-size = of-all (λ (r : Run). length (r .«kept_count») ≡ mostProcesses) (λ e. length-table 16 _) refl
 
   pub messages-size : length (runOf w .messages) ≡ mostUnderWay
   unfolding decoded blank

@@ -13,7 +13,7 @@ use borrow.Author.Tests.{eqb-true, eqb-false, leb-true, not-true}
 use Rattle.laws.specs.Choice.{by-bool, by-eq}
 use Rattle.laws.specs.Lists.{select, lastOf, table, placed}
 use Rattle.laws.specs.Prefixes.{placed-length}
-use Rattle.laws.specs.Rows.{by-lt, every-at, every-behind}
+use Rattle.laws.specs.Rows.{by-lt, every-at, every-beyond}
 use Rattle.laws.specs.Select.{lastOf-snoc}
 use Rattle.laws.specs.Tables.{length-table, getD-table}
 use Rattle.laws.specs.Tests.{every}
@@ -25,29 +25,29 @@ use Rattle.model.specs.declared.Message.{Message}
 use Rattle.model.specs.Words.{mostProcesses, mostUnderWay, mostMessages, mostBlockCount, mostBlocks, entry, Process, noCheckpoint, noMessage, blockCount, blank, process, own, underWay}
 use Rattle.model.specs.Sound.{ascending, messageSound, unusedMessage, causeSound, isBlockCount, recordSound, sound}
 use Rattle.model.specs.laws.Sound.{SoundProcess, SoundState, sound-message, sound-state}
-use Rattle.words.specs.Layout.{word, wide2, wide4, countOf, endOf, heldAt, blocksAt, partAt, pinsAt, indexAt, storedAt, intervalOf, pinOf, vectorIn, pinsIn, checkpointIn, keptIn, messageIn, isMessage, messagesIn, fits, runOf}
+use Rattle.words.specs.Layout.{word, wide2, wide4, countOf, endOf, keptCountAt, blocksAt, partAt, pinsAt, indexAt, storedAt, intervalOf, pinOf, vectorIn, pinsIn, checkpointIn, keptIn, messageIn, isMessage, messagesIn, fits, runOf}
 use Rattle.words.specs.Parts.{processIn}
 use Rattle.words.proofs.Ascending.{ascending-least, ascending-less, selected-less, every-selected, selected-passes}
-use Rattle.words.proofs.Reading.{named-word}
+use Rattle.words.proofs.Reading.{pinned-word}
 use Rattle.words.proofs.Same.{vector-word}
-use Rattle.words.proofs.View.{run-unfit, fits-size, fits-end, end-most, kept-length, kept-at, kept-none, kept-table, kept-placed, placed-at, placed-past, count-is, underway-is, last-is, written-is, deleted-is, messages-is, messages-most, under-way-is, held-is, process-is, own-is}
+use Rattle.words.proofs.View.{run-unfit, fits-size, fits-end, end-most, kept-length, kept-at, kept-none, kept-table, kept-placed, placed-at, placed-past, count-is, underway-is, last-is, written-is, deleted-is, messages-is, messages-most, under-way-is, kept-count-is, process-is, own-is}
 
 -- What they hold of process p.
 pub record SoundPart (w : List ℕ) (p : ℕ) : Type 0 where
   -- "Own entries at least 1."
   pub own-some : 1 ≤ word w (partAt p + p)
   -- "Each process keeps 1 to n checkpoints,"
-  pub held-some : 1 ≤ word w (heldAt p)
-  pub held-most : word w (heldAt p) ≤ countOf w
+  pub kept-count-some : 1 ≤ word w (keptCountAt p)
+  pub kept-count-most : word w (keptCountAt p) ≤ countOf w
   -- which stand in their places,
-  pub used : (k : ℕ) → k < word w (heldAt p) → 1 ≤ word w (indexAt p k)
-  pub kept-is : processIn w p .kept ≡ table (word w (heldAt p)) (checkpointIn w p)
-  pub row-is : keptIn w p ≡ placed mostProcesses noCheckpoint (table (word w (heldAt p)) (checkpointIn w p))
+  pub used : (k : ℕ) → k < word w (keptCountAt p) → 1 ≤ word w (indexAt p k)
+  pub kept-is : processIn w p .kept ≡ table (word w (keptCountAt p)) (checkpointIn w p)
+  pub row-is : keptIn w p ≡ placed mostProcesses noCheckpoint (table (word w (keptCountAt p)) (checkpointIn w p))
   -- "indexes ascending, each one's own entry equal to its index; the last is the own entry minus 1 and the own pin names it."
-  pub ascend : (j k : ℕ) → j < k → k < word w (heldAt p) → word w (indexAt p j) < word w (indexAt p k)
-  pub stored-own : (k : ℕ) → k < word w (heldAt p) → word w (storedAt p k + p) + 1 ≡ word w (indexAt p k)
-  pub last-index : word w (indexAt p (word w (heldAt p) - 1)) ≡ word w (partAt p + p)
-  pub index-most : (k : ℕ) → k < word w (heldAt p) → word w (indexAt p k) ≤ word w (partAt p + p)
+  pub ascend : (j k : ℕ) → j < k → k < word w (keptCountAt p) → word w (indexAt p j) < word w (indexAt p k)
+  pub stored-own : (k : ℕ) → k < word w (keptCountAt p) → word w (storedAt p k + p) + 1 ≡ word w (indexAt p k)
+  pub last-index : word w (indexAt p (word w (keptCountAt p) - 1)) ≡ word w (partAt p + p)
+  pub index-most : (k : ℕ) → k < word w (keptCountAt p) → word w (indexAt p k) ≤ word w (partAt p + p)
   pub own-pin : word w (pinsAt p + p) ≡ word w (partAt p + p)
   -- Note 5: "block counts from 1 to 65,535"
   pub blocks-some : 1 ≤ word w (blocksAt p)
@@ -110,21 +110,21 @@ module _ (w : List ℕ) (h : sound (runOf w) ≡ true) where
     pub sound-own-is : own (runOf w) p ≡ intervalOf (word w (partAt p + p))
     sound-own-is = own-is w sound-fits p lt sound-few
 
-    some-held : 1 ≤ word w (heldAt p)
-    some-held = omega (arith, sound-known .held-some, held-is w sound-fits p lt sound-few)
+    some-kept-count : 1 ≤ word w (keptCountAt p)
+    some-kept-count = omega (arith, sound-known .kept-count-some, kept-count-is w sound-fits p lt sound-few)
 
-    most-held : word w (heldAt p) ≤ countOf w
-    most-held = omega (arith, sound-known .held-most, held-is w sound-fits p lt sound-few, count-is w sound-fits)
+    most-kept-count : word w (keptCountAt p) ≤ countOf w
+    most-kept-count = omega (arith, sound-known .kept-count-most, kept-count-is w sound-fits p lt sound-few, count-is w sound-fits)
 
-    records : every (recordSound (process (runOf w) p)) (take (word w (heldAt p)) (keptIn w p)) ≡ true
+    records : every (recordSound (process (runOf w) p)) (take (word w (keptCountAt p)) (keptIn w p)) ≡ true
     unfolding processIn
     records = ap (λ (P : Process). every (recordSound (process (runOf w) p)) (P .kept)) (sym sound-process-is) ∙ sound-known .records-sound
 
-    record-at : (k : ℕ) → k < word w (heldAt p) → recordSound (process (runOf w) p) (getD (keptIn w p) k noCheckpoint) ≡ true
+    record-at : (k : ℕ) → k < word w (keptCountAt p) → recordSound (process (runOf w) p) (getD (keptIn w p) k noCheckpoint) ≡ true
     record-at k less =
-        let long : length (take (word w (heldAt p)) (keptIn w p)) ≡ word w (heldAt p) = length-take-le (word w (heldAt p)) (keptIn w p) (omega (arith, most-held, sound-few, kept-length w p)) in
-        let one = every-at (recordSound (process (runOf w) p)) (take (word w (heldAt p)) (keptIn w p)) k noCheckpoint (omega arith) records in
-        rw (getD-take (word w (heldAt p)) (keptIn w p) k noCheckpoint less) at one
+        let long : length (take (word w (keptCountAt p)) (keptIn w p)) ≡ word w (keptCountAt p) = length-take-le (word w (keptCountAt p)) (keptIn w p) (omega (arith, most-kept-count, sound-few, kept-length w p)) in
+        let one = every-at (recordSound (process (runOf w) p)) (take (word w (keptCountAt p)) (keptIn w p)) k noCheckpoint (omega arith) records in
+        rw (getD-take (word w (keptCountAt p)) (keptIn w p) k noCheckpoint less) at one
 
     -- a record's block count
     blocks-of : (P : Process) (c : Checkpoint) → recordSound P c ≡ true → (1 ≤ c .blocks) × (c .blocks ≤ mostBlockCount)
@@ -135,43 +135,43 @@ module _ (w : List ℕ) (h : sound (runOf w) ≡ true) where
         let d = and-out (leb 1 (c .blocks)) (leb (c .blocks) mostBlockCount) (b .1) in
         (leb-true 1 (c .blocks) (d .0), leb-true (c .blocks) mostBlockCount (d .1))
 
-    used-at : (k : ℕ) → k < word w (heldAt p) → 1 ≤ word w (indexAt p k)
+    used-at : (k : ℕ) → k < word w (keptCountAt p) → 1 ≤ word w (indexAt p k)
     used-at k less = by-eq (word w (indexAt p k)) 0
-        (λ none. absurd (let b = blocks-of (process (runOf w) p) noCheckpoint (rw (kept-none w p k none (omega (arith, most-held, sound-few))) at (record-at k less)) in omega (arith, b .0)))
+        (λ none. absurd (let b = blocks-of (process (runOf w) p) noCheckpoint (rw (kept-none w p k none (omega (arith, most-kept-count, sound-few))) at (record-at k less)) in omega (arith, b .0)))
         (λ ne. omega arith)
 
-    here : (k : ℕ) → k < word w (heldAt p) → getD (keptIn w p) k noCheckpoint ≡ checkpointIn w p k
-    here k less = kept-at w p k less (used-at k less) (omega (arith, most-held, sound-few))
+    here : (k : ℕ) → k < word w (keptCountAt p) → getD (keptIn w p) k noCheckpoint ≡ checkpointIn w p k
+    here k less = kept-at w p k less (used-at k less) (omega (arith, most-kept-count, sound-few))
 
     blocks-here : (1 ≤ word w (blocksAt p)) × (word w (blocksAt p) ≤ mostBlockCount)
     unfolding checkpointIn
-    blocks-here = blocks-of (process (runOf w) p) (checkpointIn w p 0) (rw (here 0 some-held) at (record-at 0 some-held))
+    blocks-here = blocks-of (process (runOf w) p) (checkpointIn w p 0) (rw (here 0 some-kept-count) at (record-at 0 some-kept-count))
 
-    in-table : processIn w p .kept ≡ table (word w (heldAt p)) (checkpointIn w p)
-    in-table = kept-table w p (omega (arith, most-held, sound-few)) used-at
+    in-table : processIn w p .kept ≡ table (word w (keptCountAt p)) (checkpointIn w p)
+    in-table = kept-table w p (omega (arith, most-kept-count, sound-few)) used-at
 
-    pub sound-kept-is : process (runOf w) p .kept ≡ table (word w (heldAt p)) (checkpointIn w p)
+    pub sound-kept-is : process (runOf w) p .kept ≡ table (word w (keptCountAt p)) (checkpointIn w p)
     sound-kept-is = ap (λ (P : Process). P .kept) sound-process-is ∙ in-table
 
-    at : (k : ℕ) → k < word w (heldAt p) → getD (table (word w (heldAt p)) (checkpointIn w p)) k noCheckpoint ≡ checkpointIn w p k
-    at k less = getD-table (word w (heldAt p)) (checkpointIn w p) k noCheckpoint less
+    at : (k : ℕ) → k < word w (keptCountAt p) → getD (table (word w (keptCountAt p)) (checkpointIn w p)) k noCheckpoint ≡ checkpointIn w p k
+    at k less = getD-table (word w (keptCountAt p)) (checkpointIn w p) k noCheckpoint less
 
-    indexes-ascend : ascending 0 (map (λ c. c .index .0) (table (word w (heldAt p)) (checkpointIn w p))) ≡ true
+    indexes-ascend : ascending 0 (map (λ c. c .index .0) (table (word w (keptCountAt p)) (checkpointIn w p))) ≡ true
     indexes-ascend = rw sound-kept-is at (sound-known .kept-ascend)
 
-    ascends : (j k : ℕ) → j < k → k < word w (heldAt p) → word w (indexAt p j) < word w (indexAt p k)
+    ascends : (j k : ℕ) → j < k → k < word w (keptCountAt p) → word w (indexAt p j) < word w (indexAt p k)
     unfolding checkpointIn
     ascends j k less under =
-        let long = length-table (word w (heldAt p)) (checkpointIn w p) in
-        let e = ascending-less (λ (c : Checkpoint). c .index .0) noCheckpoint 0 (table (word w (heldAt p)) (checkpointIn w p)) j k indexes-ascend less (omega arith) in
+        let long = length-table (word w (keptCountAt p)) (checkpointIn w p) in
+        let e = ascending-less (λ (c : Checkpoint). c .index .0) noCheckpoint 0 (table (word w (keptCountAt p)) (checkpointIn w p)) j k indexes-ascend less (omega arith) in
         let e′ = rw (at j (omega arith), at k under) at e in
         omega (arith, used-at j (omega arith), used-at k under, e′)
 
-    owned : (k : ℕ) → k < word w (heldAt p) → word w (storedAt p k + p) + 1 ≡ word w (indexAt p k)
+    owned : (k : ℕ) → k < word w (keptCountAt p) → word w (storedAt p k + p) + 1 ≡ word w (indexAt p k)
     unfolding checkpointIn
     owned k less =
         let all = rw sound-kept-is at (sound-known .kept-own) in
-        let one = every-at (λ (c : Checkpoint). eqb (entry (c .vector) p .0) (c .index .0)) (table (word w (heldAt p)) (checkpointIn w p)) k noCheckpoint (omega (arith, length-table (word w (heldAt p)) (checkpointIn w p))) all in
+        let one = every-at (λ (c : Checkpoint). eqb (entry (c .vector) p .0) (c .index .0)) (table (word w (keptCountAt p)) (checkpointIn w p)) k noCheckpoint (omega (arith, length-table (word w (keptCountAt p)) (checkpointIn w p))) all in
         let same = eqb-true (entry (vectorIn w (storedAt p k)) p .0) (word w (indexAt p k) - 1) (rw (at k less) at one) in
         omega (arith, ap (λ (x : Interval). x .0) (vector-word w (storedAt p k) p room), used-at k less)
 
@@ -182,36 +182,36 @@ module _ (w : List ℕ) (h : sound (runOf w) ≡ true) where
     unfolding table
     last-of n e = ap (λ (m : ℕ). lastOf (table m (checkpointIn w p))) e ∙ lastOf-snoc (table (n - 1) (checkpointIn w p)) (checkpointIn w p (n - 1))
 
-    last-is-own : word w (indexAt p (word w (heldAt p) - 1)) ≡ word w (partAt p + p)
+    last-is-own : word w (indexAt p (word w (keptCountAt p) - 1)) ≡ word w (partAt p + p)
     unfolding checkpointIn
     last-is-own =
-        let e = rw (sound-kept-is, last-of (word w (heldAt p)) (omega (arith, some-held)), sound-own-is) at (sound-known .kept-last) in
-        omega (arith, e, some-own, used-at (word w (heldAt p) - 1) (omega (arith, some-held)))
+        let e = rw (sound-kept-is, last-of (word w (keptCountAt p)) (omega (arith, some-kept-count)), sound-own-is) at (sound-known .kept-last) in
+        omega (arith, e, some-own, used-at (word w (keptCountAt p) - 1) (omega (arith, some-kept-count)))
 
-    under-own : (k : ℕ) → k < word w (heldAt p) → word w (indexAt p k) ≤ word w (partAt p + p)
-    under-own k less = by-eq k (word w (heldAt p) - 1)
+    under-own : (k : ℕ) → k < word w (keptCountAt p) → word w (indexAt p k) ≤ word w (partAt p + p)
+    under-own k less = by-eq k (word w (keptCountAt p) - 1)
         (λ e. omega (arith, last-is-own, ap (λ (j : ℕ). word w (indexAt p j)) e))
-        (λ ne. omega (arith, last-is-own, ascends k (word w (heldAt p) - 1) (omega arith) (omega arith)))
+        (λ ne. omega (arith, last-is-own, ascends k (word w (keptCountAt p) - 1) (omega arith) (omega arith)))
 
-    own-named : word w (pinsAt p + p) ≡ word w (partAt p + p)
+    own-pinned : word w (pinsAt p + p) ≡ word w (partAt p + p)
     unfolding processIn pinsIn
-    own-named =
+    own-pinned =
         let e = rw (sound-process-is, sound-own-is, getD-table 16 (λ f. pinOf (word w (pinsAt p + f))) p Nothing room) at (sound-known .own-pin) in
-        named-word (word w (pinsAt p + p)) (word w (partAt p + p)) some-own e
+        pinned-word (word w (pinsAt p + p)) (word w (partAt p + p)) some-own e
 
     pub sound-part : SoundPart w p
     sound-part = record {
       own-some = some-own;
-      held-some = some-held;
-      held-most = most-held;
+      kept-count-some = some-kept-count;
+      kept-count-most = most-kept-count;
       used = used-at;
       kept-is = in-table;
-      row-is = sym (kept-placed w p (omega (arith, most-held, sound-few))) ∙ ap (placed mostProcesses noCheckpoint) in-table;
+      row-is = sym (kept-placed w p (omega (arith, most-kept-count, sound-few))) ∙ ap (placed mostProcesses noCheckpoint) in-table;
       ascend = ascends;
       stored-own = owned;
       last-index = last-is-own;
       index-most = under-own;
-      own-pin = own-named;
+      own-pin = own-pinned;
       blocks-some = blocks-here .0;
       blocks-most = blocks-here .1;
     }
@@ -239,7 +239,7 @@ module _ (w : List ℕ) (h : sound (runOf w) ≡ true) where
   not-fewer : word w 1 < length (messagesIn w) → ⊥
   not-fewer less =
       let e = rw (underway-is w sound-fits, messages-is w sound-fits) at (state .messages-unused) in
-      let one = every-behind unusedMessage (word w 1) (placed mostUnderWay noMessage (messagesIn w)) (word w 1) noMessage e (omega arith) (omega (arith, whole-table, messages-most w sound-fits)) in
+      let one = every-beyond unusedMessage (word w 1) (placed mostUnderWay noMessage (messagesIn w)) (word w 1) noMessage e (omega arith) (omega (arith, whole-table, messages-most w sound-fits)) in
       no-number (getD (messagesIn w) (word w 1) noMessage) (numbered-at (word w 1) less) (rw (placed-at mostUnderWay noMessage (messagesIn w) (word w 1) less) at one)
 
   not-more : length (messagesIn w) < word w 1 → ⊥

@@ -4,12 +4,12 @@ use mathlib.Core.Path.{_≡_}
 use mathlib.Core.List.{List}
 use Prim.Native.Nat.{ℕ, _+_, _≤_, _<_}
 use lib.ListN.{length}
-use Rattle.words.specs.Layout.{word, heldAt, markAt, partAt}
+use Rattle.words.specs.Layout.{word, keptCountAt, markAt, partAt}
 
 -- Only process p has changed: how many checkpoints it keeps, its mark, the 320 words of its part. Its block count stays.
 pub record OnlyProcess (w v : List ℕ) (p : ℕ) : Type 0 where
   pub size : length v ≡ length w
-  pub front : (k : ℕ) → k < 64 → (k ≡ heldAt p → ⊥) → (k ≡ markAt p → ⊥) → word v k ≡ word w k
+  pub front : (k : ℕ) → k < 64 → (k ≡ keptCountAt p → ⊥) → (k ≡ markAt p → ⊥) → word v k ≡ word w k
   pub lower : (k : ℕ) → 64 ≤ k → k < partAt p → word v k ≡ word w k
   pub upper : (k : ℕ) → partAt p + 320 ≤ k → word v k ≡ word w k
 

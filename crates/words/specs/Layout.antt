@@ -41,8 +41,8 @@ abbrev pub endOf : List ℕ → ℕ
 endOf w = word w 12
 
 -- From word 16 on stands for each process how many checkpoints it keeps, from word 32 on its sent mark (0: not set), from word 48 on its block count.
-abbrev pub heldAt : ℕ → ℕ
-heldAt p = 16 + p
+abbrev pub keptCountAt : ℕ → ℕ
+keptCountAt p = 16 + p
 
 abbrev pub markAt : ℕ → ℕ
 markAt p = 32 + p
@@ -119,7 +119,7 @@ checkpointIn w p k = record {
 
 -- A place of a kept checkpoint is in use up to how many are kept, and where its index is not 0.
 unfoldable pub isKeptIn : List ℕ → ℕ → ℕ → Bool
-isKeptIn w p k = ltb k (word w (heldAt p)) && not (eqb (word w (indexAt p k)) 0)
+isKeptIn w p k = ltb k (word w (keptCountAt p)) && not (eqb (word w (indexAt p k)) 0)
 
 unfoldable pub keptIn : List ℕ → ℕ → List Checkpoint
 keptIn w p = table mostProcesses (λ k. pick (isKeptIn w p k) (checkpointIn w p k) noCheckpoint)
@@ -151,7 +151,7 @@ decoded w = record {
   pins = record { 0 = ofProcesses w (λ p. pinsIn w (pinsAt p)) noPins };
   sent = ofProcesses w (markIn w) false;
   kept = record { 0 = ofProcesses w (keptIn w) (replicate mostProcesses noCheckpoint) };
-  held = ofProcesses w (λ p. word w (heldAt p)) 0;
+  «kept_count» = ofProcesses w (λ p. word w (keptCountAt p)) 0;
   messages = placed mostUnderWay noMessage (messagesIn w);
   underway = word w 1;
   last = wide2 w 2;

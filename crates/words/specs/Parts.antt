@@ -6,7 +6,7 @@ use Prim.Native.Nat.{ℕ}
 use lib.Dec.{ltb}
 use lib.ListN.{take}
 use Rattle.model.specs.Words.{Process}
-use Rattle.words.specs.Layout.{word, endOf, heldAt, partAt, pinsAt, vectorIn, pinsIn, markIn, keptIn, messageIn, isMessage}
+use Rattle.words.specs.Layout.{word, endOf, keptCountAt, partAt, pinsAt, vectorIn, pinsIn, markIn, keptIn, messageIn, isMessage}
 
 -- What the words hold of process p: its vector, its pins, its sent mark, and as many checkpoints as it keeps.
 unfoldable pub processIn : List ℕ → ℕ → Process
@@ -14,7 +14,7 @@ processIn w p = record {
   vector = vectorIn w (partAt p);
   pins = pinsIn w (pinsAt p);
   mark = markIn w p;
-  kept = take (word w (heldAt p)) (keptIn w p);
+  kept = take (word w (keptCountAt p)) (keptIn w p);
 }
 
 -- A place of a message is in use before the end of those in use, and where the number is not 0.

@@ -4,7 +4,7 @@ use model::PROCESSES;
 ghost use mathlib.Core.Path.{_≡_};
 ghost use Prim.Native.Nat.{_<_};
 ghost use Rattle.model.specs.Words.{mostProcesses, mostUnderWay};
-ghost use Rattle.words.specs.Layout.{heldAt, markAt, blocksAt, partAt, pinsAt, indexAt, causeAt, storedAt, lowAt, highAt, senderAt, receiverAt, carriedAt};
+ghost use Rattle.words.specs.Layout.{keptCountAt, markAt, blocksAt, partAt, pinsAt, indexAt, causeAt, storedAt, lowAt, highAt, senderAt, receiverAt, carriedAt};
 
 // How many words a row is: one for each process that a run may have.
 pub const ROW: usize = PROCESSES;
@@ -23,9 +23,9 @@ pub const DELETED: usize = 8;
 pub const END: usize = 12;
 
 // A row of each number that a process has once, from word 16 on.
-pub const HELD: usize = 16;
+pub const KEPT: usize = 16;
 
-pub const MARKS: usize = HELD + ROW;
+pub const MARKS: usize = KEPT + ROW;
 
 pub const BLOCKS: usize = MARKS + ROW;
 
@@ -54,11 +54,11 @@ pub const RECEIVERS: usize = SENDERS + MESSAGES;
 
 pub const CARRIED: usize = RECEIVERS + MESSAGES;
 
-pub fn held_at(p: usize) -> usize
+pub fn kept_count_at(p: usize) -> usize
     requires { ⌜ p < mostProcesses ⌝ }
-    ensures { λ r. ⌜ r ≡ heldAt p ⌝ }
+    ensures { λ r. ⌜ r ≡ keptCountAt p ⌝ }
 {
-    HELD + p
+    KEPT + p
 }
 
 pub fn mark_at(p: usize) -> usize

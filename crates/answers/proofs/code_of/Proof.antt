@@ -5,27 +5,27 @@ use Prim.Native.Nat.{ℕ, _+_, _*_, _<_}
 use native.Mathlib.Omega.{arith}
 use borrow.Author.Needs.{needs}
 use Rattle.listing.specs.Lines.{valueIn}
-use Rattle.listing.specs.Said.{reportIn}
+use Rattle.listing.specs.Summarised.{reportIn}
 use Rattle.listing.specs.declared.Summary.{Summary}
 use Rattle.answers.specs.Codes.{valueCode, coded, Fits}
 use Rattle.answers.proofs.code_of.Statement.{statement}
 use Rattle.answers.proofs.code_of.Tie as tie
 
-small : (said : Summary) → Fits (reportIn said) → (said .refused < 256) × (said .deletions < 32768)
+small : (summary : Summary) → Fits (reportIn summary) → (summary .refused < 256) × (summary .deletions < 32768)
 unfolding reportIn
-small said f = (f .refused, f .deletions)
+small summary f = (f .refused, f .deletions)
 
 mul-result : tie.Need-mul-result
-mul-result c = let b = c .before .before in omega (arith, small (b .args .said) (b .pre))
+mul-result c = let b = c .before .before in omega (arith, small (b .args .summary) (b .pre))
 
 add-result : tie.Need-add-result
-add-result c = let b = c .before .before in omega (arith, small (b .args .said) (b .pre))
+add-result c = let b = c .before .before in omega (arith, small (b .args .summary) (b .pre))
 
 add-result-2 : tie.Need-add-result-2
-add-result-2 c = let b = c .before .before in omega (arith, small (b .args .said) (b .pre), c .before .value-code .ensures)
+add-result-2 c = let b = c .before .before in omega (arith, small (b .args .summary) (b .pre), c .before .value-code .ensures)
 
 add-result-3 : tie.Need-add-result-3
-add-result-3 c = let b = c .before .before in omega (arith, small (b .args .said) (b .pre), c .before .value-code .ensures)
+add-result-3 c = let b = c .before .before in omega (arith, small (b .args .summary) (b .pre), c .before .value-code .ensures)
 
 pub code-of-spec : {M : Type 1} → statement M
 unfolding reportIn coded

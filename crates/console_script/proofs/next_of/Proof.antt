@@ -8,15 +8,15 @@ use Rattle.console_script.proofs.next_of.Tie as tie
 
 returns-2 : tie.Need-returns-2
 unfolding nextOf
-returns-2 c = let held = c .before .before .args .held in rw (ne-eqb held 0 (c .before .if1 .left), lt-ltb held 8 (c .if2 .taken))
+returns-2 c = let buffered = c .before .before .args .buffered in rw (ne-eqb buffered 0 (c .before .if1 .left), lt-ltb buffered 8 (c .if2 .taken))
 
 returns-3 : tie.Need-returns-3
 unfolding nextOf
 returns-3 c =
     let few = c .before in
-    let held = few .before .before .args .held in
-    rw (ne-eqb held 0 (few .before .if1 .left), le-ltb held 8 (few .if2 .left)) (c .call-of .ensures)
+    let buffered = few .before .before .args .buffered in
+    rw (ne-eqb buffered 0 (few .before .if1 .left), le-ltb buffered 8 (few .if2 .left)) (c .call-of .ensures)
 
 pub next-of-spec : {M : Type 1} → statement M
 unfolding nextOf
-next-of-spec = tie.close (tie.spec (λ c. rw (eq-eqb (c .before .args .held) 0 (c .if1 .taken))) returns-2 (λ c κs. search needs) returns-3)
+next-of-spec = tie.close (tie.spec (λ c. rw (eq-eqb (c .before .args .buffered) 0 (c .if1 .taken))) returns-2 (λ c κs. search needs) returns-3)

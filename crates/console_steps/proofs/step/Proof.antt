@@ -3,7 +3,7 @@ use mathlib.Core.Path.{_≡_, refl, sym, _∙_, ap}
 use lib.ListN.{length}
 use Rattle.console_steps.specs.declared.marks.Marks.{Marks}
 use Rattle.console_steps.specs.Lent.{inBounds}
-use Rattle.console_steps.proofs.Stepping.{negated, affirmed, bounded, roomy, not-state, no-room, no-bounds, room-kept, step-stands}
+use Rattle.console_steps.proofs.Stepping.{negated, affirmed, bounded, enoughRoom, not-state, no-room, no-bounds, room-kept, step-stands}
 use borrow.Author.Needs.{needs}
 use Rattle.console_steps.proofs.step.Statement.{statement}
 use Rattle.console_steps.proofs.step.Tie as tie
@@ -12,16 +12,16 @@ returns : tie.Need-returns
 returns c = not-state _ _ _ _ _ (no-room _ _ _ _ _ (sym (c .before .has-room .ensures) ∙ negated _ (c .if1 .taken)))
 
 read-requires : tie.Need-read-requires
-read-requires c κs = roomy _ _ _ _ (sym (c .before .before .has-room .ensures) ∙ affirmed _ (c .before .if1 .left)) .memory-room
+read-requires c κs = enoughRoom _ _ _ _ (sym (c .before .before .has-room .ensures) ∙ affirmed _ (c .before .if1 .left)) .memory-room
 
 returns-2 : tie.Need-returns-2
 returns-2 c = not-state _ _ _ _ _ (no-bounds _ _ _ _ _ (sym (c .before .before .before .before .before .has-room .ensures) ∙ affirmed _ (c .before .before .before .before .if1 .left)) (ap (λ (m : Marks). inBounds m (length (c .before .before .before .before .before .before .before .before .before .before .args .out .now))) (sym (c .before .before .read .ensures)) ∙ sym (c .before .in-bounds .ensures) ∙ negated _ (c .if2 .taken)))
 
 on-requires : tie.Need-on-requires
-on-requires c κs = let b = bounded _ _ (sym (c .before .before .before .in-bounds .ensures) ∙ affirmed _ (c .before .before .if2 .left)) in let r = roomy _ _ _ _ (sym (c .before .before .before .before .before .before .before .has-room .ensures) ∙ affirmed _ (c .before .before .before .before .before .before .if1 .left)) in (b .done, b .kept, r .words-room, r .input-room, r .out-room)
+on-requires c κs = let b = bounded _ _ (sym (c .before .before .before .in-bounds .ensures) ∙ affirmed _ (c .before .before .if2 .left)) in let r = enoughRoom _ _ _ _ (sym (c .before .before .before .before .before .before .before .has-room .ensures) ∙ affirmed _ (c .before .before .before .before .before .before .if1 .left)) in (b .done, b .kept, r .words-room, r .input-room, r .out-room)
 
 put-requires : tie.Need-put-requires
-put-requires c κs = roomy _ _ _ _ (sym (c .before .before .before .before .before .before .before .before .before .before .before .before .before .has-room .ensures) ∙ affirmed _ (c .before .before .before .before .before .before .before .before .before .before .before .before .if1 .left)) .memory-room
+put-requires c κs = enoughRoom _ _ _ _ (sym (c .before .before .before .before .before .before .before .before .before .before .before .before .before .has-room .ensures) ∙ affirmed _ (c .before .before .before .before .before .before .before .before .before .before .before .before .if1 .left)) .memory-room
 
 request-requires : tie.Need-request-requires
 request-requires c κs = bounded _ _ (c .before .before .before .before .before .before .before .before .on .ensures .bounds) .kept

@@ -2,7 +2,7 @@
 -- Assumes nothing.
 use native.Mathlib.Omega.{arith}
 use Prim.Native.Nat.{_-_}
-use Rattle.decision.specs.Held.{Judges, Says}
+use Rattle.decision.specs.Represents.{Judges, Says}
 use Rattle.decision.proofs.Meets.{start-length, sized, linked, is-trackable, reaching, is-breaking, on, off}
 use Rattle.decision.proofs.decide.Statement.{statement}
 use Rattle.decision.proofs.decide.Tie as tie

@@ -12,7 +12,7 @@ use Rattle.merges.specs.Halves.{OrdersAgree}
 use Rattle.merges.specs.Merge.{mergeRefusal, MergePromise}
 use Rattle.merges.proofs.Orders.{orders-agree}
 use Rattle.merges.proofs.Replaying.{Fine, fine, merge-promise}
-use Rattle.halves.proofs.Rules.{behind-is, count-is}
+use Rattle.halves.proofs.Rules.{after-first-is, count-is}
 use Rattle.halves.proofs.Whole.{refused-early, refused-late, merged, accepted, refused}
 use Rattle.halves.proofs.merge.Statement.{statement}
 use Rattle.halves.proofs.merge.Tie as tie
@@ -32,22 +32,22 @@ module _ (start : tie.Start) where
   promised = (merge-promise first second (start .args .set) result, orders-agree)
 
 -- After the first `match`, where the halves are accepted.
-module _ (told : tie.After-enum-told) where
+module _ (matched : tie.After-enum-told) where
   abbrev start : tie.Start
-  start = told .before .before .before .before .before .before
+  start = matched .before .before .before .before .before .before
 
   passed : mergeRefusal (first start) (second start) (start .args .set) (result start) ≡ none
-  passed = let judged = told .before .before .judge-halves in accepted (judged .result) _ (told .enum-told .given .1) (judged .ensures (result start) refl)
+  passed = let judged = matched .before .before .judge-halves in accepted (judged .result) _ (matched .enum-told .given .1) (judged .ensures (result start) refl)
 
   halves : Fine (first start) (second start) (result start)
   halves = fine (first start) (second start) (start .args .set) (result start) passed
 
 take-all-requires : tie.Need-take-all-requires
 take-all-requires c κs =
-    let told = c .before .before in
-    let h = halves told in (
+    let matched = c .before .before in
+    let h = halves matched in (
       (rw (c .before .count-of .ensures) (h .count), omega (arith, h .first-byte), omega (arith, h .second-byte)),
-      (omega (arith, h .few-first, h .few-second, behind-is (first (start told)), behind-is (second (start told))), search needs),
+      (omega (arith, h .few-first, h .few-second, after-first-is (first (start matched)), after-first-is (second (start matched))), search needs),
     )
 
 sub-count : tie.Need-sub-count
@@ -64,9 +64,9 @@ slice-write-result c = let h = halves (c .before .before .before .before .before
 
 write-all-requires : tie.Need-write-all-requires
 write-all-requires c κs =
-    let told = c .before .before .before .before .before .before .before .before .before in
-    let h = halves told in (
-      omega (arith, h .few-first, h .few-second, behind-is (first (start told)), behind-is (second (start told))),
+    let matched = c .before .before .before .before .before .before .before .before .before in
+    let h = halves matched in (
+      omega (arith, h .few-first, h .few-second, after-first-is (first (start matched)), after-first-is (second (start matched))),
       simp length-set (omega (arith, h .first-byte, h .second-byte, h .room)),
     )
 
@@ -79,11 +79,11 @@ returns c =
 
 returns-2 : tie.Need-returns-2
 returns-2 c =
-    let told = c .before .before .before .before .before .before .before in
-    let s = start told in
+    let matched = c .before .before .before .before .before .before .before in
+    let s = start matched in
     let count = c .before .before .before .before .before .before .count-of in
     let taken = c .before .before .before .before .take-all in
-    let late = refused-late (first s) (second s) (s .args .set) (result s) (passed told) (count .result) (count .ensures) _ _ (rw (c .before .taken .given .1) at (taken .ensures)) in
+    let late = refused-late (first s) (second s) (s .args .set) (result s) (passed matched) (count .result) (count .ensures) _ _ (rw (c .before .taken .given .1) at (taken .ensures)) in
     (late .0, (late .1, promised s))
 
 same-length : tie.Need-same-length
@@ -93,12 +93,12 @@ same-length c =
 
 returns-3 : tie.Need-returns-3
 returns-3 c =
-    let told = c .before .before .before .before .before .before .before .before .before .before .before .before in
-    let s = start told in
+    let matched = c .before .before .before .before .before .before .before .before .before .before .before .before in
+    let s = start matched in
     let count = c .before .before .before .before .before .before .before .before .before .before .before .count-of in
     let taken = c .before .before .before .before .before .before .before .before .before .take-all in
-    let all = merged (first s) (second s) (s .args .set) (result s) (passed told) (count .result) (count .ensures) _ (rw (c .before .before .before .before .before .before .enum-told2 .given .1) at (taken .ensures)) in
-    let first-byte = sym (count-is (first s) (halves told .first-byte)) ∙ sym (count .ensures) in
+    let all = merged (first s) (second s) (s .args .set) (result s) (passed matched) (count .result) (count .ensures) _ (rw (c .before .before .before .before .before .before .enum-told2 .given .1) at (taken .ensures)) in
+    let first-byte = sym (count-is (first s) (halves matched .first-byte)) ∙ sym (count .ensures) in
     (all .0, ((rw first-byte at (c .before .before .write-all .ensures)) ∙ all .1, promised s))
 
 pub merge-spec : {M : Type 1} → statement M

@@ -3,7 +3,7 @@
 use borrow.Author.Needs.{needs}
 use denote.Ref.{now}
 use native.Mathlib.Omega.{arith}
-use Rattle.judge_machine.proofs.Standing.{onward-told, onward-read}
+use Rattle.judge_machine.proofs.Standing.{onward-printed, onward-read}
 use Rattle.judge_machine.proofs.go_on.Statement.{statement}
 use Rattle.judge_machine.proofs.go_on.Tie as tie
 
@@ -11,7 +11,7 @@ is-settled-requires : tie.Need-is-settled-requires
 is-settled-requires c κs = let start = c .before .before .before in omega (arith, start .pre .1, start .pre .0 .1)
 
 returns : tie.Need-returns
-returns c = onward-told _ _ _ _ _ (c .before .before .before .before .before .before .before .before .is-settled .ensures) (c .before .before .before .before .before .before .before .if1 .taken) (c .before .before .before .before .tell .ensures)
+returns c = onward-printed _ _ _ _ _ (c .before .before .before .before .before .before .before .before .is-settled .ensures) (c .before .before .before .before .before .before .before .if1 .taken) (c .before .before .before .before .print-verdict .ensures)
 
 returns-2 : tie.Need-returns-2
 returns-2 c = onward-read _ _ _ _ _ (c .before .before .before .before .before .before .is-settled .ensures) (c .before .before .before .before .before .if1 .left) (c .before .before .read-more .ensures)

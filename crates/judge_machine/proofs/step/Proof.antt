@@ -3,7 +3,7 @@
 use mathlib.Core.Path.{sym, _∙_}
 use denote.Ref.{now}
 use native.Mathlib.Omega.{arith}
-use Rattle.judge_machine.proofs.Stepping.{no-room, room-by, is-reading, is-telling, read-too-far, told-too-far, then-stops, stands-as, steps-as}
+use Rattle.judge_machine.proofs.Stepping.{no-room, room-by, is-reading, is-printing, read-too-far, printed-too-far, then-stops, stands-as, steps-as}
 use borrow.Author.Needs.{needs}
 use Rattle.judge_machine.proofs.step.Statement.{statement}
 use Rattle.judge_machine.proofs.step.Tie as tie
@@ -33,13 +33,13 @@ stop-requires-2 : tie.Need-stop-requires-2
 stop-requires-2 c κs = let start = c .before .before .before .before .before .before .before .before .before .before .before in let room = room-by _ _ _ (sym (c .before .before .before .before .before .before .before .lacks-room .ensures) ∙ c .before .before .before .before .before .before .if1 .left) in room .0
 
 returns-4 : tie.Need-returns-4
-returns-4 c = let start = c .before .before .before .before .before .before .before .before .before .before .before .before .before .before in let room = room-by _ _ _ (sym (c .before .before .before .before .before .before .before .before .before .before .lacks-room .ensures) ∙ c .before .before .before .before .before .before .before .before .before .if1 .left) in stands-as _ _ _ _ _ _ (told-too-far (now (start .args .memory)) (now (start .args .input)) (now (start .args .out)) room _ (c .before .before .before .before .before .if4 .taken) (c .before .before .before .before .if5 .taken)) (c .before .before .stop2 .ensures _ _)
+returns-4 c = let start = c .before .before .before .before .before .before .before .before .before .before .before .before .before .before in let room = room-by _ _ _ (sym (c .before .before .before .before .before .before .before .before .before .before .lacks-room .ensures) ∙ c .before .before .before .before .before .before .before .before .before .if1 .left) in stands-as _ _ _ _ _ _ (printed-too-far (now (start .args .memory)) (now (start .args .input)) (now (start .args .out)) room _ (c .before .before .before .before .before .if4 .taken) (c .before .before .before .before .if5 .taken)) (c .before .before .stop2 .ensures _ _)
 
 after-write-requires : tie.Need-after-write-requires
 after-write-requires c κs = let start = c .before .before .before .before .before .before .before .before .before .before .before .before in let room = room-by _ _ _ (sym (c .before .before .before .before .before .before .before .before .lacks-room .ensures) ∙ c .before .before .before .before .before .before .before .if1 .left) in room
 
 returns-5 : tie.Need-returns-5
-returns-5 c = let start = c .before .before .before .before .before .before .before .before .before .before .before .before .before .before .before .before .before in let room = room-by _ _ _ (sym (c .before .before .before .before .before .before .before .before .before .before .before .before .before .lacks-room .ensures) ∙ c .before .before .before .before .before .before .before .before .before .before .before .before .if1 .left) in steps-as _ _ _ _ _ _ _ (is-telling (now (start .args .memory)) (now (start .args .input)) (now (start .args .out)) room (c .before .before .before .before .before .before .before .before .if4 .taken) (c .before .before .before .before .before .before .before .if5 .left)) (c .before .before .before .before .after-write .ensures)
+returns-5 c = let start = c .before .before .before .before .before .before .before .before .before .before .before .before .before .before .before .before .before in let room = room-by _ _ _ (sym (c .before .before .before .before .before .before .before .before .before .before .before .before .before .lacks-room .ensures) ∙ c .before .before .before .before .before .before .before .before .before .before .before .before .if1 .left) in steps-as _ _ _ _ _ _ _ (is-printing (now (start .args .memory)) (now (start .args .input)) (now (start .args .out)) room (c .before .before .before .before .before .before .before .before .if4 .taken) (c .before .before .before .before .before .before .before .if5 .left)) (c .before .before .before .before .after-write .ensures)
 
 stop-requires-3 : tie.Need-stop-requires-3
 stop-requires-3 c κs = let start = c .before .before .before .before .before .before .before .before .before .before in let room = room-by _ _ _ (sym (c .before .before .before .before .before .before .lacks-room .ensures) ∙ c .before .before .before .before .before .if1 .left) in room .0

@@ -13,10 +13,10 @@ use Rattle.listing.proofs.write_accepted.Tie as tie
 
 -- The text from the value on, and the text from the count on.
 abbrev from-count : tie.Start → List ℕ
-from-count c = decimal (c .args .said .deletions) ++ deletionsText (c .args .said .deletions) (now (c .args .deleted))
+from-count c = decimal (c .args .summary .deletions) ++ deletionsText (c .args .summary .deletions) (now (c .args .deleted))
 
 abbrev from-value : tie.Start → List ℕ
-from-value c = valueText (valueIn (c .args .said .value)) ++ (space ∷ from-count c)
+from-value c = valueText (valueIn (c .args .summary .value)) ++ (space ∷ from-count c)
 
 -- The room that is left after each text.
 room-1 : (c : tie.After-write-byte) → Room (c .write-byte .last .0) (c .write-byte .result) (from-value (c .before .before .before .before))
@@ -39,7 +39,7 @@ write-value-requires : tie.Need-write-value-requires
 write-value-requires c κs =
     let p = c .before .before .before in
     let start = p .before .before .before .before in
-    room-first (p .write-byte .last .0) (p .write-byte .result) (valueText (valueIn (start .args .said .value))) (space ∷ from-count start) (room-1 p)
+    room-first (p .write-byte .last .0) (p .write-byte .result) (valueText (valueIn (start .args .summary .value))) (space ∷ from-count start) (room-1 p)
 
 write-byte-requires-2 : tie.Need-write-byte-requires-2
 write-byte-requires-2 c κs =
@@ -50,14 +50,14 @@ write-number-requires : tie.Need-write-number-requires
 write-number-requires c κs =
     let p = c .before .before .before in
     let start = p .before .before .before .before .before .before .before .before .before .before .before .before in
-    let count = start .args .said .deletions in
+    let count = start .args .summary .deletions in
     room-first (p .write-byte2 .last .0) (p .write-byte2 .result) (decimal count) (deletionsText count (now (start .args .deleted))) (room-3 p)
 
 write-deletions-requires : tie.Need-write-deletions-requires
 write-deletions-requires c κs =
     let p = c .before .before .before in
     let start = p .before .before .before .before .before .before .before .before .before .before .before .before .before .before .before .before in
-    (start .pre .0, room-rest (deletionsText (start .args .said .deletions) (now (start .args .deleted))) (p .write-number .ensures) (room-3 (p .before .before .before .before)))
+    (start .pre .0, room-rest (deletionsText (start .args .summary .deletions) (now (start .args .deleted))) (p .write-number .ensures) (room-3 (p .before .before .before .before)))
 
 returns : tie.Need-returns
 unfolding acceptedText replyOf

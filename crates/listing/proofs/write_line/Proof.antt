@@ -15,7 +15,7 @@ use Rattle.listing.proofs.write_line.Tie as tie
 
 -- What the record answered.
 abbrev reply : tie.Start → Reply
-reply c = replyOf (c .args .said) (now (c .args .deleted))
+reply c = replyOf (c .args .summary) (now (c .args .deleted))
 
 -- The texts of an accepted record: from what the 0 adds on, from the 0 on.
 abbrev from-accepted : tie.Start → List ℕ

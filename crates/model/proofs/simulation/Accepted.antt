@@ -34,24 +34,24 @@ not-in : (a : Bool) → a ≡ true → not a ≡ false
 not-in a e = rw e
 
 -- An accepted start has 1 to 16 processes and block counts in range.
-pub start-out : (n : ℕ) (counts : List ℕ) → startRefusal n counts ≡ none → (1 ≤ n) × (n ≤ mostProcesses) × ((p : ℕ) → p < n → isBlockCount (getD counts p 0) ≡ true)
+pub start-out : (n : ℕ) (blockCounts : List ℕ) → startRefusal n blockCounts ≡ none → (1 ≤ n) × (n ≤ mostProcesses) × ((p : ℕ) → p < n → isBlockCount (getD blockCounts p 0) ≡ true)
 unfolding startRefusal
-start-out n counts e =
+start-out n blockCounts e =
     let fails = no-rule _ e in
     let h = not-false _ (fails 0) in (
       leb-true 1 n (and-left (leb 1 n) (leb n mostProcesses) h),
       leb-true n mostProcesses (and-right (leb 1 n) (leb n mostProcesses) h),
-      λ p hp. not-false (isBlockCount (getD counts p 0)) (any-none n (λ p. not (isBlockCount (getD counts p 0))) (fails 1) p hp),
+      λ p hp. not-false (isBlockCount (getD blockCounts p 0)) (any-none n (λ p. not (isBlockCount (getD blockCounts p 0))) (fails 1) p hp),
     )
 
 -- A start with 1 to 16 processes and block counts in range is accepted.
-pub start-in : (n : ℕ) (counts : List ℕ) → 1 ≤ n → n ≤ mostProcesses → ((p : ℕ) → p < n → isBlockCount (getD counts p 0) ≡ true) → startRefusal n counts ≡ none
+pub start-in : (n : ℕ) (blockCounts : List ℕ) → 1 ≤ n → n ≤ mostProcesses → ((p : ℕ) → p < n → isBlockCount (getD blockCounts p 0) ≡ true) → startRefusal n blockCounts ≡ none
 unfolding startRefusal
-start-in n counts a b fit = refusal-in _ none (
+start-in n blockCounts a b fit = refusal-in _ none (
   not-in _ (and-both _ _ (le-leb 1 n a) (le-leb n mostProcesses b)),
   (
-    by-bool (anyBelow n (λ p. not (isBlockCount (getD counts p 0))))
-        (λ e. let w = any-out n (λ p. not (isBlockCount (getD counts p 0))) e in never-both (not (isBlockCount (getD counts (w .0) 0))) (w .2) (not-in _ (fit (w .0) (w .1))))
+    by-bool (anyBelow n (λ p. not (isBlockCount (getD blockCounts p 0))))
+        (λ e. let w = any-out n (λ p. not (isBlockCount (getD blockCounts p 0))) e in never-both (not (isBlockCount (getD blockCounts (w .0) 0))) (w .2) (not-in _ (fit (w .0) (w .1))))
         (λ e. e),
     tt,
   ),

@@ -27,7 +27,7 @@ module _ (r : Ideal) (v : Inv r) (fit : Limits r) where
   self p = v .self p (r .own p) (omega arith)
 
   pub checkpoint-admitted : (i : ℕ) (deleted : List ℕ) → i < r .n → r .own i < mostInterval → 2 * r .n * r .n ≤ length deleted
-      → r .ledger .written + r .ledger .counts i ≤ mostBlocks → checkpointRefusal (stateOf r) i deleted ≡ none
+      → r .ledger .written + r .ledger .blockCounts i ≤ mostBlocks → checkpointRefusal (stateOf r) i deleted ≡ none
   checkpoint-admitted i deleted hi early room blocks = checkpoint-in (stateOf r) i deleted (record {
     whole = state-sound r v fit;
     room = rw (count-is r) room;
@@ -47,7 +47,7 @@ module _ (r : Ideal) (v : Inv r) (fit : Limits r) where
   })
 
   pub deliver-admitted : (m : ℕ) (deleted : List ℕ) → r .transit m ≡ true → 2 * r .n * r .n ≤ length deleted → (forces r m ≡ true → r .own (r .receiver m) < mostInterval)
-      → (forces r m ≡ true → r .ledger .written + r .ledger .counts (r .receiver m) ≤ mostBlocks) → deliverRefusal (stateOf r) m deleted ≡ none
+      → (forces r m ≡ true → r .ledger .written + r .ledger .blockCounts (r .receiver m) ≤ mostBlocks) → deliverRefusal (stateOf r) m deleted ≡ none
   unfolding messageOf
   deliver-admitted m deleted under room early blocks =
       let hi = underway-proper r v m under .to in

@@ -30,7 +30,7 @@ blocks-append [] b = omega arith
 blocks-append (c ∷ a) b = omega (arith, blocks-append a b)
 
 -- A stored checkpoint has its process's count.
-pub stored-blocks : (r : Ideal) (p k : ℕ) → k < r .own p → checkpointOf r p k .blocks ≡ r .ledger .counts p
+pub stored-blocks : (r : Ideal) (p k : ℕ) → k < r .own p → checkpointOf r p k .blocks ≡ r .ledger .blockCounts p
 unfolding checkpointOf
 stored-blocks r p k lt = rw (lt-ltb k (r .own p) lt)
 
@@ -39,16 +39,16 @@ unfolding checkpointOf
 stored-cause r p k lt = rw (lt-ltb k (r .own p) lt)
 
 -- The blocks of the stored checkpoints of a process that pass a test.
-pub blocks-passing : (r : Ideal) (p k : ℕ) (t : ℕ → Bool) → k ≤ r .own p → blocksOf (passing k t (checkpointOf r p)) ≡ countBelow k t * r .ledger .counts p
+pub blocks-passing : (r : Ideal) (p k : ℕ) (t : ℕ → Bool) → k ≤ r .own p → blocksOf (passing k t (checkpointOf r p)) ≡ countBelow k t * r .ledger .blockCounts p
 unfolding passing countBelow blocksOf
 blocks-passing r p zero t le = omega arith
 blocks-passing r p (suc k) t le = by-bool (t k)
     (λ e. rw (e, blocks-append (passing k t (checkpointOf r p)) (checkpointOf r p k ∷ []), blocks-passing r p k t (omega arith), stored-blocks r p k (omega arith))
-    (omega (arith, add-mul (countBelow k t) 1 (r .ledger .counts p))))
-    (λ e. rw (e, append-nil (passing k t (checkpointOf r p)), blocks-passing r p k t (omega arith)) (omega (arith, add-mul (countBelow k t) 0 (r .ledger .counts p))))
+    (omega (arith, add-mul (countBelow k t) 1 (r .ledger .blockCounts p))))
+    (λ e. rw (e, append-nil (passing k t (checkpointOf r p)), blocks-passing r p k t (omega arith)) (omega (arith, add-mul (countBelow k t) 0 (r .ledger .blockCounts p))))
 
 -- The blocks of all that a process keeps.
-pub blocks-kept : (r : Ideal) (p : ℕ) → blocksOf (keptOf r p) ≡ countBelow (r .own p) (keeps r p) * r .ledger .counts p
+pub blocks-kept : (r : Ideal) (p : ℕ) → blocksOf (keptOf r p) ≡ countBelow (r .own p) (keeps r p) * r .ledger .blockCounts p
 unfolding keptOf
 blocks-kept r p = blocks-passing r p (r .own p) (keeps r p) (omega arith)
 
@@ -59,10 +59,10 @@ first-count [] b some-kept e = absurd (omega arith)
 first-count (c ∷ l) b some-kept e = eqb-true (c .blocks) b (and-left (eqb (c .blocks) b) (every (λ c. eqb (c .blocks) b) l) e)
 
 -- A process's block count is the run's.
-pub count-of : (r : Ideal) → Inv r → (p : ℕ) → p < r .n → blockCount (processOf r p) ≡ r .ledger .counts p
+pub count-of : (r : Ideal) → Inv r → (p : ℕ) → p < r .n → blockCount (processOf r p) ≡ r .ledger .blockCounts p
 unfolding blockCount processOf
-count-of r v p hp = first-count (keptOf r p) (r .ledger .counts p) (kept-least r v p hp)
-    (kept-every r p _ (λ k lt e. eq-eqb (checkpointOf r p k .blocks) (r .ledger .counts p) (stored-blocks r p k lt)))
+count-of r v p hp = first-count (keptOf r p) (r .ledger .blockCounts p) (kept-least r v p hp)
+    (kept-every r p _ (λ k lt e. eq-eqb (checkpointOf r p k .blocks) (r .ledger .blockCounts p) (stored-blocks r p k lt)))
 
 -- What goes, of one process and of all.
 pub gone-blocks : (r r′ : Ideal) (i : ℕ) → i < r .n → ((p k : ℕ) → (p ≡ i → ⊥) → keeps r′ p k ≡ keeps r p k)

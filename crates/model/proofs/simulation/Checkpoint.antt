@@ -16,7 +16,7 @@ use Rattle.model.specs.declared.Checkpoint.{Checkpoint}
 use Rattle.model.specs.declared.Disk.{Disk}
 use Rattle.model.specs.declared.Pin.{Pin}
 use Rattle.model.specs.declared.Pin.the-variants.{Nothing, At}
-use Rattle.model.specs.Words.{basic, mostProcesses, entry, liveIndex, named, Process, live, blocksOf, blockCount, process}
+use Rattle.model.specs.Words.{basic, mostProcesses, entry, liveIndex, isPinned, Process, live, blocksOf, blockCount, process}
 use Rattle.model.specs.Steps as steps
 use Rattle.model.specs.Steps.{settled, listed, gone, deletions, billed, checkpointState, checkpointDeletions}
 use Rattle.histories.proofs.Run.{Ideal, keeps, stores, checkpointed}
@@ -78,7 +78,7 @@ module _ (r : Ideal) (v : Inv r) (i : ℕ) (few : r .n ≤ mostProcesses) (hi : 
   stored-why = rw is-stored (sym (ap (λ (c : ℕ → ℕ). c (r .own i)) (upd-same (r .ledger .cause) i (upd (r .ledger .cause i) (r .own i) (r .ledger .why)))
       ∙ upd-same (r .ledger .cause i) (r .own i) (r .ledger .why)))
 
-  stored-count : blockCount (processOf r i) ≡ pick (ltb (r .own i) (checkpointed r i .own i)) (checkpointed r i .ledger .counts i) 0
+  stored-count : blockCount (processOf r i) ≡ pick (ltb (r .own i) (checkpointed r i .own i)) (checkpointed r i .ledger .blockCounts i) 0
   unfolding checkpointed stores
   stored-count = rw is-stored (count-of r v i hi)
 
@@ -92,7 +92,7 @@ module _ (r : Ideal) (v : Inv r) (i : ℕ) (few : r .n ≤ mostProcesses) (hi : 
   unfolding checkpointed stores
   cause-other p ne = upd-other (r .ledger .cause) i (upd (r .ledger .cause i) (r .own i) (r .ledger .why)) p ne
 
-  pub counts-same : (p : ℕ) → checkpointed r i .ledger .counts p ≡ r .ledger .counts p
+  pub counts-same : (p : ℕ) → checkpointed r i .ledger .blockCounts p ≡ r .ledger .blockCounts p
   unfolding checkpointed stores
   counts-same p = refl
 
@@ -135,8 +135,8 @@ module _ (r : Ideal) (v : Inv r) (i : ℕ) (few : r .n ≤ mostProcesses) (hi : 
   checkpoint-settled : settled (steps.checkpointed (r .ledger .why) i (processOf r i)) .kept ≡ keptOf (checkpointed r i) i
   unfolding settled keptOf
   checkpoint-settled =
-      ap (λ (pins : List Pin). select (named pins) (steps.checkpointed (r .ledger .why) i (processOf r i) .kept)) checkpoint-pins
-      ∙ ap (λ (l : List Checkpoint). select (named (pinsOf (checkpointed r i) i)) l) checkpoint-kept
+      ap (λ (pins : List Pin). select (isPinned pins) (steps.checkpointed (r .ledger .why) i (processOf r i) .kept)) checkpoint-pins
+      ∙ ap (λ (l : List Checkpoint). select (isPinned (pinsOf (checkpointed r i) i)) l) checkpoint-kept
       ∙ settled-kept (checkpointed r i) i (suc (r .own i)) (standing r i) few-after checkpoint-standing
       ∙ ap (λ (k : ℕ). passing k (keeps (checkpointed r i) i) (checkpointOf (checkpointed r i) i)) (sym (checkpointed-own r i))
 

@@ -31,7 +31,7 @@ use Rattle.model.proofs.simulation.Billing.{count-of, gone-blocks, bill
 taken-others : (r : Ideal) (m p : ℕ) → (p ≡ r .receiver m → ⊥) → processOf (takenIn r m) p ≡ processOf r p
 taken-others r m p ne = process-same r (takenIn r m) p (takenIn-n r m) (takenIn-own r m p)
     (λ k f le hf. takenIn-vector r m p k f (λ a b. ne a)) (takenIn-mark r m p) (λ f hf. takenIn-pin-other r m p f ne)
-    (ap (λ (l : Ledger). l .cause p) (taken-ledger r m)) (ap (λ (l : Ledger). l .counts p) (taken-ledger r m))
+    (ap (λ (l : Ledger). l .cause p) (taken-ledger r m)) (ap (λ (l : Ledger). l .blockCounts p) (taken-ledger r m))
 
 module _ (r : Ideal) (m : ℕ) (few : r .n ≤ mostProcesses) (hi : r .receiver m < r .n)
     (self : r .vector (r .receiver m) (r .own (r .receiver m)) (r .receiver m) ≡ r .own (r .receiver m)) where

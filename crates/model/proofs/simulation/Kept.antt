@@ -16,14 +16,14 @@ use Rattle.laws.specs.Select.{lastOf-snoc}
 use Rattle.laws.specs.Elements.{any-at}
 use Rattle.laws.specs.Counting.{count-any, count-some}
 use Rattle.model.specs.declared.Checkpoint.{Checkpoint}
-use Rattle.model.specs.Words.{mostProcesses, names, named}
+use Rattle.model.specs.Words.{mostProcesses, names, isPinned}
 use Rattle.model.specs.Sound.{ascending}
 use Rattle.histories.proofs.Run.{Ideal, keeps, names as namesIn}
 use Rattle.histories.proofs.Invariant.{Inv}
 use Rattle.histories.proofs.Line.{keeps-below, last-kept}
 use Rattle.model.proofs.simulation.View.{passing, pinsOf, checkpointOf, keptOf}
 use Rattle.model.proofs.simulation.Passing.{passing-yes, some-passing, length-passing, map-passing}
-use Rattle.model.proofs.simulation.Rows.{named-is}
+use Rattle.model.proofs.simulation.Rows.{pinned-is}
 use Rattle.model.proofs.simulation.SoundPassing.{passing-every, passing-ascends}
 
 -- A pin names one checkpoint alone.
@@ -57,8 +57,8 @@ kept-every r p u h = passing-every u (r .own p) (keeps r p) (checkpointOf r p) h
 
 -- Some pin in the list names checkpoint k exactly if k is kept.
 pub pins-name : (r : Ideal) (p k : ℕ) → r .n ≤ mostProcesses → some-of (λ pin. names pin (record { 0 = k })) (pinsOf r p) ≡ keeps r p k
-unfolding named checkpointOf
-pins-name r p k few = named-is r p (checkpointOf r p k) few
+unfolding isPinned checkpointOf
+pins-name r p k few = pinned-is r p (checkpointOf r p k) few
 
 module _ (r : Ideal) (v : Inv r) where
   -- The list holds a checkpoint of index k exactly if k is kept.

@@ -26,7 +26,7 @@ put-put s p P Q = rw (
   set-set (s .pins .0) p (P .pins) (Q .pins),
   set-set (s .sent) p (P .mark) (Q .mark),
   set-set (s .kept .0) p (placed mostProcesses noCheckpoint (P .kept)) (placed mostProcesses noCheckpoint (Q .kept)),
-  set-set (s .held) p (length (P .kept)) (length (Q .kept)),
+  set-set (s .«kept_count») p (length (P .kept)) (length (Q .kept)),
 )
 
 pub put-other : (s : Run) (p q : ℕ) (P Q : Process) → (p ≡ q → ⊥) → withProcess (withProcess s p P) q Q ≡ withProcess (withProcess s q Q) p P
@@ -36,7 +36,7 @@ put-other s p q P Q ne = rw (
   set-comm (s .pins .0) p q (P .pins) (Q .pins) ne,
   set-comm (s .sent) p q (P .mark) (Q .mark) ne,
   set-comm (s .kept .0) p q (placed mostProcesses noCheckpoint (P .kept)) (placed mostProcesses noCheckpoint (Q .kept)) ne,
-  set-comm (s .held) p q (length (P .kept)) (length (Q .kept)) ne,
+  set-comm (s .«kept_count») p q (length (P .kept)) (length (Q .kept)) ne,
 )
 
 -- Parts of all processes that agree below the bound give the same state. Paths are written out here and below: a rewriting would take states apart.
@@ -133,7 +133,7 @@ pub record Room (s : Run) (p : ℕ) : Type 0 where
   pub pins : p < length (s .pins .0)
   pub sent : p < length (s .sent)
   pub kept : p < length (s .kept .0)
-  pub held : p < length (s .held)
+  pub «kept_count» : p < length (s .«kept_count»)
 
 room-put : (s : Run) (p q : ℕ) (Q : Process) → Room s p → Room (withProcess s q Q) p
 unfolding withProcess
@@ -142,7 +142,7 @@ room-put s p q Q h = record {
   pins = omega (arith, h .pins, length-set (s .pins .0) q (Q .pins));
   sent = omega (arith, h .sent, length-set (s .sent) q (Q .mark));
   kept = omega (arith, h .kept, length-set (s .kept .0) q (placed mostProcesses noCheckpoint (Q .kept)));
-  held = omega (arith, h .held, length-set (s .held) q (length (Q .kept)));
+  «kept_count» = omega (arith, h .«kept_count», length-set (s .«kept_count») q (length (Q .kept)));
 }
 
 pub room-all : (n : ℕ) (f : ℕ → Process) (s : Run) (p : ℕ) → Room s p → Room (withProcesses n f s) p
@@ -152,7 +152,7 @@ room-all (suc n) f s p h = room-put (withProcesses n f s) p n (f n) (room-all n 
 
 pub room-blank : (n p : ℕ) → p < mostProcesses → Room (blank n) p
 unfolding blank
-room-blank n p h = record { vectors = h; pins = h; sent = h; kept = h; held = h }
+room-blank n p h = record { vectors = h; pins = h; sent = h; kept = h; «kept_count» = h }
 
 -- What is read back of a process's part: the part itself where there is a place, and other parts are as before.
 process-put : (s : Run) (p : ℕ) (P : Process) → Room s p → process (withProcess s p P) p ≡ P
@@ -162,7 +162,7 @@ process-put s p P h = rw (
   getD-set-same (s .pins .0) p (P .pins) [] (h .pins),
   getD-set-same (s .sent) p (P .mark) false (h .sent),
   getD-set-same (s .kept .0) p (placed mostProcesses noCheckpoint (P .kept)) [] (h .kept),
-  getD-set-same (s .held) p (length (P .kept)) 0 (h .held),
+  getD-set-same (s .«kept_count») p (length (P .kept)) 0 (h .«kept_count»),
   take-placed mostProcesses noCheckpoint (P .kept),
 )
 
@@ -173,7 +173,7 @@ process-other s p q Q ne = rw (
   getD-set-other (s .pins .0) q p (Q .pins) [] ne,
   getD-set-other (s .sent) q p (Q .mark) false ne,
   getD-set-other (s .kept .0) q p (placed mostProcesses noCheckpoint (Q .kept)) [] ne,
-  getD-set-other (s .held) q p (length (Q .kept)) 0 ne,
+  getD-set-other (s .«kept_count») q p (length (Q .kept)) 0 ne,
 )
 
 pub process-above : (n : ℕ) (f : ℕ → Process) (s : Run) (p : ℕ) → n ≤ p → process (withProcesses n f s) p ≡ process s p
@@ -206,10 +206,10 @@ module _ (n p : ℕ) (h : p < mostProcesses) where
   unfolding blank
   blank-mark = getD-replicate mostProcesses p false false h
 
-  blank-held : getD (blank n .held) p 0 ≡ 0
+  blank-kept-count : getD (blank n .«kept_count») p 0 ≡ 0
   unfolding blank
-  blank-held = getD-replicate {A = ℕ} mostProcesses p 0 0 h
+  blank-kept-count = getD-replicate {A = ℕ} mostProcesses p 0 0 h
 
   pub process-blank : process (blank n) p ≡ unused
   unfolding process
-  process-blank = rw (blank-vector, blank-pins, blank-mark, blank-held)
+  process-blank = rw (blank-vector, blank-pins, blank-mark, blank-kept-count)

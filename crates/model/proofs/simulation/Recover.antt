@@ -17,7 +17,7 @@ use Rattle.model.specs.declared.Interval.{Interval}
 use Rattle.model.specs.declared.Pin.the-variants.{Nothing}
 use Rattle.model.specs.declared.Checkpoint.{Checkpoint}
 use Rattle.model.specs.declared.Disk.{Disk}
-use Rattle.model.specs.Words.{mostProcesses, entry, below, named, blocksOf, process, withMessages, withDisk, failed}
+use Rattle.model.specs.Words.{mostProcesses, entry, below, isPinned, blocksOf, process, withMessages, withDisk, failed}
 use Rattle.model.specs.Steps as steps
 use Rattle.model.specs.Steps.{listed, billed, goneAt, withProcesses, latestPin, movedPin, pinsAfter, notLost, rolledBack, lostBy, stillUnderWay, recoverState, deletedAt, recoverDeletions}
 use Rattle.histories.proofs.Run.{Ideal, Failed, keeps, line, rolled, ownAfter, vectorAfter, pinAfter, outlives, recovered}
@@ -30,7 +30,7 @@ use Rattle.histories.proofs.Rule.{keeps-in, keeps-out}
 use Rattle.model.proofs.simulation.View.{passing, pinOf, pinsOf, checkpointOf, keptOf, processOf, messageOf, messagesOf, diskOf, stateOf}
 use Rattle.model.proofs.simulation.Passing.{passing-same, passing-none, select-passing, last-passing}
 use Rattle.model.proofs.simulation.Reads.{entry-is, entry-past, pin-is, pin-past, count-is, last-is, disk-is, underWay-is, process-is}
-use Rattle.model.proofs.simulation.Rows.{process-eq, named-is, checkpoint-same, settled-kept}
+use Rattle.model.proofs.simulation.Rows.{process-eq, pinned-is, checkpoint-same, settled-kept}
 use Rattle.model.proofs.simulation.Stepping.{all-parts-messages}
 use Rattle.model.proofs.simulation.Lines.{member-index, rolled-is}
 use Rattle.model.proofs.simulation.Billing.{gone-all, billed-is}
@@ -131,7 +131,7 @@ module _ (r : Ideal) (v : Inv r) (few : r .n ≤ mostProcesses) (F : ℕ) where
         (λ e. rw e (and-no-right (leb k (line r G p)) false refl))
 
     -- The part of p after the recovery.
-    kept-after : select (named (pinsAfter (stateOf r) F p)) (notLost (stateOf r) F p) ≡ passing (ownAfter r G p) (keeps r′ p) (checkpointOf r′ p)
+    kept-after : select (isPinned (pinsAfter (stateOf r) F p)) (notLost (stateOf r) F p) ≡ passing (ownAfter r G p) (keeps r′ p) (checkpointOf r′ p)
     kept-after = rw (
       pins-after,
       not-lost-are r v few F p lt,
@@ -153,9 +153,9 @@ module _ (r : Ideal) (v : Inv r) (few : r .n ≤ mostProcesses) (F : ℕ) where
     gone-at : goneAt (stateOf r) F p ≡ passing (r .own p) (λ k. keeps r p k && not (keeps r′ p k)) (checkpointOf r p)
     unfolding goneAt processOf keptOf checkpointOf
     gone-at = rw (process-is r p few lt, member-index r v few F p lt, pins-after)
-        (select-passing (λ c. not (leb (c .index .0) (line r G p) && named (pinsOf r′ p) c)) (r .own p) (keeps r p) (checkpointOf r p)
+        (select-passing (λ c. not (leb (c .index .0) (line r G p) && isPinned (pinsOf r′ p) c)) (r .own p) (keeps r p) (checkpointOf r p)
         ∙ passing-same (r .own p) _ _ _ _
-        (λ k h. rw (named-is r′ p (checkpointOf r p k) few-after) (ap (λ (b : Bool). keeps r p k && not b) (gone k h)))
+        (λ k h. rw (pinned-is r′ p (checkpointOf r p k) few-after) (ap (λ (b : Bool). keeps r p k && not b) (gone k h)))
         (λ k h q. refl))
 
     pub deleted-at : deletedAt (stateOf r) F p ≡ listed p (passing (r .own p) (λ k. keeps r p k && not (keeps r′ p k)) (checkpointOf r p))

@@ -21,7 +21,7 @@ use Rattle.model.specs.declared.Interval.{Interval}
 use Rattle.model.specs.declared.CheckpointIndex.{CheckpointIndex}
 use Rattle.model.specs.declared.Pin.the-variants.{Nothing}
 use Rattle.model.specs.declared.Checkpoint.{Checkpoint}
-use Rattle.model.specs.Words.{mostProcesses, names, named, Process, live}
+use Rattle.model.specs.Words.{mostProcesses, names, isPinned, Process, live}
 use Rattle.model.specs.Steps.{advanced}
 use Rattle.histories.proofs.Run as ideal
 use Rattle.histories.proofs.Run.{Ideal, keeps}
@@ -40,9 +40,9 @@ names-is none a = refl
 names-is (some k) a = refl
 
 -- A pin of the state names a checkpoint: the run keeps it.
-pub named-is : (r : Ideal) (p : ℕ) (c : Checkpoint) → r .n ≤ mostProcesses → named (pinsOf r p) c ≡ keeps r p (c .index .0)
-unfolding named pinsOf keeps
-named-is r p c few =
+pub pinned-is : (r : Ideal) (p : ℕ) (c : Checkpoint) → r .n ≤ mostProcesses → isPinned (pinsOf r p) c ≡ keeps r p (c .index .0)
+unfolding isPinned pinsOf keeps
+pinned-is r p c few =
     some-table (λ pin. names pin (c .index)) mostProcesses (λ f. pick (ltb f (r .n)) (pinOf (r .pin p f)) Nothing)
     ∙ any-wider (r .n) mostProcesses _ few (λ f le lt. rw (le-ltb f (r .n) le))
     ∙ any-same (r .n) _ _ (λ f lt. rw (lt-ltb f (r .n) lt) (names-is (r .pin p f) (c .index)))
@@ -60,7 +60,7 @@ pins-same r r′ p en ep = rw en (table-same mostProcesses _ _ (λ f lt. by-bool
 
 -- A stored checkpoint whose vector agrees below n, and whose cause and block count agree.
 pub checkpoint-same : (r r′ : Ideal) (p k : ℕ) → r′ .n ≡ r .n → ((f : ℕ) → f < r .n → r′ .vector p k f ≡ r .vector p k f)
-    → k < r .own p → k < r′ .own p → r′ .ledger .cause p k ≡ r .ledger .cause p k → r′ .ledger .counts p ≡ r .ledger .counts p → checkpointOf r′ p k ≡ checkpointOf r p k
+    → k < r .own p → k < r′ .own p → r′ .ledger .cause p k ≡ r .ledger .cause p k → r′ .ledger .blockCounts p ≡ r .ledger .blockCounts p → checkpointOf r′ p k ≡ checkpointOf r p k
 unfolding checkpointOf
 checkpoint-same r r′ p k en ev lt lt′ ec eb = rw (en, vector-same (r .n) (r′ .vector p k) (r .vector p k) ev, lt-ltb k (r .own p) lt, lt-ltb k (r′ .own p) lt′, ec, eb)
 
@@ -68,7 +68,7 @@ checkpoint-same r r′ p k en ev lt lt′ ec eb = rw (en, vector-same (r .n) (r�
 pub process-same : (r r′ : Ideal) (p : ℕ) → r′ .n ≡ r .n → r′ .own p ≡ r .own p
     → ((k f : ℕ) → k ≤ r .own p → f < r .n → r′ .vector p k f ≡ r .vector p k f)
     → r′ .mark p ≡ r .mark p → ((f : ℕ) → f < r .n → r′ .pin p f ≡ r .pin p f)
-    → r′ .ledger .cause p ≡ r .ledger .cause p → r′ .ledger .counts p ≡ r .ledger .counts p → processOf r′ p ≡ processOf r p
+    → r′ .ledger .cause p ≡ r .ledger .cause p → r′ .ledger .blockCounts p ≡ r .ledger .blockCounts p → processOf r′ p ≡ processOf r p
 unfolding processOf keptOf
 process-same r r′ p en eo ev em ep ec eb = process-eq (processOf r′ p) (processOf r p)
     (rw (en, eo) (vector-same (r .n) _ _ (λ f lt. ev (r .own p) f (omega arith) lt)))
@@ -108,17 +108,17 @@ states-are r p few lt self =
 
 -- Once the pins have moved: of the checkpoints that pass a test, those stay that the run keeps, and the others go.
 pub settled-kept : (r : Ideal) (p k : ℕ) (t : ℕ → Bool) → r .n ≤ mostProcesses → ((j : ℕ) → j < k → keeps r p j ≡ true → t j ≡ true)
-    → select (named (pinsOf r p)) (passing k t (checkpointOf r p)) ≡ passing k (keeps r p) (checkpointOf r p)
+    → select (isPinned (pinsOf r p)) (passing k t (checkpointOf r p)) ≡ passing k (keeps r p) (checkpointOf r p)
 unfolding checkpointOf
-settled-kept r p k t few h = select-passing (named (pinsOf r p)) k t (checkpointOf r p) ∙ passing-same k _ _ _ _
-    (λ j lt. rw (named-is r p (checkpointOf r p j) few) (by-bool (keeps r p j)
+settled-kept r p k t few h = select-passing (isPinned (pinsOf r p)) k t (checkpointOf r p) ∙ passing-same k _ _ _ _
+    (λ j lt. rw (pinned-is r p (checkpointOf r p j) few) (by-bool (keeps r p j)
     (λ e. rw (e, h j lt e))
     (λ e. rw e (by-bool (t j) (λ d. rw d) (λ d. rw d)))))
     (λ j lt q. refl)
 
 pub settled-gone : (r : Ideal) (p k : ℕ) (t : ℕ → Bool) → r .n ≤ mostProcesses
-    → select (λ c. not (named (pinsOf r p) c)) (passing k t (checkpointOf r p)) ≡ passing k (λ j. t j && not (keeps r p j)) (checkpointOf r p)
+    → select (λ c. not (isPinned (pinsOf r p) c)) (passing k t (checkpointOf r p)) ≡ passing k (λ j. t j && not (keeps r p j)) (checkpointOf r p)
 unfolding checkpointOf
-settled-gone r p k t few = select-passing (λ c. not (named (pinsOf r p) c)) k t (checkpointOf r p) ∙ passing-same k _ _ _ _
-    (λ j lt. rw (named-is r p (checkpointOf r p j) few))
+settled-gone r p k t few = select-passing (λ c. not (isPinned (pinsOf r p) c)) k t (checkpointOf r p) ∙ passing-same k _ _ _ _
+    (λ j lt. rw (pinned-is r p (checkpointOf r p j) few))
     (λ j lt q. refl)

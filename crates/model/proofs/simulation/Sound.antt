@@ -19,7 +19,7 @@ use Rattle.laws.specs.Elements.{every-table}
 use Rattle.model.specs.declared.Pin.the-variants.{Nothing}
 use Rattle.model.specs.declared.Checkpoint.{Checkpoint}
 use Rattle.model.specs.declared.Message.{Message}
-use Rattle.model.specs.Words.{mostProcesses, mostUnderWay, mostMessages, mostBlocks, entry, names, named, Process, blocksOf, noCheckpoint, process, own, underWay}
+use Rattle.model.specs.Words.{mostProcesses, mostUnderWay, mostMessages, mostBlocks, entry, names, isPinned, Process, blocksOf, noCheckpoint, process, own, underWay}
 use Rattle.model.specs.Sound.{countSound, ownSound, within, vectorsSound, ascending, keptSound, pinSound, pinsSound, messageSound, messagesSound, recordSound, keptBlocks, diskSound, sound}
 use Rattle.histories.proofs.Run.{Ideal, keeps}
 use Rattle.histories.proofs.Rule.{keeps-in}
@@ -29,7 +29,7 @@ use Rattle.histories.proofs.Counted.{keptIn}
 use Rattle.model.proofs.simulation.View.{vectorOf, pinOf, pinsOf, checkpointOf, keptOf, processOf, messageOf, messagesOf, diskOf, stateOf, Limits}
 use Rattle.model.proofs.simulation.Reads.{entry-is, pin-is, count-is, last-is, disk-is, underway-is, underWay-is, process-is, own-is}
 use Rattle.model.proofs.simulation.Passing.{some-passing, map-passing}
-use Rattle.model.proofs.simulation.Rows.{named-is}
+use Rattle.model.proofs.simulation.Rows.{pinned-is}
 use Rattle.model.proofs.simulation.SoundPassing.{passing-every, passing-ascends}
 use Rattle.model.proofs.simulation.Kept.{kept-ascends, kept-every, kept-least, kept-most, kept-last}
 use Rattle.model.proofs.simulation.Billing.{blocks-kept, count-of}
@@ -100,9 +100,9 @@ module _ (r : Ideal) (v : Inv r) (fit : Limits r) where
   last-stored p hp = rw (kept-last r v p (r .own p - 1) hp (omega (arith, v .positive p))) (eq-eqb (r .own p - 1) (r .own p - 1) refl)
 
   -- The own pin names it.
-  own-named : (p : ℕ) → p < r .n → names (getD (pinsOf r p) p Nothing) (record { 0 = r .own p - 1 }) ≡ true
+  own-pinned : (p : ℕ) → p < r .n → names (getD (pinsOf r p) p Nothing) (record { 0 = r .own p - 1 }) ≡ true
   unfolding pinOf
-  own-named p hp =
+  own-pinned p hp =
       let w = own-pin r v p hp in
       rw (pin-is r p p (fit .few-processes) hp, w .1) (eq-eqb (w .0) (r .own p - 1) (omega (arith, w .2)))
 
@@ -120,7 +120,7 @@ module _ (r : Ideal) (v : Inv r) (fit : Limits r) where
     kept-ascends r p,
     own-entries p hp,
     last-stored p hp,
-    own-named p hp,
+    own-pinned p hp,
   )
 
   -- A pin names a kept checkpoint.
@@ -139,14 +139,14 @@ module _ (r : Ideal) (v : Inv r) (fit : Limits r) where
       (λ e. rw e))
 
   -- Every kept checkpoint is named by a pin.
-  kept-named : (p : ℕ) → every (named (pinsOf r p)) (keptOf r p) ≡ true
+  all-kept-pinned : (p : ℕ) → every (isPinned (pinsOf r p)) (keptOf r p) ≡ true
   unfolding checkpointOf
-  kept-named p = kept-every r p (named (pinsOf r p)) (λ k lt e. named-is r p (checkpointOf r p k) (fit .few-processes) ∙ e)
+  all-kept-pinned p = kept-every r p (isPinned (pinsOf r p)) (λ k lt e. pinned-is r p (checkpointOf r p k) (fit .few-processes) ∙ e)
 
   -- "Every pin is none or names a kept one; every kept one is pinned."
   pub pins-sound : (p : ℕ) → p < r .n → pinsSound (stateOf r) p ≡ true
   unfolding pinsSound processOf
-  pins-sound p hp = rw (process-of p hp, pins-hold p, kept-named p)
+  pins-sound p hp = rw (process-of p hp, pins-hold p, all-kept-pinned p)
 
   -- A message under way has a number, a sender and a receiver that differ.
   proper-of : (m : ℕ) → r .transit m ≡ true → Proper r m
@@ -196,9 +196,9 @@ module _ (r : Ideal) (v : Inv r) (fit : Limits r) where
   record-sound p k hp lt = rw (
     lt-ltb k (r .own p) lt,
     fit .ledger .causes p k hp lt,
-    fit .ledger .counts p hp,
+    fit .ledger .blockCounts p hp,
     count-of r v p hp,
-    eq-eqb (r .ledger .counts p) (r .ledger .counts p) refl,
+    eq-eqb (r .ledger .blockCounts p) (r .ledger .blockCounts p) refl,
   )
 
   records-sound : (p : ℕ) → p < r .n → every (recordSound (process (stateOf r) p)) (process (stateOf r) p .kept) ≡ true

@@ -30,12 +30,12 @@ module _ (r : Ideal) (v : Inv r) (fit : Limits r) where
   unfolding diskOf
   written-is = ap (λ (d : Disk). d .written) (disk-is r)
 
-  pub count-is-of : (i : ℕ) → i < r .n → blockCount (process (stateOf r) i) ≡ r .ledger .counts i
+  pub count-is-of : (i : ℕ) → i < r .n → blockCount (process (stateOf r) i) ≡ r .ledger .blockCounts i
   count-is-of i hi = ap blockCount (process-is r i (fit .few-processes) hi) ∙ count-of r v i hi
 
   -- An accepted checkpoint at i: i is in the run, its own entry has room, and so has the list.
   pub checkpoint-run : (i : ℕ) (deleted : List ℕ) → checkpointRefusal (stateOf r) i deleted ≡ none
-      → (i < r .n) × (r .own i < mostInterval) × (2 * r .n * r .n ≤ length deleted) × (r .ledger .written + r .ledger .counts i ≤ mostBlocks)
+      → (i < r .n) × (r .own i < mostInterval) × (2 * r .n * r .n ≤ length deleted) × (r .ledger .written + r .ledger .blockCounts i ≤ mostBlocks)
   checkpoint-run i deleted e =
       let h = checkpoint-out (stateOf r) i deleted e in
       let hi : i < r .n = rw (count-is r) at (h .present) in (
@@ -66,7 +66,7 @@ module _ (r : Ideal) (v : Inv r) (fit : Limits r) where
   -- An accepted delivery: the message is under way, the list has room, and the disk has room for the checkpoint that it forces.
   pub deliver-run : (m : ℕ) (deleted : List ℕ) → deliverRefusal (stateOf r) m deleted ≡ none
       → (r .transit m ≡ true) × (found (stateOf r) m ≡ some (messageOf r m)) × (2 * r .n * r .n ≤ length deleted)
-      × (forces r m ≡ true → r .ledger .written + r .ledger .counts (r .receiver m) ≤ mostBlocks)
+      × (forces r m ≡ true → r .ledger .written + r .ledger .blockCounts (r .receiver m) ≤ mostBlocks)
   unfolding messageOf
   deliver-run m deleted e =
       let h = deliver-out (stateOf r) m deleted e in

@@ -53,7 +53,7 @@ limits-less r r′ fit same-n same-last less fits = record {
 pub fits-step : (r r′ : Ideal) → Inv r → Inv r′ → Moved r r′ → Paid r r′ → Fits r
     → ((p k : ℕ) → p < r .n → k < r′ .own p → causeSound k (r′ .ledger .cause p k) ≡ true) → r′ .ledger .written ≤ mostBlocks → Fits r′
 fits-step r r′ v v′ w t fit causes room = record {
-  counts = λ p hp. rw (t .counts) (fit .counts p (rw (w .size) at hp));
+  blockCounts = λ p hp. rw (t .blockCounts) (fit .blockCounts p (rw (w .size) at hp));
   causes = λ p k hp lt. causes p k (rw (w .size) at hp) lt;
   paid = paid-on r r′ v v′ w t (fit .paid);
   room = room;
@@ -82,32 +82,32 @@ stored-causes r v i fit a b p k hp at = by-eq p i
     (fit .causes p k hp (elim at [ inl z ↦ absurd (ne (z .0)) | inr z ↦ z ])))
 
 -- At the start nothing is under way, and what is kept is what was written.
-begin-room : (n : ℕ) (counts : List ℕ) → n ≤ mostProcesses → ((p : ℕ) → p < n → isBlockCount (getD counts p 0) ≡ true) → sumBelow n (λ p. getD counts p 0) ≤ mostBlocks
+begin-room : (n : ℕ) (blockCounts : List ℕ) → n ≤ mostProcesses → ((p : ℕ) → p < n → isBlockCount (getD blockCounts p 0) ≡ true) → sumBelow n (λ p. getD blockCounts p 0) ≤ mostBlocks
 unfolding isBlockCount
-begin-room n counts few fit =
-    let low : sumBelow n (λ p. getD counts p 0) ≤ n * mostBlockCount = sum-le n mostBlockCount (λ p. getD counts p 0) (λ p lt. leb-true (getD counts p 0) mostBlockCount (and-right (leb 1 (getD counts p 0)) (leb (getD counts p 0) mostBlockCount) (fit p lt))) in
+begin-room n blockCounts few fit =
+    let low : sumBelow n (λ p. getD blockCounts p 0) ≤ n * mostBlockCount = sum-le n mostBlockCount (λ p. getD blockCounts p 0) (λ p lt. leb-true (getD blockCounts p 0) mostBlockCount (and-right (leb 1 (getD blockCounts p 0)) (leb (getD blockCounts p 0) mostBlockCount) (fit p lt))) in
     omega arith
 
-fits-begin : (n : ℕ) (counts : List ℕ) → n ≤ mostProcesses → ((p : ℕ) → p < n → isBlockCount (getD counts p 0) ≡ true) → Fits (begun n counts)
+fits-begin : (n : ℕ) (blockCounts : List ℕ) → n ≤ mostProcesses → ((p : ℕ) → p < n → isBlockCount (getD blockCounts p 0) ≡ true) → Fits (begun n blockCounts)
 unfolding begin openLedger causeSound
-fits-begin n counts few fit = record {
-  counts = fit;
+fits-begin n blockCounts few fit = record {
+  blockCounts = fit;
   causes = λ p k hp lt. rw (zero-of k lt);
-  paid = omega (arith, start-kept-in n counts);
-  room = begin-room n counts few fit;
+  paid = omega (arith, start-kept-in n blockCounts);
+  room = begin-room n blockCounts few fit;
 }
   where
     zero-of : (k : ℕ) → k < 1 → k ≡ 0
     zero-of k lt = omega arith
 
-pub limits-begin : (n : ℕ) (counts : List ℕ) → 1 ≤ n → n ≤ mostProcesses → ((p : ℕ) → p < n → isBlockCount (getD counts p 0) ≡ true) → Limits (begun n counts)
+pub limits-begin : (n : ℕ) (blockCounts : List ℕ) → 1 ≤ n → n ≤ mostProcesses → ((p : ℕ) → p < n → isBlockCount (getD blockCounts p 0) ≡ true) → Limits (begun n blockCounts)
 unfolding begin
-limits-begin n counts a b fit = record {
+limits-begin n blockCounts a b fit = record {
   some-process = a;
   few-processes = b;
-  few-messages = rw (messages-count (begun n counts), count-none 1 (λ m. false) (λ m lt. refl)) (omega arith);
+  few-messages = rw (messages-count (begun n blockCounts), count-none 1 (λ m. false) (λ m lt. refl)) (omega arith);
   few-numbers = omega arith;
-  ledger = fits-begin n counts b fit;
+  ledger = fits-begin n blockCounts b fit;
 }
 
 checkpointed-ledger : (r : Ideal) (i : ℕ) → checkpointed r i .ledger ≡ stores r i
@@ -115,7 +115,7 @@ unfolding checkpointed
 checkpointed-ledger r i = refl
 
 -- A checkpoint changes neither messages nor numbers; it is basic or forced, and there is room for its blocks.
-pub fits-checkpoint : (r : Ideal) → Inv r → (i : ℕ) → i < r .n → Fits r → 1 ≤ r .ledger .why → r .ledger .why ≤ 2 → r .ledger .written + r .ledger .counts i ≤ mostBlocks
+pub fits-checkpoint : (r : Ideal) → Inv r → (i : ℕ) → i < r .n → Fits r → 1 ≤ r .ledger .why → r .ledger .why ≤ 2 → r .ledger .written + r .ledger .blockCounts i ≤ mostBlocks
     → Fits (checkpointed r i)
 fits-checkpoint r v i hi fit a b room = fits-step r (checkpointed r i) v (checkpointed-inv r i v) (checkpointed-moved r i hi) (checkpointed-paid r i hi) fit
     (λ p k hp lt. causes p k hp lt)
@@ -157,7 +157,7 @@ limits-deliver r m fit fits = limits-less r (delivered r m) fit (delivered-n r m
 
 -- A forced checkpoint needs room for its blocks.
 pub fits-deliver : (r : Ideal) → Inv r → (m : ℕ) → r .transit m ≡ true → Fits r → r .ledger .why ≡ 2
-    → (forces r m ≡ true → r .ledger .written + r .ledger .counts (r .receiver m) ≤ mostBlocks) → Fits (delivered r m)
+    → (forces r m ≡ true → r .ledger .written + r .ledger .blockCounts (r .receiver m) ≤ mostBlocks) → Fits (delivered r m)
 fits-deliver r v m under fit why room =
     let hi : r .receiver m < r .n = underway-proper r v m under .to in
     let v′ = delivered-inv r m v under in
@@ -178,7 +178,7 @@ unfolding lost
 limits-lose r m fit = limits-less r (lost r m) fit refl refl (λ j e. taken-off (r .transit) m j e) fits
   where
     fits : Fits (lost r m)
-    fits = record { counts = fit .ledger .counts; causes = fit .ledger .causes; paid = omega (arith, fit .ledger .paid, lost-kept r m); room = fit .ledger .room }
+    fits = record { blockCounts = fit .ledger .blockCounts; causes = fit .ledger .causes; paid = omega (arith, fit .ledger .paid, lost-kept r m); room = fit .ledger .room }
 
 -- A recovery puts no message under way.
 recovered-ledger : (r : Ideal) (F : Failed) → recovered r F .ledger ≡ r .ledger
@@ -204,5 +204,5 @@ limits-send r i j fit room numbers = record {
       = count-mono (suc (r .last)) _ (r .transit) (λ m lt e. rw (upd-other (r .transit) (suc (r .last)) true m (omega arith)) at e) in
       rw (messages-count (sending r i j), upd-same (r .transit) (suc (r .last)) true) (omega (arith, messages-count r));
   few-numbers = numbers;
-  ledger = record { counts = fit .ledger .counts; causes = fit .ledger .causes; paid = omega (arith, fit .ledger .paid, sending-kept r i j); room = fit .ledger .room };
+  ledger = record { blockCounts = fit .ledger .blockCounts; causes = fit .ledger .causes; paid = omega (arith, fit .ledger .paid, sending-kept r i j); room = fit .ledger .room };
 }

@@ -29,14 +29,14 @@ use Rattle.model.proofs.simulation.Kept.{kept-every}
 
 -- What a state holds of the checkpoints of one process: how many, and the row with its unused places.
 pub record Row (s : Run) (p : ℕ) (kept : List Checkpoint) : Type 0 where
-  pub many : getD (s .held) p 0 ≡ length kept
+  pub many : getD (s .«kept_count») p 0 ≡ length kept
   pub row : getD (s .kept .0) p [] ≡ placed mostProcesses noCheckpoint kept
 
 -- Right after the part of p was put in.
 row-put : (s : Run) (p : ℕ) (P : Process) → Room s p → Row (withProcess s p P) p (P .kept)
 unfolding withProcess
 row-put s p P h = record {
-  many = getD-set-same (s .held) p (length (P .kept)) 0 (h .held);
+  many = getD-set-same (s .«kept_count») p (length (P .kept)) 0 (h .«kept_count»);
   row = getD-set-same (s .kept .0) p (placed mostProcesses noCheckpoint (P .kept)) [] (h .kept);
 }
 
@@ -44,7 +44,7 @@ row-put s p P h = record {
 row-other : (s : Run) (p q : ℕ) (Q : Process) (kept : List Checkpoint) → (p ≡ q → ⊥) → Row s p kept → Row (withProcess s q Q) p kept
 unfolding withProcess
 row-other s p q Q kept ne h = record {
-  many = getD-set-other (s .held) q p (length (Q .kept)) 0 ne ∙ h .many;
+  many = getD-set-other (s .«kept_count») q p (length (Q .kept)) 0 ne ∙ h .many;
   row = getD-set-other (s .kept .0) q p (placed mostProcesses noCheckpoint (Q .kept)) [] ne ∙ h .row;
 }
 
@@ -57,25 +57,25 @@ row-all (suc n) f s p h room = by-eq p n
     (λ ne. row-other (withProcesses n f s) p n (f n) (f p .kept) ne (row-all n f s p (omega arith) room))
 
 -- Two states with the same rows from m on.
-record Behind (m : ℕ) (s t : Run) : Type 0 where
+record Beyond (m : ℕ) (s t : Run) : Type 0 where
   vectors : drop m (s .vectors .0) ≡ drop m (t .vectors .0)
   pins : drop m (s .pins .0) ≡ drop m (t .pins .0)
   sent : drop m (s .sent) ≡ drop m (t .sent)
   kept : drop m (s .kept .0) ≡ drop m (t .kept .0)
-  held : drop m (s .held) ≡ drop m (t .held)
+  «kept_count» : drop m (s .«kept_count») ≡ drop m (t .«kept_count»)
 
 -- The parts of processes below m leave the rows from m on.
-behind-all : (m n : ℕ) (f : ℕ → Process) (s : Run) → n ≤ m → Behind m (withProcesses n f s) s
+beyond-all : (m n : ℕ) (f : ℕ → Process) (s : Run) → n ≤ m → Beyond m (withProcesses n f s) s
 unfolding withProcesses withProcess
-behind-all m zero f s h = record { vectors = refl; pins = refl; sent = refl; kept = refl; held = refl }
-behind-all m (suc n) f s h =
-    let b = behind-all m n f s (omega arith) in
+beyond-all m zero f s h = record { vectors = refl; pins = refl; sent = refl; kept = refl; «kept_count» = refl }
+beyond-all m (suc n) f s h =
+    let b = beyond-all m n f s (omega arith) in
     record {
       vectors = drop-set-lt m (withProcesses n f s .vectors .0) n (f n .vector) h ∙ b .vectors;
       pins = drop-set-lt m (withProcesses n f s .pins .0) n (f n .pins) h ∙ b .pins;
       sent = drop-set-lt m (withProcesses n f s .sent) n (f n .mark) h ∙ b .sent;
       kept = drop-set-lt m (withProcesses n f s .kept .0) n (placed mostProcesses noCheckpoint (f n .kept)) h ∙ b .kept;
-      held = drop-set-lt m (withProcesses n f s .held) n (length (f n .kept)) h ∙ b .held;
+      «kept_count» = drop-set-lt m (withProcesses n f s .«kept_count») n (length (f n .kept)) h ∙ b .«kept_count»;
     }
 
 -- A vector of zeros is zero from any place on.
@@ -99,19 +99,19 @@ unfolding unusedMessage
 message-unused = zeros 0
 
 -- After the list that was laid into a table of fixed size every place is unused.
-placed-behind : {A : Type 0} (t : A → Bool) (size : ℕ) (x : A) (l : List A) → t x ≡ true → every t (drop (length l) (placed size x l)) ≡ true
+placed-beyond : {A : Type 0} (t : A → Bool) (size : ℕ) (x : A) (l : List A) → t x ≡ true → every t (drop (length l) (placed size x l)) ≡ true
 unfolding placed
-placed-behind t size x l e = rw (drop-append-seam l (replicate (size - length l) x)) (every-replicate t (size - length l) x e)
+placed-beyond t size x l e = rw (drop-append-seam l (replicate (size - length l) x)) (every-replicate t (size - length l) x e)
 
 -- A vector of n entries is zero from n on.
-vector-behind : (n : ℕ) (w : ℕ → ℕ) → zeroFrom n (vectorOf n w) ≡ true
+vector-beyond : (n : ℕ) (w : ℕ → ℕ) → zeroFrom n (vectorOf n w) ≡ true
 unfolding zeroFrom
-vector-behind n w = every-from (λ x. eqb (x .0) 0) (record { 0 = 0 }) n (vectorOf n w) (λ i a b. rw (entry-past n w i a))
+vector-beyond n w = every-from (λ x. eqb (x .0) 0) (record { 0 = 0 }) n (vectorOf n w) (λ i a b. rw (entry-past n w i a))
 
 -- Pins from n on are none.
-pins-behind : (r : Ideal) (p : ℕ) → nothingFrom (r .n) (pinsOf r p) ≡ true
+pins-beyond : (r : Ideal) (p : ℕ) → nothingFrom (r .n) (pinsOf r p) ≡ true
 unfolding nothingFrom isNothing
-pins-behind r p = every-from isNothing Nothing (r .n) (pinsOf r p) (λ i a b. rw (pin-past r p i a))
+pins-beyond r p = every-from isNothing Nothing (r .n) (pinsOf r p) (λ i a b. rw (pin-past r p i a))
 
 -- What the state holds of the checkpoints of process p.
 pub row-is : (r : Ideal) (p : ℕ) → r .n ≤ mostProcesses → p < r .n → Row (stateOf r) p (keptOf r p)
@@ -121,21 +121,21 @@ row-is r p few hp =
     record { many = w .many; row = w .row }
 
 -- From n on every row is as in a state of zeros.
-state-behind : (r : Ideal) → Behind (r .n) (stateOf r) (blank (r .n))
+state-beyond : (r : Ideal) → Beyond (r .n) (stateOf r) (blank (r .n))
 unfolding stateOf partsOf withDisk withMessages
-state-behind r =
-    let b = behind-all (r .n) (r .n) (processOf r) (blank (r .n)) (omega arith) in
-    record { vectors = b .vectors; pins = b .pins; sent = b .sent; kept = b .kept; held = b .held }
+state-beyond r =
+    let b = beyond-all (r .n) (r .n) (processOf r) (blank (r .n)) (omega arith) in
+    record { vectors = b .vectors; pins = b .pins; sent = b .sent; kept = b .kept; «kept_count» = b .«kept_count» }
 
 -- Stored vectors are zero from n on.
-stored-behind : (r : Ideal) (p : ℕ) → every (λ c. zeroFrom (r .n) (c .vector)) (keptOf r p) ≡ true
+stored-beyond : (r : Ideal) (p : ℕ) → every (λ c. zeroFrom (r .n) (c .vector)) (keptOf r p) ≡ true
 unfolding checkpointOf
-stored-behind r p = kept-every r p _ (λ k lt e. vector-behind (r .n) (r .vector p k))
+stored-beyond r p = kept-every r p _ (λ k lt e. vector-beyond (r .n) (r .vector p k))
 
 -- So are the vectors that messages under way carry.
-carried-behind : (r : Ideal) → every (λ x. zeroFrom (stateOf r .count) (x .vector)) (underWay (stateOf r)) ≡ true
+carried-beyond : (r : Ideal) → every (λ x. zeroFrom (stateOf r .count) (x .vector)) (underWay (stateOf r)) ≡ true
 unfolding messagesOf messageOf
-carried-behind r = rw (underWay-is r, count-is r) (passing-every _ (suc (r .last)) (r .transit) (messageOf r) (λ m lt e. vector-behind (r .n) (r .carried m)))
+carried-beyond r = rw (underWay-is r, count-is r) (passing-every _ (suc (r .last)) (r .transit) (messageOf r) (λ m lt e. vector-beyond (r .n) (r .carried m)))
 
 -- A row of the run: its vector, its pins and its stored vectors from n on, and the places after its checkpoints.
 row-unused : (r : Ideal) (p : ℕ) → r .n ≤ mostProcesses → p < r .n → rowUnused (stateOf r) p ≡ true
@@ -145,10 +145,10 @@ row-unused r p few hp = rw (
   row-is r p few hp .many,
   row-is r p few hp .row,
   count-is r,
-  vector-behind (r .n) (r .vector p (r .own p)),
-  pins-behind r p,
-  stored-behind r p,
-  placed-behind unusedCheckpoint mostProcesses noCheckpoint (keptOf r p) checkpoint-unused,
+  vector-beyond (r .n) (r .vector p (r .own p)),
+  pins-beyond r p,
+  stored-beyond r p,
+  placed-beyond unusedCheckpoint mostProcesses noCheckpoint (keptOf r p) checkpoint-unused,
 )
 
 -- And so every row of the run.
@@ -158,33 +158,33 @@ rows-unused r few = all-in (stateOf r .count) (rowUnused (stateOf r)) (λ p hp. 
 -- The vectors from row n on are zero.
 vectors-unused : (r : Ideal) → every (zeroFrom 0) (drop (stateOf r .count) (stateOf r .vectors .0)) ≡ true
 unfolding blank
-vectors-unused r = rw (count-is r, state-behind r .vectors) (every-drop (zeroFrom 0) (r .n) (replicate mostProcesses zeroVector) (every-replicate (zeroFrom 0) mostProcesses zeroVector (zeros 0)))
+vectors-unused r = rw (count-is r, state-beyond r .vectors) (every-drop (zeroFrom 0) (r .n) (replicate mostProcesses zeroVector) (every-replicate (zeroFrom 0) mostProcesses zeroVector (zeros 0)))
 
 -- The pins from row n on are none.
 pins-unused : (r : Ideal) → every (nothingFrom 0) (drop (stateOf r .count) (stateOf r .pins .0)) ≡ true
 unfolding blank
-pins-unused r = rw (count-is r, state-behind r .pins) (every-drop (nothingFrom 0) (r .n) (replicate mostProcesses noPins) (every-replicate (nothingFrom 0) mostProcesses noPins nothings))
+pins-unused r = rw (count-is r, state-beyond r .pins) (every-drop (nothingFrom 0) (r .n) (replicate mostProcesses noPins) (every-replicate (nothingFrom 0) mostProcesses noPins nothings))
 
 -- The sent marks from n on are not set.
 sent-unused : (r : Ideal) → every not (drop (stateOf r .count) (stateOf r .sent)) ≡ true
 unfolding blank
-sent-unused r = rw (count-is r, state-behind r .sent) (every-drop not (r .n) (replicate mostProcesses false) (every-replicate not mostProcesses false refl))
+sent-unused r = rw (count-is r, state-beyond r .sent) (every-drop not (r .n) (replicate mostProcesses false) (every-replicate not mostProcesses false refl))
 
 -- The checkpoints from row n on are unused.
 kept-unused : (r : Ideal) → every (every unusedCheckpoint) (drop (stateOf r .count) (stateOf r .kept .0)) ≡ true
 unfolding blank
-kept-unused r = rw (count-is r, state-behind r .kept) (every-drop (every unusedCheckpoint) (r .n) (replicate mostProcesses (replicate mostProcesses noCheckpoint))
+kept-unused r = rw (count-is r, state-beyond r .kept) (every-drop (every unusedCheckpoint) (r .n) (replicate mostProcesses (replicate mostProcesses noCheckpoint))
     (every-replicate (every unusedCheckpoint) mostProcesses (replicate mostProcesses noCheckpoint) (every-replicate unusedCheckpoint mostProcesses noCheckpoint checkpoint-unused)))
 
 -- From row n on no checkpoint is held.
-held-unused : (r : Ideal) → every (eqb 0) (drop (stateOf r .count) (stateOf r .held)) ≡ true
+kept-count-unused : (r : Ideal) → every (eqb 0) (drop (stateOf r .count) (stateOf r .«kept_count»)) ≡ true
 unfolding blank
-held-unused r = rw (count-is r, state-behind r .held) (every-drop (eqb 0) (r .n) (replicate mostProcesses 0) (every-replicate (eqb 0) mostProcesses 0 refl))
+kept-count-unused r = rw (count-is r, state-beyond r .«kept_count») (every-drop (eqb 0) (r .n) (replicate mostProcesses 0) (every-replicate (eqb 0) mostProcesses 0 refl))
 
 -- The places after the messages under way are unused.
 messages-unused : (r : Ideal) → every unusedMessage (drop (stateOf r .underway) (stateOf r .messages)) ≡ true
 unfolding stateOf partsOf withDisk withMessages
-messages-unused r = placed-behind unusedMessage mostUnderWay noMessage (messagesOf r) message-unused
+messages-unused r = placed-beyond unusedMessage mostUnderWay noMessage (messagesOf r) message-unused
 
 -- "Unused places hold zero; unused pins, in rows or columns at n and above, are none."
 pub unused-sound : (r : Ideal) → r .n ≤ mostProcesses → unusedSound (stateOf r) ≡ true
@@ -195,7 +195,7 @@ unused-sound r few = rw (
   pins-unused r,
   sent-unused r,
   kept-unused r,
-  held-unused r,
-  carried-behind r,
+  kept-count-unused r,
+  carried-beyond r,
   messages-unused r,
 )

@@ -35,8 +35,8 @@ unfolding vectorOf
 zeros n = table-replicate {A = Interval} mostProcesses (record { 0 = 0 }) ∙ table-same mostProcesses _ _ (λ f lt. rw (pick-same {A = ℕ} (ltb f n) 0))
 
 -- What a started process has, field by field.
-module _ (n : ℕ) (counts : List ℕ) (p : ℕ) (lt : p < n) where
-  start-vector : set zeroVector p (record { 0 = 1 }) ≡ vectorOf n (begun n counts .vector p (begun n counts .own p))
+module _ (n : ℕ) (blockCounts : List ℕ) (p : ℕ) (lt : p < n) where
+  start-vector : set zeroVector p (record { 0 = 1 }) ≡ vectorOf n (begun n blockCounts .vector p (begun n blockCounts .own p))
   unfolding begin
   start-vector =
       ap (λ (l : List Interval). set l p (record { 0 = 1 })) (zeros n)
@@ -45,7 +45,7 @@ module _ (n : ℕ) (counts : List ℕ) (p : ℕ) (lt : p < n) where
       (λ e. rw (e, upd-same {A = ℕ} (λ f. 0) p 1, eq-eqb p p refl))
       (λ ne. rw (upd-other {A = ℕ} (λ f. 0) p 1 f ne, ne-eqb p f (omega arith))))
 
-  start-pins : set noPins p (At (record { 0 = 0 })) ≡ pinsOf (begun n counts) p
+  start-pins : set noPins p (At (record { 0 = 0 })) ≡ pinsOf (begun n blockCounts) p
   unfolding begin pinsOf pinOf
   start-pins =
       ap (λ (l : List Pin). set l p (At (record { 0 = 0 }))) (table-replicate {A = Pin} mostProcesses Nothing)
@@ -54,53 +54,53 @@ module _ (n : ℕ) (counts : List ℕ) (p : ℕ) (lt : p < n) where
       (λ e. rw (e, upd-same {A = Pin} (λ f. Nothing) p (At (record { 0 = 0 })), eq-eqb p p refl, lt-ltb p n lt))
       (λ ne. rw (upd-other {A = Pin} (λ f. Nothing) p (At (record { 0 = 0 })) f ne, ne-eqb p f (omega arith)) (sym (pick-same (ltb f n) Nothing))))
 
-  start-keeps : keeps (begun n counts) p 0 ≡ true
+  start-keeps : keeps (begun n blockCounts) p 0 ≡ true
   unfolding begin keeps
   start-keeps = any-in n (λ f. names (pick (eqb p f) (some 0) none) 0) p lt (rw (eq-eqb p p refl))
 
-  start-kept : checkpointZero (getD counts p 0) ∷ [] ≡ keptOf (begun n counts) p
+  start-kept : checkpointZero (getD blockCounts p 0) ∷ [] ≡ keptOf (begun n blockCounts) p
   unfolding checkpointZero begin openLedger keptOf checkpointOf passing
-  start-kept = rw start-keeps (ap (λ (v : List Interval). record { index = record { 0 = 0 }; vector = v; cause = 0; blocks = getD counts p 0 } ∷ []) (zeros n))
+  start-kept = rw start-keeps (ap (λ (v : List Interval). record { index = record { 0 = 0 }; vector = v; cause = 0; blocks = getD blockCounts p 0 } ∷ []) (zeros n))
 
-  start-mark : false ≡ begun n counts .mark p
+  start-mark : false ≡ begun n blockCounts .mark p
   unfolding begin
   start-mark = refl
 
   -- Each process's part.
-  start-process : started counts p ≡ processOf (begun n counts) p
+  start-process : started blockCounts p ≡ processOf (begun n blockCounts) p
   unfolding started processOf begin
-  start-process = process-eq (started counts p) (processOf (begun n counts) p) start-vector start-pins start-mark start-kept
+  start-process = process-eq (started blockCounts p) (processOf (begun n blockCounts) p) start-vector start-pins start-mark start-kept
 
 -- A blank state with no messages put in.
 blank-messages : (n : ℕ) → withMessages (blank n) [] 0 ≡ blank n
 unfolding withMessages blank placed
 blank-messages n = refl
 
-start-parts : (n : ℕ) (counts : List ℕ) → withProcesses n (started counts) (blank n) ≡ partsOf (begun n counts)
+start-parts : (n : ℕ) (blockCounts : List ℕ) → withProcesses n (started blockCounts) (blank n) ≡ partsOf (begun n blockCounts)
 unfolding partsOf begin messagesOf passing
-start-parts n counts =
-    ap (λ (s : Run). withProcesses n (started counts) s) (sym (blank-messages n))
-    ∙ all-messages n (started counts) (blank n) [] 0
-    ∙ ap (λ (s : Run). withMessages s [] 0) (all-agree n (started counts) (processOf (begun n counts)) (blank n) (λ p lt. start-process n counts p lt))
+start-parts n blockCounts =
+    ap (λ (s : Run). withProcesses n (started blockCounts) s) (sym (blank-messages n))
+    ∙ all-messages n (started blockCounts) (blank n) [] 0
+    ∙ ap (λ (s : Run). withMessages s [] 0) (all-agree n (started blockCounts) (processOf (begun n blockCounts)) (blank n) (λ p lt. start-process n blockCounts p lt))
 
 -- Each process keeps one checkpoint of its count: nothing is deleted.
-one-kept : (n : ℕ) (counts : List ℕ) (p : ℕ) → p < n → countBelow (begun n counts .own p) (keeps (begun n counts) p) * begun n counts .ledger .counts p ≡ getD counts p 0
+one-kept : (n : ℕ) (blockCounts : List ℕ) (p : ℕ) → p < n → countBelow (begun n blockCounts .own p) (keeps (begun n blockCounts) p) * begun n blockCounts .ledger .blockCounts p ≡ getD blockCounts p 0
 unfolding begin openLedger countBelow
-one-kept n counts p lt = rw (start-keeps n counts p lt) (once (getD counts p 0))
+one-kept n blockCounts p lt = rw (start-keeps n blockCounts p lt) (once (getD blockCounts p 0))
   where
     once : (x : ℕ) → 1 * x ≡ x
     once x = omega arith
 
-pub start-kept-in : (n : ℕ) (counts : List ℕ) → keptIn (begun n counts) ≡ sumBelow n (λ p. getD counts p 0)
+pub start-kept-in : (n : ℕ) (blockCounts : List ℕ) → keptIn (begun n blockCounts) ≡ sumBelow n (λ p. getD blockCounts p 0)
 unfolding keptIn begin
-start-kept-in n counts = sum-same n _ _ (λ p lt. one-kept n counts p lt)
+start-kept-in n blockCounts = sum-same n _ _ (λ p lt. one-kept n blockCounts p lt)
 
-start-disk : (n : ℕ) (counts : List ℕ) → opening n counts ≡ diskOf (begun n counts)
+start-disk : (n : ℕ) (blockCounts : List ℕ) → opening n blockCounts ≡ diskOf (begun n blockCounts)
 unfolding opening diskOf openLedger
-start-disk n counts =
-    let none-deleted : 0 ≡ sumBelow n (λ p. getD counts p 0) - keptIn (begun n counts) = omega (arith, start-kept-in n counts) in
-    λ j. record { written = sumBelow n (λ p. getD counts p 0); deleted = none-deleted j }
+start-disk n blockCounts =
+    let none-deleted : 0 ≡ sumBelow n (λ p. getD blockCounts p 0) - keptIn (begun n blockCounts) = omega (arith, start-kept-in n blockCounts) in
+    λ j. record { written = sumBelow n (λ p. getD blockCounts p 0); deleted = none-deleted j }
 
-pub start-is : (n : ℕ) (counts : List ℕ) → startState n counts ≡ stateOf (begun n counts)
+pub start-is : (n : ℕ) (blockCounts : List ℕ) → startState n blockCounts ≡ stateOf (begun n blockCounts)
 unfolding startState stateOf
-start-is n counts = λ j. withDisk (start-parts n counts j) (start-disk n counts j)
+start-is n blockCounts = λ j. withDisk (start-parts n blockCounts j) (start-disk n blockCounts j)

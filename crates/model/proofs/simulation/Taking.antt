@@ -98,7 +98,7 @@ module _ (r : Ideal) (m : ℕ) (few : r .n ≤ mostProcesses) (hi : r .receiver 
   stored-same : (t : ℕ → Bool) → passing (r .own i) t (checkpointOf (takenIn r m) i) ≡ passing (r .own i) t (checkpointOf r i)
   stored-same t = passing-same (r .own i) _ _ _ _ (λ k lt. refl)
       (λ k lt q. checkpoint-same r (takenIn r m) i k (takenIn-n r m) (λ f hf. takenIn-vector r m i k f (λ a b. omega arith)) lt (omega (arith, takenIn-own r m i))
-      (ap (λ (l : Ledger). l .cause i k) (taken-ledger r m)) (ap (λ (l : Ledger). l .counts i) (taken-ledger r m)))
+      (ap (λ (l : Ledger). l .cause i k) (taken-ledger r m)) (ap (λ (l : Ledger). l .blockCounts i) (taken-ledger r m)))
 
   -- A part with the run's vector, pins and mark, and with the checkpoints that pass a test.
   module _ (P : Process) (t : ℕ → Bool) (ev : P .vector ≡ vectorOf (r .n) v) (ep : P .pins ≡ pinsOf r i) (em : P .mark ≡ r .mark i)

@@ -44,7 +44,7 @@ checkpointOf r p k = record {
   index = record { 0 = k };
   vector = vectorOf (r .n) (r .vector p k);
   cause = pick (ltb k (r .own p)) (r .ledger .cause p k) 0;
-  blocks = pick (ltb k (r .own p)) (r .ledger .counts p) 0;
+  blocks = pick (ltb k (r .own p)) (r .ledger .blockCounts p) 0;
 }
 
 -- The checkpoints that p keeps, ascending.
@@ -73,7 +73,7 @@ stateOf r = withDisk (partsOf r) (diskOf r)
 
 -- A ledger that the refusals and the steps keep: counts in range, causes as a sound state has them, what is kept was written, and no more than the bound.
 pub record Fits (r : Ideal) : Type 0 where
-  pub counts : (p : ℕ) → p < r .n → isBlockCount (r .ledger .counts p) ≡ true
+  pub blockCounts : (p : ℕ) → p < r .n → isBlockCount (r .ledger .blockCounts p) ≡ true
   pub causes : (p k : ℕ) → p < r .n → k < r .own p → causeSound k (r .ledger .cause p k) ≡ true
   pub paid : keptIn r ≤ r .ledger .written
   pub room : r .ledger .written ≤ mostBlocks

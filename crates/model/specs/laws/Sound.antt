@@ -14,7 +14,7 @@ use Rattle.laws.specs.Truth.{and-out}
 use Rattle.model.specs.declared.Pin.the-variants.{Nothing}
 use Rattle.model.specs.declared.Message.{Message}
 use Rattle.model.specs.declared.Run.{Run}
-use Rattle.model.specs.Words.{mostProcesses, mostUnderWay, mostMessages, mostBlocks, entry, lastStored, names, named, noCheckpoint, process, own, underWay}
+use Rattle.model.specs.Words.{mostProcesses, mostUnderWay, mostMessages, mostBlocks, entry, lastStored, names, isPinned, noCheckpoint, process, own, underWay}
 use Rattle.model.specs.Sound.{countSound, ownSound, within, vectorsSound, ascending, keptSound, pinSound, pinsSound, messageSound, messagesSound, zeroFrom, unusedCheckpoint, unusedMessage, nothingFrom, rowUnused, unusedSound, recordSound, keptBlocks, diskSound, sound}
 
 -- What a sound state holds of process p.
@@ -26,20 +26,20 @@ pub record SoundProcess (s : Run) (p : ℕ) : Type 0 where
   pub stored-within : every (λ c. within s (c .vector)) (process s p .kept) ≡ true
   -- "Each process keeps 1 to n checkpoints, indexes ascending, each one's own entry equal to its index; the last is the own entry minus 1 and the own
   -- pin names it."
-  pub held-some : 1 ≤ getD (s .held) p 0
-  pub held-most : getD (s .held) p 0 ≤ s .count
+  pub kept-count-some : 1 ≤ getD (s .«kept_count») p 0
+  pub kept-count-most : getD (s .«kept_count») p 0 ≤ s .count
   pub kept-ascend : ascending 0 (map (λ c. c .index .0) (process s p .kept)) ≡ true
   pub kept-own : every (λ c. eqb (entry (c .vector) p .0) (c .index .0)) (process s p .kept) ≡ true
   pub kept-last : orElse (lastOf (process s p .kept)) noCheckpoint .index .0 ≡ lastStored (own s p) .0
   pub own-pin : names (getD (process s p .pins) p Nothing) (lastStored (own s p)) ≡ true
   -- "Every pin is none or names a kept one; every kept one is pinned."
   pub pins-kept : every (pinSound (process s p .kept)) (process s p .pins) ≡ true
-  pub kept-pinned : every (named (process s p .pins)) (process s p .kept) ≡ true
+  pub kept-pinned : every (isPinned (process s p .pins)) (process s p .kept) ≡ true
   -- "Unused places hold zero; unused pins .. are none."
   pub vector-unused : zeroFrom (s .count) (process s p .vector) ≡ true
   pub pins-unused : nothingFrom (s .count) (process s p .pins) ≡ true
   pub stored-unused : every (λ c. zeroFrom (s .count) (c .vector)) (process s p .kept) ≡ true
-  pub row-unused : every unusedCheckpoint (drop (getD (s .held) p 0) (getD (s .kept .0) p [])) ≡ true
+  pub row-unused : every unusedCheckpoint (drop (getD (s .«kept_count») p 0) (getD (s .kept .0) p [])) ≡ true
   -- Note 5: "causes 0 to 2, 0 exactly at index 0, block counts from 1 to 65,535, equal within a process"
   pub records-sound : every (recordSound (process s p)) (process s p .kept) ≡ true
 
@@ -58,11 +58,11 @@ pub record SoundState (s : Run) : Type 0 where
   pub messages-sound : every (messageSound s) (underWay s) ≡ true
   pub last-most : s .last ≤ mostMessages
   -- "Unused places hold zero; unused pins, in rows .. at n and above, are none."
-  pub vectors-behind : every (zeroFrom 0) (drop (s .count) (s .vectors .0)) ≡ true
-  pub pins-behind : every (nothingFrom 0) (drop (s .count) (s .pins .0)) ≡ true
-  pub sent-behind : every not (drop (s .count) (s .sent)) ≡ true
-  pub kept-behind : every (every unusedCheckpoint) (drop (s .count) (s .kept .0)) ≡ true
-  pub held-behind : every (eqb 0) (drop (s .count) (s .held)) ≡ true
+  pub vectors-beyond : every (zeroFrom 0) (drop (s .count) (s .vectors .0)) ≡ true
+  pub pins-beyond : every (nothingFrom 0) (drop (s .count) (s .pins .0)) ≡ true
+  pub sent-beyond : every not (drop (s .count) (s .sent)) ≡ true
+  pub kept-beyond : every (every unusedCheckpoint) (drop (s .count) (s .kept .0)) ≡ true
+  pub kept-count-beyond : every (eqb 0) (drop (s .count) (s .«kept_count»)) ≡ true
   pub carried-unused : every (λ x. zeroFrom (s .count) (x .vector)) (underWay s) ≡ true
   pub messages-unused : every unusedMessage (drop (s .underway) (s .messages)) ≡ true
   -- Note 5: ".. and that sum, within the bound of 16"
@@ -129,8 +129,8 @@ module _ (s : Run) (h : sound s ≡ true) where
         own-some = leb-true _ _ (all-out (s .count) (λ p. leb 1 (own s p .0)) (clauses .1) p lt);
         current-within = vectors .0;
         stored-within = vectors .1;
-        held-some = leb-true _ _ (b .0);
-        held-most = leb-true _ _ (b .1);
+        kept-count-some = leb-true _ _ (b .0);
+        kept-count-most = leb-true _ _ (b .1);
         kept-ascend = c .1;
         kept-own = d .1;
         kept-last = eqb-true _ _ (e .1);
@@ -167,11 +167,11 @@ module _ (s : Run) (h : sound s ≡ true) where
         messages-ascend = b .1;
         messages-sound = c .1;
         last-most = leb-true _ _ (d .1);
-        vectors-behind = t .1;
-        pins-behind = u .1;
-        sent-behind = v .1;
-        kept-behind = w .1;
-        held-behind = x .1;
+        vectors-beyond = t .1;
+        pins-beyond = u .1;
+        sent-beyond = v .1;
+        kept-beyond = w .1;
+        kept-count-beyond = x .1;
         carried-unused = y .1;
         messages-unused = z .1;
         written-sum = disk-clauses .1;

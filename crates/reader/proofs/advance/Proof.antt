@@ -38,11 +38,11 @@ use denote.Triple.Clauses.{ensured, lasts}
 use Rattle.reader.specs.Reading.{takenAfter, readerAfter}
 use Rattle.reader.specs.declared.Reader.{Reader}
 use Rattle.reader.proofs.Reader.Laws as T′
-use Rattle.reader.proofs.Held.{α, B, D, L, fieldsOf, Typed, OwnReader, TakesReader, TakesBytes, bytesAnd, keptReader, Entry, reader-meets, taken-apart}
-use Rattle.reader.proofs.count_behind as callee
-use Rattle.reader.proofs.count_behind.Symbol as callee-def
-use Rattle.reader.proofs.count_behind.Symbol.{name as #count-behind}
-use Rattle.reader.proofs.count_behind.Met as callee-thm
+use Rattle.reader.proofs.Owned.{α, B, D, L, fieldsOf, Typed, OwnReader, TakesReader, TakesBytes, bytesAnd, keptReader, Entry, reader-meets, taken-apart}
+use Rattle.reader.proofs.count_after as callee
+use Rattle.reader.proofs.count_after.Symbol as callee-def
+use Rattle.reader.proofs.count_after.Symbol.{name as #count-after}
+use Rattle.reader.proofs.count_after.Met as callee-thm
 use Rattle.reader.proofs.advance.Key.{name as #advance}
 use Rattle.reader.proofs.advance as here
 use Rattle.reader.proofs.advance.Statement as stated
@@ -85,8 +85,8 @@ module _ {M : Type 1} (𝓤 : URA M) (H : Heap 𝓤) (A : Atoms 𝓤) (W : Given
   asked : ent 𝓤 Passed (Count 𝓤 H A mem run .pre to)
   asked = qed W (raw Passed ∷ []) ∵ frame ! $ done !
 
-  said : (n : ℕ) → ent 𝓤 (ensured 𝓤 H A callee.ended (callee.clauses 𝓤 H A mem run) (κ, tt) (d .trace, (d .taken, tt)) tt n) (fact 𝓤 (n ≡ found))
-  said n = exE 𝓤 _ (λ ws. snd∗ 𝓤 (sem 𝓤 H A (lasts callee.ended (κ, tt) (d .trace, (d .taken, tt)) ws)) (fact 𝓤 (n ≡ found)))
+  promised : (n : ℕ) → ent 𝓤 (ensured 𝓤 H A callee.ended (callee.clauses 𝓤 H A mem run) (κ, tt) (d .trace, (d .taken, tt)) tt n) (fact 𝓤 (n ≡ found))
+  promised n = exE 𝓤 _ (λ ws. snd∗ 𝓤 (sem 𝓤 H A (lasts callee.ended (κ, tt) (d .trace, (d .taken, tt)) ws)) (fact 𝓤 (n ≡ found)))
 
   -- what the reader owns is had twice: as it was passed, and with the new count's facts in the place of the old ones
   exits : (n : ℕ) (u : Val) → n ≡ found → n < 2 ^ 64 → ent 𝓤 (⋆ 𝓤 H A (‵ (usize .own n (u ∷ [])) ∷ (‵ (flft κ q) ⊛ ‵ ftrue) ∷ ‵ (OwnReader κ d) ∷ [])) (Post (T′.lowered (at d n)))
@@ -96,7 +96,7 @@ module _ {M : Type 1} (𝓤 : URA M) (H : Heap 𝓤) (A : Atoms 𝓤) (W : Given
       drop ! $ frame ! $ use1 W (‵ (OwnReader κ d) ⊛ ‵ (OwnReader κ d)) (LL.copy (D κ) (T′.the-copy (α κ)) 𝓤 H A W .twice d (T′.lowered d ∷ [])) $ split ! $ nothing ! $ move ! (1 ∷ 0 ∷ []) $ fjoin ! $ frame ! $
       owned ! usize (Is usize) (uint-makes 𝓤 H A W w64) n _ (refl, fits) $ move ! (1 ∷ 0 ∷ []) $ by ! (own-put 𝓤 H A W (D κ) (L κ) 1 (fieldsOf κ d) n (T′.lowered d))
 
-  module _ (C : Calls 𝓤 H) (Λ : Loops 𝓤 H) (fm : FmC 𝓤 H (W .laws) C) (known : Triple 𝓤 (C #count-behind) (Count 𝓤 H A mem run)) where
+  module _ (C : Calls 𝓤 H) (Λ : Loops 𝓤 H) (fm : FmC 𝓤 H (W .laws) C) (known : Triple 𝓤 (C #count-after) (Count 𝓤 H A mem run)) where
     walk : Typed d → ent 𝓤 (Entry 𝓤 H A W res κ q d) (WpFn 𝓤 H C Λ code.function (T′.lowered d ∷ []) Post)
     walk wt =
         qed W (raw (Entry 𝓤 H A W res κ q d) ∷ []) ∵ enter ! C Λ code.function (T′.lowered d ∷ []) _ $
@@ -108,7 +108,7 @@ module _ {M : Type 1} (𝓤 : URA M) (H : Heap 𝓤) (A : Atoms 𝓤) (W : Given
         use1 W (raw (Count 𝓤 H A mem run .pre to)) asked $
         calls-at ! fm (Count 𝓤 H A mem run) known to (and-then ! (load ! (from ! (stop !)) (look ! 4 refl)) (and-then ! (load ! (from ! (stop !)) (look ! 2 refl)) (no-more !))) (λ u.
         use1 W (later (some (λ (n : ℕ). ((‵ (flft κ q) ⊛ ‵ ftrue) ⊛ ‵ (usize .own n (u ∷ []))) ⊛ raw (ensured 𝓤 H A callee.ended (callee.clauses 𝓤 H A mem run) (κ, tt) (d .trace, (d .taken, tt)) tt n)))) (id⊢ 𝓤 _) $ await ! tt $ pick ! (λ n.
-        split ! $ move ! (1 ∷ []) $ use1 W (raw (fact 𝓤 (n ≡ found))) (said n) $ heard ! (n ≡ found) (λ e. split ! $ move ! (1 ∷ []) $
+        split ! $ move ! (1 ∷ []) $ use1 W (raw (fact 𝓤 (n ≡ found))) (promised n) $ heard ! (n ≡ found) (λ e. split ! $ move ! (1 ∷ []) $
         -- [the count; the token; what the reader owns; _5; …; _4; …; room for _3; …; _2; …; _1; …; room for _0; …]
         peeks ! usize (Is usize) (shows 𝓤 H A usize) n (u ∷ []) (λ is.
         land ! (from ! (stop !)) (init ! 7 refl (uint-lawful 𝓤 H A W w64 .typed n _ is .0)) $ rewrite ! 7 (λ (w : Val). ‵ (fat fullShare (tyInt w64) l₃ 0 w)) (ap only (is .0)) refl $
@@ -117,7 +117,7 @@ module _ {M : Type 1} (𝓤 : URA M) (H : Heap 𝓤) (A : Atoms 𝓤) (W : Given
         move ! (13 ∷ 14 ∷ []) $ free1 ! $ move ! (11 ∷ 12 ∷ []) $ free1 ! $ move ! (9 ∷ 10 ∷ []) $ free1 ! $ move ! (7 ∷ 8 ∷ []) $ free1 ! $ move ! (5 ∷ 6 ∷ []) $ free1 ! $ move ! (3 ∷ 4 ∷ []) $ free1 ! $ free0 ! $ by ! (exits n u e (is .1))))))))))))
 
 advance-meets : {M : Type 1} (𝓤 : URA M) (H : Heap 𝓤) (A : Atoms 𝓤) (W : Given 𝓤 H A) (mem : Memory → SProp 𝓤) (run : Routine → Fun 𝓤) (𝓣 : Tables 𝓤 H)
-    → Triple 𝓤 (𝓣 .C #count-behind) (Count 𝓤 H A mem run)
+    → Triple 𝓤 (𝓣 .C #count-after) (Count 𝓤 H A mem run)
     → Meets 𝓤 H A here.signature (WpFn 𝓤 H (𝓣 .C) (𝓣 .Λ) code.function) (here.spec 𝓤 H A mem run)
 advance-meets 𝓤 H A W mem run 𝓣 known =
     reader-meets 𝓤 H A W res (here.clauses 𝓤 H A mem run) (WpFn 𝓤 H (𝓣 .C) (𝓣 .Λ) code.function) (WpFn-mono 𝓤 H (W .laws) 𝓣 code.function)
@@ -129,4 +129,4 @@ advance-spec 𝓤 H 𝓜 𝓖 𝓡 =
     entered 𝓤 H (tripleOf 𝓤 H (𝓖 .A) here.signature (here.spec 𝓤 H (𝓖 .A) (𝓜 .mem) (𝓡 .run)))
     (tables 𝓤 H 𝓜 𝓡 code.env .C) (tables 𝓤 H 𝓜 𝓡 code.env .Λ) #advance code.function (code.unfolded 𝓤 H 𝓜 𝓡)
     (advance-meets 𝓤 H (𝓖 .A) (givenOf 𝓤 H 𝓜 𝓖) (𝓜 .mem) (𝓡 .run) (tablesOf 𝓤 H 𝓜 (tables 𝓤 H 𝓜 𝓡 code.env))
-    (cited 𝓤 H (Count 𝓤 H (𝓖 .A) (𝓜 .mem) (𝓡 .run)) 𝓜 𝓡 code.env #count-behind callee-def.routine code.calls-reader·count-behind (callee-thm.met 𝓤 H 𝓜 𝓖 𝓡)))
+    (cited 𝓤 H (Count 𝓤 H (𝓖 .A) (𝓜 .mem) (𝓡 .run)) 𝓜 𝓡 code.env #count-after callee-def.routine code.calls-reader·count-after (callee-thm.met 𝓤 H 𝓜 𝓖 𝓡)))

@@ -34,7 +34,7 @@ use denote.Triple.Clauses.{ensured, lasts}
 use Rattle.reader.specs.Reading.{recordLeft}
 use Rattle.reader.specs.declared.Reader.{Reader}
 use Rattle.reader.proofs.Reader.Laws as T′
-use Rattle.reader.proofs.Held.{Typed, OwnReader, TakesReader, TakesBytes, bytesAnd, keptReader, Entry, reader-meets, taken-apart}
+use Rattle.reader.proofs.Owned.{Typed, OwnReader, TakesReader, TakesBytes, bytesAnd, keptReader, Entry, reader-meets, taken-apart}
 use Rattle.reader.proofs.record_left as callee
 use Rattle.reader.proofs.record_left.Symbol as callee-def
 use Rattle.reader.proofs.record_left.Symbol.{name as #record-left}
@@ -69,8 +69,8 @@ module _ {M : Type 1} (𝓤 : URA M) (H : Heap 𝓤) (A : Atoms 𝓤) (W : Given
   asked : ent 𝓤 Passed (Left 𝓤 H A mem run .pre to)
   asked = qed W (raw Passed ∷ []) ∵ frame ! $ done !
 
-  said : (r : Bool) → ent 𝓤 (ensured 𝓤 H A callee.ended (callee.clauses 𝓤 H A mem run) (κ, tt) (d .trace, (d .taken, tt)) tt r) (fact 𝓤 (r ≡ found))
-  said r = exE 𝓤 _ (λ ws. snd∗ 𝓤 (sem 𝓤 H A (lasts callee.ended (κ, tt) (d .trace, (d .taken, tt)) ws)) (fact 𝓤 (r ≡ found)))
+  promised : (r : Bool) → ent 𝓤 (ensured 𝓤 H A callee.ended (callee.clauses 𝓤 H A mem run) (κ, tt) (d .trace, (d .taken, tt)) tt r) (fact 𝓤 (r ≡ found))
+  promised r = exE 𝓤 _ (λ ws. snd∗ 𝓤 (sem 𝓤 H A (lasts callee.ended (κ, tt) (d .trace, (d .taken, tt)) ws)) (fact 𝓤 (r ≡ found)))
 
   exits : (r : Bool) (u : Val) → r ≡ found → ent 𝓤 (⋆ 𝓤 H A (‵ (bool .own r (u ∷ [])) ∷ (‵ (flft κ q) ⊛ ‵ ftrue) ∷ ‵ (OwnReader κ d) ∷ [])) (Post u)
   exits r u e =
@@ -89,7 +89,7 @@ module _ {M : Type 1} (𝓤 : URA M) (H : Heap 𝓤) (A : Atoms 𝓤) (W : Given
         use1 W (raw (Left 𝓤 H A mem run .pre to)) asked $
         calls-at ! fm (Left 𝓤 H A mem run) known to (and-then ! (load ! (from ! (stop !)) (look ! 4 refl)) (and-then ! (load ! (from ! (stop !)) (look ! 2 refl)) (no-more !))) (λ u.
         use1 W (later (some (λ (r : Bool). ((‵ (flft κ q) ⊛ ‵ ftrue) ⊛ ‵ (bool .own r (u ∷ []))) ⊛ raw (ensured 𝓤 H A callee.ended (callee.clauses 𝓤 H A mem run) (κ, tt) (d .trace, (d .taken, tt)) tt r)))) (id⊢ 𝓤 _) $ await ! tt $ pick ! (λ r.
-        split ! $ move ! (1 ∷ []) $ use1 W (raw (fact 𝓤 (r ≡ found))) (said r) $ heard ! (r ≡ found) (λ e. split ! $ move ! (1 ∷ []) $
+        split ! $ move ! (1 ∷ []) $ use1 W (raw (fact 𝓤 (r ≡ found))) (promised r) $ heard ! (r ≡ found) (λ e. split ! $ move ! (1 ∷ []) $
         -- [the answer; the token; what the reader owns; _3; …; _2; …; _1; …; room for _0; …]
         peeks ! bool (Is bool) (shows 𝓤 H A bool) r (u ∷ []) (λ is.
         land ! (from ! (stop !)) (init ! 9 refl (bool-lawful 𝓤 H A W .typed r _ is .0)) $

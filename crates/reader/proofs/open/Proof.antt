@@ -33,7 +33,7 @@ use denote.Exit.{yes}
 use Rattle.reader.specs.Reading.{newReader}
 use Rattle.reader.specs.declared.Reader.{Reader}
 use Rattle.reader.proofs.Reader.Laws as T′
-use Rattle.reader.proofs.Held.{bytesVal, OwnBytes, OwnReader, put-together}
+use Rattle.reader.proofs.Owned.{bytesVal, OwnBytes, OwnReader, put-together}
 use Rattle.reader.proofs.open.Key.{name as #open}
 use Rattle.reader.proofs.open as here
 use Rattle.reader.proofs.open.Statement as stated

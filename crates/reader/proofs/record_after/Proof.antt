@@ -38,7 +38,7 @@ use denote.Exit.{yes}
 use Rattle.reader.specs.Reading.{recordAfter}
 use Rattle.reader.specs.declared.Reader.{Reader}
 use Rattle.reader.proofs.Reader.Laws as T′
-use Rattle.reader.proofs.Held.{B, bytesVal, OwnBytes, OwnReader, put-together}
+use Rattle.reader.proofs.Owned.{B, bytesVal, OwnBytes, OwnReader, put-together}
 use Rattle.reader.proofs.next_record as callee
 use Rattle.reader.proofs.next_record.Symbol as callee-def
 use Rattle.reader.proofs.next_record.Symbol.{name as #next-record}
@@ -86,8 +86,8 @@ module _ {M : Type 1} (𝓤 : URA M) (H : Heap 𝓤) (A : Atoms 𝓤) (W : Given
       move ! (1 ∷ []) $ fsplit ! $ move ! (1 ∷ []) $ drop ! $ use1 W (‵ (OwnBytes κ s) ⊛ ‵ (OwnReader κ made)) (put-together 𝓤 H A W κ s n fits) $ split ! $
       nothing ! $ move ! (2 ∷ 0 ∷ []) $ fjoin ! $ move ! (2 ∷ 0 ∷ []) $ use2 W (raw (Next 𝓤 H A mem run .pre to)) asked $ frame ! $ done !
 
-  said : (r : RefT (List ℕ)) → ent 𝓤 (ensured 𝓤 H A callee.ended (callee.clauses 𝓤 H A mem run) (κ, tt) (made, tt) tt r) (fact 𝓤 (now r ≡ recordAfter (now s) n))
-  said r = exE 𝓤 _ (λ ws. snd∗ 𝓤 (sem 𝓤 H A (lasts callee.ended (κ, tt) (made, tt) ws)) (fact 𝓤 (now r ≡ recordAfter (now s) n)))
+  promised : (r : RefT (List ℕ)) → ent 𝓤 (ensured 𝓤 H A callee.ended (callee.clauses 𝓤 H A mem run) (κ, tt) (made, tt) tt r) (fact 𝓤 (now r ≡ recordAfter (now s) n))
+  promised r = exE 𝓤 _ (λ ws. snd∗ 𝓤 (sem 𝓤 H A (lasts callee.ended (κ, tt) (made, tt) ws)) (fact 𝓤 (now r ≡ recordAfter (now s) n)))
 
   exits : (r : RefT (List ℕ)) (u : Val) → now r ≡ recordAfter (now s) n → ent 𝓤 (⋆ 𝓤 H A (‵ (R κ .own r (u ∷ [])) ∷ (‵ (flft κ q) ⊛ ‵ ftrue) ∷ ‵ (OwnBytes κ s) ∷ [])) (Post u)
   exits r u e =
@@ -105,7 +105,7 @@ module _ {M : Type 1} (𝓤 : URA M) (H : Heap 𝓤) (A : Atoms 𝓤) (W : Given
         move ! (8 ∷ []) $ use1 W (raw (Next 𝓤 H A mem run .pre to) ⊛ ‵ (OwnBytes κ s)) goes $ split ! $
         calls-at ! fm (Next 𝓤 H A mem run) known to (and-then ! (load ! (from ! (stop !)) (look ! 2 refl)) (no-more !)) (λ u.
         use1 W (later (some (λ (r : RefT (List ℕ)). ((‵ (flft κ q) ⊛ ‵ ftrue) ⊛ ‵ (R κ .own r (u ∷ []))) ⊛ raw (ensured 𝓤 H A callee.ended (callee.clauses 𝓤 H A mem run) (κ, tt) (made, tt) tt r)))) (id⊢ 𝓤 _) $ await ! tt $ pick ! (λ r.
-        split ! $ move ! (1 ∷ []) $ use1 W (raw (fact 𝓤 (now r ≡ recordAfter (now s) n))) (said r) $ heard ! (now r ≡ recordAfter (now s) n) (λ e. split ! $ move ! (1 ∷ []) $
+        split ! $ move ! (1 ∷ []) $ use1 W (raw (fact 𝓤 (now r ≡ recordAfter (now s) n))) (promised r) $ heard ! (now r ≡ recordAfter (now s) n) (λ e. split ! $ move ! (1 ∷ []) $
         -- [the part; the token; what the bytes own; _3; …; _2; …; _1; …; room for _0; …]
         peeks ! (R κ) (Is (R κ)) (shows 𝓤 H A (R κ)) r (u ∷ []) (λ is.
         land ! (from ! (stop !)) (init ! 9 refl (shr-slice-lawful 𝓤 H A W (named 0) κ u8 .typed r _ is .0)) $

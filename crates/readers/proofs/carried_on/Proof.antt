@@ -12,7 +12,7 @@ use Rattle.readers.specs.Readings.{Reading}
 use Rattle.message_words.specs.declared.Found.the-variants.{Nothing, At}
 use Rattle.message_words.specs.Places.{placeOf, foundAt}
 use Rattle.in_place.proofs.Losing.{place-in}
-use Rattle.readers.proofs.Readings.{told, nothing-said}
+use Rattle.readers.proofs.Readings.{answer-is, nothing-reported}
 use Rattle.readers.proofs.Carried.{carried-short, carried-missing, carried-read}
 use Rattle.readers.proofs.carried_on.Statement.{statement}
 use Rattle.readers.proofs.carried_on.Tie as tie
@@ -31,7 +31,7 @@ one-found (suc k) j e = ap suc (let z : j ≡ k = cc in sym z)
 returns : tie.Need-returns
 returns c =
     let s = c .before .before .before .before .before in
-    told (carried-short (s .args .w .now) (s .pre) (s .args .message) (s .args .vector .now) (omega (arith, c .before .before .count-in .ensures, c .before .if1 .taken))) (c .refused .ensures) refl
+    answer-is (carried-short (s .args .w .now) (s .pre) (s .args .message) (s .args .vector .now) (omega (arith, c .before .before .count-in .ensures, c .before .if1 .taken))) (c .refused .ensures) refl
 
 place-of-requires : tie.Need-place-of-requires
 place-of-requires c κs = let s = c .before .before .before .before in let h = sound-words (s .args .w .now) (s .pre) in (h .size, h .end)
@@ -40,7 +40,7 @@ returns-2 : tie.Need-returns-2
 returns-2 c =
     let s = c .before .before .before .before .before .before .before .before in
     let e = none-found (placeOf (s .args .w .now) (s .args .message)) (sym (c .before .enum-told .given .1) ∙ c .before .before .before .place-of .ensures) in
-    told (carried-missing (s .args .w .now) (s .pre) (s .args .message) (s .args .vector .now) (omega (arith, c .before .before .before .before .before .count-in .ensures, c .before .before .before .before .if1 .left)) e) (c .refused2 .ensures) refl
+    answer-is (carried-missing (s .args .w .now) (s .pre) (s .args .message) (s .args .vector .now) (omega (arith, c .before .before .before .before .before .count-in .ensures, c .before .before .before .before .if1 .left)) e) (c .refused2 .ensures) refl
 
 carried-at-requires : tie.Need-carried-at-requires
 carried-at-requires c κs =
@@ -61,7 +61,7 @@ returns-3 c =
     let s = c .before .before .before .before .before .before .before .before .before .before .before .before .before in
     let n = c .before .before .before .before .before .before .before .before .before .before .count-in .ensures in
     let e = one-found (placeOf (s .args .w .now) (s .args .message)) _ (sym (c .before .before .before .before .before .before .found .given .1) ∙ c .before .before .before .before .before .before .before .before .place-of .ensures) in
-    told (carried-read (s .args .w .now) (s .pre) (s .args .message) (s .args .vector .now) (omega (arith, n, c .before .before .before .before .before .before .before .before .before .if1 .left)) _ e) nothing-said
+    answer-is (carried-read (s .args .w .now) (s .pre) (s .args .message) (s .args .vector .now) (omega (arith, n, c .before .before .before .before .before .before .before .before .before .if1 .left)) _ e) nothing-reported
     (rw (n, c .before .before .before .before .carried-at .ensures) at (c .before .before .copy-words .ensures))
 
 pub carried-on-spec : {M : Type 1} → statement M

@@ -5,7 +5,7 @@ use native.Mathlib.Omega.{arith}
 use lib.ListN.{length, length-set}
 use borrow.Author.Needs.{needs}
 use Rattle.laws.specs.Below.{below-written}
-use Rattle.laws.specs.Loops.{setBelow, below-none, turn-set}
+use Rattle.laws.specs.Loops.{setBelow, below-none, step-set}
 use Rattle.words.specs.Layout.{word}
 use Rattle.readers.proofs.copy_words.Statement.{statement}
 use Rattle.readers.proofs.copy_words.Tie as tie
@@ -20,7 +20,7 @@ loop-again : tie.Need-loop-again Inv-loop μ-loop
 loop-again c =
     let l = c .before .before .loop in
     let a = c .before .before .before .args in
-    (search needs, simp length-set (l .inv .1), turn-set (λ q. word (a .w .now) (a .at + q)) (a .out .now) (l .out) (l .f) (l .inv .2) _ refl)
+    (search needs, simp length-set (l .inv .1), step-set (λ q. word (a .w .now) (a .at + q)) (a .out .now) (l .out) (l .f) (l .inv .2) _ refl)
 
 returns : tie.Need-returns Inv-loop μ-loop
 returns c =

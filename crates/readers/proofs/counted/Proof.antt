@@ -1,7 +1,7 @@
 -- `readers::counted` meets its contract. Assumes nothing.
 use native.Mathlib.Omega.{arith}
 use Rattle.listing.specs.Lines.{valueIn}
-use Rattle.listing.specs.Said.{reportIn}
+use Rattle.listing.specs.Summarised.{reportIn}
 use Rattle.answers.proofs.Fit.{fits-value}
 use Rattle.readers.proofs.counted.Statement.{statement}
 use Rattle.readers.proofs.counted.Tie as tie

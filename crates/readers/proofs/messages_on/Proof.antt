@@ -9,12 +9,12 @@ use Rattle.whole_runs.specs.Outcomes.{accepting}
 use Rattle.answers.specs.Codes.{coded, valueCode}
 use Rattle.words.proofs.ViewSound.{sound-words}
 use Rattle.readers.specs.Readings.{Reading}
-use Rattle.readers.proofs.Readings.{told, nothing-said, refusedBy, read, messages-few, messages-short, messages-read}
+use Rattle.readers.proofs.Readings.{answer-is, nothing-reported, refusedBy, read, messages-few, messages-short, messages-read}
 use Rattle.readers.proofs.messages_on.Statement.{statement}
 use Rattle.readers.proofs.messages_on.Tie as tie
 
 returns : tie.Need-returns
-returns c = let s = c .before .before .before .before in told (messages-short (s .args .w .now) (s .pre) (s .args .messages .now) (c .before .if1 .taken)) (c .refused .ensures) refl
+returns c = let s = c .before .before .before .before in answer-is (messages-short (s .args .w .now) (s .pre) (s .args .messages .now) (c .before .if1 .taken)) (c .refused .ensures) refl
 
 write-messages-requires : tie.Need-write-messages-requires
 write-messages-requires c κs =
@@ -31,7 +31,7 @@ returns-2 : tie.Need-returns-2
 returns-2 c =
     let s = c .before .before .before .before .before .before .before .before .before in
     let m = rw (c .before .before .before .before .before .end-in .ensures) at (c .before .before .before .write-messages .ensures) in
-    told (messages-read (s .args .w .now) (s .pre) (s .args .messages .now) (c .before .before .before .before .before .before .if1 .left)) (rw (m .1) at (c .counted .ensures)) (m .0)
+    answer-is (messages-read (s .args .w .now) (s .pre) (s .args .messages .now) (c .before .before .before .before .before .before .if1 .left)) (rw (m .1) at (c .counted .ensures)) (m .0)
 
 pub messages-on-spec : {M : Type 1} → statement M
 messages-on-spec =

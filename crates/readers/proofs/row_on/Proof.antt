@@ -3,20 +3,20 @@ use mathlib.Core.Path.{refl}
 use native.Mathlib.Omega.{arith}
 use borrow.Author.Needs.{needs}
 use Rattle.words.proofs.ViewSound.{sound-words}
-use Rattle.readers.proofs.Readings.{told, nothing-said, row-short, row-absent, row-read}
+use Rattle.readers.proofs.Readings.{answer-is, nothing-reported, row-short, row-absent, row-read}
 use Rattle.readers.proofs.row_on.Statement.{statement}
 use Rattle.readers.proofs.row_on.Tie as tie
 
 returns : tie.Need-returns
 returns c =
     let s = c .before .before .before .before .before in
-    told (row-short (s .args .w .now) (s .pre .0) (s .args .process) (s .args .from) (s .args .row .now) (omega (arith, c .before .before .count-in .ensures, c .before .if1 .taken))) (c .refused .ensures) refl
+    answer-is (row-short (s .args .w .now) (s .pre .0) (s .args .process) (s .args .from) (s .args .row .now) (omega (arith, c .before .before .count-in .ensures, c .before .if1 .taken))) (c .refused .ensures) refl
 
 returns-2 : tie.Need-returns-2
 returns-2 c =
     let s = c .before .before .before .before .before .before in
     let n = c .before .before .before .count-in .ensures in
-    told (row-absent (s .args .w .now) (s .pre .0) (s .args .process) (s .args .from) (s .args .row .now) (omega (arith, n, c .before .before .if1 .left)) (omega (arith, n, c .before .if2 .taken))) (c .refused2 .ensures) refl
+    answer-is (row-absent (s .args .w .now) (s .pre .0) (s .args .process) (s .args .from) (s .args .row .now) (omega (arith, n, c .before .before .if1 .left)) (omega (arith, n, c .before .if2 .taken))) (c .refused2 .ensures) refl
 
 part-at-requires : tie.Need-part-at-requires
 part-at-requires c κs = let s = c .before .before .before .before .before in omega (arith, c .before .before .count-in .ensures, c .if2 .left, sound-words (s .args .w .now) (s .pre .0) .few)
@@ -37,7 +37,7 @@ returns-3 : tie.Need-returns-3
 returns-3 c =
     let s = c .before .before .before .before .before .before .before .before .before .before in
     let n = c .before .before .before .before .before .before .before .count-in .ensures in
-    told (row-read (s .args .w .now) (s .pre .0) (s .args .process) (s .args .from) (s .args .row .now) (omega (arith, n, c .before .before .before .before .before .before .if1 .left)) (omega (arith, n, c .before .before .before .before .before .if2 .left))) nothing-said
+    answer-is (row-read (s .args .w .now) (s .pre .0) (s .args .process) (s .args .from) (s .args .row .now) (omega (arith, n, c .before .before .before .before .before .before .if1 .left)) (omega (arith, n, c .before .before .before .before .before .if2 .left))) nothing-reported
     (rw (n, c .before .before .before .before .part-at .ensures) at (c .before .before .copy-words .ensures))
 
 pub row-on-spec : {M : Type 1} → statement M

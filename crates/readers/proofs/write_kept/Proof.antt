@@ -9,15 +9,15 @@ use borrow.Author.Needs.{needs}
 use Rattle.laws.specs.Lists.{table}
 use Rattle.words.specs.Layout.{checkpointIn}
 use Rattle.readers.specs.Readings.{storedNumbers}
-use Rattle.readers.proofs.Three.{stored-turn}
+use Rattle.readers.proofs.Three.{stored-step}
 use Rattle.readers.proofs.write_kept.Statement.{statement}
 use Rattle.readers.proofs.write_kept.Tie as tie
 
 abbrev Inv-loop : tie.InvT-loop
-Inv-loop w p held out₀ k₀ out k = (k ≤ held) × (length out ≡ length out₀) × (out ≡ sets out₀ 0 (storedNumbers (table k (checkpointIn w p))))
+Inv-loop w p keptCount out₀ k₀ out k = (k ≤ keptCount) × (length out ≡ length out₀) × (out ≡ sets out₀ 0 (storedNumbers (table k (checkpointIn w p))))
 
 abbrev μ-loop : tie.MeasureT-loop
-μ-loop w p held out₀ k₀ out k = held - k
+μ-loop w p keptCount out₀ k₀ out k = keptCount - k
 
 nothing : (w out : List ℕ) (p : ℕ) → out ≡ sets out 0 (storedNumbers (table 0 (checkpointIn w p)))
 unfolding table storedNumbers
@@ -38,12 +38,12 @@ loop-again c =
     let l = c .before .before .before .before .before .loop in
     let a = c .before .before .before .before .before .before .before .before .args in
     let t = c .before .before .write-checkpoint in
-    (search needs, t .kept .1 .1 .1 .0 ∙ l .inv .1, t .ensures ∙ stored-turn (checkpointIn (a .w .now) (a .p)) (a .out .now) (l .out) (l .k) (l .inv .2))
+    (search needs, t .kept .1 .1 .1 .0 ∙ l .inv .1, t .ensures ∙ stored-step (checkpointIn (a .w .now) (a .p)) (a .out .now) (l .out) (l .k) (l .inv .2))
 
 returns : tie.Need-returns Inv-loop μ-loop
 returns c =
     let l = c .before .loop in
-    let e : l .k ≡ c .before .before .before .before .args .held = omega arith in
+    let e : l .k ≡ c .before .before .before .before .args .kept-count = omega arith in
     rw e at (l .inv .2)
 
 pub write-kept-spec : {M : Type 1} → statement M

@@ -12,7 +12,7 @@ use Rattle.laws.specs.Tables.{length-table}
 use Rattle.words.specs.Layout.{messageIn, isMessage}
 use Rattle.readers.specs.Readings.{sentNumbers}
 use Rattle.readers.specs.Written.{messagesBelow}
-use Rattle.readers.proofs.Three.{sent-turn}
+use Rattle.readers.proofs.Three.{sent-step}
 use Rattle.readers.proofs.write_messages.Statement.{statement}
 use Rattle.readers.proofs.write_messages.Tie as tie
 
@@ -38,7 +38,7 @@ loop-again c =
     let b = c .before .before in
     let l = b .before .before .before .loop in
     let a = b .before .before .before .before .before .before .args in
-    let t = sent-turn isMessage (messageIn (a .w .now)) (a .out .now) (l .out) (l .k) (l .many) (l .inv .3) (l .inv .4) in
+    let t = sent-step isMessage (messageIn (a .w .now)) (a .out .now) (l .out) (l .k) (l .many) (l .inv .3) (l .inv .4) in
     let m = b .write-message .ensures .1 ∙ t .1 in
     (search needs, omega (arith, m, few (a .w .now) (l .k + 1)), b .write-message .kept .1 .1 .1 .0 ∙ l .inv .2, b .write-message .ensures .0 ∙ t .0, m)
 

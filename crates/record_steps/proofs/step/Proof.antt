@@ -4,7 +4,7 @@ use mathlib.Core.Path.{_≡_, refl, _∙_, sym, ap}
 use lib.ListN.{length}
 use Rattle.record_steps.specs.declared.marks.Marks.{Marks}
 use Rattle.record_steps.specs.Lent.{inBounds}
-use Rattle.record_steps.proofs.Stepping.{negated, affirmed, bounded, roomy, not-state, no-room, no-bounds, room-kept, step-stands}
+use Rattle.record_steps.proofs.Stepping.{negated, affirmed, bounded, enoughRoom, not-state, no-room, no-bounds, room-kept, step-stands}
 use borrow.Author.Needs.{needs}
 use Rattle.record_steps.proofs.step.Statement.{statement}
 use Rattle.record_steps.proofs.step.Tie as tie
@@ -13,16 +13,16 @@ returns : tie.Need-returns
 returns c = not-state _ _ _ _ _ _ (no-room _ _ _ _ _ _ (sym (c .before .has-room .ensures) ∙ negated _ (c .if1 .taken)))
 
 read-requires : tie.Need-read-requires
-read-requires c κs = roomy _ _ _ _ _ (sym (c .before .before .has-room .ensures) ∙ affirmed _ (c .before .if1 .left)) .memory-room
+read-requires c κs = enoughRoom _ _ _ _ _ (sym (c .before .before .has-room .ensures) ∙ affirmed _ (c .before .if1 .left)) .memory-room
 
 returns-2 : tie.Need-returns-2
 returns-2 c = not-state _ _ _ _ _ _ (no-bounds _ _ _ _ _ _ (sym (c .before .before .before .before .before .has-room .ensures) ∙ affirmed _ (c .before .before .before .before .if1 .left)) (ap (λ (m : Marks). inBounds m (length (c .before .before .before .before .before .before .before .before .before .before .before .args .out .now))) (sym (c .before .before .read .ensures)) ∙ sym (c .before .in-bounds .ensures) ∙ negated _ (c .if2 .taken)))
 
 on-requires : tie.Need-on-requires
-on-requires c κs = let b = bounded _ _ (sym (c .before .before .before .before .before .in-bounds .ensures) ∙ affirmed _ (c .before .before .before .before .if2 .left)) in let r = roomy _ _ _ _ _ (sym (c .before .before .before .before .before .before .before .before .before .has-room .ensures) ∙ affirmed _ (c .before .before .before .before .before .before .before .before .if1 .left)) in (b .left, b .done, b .kept, b .told, r .words-room, r .input-room, r .out-room, r .lines-room)
+on-requires c κs = let b = bounded _ _ (sym (c .before .before .before .before .before .in-bounds .ensures) ∙ affirmed _ (c .before .before .before .before .if2 .left)) in let r = enoughRoom _ _ _ _ _ (sym (c .before .before .before .before .before .before .before .before .before .has-room .ensures) ∙ affirmed _ (c .before .before .before .before .before .before .before .before .if1 .left)) in (b .left, b .done, b .kept, b .pending, r .words-room, r .input-room, r .out-room, r .lines-room)
 
 put-requires : tie.Need-put-requires
-put-requires c κs = roomy _ _ _ _ _ (sym (c .before .before .before .before .before .before .before .before .before .before .before .before .before .before .before .before .before .before .before .has-room .ensures) ∙ affirmed _ (c .before .before .before .before .before .before .before .before .before .before .before .before .before .before .before .before .before .before .if1 .left)) .memory-room
+put-requires c κs = enoughRoom _ _ _ _ _ (sym (c .before .before .before .before .before .before .before .before .before .before .before .before .before .before .before .before .before .before .before .has-room .ensures) ∙ affirmed _ (c .before .before .before .before .before .before .before .before .before .before .before .before .before .before .before .before .before .before .if1 .left)) .memory-room
 
 request-requires : tie.Need-request-requires
 request-requires c κs = let b = bounded _ _ (c .before .before .before .before .before .before .before .before .before .before .before .before .on .ensures .bounds) in (b .done, b .kept)

@@ -8,7 +8,7 @@ use lib.ListN.{length}
 use borrow.Author.Needs.{needs}
 use borrow.Author.Tests.{ltb-false}
 use Rattle.laws.specs.Truth.{or-none}
-use Rattle.verdicts.specs.declared.Verdict.the-variants.{Accepted}
+use Rattle.admissions.specs.declared.Admission.the-variants.{Accepted}
 use Rattle.words.specs.Layout.{countOf}
 use Rattle.words.proofs.ViewSound.{sound-words}
 use Rattle.recover_in_place.proofs.Recovering.{lists-short, set-refused}
@@ -40,9 +40,9 @@ returns-2 c =
     let v = c .before .before .before in
     let e = v .before in
     let st = start e in
-    set-refused (st .args .w .now) (st .pre) (st .args .failed) (st .args .deleted .now) (st .args .line .now) (long e) _ (sym (v .recovery-verdict .ensures) ∙ c .before .verdict .given .1)
+    set-refused (st .args .w .now) (st .pre) (st .args .failed) (st .args .deleted .now) (st .args .line .now) (long e) _ (sym (v .recovery-admission .ensures) ∙ c .before .admission .given .1)
 
-accepted : (c : tie.After-enum-told) → c .before .before .recovery-verdict .result ≡ Accepted
+accepted : (c : tie.After-enum-told) → c .before .before .recovery-admission .result ≡ Accepted
 accepted c = search needs
 
 recover-within-requires : tie.Need-recover-within-requires
@@ -57,7 +57,7 @@ recover-within-requires c κs =
       refl,
       ltb-false (length (st .args .deleted .now)) (2 * n * n) (room .0),
       ltb-false (length (st .args .line .now)) n (room .1),
-      sym (v .recovery-verdict .ensures) ∙ accepted t,
+      sym (v .recovery-admission .ensures) ∙ accepted t,
     )
 
 pub recover-on-spec : {M : Type 1} → statement M

@@ -8,12 +8,12 @@ use lib.ListN.{length}
 use borrow.Author.Needs.{needs}
 use borrow.Author.Tests.{not-true, not-false, le-ltb}
 use Rattle.model.specs.Refusals.{noMember}
-use Rattle.verdicts.specs.declared.Verdict.the-variants.{Accepted}
-use Rattle.verdicts.specs.Verdicts.{recoveryVerdict}
+use Rattle.admissions.specs.declared.Admission.the-variants.{Accepted}
+use Rattle.admissions.specs.Admissions.{recoveryAdmission}
 use Rattle.words.specs.Layout.{word, countOf, runOf}
 use Rattle.words.proofs.ViewSound.{sound-words}
 use Rattle.line_words.specs.Line.{limitsIn, pastsIn}
-use Rattle.in_place.proofs.Lining.{some-own, most-held, all-used, members-missing, members-there, pasts-are as found-are, pasts-room, members-found}
+use Rattle.in_place.proofs.Lining.{some-own, most-kept-count, all-used, members-missing, members-there, pasts-are as found-are, pasts-room, members-found}
 use Rattle.recover_in_place.proofs.Recovering.{no-member, recovers, all-restorable, all-returning, senders-still}
 use Rattle.recover_in_place.proofs.recover_within.Statement.{statement}
 use Rattle.recover_in_place.proofs.recover_within.Tie as tie
@@ -34,10 +34,10 @@ at-indexes i = i .before .before .before
 abbrev at-owns : tie.After-owns-after → tie.After-indexes-of
 at-owns o = o .before .before .before
 
-abbrev at-back : tie.After-count-back → tie.After-owns-after
+abbrev at-back : tie.After-count-rolled-back → tie.After-owns-after
 at-back b = b .before .before .before
 
-abbrev at-line : tie.After-write-line → tie.After-count-back
+abbrev at-line : tie.After-write-line → tie.After-count-rolled-back
 at-line l = l .before .before
 
 abbrev at-restored : tie.After-restore-all → tie.After-write-line
@@ -53,8 +53,8 @@ neither m n d l same a b = rw (← same, le-ltb d (2 * m * m) a, le-ltb l m b)
 long : (st : tie.Start) → let a = st .args in let n = countOf (a .w .now) in (ltb (length (a .deleted .now)) (2 * n * n) || ltb (length (a .line .now)) n) ≡ false
 long st = neither (st .args .n) (countOf (st .args .w .now)) (length (st .args .deleted .now)) (length (st .args .line .now)) (st .pre .1) (st .pre .2) (st .pre .3)
 
-passed : (st : tie.Start) → recoveryVerdict (countOf (st .args .w .now)) (st .args .failed) ≡ Accepted
-passed st = ap (λ (k : ℕ). recoveryVerdict k (st .args .failed)) (sym (st .pre .1)) ∙ st .pre .4
+passed : (st : tie.Start) → recoveryAdmission (countOf (st .args .w .now)) (st .args .failed) ≡ Accepted
+passed st = ap (λ (k : ℕ). recoveryAdmission k (st .args .failed)) (sym (st .pre .1)) ∙ st .pre .4
 
 few : (st : tie.Start) → st .args .n ≤ 16
 few st = omega (arith, sound-words (st .args .w .now) (st .pre .0) .few, st .pre .1)
@@ -67,7 +67,7 @@ limits-of-requires c κs =
 find-members-requires : tie.Need-find-members-requires
 find-members-requires c κs =
     let st = at-limits (c .before .before .before) in
-    (sound-words (st .args .w .now) (st .pre .0) .size, few st, most-held (st .args .w .now) (st .pre .0) (st .args .n) (st .pre .1), refl)
+    (sound-words (st .args .w .now) (st .pre .0) .size, few st, most-kept-count (st .args .w .now) (st .pre .0) (st .args .n) (st .pre .1), refl)
 
 returns : tie.Need-returns
 returns c =
@@ -106,7 +106,7 @@ indexes-of-requires c κs =
       sound-words w (st .pre .0) .size,
       few st,
       some-own w (st .pre .0) n (st .pre .1),
-      most-held w (st .pre .0) n (st .pre .1),
+      most-kept-count w (st .pre .0) n (st .pre .1),
       all-used w (st .pre .0) n (st .pre .1),
       members-found w (st .pre .0) n (st .pre .1) (st .args .failed) _ (l .limits-of .ensures) _ (at-found e .find-members .ensures .1) (there e),
     )
@@ -118,8 +118,8 @@ owns-after-requires c κs =
     let w = st .args .w .now in
     (sound-words w (st .pre .0) .size, all-returning w (st .pre .0) (st .args .failed) (there e) (small e) _ (pasts-are e))
 
-count-back-requires : tie.Need-count-back-requires
-count-back-requires c κs =
+count-rolled-back-requires : tie.Need-count-rolled-back-requires
+count-rolled-back-requires c κs =
     let f = at-found (at-indexes (at-owns (c .before .before))) in
     let l = at-members f in
     let st = at-limits l in
@@ -156,11 +156,11 @@ returns-2 c =
     let st = at-limits (at-members (at-found e)) in
     let w = st .args .w .now in
     recovers w (st .pre .0) (st .args .failed) (st .args .deleted .now) (st .args .line .now) (long st) (passed st) (there e) (st .args .n) _ _ _ (st .pre .1) (pasts-are e)
-    (i .indexes-of .ensures) (o .owns-after .ensures) _ _ (r .restore-all .ensures .0) (z .sift .ensures) _ _ _ _ (b .count-back .ensures) (r .restore-all .ensures .1 .1)
+    (i .indexes-of .ensures) (o .owns-after .ensures) _ _ (r .restore-all .ensures .0) (z .sift .ensures) _ _ _ _ (b .count-rolled-back .ensures) (r .restore-all .ensures .1 .1)
     (r .restore-all .ensures .1 .0) (l .write-line .ensures)
 
 pub recover-within-spec : {M : Type 1} → statement M
 recover-within-spec =
     tie.close
-    (tie.spec limits-of-requires (λ c. search needs) find-members-requires (λ c. search needs) returns indexes-of-requires owns-after-requires count-back-requires
+    (tie.spec limits-of-requires (λ c. search needs) find-members-requires (λ c. search needs) returns indexes-of-requires owns-after-requires count-rolled-back-requires
     write-line-requires restore-all-requires sift-requires (λ c. search needs) (λ c. search needs) (λ c. search needs) returns-2)

@@ -14,8 +14,8 @@ fn own_then(w: &[u16], p: usize, past: usize) -> Interval
     requires { ⌜ (length (now w) ≡ stateSize) × (p < mostProcesses) × (1 ≤ past → Returns (now w) p past) ⌝ }
     ensures { λ r. ⌜ r ≡ restoredOwn (now (w .entry)) p past ⌝ }
 {
-    let held = w[places::HELD + p] as usize;
-    if (0 < past) & (past <= held) {
+    let kept_count = w[places::KEPT + p] as usize;
+    if (0 < past) & (past <= kept_count) {
         let stored = w[places::STORED + places::PART * p + places::ROW * (past - 1) + p];
         words::interval_of(stored + 1)
     } else {

@@ -9,12 +9,12 @@ ghost use lib.Seq.{sets};
 ghost use Rattle.model.specs.Steps.{listed, billed};
 ghost use Rattle.model.specs.Words.{mostProcesses, mostBlocks, keptPlaces};
 ghost use Rattle.whole_runs.specs.Outcomes.{pairs};
-ghost use Rattle.words.specs.Layout.{word, heldAt, blocksAt, stateSize};
+ghost use Rattle.words.specs.Layout.{word, keptCountAt, blocksAt, stateSize};
 ghost use Rattle.process_words.specs.Kept.{Used};
 ghost use Rattle.process_words.specs.Moves.{diskIn, Moves};
 ghost use Rattle.process_words.specs.Pins.{pinRow};
-ghost use Rattle.process_words.specs.Steps.{unnamedIn};
-ghost use Rattle.recover_in_place.specs.Restored.{restoredPart, restoredGone, Restorable, namedPart};
+ghost use Rattle.process_words.specs.Steps.{unpinnedIn};
+ghost use Rattle.recover_in_place.specs.Restored.{restoredPart, restoredGone, Restorable, pinnedPart};
 
 // Process p has these pins: what none of them names is deleted, and its pairs go after those of the `before` that were deleted before. The result says how many are
 // deleted.
@@ -26,19 +26,19 @@ fn settle(
     before: usize,
 ) -> usize
     requires { ⌜ (length (now w) ≡ stateSize) × (p < mostProcesses) × (diskIn (now w) .written ≤ mostBlocks) × (diskIn (now w) .deleted ≤ mostBlocks) ⌝ }
-    requires { ⌜ (word (now w) (heldAt p) ≤ mostProcesses) × Used (now w) p (word (now w) (heldAt p)) ⌝ }
-    requires { ⌜ (2 * before + 2 * word (now w) (heldAt p) ≤ length (now deleted)) × (before ≤ keptPlaces) ⌝ }
-    ensures { λ r. ⌜ Moves (now (w .entry)) p (namedPart (now (w .entry)) p (pinRow pins)) (billed (diskIn (now (w .entry))) 0 (r * word (now (w .entry)) (blocksAt p))) (now (w .exit)) ⌝ }
-    ensures { λ r. ⌜ now (deleted .exit) ≡ sets (now (deleted .entry)) (2 * before) (pairs (listed p (unnamedIn (now (w .entry)) p (pinRow pins)))) ⌝ }
-    ensures { λ r. ⌜ r ≡ length (unnamedIn (now (w .entry)) p (pinRow pins)) ⌝ }
+    requires { ⌜ (word (now w) (keptCountAt p) ≤ mostProcesses) × Used (now w) p (word (now w) (keptCountAt p)) ⌝ }
+    requires { ⌜ (2 * before + 2 * word (now w) (keptCountAt p) ≤ length (now deleted)) × (before ≤ keptPlaces) ⌝ }
+    ensures { λ r. ⌜ Moves (now (w .entry)) p (pinnedPart (now (w .entry)) p (pinRow pins)) (billed (diskIn (now (w .entry))) 0 (r * word (now (w .entry)) (blocksAt p))) (now (w .exit)) ⌝ }
+    ensures { λ r. ⌜ now (deleted .exit) ≡ sets (now (deleted .entry)) (2 * before) (pairs (listed p (unpinnedIn (now (w .entry)) p (pinRow pins)))) ⌝ }
+    ensures { λ r. ⌜ r ≡ length (unpinnedIn (now (w .entry)) p (pinRow pins)) ⌝ }
 {
-    let held = w[places::HELD + p] as usize;
+    let kept_count = w[places::KEPT + p] as usize;
     let blocks = w[places::BLOCKS + p];
     words::put_row(w, places::PINS + places::PART * p, pins);
-    let stay = process_words::kept::collect(w, p, 0, held, pins, deleted, before);
-    w[places::HELD + p] = stay as u16;
-    process_words::disk::bill(w, false, held - stay, blocks);
-    held - stay
+    let stay = process_words::kept::collect(w, p, 0, kept_count, pins, deleted, before);
+    w[places::KEPT + p] = stay as u16;
+    process_words::disk::bill(w, false, kept_count - stay, blocks);
+    kept_count - stay
 }
 
 // A process whose member is the checkpoint in the place before this one.
@@ -51,13 +51,13 @@ fn restore_stored(
     before: usize,
 ) -> usize
     requires { ⌜ (length (now w) ≡ stateSize) × (p < mostProcesses) × (diskIn (now w) .written ≤ mostBlocks) × (diskIn (now w) .deleted ≤ mostBlocks) ⌝ }
-    requires { ⌜ (past ≤ word (now w) (heldAt p)) × Restorable (now w) p past ⌝ }
-    requires { ⌜ (2 * before + 2 * word (now w) (heldAt p) ≤ length (now deleted)) × (before ≤ keptPlaces) ⌝ }
+    requires { ⌜ (past ≤ word (now w) (keptCountAt p)) × Restorable (now w) p past ⌝ }
+    requires { ⌜ (2 * before + 2 * word (now w) (keptCountAt p) ≤ length (now deleted)) × (before ≤ keptPlaces) ⌝ }
     ensures { λ r. ⌜ Moves (now (w .entry)) p (restoredPart (now (w .entry)) p past owns) (billed (diskIn (now (w .entry))) 0 (r * word (now (w .entry)) (blocksAt p))) (now (w .exit)) ⌝ }
     ensures { λ r. ⌜ now (deleted .exit) ≡ sets (now (deleted .entry)) (2 * before) (pairs (listed p (restoredGone (now (w .entry)) p past owns))) ⌝ }
     ensures { λ r. ⌜ r ≡ length (restoredGone (now (w .entry)) p past owns) ⌝ }
 {
-    line_words::restored::go_back(w, p, past - 1);
+    line_words::restored::roll_back(w, p, past - 1);
     let vector = words::vector_at(w, places::PARTS + places::PART * p);
     let found = line_words::restored::find_latest(w, p, past, owns);
     let pins = line_words::restored::known_pins(vector, owns, found);
@@ -74,8 +74,8 @@ fn restore_live(
     before: usize,
 ) -> usize
     requires { ⌜ (length (now w) ≡ stateSize) × (p < mostProcesses) × (diskIn (now w) .written ≤ mostBlocks) × (diskIn (now w) .deleted ≤ mostBlocks) ⌝ }
-    requires { ⌜ (word (now w) (heldAt p) < past) × Restorable (now w) p past ⌝ }
-    requires { ⌜ (2 * before + 2 * word (now w) (heldAt p) ≤ length (now deleted)) × (before ≤ keptPlaces) ⌝ }
+    requires { ⌜ (word (now w) (keptCountAt p) < past) × Restorable (now w) p past ⌝ }
+    requires { ⌜ (2 * before + 2 * word (now w) (keptCountAt p) ≤ length (now deleted)) × (before ≤ keptPlaces) ⌝ }
     ensures { λ r. ⌜ Moves (now (w .entry)) p (restoredPart (now (w .entry)) p past owns) (billed (diskIn (now (w .entry))) 0 (r * word (now (w .entry)) (blocksAt p))) (now (w .exit)) ⌝ }
     ensures { λ r. ⌜ now (deleted .exit) ≡ sets (now (deleted .entry)) (2 * before) (pairs (listed p (restoredGone (now (w .entry)) p past owns))) ⌝ }
     ensures { λ r. ⌜ r ≡ length (restoredGone (now (w .entry)) p past owns) ⌝ }
@@ -102,13 +102,13 @@ pub fn restore(
 ) -> usize
     requires { ⌜ (length (now w) ≡ stateSize) × (p < mostProcesses) × (diskIn (now w) .written ≤ mostBlocks) × (diskIn (now w) .deleted ≤ mostBlocks) ⌝ }
     requires { ⌜ Restorable (now w) p past ⌝ }
-    requires { ⌜ (2 * before + 2 * word (now w) (heldAt p) ≤ length (now deleted)) × (before ≤ keptPlaces) ⌝ }
+    requires { ⌜ (2 * before + 2 * word (now w) (keptCountAt p) ≤ length (now deleted)) × (before ≤ keptPlaces) ⌝ }
     ensures { λ r. ⌜ Moves (now (w .entry)) p (restoredPart (now (w .entry)) p past owns) (billed (diskIn (now (w .entry))) 0 (r * word (now (w .entry)) (blocksAt p))) (now (w .exit)) ⌝ }
     ensures { λ r. ⌜ now (deleted .exit) ≡ sets (now (deleted .entry)) (2 * before) (pairs (listed p (restoredGone (now (w .entry)) p past owns))) ⌝ }
     ensures { λ r. ⌜ r ≡ length (restoredGone (now (w .entry)) p past owns) ⌝ }
 {
-    let held = w[places::HELD + p] as usize;
-    if past <= held {
+    let kept_count = w[places::KEPT + p] as usize;
+    if past <= kept_count {
         restore_stored(w, p, past, owns, deleted, before)
     } else {
         restore_live(w, p, past, owns, deleted, before)

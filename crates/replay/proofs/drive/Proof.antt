@@ -5,7 +5,7 @@ use borrow.Author.Needs.{needs}
 use lib.ListN.{length}
 use Rattle.replay_machine.specs.Standing.{stateOf}
 use Rattle.replay_machine.proofs.Ending.{left}
-use Rattle.replay_machine.proofs.Driving.{Driven, driven-first, driven-next, driven-less, driven-ends, led-still}
+use Rattle.replay_machine.proofs.Driving.{Driven, driven-first, driven-next, driven-less, driven-ends, still-from-start}
 use Rattle.replay.proofs.Sizes.{large-enough, stepped-alike, asks-alike}
 use Rattle.replay.proofs.drive.Statement.{statement}
 use Rattle.replay.proofs.drive.Tie as tie
@@ -28,14 +28,14 @@ loop-holds c = let begin = c .before .before .before .begin in (driven-first _ _
 obey-requires : tie.Need-obey-requires Inv-loop μ-loop
 obey-requires c κs = c .before .before .before .before .loop .inv .0 .asked .inside
 
-step-led-requires : tie.Need-step-led-requires Inv-loop μ-loop
-step-led-requires c κs = led-still _ _ _ _ _ _ _ (c .before .before .before .before .before .before .before .before .before .before .before .before .loop .inv .0) _ (c .before .before .before .before .before .before .before .obey .ensures)
+step-reached-requires : tie.Need-step-reached-requires Inv-loop μ-loop
+step-reached-requires c κs = still-from-start _ _ _ _ _ _ _ (c .before .before .before .before .before .before .before .before .before .before .before .before .loop .inv .0) _ (c .before .before .before .before .before .before .before .obey .ensures)
 
 loop-less : tie.Need-loop-less Inv-loop μ-loop
 loop-less c =
     let loop = c .before .before .before .before .before .before .before .before .before .before .before .before .before .before .before .before .before .before .before .before .before .loop in
     let obeyed = c .before .before .before .before .before .before .before .before .before .before .before .before .before .before .before .before .obey in
-    let step = c .before .before .before .before .before .before .before .before .step-led in
+    let step = c .before .before .before .before .before .before .before .before .step-reached in
     let is = stepped-alike _ _ _ _ (obeyed .kept .1 .1 .0 ∙ loop .inv .3) (loop .inv .4) _ _ _ (step .ensures .0) in
     driven-less _ _ _ _ _ _ _ (loop .inv .0) _ (obeyed .ensures) _ _ _ _ (step .result) _ is (sym (c .before .before .before .before .before .before .before .before .before .before .before .before .before .before .before .before .before .before .before .before .goes-on .ensures) ∙ c .before .before .before .before .before .before .before .before .before .before .before .before .before .before .before .before .before .before .before .if1 .taken)
 
@@ -43,7 +43,7 @@ loop-again : tie.Need-loop-again Inv-loop μ-loop
 loop-again c =
     let loop = c .before .before .before .before .before .before .before .before .before .before .before .before .before .before .before .before .before .before .before .before .before .loop in
     let obeyed = c .before .before .before .before .before .before .before .before .before .before .before .before .before .before .before .before .obey in
-    let step = c .before .before .before .before .before .before .before .before .step-led in
+    let step = c .before .before .before .before .before .before .before .before .step-reached in
     let same-input = step .kept .1 .1 .0 ∙ obeyed .kept .1 .1 .0 ∙ loop .inv .3 in
     let is = stepped-alike _ _ _ _ (obeyed .kept .1 .1 .0 ∙ loop .inv .3) (loop .inv .4) _ _ _ (step .ensures .0) in (
       driven-next _ _ _ _ _ _ _ (loop .inv .0) _ (obeyed .ensures) _ _ _ _ (step .result) _ is (asks-alike _ _ same-input _ _ _ _ _ (step .ensures .1 .0)) (step .ensures .1 .1),
@@ -59,5 +59,5 @@ returns c = driven-ends _ _ _ _ _ _ _ (c .before .before .loop .inv .0) (sym (c 
 pub drive-spec : {M : Type 1} → statement M
 drive-spec =
     tie.close
-    (tie.spec Inv-loop μ-loop begin-requires (λ c κs. search needs) loop-holds (λ c κs. search needs) obey-requires step-led-requires loop-less loop-again
+    (tie.spec Inv-loop μ-loop begin-requires (λ c κs. search needs) loop-holds (λ c κs. search needs) obey-requires step-reached-requires loop-less loop-again
     (λ c. search needs) (λ c. search needs) (λ c. search needs) (λ c. search needs) returns)

@@ -9,19 +9,19 @@ use Rattle.laws.specs.Below.{not-out}
 use Rattle.model.specs.Sound.{sound}
 use Rattle.words.specs.Layout.{runOf}
 use Rattle.readers.proofs.Copying.{copied-whole}
-use Rattle.readers.proofs.Readings.{nothing-said}
-use Rattle.saved.proofs.Back.{whole-size, held-length}
-use Rattle.saved.proofs.Outcomes.{told, load-room, load-broken, load-unsound, load-done}
+use Rattle.readers.proofs.Readings.{nothing-reported}
+use Rattle.saved.proofs.Back.{whole-size, loaded-length}
+use Rattle.saved.proofs.Outcomes.{answer-is, load-room, load-broken, load-unsound, load-done}
 use Rattle.saved.proofs.load.Statement.{statement}
 use Rattle.saved.proofs.load.Tie as tie
 
 returns : tie.Need-returns
-returns c = let s = c .before .before .before .before in told (load-room (s .args .bytes .now) (s .args .w .now) (c .before .if1 .taken)) (c .refused .ensures) refl
+returns c = let s = c .before .before .before .before in answer-is (load-room (s .args .bytes .now) (s .args .w .now) (c .before .if1 .taken)) (c .refused .ensures) refl
 
 returns-2 : tie.Need-returns-2
 returns-2 c =
     let s = c .before .before .before .before .before .before in
-    told (load-broken (s .args .bytes .now) (s .args .w .now) (sym (c .before .before .is-whole .ensures) ∙ not-out _ true (c .before .if2 .taken))) (c .refused2 .ensures) refl
+    answer-is (load-broken (s .args .bytes .now) (s .args .w .now) (sym (c .before .before .is-whole .ensures) ∙ not-out _ true (c .before .if2 .taken))) (c .refused2 .ensures) refl
 
 words-in-requires : tie.Need-words-in-requires
 words-in-requires c κs = whole-size (c .before .before .before .before .before .args .bytes .now) (sym (c .before .is-whole .ensures) ∙ not-out _ false (c .if2 .left))
@@ -31,17 +31,17 @@ returns-3 c =
     let s = c .before .before .before .before .before .before .before .before .before .before in
     let whole = sym (c .before .before .before .before .before .before .is-whole .ensures) ∙ not-out _ false (c .before .before .before .before .before .if2 .left) in
     let off = sym (ap (λ (l : List ℕ). sound (runOf l)) (c .before .before .before .before .words-in .ensures)) ∙ sym (c .before .before .is-sound .ensures) ∙ not-out _ true (c .before .if3 .taken) in
-    told (load-unsound (s .args .bytes .now) (s .args .w .now) whole off) (c .refused3 .ensures) refl
+    answer-is (load-unsound (s .args .bytes .now) (s .args .w .now) whole off) (c .refused3 .ensures) refl
 
 returns-4 : tie.Need-returns-4
 returns-4 c =
     let s = c .before .before .before .before .before .before .before .before .before .before .before .before .before .before in
     let whole = sym (c .before .before .before .before .before .before .before .before .before .before .is-whole .ensures) ∙ not-out _ false (c .before .before .before .before .before .before .before .before .before .if2 .left) in
-    let held = c .before .before .before .before .before .before .before .before .words-in .ensures in
-    let sure = sym (ap (λ (l : List ℕ). sound (runOf l)) held) ∙ sym (c .before .before .before .before .before .before .is-sound .ensures) ∙ not-out _ false (c .before .before .before .before .before .if3 .left) in
+    let loaded = c .before .before .before .before .before .before .before .before .words-in .ensures in
+    let sure = sym (ap (λ (l : List ℕ). sound (runOf l)) loaded) ∙ sym (c .before .before .before .before .before .before .is-sound .ensures) ∙ not-out _ false (c .before .before .before .before .before .if3 .left) in
     let room = c .before .before .before .before .before .before .before .before .before .before .before .if1 .left in
-    told (load-done (s .args .bytes .now) (s .args .w .now) room whole sure) nothing-said
-    (copied-whole (s .args .w .now) _ _ room (ap length held ∙ held-length (s .args .bytes .now)) (c .before .before .copy-words .ensures) ∙ held)
+    answer-is (load-done (s .args .bytes .now) (s .args .w .now) room whole sure) nothing-reported
+    (copied-whole (s .args .w .now) _ _ room (ap length loaded ∙ loaded-length (s .args .bytes .now)) (c .before .before .copy-words .ensures) ∙ loaded)
 
 pub load-spec : {M : Type 1} → statement M
 load-spec =

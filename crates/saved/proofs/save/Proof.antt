@@ -4,20 +4,20 @@ use borrow.Author.Needs.{needs}
 use Rattle.whole_runs.proofs.Unsound.{is-sound, is-unsound}
 use Rattle.words.specs.Layout.{runOf}
 use Rattle.words.proofs.ViewSound.{sound-words}
-use Rattle.saved.proofs.Outcomes.{told, save-unsound, save-short, save-done}
+use Rattle.saved.proofs.Outcomes.{answer-is, save-unsound, save-short, save-done}
 use Rattle.saved.proofs.save.Statement.{statement}
 use Rattle.saved.proofs.save.Tie as tie
 
 returns : tie.Need-returns
 returns c =
     let s = c .before .before .before .before .before in
-    told (save-unsound (s .args .w .now) (s .args .bytes .now) (is-unsound (runOf (s .args .w .now)) (c .before .before .is-sound .ensures) (c .before .if1 .taken))) (c .refused .ensures) refl
+    answer-is (save-unsound (s .args .w .now) (s .args .bytes .now) (is-unsound (runOf (s .args .w .now)) (c .before .before .is-sound .ensures) (c .before .if1 .taken))) (c .refused .ensures) refl
 
 returns-2 : tie.Need-returns-2
 returns-2 c =
     let s = c .before .before .before .before .before .before in
     let sure = is-sound (runOf (s .args .w .now)) (c .before .before .before .is-sound .ensures) (c .before .before .if1 .left) in
-    told (save-short (s .args .w .now) (s .args .bytes .now) sure (c .before .if2 .taken)) (c .refused2 .ensures) refl
+    answer-is (save-short (s .args .w .now) (s .args .bytes .now) sure (c .before .if2 .taken)) (c .refused2 .ensures) refl
 
 write-saved-requires : tie.Need-write-saved-requires
 write-saved-requires c κs =
@@ -29,7 +29,7 @@ returns-3 : tie.Need-returns-3
 returns-3 c =
     let s = c .before .before .before .before .before .before .before .before .before .before in
     let sure = is-sound (runOf (s .args .w .now)) (c .before .before .before .before .before .before .before .is-sound .ensures) (c .before .before .before .before .before .before .if1 .left) in
-    told (save-done (s .args .w .now) (s .args .bytes .now) sure (c .before .before .before .before .before .if2 .left)) (c .counted .ensures) (c .before .before .before .write-saved .ensures)
+    answer-is (save-done (s .args .w .now) (s .args .bytes .now) sure (c .before .before .before .before .before .if2 .left)) (c .counted .ensures) (c .before .before .before .write-saved .ensures)
 
 pub save-spec : {M : Type 1} → statement M
 save-spec =

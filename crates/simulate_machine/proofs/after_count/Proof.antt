@@ -21,8 +21,8 @@ returns-2 : tie.Need-returns-2
 returns-2 c =
     let at-is-number = c .before .before .before .before .before .before .before .before .is-number in
     let at-if1 = c .before .before .before .before .before .before .before .if1 in
-    let at-say-usage = c .before .before .before .before .say-usage in
-    stands-as _ _ _ _ _ _ (led-miscounted _ _ (at-is-number .ensures 0 (now (c .before .before .before .before .before .before .before .before .before .before .before .before .args .input))) (at-if1 .left)) (at-say-usage .ensures)
+    let at-report-usage = c .before .before .before .before .report-usage in
+    stands-as _ _ _ _ _ _ (led-miscounted _ _ (at-is-number .ensures 0 (now (c .before .before .before .before .before .before .before .before .before .before .before .before .args .input))) (at-if1 .left)) (at-report-usage .ensures)
 
 pub after-count-spec : {M : Type 1} → statement M
 after-count-spec =

@@ -5,7 +5,7 @@ use native.Mathlib.Omega.{arith}
 use mathlib.Core.Path.{sym, _∙_, ap}
 use Rattle.programs.proofs.Texts.{front-text}
 use Rattle.simulate_machine.specs.Text.{resultText}
-use Rattle.simulate_machine.specs.Simulating.{Telling}
+use Rattle.simulate_machine.specs.Simulating.{Printing}
 use Rattle.simulate_machine.proofs.Standing.{stands-as}
 use Rattle.simulate_machine.proofs.Ending.{answered-table, answered-one}
 use borrow.Author.Needs.{needs}
@@ -23,8 +23,8 @@ returns-2 c =
     let at-if1 = c .before .before .before .before .before .before .before .before .before .before .if1 in
     let at-write-result = c .before .before .before .before .before .before .before .write-result in
     let at-trial = c .before .before .before .before .before .before .before .before .before .trial in
-    let at-tell = c .before .before .tell in
-    stands-as _ _ _ _ _ _ (answered-one (c .before .before .before .before .before .before .before .before .before .before .before .before .before .before .before .args .k) (at-if1 .left) ∙ ap Telling (sym (front-text (now (c .before .before .before .before .before .before .before .before .before .before .before .before .before .before .before .args .out)) _ (at-write-result .last .0) (at-write-result .result) (at-write-result .ensures .0) (omega (arith, at-write-result .ensures .1, c .before .before .before .before .before .before .before .before .before .before .before .before .before .before .before .pre .2)) ∙ ap resultText (at-trial .ensures)))) (at-tell .ensures)
+    let at-print-last = c .before .before .print-last in
+    stands-as _ _ _ _ _ _ (answered-one (c .before .before .before .before .before .before .before .before .before .before .before .before .before .before .before .args .k) (at-if1 .left) ∙ ap Printing (sym (front-text (now (c .before .before .before .before .before .before .before .before .before .before .before .before .before .before .before .args .out)) _ (at-write-result .last .0) (at-write-result .result) (at-write-result .ensures .0) (omega (arith, at-write-result .ensures .1, c .before .before .before .before .before .before .before .before .before .before .before .before .before .before .before .pre .2)) ∙ ap resultText (at-trial .ensures)))) (at-print-last .ensures)
 
 pub answer-with-spec : {M : Type 1} → statement M
 answer-with-spec =

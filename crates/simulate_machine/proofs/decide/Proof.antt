@@ -11,8 +11,8 @@ returns : tie.Need-returns
 returns c =
     let at-is-wrong = c .before .before .before .before .before .before .before .before .is-wrong in
     let at-if1 = c .before .before .before .before .before .before .before .if1 in
-    let at-say-usage = c .before .before .before .before .say-usage in
-    stands-as _ _ _ _ _ _ (decided-wrong (c .before .before .before .before .before .before .before .before .before .before .before .before .before .args .k) (sym (at-is-wrong .ensures) ∙ at-if1 .taken)) (at-say-usage .ensures)
+    let at-report-usage = c .before .before .before .before .report-usage in
+    stands-as _ _ _ _ _ _ (decided-wrong (c .before .before .before .before .before .before .before .before .before .before .before .before .before .args .k) (sym (at-is-wrong .ensures) ∙ at-if1 .taken)) (at-report-usage .ensures)
 
 returns-2 : tie.Need-returns-2
 returns-2 c =

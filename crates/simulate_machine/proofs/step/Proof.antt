@@ -6,7 +6,7 @@ use lib.ListN.{getD}
 use mathlib.Core.Path.{sym, _∙_, ap}
 use Rattle.simulate_machine.specs.Simulating.{Asking}
 use Rattle.simulate_machine.proofs.Standing.{room-by, stands-as}
-use Rattle.simulate_machine.proofs.Stepping.{no-room, steps-as, is-counting, is-asking, is-telling, then-stops, one-most}
+use Rattle.simulate_machine.proofs.Stepping.{no-room, steps-as, is-counting, is-asking, is-printing, then-stops, one-most}
 use borrow.Author.Needs.{needs}
 use Rattle.simulate_machine.proofs.step.Statement.{statement}
 use Rattle.simulate_machine.proofs.step.Tie as tie
@@ -74,7 +74,7 @@ returns-4 c =
     let at-if1 = c .before .before .before .before .before .before .before .before .before .before .before .if1 in
     let at-if4 = c .before .before .before .before .before .before .before .if4 in
     let at-after-last = c .before .before .before .before .after-last in
-    steps-as _ _ _ _ _ _ _ (is-telling (now (c .before .before .before .before .before .before .before .before .before .before .before .before .before .before .before .before .args .memory)) (now (c .before .before .before .before .before .before .before .before .before .before .before .before .before .before .before .before .args .input)) (now (c .before .before .before .before .before .before .before .before .before .before .before .before .before .before .before .before .args .out)) (room-by _ _ _ (sym (at-lacks-room .ensures) ∙ at-if1 .left)) (at-if4 .taken)) (at-after-last .ensures _)
+    steps-as _ _ _ _ _ _ _ (is-printing (now (c .before .before .before .before .before .before .before .before .before .before .before .before .before .before .before .before .args .memory)) (now (c .before .before .before .before .before .before .before .before .before .before .before .before .before .before .before .before .args .input)) (now (c .before .before .before .before .before .before .before .before .before .before .before .before .before .before .before .before .args .out)) (room-by _ _ _ (sym (at-lacks-room .ensures) ∙ at-if1 .left)) (at-if4 .taken)) (at-after-last .ensures _)
 
 go-on-requires : tie.Need-go-on-requires
 go-on-requires c κs =

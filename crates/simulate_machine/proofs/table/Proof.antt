@@ -7,7 +7,7 @@ use mathlib.Core.List.{List}
 use Prim.Native.Nat.{ℕ}
 use Rattle.programs.proofs.Texts.{front-text}
 use Rattle.simulate_machine.specs.Text.{headLine}
-use Rattle.simulate_machine.specs.Simulating.{Telling, Tabling}
+use Rattle.simulate_machine.specs.Simulating.{Printing, Tabling}
 use Rattle.simulate_machine.proofs.Numbers.{in-table}
 use Rattle.simulate_machine.proofs.Standing.{stands-as}
 use Rattle.simulate_machine.proofs.Stepping.{tabled-refused, tabled-begins}
@@ -20,8 +20,8 @@ returns c =
     let at-is-refused = c .before .before .before .before .before .before .before .before .before .before .is-refused in
     let at-if1 = c .before .before .before .before .before .before .before .before .before .if1 in
     let at-write-refused = c .before .before .before .before .before .before .before .write-refused in
-    let at-tell = c .before .before .tell in
-    stands-as _ _ _ _ _ _ (tabled-refused (c .before .before .before .before .before .before .before .before .before .before .before .before .before .before .before .args .k) (sym (at-is-refused .ensures) ∙ at-if1 .taken) ∙ ap Telling (sym (front-text (now (c .before .before .before .before .before .before .before .before .before .before .before .before .before .before .before .args .out)) _ (at-write-refused .last .0) (at-write-refused .result) (at-write-refused .ensures .0) (omega (arith, at-write-refused .ensures .1, c .before .before .before .before .before .before .before .before .before .before .before .before .before .before .before .pre .2))))) (at-tell .ensures)
+    let at-print-last = c .before .before .print-last in
+    stands-as _ _ _ _ _ _ (tabled-refused (c .before .before .before .before .before .before .before .before .before .before .before .before .before .before .before .args .k) (sym (at-is-refused .ensures) ∙ at-if1 .taken) ∙ ap Printing (sym (front-text (now (c .before .before .before .before .before .before .before .before .before .before .before .before .before .before .before .args .out)) _ (at-write-refused .last .0) (at-write-refused .result) (at-write-refused .ensures .0) (omega (arith, at-write-refused .ensures .1, c .before .before .before .before .before .before .before .before .before .before .before .before .before .before .before .pre .2))))) (at-print-last .ensures)
 
 tabulate-requires : tie.Need-tabulate-requires
 tabulate-requires c κs =

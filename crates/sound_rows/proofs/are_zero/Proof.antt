@@ -8,7 +8,7 @@ use borrow.Author.Needs.{needs}
 use mathlib.Core.Bool.{_&&_}
 use lib.Bits.{bitOr}
 use Rattle.laws.specs.Search.{allBelow}
-use Rattle.sound_rows.proofs.Ors.{or-zero, or-turn}
+use Rattle.sound_rows.proofs.Ors.{or-zero, or-step}
 use Rattle.sound_rows.proofs.are_zero.Statement.{statement}
 use Rattle.sound_rows.proofs.are_zero.Tie as tie
 
@@ -21,7 +21,7 @@ abbrev μ-loop : tie.MeasureT-loop
 loop-again : tie.Need-loop-again Inv-loop μ-loop
 loop-again c = let l = c .before .loop in
     let a = c .before .before .args in
-    (search needs, or-turn (λ q. eqb (getD (a .t1) q 0) 0 && eqb (getD (a .t2) q 0) 0) (l .f) (l .any) (bitOr (getD (a .t1) (l .f) 0) (getD (a .t2) (l .f) 0)) (l .inv .1) (or-zero (getD (a .t1) (l .f) 0) (getD (a .t2) (l .f) 0)))
+    (search needs, or-step (λ q. eqb (getD (a .t1) q 0) 0 && eqb (getD (a .t2) q 0) 0) (l .f) (l .any) (bitOr (getD (a .t1) (l .f) 0) (getD (a .t2) (l .f) 0)) (l .inv .1) (or-zero (getD (a .t1) (l .f) 0) (getD (a .t2) (l .f) 0)))
 
 returns : tie.Need-returns Inv-loop μ-loop
 returns c = let e : c .before .loop .f ≡ 16 = omega arith in rw e at (c .before .loop .inv .1)

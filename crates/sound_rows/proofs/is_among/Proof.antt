@@ -7,7 +7,7 @@ use lib.ListN.{getD}
 use borrow.Author.Needs.{needs}
 use mathlib.Core.Bool.{not}
 use Rattle.laws.specs.Search.{anyBelow}
-use Rattle.sound_rows.proofs.Ors.{any-none, any-turn, any-end}
+use Rattle.sound_rows.proofs.Ors.{any-none, any-step, any-end}
 use Rattle.sound_rows.proofs.is_among.Statement.{statement}
 use Rattle.sound_rows.proofs.is_among.Tie as tie
 
@@ -20,7 +20,7 @@ abbrev μ-loop : tie.MeasureT-loop
 loop-again : tie.Need-loop-again Inv-loop μ-loop
 loop-again c = let l = c .before .before .loop in
     let a = c .before .before .before .args in
-    (search needs, any-turn (λ q. eqb (getD (a .t1) q 0) (a .x)) (l .f) (l .any) (c .ones-if-same .result) (l .inv .1) (c .ones-if-same .ensures))
+    (search needs, any-step (λ q. eqb (getD (a .t1) q 0) (a .x)) (l .f) (l .any) (c .ones-if-same .result) (l .inv .1) (c .ones-if-same .ensures))
 
 returns : tie.Need-returns Inv-loop μ-loop
 returns c = let l = c .before .loop in

@@ -6,7 +6,7 @@ use lib.Dec.{eqb, leb}
 use borrow.Author.Needs.{needs}
 use Rattle.laws.specs.Search.{allBelow}
 use Rattle.model.specs.Words.{entry}
-use Rattle.sound_rows.proofs.Ors.{or-turn, less-zero}
+use Rattle.sound_rows.proofs.Ors.{or-step, less-zero}
 use Rattle.sound_rows.proofs.is_within.Statement.{statement}
 use Rattle.sound_rows.proofs.is_within.Tie as tie
 
@@ -19,7 +19,7 @@ abbrev μ-loop : tie.MeasureT-loop
 loop-again : tie.Need-loop-again Inv-loop μ-loop
 loop-again c = let l = c .before .before .before .before .loop in
     let a = c .before .before .before .before .before .args in
-    (search needs, or-turn (λ q. leb (entry (a .t1) q .0) (entry (a .t2) q .0)) (l .f) (l .over) (c .excess .result) (l .inv .1) (ap (λ (k : ℕ). eqb k 0) (c .excess .ensures) ∙ less-zero (entry (a .t1) (l .f) .0) (entry (a .t2) (l .f) .0)))
+    (search needs, or-step (λ q. leb (entry (a .t1) q .0) (entry (a .t2) q .0)) (l .f) (l .over) (c .excess .result) (l .inv .1) (ap (λ (k : ℕ). eqb k 0) (c .excess .ensures) ∙ less-zero (entry (a .t1) (l .f) .0) (entry (a .t2) (l .f) .0)))
 
 returns : tie.Need-returns Inv-loop μ-loop
 returns c = let e : c .before .loop .f ≡ 16 = omega arith in rw e at (c .before .loop .inv .1)

@@ -6,7 +6,7 @@ use lib.Dec.{eqb}
 use lib.ListN.{getD}
 use borrow.Author.Needs.{needs}
 use Rattle.laws.specs.Search.{allBelow}
-use Rattle.sound_rows.proofs.Ors.{or-turn}
+use Rattle.sound_rows.proofs.Ors.{or-step}
 use Rattle.sound_rows.proofs.is_zero.Statement.{statement}
 use Rattle.sound_rows.proofs.is_zero.Tie as tie
 
@@ -19,7 +19,7 @@ abbrev μ-loop : tie.MeasureT-loop
 loop-again : tie.Need-loop-again Inv-loop μ-loop
 loop-again c = let l = c .before .loop in
     let a = c .before .before .args in
-    (search needs, or-turn (λ q. eqb (getD (a .t1) q 0) 0) (l .f) (l .any) (getD (a .t1) (l .f) 0) (l .inv .1) refl)
+    (search needs, or-step (λ q. eqb (getD (a .t1) q 0) 0) (l .f) (l .any) (getD (a .t1) (l .f) 0) (l .inv .1) refl)
 
 returns : tie.Need-returns Inv-loop μ-loop
 returns c = let e : c .before .loop .f ≡ 16 = omega arith in rw e at (c .before .loop .inv .1)

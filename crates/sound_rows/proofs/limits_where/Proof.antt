@@ -5,7 +5,7 @@ use native.Mathlib.Omega.{arith}
 use lib.Dec.{eqb}
 use borrow.Author.Needs.{needs}
 use Rattle.laws.specs.Choice.{pick}
-use Rattle.laws.specs.Loops.{setBelow, below-none, turn-set, below-all}
+use Rattle.laws.specs.Loops.{setBelow, below-none, step-set, below-all}
 use Rattle.model.specs.Words.{entry}
 use Rattle.sound_rows.proofs.limits_where.Statement.{statement}
 use Rattle.sound_rows.proofs.limits_where.Tie as tie
@@ -19,7 +19,7 @@ abbrev μ-loop : tie.MeasureT-loop
 loop-again : tie.Need-loop-again Inv-loop μ-loop
 loop-again c = let l = c .before .before .before .loop in
     let a = c .before .before .before .before .args in
-    (search needs, turn-set (λ q. pick (eqb (entry (a .t1) q .0) 0) 0 65535) _ (l .limits) (l .f) (l .inv .1) _ (c .ones-unless-zero .ensures))
+    (search needs, step-set (λ q. pick (eqb (entry (a .t1) q .0) 0) 0 65535) _ (l .limits) (l .f) (l .inv .1) _ (c .ones-unless-zero .ensures))
 
 returns : tie.Need-returns Inv-loop μ-loop
 returns c = let l = c .before .loop in

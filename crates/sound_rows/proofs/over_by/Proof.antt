@@ -5,7 +5,7 @@ use native.Mathlib.Omega.{arith}
 use lib.ListN.{getD}
 use borrow.Author.Needs.{needs}
 use lib.Bits.{bitOr}
-use Rattle.laws.specs.Loops.{setBelow, below-none, turn-set, below-all}
+use Rattle.laws.specs.Loops.{setBelow, below-none, step-set, below-all}
 use Rattle.model.specs.Words.{entry}
 use Rattle.sound_rows.proofs.over_by.Statement.{statement}
 use Rattle.sound_rows.proofs.over_by.Tie as tie
@@ -19,7 +19,7 @@ abbrev μ-loop : tie.MeasureT-loop
 loop-again : tie.Need-loop-again Inv-loop μ-loop
 loop-again c = let l = c .before .before .before .before .loop in
     let a = c .before .before .before .before .before .args in
-    (search needs, turn-set (λ q. bitOr (getD (a .t1) q 0) (entry (a .t2) q .0 - entry (a .t3) q .0)) _ (l .then) (l .f) (l .inv .1) _ (ap (λ (x : ℕ). bitOr (getD (a .t1) (l .f) 0) x) (c .excess .ensures)))
+    (search needs, step-set (λ q. bitOr (getD (a .t1) q 0) (entry (a .t2) q .0 - entry (a .t3) q .0)) _ (l .then) (l .f) (l .inv .1) _ (ap (λ (x : ℕ). bitOr (getD (a .t1) (l .f) 0) x) (c .excess .ensures)))
 
 returns : tie.Need-returns Inv-loop μ-loop
 returns c = let l = c .before .loop in

@@ -4,7 +4,7 @@ use mathlib.Core.Path.{_≡_, _∙_}
 use native.Mathlib.Omega.{arith}
 use lib.ListN.{getD}
 use borrow.Author.Needs.{needs}
-use Rattle.laws.specs.Loops.{setBelow, below-none, turn-set, below-all}
+use Rattle.laws.specs.Loops.{setBelow, below-none, step-set, below-all}
 use Rattle.sound_rows.proofs.row_over.Statement.{statement}
 use Rattle.sound_rows.proofs.row_over.Tie as tie
 
@@ -17,7 +17,7 @@ abbrev μ-loop : tie.MeasureT-loop
 loop-again : tie.Need-loop-again Inv-loop μ-loop
 loop-again c = let l = c .before .before .loop in
     let a = c .before .before .before .args in
-    (search needs, turn-set (λ q. getD (a .t1) q 0 - getD (a .t2) q 0) _ (l .over) (l .f) (l .inv .1) _ (c .excess .ensures))
+    (search needs, step-set (λ q. getD (a .t1) q 0 - getD (a .t2) q 0) _ (l .over) (l .f) (l .inv .1) _ (c .excess .ensures))
 
 returns : tie.Need-returns Inv-loop μ-loop
 returns c = let l = c .before .loop in

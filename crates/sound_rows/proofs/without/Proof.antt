@@ -6,7 +6,7 @@ use lib.Dec.{eqb}
 use lib.ListN.{getD}
 use borrow.Author.Needs.{needs}
 use Rattle.laws.specs.Choice.{pick}
-use Rattle.laws.specs.Loops.{setBelow, below-none, turn-set, below-all}
+use Rattle.laws.specs.Loops.{setBelow, below-none, step-set, below-all}
 use Rattle.sound_rows.proofs.without.Statement.{statement}
 use Rattle.sound_rows.proofs.without.Tie as tie
 
@@ -19,7 +19,7 @@ abbrev μ-loop : tie.MeasureT-loop
 loop-again : tie.Need-loop-again Inv-loop μ-loop
 loop-again c = let l = c .before .before .loop in
     let a = c .before .before .before .args in
-    (search needs, turn-set (λ q. pick (eqb (getD (a .t2) q 0) (a .x)) 0 (getD (a .t1) q 0)) _ (l .then) (l .f) (l .inv .1) _ (c .unless-same .ensures))
+    (search needs, step-set (λ q. pick (eqb (getD (a .t2) q 0) (a .x)) 0 (getD (a .t1) q 0)) _ (l .then) (l .f) (l .inv .1) _ (c .unless-same .ensures))
 
 returns : tie.Need-returns Inv-loop μ-loop
 returns c = let l = c .before .loop in

@@ -2,7 +2,7 @@
 use borrow.Author.Needs.{needs}
 use Prim.Native.Nat.{_-_}
 use native.Mathlib.Omega.{arith}
-use Rattle.sound_words.proofs.Judging.{Passed, none-passed, one-passed, process-fails, all-passed, held-few}
+use Rattle.sound_words.proofs.Judging.{Passed, none-passed, one-passed, process-fails, all-passed, kept-count-few}
 use Rattle.sound_words.proofs.are_processes_sound.Statement.{statement}
 use Rattle.sound_words.proofs.are_processes_sound.Tie as tie
 
@@ -29,7 +29,7 @@ blocks-kept-requires c κs = let m = c .before in
     let l = m .before .before in
     let s = l .before .before .before in
     let a = s .args in
-    (s .pre .sized, omega (arith, m .before .loop-test .taken, s .pre .few), held-few (a .w .now) (l .loop .p) (a .n) (m .is-sound .result) (m .is-sound .ensures) (c .if1 .left) (s .pre .counted) (s .pre .few))
+    (s .pre .sized, omega (arith, m .before .loop-test .taken, s .pre .few), kept-count-few (a .w .now) (l .loop .p) (a .n) (m .is-sound .result) (m .is-sound .ensures) (c .if1 .left) (s .pre .counted) (s .pre .few))
 
 add-blocks : tie.Need-add-blocks Inv-loop μ-loop
 add-blocks c = let m = c .before .before in

@@ -11,7 +11,7 @@ few c =
     let w1 = c .before .before .before in
     let ha = w1 .before .before in
     let s = ha .before .before in
-    product-few (w1 .wide .result) (c .wide2 .result) (omega (arith, rw (ha .held-at .ensures) at (w1 .wide .ensures .0), s .pre .2)) (c .wide2 .ensures .1)
+    product-few (w1 .wide .result) (c .wide2 .result) (omega (arith, rw (ha .kept-count-at .ensures) at (w1 .wide .ensures .0), s .pre .2)) (c .wide2 .ensures .1)
 
 returns : tie.Need-returns
 returns c = let ba = c .before .before in
@@ -19,7 +19,7 @@ returns c = let ba = c .before .before in
     let ha = w1 .before .before in
     let s = ha .before .before in
     let a = s .args in
-    (blocks-are (a .w .now) (a .p) (ha .held-at .result) (ba .blocks-at .result) (w1 .wide .result) (c .wide2 .result) (ha .held-at .ensures) (w1 .wide .ensures .0) (ba .blocks-at .ensures) (c .wide2 .ensures .0), few c)
+    (blocks-are (a .w .now) (a .p) (ha .kept-count-at .result) (ba .blocks-at .result) (w1 .wide .result) (c .wide2 .result) (ha .kept-count-at .ensures) (w1 .wide .ensures .0) (ba .blocks-at .ensures) (c .wide2 .ensures .0), few c)
 
 pub blocks-kept-spec : {M : Type 1} → statement M
 blocks-kept-spec =

@@ -4,7 +4,7 @@ use Prim.Native.Nat.{_-_, _≤_}
 use native.Mathlib.Omega.{arith}
 use mathlib.Core.Path.{_≡_, _∙_}
 use Rattle.words.specs.Layout.{countOf, intervalOf}
-use Rattle.laws.specs.Loops.{setBelow, below-none, turn-set}
+use Rattle.laws.specs.Loops.{setBelow, below-none, step-set}
 use Rattle.sound_words.specs.Test.{ownIn}
 use Rattle.sound_words.proofs.Judging.{limits-gathered}
 use Rattle.sound_words.proofs.own_entries.Statement.{statement}
@@ -20,7 +20,7 @@ loop-again : tie.Need-loop-again Inv-loop μ-loop
 loop-again c = let pa = c .before .before in
     let l = pa .before .before .loop in
     let a = pa .before .before .before .before .args in
-    (search needs, turn-set (λ q. intervalOf (ownIn (a .w .now) q)) _ (l .owns) (l .f) (l .inv .1) _ (rw (pa .part-at .ensures) at (c .interval-of .ensures)))
+    (search needs, step-set (λ q. intervalOf (ownIn (a .w .now) q)) _ (l .owns) (l .f) (l .inv .1) _ (rw (pa .part-at .ensures) at (c .interval-of .ensures)))
 
 returns : tie.Need-returns Inv-loop μ-loop
 returns c = let l = c .before .loop in

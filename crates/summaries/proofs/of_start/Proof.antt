@@ -3,7 +3,7 @@
 use borrow.Author.Needs.{needs}
 use Rattle.listing.specs.Lines.{valueIn}
 use Rattle.whole_runs.specs.Outcomes.{startReport}
-use Rattle.listing.specs.Said.{reportIn}
+use Rattle.listing.specs.Summarised.{reportIn}
 use Rattle.summaries.proofs.of_start.Statement.{statement}
 use Rattle.summaries.proofs.of_start.Tie as tie
 

@@ -1,7 +1,7 @@
 -- `summaries::refused` meets its contract: its number is the refusal's.
 -- Assumes nothing.
 use borrow.Author.Needs.{needs}
-use Rattle.listing.specs.Said.{reportIn}
+use Rattle.listing.specs.Summarised.{reportIn}
 use Rattle.listing.specs.Lines.{valueIn}
 use Rattle.summaries.proofs.refused.Statement.{statement}
 use Rattle.summaries.proofs.refused.Tie as tie

@@ -11,11 +11,11 @@ use Rattle.whole_runs.specs.Outcomes.{Report}
 use Rattle.whole_runs.specs.WholeRuns.{Reachable}
 use Rattle.whole_runs.proofs.WholeRuns.{reachable-sound}
 use Rattle.trace.specs.Answers.{eventIn}
-use Rattle.listing.specs.Said.{reportIn}
+use Rattle.listing.specs.Summarised.{reportIn}
 use Rattle.words.specs.Layout.{runOf}
 use Rattle.in_place.specs.Left.{Leaves}
 use Rattle.in_place.proofs.Leaving.{same-words}
-use Rattle.replay_in_place.proofs.Turns.{performs-reachable, leaves-then}
+use Rattle.replay_in_place.proofs.Iterations.{performs-reachable, leaves-then}
 use Rattle.timing.proofs.Counting.{at-most-one, SoFar, Takes, none-taken, next-taken, one-taken, all-taken}
 use Rattle.timing_in_place.proofs.apply_all.Statement.{statement}
 use Rattle.timing_in_place.proofs.apply_all.Tie as tie
@@ -44,8 +44,8 @@ apply-requires c κs =
 add-accepted : tie.Need-add-accepted Inv-loop μ-loop
 add-accepted c =
     let then = c .before .before .before .before .before .before .before .before .before .before .before .before .before .before .before in
-    let said = c .before .before .before .before .before .before .before .before .before .apply .result .said in
-    omega (arith, takes then .few, then .before .before .loop .inv .0 .less, at-most-one (eqb (said .refused) 0) _ (c .one-if .ensures))
+    let summary = c .before .before .before .before .before .before .before .before .before .apply .result .summary in
+    omega (arith, takes then .few, then .before .before .loop .inv .0 .less, at-most-one (eqb (summary .refused) 0) _ (c .one-if .ensures))
 
 add-taken : tie.Need-add-taken Inv-loop μ-loop
 add-taken c = omega (arith, takes (c .before .before .before .before .before .before .before .before .before .before .before .before .before .before .before) .few)

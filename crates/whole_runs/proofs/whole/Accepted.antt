@@ -68,7 +68,7 @@ pub record Step (n : ℕ) (h : Surviving) (s : Run) (r r′ : Ideal) (c : Call) 
   pub blocks : pairBlocks r (call s c .reply) ≡ goneIn r r′
 
 -- The blocks handed out, by the history's counts and by the run's.
-same-blocks : (h : Surviving) (r : Ideal) (a : Reply) → h .counts ≡ r .ledger .counts → handedBlocks h a ≡ pairBlocks r a
+same-blocks : (h : Surviving) (r : Ideal) (a : Reply) → h .blockCounts ≡ r .ledger .blockCounts → handedBlocks h a ≡ pairBlocks r a
 unfolding handedBlocks
 same-blocks h r a e = ap (λ (c : ℕ → ℕ). sumBelow (a .report .deletions) (λ d. c (getD (a .deleted) (2 * d) 0))) e
 
@@ -82,10 +82,10 @@ step-agrees n r r′ h c v g e t = rw (accepted-history n (stateOf r) h c e) (re
   receiver = t .receiver;
   underway = t .underway;
   kept = λ p k hp. kept-agrees h r r′ v (t .inv) g (t .moved) (listsAfter n h c (call (stateOf r) c .reply)) (t .lists) (call (stateOf r) c .reply) (t .hands-out) p k (rw (t .moved .size) at hp);
-  counts = g .counts ∙ sym (t .paid .counts);
+  blockCounts = g .blockCounts ∙ sym (t .paid .blockCounts);
   cause = t .cause;
   written = omega (arith, g .written, t .stored, t .paid .written);
-  deleted = omega (arith, g .deleted, same-blocks h r (call (stateOf r) c .reply) (g .counts), t .blocks, t .paid .written, blocks-over r r′ v (t .inv) (t .moved) (t .paid .counts));
+  deleted = omega (arith, g .deleted, same-blocks h r (call (stateOf r) c .reply) (g .blockCounts), t .blocks, t .paid .written, blocks-over r r′ v (t .inv) (t .moved) (t .paid .blockCounts));
 })
 
 pub step-reached : (n : ℕ) (r r′ : Ideal) (h : Surviving) (c : Call) → Inv r → r .n ≡ n → Agrees h r → refusal (stateOf r) c ≡ none → Step n h (stateOf r) r r′ c

@@ -24,7 +24,7 @@ pub record Agrees (h : Surviving) (r : Ideal) : Type 0 where
   pub receiver : h .receiver ≡ r .receiver
   pub underway : h .underway ≡ r .transit
   pub kept : (p k : ℕ) → p < r .n → h .kept p k ≡ keeps r p k
-  pub counts : h .counts ≡ r .ledger .counts
+  pub blockCounts : h .blockCounts ≡ r .ledger .blockCounts
   pub cause : h .cause ≡ r .ledger .cause
   pub written : h .written ≡ r .ledger .written
   -- what was written and is not kept was handed out

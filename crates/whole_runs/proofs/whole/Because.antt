@@ -28,7 +28,7 @@ module _ (why : ℕ) (r : Ideal) where
 
   because-fits : Fits r → Fits (because why r)
   unfolding keptIn keeps
-  because-fits f = record { counts = f .counts; causes = f .causes; paid = f .paid; room = f .room }
+  because-fits f = record { blockCounts = f .blockCounts; causes = f .causes; paid = f .paid; room = f .room }
 
   pub because-limits : Limits r → Limits (because why r)
   unfolding messagesOf messageOf
@@ -48,7 +48,7 @@ module _ (why : ℕ) (r : Ideal) where
     receiver = g .receiver;
     underway = g .underway;
     kept = g .kept;
-    counts = g .counts;
+    blockCounts = g .blockCounts;
     cause = g .cause;
     written = g .written;
     deleted = g .deleted;
@@ -68,7 +68,7 @@ module _ (why : ℕ) (r : Ideal) where
     memory = t .memory;
     hands-out = t .hands-out;
     hands-over = record { deleted = t .hands-over .deleted; counted = t .hands-over .counted };
-    paid = record { counts = t .paid .counts; written = t .paid .written };
+    paid = record { blockCounts = t .paid .blockCounts; written = t .paid .written };
     cause = t .cause;
     stored = t .stored;
     blocks = t .blocks;

@@ -129,18 +129,18 @@ unfolding gather sumBelow weigh
 weigh-gather c zero f = refl
 weigh-gather c (suc n) f = weigh-append c (gather n f) (f n) ∙ ap (λ (x : ℕ). x + weigh c (f n)) (weigh-gather c n f)
 
-weigh-gone : (r r′ : Ideal) (p : ℕ) → weigh (r .ledger .counts) (gone r r′ p) ≡ countBelow (r .own p) (λ k. keeps r p k && not (keeps r′ p k)) * r .ledger .counts p
+weigh-gone : (r r′ : Ideal) (p : ℕ) → weigh (r .ledger .blockCounts) (gone r r′ p) ≡ countBelow (r .own p) (λ k. keeps r p k && not (keeps r′ p k)) * r .ledger .blockCounts p
 weigh-gone r r′ p =
-    weigh-listed (r .ledger .counts) p (passing (r .own p) (λ k. keeps r p k && not (keeps r′ p k)) (checkpointOf r p))
-    ∙ ap (λ (x : ℕ). x * r .ledger .counts p) (length-passing (r .own p) (λ k. keeps r p k && not (keeps r′ p k)) (checkpointOf r p))
+    weigh-listed (r .ledger .blockCounts) p (passing (r .own p) (λ k. keeps r p k && not (keeps r′ p k)) (checkpointOf r p))
+    ∙ ap (λ (x : ℕ). x * r .ledger .blockCounts p) (length-passing (r .own p) (λ k. keeps r p k && not (keeps r′ p k)) (checkpointOf r p))
 
-weigh-all : (r r′ : Ideal) → weigh (r .ledger .counts) (gather (r .n) (gone r r′)) ≡ goneIn r r′
+weigh-all : (r r′ : Ideal) → weigh (r .ledger .blockCounts) (gather (r .n) (gone r r′)) ≡ goneIn r r′
 unfolding goneIn
-weigh-all r r′ = weigh-gather (r .ledger .counts) (r .n) (gone r r′) ∙ sum-same (r .n) _ _ (λ p lt. weigh-gone r r′ p)
+weigh-all r r′ = weigh-gather (r .ledger .blockCounts) (r .n) (gone r r′) ∙ sum-same (r .n) _ _ (λ p lt. weigh-gone r r′ p)
 
 -- The blocks of the pairs that an answer hands out.
 abbrev pub pairBlocks : Ideal → Reply → ℕ
-pairBlocks r reply = sumBelow (reply .report .deletions) (λ d. r .ledger .counts (getD (reply .deleted) (2 * d) 0))
+pairBlocks r reply = sumBelow (reply .report .deletions) (λ d. r .ledger .blockCounts (getD (reply .deleted) (2 * d) 0))
 
 module _ (r : Ideal) (v : Inv r) (few : r .n ≤ mostProcesses) (reply : Reply) (lent : List ℕ) (room : 2 * r .n * r .n ≤ length lent) where
   module _ (i : ℕ) (hi : i < r .n) (asked : r .ledger .why ≡ basic) (answer : Answers reply lent (checkpointDeletions (stateOf r) i)) where
@@ -157,7 +157,7 @@ module _ (r : Ideal) (v : Inv r) (few : r .n ≤ mostProcesses) (reply : Reply) 
 
     pub checkpoint-blocks : pairBlocks r reply ≡ goneIn r (checkpointed r i)
     checkpoint-blocks =
-        handed-weight reply lent (gone r (checkpointed r i) i) (r .ledger .counts) (rw these at (answer .deleted)) (rw these at (answer .counted)) short
+        handed-weight reply lent (gone r (checkpointed r i) i) (r .ledger .blockCounts) (rw these at (answer .deleted)) (rw these at (answer .counted)) short
         ∙ weigh-gone r (checkpointed r i) i
         ∙ sym (gone-one r (checkpointed r i) i hi (checkpoint-keeps-other r v i few hi))
 
@@ -179,7 +179,7 @@ module _ (r : Ideal) (v : Inv r) (few : r .n ≤ mostProcesses) (reply : Reply) 
 
     pub deliver-blocks : pairBlocks r reply ≡ goneIn r (delivered r m)
     deliver-blocks =
-        handed-weight reply lent (gone r (delivered r m) (r .receiver m)) (r .ledger .counts) (rw those at (answer .deleted)) (rw those at (answer .counted)) room-for
+        handed-weight reply lent (gone r (delivered r m) (r .receiver m)) (r .ledger .blockCounts) (rw those at (answer .deleted)) (rw those at (answer .counted)) room-for
         ∙ weigh-gone r (delivered r m) (r .receiver m)
         ∙ sym (gone-one r (delivered r m) (r .receiver m) hi (deliver-keeps-other r v m few hi asked))
 
@@ -200,5 +200,5 @@ module _ (r : Ideal) (v : Inv r) (few : r .n ≤ mostProcesses) (reply : Reply) 
 
     pub recover-blocks : pairBlocks r reply ≡ goneIn r (recovered r (failed F))
     recover-blocks =
-        handed-weight reply lent (gather (r .n) (gone r (recovered r (failed F)))) (r .ledger .counts) (rw all-these at (answer .deleted)) (rw all-these at (answer .counted)) room-all
+        handed-weight reply lent (gather (r .n) (gone r (recovered r (failed F)))) (r .ledger .blockCounts) (rw all-these at (answer .deleted)) (rw all-these at (answer .counted)) room-all
         ∙ weigh-all r (recovered r (failed F))

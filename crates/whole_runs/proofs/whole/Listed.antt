@@ -65,9 +65,9 @@ module _ (h : Surviving) (r : Ideal) (v : Inv r) (g : Agrees h r) where
       let own-before : checkpoints (h .lists p) ≡ r .own p = ap (λ (l : Lists). checkpoints (l p)) (g .lists) ∙ sym (v .counted p) in
       λ j. upd (g .cause j) p (upd (g .cause j p) (own-before j) (r .ledger .why))
 
-  pub stored-count : (p : ℕ) → countOf h (some p) ≡ r .ledger .counts p
+  pub stored-count : (p : ℕ) → countOf h (some p) ≡ r .ledger .blockCounts p
   unfolding countOf
-  stored-count p = ap (λ (c : ℕ → ℕ). c p) (g .counts)
+  stored-count p = ap (λ (c : ℕ → ℕ). c p) (g .blockCounts)
 
   -- None is stored.
   pub none-cause : (c : ℕ) → causeWith h c none ≡ r .ledger .cause

@@ -108,11 +108,11 @@ outside-range low high k = by-bool (ltb k low)
     (λ d. rw (d, lt-leb k high (ltb-true high k d)))
     (λ d. rw (d, le-leb k high (ltb-false high k d)))))
 
-pub start-number : (n : ℕ) (counts : List ℕ) → numberOf (startRefusal n counts) ≡ lowest (startReasons n counts)
+pub start-number : (n : ℕ) (blockCounts : List ℕ) → numberOf (startRefusal n blockCounts) ≡ lowest (startReasons n blockCounts)
 unfolding startRefusal startReasons isBlockCount number
-start-number n counts =
+start-number n blockCounts =
     alike _ _ _ _ (outside-range 1 16 n) refl (λ z.
-    alike _ _ _ _ (any-same n _ _ (λ p lt. outside-range 1 65_535 (getD counts p 0))) refl (λ z. no-more))
+    alike _ _ _ _ (any-same n _ _ (λ p lt. outside-range 1 65_535 (getD blockCounts p 0))) refl (λ z. no-more))
 
 module _ (h : Surviving) (r : Ideal) (v : Inv r) (fit : Limits r) (g : Agrees h r) where
   pub live-is : (p : ℕ) → checkpoints (h .lists p) ≡ r .own p
@@ -144,7 +144,7 @@ module _ (h : Surviving) (r : Ideal) (v : Inv r) (fit : Limits r) (g : Agrees h 
 
   -- The test of the blocks, of a process of the run.
   blocks-same : (i : ℕ) → i < r .n → pastBlocks (stateOf r) i ≡ pastBound h i
-  blocks-same i hi = λ j. ltb mostBlocks ((written-is r v fit ∙ sym (g .written)) j + (count-is-of r v fit i hi ∙ sym (ap (λ (c : ℕ → ℕ). c i) (g .counts))) j)
+  blocks-same i hi = λ j. ltb mostBlocks ((written-is r v fit ∙ sym (g .written)) j + (count-is-of r v fit i hi ∙ sym (ap (λ (c : ℕ → ℕ). c i) (g .blockCounts))) j)
 
   checkpoint-number : (b o : Bool) (i : ℕ) (deleted : List ℕ) → numberOf (checkpointRefusal (stateOf r) i deleted) ≡ lowest (reasons (r .n) h b o (checkpoint i deleted))
   unfolding checkpointRefusal reasons number

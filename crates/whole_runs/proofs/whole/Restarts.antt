@@ -32,9 +32,9 @@ use Rattle.whole_runs.proofs.whole.Reached.{exchange, refusal}
 use Rattle.whole_runs.proofs.whole.Runs.{stepped}
 
 -- The start.
-pub begin-restarted : (n : ℕ) (counts : List ℕ) → Restarted (beginning n counts) (begun n counts)
+pub begin-restarted : (n : ℕ) (blockCounts : List ℕ) → Restarted (beginning n blockCounts) (begun n blockCounts)
 unfolding beginning begin
-begin-restarted n counts =
+begin-restarted n blockCounts =
     let s = begin-standing n in
     record { earlier = begin n; inv = begin-inv n; memory = begin-memory n; events = refl; standing = record { size = s .size; rows = s .rows; current = s .current; pinned = s .pinned } }
 
@@ -141,8 +141,8 @@ module _ (h : Surviving) (r : Ideal) (v : Inv r) (memory : Memory r) (g : Agrees
       by-lt k j
       (λ before. absurd (d .2 j before (omega (arith, many, z .below)) (less-in j (z .below) (z .less))))
       (λ not-before. by-lt j k
-      (λ behind. absurd (omega (arith, z .next, rising r v p f (suc j) k behind (omega arith))))
-      (λ not-behind. omega arith))
+      (λ rest-after. absurd (omega (arith, z .next, rising r v p f (suc j) k rest-after (omega arith))))
+      (λ not-after. omega arith))
 
 module _ (h : Surviving) (r : Ideal) (v : Inv r) (memory : Memory r) (g : Agrees h r) (t : Restarted h r) (p k : ℕ) where
   -- A checkpoint is kept exactly if the history needs it.

@@ -36,7 +36,7 @@ unfolding runAfter unlessRefused
 run-accepted r c l e = ap (λ (o : Option Refusal). runAfter (unlessRefused o r (stepped r c)) l) e
 
 -- The block counts are those of the start.
-counts-step : (r : Ideal) (c : Call) → stepped r c .ledger .counts ≡ r .ledger .counts
+counts-step : (r : Ideal) (c : Call) → stepped r c .ledger .blockCounts ≡ r .ledger .blockCounts
 unfolding stepped checkpointed stores sending lost recovered
 counts-step r (checkpoint i deleted) = refl
 counts-step r (send i j) = refl
@@ -46,12 +46,12 @@ counts-step r (recover F deleted lent) = refl
 counts-step r (line F lent) = refl
 counts-step r (earliest l lent) = refl
 
-counts-unless : (o : Option Refusal) (r r′ : Ideal) → r′ .ledger .counts ≡ r .ledger .counts → unlessRefused o r r′ .ledger .counts ≡ r .ledger .counts
+counts-unless : (o : Option Refusal) (r r′ : Ideal) → r′ .ledger .blockCounts ≡ r .ledger .blockCounts → unlessRefused o r r′ .ledger .blockCounts ≡ r .ledger .blockCounts
 unfolding unlessRefused
 counts-unless none r r′ e = e
 counts-unless (some x) r r′ e = refl
 
-pub counts-after : (r : Ideal) (calls : List Call) → runAfter r calls .ledger .counts ≡ r .ledger .counts
+pub counts-after : (r : Ideal) (calls : List Call) → runAfter r calls .ledger .blockCounts ≡ r .ledger .blockCounts
 unfolding runAfter
 counts-after r [] = refl
 counts-after r (c ∷ l) = counts-after (unlessRefused (refusal (stateOf r) c) r (stepped r c)) l ∙ counts-unless (refusal (stateOf r) c) r (stepped r c) (counts-step r c)

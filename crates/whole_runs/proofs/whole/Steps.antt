@@ -57,7 +57,7 @@ hands-out-none a r r′ count same p k hp = rw (count, same p k) (sym (no-change
 
 blocks-none : (a : Reply) (r r′ : Ideal) → a .report .deletions ≡ 0 → ((p k : ℕ) → keeps r′ p k ≡ keeps r p k) → pairBlocks r a ≡ goneIn r r′
 unfolding sumBelow
-blocks-none a r r′ count same = ap (λ (k : ℕ). sumBelow k (λ d. r .ledger .counts (getD (a .deleted) (2 * d) 0))) count ∙ sym (gone-none r r′ same)
+blocks-none a r r′ count same = ap (λ (k : ℕ). sumBelow k (λ d. r .ledger .blockCounts (getD (a .deleted) (2 * d) 0))) count ∙ sym (gone-none r r′ same)
 
 module _ (n : ℕ) (h : Surviving) (r : Ideal) (v : Inv r) (fit : Limits r) (memory : Memory r) (size : r .n ≡ n) (g : Agrees h r) where
   few : r .n ≤ mostProcesses
@@ -243,7 +243,7 @@ module _ (n : ℕ) (h : Surviving) (r : Ideal) (v : Inv r) (fit : Limits r) (mem
       memory = memory;
       hands-out = hands-out-none (call (stateOf r) c .reply) r r count (λ p k. refl);
       hands-over = over;
-      paid = record { counts = refl; written = omega (arith, still-new r) };
+      paid = record { blockCounts = refl; written = omega (arith, still-new r) };
       cause = rw none-stored (none-cause h r v g (causeOf c));
       stored = rw none-stored (none-count h r v g ∙ sym (still-new r));
       blocks = blocks-none (call (stateOf r) c .reply) r r count (λ p k. refl);

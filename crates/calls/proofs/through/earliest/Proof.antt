@@ -77,11 +77,11 @@ is-copy l c e = (l, e)
 
 -- Facts alongside what is owned: one, and one alongside others.
 module _ {M : Type 1} (𝓤 : URA M) where
-  beside : (P F : SProp 𝓤) → ent 𝓤 (emp 𝓤) F → ent 𝓤 P (sep 𝓤 P F)
-  beside P F e = via 𝓤 (sep 𝓤 (emp 𝓤) P) (emp∗ 𝓤 P) (via 𝓤 (sep 𝓤 F P) (monoL 𝓤 P e) (comm∗ 𝓤 F P))
+  alongside : (P F : SProp 𝓤) → ent 𝓤 (emp 𝓤) F → ent 𝓤 P (sep 𝓤 P F)
+  alongside P F e = via 𝓤 (sep 𝓤 (emp 𝓤) P) (emp∗ 𝓤 P) (via 𝓤 (sep 𝓤 F P) (monoL 𝓤 P e) (comm∗ 𝓤 F P))
 
   and-also : (φ : Type 0) (F : SProp 𝓤) → φ → ent 𝓤 (emp 𝓤) F → ent 𝓤 (emp 𝓤) (sep 𝓤 (fact 𝓤 φ) F)
-  and-also φ F x e = via 𝓤 (fact 𝓤 φ) (factI 𝓤 φ (emp 𝓤) x) (beside (fact 𝓤 φ) F e)
+  and-also φ F x e = via 𝓤 (fact 𝓤 φ) (factI 𝓤 φ (emp 𝓤) x) (alongside (fact 𝓤 φ) F e)
 
 module _ {M : Type 1} (𝓤 : URA M) (H : Heap 𝓤) (A : Atoms 𝓤) (mem : Memory → SProp 𝓤) (run : Routine → Fun 𝓤) where
   -- the contracts that the proof cites
@@ -139,8 +139,8 @@ module _ {M : Type 1} (𝓤 : URA M) (H : Heap 𝓤) (A : Atoms 𝓤) (W : Given
   goes-copy : ent 𝓤 (⋆ 𝓤 H A (Token₀ ∷ ‵ Own ∷ [])) (CopyOut 𝓤 H A mem run .pre to-copy)
   goes-copy = qed W (Token₀ ∷ ‵ Own ∷ []) ∵ nothing ! $ move ! (2 ∷ 0 ∷ []) $ fjoin ! $ move ! (1 ∷ 0 ∷ []) $ join ! $ frame ! $ done !
 
-  said-copy : (c : Copied) → ent 𝓤 (ensured 𝓤 H A copy-out.ended (copy-out.clauses 𝓤 H A mem run) (κ₀, tt) (xs, tt) tt c) (fact 𝓤 (c ≡ copyOf ys))
-  said-copy c = exE 𝓤 _ (λ ws. snd∗ 𝓤 (sem 𝓤 H A (lasts copy-out.ended (κ₀, tt) (xs, tt) ws)) (fact 𝓤 (c ≡ copyOf ys)))
+  promised-copy : (c : Copied) → ent 𝓤 (ensured 𝓤 H A copy-out.ended (copy-out.clauses 𝓤 H A mem run) (κ₀, tt) (xs, tt) tt c) (fact 𝓤 (c ≡ copyOf ys))
+  promised-copy c = exE 𝓤 _ (λ ws. snd∗ 𝓤 (sem 𝓤 H A (lasts copy-out.ended (κ₀, tt) (xs, tt) ws)) (fact 𝓤 (c ≡ copyOf ys)))
 
   abbrev to-of : Copied → Val → OfCopy 𝓤 H A mem run .Ghost
   to-of c u = (((κ₁, tt), (q₁, tt), tt, (s, (c, (line, tt))), (mv ∷ [], (u ∷ [], (lv ∷ [], tt)))), tt)
@@ -156,7 +156,7 @@ module _ {M : Type 1} (𝓤 : URA M) (H : Heap 𝓤) (A : Atoms 𝓤) (W : Given
   exits r w last is e long =
       qed W (Token₀ ∷ Token₁ ∷ ‵ Own ∷ ‵ (finally u16 γ′ last) ∷ []) ∵
       suffices ! _ (ends-at 𝓤 H A f.ended stayed (f.clauses 𝓤 H A mem run) W bound w r (tt, (tt, (last, tt))) (tt, (tt, (long, tt)))) $
-      suffices ! _ (beside 𝓤 _ _ (and-also 𝓤 _ _ (e .0) (and-also 𝓤 _ _ (e .1) (and-also 𝓤 _ _ (e .2) (factI 𝓤 (EarliestPromise s ys zs) (emp 𝓤) (earliest-promise s ys zs)))))) $
+      suffices ! _ (alongside 𝓤 _ _ (and-also 𝓤 _ _ (e .0) (and-also 𝓤 _ _ (e .1) (and-also 𝓤 _ _ (e .2) (factI 𝓤 (EarliestPromise s ys zs) (emp 𝓤) (earliest-promise s ys zs)))))) $
       split ! $ move ! (0 ∷ 2 ∷ []) $ join ! $ frame ! $ move ! (2 ∷ 0 ∷ []) $ fjoin ! $ move ! (1 ∷ 0 ∷ []) $ fjoin ! $
       owned ! R.the-row (Is R.the-row) (struct.makes R.the-type R′.the-plain 𝓤 H A) s _ is-run $ fjoin ! $ frame ! $
       owned ! O.the-row (Is O.the-row) (struct.makes O.the-type O′.the-plain 𝓤 H A) r _ is $ done !
@@ -193,14 +193,14 @@ module _ {M : Type 1} (𝓤 : URA M) (H : Heap 𝓤) (A : Atoms 𝓤) (W : Given
         use1 W (later (some (λ (r : EarliestOutcome). (Token₁ ⊛ ‵ (O.the-row .own r (w ∷ []))) ⊛ raw (ensured 𝓤 H A of-copy.ended (of-copy.clauses 𝓤 H A mem run) (κ₁, tt) (s, (c, (line, tt))) tt r)))) (id⊢ 𝓤 _) $ await ! tt $ pick ! (λ r.
         split ! $ move ! (1 ∷ []) $ use1 W (some (λ (ws : Unit {0} × (Unit {0} × (List ℕ × Unit {0}))). ‵ (lasts of-copy.ended (κ₁, tt) (s, (c, (line, tt))) ws)
         ⊛ raw (fact 𝓤 ((l : List Named) → c ≡ copyOf l → Says s l zs r (ws .1 .1 .0))))) (id⊢ 𝓤 _) $ pick ! (λ ws.
-        split ! $ move ! (1 ∷ []) $ heard ! ((l : List Named) → c ≡ copyOf l → Says s l zs r (ws .1 .1 .0)) (λ said.
+        split ! $ move ! (1 ∷ []) $ heard ! ((l : List Named) → c ≡ copyOf l → Says s l zs r (ws .1 .1 .0)) (λ promised.
         fsplit ! $ drop ! $ fsplit ! $ drop ! $ fsplit ! $ fsplit ! $ move ! (1 ∷ []) $ feqL ! (λ long.
         -- [the last list; true; the token and the result; the token; the list; _6; …]
         move ! (2 ∷ []) $ split ! $ move ! (1 ∷ []) $ facts ! O.the-row (Is O.the-row) (shows 𝓤 H A O.the-row) r (w ∷ []) (λ isr.
         land ! (from ! (stop !)) (init ! 17 refl (struct.lawful O.the-type O′.the-laws 𝓤 H A W .typed r _ isr .0)) $
         returns ! (look ! 17 refl) $ forget ! 5 refl $ forget ! 7 refl $ forget ! 9 refl $ forget ! 11 refl $ forget ! 13 refl $ forget ! 15 refl $ forget ! 17 refl $
         move ! (17 ∷ 18 ∷ []) $ free1 ! $ move ! (15 ∷ 16 ∷ []) $ free1 ! $ move ! (13 ∷ 14 ∷ []) $ free1 ! $ move ! (11 ∷ 12 ∷ []) $ free1 ! $ move ! (9 ∷ 10 ∷ []) $ free1 ! $ move ! (7 ∷ 8 ∷ []) $ free1 ! $ move ! (5 ∷ 6 ∷ []) $ free1 ! $ free0 ! $
-        keep ! (3 ∷ 0 ∷ 4 ∷ 1 ∷ []) $ by ! (exits r w (ws .1 .1 .0) isr (said ys e) long)))))))
+        keep ! (3 ∷ 0 ∷ 4 ∷ 1 ∷ []) $ by ! (exits r w (ws .1 .1 .0) isr (promised ys e) long)))))))
 
     -- what there is once the parameters are passed
     abbrev Start : List (Item 𝓤)
@@ -219,7 +219,7 @@ module _ {M : Type 1} (𝓤 : URA M) (H : Heap 𝓤) (A : Atoms 𝓤) (W : Given
         move ! (0 ∷ 4 ∷ []) $ use2 W (raw (CopyOut 𝓤 H A mem run .pre to-copy)) goes-copy $
         calls-at ! fm (CopyOut 𝓤 H A mem run) known-copy to-copy (and-then ! (load ! (from ! (stop !)) (look ! 13 refl)) (no-more !)) (λ u.
         use1 W (later (some (λ (c : Copied). (Token₀ ⊛ ‵ (T.the-row .own c (u ∷ []))) ⊛ raw (ensured 𝓤 H A copy-out.ended (copy-out.clauses 𝓤 H A mem run) (κ₀, tt) (xs, tt) tt c)))) (id⊢ 𝓤 _) $ await ! tt $ pick ! (λ c.
-        split ! $ move ! (1 ∷ []) $ use1 W (raw (fact 𝓤 (c ≡ copyOf ys))) (said-copy c) $ heard ! (c ≡ copyOf ys) (λ e. split ! $ move ! (1 ∷ []) $
+        split ! $ move ! (1 ∷ []) $ use1 W (raw (fact 𝓤 (c ≡ copyOf ys))) (promised-copy c) $ heard ! (c ≡ copyOf ys) (λ e. split ! $ move ! (1 ∷ []) $
         facts ! T.the-row (Is T.the-row) (shows 𝓤 H A T.the-row) c (u ∷ []) (λ isc.
         land ! (from ! (stop !)) (init ! 9 refl (struct.lawful T.the-type T′.the-laws 𝓤 H A W .typed c _ isc .0)) $
         keep ! (0 ∷ 1 ∷ 2 ∷ 4 ∷ 5 ∷ 6 ∷ 7 ∷ 8 ∷ 9 ∷ 10 ∷ 11 ∷ 12 ∷ 13 ∷ 14 ∷ 15 ∷ 16 ∷ 17 ∷ 18 ∷ []) $ rest-at c u isc e))))

@@ -9,13 +9,13 @@ use Rattle.console_in_place.proofs.calls.start.Tie as tie
 returns : tie.Need-returns
 returns c =
     let a = c .before .before .before .before .args in
-    let g = start-denied (a .role) (a .owned) (a .w .now) (a .n) (a .counts .now) (c .before .is-denied .ensures (a .owned)) (c .if1 .taken) in
+    let g = start-denied (a .role) (a .owned) (a .w .now) (a .n) (a .block-counts .now) (c .before .is-denied .ensures (a .owned)) (c .if1 .taken) in
     rw (g .0, g .1) (refl, (refl, (refl, λ size clean. clean)))
 
 returns-2 : tie.Need-returns-2
 returns-2 c =
     let a = c .before .before .before .before .before .before .before .before .args in
-    let g = start-made (a .role) (a .owned) (a .w .now) (a .n) (a .counts .now) (c .before .before .before .before .before .is-denied .ensures (a .owned)) (c .before .before .before .before .if1 .left) in
+    let g = start-made (a .role) (a .owned) (a .w .now) (a .n) (a .block-counts .now) (c .before .before .before .before .before .is-denied .ensures (a .owned)) (c .before .before .before .before .if1 .left) in
     let h = c .before .before .start .ensures in
     rw (g .0, g .1) (h .0, (h .1 .0, (h .1 .1 .0, λ size clean. h .1 .1 .1 .0 size)))
 

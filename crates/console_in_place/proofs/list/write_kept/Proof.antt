@@ -15,10 +15,10 @@ use Rattle.console_in_place.proofs.list.write_kept.Statement.{statement
 use Rattle.console_in_place.proofs.list.write_kept.Tie as tie
 
 abbrev Inv-loop : tie.InvT-loop
-Inv-loop w p held deleted₀ at k₀ deleted k = (k ≤ held) × (length deleted ≡ length deleted₀) × (deleted ≡ sets deleted₀ at (pairs (listed p (table k (checkpointIn w p)))))
+Inv-loop w p keptCount deleted₀ at k₀ deleted k = (k ≤ keptCount) × (length deleted ≡ length deleted₀) × (deleted ≡ sets deleted₀ at (pairs (listed p (table k (checkpointIn w p)))))
 
 abbrev μ-loop : tie.MeasureT-loop
-μ-loop w p held deleted₀ at k₀ deleted k = held - k
+μ-loop w p keptCount deleted₀ at k₀ deleted k = keptCount - k
 
 loop-holds : tie.Need-loop-holds Inv-loop μ-loop
 loop-holds c = let a = c .before .before .args in (search needs, refl, none-written (a .p) (checkpointIn (a .w .now) (a .p)) (a .deleted .now) (a .at))
@@ -39,7 +39,7 @@ loop-again c =
 returns : tie.Need-returns Inv-loop μ-loop
 returns c =
     let l = c .before .loop in
-    let e : l .k ≡ c .before .before .before .before .args .held = omega arith in
+    let e : l .k ≡ c .before .before .before .before .args .kept-count = omega arith in
     rw e at (l .inv .2)
 
 pub write-kept-spec : {M : Type 1} → statement M

@@ -27,7 +27,7 @@ write-part-requires c κs =
     let a = s .args in
     let h = sound-words (a .w .now) (s .pre .0) in
     let below : l .p < countOf (a .w .now) = omega (arith, c .before .loop-test .taken, s .pre .1) in
-    let most = h .parts (l .p) below .held-most in
+    let most = h .parts (l .p) below .kept-count-most in
     let size : 2 * countOf (a .w .now) * countOf (a .w .now) ≤ length (a .deleted .now) = rw (s .pre .1) at (s .pre .2) in (
       s .pre .0,
       below,
@@ -41,7 +41,7 @@ add-count c =
     let a = c .before .before .before .before .before .before .before .before .args in
     let h = sound-words (a .w .now) (c .before .before .before .before .before .before .before .before .pre .0) in
     let below : l .p < countOf (a .w .now) = omega (arith, c .before .before .before .before .loop-test .taken, c .before .before .before .before .before .before .before .before .pre .1) in
-    let few = sum-few (a .role) (a .owned) (countOf (a .w .now)) (a .w .now) (a .deleted .now) (l .deleted) (l .count) (l .p) (l .inv) (h .few) below (h .parts (l .p) below .held-most) _ (c .before .before .write-part .ensures .0) in
+    let few = sum-few (a .role) (a .owned) (countOf (a .w .now)) (a .w .now) (a .deleted .now) (l .deleted) (l .count) (l .p) (l .inv) (h .few) below (h .parts (l .p) below .kept-count-most) _ (c .before .before .write-part .ensures .0) in
     search needs
 
 loop-again : tie.Need-loop-again Inv-loop μ-loop
@@ -51,7 +51,7 @@ loop-again c =
     let a = t .before .before .before .before .before .before .args in
     let h = sound-words (a .w .now) (t .before .before .before .before .before .before .pre .0) in
     let below : l .p < countOf (a .w .now) = omega (arith, t .before .before .loop-test .taken, t .before .before .before .before .before .before .pre .1) in
-    let most = h .parts (l .p) below .held-most in
+    let most = h .parts (l .p) below .kept-count-most in
     one-listed (a .role) (a .owned) (countOf (a .w .now)) (a .w .now) (a .deleted .now) (l .deleted) (l .count) (l .p) (l .inv) (h .few) below most _ _
     (t .write-part .ensures .0) (t .write-part .ensures .1) (t .write-part .kept .1 .1 .1 .1 .0)
 

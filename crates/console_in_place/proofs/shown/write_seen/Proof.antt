@@ -8,7 +8,7 @@ use native.Mathlib.Omega.{arith}
 use borrow.Author.Needs.{needs}
 use lib.ListN.{length, getD, length-set}
 use Rattle.laws.specs.Choice.{pick}
-use Rattle.laws.specs.Loops.{either, setBelow, below-none, turn-set, turn-keep}
+use Rattle.laws.specs.Loops.{either, setBelow, below-none, step-set, step-keep}
 use Rattle.roles.specs.Console.{entitledBy}
 use Rattle.console_in_place.proofs.shown.write_seen.Statement.{statement}
 use Rattle.console_in_place.proofs.shown.write_seen.Tie as tie
@@ -30,12 +30,12 @@ loop-again c =
     (λ w. (
       search needs,
       ap length (w .1) ∙ simp length-set (l .inv .1),
-      w .1 ∙ turn-set f (a .line .now) (l .line) (l .p) (l .inv .2) _ (rw (sym (b .is-entitled .ensures) ∙ w .0 .taken)),
+      w .1 ∙ step-set f (a .line .now) (l .line) (l .p) (l .inv .2) _ (rw (sym (b .is-entitled .ensures) ∙ w .0 .taken)),
     ))
     (λ w. (
       search needs,
       ap length (w .1) ∙ l .inv .1,
-      w .1 ∙ turn-keep f (a .line .now) (l .line) (l .p) (l .inv .2) 0 (rw (sym (b .is-entitled .ensures) ∙ w .0 .left)),
+      w .1 ∙ step-keep f (a .line .now) (l .line) (l .p) (l .inv .2) 0 (rw (sym (b .is-entitled .ensures) ∙ w .0 .left)),
     ))
 
 returns : tie.Need-returns Inv-loop μ-loop

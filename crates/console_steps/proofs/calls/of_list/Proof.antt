@@ -1,7 +1,7 @@
 -- `console_steps::calls::of_list` meets its contract. Assumes nothing.
 use mathlib.Core.Path.{refl, sym, _∙_, ap}
 use Rattle.listing.specs.Lines.{valueIn}
-use Rattle.listing.specs.Said.{reportIn}
+use Rattle.listing.specs.Summarised.{reportIn}
 use Rattle.roles.specs.Console.{listReport}
 use borrow.Author.Needs.{needs}
 use Rattle.console_steps.proofs.calls.of_list.Statement.{statement}

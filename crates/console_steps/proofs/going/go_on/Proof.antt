@@ -7,10 +7,10 @@ use Rattle.console_steps.proofs.going.go_on.Statement.{statement}
 use Rattle.console_steps.proofs.going.go_on.Tie as tie
 
 returns : tie.Need-returns
-returns c = led (onward-called _ _ (c .before .before .before .before .before .before .before .before .before .before .before .args .done) (c .before .before .before .before .before .before .before .before .before .before .before .args .held) (c .before .before .before .before .before .before .before .if1 .taken) (c .before .before .before .before .before .before .before .before .before .before .before .pre .1) (c .before .before .before .before .before .before .before .before .before .before .before .pre .3)) (c .before .before .before .before .make-call .ensures)
+returns c = led (onward-called _ _ (c .before .before .before .before .before .before .before .before .before .before .before .args .done) (c .before .before .before .before .before .before .before .before .before .before .before .args .buffered) (c .before .before .before .before .before .before .before .if1 .taken) (c .before .before .before .before .before .before .before .before .before .before .before .pre .1) (c .before .before .before .before .before .before .before .before .before .before .before .pre .3)) (c .before .before .before .before .make-call .ensures)
 
 returns-2 : tie.Need-returns-2
-returns-2 c = arrives-more _ _ (c .before .before .before .before .args .done) (c .before .before .before .before .args .held) _ (c .before .before .before .before .pre .0) (omega (arith, c .if1 .left)) (omega (arith, c .before .before .before .before .pre .1, c .before .before .before .before .pre .3))
+returns-2 c = arrives-more _ _ (c .before .before .before .before .args .done) (c .before .before .before .before .args .buffered) _ (c .before .before .before .before .pre .0) (omega (arith, c .if1 .left)) (omega (arith, c .before .before .before .before .pre .1, c .before .before .before .before .pre .3))
 
 pub go-on-spec : {M : Type 1} → statement M
 go-on-spec = tie.close (tie.spec (λ c κs. search needs) (λ c. search needs) (λ c. search needs) returns returns-2)

@@ -2,7 +2,7 @@
 use mathlib.Core.Path.{ap}
 use native.Mathlib.Omega.{arith}
 use Rattle.roles.specs.declared.Operation.{Operation}
-use Rattle.listing.specs.Said.{reportIn}
+use Rattle.listing.specs.Summarised.{reportIn}
 use Rattle.listing.proofs.Texts.{nothing}
 use Rattle.console_machine.specs.Text.{answerText}
 use Rattle.console_steps.specs.Replied.{replyOf}

@@ -7,7 +7,7 @@ use lib.Seq.{length-take-le}
 use Rattle.words.specs.Layout.{runOf}
 use Rattle.console_machine.specs.Made.{lent}
 use Rattle.console_steps.proofs.Lists.{few, cut-few, lent-is}
-use Rattle.verdicts.proofs.Room.{twice-square}
+use Rattle.admissions.proofs.Room.{twice-square}
 use borrow.Author.Needs.{needs}
 use Rattle.console_steps.proofs.making.make_asked.Statement.{statement}
 use Rattle.console_steps.proofs.making.make_asked.Tie as tie

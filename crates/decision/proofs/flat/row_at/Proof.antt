@@ -7,7 +7,7 @@ use Prim.Native.Nat.{ℕ, _+_, _*_, _-_, _≤_}
 use native.Mathlib.Omega.{arith}
 use denote.Ref.{now}
 use lib.ListN.{getD, length-replicate, replicate}
-use Rattle.laws.specs.Loops.{setBelow, below-none, below-all, turn-set}
+use Rattle.laws.specs.Loops.{setBelow, below-none, below-all, step-set}
 use Rattle.model.specs.declared.Interval.{Interval}
 use Rattle.decision.specs.Rows.{rowOf}
 use Rattle.decision.proofs.flat.row_at.Statement.{statement}
@@ -26,7 +26,7 @@ loop-again : tie.Need-loop-again Inv-loop μ-loop
 loop-again c =
     let l = c .before .before .loop in
     let a = c .before .before .before .args in
-    (search needs, turn-set (entry (now (a .table)) (a .row)) (replicate 16 (record { 0 = 0 })) (l .v) (l .f) (l .inv .1) _ refl)
+    (search needs, step-set (entry (now (a .table)) (a .row)) (replicate 16 (record { 0 = 0 })) (l .v) (l .f) (l .inv .1) _ refl)
 
 returns : tie.Need-returns Inv-loop μ-loop
 unfolding rowOf

@@ -118,8 +118,8 @@ module _ {M : Type 1} (𝓤 : URA M) (H : Heap 𝓤) (A : Atoms 𝓤) (W : Given
   goes-nothing : ent 𝓤 (emp 𝓤) (Nothing 𝓤 H A mem run .pre to-nothing)
   goes-nothing = qed W [] ∵ nothing ! $ nothing ! $ join ! $ frame ! $ done !
 
-  said-nothing : (r : Copied) → ent 𝓤 (ensured 𝓤 H A nothing-copied.ended (nothing-copied.clauses 𝓤 H A mem run) tt tt tt r) (fact 𝓤 (r ≡ nothingCopied))
-  said-nothing r = exE 𝓤 _ (λ ws. snd∗ 𝓤 (sem 𝓤 H A (lasts nothing-copied.ended tt tt ws)) (fact 𝓤 (r ≡ nothingCopied)))
+  promised-nothing : (r : Copied) → ent 𝓤 (ensured 𝓤 H A nothing-copied.ended (nothing-copied.clauses 𝓤 H A mem run) tt tt tt r) (fact 𝓤 (r ≡ nothingCopied))
+  promised-nothing r = exE 𝓤 _ (λ ws. snd∗ 𝓤 (sem 𝓤 H A (lasts nothing-copied.ended tt tt ws)) (fact 𝓤 (r ≡ nothingCopied)))
 
   abbrev to-element : ℕ → Element 𝓤 H A mem run .Ghost
   to-element i = (((κ, tt), (q, tt), tt, (xs, (i, tt)), (sv ∷ [], (vint w64 i ∷ [], tt))), tt)
@@ -129,8 +129,8 @@ module _ {M : Type 1} (𝓤 : URA M) (H : Heap 𝓤) (A : Atoms 𝓤) (W : Given
       qed W (Token ∷ ‵ Own ∷ []) ∵ says ! less $ frame ! $
       nothing ! $ owned ! usize (Is usize) (uint-makes 𝓤 H A W w64) i _ (refl, fits) $ fjoin ! $ move ! (1 ∷ 0 ∷ []) $ fjoin ! $ done !
 
-  said-element : (i : ℕ) (r : Named) → ent 𝓤 (ensured 𝓤 H A element.ended (element.clauses 𝓤 H A mem run) (κ, tt) (xs, (i, tt)) tt r) (fact 𝓤 (r ≡ getD ys i noNamed))
-  said-element i r = exE 𝓤 _ (λ ws. snd∗ 𝓤 (sem 𝓤 H A (lasts element.ended (κ, tt) (xs, (i, tt)) ws)) (fact 𝓤 (r ≡ getD ys i noNamed)))
+  promised-element : (i : ℕ) (r : Named) → ent 𝓤 (ensured 𝓤 H A element.ended (element.clauses 𝓤 H A mem run) (κ, tt) (xs, (i, tt)) tt r) (fact 𝓤 (r ≡ getD ys i noNamed))
+  promised-element i r = exE 𝓤 _ (λ ws. snd∗ 𝓤 (sem 𝓤 H A (lasts element.ended (κ, tt) (xs, (i, tt)) ws)) (fact 𝓤 (r ≡ getD ys i noNamed)))
 
   abbrev to-with : Copied → Val → Named → Val → With 𝓤 H A mem run .Ghost
   to-with c v x u = ((tt, tt, tt, (c, (x, tt)), (v ∷ [], (u ∷ [], tt))), tt)
@@ -141,8 +141,8 @@ module _ {M : Type 1} (𝓤 : URA M) (H : Heap 𝓤) (A : Atoms 𝓤) (W : Given
       nothing ! $ owned ! N.the-row (Is N.the-row) (struct.makes N.the-type N′.the-plain 𝓤 H A) x _ isx $ fjoin ! $
       owned ! T.the-row (Is T.the-row) (struct.makes T.the-type T′.the-plain 𝓤 H A) c _ isc $ fjoin ! $ done !
 
-  said-with : (c : Copied) (x : Named) (r : Copied) → ent 𝓤 (ensured 𝓤 H A with-element.ended (with-element.clauses 𝓤 H A mem run) tt (c, (x, tt)) tt r) (fact 𝓤 (r ≡ withElement c x))
-  said-with c x r = exE 𝓤 _ (λ ws. snd∗ 𝓤 (sem 𝓤 H A (lasts with-element.ended tt (c, (x, tt)) ws)) (fact 𝓤 (r ≡ withElement c x)))
+  promised-with : (c : Copied) (x : Named) (r : Copied) → ent 𝓤 (ensured 𝓤 H A with-element.ended (with-element.clauses 𝓤 H A mem run) tt (c, (x, tt)) tt r) (fact 𝓤 (r ≡ withElement c x))
+  promised-with c x r = exE 𝓤 _ (λ ws. snd∗ 𝓤 (sem 𝓤 H A (lasts with-element.ended tt (c, (x, tt)) ws)) (fact 𝓤 (r ≡ withElement c x)))
 
   exits : (c : Copied) (v : Val) → Is T.the-row c (v ∷ []) → c ≡ copyOf ys → ent 𝓤 (⋆ 𝓤 H A (Token ∷ ‵ Own ∷ [])) (Post v)
   exits c v is e =
@@ -180,29 +180,29 @@ module _ {M : Type 1} (𝓤 : URA M) (H : Heap 𝓤) (A : Atoms 𝓤) (W : Given
         ∷ ‵ (fat fullShare slice l₁ 0 sv) ∷ ‵ (fdies slice l₁) ∷ ‵ (froom T′.mir l₀ 0) ∷ ‵ (fdies T′.mir l₀) ∷ []
 
     -- an iteration's postcondition: it ends nearer to the end of the list, or the loop is left and the rest of the body runs
-    abbrev Turned : Upto → Out → SProp 𝓤
-    Turned j = afterTurn 𝓤 H (Below 𝓤 H A Nearer At j) (afterBlock 𝓤 H (afterSeq 𝓤 H (Wp 𝓤 H C Λ En pieces.t-4 (atReturn 𝓤 H En Post)) (atReturn 𝓤 H En Post)))
+    abbrev Iterated : Upto → Out → SProp 𝓤
+    Iterated j = afterTurn 𝓤 H (Below 𝓤 H A Nearer At j) (afterBlock 𝓤 H (afterSeq 𝓤 H (Wp 𝓤 H C Λ En pieces.t-4 (atReturn 𝓤 H En Post)) (atReturn 𝓤 H En Post)))
 
-    turn-at : (k : ℕ) (le : k ≤ n) (v : Val) (is : Is T.the-row (copyTo k ys) (v ∷ [])) → Sq W (At (k, le, v, is)) (runs C Λ En pieces.turn-1 (anyQ (Turned (k, le, v, is))))
+    iteration-at : (k : ℕ) (le : k ≤ n) (v : Val) (is : Is T.the-row (copyTo k ys) (v ∷ [])) → Sq W (At (k, le, v, is)) (runs C Λ En pieces.turn-1 (anyQ (Iterated (k, le, v, is))))
     unfolding afterTurn
-    turn-at k le v is =
+    iteration-at k le v is =
         assigns ! (of-opd ! (load ! (from ! (fld ! refl (stop !))) (look-in ! 12 (sub ! 1 refl (whole !))))) (from ! (stop !)) (init ! 6 refl (tt, record { fits = room .0 })) $
         assigns ! (bin ! (load ! (from ! (stop !)) (look ! 8 refl)) (load ! (from ! (stop !)) (look ! 6 refl)) tt) (from ! (stop !)) (init ! 4 refl (tt, tt)) $
         first ! $ branches ! (load ! (from ! (stop !)) (look ! 4 refl))
-        (λ less. skips ! $ exec ! C Λ En more (anyQ (Turned (k, le, v, is))) $
+        (λ less. skips ! $ exec ! C Λ En more (anyQ (Iterated (k, le, v, is))) $
         move ! (1 ∷ []) $ use1 W (‵ Own ⊛ ‵ Own) (shr-slice-copy 𝓤 H A W (named 0) κ N.the-row .twice xs (sv ∷ [])) $ split ! $ move ! (2 ∷ 0 ∷ []) $
         use2 W (raw (Element 𝓤 H A mem run .pre (to-element k))) (goes-element k (fits k le) (ltb→lt k n less)) $
         -- [what `element` asks; the list; _6; …; _5; …; _4; …; _3; …; _2; …; _1; …; _0; …]
         calls-at ! (fmOf 𝓤 H (W .laws) 𝓣) (Element 𝓤 H A mem run) known-element (to-element k) (and-then ! (load ! (from ! (stop !)) (look ! 12 refl)) (and-then ! (load ! (from ! (stop !)) (look ! 8 refl)) (no-more !))) (λ u.
         use1 W (later (some (λ (x : Named). (Token ⊛ ‵ (N.the-row .own x (u ∷ []))) ⊛ raw (ensured 𝓤 H A element.ended (element.clauses 𝓤 H A mem run) (κ, tt) (xs, (k, tt)) tt x)))) (id⊢ 𝓤 _) $ await ! tt $ pick ! (λ x.
-        split ! $ move ! (1 ∷ []) $ use1 W (raw (fact 𝓤 (x ≡ getD ys k noNamed))) (said-element k x) $ heard ! (x ≡ getD ys k noNamed) (λ is-element. split ! $ move ! (1 ∷ []) $
+        split ! $ move ! (1 ∷ []) $ use1 W (raw (fact 𝓤 (x ≡ getD ys k noNamed))) (promised-element k x) $ heard ! (x ≡ getD ys k noNamed) (λ is-element. split ! $ move ! (1 ∷ []) $
         facts ! N.the-row (Is N.the-row) (shows 𝓤 H A N.the-row) x (u ∷ []) (λ isx.
         land ! (from ! (stop !)) (init ! 2 refl (struct.lawful N.the-type N′.the-laws 𝓤 H A W .typed x _ isx .0)) $
         use0 W (raw (With 𝓤 H A mem run .pre (to-with (copyTo k ys) v x u))) (goes-with (copyTo k ys) v x u is isx (more-fits less)) $
         -- [what `with_element` asks; the token; the list; _6; …; _5; …; _4; …; _3; …; _2; …; _1; …; _0; …]
         calls-at ! (fmOf 𝓤 H (W .laws) 𝓣) (With 𝓤 H A mem run) known-with (to-with (copyTo k ys) v x u) (and-then ! (load ! (from ! (stop !)) (look ! 11 refl)) (and-then ! (load ! (from ! (stop !)) (look ! 3 refl)) (no-more !))) (λ w.
         use1 W (later (some (λ (c : Copied). (‵ ftrue ⊛ ‵ (T.the-row .own c (w ∷ []))) ⊛ raw (ensured 𝓤 H A with-element.ended (with-element.clauses 𝓤 H A mem run) tt (copyTo k ys, (x, tt)) tt c)))) (id⊢ 𝓤 _) $ await ! tt $ pick ! (λ c.
-        split ! $ move ! (1 ∷ []) $ use1 W (raw (fact 𝓤 (c ≡ withElement (copyTo k ys) x))) (said-with (copyTo k ys) x c) $ heard ! (c ≡ withElement (copyTo k ys) x) (λ is-copy. split ! $ drop ! $
+        split ! $ move ! (1 ∷ []) $ use1 W (raw (fact 𝓤 (c ≡ withElement (copyTo k ys) x))) (promised-with (copyTo k ys) x c) $ heard ! (c ≡ withElement (copyTo k ys) x) (λ is-copy. split ! $ drop ! $
         facts ! T.the-row (Is T.the-row) (shows 𝓤 H A T.the-row) c (w ∷ []) (λ isc.
         land ! (from ! (stop !)) (store ! 10 refl (struct.lawful T.the-type T′.the-laws 𝓤 H A W .typed c _ isc .0)) $
         assigns-last ! (bin ! (load ! (from ! (stop !)) (look ! 8 refl)) (lit ! tt) (record { fits = fits (k + 1) (add-one-le (ltb→lt k n less)) })) (from ! (stop !)) (store ! 8 refl (tt, record { fits = fits (k + 1) (add-one-le (ltb→lt k n less)) })) $
@@ -220,12 +220,12 @@ module _ {M : Type 1} (𝓤 : URA M) (H : Heap 𝓤) (A : Atoms 𝓤) (W : Given
         more-fits : T (ltb k n) → copyTo k ys .length + 1 < 2 ^ 64
         more-fits less = rw (to-length ys k) (fits (k + 1) (add-one-le (ltb→lt k n less)))
 
-    turns : (j : Upto) → Sq W (At j) (runs C Λ En pieces.turn-1 (anyQ (Turned j)))
-    turns j = turn-at (j .0) (j .1) (j .2) (j .3)
+    iterations : (j : Upto) → Sq W (At j) (runs C Λ En pieces.turn-1 (anyQ (Iterated j)))
+    iterations j = iteration-at (j .0) (j .1) (j .2) (j .3)
 
     -- the loop and what follows it, from the copy of no element on
     loop-at : (v : Val) (is : Is T.the-row (copyTo 0 ys) (v ∷ [])) → Sq W (At (0, zero-le, v, is)) (runs C Λ En pieces.t-3 (atRet En Post))
-    loop-at v is = first ! $ blocks ! $ loops ! 𝓣 Nearer Nearer-wf At turns (0, zero-le, v, is)
+    loop-at v is = first ! $ blocks ! $ loops ! 𝓣 Nearer Nearer-wf At iterations (0, zero-le, v, is)
 
     -- what there is once the list is passed
     abbrev Start : List (Item 𝓤)
@@ -240,7 +240,7 @@ module _ {M : Type 1} (𝓤 : URA M) (H : Heap 𝓤) (A : Atoms 𝓤) (W : Given
         use0 W (raw (Nothing 𝓤 H A mem run .pre to-nothing)) goes-nothing $
         calls-at ! (fmOf 𝓤 H (W .laws) 𝓣) (Nothing 𝓤 H A mem run) known-nothing to-nothing (no-more !) (λ w.
         use1 W (later (some (λ (c : Copied). (‵ ftrue ⊛ ‵ (T.the-row .own c (w ∷ []))) ⊛ raw (ensured 𝓤 H A nothing-copied.ended (nothing-copied.clauses 𝓤 H A mem run) tt tt tt c)))) (id⊢ 𝓤 _) $ await ! tt $ pick ! (λ c.
-        split ! $ move ! (1 ∷ []) $ use1 W (raw (fact 𝓤 (c ≡ nothingCopied))) (said-nothing c) $ heard ! (c ≡ nothingCopied) (λ e. split ! $ drop ! $
+        split ! $ move ! (1 ∷ []) $ use1 W (raw (fact 𝓤 (c ≡ nothingCopied))) (promised-nothing c) $ heard ! (c ≡ nothingCopied) (λ e. split ! $ drop ! $
         facts ! T.the-row (Is T.the-row) (shows 𝓤 H A T.the-row) c (w ∷ []) (λ is.
         land ! (from ! (stop !)) (init ! 8 refl (struct.lawful T.the-type T′.the-laws 𝓤 H A W .typed c _ is .0)) $
         assigns ! (of-opd ! (lit ! tt)) (from ! (stop !)) (init ! 6 refl (tt, record { fits = lit< tt })) $

@@ -5,7 +5,7 @@ use lib.ListN.{replicate}
 use borrow.Author.Needs.{needs}
 use Rattle.model.specs.declared.CheckpointAnswer.{CheckpointAnswer}
 use Rattle.whole_runs.specs.Outcomes.{Report, checkpointReport}
-use Rattle.listing.specs.Said.{reportIn}
+use Rattle.listing.specs.Summarised.{reportIn}
 use Rattle.exam.proofs.act.checkpoint.Statement.{statement}
 use Rattle.exam.proofs.act.checkpoint.Tie as tie
 

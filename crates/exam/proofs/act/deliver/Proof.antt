@@ -5,7 +5,7 @@ use lib.ListN.{replicate}
 use borrow.Author.Needs.{needs}
 use Rattle.model.specs.declared.DeliverAnswer.{DeliverAnswer}
 use Rattle.whole_runs.specs.Outcomes.{Report, deliverReport}
-use Rattle.listing.specs.Said.{reportIn}
+use Rattle.listing.specs.Summarised.{reportIn}
 use Rattle.exam.proofs.act.deliver.Statement.{statement}
 use Rattle.exam.proofs.act.deliver.Tie as tie
 

@@ -5,7 +5,7 @@ use lib.ListN.{replicate}
 use borrow.Author.Needs.{needs}
 use Rattle.model.specs.declared.RecoverAnswer.{RecoverAnswer}
 use Rattle.whole_runs.specs.Outcomes.{Report, recoverReport}
-use Rattle.listing.specs.Said.{reportIn}
+use Rattle.listing.specs.Summarised.{reportIn}
 use Rattle.exam.proofs.act.recover.Statement.{statement}
 use Rattle.exam.proofs.act.recover.Tie as tie
 

@@ -3,7 +3,7 @@ use mathlib.Core.Path.{ap, _∙_}
 use borrow.Author.Needs.{needs}
 use Rattle.model.specs.declared.SendAnswer.{SendAnswer}
 use Rattle.whole_runs.specs.Outcomes.{Report, sendReport}
-use Rattle.listing.specs.Said.{reportIn}
+use Rattle.listing.specs.Summarised.{reportIn}
 use Rattle.exam.proofs.act.send.Statement.{statement}
 use Rattle.exam.proofs.act.send.Tie as tie
 

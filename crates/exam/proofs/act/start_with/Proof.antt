@@ -3,7 +3,7 @@ use mathlib.Core.Path.{ap, _∙_}
 use borrow.Author.Needs.{needs}
 use Rattle.model.specs.declared.StartAnswer.{StartAnswer}
 use Rattle.whole_runs.specs.Outcomes.{Report, startReport}
-use Rattle.listing.specs.Said.{reportIn}
+use Rattle.listing.specs.Summarised.{reportIn}
 use Rattle.exam.proofs.act.start_with.Statement.{statement}
 use Rattle.exam.proofs.act.start_with.Tie as tie
 

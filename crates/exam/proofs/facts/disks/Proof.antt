@@ -7,5 +7,5 @@ use Rattle.exam.proofs.facts.disks.Tie as tie
 pub disks-spec : {M : Type 1} → statement M
 disks-spec =
     tie.close
-    (tie.spec (λ s n held p₀ p. n ≤ 16) (λ s n held p₀ p. n - p) (λ c κs. search needs) (λ c. search needs) (λ c. search needs) (λ c. search needs)
+    (tie.spec (λ s n keptCount p₀ p. n ≤ 16) (λ s n keptCount p₀ p. n - p) (λ c κs. search needs) (λ c. search needs) (λ c. search needs) (λ c. search needs)
     (λ c κs. search needs) (λ c κs. search needs) (λ c. search needs) (λ c. search needs) (λ c. search needs) (λ c κs. search needs) (λ c. search needs))

@@ -7,5 +7,5 @@ use Rattle.exam.proofs.facts.stored.Tie as tie
 pub stored-spec : {M : Type 1} → statement M
 stored-spec =
     tie.close
-    (tie.spec (λ held column row k₀ k. Unit) (λ held column row k₀ k. held - k) (λ c. search needs) (λ c. search needs) (λ c. search needs) (λ c κs. search needs)
+    (tie.spec (λ keptCount column row k₀ k. Unit) (λ keptCount column row k₀ k. keptCount - k) (λ c. search needs) (λ c. search needs) (λ c. search needs) (λ c κs. search needs)
     (λ c κs. search needs) (λ c. search needs) (λ c. search needs) (λ c. search needs) (λ c κs. search needs) (λ c. search needs))

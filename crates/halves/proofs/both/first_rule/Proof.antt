@@ -4,7 +4,7 @@ use mathlib.Core.Path.{refl, sym}
 use mathlib.Core.Option.{none, some}
 use Rattle.model.specs.declared.Refusal.the-variants.{CountOutsideRange, ListTooShort, NoSuchFailedProcess, NoFirstByte, LeftOverBytes, TooManyRecords, HalvesMismatch}
 use Rattle.model.specs.laws.Refusals.{refusal-in}
-use Rattle.verdicts.specs.Verdicts.{refusalOf}
+use Rattle.admissions.specs.Admissions.{refusalOf}
 use Rattle.halves.proofs.both.first_rule.Statement.{statement}
 use Rattle.halves.proofs.both.first_rule.Tie as tie
 

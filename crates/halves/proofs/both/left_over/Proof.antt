@@ -2,11 +2,11 @@
 -- Assumes nothing.
 use denote.Ref.{now}
 use borrow.Author.Needs.{needs}
-use Rattle.halves.proofs.Rules.{behind-is, none-over}
+use Rattle.halves.proofs.Rules.{after-first-is, none-over}
 use Rattle.halves.proofs.both.left_over.Statement.{statement}
 use Rattle.halves.proofs.both.left_over.Tie as tie
 
 pub left-over-spec : {M : Type 1} → statement M
 left-over-spec =
     tie.close
-    (tie.spec (λ c. none-over (now (c .before .args .half)) (c .if1 .taken)) (λ c. search needs) (λ c. rw (behind-is (now (c .before .args .half)))))
+    (tie.spec (λ c. none-over (now (c .before .args .half)) (c .if1 .taken)) (λ c. search needs) (λ c. rw (after-first-is (now (c .before .args .half)))))

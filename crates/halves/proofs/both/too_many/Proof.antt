@@ -2,11 +2,11 @@
 -- Assumes nothing.
 use denote.Ref.{now}
 use borrow.Author.Needs.{needs}
-use Rattle.halves.proofs.Rules.{behind-is, none-many}
+use Rattle.halves.proofs.Rules.{after-first-is, none-many}
 use Rattle.halves.proofs.both.too_many.Statement.{statement}
 use Rattle.halves.proofs.both.too_many.Tie as tie
 
 pub too-many-spec : {M : Type 1} → statement M
 too-many-spec =
     tie.close
-    (tie.spec (λ c. none-many (now (c .before .args .half)) (c .if1 .taken)) (λ c. search needs) (λ c. rw (behind-is (now (c .before .args .half)))))
+    (tie.spec (λ c. none-many (now (c .before .args .half)) (c .if1 .taken)) (λ c. search needs) (λ c. rw (after-first-is (now (c .before .args .half)))))

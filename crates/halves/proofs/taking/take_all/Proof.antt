@@ -7,7 +7,7 @@ use lib.ListN.{length, length-set}
 use denote.Ref.{now}
 use borrow.Author.Needs.{needs}
 use Rattle.halves.specs.Taking.{Takes}
-use Rattle.halves.proofs.Turns.{Taking, taking-none, taking-stopped, taking-first, taking-second, taking-all}
+use Rattle.halves.proofs.Iterations.{Taking, taking-none, taking-stopped, taking-first, taking-second, taking-all}
 use Rattle.halves.proofs.taking.take_all.Statement.{statement}
 use Rattle.halves.proofs.taking.take_all.Tie as tie
 

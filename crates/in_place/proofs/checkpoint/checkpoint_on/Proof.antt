@@ -30,19 +30,19 @@ own-of-requires c κs = let s = c .before .before .before .before .before .befor
 
 checkpoint-requires : tie.Need-checkpoint-requires
 checkpoint-requires c κs = let s = c .before .before .before .before .before .before .before .before .before .before .before .before .before .before in let lt = c .before .before .before .before .before .before .before .before .if2 .left in
-    (s .pre, lt, accepted-own (s .args .w .now) (s .pre) (s .args .i) lt (sym (c .before .before .before .before .enum-told .given .1) ∙ c .before .before .before .before .before .before .storing-verdict .ensures), ltb-false _ _ (sym (c .before .before .before .before .before .before .before .before .before .before .are-deletions-short .ensures) ∙ c .before .before .before .before .before .before .before .before .before .if1 .left))
+    (s .pre, lt, accepted-own (s .args .w .now) (s .pre) (s .args .i) lt (sym (c .before .before .before .before .enum-told .given .1) ∙ c .before .before .before .before .before .before .storing-admission .ensures), ltb-false _ _ (sym (c .before .before .before .before .before .before .before .before .before .before .are-deletions-short .ensures) ∙ c .before .before .before .before .before .before .before .before .before .if1 .left))
 
 live-index-requires : tie.Need-live-index-requires
 live-index-requires c κs = let s = c .before .before .before .before .before .before .before .before .before .before .before .before .before .before .before .before .before .before .before in let lt = c .before .before .before .before .before .before .before .before .before .before .before .before .before .if2 .left in omega (arith, sound-part (s .args .w .now) (s .pre) (s .args .i) lt .own-some, ap (λ (x : Interval). x .0) (c .before .before .before .before .before .before .before .own-of .ensures))
 
 returns-3 : tie.Need-returns-3
 returns-3 c = let s = c .before .before .before .before .before .before .before .before .before .before .before in let lt = c .before .before .before .before .before .if2 .left in
-    not-stored (s .args .w .now) (s .pre) (s .args .i) (s .args .deleted .now) (sym (c .before .before .before .before .before .before .before .are-deletions-short .ensures) ∙ c .before .before .before .before .before .before .if1 .left) lt _ (sym (c .before .verdict .given .1) ∙ c .before .before .before .storing-verdict .ensures)
+    not-stored (s .args .w .now) (s .pre) (s .args .i) (s .args .deleted .now) (sym (c .before .before .before .before .before .before .before .are-deletions-short .ensures) ∙ c .before .before .before .before .before .before .if1 .left) lt _ (sym (c .before .admission .given .1) ∙ c .before .before .before .storing-admission .ensures)
 
 returns-4 : tie.Need-returns-4
 returns-4 c = let s = c .before .before .before .before .before .before .before .before .before .before .before .before .before .before .before .before .before .before .before .before in let lt = c .before .before .before .before .before .before .before .before .before .before .before .before .before .before .if2 .left in
     let t = c .before .before .before .before .before .checkpoint in
-    stored (s .args .w .now) (s .pre) (s .args .i) (s .args .deleted .now) (sym (c .before .before .before .before .before .before .before .before .before .before .before .before .before .before .before .before .are-deletions-short .ensures) ∙ c .before .before .before .before .before .before .before .before .before .before .before .before .before .before .before .if1 .left) lt (sym (c .before .before .before .before .before .before .before .before .before .before .enum-told .given .1) ∙ c .before .before .before .before .before .before .before .before .before .before .before .before .storing-verdict .ensures) _ _ _ _ (t .ensures .0) (t .ensures .1 .0) (t .ensures .1 .1) (c .live-index .ensures ∙ ap (λ (x : Interval). liveIndex x) (c .before .before .before .before .before .before .before .before .own-of .ensures))
+    stored (s .args .w .now) (s .pre) (s .args .i) (s .args .deleted .now) (sym (c .before .before .before .before .before .before .before .before .before .before .before .before .before .before .before .before .are-deletions-short .ensures) ∙ c .before .before .before .before .before .before .before .before .before .before .before .before .before .before .before .if1 .left) lt (sym (c .before .before .before .before .before .before .before .before .before .before .enum-told .given .1) ∙ c .before .before .before .before .before .before .before .before .before .before .before .before .storing-admission .ensures) _ _ _ _ (t .ensures .0) (t .ensures .1 .0) (t .ensures .1 .1) (c .live-index .ensures ∙ ap (λ (x : Interval). liveIndex x) (c .before .before .before .before .before .before .before .before .own-of .ensures))
 
 pub checkpoint-on-spec : {M : Type 1} → statement M
 checkpoint-on-spec =

@@ -78,8 +78,8 @@ returns c =
 has-sent-requires : tie.Need-has-sent-requires
 has-sent-requires c κs = let k = known (c .before .before .before .before .before .before .before .before .before .before) in (k .0, k .2)
 
-forced-verdict-requires : tie.Need-forced-verdict-requires
-forced-verdict-requires c κs =
+forced-admission-requires : tie.Need-forced-admission-requires
+forced-admission-requires c κs =
     let s = c .before .before .before .before .before .before .before .before .before .before .before .before in
     let a = s .args in
     (s .pre .0, place-there (a .w .now) (s .pre .0) (a .deleted .now) (a .k) (s .pre .1) (s .pre .2) .1)
@@ -90,7 +90,7 @@ returns-2 c =
     let s = c .before .before .before .before .before .before .before .before .before .before .before .before .before .before .before .before .before in
     let a = s .args in
     rw (c .refuse .ensures)
-    (not-taken (a .w .now) (s .pre .0) (a .deleted .now) (a .k) (s .pre .1) (s .pre .2) (c .before .before .before .before .before .before .has-sent .result) (forces-is (c .before .before .before .before .before .before)) _ (sym (c .before .before .verdict .given .1) ∙ c .before .before .before .before .forced-verdict .ensures))
+    (not-taken (a .w .now) (s .pre .0) (a .deleted .now) (a .k) (s .pre .1) (s .pre .2) (c .before .before .before .before .before .before .has-sent .result) (forces-is (c .before .before .before .before .before .before)) _ (sym (c .before .before .admission .given .1) ∙ c .before .before .before .before .forced-admission .ensures))
 
 take-from-requires : tie.Need-take-from-requires
 unfolding messageIn
@@ -103,7 +103,7 @@ take-from-requires c κs =
         refl,
         carried,
         ap (forces (process (runOf (a .w .now)) (word (a .w .now) (receiverAt (a .k))))) carried ∙ forces-is (c .before .before .before .before .before .before),
-        sym (c .before .before .enum-told .given .1) ∙ c .before .before .before .before .forced-verdict .ensures,
+        sym (c .before .before .enum-told .given .1) ∙ c .before .before .before .before .forced-admission .ensures,
       ),
     )
 
@@ -112,5 +112,5 @@ deliver-from-spec =
     tie.close
     (tie.spec (λ c. let k = known (c .before .before) in search needs) (λ c. let k = known (c .before .before) in search needs) slice-read-i cast-i mul-vector-at
     add-vector-at vector-at-requires mul-vector-at-2 add-vector-at-2 vector-at-requires-2 (λ c κs. search needs) take-out-requires (λ c. search needs) returns
-    has-sent-requires forced-verdict-requires (λ c. search needs) (λ c κs. search needs) (λ c. search needs) take-from-requires (λ c. search needs) returns-2
+    has-sent-requires forced-admission-requires (λ c. search needs) (λ c κs. search needs) (λ c. search needs) take-from-requires (λ c. search needs) returns-2
     (λ c. search needs) (λ c. search needs) (λ c. c .before .before .before .before .take-from .ensures))

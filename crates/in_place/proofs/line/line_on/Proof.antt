@@ -8,8 +8,8 @@ use lib.Dec.{ltb}
 use lib.ListN.{length}
 use borrow.Author.Needs.{needs}
 use borrow.Author.Tests.{ltb-false}
-use Rattle.verdicts.specs.declared.Verdict.the-variants.{Accepted}
-use Rattle.verdicts.specs.Verdicts.{recoveryVerdict}
+use Rattle.admissions.specs.declared.Admission.the-variants.{Accepted}
+use Rattle.admissions.specs.Admissions.{recoveryAdmission}
 use Rattle.words.specs.Layout.{countOf}
 use Rattle.words.proofs.ViewSound.{sound-words}
 use Rattle.in_place.proofs.Lining.{refused, line-short, line-refused, line-passed}
@@ -37,9 +37,9 @@ returns-2 c =
     let v = c .before .before .before in
     let e = v .before in
     let st = start e in
-    rw (line-refused (st .args .w .now) (st .pre) (st .args .failed) (st .args .line .now) (long e) _ (sym (v .recovery-verdict .ensures) ∙ c .before .verdict .given .1)) (refl, (refl, refl))
+    rw (line-refused (st .args .w .now) (st .pre) (st .args .failed) (st .args .line .now) (long e) _ (sym (v .recovery-admission .ensures) ∙ c .before .admission .given .1)) (refl, (refl, refl))
 
-accepted : (c : tie.After-enum-told) → c .before .before .recovery-verdict .result ≡ Accepted
+accepted : (c : tie.After-enum-told) → c .before .before .recovery-admission .result ≡ Accepted
 accepted c = search needs
 
 line-within-requires : tie.Need-line-within-requires
@@ -55,7 +55,7 @@ returns-3 c =
     let v = t .before .before in
     let e = v .before in
     let st = start e in
-    rw (line-passed (st .args .w .now) (st .pre) (st .args .failed) (st .args .line .now) (long e) (sym (v .recovery-verdict .ensures) ∙ accepted t))
+    rw (line-passed (st .args .w .now) (st .pre) (st .args .failed) (st .args .line .now) (long e) (sym (v .recovery-admission .ensures) ∙ accepted t))
     (refl, (lw .line-within .ensures .0, lw .line-within .ensures .1))
 
 pub line-on-spec : {M : Type 1} → statement M

@@ -10,7 +10,7 @@ use borrow.Author.Tests.{not-true, not-false}
 use Rattle.model.specs.Refusals.{noMember}
 use Rattle.words.specs.Layout.{runOf}
 use Rattle.words.proofs.ViewSound.{sound-words}
-use Rattle.in_place.proofs.Lining.{some-own, most-held, all-used, members-missing, members-there, members-found, line-found}
+use Rattle.in_place.proofs.Lining.{some-own, most-kept-count, all-used, members-missing, members-there, members-found, line-found}
 use Rattle.in_place.proofs.line.line_within.Statement.{statement}
 use Rattle.in_place.proofs.line.line_within.Tie as tie
 
@@ -37,7 +37,7 @@ find-members-requires : tie.Need-find-members-requires
 find-members-requires c κs =
     let st = at-limits (c .before .before) in
     let k = sound-words (st .args .w .now) (st .pre .0) in
-    (k .size, omega (arith, k .few, st .pre .1), most-held (st .args .w .now) (st .pre .0) (st .args .n) (st .pre .1), refl)
+    (k .size, omega (arith, k .few, st .pre .1), most-kept-count (st .args .w .now) (st .pre .0) (st .args .n) (st .pre .1), refl)
 
 returns : tie.Need-returns
 returns c =
@@ -66,7 +66,7 @@ indexes-of-requires c κs =
       k .size,
       omega (arith, k .few, st .pre .1),
       some-own w (st .pre .0) n (st .pre .1),
-      most-held w (st .pre .0) n (st .pre .1),
+      most-kept-count w (st .pre .0) n (st .pre .1),
       all-used w (st .pre .0) n (st .pre .1),
       members-found w (st .pre .0) n (st .pre .1) (st .args .failed) _ (l .limits-of .ensures) _ (f .find-members .ensures .1) (there (c .before)),
     )

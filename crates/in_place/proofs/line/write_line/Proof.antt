@@ -6,7 +6,7 @@ use native.Mathlib.Omega.{arith}
 use lib.ListN.{length, length-set, getD}
 use borrow.Author.Needs.{needs}
 use Rattle.laws.specs.Below.{below-written}
-use Rattle.laws.specs.Loops.{setBelow, below-none, turn-set}
+use Rattle.laws.specs.Loops.{setBelow, below-none, step-set}
 use Rattle.in_place.proofs.line.write_line.Statement.{statement}
 use Rattle.in_place.proofs.line.write_line.Tie as tie
 
@@ -22,7 +22,7 @@ loop-again c =
     let l = b .loop in (
       search needs,
       simp length-set (l .inv .1),
-      turn-set (λ q. getD (b .before .args .t2) q (record { 0 = 0 }) .0) (b .before .args .line .now) (l .line) (l .p) (l .inv .2) _ refl,
+      step-set (λ q. getD (b .before .args .t2) q (record { 0 = 0 }) .0) (b .before .args .line .now) (l .line) (l .p) (l .inv .2) _ refl,
     )
 
 returns : tie.Need-returns Inv-loop μ-loop

@@ -13,13 +13,13 @@ use Rattle.words.proofs.Reading.{set-is-put}
 use Rattle.words.proofs.ViewSound.{sound-words}
 use Rattle.message_words.specs.Places.{withRoom, putLast}
 use Rattle.in_place.specs.Sending.{sentIn, sentWords}
-use Rattle.in_place.proofs.Sending.{Roomy, with-room}
+use Rattle.in_place.proofs.Sending.{EnoughRoom, with-room}
 use Rattle.in_place.proofs.send.put_sent.Statement.{statement}
 use Rattle.in_place.proofs.send.put_sent.Tie as tie
 
 -- There is a place for the message.
-roomy : (c : tie.After-make-room) → Roomy (c .before .before .before .args .w .now) (c .make-room .last .0)
-roomy c =
+enoughRoom : (c : tie.After-make-room) → EnoughRoom (c .before .before .before .args .w .now) (c .make-room .last .0)
+enoughRoom c =
     let s = c .before .before .before in
     rw (c .make-room .ensures) (with-room (s .args .w .now) (s .pre .0) (s .pre .3))
 
@@ -33,13 +33,13 @@ make-room-requires : tie.Need-make-room-requires
 make-room-requires c κs = let s = c .before .before in sound-words (s .args .w .now) (s .pre .0) .size
 
 wide2-requires : tie.Need-wide2-requires
-wide2-requires c κs = let g = roomy (c .before .before .before) in omega (arith, g .long)
+wide2-requires c κs = let g = enoughRoom (c .before .before .before) in omega (arith, g .long)
 
 -- The last number is that of the words as they came.
 last-is : (c : tie.After-wide2) → c .wide2 .result ≡ wide2 (c .before .before .before .before .before .before .before .args .w .now) 2
 last-is c =
     let m = c .before .before .before .before in
-    let g = roomy m in
+    let g = enoughRoom m in
     c .wide2 .ensures ∙ rw (g .rest 2 (omega arith) (λ z. omega arith), g .rest 3 (omega arith) (λ z. omega arith))
 
 add-number : tie.Need-add-number
@@ -48,13 +48,13 @@ add-number c = let s = c .before .before .before .before .before .before .before
 vector-at-requires : tie.Need-vector-at-requires
 vector-at-requires c κs =
     let m = c .before .before .before .before .before in
-    omega (arith, roomy m .long, few (m .before .before .before))
+    omega (arith, enoughRoom m .long, few (m .before .before .before))
 
 put-last-requires : tie.Need-put-last-requires
 put-last-requires c κs =
     let m = c .before .before .before .before .before .before .before in
     let s = m .before .before .before in
-    let g = roomy m in
+    let g = enoughRoom m in
     (g .long, g .room, omega (arith, g .rest 1 (omega arith) (λ z. omega arith), s .pre .3), few s, few-to s)
 
 -- What was put, step by step.
@@ -67,7 +67,7 @@ put2-requires : tie.Need-put2-requires
 put2-requires c κs =
     let p = c .before .before .before in
     let m = p .before .before .before .before .before .before .before .before in
-    omega (arith, p .put-last .kept .0, roomy m .long)
+    omega (arith, p .put-last .kept .0, enoughRoom m .long)
 
 from-few : (c : tie.After-slice-known4) → c .before .before .before .before .before .before .before .before .before .before .before .before .before .before .before .before .before .args .i < 16
 from-few c = few (c .before .before .before .before .before .before .before .before .before .before .before .before .before .before .before .before .before)
@@ -77,7 +77,7 @@ slice-write-w c =
     let q = c .before .before in
     let p = q .before .before .before .before in
     let m = p .before .before .before .before .before .before .before .before in
-    omega (arith, q .put2 .kept .0, p .put-last .kept .0, roomy m .long, few (m .before .before .before))
+    omega (arith, q .put2 .kept .0, p .put-last .kept .0, enoughRoom m .long, few (m .before .before .before))
 
 same-length : tie.Need-same-length
 same-length c =

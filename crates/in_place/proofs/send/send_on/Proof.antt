@@ -5,8 +5,8 @@ use mathlib.Core.List.{List}
 use Prim.Native.Nat.{ℕ, _+_}
 use native.Mathlib.Omega.{arith}
 use borrow.Author.Needs.{needs}
-use Rattle.verdicts.specs.declared.Verdict.the-variants.{Accepted}
-use Rattle.verdicts.specs.Verdicts.{sendVerdict}
+use Rattle.admissions.specs.declared.Admission.the-variants.{Accepted}
+use Rattle.admissions.specs.Admissions.{sendAdmission}
 use Rattle.model.specs.declared.Refusal.{Refusal}
 use Rattle.model.specs.declared.SendAnswer.the-variants.{Refused, Sent}
 use Rattle.model.specs.Sound.{sound}
@@ -21,16 +21,16 @@ use Rattle.in_place.proofs.send.send_on.Statement.{statement}
 use Rattle.in_place.proofs.send.send_on.Tie as tie
 
 -- the verdict, of the words
-judged : (c : tie.After-send-verdict) → let a = c .before .before .before .before .before .before .args in
-    sendVerdict (a .i) (a .j) (word (a .w .now) 0) (word (a .w .now) 1) (wide2 (a .w .now) 2) ≡ c .send-verdict .result
+judged : (c : tie.After-send-admission) → let a = c .before .before .before .before .before .before .args in
+    sendAdmission (a .i) (a .j) (word (a .w .now) 0) (word (a .w .now) 1) (wide2 (a .w .now) 2) ≡ c .send-admission .result
 judged c =
     let a = c .before .before .before .before .before .before .args in
-    ap (sendVerdict (a .i) (a .j) (word (a .w .now) 0) (word (a .w .now) 1)) (sym (c .before .wide2 .ensures)) ∙ sym (c .send-verdict .ensures)
+    ap (sendAdmission (a .i) (a .j) (word (a .w .now) 0) (word (a .w .now) 1)) (sym (c .before .wide2 .ensures)) ∙ sym (c .send-admission .ensures)
 
 wide2-requires : tie.Need-wide2-requires
 wide2-requires c κs = let s = c .before .before .before .before in omega (arith, sound-words (s .args .w .now) (s .pre) .size)
 
-accepted : (c : tie.After-enum-told) → c .before .before .send-verdict .result ≡ Accepted
+accepted : (c : tie.After-enum-told) → c .before .before .send-admission .result ≡ Accepted
 accepted c = search needs
 
 put-sent-requires : tie.Need-put-sent-requires
@@ -44,11 +44,11 @@ returns : tie.Need-returns
 returns c =
     let v = c .before .before .before in
     let s = v .before .before .before .before .before .before in
-    rw (send-refused (s .args .w .now) (s .pre) (s .args .i) (s .args .j) _ (judged v ∙ c .before .verdict .given .1))
+    rw (send-refused (s .args .w .now) (s .pre) (s .args .i) (s .args .j) _ (judged v ∙ c .before .admission .given .1))
     (refl, (refl, (λ why q. refl, same-words (s .args .w .now))))
 
 -- What the words then are, put together.
-sent : (w : List ℕ) (h : sound (runOf w) ≡ true) (i j : ℕ) → sendVerdict i j (countOf w) (word w 1) (wide2 w 2) ≡ Accepted → (v : List ℕ) (n : ℕ) → v ≡ sentWords w i j → n ≡ wide2 w 2 + 1
+sent : (w : List ℕ) (h : sound (runOf w) ≡ true) (i j : ℕ) → sendAdmission i j (countOf w) (word w 1) (wide2 w 2) ≡ Accepted → (v : List ℕ) (n : ℕ) → v ≡ sentWords w i j → n ≡ wide2 w 2 + 1
     → (runOf v ≡ sendOutcome (runOf w) i j .run) × ((Sent n ≡ sendOutcome (runOf w) i j .answer) × (((why : Refusal) → Sent n ≡ Refused why → v ≡ w) × Leaves w v))
 sent w h i j e v n q r =
     let p = send-places w h i j e in

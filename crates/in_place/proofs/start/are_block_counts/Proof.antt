@@ -6,22 +6,22 @@ use native.Mathlib.Omega.{arith}
 use lib.ListN.{getD}
 use borrow.Author.Needs.{needs}
 use Rattle.laws.specs.Loops.{all-zero}
-use Rattle.laws.specs.Rows.{all-turn}
+use Rattle.laws.specs.Rows.{all-step}
 use Rattle.laws.specs.Search.{allBelow}
 use Rattle.model.specs.Sound.{isBlockCount}
 use Rattle.in_place.proofs.start.are_block_counts.Statement.{statement}
 use Rattle.in_place.proofs.start.are_block_counts.Tie as tie
 
 abbrev Inv-loop : tie.InvT-loop
-Inv-loop counts n all₀ p₀ all p = (p ≤ n) × (all ≡ allBelow p (λ q. isBlockCount (getD counts q 0)))
+Inv-loop blockCounts n all₀ p₀ all p = (p ≤ n) × (all ≡ allBelow p (λ q. isBlockCount (getD blockCounts q 0)))
 
 abbrev μ-loop : tie.MeasureT-loop
-μ-loop counts n all₀ p₀ all p = n - p
+μ-loop blockCounts n all₀ p₀ all p = n - p
 
 loop-again : tie.Need-loop-again Inv-loop μ-loop
 loop-again c =
     let l = c .before .before .before .loop in
-    (search needs, ap (λ (b : Bool). l .all && b) (c .is-block-count .ensures) ∙ all-turn _ (l .p) (l .all) (l .inv .1))
+    (search needs, ap (λ (b : Bool). l .all && b) (c .is-block-count .ensures) ∙ all-step _ (l .p) (l .all) (l .inv .1))
 
 returns : tie.Need-returns Inv-loop μ-loop
 returns c =

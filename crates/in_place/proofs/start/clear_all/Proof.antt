@@ -4,7 +4,7 @@ use mathlib.Core.Path.{_≡_, refl, sym, _∙_, ap}
 use native.Mathlib.Omega.{arith}
 use lib.ListN.{length, length-set}
 use borrow.Author.Needs.{needs}
-use Rattle.laws.specs.Loops.{setBelow, below-none, turn-set, below-all}
+use Rattle.laws.specs.Loops.{setBelow, below-none, step-set, below-all}
 use Rattle.laws.specs.Tables.{table-replicate}
 use Rattle.words.specs.Layout.{stateSize}
 use Rattle.in_place.specs.Starting.{zeros}
@@ -21,7 +21,7 @@ loop-again : tie.Need-loop-again Inv-loop μ-loop
 loop-again c =
     let l = c .before .loop in
     let a = c .before .before .args in
-    (search needs, length-set (l .w) (l .k) 0 ∙ l .inv .1, turn-set (λ q. 0) (a .w .now) (l .w) (l .k) (l .inv .2) 0 refl)
+    (search needs, length-set (l .w) (l .k) 0 ∙ l .inv .1, step-set (λ q. 0) (a .w .now) (l .w) (l .k) (l .inv .2) 0 refl)
 
 returns : tie.Need-returns Inv-loop μ-loop
 unfolding zeros

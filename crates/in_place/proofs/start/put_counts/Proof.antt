@@ -19,33 +19,33 @@ use Rattle.in_place.proofs.start.put_counts.Statement.{statement}
 use Rattle.in_place.proofs.start.put_counts.Tie as tie
 
 abbrev Inv-loop : tie.InvT-loop
-Inv-loop w₀ counts n p₀ w p = (p ≤ n) × (length w ≡ length w₀) × (w ≡ withCounts w₀ counts p)
+Inv-loop w₀ blockCounts n p₀ w p = (p ≤ n) × (length w ≡ length w₀) × (w ≡ withCounts w₀ blockCounts p)
 
 abbrev μ-loop : tie.MeasureT-loop
-μ-loop w₀ counts n p₀ w p = n - p
+μ-loop w₀ blockCounts n p₀ w p = n - p
 
-one-more : (w v counts : List ℕ) (p : ℕ) → v ≡ withCounts w counts p → set v (blocksAt p) (getD counts p 0) ≡ withCounts w counts (p + 1)
+one-more : (w v blockCounts : List ℕ) (p : ℕ) → v ≡ withCounts w blockCounts p → set v (blocksAt p) (getD blockCounts p 0) ≡ withCounts w blockCounts (p + 1)
 unfolding withCounts
-one-more w v counts p e = rw (add-one p, e) (set-is-put _ _ _)
+one-more w v blockCounts p e = rw (add-one p, e) (set-is-put _ _ _)
 
-none : (w counts : List ℕ) → w ≡ withCounts w counts 0
+none : (w blockCounts : List ℕ) → w ≡ withCounts w blockCounts 0
 unfolding withCounts
-none w counts = refl
+none w blockCounts = refl
 
 -- The block count of an iteration is in its range.
-small : (c : tie.After-shared-slice-known Inv-loop μ-loop) → getD (c .before .before .before .args .counts .now) (c .before .before .loop .p) 0 ≤ 65535
+small : (c : tie.After-shared-slice-known Inv-loop μ-loop) → getD (c .before .before .before .args .block-counts .now) (c .before .before .loop .p) 0 ≤ 65535
 unfolding isBlockCount
 small c =
     let i = c .before in
     let s = i .before .before in
-    let k = getD (s .args .counts .now) (i .before .loop .p) 0 in
-    leb-true k 65535 (and-right (leb 1 k) (leb k 65535) (all-out (s .args .n) (λ q. isBlockCount (getD (s .args .counts .now) q 0)) (s .pre .3) (i .before .loop .p) (i .loop-test .taken)))
+    let k = getD (s .args .block-counts .now) (i .before .loop .p) 0 in
+    leb-true k 65535 (and-right (leb 1 k) (leb k 65535) (all-out (s .args .n) (λ q. isBlockCount (getD (s .args .block-counts .now) q 0)) (s .pre .3) (i .before .loop .p) (i .loop-test .taken)))
 
 loop-again : tie.Need-loop-again Inv-loop μ-loop
 loop-again c =
     let l = c .before .before .loop in
     let a = c .before .before .before .args in
-    (search needs, length-set (l .w) (blocksAt (l .p)) _ ∙ l .inv .1, one-more (a .w .now) (l .w) (a .counts .now) (l .p) (l .inv .2))
+    (search needs, length-set (l .w) (blocksAt (l .p)) _ ∙ l .inv .1, one-more (a .w .now) (l .w) (a .block-counts .now) (l .p) (l .inv .2))
 
 returns : tie.Need-returns Inv-loop μ-loop
 returns c =

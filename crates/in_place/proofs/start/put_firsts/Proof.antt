@@ -6,7 +6,7 @@ use native.Mathlib.Numerals.{add-one}
 use native.Mathlib.Omega.{arith}
 use lib.ListN.{length, getD, set, length-set}
 use borrow.Author.Needs.{needs}
-use Rattle.words.specs.Layout.{heldAt, partAt, pinsAt, indexAt}
+use Rattle.words.specs.Layout.{keptCountAt, partAt, pinsAt, indexAt}
 use Rattle.words.proofs.Reading.{set-is-put}
 use Rattle.in_place.specs.Starting.{withFirsts}
 use Rattle.in_place.proofs.start.put_firsts.Statement.{statement}
@@ -19,7 +19,7 @@ abbrev μ-loop : tie.MeasureT-loop
 μ-loop w₀ n p₀ w p = n - p
 
 one-more : (w v : List ℕ) (p at : ℕ) → at ≡ indexAt p 0 → v ≡ withFirsts w p
-    → set (set (set (set v (partAt p + p) 1) (pinsAt p + p) 1) at 1) (heldAt p) 1 ≡ withFirsts w (p + 1)
+    → set (set (set (set v (partAt p + p) 1) (pinsAt p + p) 1) at 1) (keptCountAt p) 1 ≡ withFirsts w (p + 1)
 unfolding withFirsts
 one-more w v p at q e = rw (add-one p, e, q) (simp set-is-put)
 

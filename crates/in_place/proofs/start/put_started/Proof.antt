@@ -38,10 +38,10 @@ put4-requires c κs =
     omega (arith, f .put-firsts .kept .0, k .put-counts .kept .0, length-set (s .args .w .now) 0 (s .args .n), long s)
 
 -- What was put, step by step.
-started-by : (w a b c counts : List ℕ) (n sum : ℕ) → w ≡ zeros → a ≡ withCounts (set w 0 n) counts n → b ≡ withFirsts a n → sum ≡ sumBelow n (λ p. getD counts p 0) → c ≡ puts b (puts4 4 sum)
-    → c ≡ startedWords n counts
+started-by : (w a b c blockCounts : List ℕ) (n sum : ℕ) → w ≡ zeros → a ≡ withCounts (set w 0 n) blockCounts n → b ≡ withFirsts a n → sum ≡ sumBelow n (λ p. getD blockCounts p 0) → c ≡ puts b (puts4 4 sum)
+    → c ≡ startedWords n blockCounts
 unfolding startedWords begun counted
-started-by w a b c counts n sum e f g h k = rw (k, h, g, f, e, set-is-put zeros 0 n) refl
+started-by w a b c blockCounts n sum e f g h k = rw (k, h, g, f, e, set-is-put zeros 0 n) refl
 
 same-length : tie.Need-same-length
 same-length c =
@@ -57,7 +57,7 @@ returns c =
     let k = f .before .before .before .before in
     let m = k .before .before in
     let s = m .before .before .before in
-    started-by (s .args .w .now) _ _ _ (s .args .counts .now) (s .args .n) _ (s .pre .0) (k .put-counts .ensures) (f .put-firsts .ensures) (m .sum-of .ensures) (p .put4 .ensures)
+    started-by (s .args .w .now) _ _ _ (s .args .block-counts .now) (s .args .n) _ (s .pre .0) (k .put-counts .ensures) (f .put-firsts .ensures) (m .sum-of .ensures) (p .put4 .ensures)
 
 pub put-started-spec : {M : Type 1} → statement M
 put-started-spec =

@@ -10,10 +10,10 @@ use Rattle.in_place.proofs.start.sum_of.Statement.{statement}
 use Rattle.in_place.proofs.start.sum_of.Tie as tie
 
 abbrev Inv-loop : tie.InvT-loop
-Inv-loop counts n sum₀ p₀ sum p = (p ≤ n) × (sum ≡ sumBelow p (λ q. getD counts q 0)) × (sum ≤ p * 4294967295)
+Inv-loop blockCounts n sum₀ p₀ sum p = (p ≤ n) × (sum ≡ sumBelow p (λ q. getD blockCounts q 0)) × (sum ≤ p * 4294967295)
 
 abbrev μ-loop : tie.MeasureT-loop
-μ-loop counts n sum₀ p₀ sum p = n - p
+μ-loop blockCounts n sum₀ p₀ sum p = n - p
 
 one-more : (f : ℕ → ℕ) (p : ℕ) (w : ℕ) → w ≡ sumBelow p f → w + f p ≡ sumBelow (p + 1) f
 unfolding sumBelow
@@ -24,7 +24,7 @@ unfolding sumBelow
 none f = refl
 
 -- A block count is a number of 32 bits.
-small : (c : tie.After-shared-slice-known Inv-loop μ-loop) → getD (c .before .before .before .args .counts .now) (c .before .before .loop .p) 0 ≤ 4294967295
+small : (c : tie.After-shared-slice-known Inv-loop μ-loop) → getD (c .before .before .before .args .block-counts .now) (c .before .before .loop .p) 0 ≤ 4294967295
 small c = omega (arith, c .shared-slice-known .given (c .before .before .loop .p))
 
 add-sum : tie.Need-add-sum Inv-loop μ-loop
@@ -34,7 +34,7 @@ loop-again : tie.Need-loop-again Inv-loop μ-loop
 loop-again c =
     let l = c .before .before .loop in
     let a = c .before .before .before .args in
-    (search needs, one-more (λ q. getD (a .counts .now) q 0) (l .p) (l .sum) (l .inv .1), omega (arith, small c, l .inv .2))
+    (search needs, one-more (λ q. getD (a .block-counts .now) q 0) (l .p) (l .sum) (l .inv .1), omega (arith, small c, l .inv .2))
 
 returns : tie.Need-returns Inv-loop μ-loop
 returns c =

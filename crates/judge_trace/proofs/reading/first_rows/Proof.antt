@@ -5,7 +5,7 @@ use native.Mathlib.Omega.{arith}
 use mathlib.Core.Path.{_≡_, refl, _∙_}
 use Prim.Native.Nat.{_-_, _≤_}
 use lib.ListN.{length, length-set}
-use Rattle.judge_trace.specs.Readings.{FirstRows, first-none, first-turn}
+use Rattle.judge_trace.specs.Readings.{FirstRows, first-none, first-step}
 use Rattle.model.specs.Words.{ones}
 use Rattle.judge_trace.proofs.reading.first_rows.Statement.{statement}
 use Rattle.judge_trace.proofs.reading.first_rows.Tie as tie
@@ -17,7 +17,7 @@ abbrev μ-loop : tie.MeasureT-loop
 μ-loop vectors₀ process₀ n current₀ p₀ vectors process current p = n - p
 
 loop-again : tie.Need-loop-again Inv-loop μ-loop
-loop-again c = let l = c .before .before .before .before .before .before .loop in let s = c .before .before .before .before .before .before .before .before .before in let w = first-turn (l .p) (l .vectors) (l .process) (l .current) _ _ (omega arith) (omega arith) (omega arith) (c .before .before .before .before .first-vector .ensures ones) (l .inv .3) (c .before .before .put-row .ensures) in (search needs, w .0 ∙ l .inv .1, length-set (l .process) (l .p) (l .p) ∙ l .inv .2, w .1)
+loop-again c = let l = c .before .before .before .before .before .before .loop in let s = c .before .before .before .before .before .before .before .before .before in let w = first-step (l .p) (l .vectors) (l .process) (l .current) _ _ (omega arith) (omega arith) (omega arith) (c .before .before .before .before .first-vector .ensures ones) (l .inv .3) (c .before .before .put-row .ensures) in (search needs, w .0 ∙ l .inv .1, length-set (l .process) (l .p) (l .p) ∙ l .inv .2, w .1)
 
 returns : tie.Need-returns Inv-loop μ-loop
 returns c = let l = c .before .loop in let e : l .p ≡ c .before .before .before .before .args .n = omega arith in (rw e at (l .inv .3), ((l .inv .1, l .inv .2), (refl, refl, refl)))

@@ -2,7 +2,7 @@
 -- Assumes nothing.
 use borrow.Author.Needs.{needs}
 use Rattle.judge_trace.specs.Kept.{tables}
-use Rattle.judge_trace.proofs.Keeping.{roomy, send-room, deliver-room}
+use Rattle.judge_trace.proofs.Keeping.{enoughRoom, send-room, deliver-room}
 use Rattle.judge_trace.proofs.Records.{checkpoint-reads, send-reads, deliver-reads, lose-reads, recover-reads}
 use Rattle.judge_trace.proofs.Together.{by-event}
 use Rattle.judge_trace.proofs.reading.read_event.Statement.{statement}
@@ -14,7 +14,7 @@ use Rattle.judge_trace.proofs.reading.read_send.Reads as read-send-read
 use Rattle.judge_trace.proofs.reading.refuse.Reads as refuse-reads
 
 read-checkpoint-requires : tie.Need-read-checkpoint-requires
-read-checkpoint-requires c κs = let st = c .before .before .before .before .before .before .before .before .before .before .before in let p = st .pre in let h = p .4 in roomy _ _ _ _ _ _ h (p .3)
+read-checkpoint-requires c κs = let st = c .before .before .before .before .before .before .before .before .before .before .before in let p = st .pre in let h = p .4 in enoughRoom _ _ _ _ _ _ h (p .3)
 
 read-send-requires : tie.Need-read-send-requires
 read-send-requires c κs = let st = c .before .before .before .before .before .before .before .before .before .before .before .before .before .before in let p = st .pre in let h = p .4 in send-room _ _ _ _ _ _ h (p .3)

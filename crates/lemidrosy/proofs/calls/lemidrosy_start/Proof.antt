@@ -8,7 +8,7 @@ use Rattle.lemidrosy.proofs.calls.lemidrosy_start.Statement.{statement}
 use Rattle.lemidrosy.proofs.calls.lemidrosy_start.Tie as tie
 
 of-start-requires : tie.Need-of-start-requires
-of-start-requires c κs = let a = c .before .before .before .before .before .before .args in rw (c .before .before .start .ensures .0) (start-fits (length (a .words .now)) (a .n) (a .counts .now))
+of-start-requires c κs = let a = c .before .before .before .before .before .before .args in rw (c .before .before .start .ensures .0) (start-fits (length (a .words .now)) (a .n) (a .block-counts .now))
 
 returns : tie.Need-returns
 returns c =

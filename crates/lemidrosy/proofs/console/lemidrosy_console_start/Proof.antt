@@ -7,7 +7,7 @@ use Rattle.lemidrosy.proofs.console.lemidrosy_console_start.Statement.{
 use Rattle.lemidrosy.proofs.console.lemidrosy_console_start.Tie as tie
 
 of-start-requires : tie.Need-of-start-requires
-of-start-requires c κs = let a = c .before .before .before .before .before .before .args in rw (c .before .before .start .ensures .0) (start-as-fits (a .role) (a .owned) (a .words .now) (a .n) (a .counts .now))
+of-start-requires c κs = let a = c .before .before .before .before .before .before .args in rw (c .before .before .start .ensures .0) (start-as-fits (a .role) (a .owned) (a .words .now) (a .n) (a .block-counts .now))
 
 returns : tie.Need-returns
 returns c =

@@ -3,7 +3,7 @@ use mathlib.Core.Path.{_≡_, refl}
 use native.Mathlib.Omega.{arith}
 use borrow.Author.Needs.{needs}
 use Rattle.listing.specs.Lines.{valueIn}
-use Rattle.listing.specs.Said.{reportIn}
+use Rattle.listing.specs.Summarised.{reportIn}
 use Rattle.answers.specs.Codes.{coded, valueCode}
 use Rattle.merges.specs.Merge.{mergeReport}
 use Rattle.lemidrosy.proofs.programs.merge_code.Statement.{statement}

@@ -8,7 +8,7 @@ use lib.Dec.{eqb}
 use lib.ListN.{length}
 use borrow.Author.Needs.{needs}
 use Rattle.laws.specs.Below.{all-and}
-use Rattle.laws.specs.Loops.{setBelow, below-none, below-length, turn-set, all-zero}
+use Rattle.laws.specs.Loops.{setBelow, below-none, below-length, step-set, all-zero}
 use Rattle.laws.specs.Search.{allBelow}
 use Rattle.line_words.specs.Line.{pastLatest, hasMembers, pastsIn}
 use Rattle.line_words.proofs.LineRule.{past-most}
@@ -51,7 +51,7 @@ loop-again c =
     let l = c .before .before .loop in
     let a = start (c .before .before) .args in (
       search needs,
-      turn-set (pastLatest (a .w .now) (a .limits)) _ (l .pasts) (l .p) (l .inv .1) _ (c .latest-allowed .ensures),
+      step-set (pastLatest (a .w .now) (a .limits)) _ (l .pasts) (l .p) (l .inv .1) _ (c .latest-allowed .ensures),
       all-and (λ q. not (eqb (pastLatest (a .w .now) (a .limits) q) 0)) (l .p) (l .all) _ (l .inv .2) (ap (λ (k : ℕ). not (eqb k 0)) (c .latest-allowed .ensures)),
     )
 

@@ -6,7 +6,7 @@ use borrow.Author.Needs.{needs}
 use borrow.Author.Tests.{le-leb, lt-leb}
 use Rattle.model.specs.declared.Interval.{Interval}
 use Rattle.model.specs.Words.{liveIndex}
-use Rattle.words.specs.Layout.{word, heldAt}
+use Rattle.words.specs.Layout.{word, keptCountAt}
 use Rattle.line_words.specs.Line.{indexIn}
 use Rattle.line_words.proofs.line.index_in.Statement.{statement}
 use Rattle.line_words.proofs.line.index_in.Tie as tie
@@ -27,14 +27,14 @@ unfolding indexIn
 returns c =
     let i = c .before .before in
     let st = i .before .before .before in
-    rw (le-leb (st .args .past) (word (st .args .w .now) (heldAt (st .args .p))) (omega (arith, i .if1 .taken))) (c .index-of .ensures)
+    rw (le-leb (st .args .past) (word (st .args .w .now) (keptCountAt (st .args .p))) (omega (arith, i .if1 .taken))) (c .index-of .ensures)
 
 returns-2 : tie.Need-returns-2
 unfolding indexIn
 returns-2 c =
     let i = c .before .before .before in
     let st = i .before .before .before in
-    rw (lt-leb (st .args .past) (word (st .args .w .now) (heldAt (st .args .p))) (omega (arith, i .if1 .left))) (c .live-index .ensures ∙ ap (λ (x : Interval). liveIndex x) (c .before .interval-of .ensures))
+    rw (lt-leb (st .args .past) (word (st .args .w .now) (keptCountAt (st .args .p))) (omega (arith, i .if1 .left))) (c .live-index .ensures ∙ ap (λ (x : Interval). liveIndex x) (c .before .interval-of .ensures))
 
 pub index-in-spec : {M : Type 1} → statement M
 index-in-spec =

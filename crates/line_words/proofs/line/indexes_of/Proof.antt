@@ -5,7 +5,7 @@ use mathlib.Core.Path.{_≡_}
 use native.Mathlib.Omega.{arith}
 use lib.ListN.{getD}
 use borrow.Author.Needs.{needs}
-use Rattle.laws.specs.Loops.{setBelow, below-none, turn-set}
+use Rattle.laws.specs.Loops.{setBelow, below-none, step-set}
 use Rattle.line_words.specs.Line.{indexIn, indexesIn}
 use Rattle.line_words.proofs.line.indexes_of.Statement.{statement}
 use Rattle.line_words.proofs.line.indexes_of.Tie as tie
@@ -28,7 +28,7 @@ loop-again : tie.Need-loop-again Inv-loop μ-loop
 loop-again c =
     let l = c .before .before .before .loop in
     let a = c .before .before .before .before .before .before .args in
-    (search needs, turn-set (λ q. indexIn (a .w .now) q (getD (a .pasts .now) q 0)) _ (l .indexes) (l .p) (l .inv .1) _ (c .index-in .ensures))
+    (search needs, step-set (λ q. indexIn (a .w .now) q (getD (a .pasts .now) q 0)) _ (l .indexes) (l .p) (l .inv .1) _ (c .index-in .ensures))
 
 returns : tie.Need-returns Inv-loop μ-loop
 unfolding indexesIn

@@ -13,10 +13,10 @@ use Rattle.line_words.proofs.line.latest_kept.Statement.{statement}
 use Rattle.line_words.proofs.line.latest_kept.Tie as tie
 
 abbrev Inv-loop : tie.InvT-loop
-Inv-loop w p held limits past₀ past = (past ≤ held) × (pastKept w limits p held ≡ pastKept w limits p past)
+Inv-loop w p keptCount limits past₀ past = (past ≤ keptCount) × (pastKept w limits p keptCount ≡ pastKept w limits p past)
 
 abbrev μ-loop : tie.MeasureT-loop
-μ-loop w p held limits past₀ past = past
+μ-loop w p keptCount limits past₀ past = past
 
 -- The last of the first ones is within the limits, or it is not.
 found : (w : List ℕ) (limits : List Interval) (p k : ℕ) → 1 ≤ k → isWithin limits (vectorIn w (storedAt p (k - 1))) ≡ true → pastKept w limits p k ≡ k

@@ -8,7 +8,7 @@ use borrow.Author.Needs.{needs}
 use lib.Dec.{eqb}
 use Rattle.laws.specs.Bits.{bits-all, bits-next}
 use Rattle.laws.specs.Choice.{pick}
-use Rattle.laws.specs.Loops.{setBelow, below-none, turn-set}
+use Rattle.laws.specs.Loops.{setBelow, below-none, step-set}
 use Rattle.model.specs.declared.Interval.{Interval}
 use Rattle.words.specs.Layout.{word, partAt}
 use Rattle.line_words.specs.Line.{limitOf, limitsIn}
@@ -36,7 +36,7 @@ loop-again c =
     let own = word (a .w .now) (partAt (l .f) + l .f) in (
       search needs,
       bits-next (a .failed) (l .f) _ (l .inv .1),
-      turn-set (limitOf (a .w .now) (a .failed)) _ (l .limits) (l .f) (l .inv .2) _
+      step-set (limitOf (a .w .now) (a .failed)) _ (l .limits) (l .f) (l .inv .2) _
           (c .limit-of .ensures
           ∙ ap (λ (x : Interval). record { 0 = pick (eqb (l .left % 2) 1) (x .0 - 1) (x .0) }) (c .before .interval-of .ensures)
           ∙ ap (λ (k : ℕ). record { 0 = pick (eqb (k % 2) 1) (own - 1) own }) (l .inv .1)),

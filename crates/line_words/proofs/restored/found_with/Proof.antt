@@ -7,7 +7,7 @@ use lib.Dec.{eqb}
 use lib.ListN.{getD}
 use borrow.Author.Needs.{needs}
 use Rattle.laws.specs.Choice.{pick}
-use Rattle.laws.specs.Loops.{setBelow, below-none, turn-set, below-all}
+use Rattle.laws.specs.Loops.{setBelow, below-none, step-set, below-all}
 use Rattle.model.specs.Words.{entry, below}
 use Rattle.line_words.specs.Restored.{foundRow}
 use Rattle.line_words.proofs.restored.found_with.Statement.{statement}
@@ -23,7 +23,7 @@ loop-again : tie.Need-loop-again Inv-loop μ-loop
 loop-again c =
     let l = c .before .before .before .before .loop in
     let a = c .before .before .before .before .before .args in
-    (search needs, turn-set (λ q. pick (below (entry (a .t2) q) (entry (a .t3) q)) (a .word) (getD (a .t1) q 0)) _ (l .then) (l .f) (l .inv .1) _ (c .later-of .ensures))
+    (search needs, step-set (λ q. pick (below (entry (a .t2) q) (entry (a .t3) q)) (a .word) (getD (a .t1) q 0)) _ (l .then) (l .f) (l .inv .1) _ (c .later-of .ensures))
 
 returns : tie.Need-returns Inv-loop μ-loop
 unfolding foundRow

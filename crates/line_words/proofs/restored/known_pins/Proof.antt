@@ -7,7 +7,7 @@ use lib.Dec.{eqb}
 use lib.ListN.{getD}
 use borrow.Author.Needs.{needs}
 use Rattle.laws.specs.Choice.{pick}
-use Rattle.laws.specs.Loops.{setBelow, below-none, turn-set, below-all}
+use Rattle.laws.specs.Loops.{setBelow, below-none, step-set, below-all}
 use Rattle.model.specs.Words.{entry, below}
 use Rattle.line_words.specs.Restored.{knownRow}
 use Rattle.line_words.proofs.restored.known_pins.Statement.{statement}
@@ -23,7 +23,7 @@ loop-again : tie.Need-loop-again Inv-loop μ-loop
 loop-again c =
     let l = c .before .before .before .before .loop in
     let a = c .before .before .before .before .before .args in
-    (search needs, turn-set (λ q. pick (eqb (entry (a .t1) q .0) (entry (a .t2) q .0)) (getD (a .t3) q 0) 0) _ (l .then) (l .f) (l .inv .1) _ (c .known-pin .ensures))
+    (search needs, step-set (λ q. pick (eqb (entry (a .t1) q .0) (entry (a .t2) q .0)) (getD (a .t3) q 0) 0) _ (l .then) (l .f) (l .inv .1) _ (c .known-pin .ensures))
 
 returns : tie.Need-returns Inv-loop μ-loop
 unfolding knownRow

@@ -9,16 +9,16 @@ use native.Mathlib.Omega.{arith}
 use lib.Dec.{eqb}
 use borrow.Author.Needs.{needs}
 use Rattle.laws.specs.Loops.{either}
-use Rattle.words.specs.Layout.{word, heldAt, indexAt, storedAt}
+use Rattle.words.specs.Layout.{word, keptCountAt, indexAt, storedAt}
 use Rattle.line_words.specs.Through.{startOf}
 use Rattle.line_words.proofs.through.find_start.Statement.{statement}
 use Rattle.line_words.proofs.through.find_start.Tie as tie
 
 abbrev Inv-loop : tie.InvT-loop
-Inv-loop w p index held start₀ k₀ start k = (k ≤ held) × (start ≡ startOf w p index k)
+Inv-loop w p index keptCount start₀ k₀ start k = (k ≤ keptCount) × (start ≡ startOf w p index k)
 
 abbrev μ-loop : tie.MeasureT-loop
-μ-loop w p index held start₀ k₀ start k = held - k
+μ-loop w p index keptCount start₀ k₀ start k = keptCount - k
 
 nowhere : (w : List ℕ) (p i : ℕ) → 0 ≡ startOf w p i 0
 unfolding startOf
@@ -51,7 +51,7 @@ returns : tie.Need-returns Inv-loop μ-loop
 returns c =
     let l = c .before .loop in
     let a = c .before .before .before .before .args in
-    let e : l .k ≡ word (a .w .now) (heldAt (a .p)) = omega arith in
+    let e : l .k ≡ word (a .w .now) (keptCountAt (a .p)) = omega arith in
     rw e at (l .inv .1)
 
 pub find-start-spec : {M : Type 1} → statement M

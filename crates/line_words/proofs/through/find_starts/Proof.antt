@@ -7,9 +7,9 @@ use native.Mathlib.Omega.{arith}
 use lib.Dec.{eqb}
 use borrow.Author.Needs.{needs}
 use Rattle.laws.specs.Below.{all-and}
-use Rattle.laws.specs.Loops.{setBelow, below-none, turn-set, all-zero}
+use Rattle.laws.specs.Loops.{setBelow, below-none, step-set, all-zero}
 use Rattle.laws.specs.Search.{allBelow}
-use Rattle.words.specs.Layout.{word, heldAt}
+use Rattle.words.specs.Layout.{word, keptCountAt}
 use Rattle.line_words.specs.Through.{processOf, indexOf, startAt, startsIn}
 use Rattle.line_words.proofs.Reaching.{start-most}
 use Rattle.line_words.proofs.through.find_starts.Statement.{statement}
@@ -43,7 +43,7 @@ cast-starts c =
     let w = st .args .w .now in
     let k = i .before .loop .k in
     let known = st .pre .3 k (i .loop-test .taken) in
-    omega (arith, c .find-start .ensures, start-most w (processOf l k) (indexOf l k) (word w (heldAt (processOf l k))) (known .0) (known .1))
+    omega (arith, c .find-start .ensures, start-most w (processOf l k) (indexOf l k) (word w (keptCountAt (processOf l k))) (known .0) (known .1))
 
 loop-again : tie.Need-loop-again Inv-loop μ-loop
 loop-again c =
@@ -51,7 +51,7 @@ loop-again c =
     let l = i .before .loop in
     let a = i .before .before .before .before .args in (
       search needs,
-      turn-set (startAt (a .w .now) (a .named .now)) _ (l .starts) (l .k) (l .inv .1) _ (c .find-start .ensures),
+      step-set (startAt (a .w .now) (a .named .now)) _ (l .starts) (l .k) (l .inv .1) _ (c .find-start .ensures),
       all-and (λ j. not (eqb (startAt (a .w .now) (a .named .now) j) 0)) (l .k) (l .all) _ (l .inv .2) (ap (λ (x : ℕ). not (eqb x 0)) (c .find-start .ensures)),
     )
 

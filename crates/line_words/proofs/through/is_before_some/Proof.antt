@@ -14,7 +14,7 @@ use Rattle.laws.specs.Search.{anyBelow}
 use Rattle.model.specs.declared.Interval.{Interval}
 use Rattle.words.specs.Layout.{word}
 use Rattle.line_words.specs.Through.{beforeSome, greatestIn}
-use Rattle.line_words.proofs.Turns.{any-or}
+use Rattle.line_words.proofs.Iterations.{any-or}
 use Rattle.line_words.proofs.through.is_before_some.Statement.{statement}
 use Rattle.line_words.proofs.through.is_before_some.Tie as tie
 

@@ -6,7 +6,7 @@ use native.Mathlib.Omega.{arith}
 use lib.ListN.{length, length-set}
 use borrow.Author.Needs.{needs}
 use Rattle.laws.specs.Below.{below-written}
-use Rattle.laws.specs.Loops.{setBelow, below-none, turn-set}
+use Rattle.laws.specs.Loops.{setBelow, below-none, step-set}
 use Rattle.line_words.specs.Through.{greatestIn}
 use Rattle.line_words.proofs.through.write_greatest.Statement.{statement}
 use Rattle.line_words.proofs.through.write_greatest.Tie as tie
@@ -29,7 +29,7 @@ loop-again c =
     let a = i .before .before .before .before .args in (
       search needs,
       simp length-set (l .inv .1),
-      turn-set (λ q. greatestIn (a .w .now) (a .starts) q (a .m)) (a .line .now) (l .line) (l .p) (l .inv .2) _ (c .greatest-entry .ensures),
+      step-set (λ q. greatestIn (a .w .now) (a .starts) q (a .m)) (a .line .now) (l .line) (l .p) (l .inv .2) _ (c .greatest-entry .ensures),
     )
 
 returns : tie.Need-returns Inv-loop μ-loop

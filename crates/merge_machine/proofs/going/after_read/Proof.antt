@@ -22,7 +22,7 @@ returns-2 : tie.Need-returns-2
 returns-2 c = let m = c .before .before .before .before .before .before .before .before .before .before .args .m in let input = c .before .before .before .before .before .before .before .before .before .before .args .input .now in let long = c .before .before .before .before .before .before .before .before .before .before .pre .1 in let most = c .before .before .before .before .before .before .before .wanted .ensures in let h = c .before .before .before .before .before .before .read .ensures .0 (readTo (m .half) (m .count)) input (omega (arith, most, wanted-most (m .count), read-most (m .half) (m .count), long)) in led (read-end (m .half) (m .count) input long (stageOf m input) (nameOf m input) _ _ _ most h (c .before .before .before .before .enum-told .given .1)) (c .before .before .end-half .ensures)
 
 returns-3 : tie.Need-returns-3
-returns-3 c = let m = c .before .before .before .before .before .before .before .before .before .before .args .m in let input = c .before .before .before .before .before .before .before .before .before .before .args .input .now in let long = c .before .before .before .before .before .before .before .before .before .before .pre .1 in let most = c .before .before .before .before .before .before .before .wanted .ensures in let h = c .before .before .before .before .before .before .read .ensures .0 (readTo (m .half) (m .count)) input (omega (arith, most, wanted-most (m .count), read-most (m .half) (m .count), long)) in led (read-failed (m .half) (m .count) input long (stageOf m input) (nameOf m input) _ _ _ most h (c .before .before .before .before .enum-told2 .given .1)) (c .before .before .fail-named .ensures)
+returns-3 c = let m = c .before .before .before .before .before .before .before .before .before .before .args .m in let input = c .before .before .before .before .before .before .before .before .before .before .args .input .now in let long = c .before .before .before .before .before .before .before .before .before .before .pre .1 in let most = c .before .before .before .before .before .before .before .wanted .ensures in let h = c .before .before .before .before .before .before .read .ensures .0 (readTo (m .half) (m .count)) input (omega (arith, most, wanted-most (m .count), read-most (m .half) (m .count), long)) in led (read-failed (m .half) (m .count) input long (stageOf m input) (nameOf m input) _ _ _ most h (c .before .before .before .before .enum-told2 .given .1)) (c .before .before .fail-file .ensures)
 
 pub after-read-spec : {M : Type 1} → statement M
 after-read-spec =

@@ -10,12 +10,12 @@ use borrow.Author.Needs.{needs}
 use Rattle.merge_machine.proofs.going.after_set.Statement.{statement}
 use Rattle.merge_machine.proofs.going.after_set.Tie as tie
 
-slice-aggregate-set-named : tie.Need-slice-aggregate-set-named
+slice-aggregate-take-set : tie.Need-slice-aggregate-take-set
 unfolding Between
-slice-aggregate-set-named c = let b = rw (c .before .before .taken .given .1) at (c .before .before .before .before .word .ensures .1) in sym (length-take-le (c .before .before .taken .given .0 .0) (c .before .before .before .before .before .before .before .args .input .now) (omega (arith, b .1, c .before .before .before .before .before .before .before .pre .0)))
+slice-aggregate-take-set c = let b = rw (c .before .before .taken .given .1) at (c .before .before .before .before .word .ensures .1) in sym (length-take-le (c .before .before .taken .given .0 .0) (c .before .before .before .before .before .before .before .args .input .now) (omega (arith, b .1, c .before .before .before .before .before .before .before .pre .0)))
 
 returns : tie.Need-returns
-returns c = let input = c .before .before .before .before .before .before .before .before .before .before .before .args .input .now in led (set-word _ 0 input _ (c .before .before .before .before .before .before .before .before .word .ensures .0 0 input (omega (arith, c .before .before .before .before .before .before .before .before .before .before .before .pre .0))) _ (c .before .before .before .before .before .before .taken .given .1)) (c .before .before .set-named .ensures input (c .before .before .before .before .before .before .before .before .before .before .before .pre .0))
+returns c = let input = c .before .before .before .before .before .before .before .before .before .before .before .args .input .now in led (set-word _ 0 input _ (c .before .before .before .before .before .before .before .before .word .ensures .0 0 input (omega (arith, c .before .before .before .before .before .before .before .before .before .before .before .pre .0))) _ (c .before .before .before .before .before .before .taken .given .1)) (c .before .before .take-set .ensures input (c .before .before .before .before .before .before .before .before .before .before .before .pre .0))
 
 returns-2 : tie.Need-returns-2
 returns-2 c = let input = c .before .before .before .before .before .before .before .before .before .before .args .input .now in led (set-end _ 0 input _ (c .before .before .before .before .before .before .before .word .ensures .0 0 input (omega (arith, c .before .before .before .before .before .before .before .before .before .before .pre .0))) (c .before .before .before .before .before .enum-told .given .1)) (c .before .before .say .ensures input)
@@ -26,5 +26,5 @@ returns-3 c = let input = c .before .before .before .before .before .before .bef
 pub after-set-spec : {M : Type 1} → statement M
 after-set-spec =
     tie.close
-    (tie.spec (λ c κs. search needs) (λ c. search needs) slice-aggregate-set-named (λ c κs. search needs) (λ c. search needs) (λ c. search needs) (λ c κs. search needs)
+    (tie.spec (λ c κs. search needs) (λ c. search needs) slice-aggregate-take-set (λ c κs. search needs) (λ c. search needs) (λ c. search needs) (λ c κs. search needs)
     (λ c. search needs) (λ c. search needs) (λ c κs. search needs) (λ c. search needs) returns (λ c. search needs) returns-2 (λ c. search needs) returns-3)

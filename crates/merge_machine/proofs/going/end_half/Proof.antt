@@ -1,16 +1,16 @@
 -- `merge_machine::going::end_half` meets its contract.
 -- Assumes nothing.
-use Rattle.merge_machine.proofs.Leading.{first-held, second-held}
+use Rattle.merge_machine.proofs.Leading.{first-buffered, second-buffered}
 use Rattle.merge_machine.proofs.Arriving.{led, arrives-second}
 use borrow.Author.Needs.{needs}
 use Rattle.merge_machine.proofs.going.end_half.Statement.{statement}
 use Rattle.merge_machine.proofs.going.end_half.Tie as tie
 
 returns : tie.Need-returns
-returns c = let m = c .before .before .before .before .before .args .m in let input = c .before .before .before .before .before .args .input .now in let held = c .before .before .held-size in led (first-held m input (c .before .before .before .before .before .args .count) (held .result) (held .ensures .0) (c .if1 .taken)) (arrives-second (m .set) (held .result) input _ (c .before .before .before .before .before .pre .0 .0) (held .ensures .1) (c .before .before .before .before .before .pre .1))
+returns c = let m = c .before .before .before .before .before .args .m in let input = c .before .before .before .before .before .args .input .now in let buffered = c .before .before .buffered-size in led (first-buffered m input (c .before .before .before .before .before .args .count) (buffered .result) (buffered .ensures .0) (c .if1 .taken)) (arrives-second (m .set) (buffered .result) input _ (c .before .before .before .before .before .pre .0 .0) (buffered .ensures .1) (c .before .before .before .before .before .pre .1))
 
 returns-2 : tie.Need-returns-2
-returns-2 c = let m = c .before .before .before .before .before .before .before .before .before .before .before .before .before .args .m in let input = c .before .before .before .before .before .before .before .before .before .before .before .before .before .args .input .now in let held = c .before .before .before .before .before .before .before .before .before .before .held-size in led (second-held m input (c .before .before .before .before .before .before .before .before .before .before .before .before .before .args .count) (held .result) (held .ensures .0) (c .before .before .before .before .before .before .before .before .if1 .left)) (c .before .before .show .ensures input)
+returns-2 c = let m = c .before .before .before .before .before .before .before .before .before .before .before .before .before .args .m in let input = c .before .before .before .before .before .before .before .before .before .before .before .before .before .args .input .now in let buffered = c .before .before .before .before .before .before .before .before .before .before .buffered-size in led (second-buffered m input (c .before .before .before .before .before .before .before .before .before .before .before .before .before .args .count) (buffered .result) (buffered .ensures .0) (c .before .before .before .before .before .before .before .before .if1 .left)) (c .before .before .show .ensures input)
 
 pub end-half-spec : {M : Type 1} → statement M
 end-half-spec =

@@ -1,12 +1,12 @@
 -- `merge_machine::going::say` meets its contract.
 -- Assumes nothing.
-use Rattle.merge_machine.proofs.Arriving.{printed-saying}
+use Rattle.merge_machine.proofs.Arriving.{printed-reporting}
 use borrow.Author.Needs.{needs}
 use Rattle.merge_machine.proofs.going.say.Statement.{statement}
 use Rattle.merge_machine.proofs.going.say.Tie as tie
 
 returns : tie.Need-returns
-returns c = λ input. rw (c .at .ensures) (printed-saying _ _ _ _ (c .before .before .before .before .before .before .before .pre) (c .before .before .before .write-word .ensures) input)
+returns c = λ input. rw (c .at .ensures) (printed-reporting _ _ _ _ (c .before .before .before .before .before .before .before .pre) (c .before .before .before .write-word .ensures) input)
 
 pub say-spec : {M : Type 1} → statement M
 say-spec = tie.close (tie.spec (λ c κs. search needs) (λ c κs. search needs) (λ c. search needs) returns)

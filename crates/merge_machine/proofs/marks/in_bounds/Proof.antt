@@ -2,7 +2,7 @@
 -- Assumes nothing.
 use mathlib.Core.Path.{refl}
 use borrow.Author.Tests.{lt-leb, le-leb, lt-ltb, le-ltb}
-use Rattle.merge_machine.specs.Held.{mostCounted}
+use Rattle.merge_machine.specs.Buffered.{mostCounted}
 use Rattle.merge_machine.specs.Words.{inBounds}
 use Rattle.merge_machine.proofs.marks.in_bounds.Statement.{statement}
 use Rattle.merge_machine.proofs.marks.in_bounds.Tie as tie

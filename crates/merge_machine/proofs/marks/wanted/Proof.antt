@@ -1,7 +1,7 @@
 -- `merge_machine::marks::wanted` meets its contract.
 -- Assumes nothing.
 use borrow.Author.Tests.{lt-ltb, le-ltb}
-use Rattle.merge_machine.specs.Held.{wanted}
+use Rattle.merge_machine.specs.Buffered.{wanted}
 use borrow.Author.Needs.{needs}
 use Rattle.merge_machine.proofs.marks.wanted.Statement.{statement}
 use Rattle.merge_machine.proofs.marks.wanted.Tie as tie

@@ -14,14 +14,14 @@ use Rattle.output.proofs.line.print.Tie as tie
 write-line-requires : tie.Need-write-line-requires
 write-line-requires c κs =
     let start = c .before .before .before in
-    let fits = line-fits (start .args .said) (now (start .args .deleted)) (start .args .number) (start .pre .0) (start .pre .2) (λ j. omega (arith, c .before .before .shared-slice-known .given j)) in
+    let fits = line-fits (start .args .summary) (now (start .args .deleted)) (start .args .number) (start .pre .0) (start .pre .2) (λ j. omega (arith, c .before .before .shared-slice-known .given j)) in
     (start .pre .1, omega arith)
 
 returns : tie.Need-returns
 returns c =
     let start = c .before .before .before .before .before .before in
     let printed = c .before .before .write-line .ensures in
-    let fits = line-fits (start .args .said) (now (start .args .deleted)) (start .args .number) (start .pre .0) (start .pre .2) (λ j. omega (arith, c .before .before .before .before .before .shared-slice-known .given j)) in
+    let fits = line-fits (start .args .summary) (now (start .args .deleted)) (start .args .number) (start .pre .0) (start .pre .2) (λ j. omega (arith, c .before .before .before .before .before .shared-slice-known .given j)) in
     (printed, omega (arith, printed .next-place))
 
 pub print-spec : {M : Type 1} → statement M

@@ -4,7 +4,7 @@ use native.Mathlib.Omega.{arith}
 use Prim.Native.Nat.{_≤_, _-_}
 use lib.ListN.{length}
 use Rattle.process_words.specs.Kept.{Cleared}
-use Rattle.process_words.proofs.Collecting.{cleared-none, cleared-turn}
+use Rattle.process_words.proofs.Collecting.{cleared-none, cleared-step}
 use borrow.Author.Needs.{needs}
 use Rattle.process_words.proofs.kept.clear_from.Statement.{statement}
 use Rattle.process_words.proofs.kept.clear_from.Tie as tie
@@ -29,7 +29,7 @@ loop-again c =
       omega (arith, l .inv .0),
       search needs,
       k .clear .kept .0 ∙ l .inv .2,
-      cleared-turn (s .args .w .now) (s .args .p) (s .args .from) (l .k) (l .w) _ (s .pre .0) (s .pre .1) (l .inv .0) (omega (arith, s .pre .3)) (l .inv .3) (k .clear .ensures),
+      cleared-step (s .args .w .now) (s .args .p) (s .args .from) (l .k) (l .w) _ (s .pre .0) (s .pre .1) (l .inv .0) (omega (arith, s .pre .3)) (l .inv .3) (k .clear .ensures),
     )
 
 returns : tie.Need-returns Inv-loop μ-loop

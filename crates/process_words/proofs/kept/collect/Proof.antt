@@ -9,7 +9,7 @@ use Rattle.process_words.proofs.kept.collect.Tie as tie
 split-requires : tie.Need-split-requires
 split-requires c κs =
     let s = c .before .before .before .before .before .before in
-    let u = c .before .before .first-unnamed .ensures in
+    let u = c .before .before .first-unpinned .ensures in
     ((s .pre .0 .0, s .pre .0 .1, u .1, s .pre .0 .3, s .pre .0 .4, u .2), s .pre .1)
 
 clear-from-requires : tie.Need-clear-from-requires
@@ -28,7 +28,7 @@ returns : tie.Need-returns
 returns c =
     let s = c .before .before .before .before .before .before .before .before .before .before .before .before .before .before .before in
     let t = c .before .before .before .before .before .before .before .before .split in (
-      collected (s .args .w .now) (s .pre .0 .0) (s .args .p) (s .pre .0 .1) (pinRow (s .args .pins)) (s .args .held) (t .last .0) _ (t .result) (s .pre .0 .3) (t .ensures .0) (c .before .before .clear-from .ensures),
+      collected (s .args .w .now) (s .pre .0 .0) (s .args .p) (s .pre .0 .1) (pinRow (s .args .pins)) (s .args .kept-count) (t .last .0) _ (t .result) (s .pre .0 .3) (t .ensures .0) (c .before .before .clear-from .ensures),
       (t .ensures .1 .0, t .ensures .1 .1),
     )
 

@@ -8,7 +8,7 @@ use lib.ListN.{length, set}
 use lib.Seq.{sets}
 use Rattle.laws.specs.Loops.{either}
 use Rattle.laws.specs.Tests.{some-of}
-use Rattle.model.specs.Words.{names, named}
+use Rattle.model.specs.Words.{names, isPinned}
 use Rattle.model.specs.declared.Checkpoint.{Checkpoint}
 use Rattle.model.specs.Steps.{listed}
 use Rattle.model.specs.declared.CheckpointIndex.{CheckpointIndex}
@@ -16,7 +16,7 @@ use Rattle.whole_runs.specs.Outcomes.{pairs}
 use Rattle.words.specs.Layout.{word, indexAt, indexOf, checkpointIn}
 use Rattle.process_words.specs.Kept.{Used, Split}
 use Rattle.process_words.specs.Pins.{pinRow}
-use Rattle.process_words.proofs.Collecting.{named-is, index-is, index-there, split-first, split-stays, split-moves, unnamed, unnamed-none, unnamed-same, one-more, pair-more, pairs-none}
+use Rattle.process_words.proofs.Collecting.{pinned-is, index-is, index-there, split-first, split-stays, split-moves, unpinned, unpinned-none, unpinned-same, one-more, pair-more, pairs-none}
 use borrow.Author.Needs.{needs}
 use Rattle.process_words.proofs.kept.split.Statement.{statement}
 use Rattle.process_words.proofs.kept.split.Tie as tie
@@ -30,30 +30,30 @@ unfolding sets
 nothing-yet l at p gone e = sym (ap (λ (q : List Checkpoint). sets l at (pairs (listed p q))) e ∙ ap (sets l at) (pairs-none p))
 
 abbrev Inv-loop : tie.InvT-loop
-Inv-loop w₀ p from held pins deleted₀ before to₀ k₀ w deleted to k = (from ≤ k) × (k ≤ held) × (length w ≡ length w₀) × (length deleted ≡ length deleted₀) × Split w₀ p k (pinRow pins) w to × (deleted ≡ sets deleted₀ (2 * before) (pairs (listed p (unnamed w₀ p (pinRow pins) k)))) × (k ≡ to + length (unnamed w₀ p (pinRow pins) k))
+Inv-loop w₀ p from keptCount pins deleted₀ before to₀ k₀ w deleted to k = (from ≤ k) × (k ≤ keptCount) × (length w ≡ length w₀) × (length deleted ≡ length deleted₀) × Split w₀ p k (pinRow pins) w to × (deleted ≡ sets deleted₀ (2 * before) (pairs (listed p (unpinned w₀ p (pinRow pins) k)))) × (k ≡ to + length (unpinned w₀ p (pinRow pins) k))
 
 abbrev μ-loop : tie.MeasureT-loop
-μ-loop w₀ p from held pins deleted₀ before to₀ k₀ w deleted to k = held - k
+μ-loop w₀ p from keptCount pins deleted₀ before to₀ k₀ w deleted to k = keptCount - k
 
 -- The word of a place that has not been looked at yet.
-there : (c : tie.At-loop Inv-loop μ-loop) → c .loop .k < c .before .before .before .args .held → 1 ≤ word (c .loop .w) (indexAt (c .before .before .before .args .p) (c .loop .k))
+there : (c : tie.At-loop Inv-loop μ-loop) → c .loop .k < c .before .before .before .args .kept-count → 1 ≤ word (c .loop .w) (indexAt (c .before .before .before .args .p) (c .loop .k))
 there c lt =
     let s = c .before .before .before in
     omega (
       arith,
-      used-at (s .args .w .now) (s .args .p) (s .args .held) (s .pre .0 .4) (c .loop .k) lt,
+      used-at (s .args .w .now) (s .args .p) (s .args .kept-count) (s .pre .0 .4) (c .loop .k) lt,
       index-there (s .args .w .now) (s .pre .0 .0) (s .args .p) (s .pre .0 .1) (pinRow (s .args .pins)) (c .loop .k) (c .loop .w) (c .loop .to) (c .loop .inv .4) (omega (arith, s .pre .0 .3)),
     )
 
 loop-holds : tie.Need-loop-holds Inv-loop μ-loop
 loop-holds c =
     let s = c .before .before in
-    let none = unnamed-none (s .args .w .now) (s .args .p) (pinRow (s .args .pins)) (s .args .from) (s .pre .0 .5) in (
+    let none = unpinned-none (s .args .w .now) (s .args .p) (pinRow (s .args .pins)) (s .args .from) (s .pre .0 .5) in (
       search needs,
       s .pre .0 .2,
       refl,
       refl,
-      split-first (s .args .w .now) (s .pre .0 .0) (s .args .p) (s .pre .0 .1) (pinRow (s .args .pins)) (s .args .from) (s .args .held) (s .pre .0 .2) (s .pre .0 .3) (s .pre .0 .4) (s .pre .0 .5),
+      split-first (s .args .w .now) (s .pre .0 .0) (s .args .p) (s .pre .0 .1) (pinRow (s .args .pins)) (s .args .from) (s .args .kept-count) (s .pre .0 .2) (s .pre .0 .3) (s .pre .0 .4) (s .pre .0 .5),
       nothing-yet (s .args .deleted .now) (2 * s .args .before) (s .args .p) _ none,
       rw none (omega arith),
     )
@@ -80,27 +80,27 @@ loop-again : tie.Need-loop-again Inv-loop μ-loop
 loop-again c =
     let l = c .before .before .before .before .loop in
     let s = c .before .before .before .before .before .before .before in
-    let lt : l .k < s .args .held = omega arith in
+    let lt : l .k < s .args .kept-count = omega arith in
     let room : l .k < 16 = omega (arith, s .pre .0 .3) in
     let w = s .args .w .now in
     let p = s .args .p in
     let pins = pinRow (s .args .pins) in
     let same = index-there w (s .pre .0 .0) p (s .pre .0 .1) pins (l .k) (l .w) (l .to) (l .inv .4) room in
-    let test = named-is w p (l .k) pins ∙ ap (λ (x : ℕ). some-of (λ pin. names pin (indexOf x)) pins) (sym same) ∙ sym (c .before .is-named .ensures) in
+    let test = pinned-is w p (l .k) pins ∙ ap (λ (x : ℕ). some-of (λ pin. names pin (indexOf x)) pins) (sym same) ∙ sym (c .before .is-pinned .ensures) in
     either (c .if1 .came)
     (λ t.
-    let e : named pins (checkpointIn w p (l .k)) ≡ true = test ∙ t .0 .taken in
-    let none = unnamed-same w p pins (l .k) e in (
+    let e : isPinned pins (checkpointIn w p (l .k)) ≡ true = test ∙ t .0 .taken in
+    let none = unpinned-same w p pins (l .k) e in (
       omega (arith, l .inv .0),
       search needs,
       ap length (t .5) ∙ t .2 .kept .0 ∙ l .inv .2,
       ap length (t .6) ∙ l .inv .3,
-      rw (t .5, t .7, t .2 .ensures) (split-moves w (s .pre .0 .0) p (s .pre .0 .1) pins (l .k) (l .w) (l .to) (l .inv .4) room (used-at w p (s .args .held) (s .pre .0 .4) (l .k) lt) e),
+      rw (t .5, t .7, t .2 .ensures) (split-moves w (s .pre .0 .0) p (s .pre .0 .1) pins (l .k) (l .w) (l .to) (l .inv .4) room (used-at w p (s .args .kept-count) (s .pre .0 .4) (l .k) lt) e),
       t .6 ∙ l .inv .5 ∙ ap (λ (q : List Checkpoint). sets (s .args .deleted .now) (2 * s .args .before) (pairs (listed p q))) (sym none),
       omega (arith, t .7, l .inv .6, ap length none),
     ))
     (λ t.
-    let e : named pins (checkpointIn w p (l .k)) ≡ false = test ∙ t .0 .left in
+    let e : isPinned pins (checkpointIn w p (l .k)) ≡ false = test ∙ t .0 .left in
     let more = one-more w p pins (l .k) e in (
       omega (arith, l .inv .0),
       search needs,
@@ -115,7 +115,7 @@ loop-again c =
 returns : tie.Need-returns Inv-loop μ-loop
 returns c =
     let l = c .before .loop in
-    let e : l .k ≡ c .before .before .before .before .args .held = omega arith in
+    let e : l .k ≡ c .before .before .before .before .args .kept-count = omega arith in
     (rw e at (l .inv .4), (rw e at (l .inv .5), rw e at (l .inv .6)))
 
 pub split-spec : {M : Type 1} → statement M

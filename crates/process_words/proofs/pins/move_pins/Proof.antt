@@ -4,7 +4,7 @@ use native.Mathlib.Omega.{arith}
 use Prim.Native.Nat.{_≤_, _-_}
 use lib.ListN.{getD}
 use Rattle.laws.specs.Choice.{pick}
-use Rattle.laws.specs.Loops.{setBelow, below-none, below-all, turn-set}
+use Rattle.laws.specs.Loops.{setBelow, below-none, below-all, step-set}
 use Rattle.model.specs.Words.{inSet}
 use Rattle.process_words.specs.Pins.{movedRow}
 use borrow.Author.Needs.{needs}
@@ -20,7 +20,7 @@ abbrev μ-loop : tie.MeasureT-loop
 loop-again : tie.Need-loop-again Inv-loop μ-loop
 loop-again c =
     let a = c .before .before .before .args in
-    (search needs, turn-set (λ k. pick (inSet (a .moves) k) (a .new) (getD (a .t2) k 0)) (a .t2) _ _ (c .before .before .loop .inv .1) _ (c .moved-pin .ensures))
+    (search needs, step-set (λ k. pick (inSet (a .moves) k) (a .new) (getD (a .t2) k 0)) (a .t2) _ _ (c .before .before .loop .inv .1) _ (c .moved-pin .ensures))
 
 returns : tie.Need-returns Inv-loop μ-loop
 unfolding movedRow

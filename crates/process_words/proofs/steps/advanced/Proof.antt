@@ -8,7 +8,7 @@ use lib.ListN.{length, set, length-set}
 use lib.Seq.{getD-set-same, getD-set-other}
 use borrow.Author.Tests.{eq-eqb, ne-eqb, eqb-true}
 use Rattle.laws.specs.Choice.{pick, by-eq}
-use Rattle.laws.specs.Loops.{setBelow, below-none, below-all, turn-set}
+use Rattle.laws.specs.Loops.{setBelow, below-none, below-all, step-set}
 use Rattle.laws.specs.Lists.{table}
 use Rattle.laws.specs.Tables.{table-is}
 use Rattle.model.specs.declared.Interval.{Interval}
@@ -42,7 +42,7 @@ loop-again : tie.Need-loop-again Inv-loop μ-loop
 loop-again c =
     let l = c .before .before .before .loop in
     let a = c .before .before .before .before .args in
-    (search needs, turn-set (entry-of (a .t1) (a .i)) (a .t1) _ _ (l .inv .1) _ (ap (λ (n : ℕ). record { 0 = n }) (c .entry-then .ensures)))
+    (search needs, step-set (entry-of (a .t1) (a .i)) (a .t1) _ _ (l .inv .1) _ (ap (λ (n : ℕ). record { 0 = n }) (c .entry-then .ensures)))
 
 returns : tie.Need-returns Inv-loop μ-loop
 returns c =

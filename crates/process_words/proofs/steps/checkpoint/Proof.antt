@@ -13,14 +13,14 @@ use Rattle.model.specs.Words.{basic, entry, liveIndex, blocksOf}
 use Rattle.model.specs.Steps.{listed, settled, gone, deletions, billed, advanced, checkpointed}
 use Rattle.whole_runs.specs.Outcomes.{pairs}
 use Rattle.receipts.specs.Receipt.{keptThen}
-use Rattle.words.specs.Layout.{word, countOf, heldAt, blocksAt, partAt, pinsAt, rowIn, vectorIn, runOf}
+use Rattle.words.specs.Layout.{word, countOf, keptCountAt, blocksAt, partAt, pinsAt, rowIn, vectorIn, runOf}
 use Rattle.words.specs.Parts.{processIn}
 use Rattle.words.specs.Puts.{puts, vectorPut}
 use Rattle.words.proofs.Same.{vector-length}
 use Rattle.process_words.specs.Moves.{diskIn, Moves}
 use Rattle.process_words.specs.Pins.{pinRow, movedRow, risenOrOwn}
-use Rattle.process_words.specs.Steps.{storedIn, placesOf, unnamedIn, settledPart}
-use Rattle.process_words.proofs.Stepping.{in-range, held-most, words, facts, ready, checkpoint-part, checkpoint-gone, checkpoint-room, checkpoint-named, own-number, moved, deletes, lists}
+use Rattle.process_words.specs.Steps.{storedIn, placesOf, unpinnedIn, settledPart}
+use Rattle.process_words.proofs.Stepping.{in-range, kept-count-most, words, facts, ready, checkpoint-part, checkpoint-gone, checkpoint-room, checkpoint-pinned, own-number, moved, deletes, lists}
 use borrow.Author.Needs.{needs}
 use Rattle.process_words.proofs.steps.checkpoint.Statement.{statement}
 use Rattle.process_words.proofs.steps.checkpoint.Tie as tie
@@ -37,9 +37,9 @@ advanced-length i v = length-set v i _
 done : (w : List ℕ) (h : sound (runOf w) ≡ true) (i : ℕ) (lt : i < countOf w) (x : List Interval) → x ≡ advanced i (vectorIn w (partAt i)) → (u : List ℕ)
     → u ≡ puts w (vectorPut (partAt i) x ∷ []) → (r : List ℕ) (index : CheckpointIndex) (is : index ≡ liveIndex (entry (vectorIn w (partAt i)) i))
     (row : r ≡ movedRow (risenOrOwn 0 i) (rowIn w (pinsAt i)) (index .0 + 1)) (vector : List Interval) → vector ≡ vectorIn w (partAt i) → (y : List ℕ) (g : ℕ) (l l′ : List ℕ)
-    → g ≡ length (unnamedIn u i (pinRow r))
+    → g ≡ length (unpinnedIn u i (pinRow r))
     → Moves u i (settledPart u i (pinRow r) true (storedIn u i index basic vector)) (billed (diskIn u) (word u (blocksAt i)) (g * word u (blocksAt i))) y
-    → l′ ≡ sets l 0 (pairs (listed i (unnamedIn u i (pinRow r))))
+    → l′ ≡ sets l 0 (pairs (listed i (unpinnedIn u i (pinRow r))))
     → Moves w i (settled (checkpointed basic i (processIn w i))) (billed (diskIn w) (word w (blocksAt i)) (blocksOf (gone (checkpointed basic i (processIn w i))))) y
     × ((l′ ≡ sets l 0 (pairs (deletions i (checkpointed basic i (processIn w i))))) × (g ≡ length (deletions i (checkpointed basic i (processIn w i)))))
 done w h i lt x fresh u e r index is row vector read y g l l′ many m lent =
@@ -60,17 +60,17 @@ add-row-at c = let k = known (c .before .before .before .before .before) in sear
 row-at-requires : tie.Need-row-at-requires
 row-at-requires c κs = let k = known (c .before .before .before .before .before) in search needs
 
-add-held : tie.Need-add-held
-add-held c = let k = known (c .before .before .before .before .before .before) in search needs
+add-kept-count : tie.Need-add-kept-count
+add-kept-count c = let k = known (c .before .before .before .before .before .before) in search needs
 
-mul-held : tie.Need-mul-held
-mul-held c = let k = known (c .before .before .before .before .before .before) in search needs
+mul-kept-count : tie.Need-mul-kept-count
+mul-kept-count c = let k = known (c .before .before .before .before .before .before) in search needs
 
-slice-read-held : tie.Need-slice-read-held
-slice-read-held c = let k = known (c .before .before .before .before .before .before .before) in search needs
+slice-read-kept-count : tie.Need-slice-read-kept-count
+slice-read-kept-count c = let k = known (c .before .before .before .before .before .before .before) in search needs
 
-cast-held : tie.Need-cast-held
-cast-held c = let s = c .before .before .before .before .before .before .before in let m = held-most (s .args .w .now) (s .pre .0) (s .args .i) (s .pre .1) in record { fits = omega (arith, m) }
+cast-kept-count : tie.Need-cast-kept-count
+cast-kept-count c = let s = c .before .before .before .before .before .before .before in let m = kept-count-most (s .args .w .now) (s .pre .0) (s .args .i) (s .pre .1) in record { fits = omega (arith, m) }
 
 mul-live-index : tie.Need-mul-live-index
 mul-live-index c = let k = known (c .before .before .before .before .before .before .before) in search needs
@@ -100,7 +100,7 @@ put-vector-requires : tie.Need-put-vector-requires
 put-vector-requires c κs = let k = known (c .before .before .before .before .before .before .before .before .before .before .before .before .before) in search needs
 
 sub-settle : tie.Need-sub-settle
-sub-settle c = let s = c .before .before .before .before .before .before .before .before .before .before .before .before .before .before .before .before .before in facts (s .args .w .now) (s .pre .0) (s .args .i) (s .pre .1) .held-some
+sub-settle c = let s = c .before .before .before .before .before .before .before .before .before .before .before .before .before .before .before .before .before in facts (s .args .w .now) (s .pre .0) (s .args .i) (s .pre .1) .kept-count-some
 
 settle-requires : tie.Need-settle-requires
 settle-requires c κs =
@@ -111,7 +111,7 @@ settle-requires c κs =
     let is = c .before .before .before .before .before .before .before .before .before .live-index .ensures ∙ ap (λ (v : List Interval). liveIndex (entry v i)) vector in
     let row = c .before .before .before .before .before .before .before .taken-pins .ensures ∙ (λ j. movedRow (risenOrOwn 0 i) (c .before .before .before .before .before .before .before .before .before .before .before .before .row-at .ensures j) (c .before .before .before .before .before .before .before .before .pin-word .ensures .0 j)) in
     let put = c .before .before .before .before .put-vector .ensures in
-    ready (s .args .w .now) (s .pre .0) (s .args .i) (s .pre .1) (c .before .before .before .before .before .advanced .result) _ put _ (word w (heldAt i) - 1) (omega arith) (checkpoint-named (s .args .w .now) (s .pre .0) (s .args .i) (s .pre .1) _ _ is row) true _ (λ e. omega (arith, own-number (s .args .w .now) (s .pre .0) (s .args .i) (s .pre .1) _ vector, ap (λ (x : CheckpointIndex). x .0) (c .before .before .before .before .before .before .before .before .before .live-index .ensures), s .pre .2)) (λ e. checkpoint-room (s .args .w .now) (s .pre .0) (s .args .i) (s .pre .1) _ _ is row) _ (s .pre .3)
+    ready (s .args .w .now) (s .pre .0) (s .args .i) (s .pre .1) (c .before .before .before .before .before .advanced .result) _ put _ (word w (keptCountAt i) - 1) (omega arith) (checkpoint-pinned (s .args .w .now) (s .pre .0) (s .args .i) (s .pre .1) _ _ is row) true _ (λ e. omega (arith, own-number (s .args .w .now) (s .pre .0) (s .args .i) (s .pre .1) _ vector, ap (λ (x : CheckpointIndex). x .0) (c .before .before .before .before .before .before .before .before .before .live-index .ensures), s .pre .2)) (λ e. checkpoint-room (s .args .w .now) (s .pre .0) (s .args .i) (s .pre .1) _ _ is row) _ (s .pre .3)
 
 same-length : tie.Need-same-length
 same-length c = c .before .before .before .before .settle .kept .0 ∙ c .before .before .before .before .before .before .before .before .before .put-vector .kept .0
@@ -136,6 +136,6 @@ pub checkpoint-spec : {M : Type 1} → statement M
 checkpoint-spec =
     tie.close
     (tie.spec (λ c. let k = known (c .before .before .before) in search needs) (λ c. let k = known (c .before .before .before) in search needs)
-    (λ c κs. let k = known (c .before .before .before) in search needs) mul-row-at add-row-at row-at-requires add-held mul-held slice-read-held cast-held
+    (λ c κs. let k = known (c .before .before .before) in search needs) mul-row-at add-row-at row-at-requires add-kept-count mul-kept-count slice-read-kept-count cast-kept-count
     mul-live-index array-copy-out-live-index live-index-requires pin-word-requires taken-pins-requires mul-put-vector add-put-vector advanced-requires
     put-vector-requires sub-settle settle-requires same-length same-length-2 returns)

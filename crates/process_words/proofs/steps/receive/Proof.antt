@@ -20,8 +20,8 @@ use Rattle.words.specs.Parts.{processIn}
 use Rattle.words.specs.Puts.{puts, vectorPut}
 use Rattle.process_words.specs.Moves.{diskIn, Moves}
 use Rattle.process_words.specs.Pins.{pinRow, movedRow, risenOrOwn}
-use Rattle.process_words.specs.Steps.{storedIn, placesOf, unnamedIn, settledPart, received}
-use Rattle.process_words.proofs.Stepping.{in-range, words, facts, ready, receive-part, receive-gone, receive-room, named-none, own-number, moved, deletes, lists}
+use Rattle.process_words.specs.Steps.{storedIn, placesOf, unpinnedIn, settledPart, received}
+use Rattle.process_words.proofs.Stepping.{in-range, words, facts, ready, receive-part, receive-gone, receive-room, pinned-none, own-number, moved, deletes, lists}
 use borrow.Author.Needs.{needs}
 use Rattle.process_words.proofs.steps.receive.Statement.{statement}
 use Rattle.process_words.proofs.steps.receive.Tie as tie
@@ -39,9 +39,9 @@ done : (w : List ℕ) (h : sound (runOf w) ≡ true) (i : ℕ) (lt : i < countOf
     → (u : List ℕ) → u ≡ puts w (vectorPut (partAt i) x ∷ []) → (r : List ℕ) (index : CheckpointIndex) (is : index ≡ liveIndex (entry (vectorIn w (partAt i)) i)) (own : ℕ)
     (own-word : own ≡ pick stores (index .0 + 1) (getD (rowIn w (pinsAt i)) i 0))
     (row : r ≡ movedRow (risenOrOwn (risen (vectorFirst stores i (vectorIn w (partAt i))) carried) i) (rowIn w (pinsAt i)) own) (vector : List Interval) → vector ≡ vectorIn w (partAt i)
-    → (y : List ℕ) (g : ℕ) (l l′ : List ℕ) → g ≡ length (unnamedIn u i (pinRow r))
+    → (y : List ℕ) (g : ℕ) (l l′ : List ℕ) → g ≡ length (unpinnedIn u i (pinRow r))
     → Moves u i (settledPart u i (pinRow r) stores (storedIn u i index forced vector)) (billed (diskIn u) (pick stores (word u (blocksAt i)) 0) (g * word u (blocksAt i))) y
-    → l′ ≡ sets l 0 (pairs (listed i (unnamedIn u i (pinRow r))))
+    → l′ ≡ sets l 0 (pairs (listed i (unpinnedIn u i (pinRow r))))
     → Moves w i (settled (received i stores carried (processIn w i))) (billed (diskIn w) (pick stores (word w (blocksAt i)) 0) (blocksOf (gone (received i stores carried (processIn w i))))) y
     × ((l′ ≡ sets l 0 (pairs (deletions i (received i stores carried (processIn w i))))) × (g ≡ length (deletions i (received i stores carried (processIn w i)))))
 done w h i lt stores carried x fresh u e r index is own own-word row vector read y g l l′ many m lent =
@@ -102,7 +102,7 @@ settle-requires c κs =
     let rose = c .before .before .before .before .before .before .take-vector .ensures .1 ∙ ap (λ (v : List Interval). risen (vectorFirst stores i v) (s .args .carried)) vector in
     let row = c .before .before .taken-pins .ensures ∙ (λ j. movedRow (risenOrOwn (rose j) i) (c .before .before .before .before .before .before .before .before .before .before .row-at .ensures j) (c .before .before .before .own-pin .result)) in
     let put = c .before .before .before .before .before .before .take-vector .ensures .0 in
-    ready (s .args .w .now) (s .pre .0) (s .args .i) (s .pre .1) (takenVector (vectorFirst stores i (c .before .before .before .before .before .before .before .before .before .before .before .before .vector-at .result)) (s .args .carried)) _ put _ 0 (omega arith) (named-none (s .args .w .now) (s .pre .0) (s .args .i) (s .pre .1) _) stores _ (λ e. omega (arith, own-number (s .args .w .now) (s .pre .0) (s .args .i) (s .pre .1) _ vector, ap (λ (x : CheckpointIndex). x .0) (c .before .before .before .before .before .before .before .before .live-index .ensures), s .pre .2 e)) (receive-room (s .args .w .now) (s .pre .0) (s .args .i) (s .pre .1) stores (s .args .carried) _ _ is _ own row) _ (s .pre .3)
+    ready (s .args .w .now) (s .pre .0) (s .args .i) (s .pre .1) (takenVector (vectorFirst stores i (c .before .before .before .before .before .before .before .before .before .before .before .before .vector-at .result)) (s .args .carried)) _ put _ 0 (omega arith) (pinned-none (s .args .w .now) (s .pre .0) (s .args .i) (s .pre .1) _) stores _ (λ e. omega (arith, own-number (s .args .w .now) (s .pre .0) (s .args .i) (s .pre .1) _ vector, ap (λ (x : CheckpointIndex). x .0) (c .before .before .before .before .before .before .before .before .live-index .ensures), s .pre .2 e)) (receive-room (s .args .w .now) (s .pre .0) (s .args .i) (s .pre .1) stores (s .args .carried) _ _ is _ own row) _ (s .pre .3)
 
 same-length : tie.Need-same-length
 same-length c = c .before .before .before .before .settle .kept .0 ∙ c .before .before .before .before .before .before .before .before .before .before .before .take-vector .kept .0

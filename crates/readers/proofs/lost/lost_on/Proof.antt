@@ -4,7 +4,7 @@ use mathlib.Core.Bool.{true}
 use Prim.Native.Nat.{ℕ, _^_}
 use lib.Dec.{leb}
 use borrow.Author.Needs.{needs}
-use Rattle.readers.proofs.Readings.{told}
+use Rattle.readers.proofs.Readings.{answer-is}
 use Rattle.readers.proofs.Losses.{lost-short, lost-outside}
 use Rattle.readers.proofs.lost.lost_on.Statement.{statement}
 use Rattle.readers.proofs.lost.lost_on.Tie as tie
@@ -12,7 +12,7 @@ use Rattle.readers.proofs.lost.lost_on.Tie as tie
 returns : tie.Need-returns
 returns c =
     let st = c .before .before .before .before in
-    told (lost-short (st .args .w .now) (st .pre) (st .args .failed) (st .args .messages .now) (c .before .if1 .taken)) (c .refused .ensures) refl
+    answer-is (lost-short (st .args .w .now) (st .pre) (st .args .failed) (st .args .messages .now) (c .before .if1 .taken)) (c .refused .ensures) refl
 
 returns-2 : tie.Need-returns-2
 returns-2 c =
@@ -20,7 +20,7 @@ returns-2 c =
     let n = o .before in
     let e = n .before in
     let st = e .before .before .before in
-    told (lost-outside (st .args .w .now) (st .pre) (st .args .failed) (st .args .messages .now) (e .if1 .left)
+    answer-is (lost-outside (st .args .w .now) (st .pre) (st .args .failed) (st .args .messages .now) (e .if1 .left)
     (sym (ap (λ (k : ℕ). leb (2 ^ k) (st .args .failed)) (n .count-in .ensures)) ∙ sym (o .is-outside .ensures) ∙ c .before .if2 .taken)) (c .refused2 .ensures) refl
 
 lost-within-requires : tie.Need-lost-within-requires

@@ -9,9 +9,9 @@ use borrow.Author.Tests.{not-true, not-false}
 use Rattle.model.specs.Refusals.{noMember}
 use Rattle.words.specs.Layout.{countOf, runOf}
 use Rattle.words.proofs.ViewSound.{sound-words}
-use Rattle.in_place.proofs.Lining.{some-own, most-held, all-used, members-missing, members-there, members-found}
+use Rattle.in_place.proofs.Lining.{some-own, most-kept-count, all-used, members-missing, members-there, members-found}
 use Rattle.line_words.proofs.Lost.{senders-present}
-use Rattle.readers.proofs.Readings.{told}
+use Rattle.readers.proofs.Readings.{answer-is}
 use Rattle.readers.proofs.Losses.{few-lost, indexes-are, lost-missing, lost-read}
 use Rattle.readers.proofs.lost.lost_within.Statement.{statement}
 use Rattle.readers.proofs.lost.lost_within.Tie as tie
@@ -42,7 +42,7 @@ find-members-requires : tie.Need-find-members-requires
 find-members-requires c κs =
     let st = at-limits (c .before .before) in
     let k = sound-words (st .args .w .now) (st .pre .0) in
-    (k .size, omega (arith, k .few, st .pre .1), most-held (st .args .w .now) (st .pre .0) (st .args .n) (st .pre .1), refl)
+    (k .size, omega (arith, k .few, st .pre .1), most-kept-count (st .args .w .now) (st .pre .0) (st .args .n) (st .pre .1), refl)
 
 inside : (st : tie.Start) → leb (2 ^ countOf (st .args .w .now)) (st .args .failed) ≡ false
 inside st = ap (λ (k : ℕ). leb (2 ^ k) (st .args .failed)) (sym (st .pre .1)) ∙ st .pre .2
@@ -55,7 +55,7 @@ returns c =
     let st = at-limits l in
     let w = st .args .w .now in
     let e = members-missing w (st .pre .0) (st .args .n) (st .pre .1) (st .args .failed) _ (l .limits-of .ensures) _ (f .find-members .ensures .0) (not-true _ (t .if1 .taken)) in
-    told (lost-missing w (st .pre .0) (st .args .failed) (st .args .messages .now) (st .pre .3) (inside st) e) (c .refused .ensures) refl
+    answer-is (lost-missing w (st .pre .0) (st .args .failed) (st .args .messages .now) (st .pre .3) (inside st) e) (c .refused .ensures) refl
 
 -- Each process has a member.
 there : (e : tie.Else1) → let st = at-limits (at-members (at-found e)) in noMember (runOf (st .args .w .now)) (st .args .failed) ≡ false
@@ -76,7 +76,7 @@ indexes-of-requires c κs =
       k .size,
       omega (arith, k .few, st .pre .1),
       some-own w (st .pre .0) n (st .pre .1),
-      most-held w (st .pre .0) n (st .pre .1),
+      most-kept-count w (st .pre .0) n (st .pre .1),
       all-used w (st .pre .0) n (st .pre .1),
       members-found w (st .pre .0) n (st .pre .1) (st .args .failed) _ (l .limits-of .ensures) _ (f .find-members .ensures .1) (there (c .before)),
     )
@@ -109,7 +109,7 @@ returns-2 c =
     let w = st .args .w .now in
     let line = indexes-are w (st .args .n) (st .args .failed) _ _ _ (st .pre .1) (l .limits-of .ensures) (f .find-members .ensures .1) (i .indexes-of .ensures) in
     let m = rw (d .end-in .ensures) at (r .write-lost .ensures) in
-    told (lost-read w (st .pre .0) (st .args .failed) (st .args .messages .now) (st .pre .3) (inside st) (there e) _ line) (rw (m .1) at (c .counted .ensures)) (m .0)
+    answer-is (lost-read w (st .pre .0) (st .args .failed) (st .args .messages .now) (st .pre .3) (inside st) (there e) _ line) (rw (m .1) at (c .counted .ensures)) (m .0)
 
 pub lost-within-spec : {M : Type 1} → statement M
 lost-within-spec =

@@ -14,7 +14,7 @@ use Rattle.words.specs.Layout.{messageIn, isMessage}
 use Rattle.line_words.specs.Sifted.{lostTo}
 use Rattle.readers.specs.Readings.{sentNumbers}
 use Rattle.readers.specs.Written.{lostBelow}
-use Rattle.readers.proofs.Three.{sent-turn}
+use Rattle.readers.proofs.Three.{sent-step}
 use Rattle.readers.proofs.Losses.{few-lost}
 use Rattle.readers.proofs.lost.write_lost.Statement.{statement}
 use Rattle.readers.proofs.lost.write_lost.Tie as tie
@@ -46,7 +46,7 @@ loop-again c =
     let b = c .before .before in
     let l = b .before .before .before .loop in
     let a = b .before .before .before .before .before .before .args in
-    let t = sent-turn (λ x. isMessage x && lostTo (a .indexes) x) (messageIn (a .w .now)) (a .out .now) (l .out) (l .k) (l .many) (l .inv .3) (l .inv .4) in
+    let t = sent-step (λ x. isMessage x && lostTo (a .indexes) x) (messageIn (a .w .now)) (a .out .now) (l .out) (l .k) (l .many) (l .inv .3) (l .inv .4) in
     let m = b .write-if-lost .ensures .1 ∙ t .1 in
     (search needs, omega (arith, m, few-lost (a .indexes) (a .w .now) (l .k + 1)), b .write-if-lost .kept .1 .1 .1 .1 .0 ∙ l .inv .2, b .write-if-lost .ensures .0 ∙ t .0, m)
 

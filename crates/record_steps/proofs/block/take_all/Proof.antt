@@ -17,7 +17,7 @@ abbrev μ-loop : tie.MeasureT-loop
 μ-loop w₀ left done block out₀ lines₀ t₀ at₀ w out lines t at = length block - at
 
 take-one-requires : tie.Need-take-one-requires Inv-loop μ-loop
-take-one-requires c κs = let i = c .before .before .before .before .before .loop .inv .0 in let p = c .before .before .before .before .before .before .before .before .before .before .pre in (omega (arith, i .size, i .out-length, i .inside, p .0, p .1, c .before .before .before .before .loop-test .taken), omega (arith, i .told, i .lines-length, i .inside, p .0, p .2, c .before .before .before .before .loop-test .taken), omega (arith, i .count, i .inside, p .3), omega (arith, i .size, i .inside, p .0))
+take-one-requires c κs = let i = c .before .before .before .before .before .loop .inv .0 in let p = c .before .before .before .before .before .before .before .before .before .before .pre in (omega (arith, i .size, i .out-length, i .inside, p .0, p .1, c .before .before .before .before .loop-test .taken), omega (arith, i .pending, i .lines-length, i .inside, p .0, p .2, c .before .before .before .before .loop-test .taken), omega (arith, i .count, i .inside, p .3), omega (arith, i .size, i .inside, p .0))
 
 loop-less : tie.Need-loop-less Inv-loop μ-loop
 loop-less c = omega (arith, c .before .before .before .before .before .before .before .before .before .before .before .before .loop .inv .0 .inside, c .before .before .before .before .before .before .before .before .before .before .before .loop-test .taken)
@@ -28,7 +28,7 @@ loop-again c = let i = c .before .before .before .before .before .before .before
     let more : c .before .before .before .before .before .before .before .before .before .before .before .before .loop .at + 4 ≤ length (c .before .before .before .before .before .before .before .before .before .before .before .before .before .before .before .before .before .args .block .now) = omega (arith, i .inside, c .before .before .before .before .before .before .before .before .before .before .before .loop-test .taken) in (
       one-more _ _ _ _ _ _ _ _ _ i more _ (event-at _ _ _ more (c .before .before .before .before .before .before .before .before .before .before .record-part .ensures)) _ _ _ _ (c .before .before .before .before .before .before .take-one .ensures)
           (omega (arith, i .size, i .out-length, i .inside, p .0, p .1, c .before .before .before .before .before .before .before .before .before .before .before .loop-test .taken))
-          (omega (arith, i .told, i .lines-length, i .inside, p .0, p .2, c .before .before .before .before .before .before .before .before .before .before .before .loop-test .taken)),
+          (omega (arith, i .pending, i .lines-length, i .inside, p .0, p .2, c .before .before .before .before .before .before .before .before .before .before .before .loop-test .taken)),
       c .before .before .before .before .before .before .take-one .kept .0 ∙ c .before .before .before .before .before .before .before .before .before .before .before .before .loop .inv .1,
     )
 

@@ -2,7 +2,7 @@
 use native.Mathlib.Omega.{arith}
 use borrow.Author.Tests.{ne-eqb}
 use Rattle.record_steps.proofs.Arriving.{rest-stops}
-use Rattle.record_steps.proofs.Leading.{led, said-then-read}
+use Rattle.record_steps.proofs.Leading.{led, reported-then-read}
 use Rattle.record_steps.specs.Lent.{stateIn}
 use borrow.Author.Needs.{needs}
 use Rattle.record_steps.proofs.going.on.Statement.{statement}
@@ -41,7 +41,7 @@ returns-4 c = rw (c .before .before .before .before .before .match .keys4) (c .b
 
 returns-5 : tie.Need-returns-5
 unfolding stateIn
-returns-5 c = rw (c .before .match .keys5) (led (said-then-read _ _ _) (c .to-read .ensures _ _ _ _))
+returns-5 c = rw (c .before .match .keys5) (led (reported-then-read _ _ _) (c .to-read .ensures _ _ _ _))
 
 returns-6 : tie.Need-returns-6
 unfolding stateIn

@@ -1,7 +1,7 @@
 -- `replay_in_place::block::replay` meets its contract. Assumes nothing.
 use mathlib.Core.Bool.{false≢true}
 use borrow.Author.Needs.{needs}
-use Rattle.replay_in_place.proofs.Turns.{block-reachable}
+use Rattle.replay_in_place.proofs.Iterations.{block-reachable}
 use Rattle.replay_in_place.proofs.block.replay.Statement.{statement}
 use Rattle.replay_in_place.proofs.block.replay.Tie as tie
 

@@ -2,7 +2,7 @@
 use mathlib.Core.Path.{sym}
 use borrow.Author.Needs.{needs}
 use Rattle.whole_runs.proofs.WholeRuns.{reachable-sound}
-use Rattle.replay_in_place.proofs.Turns.{block-reachable}
+use Rattle.replay_in_place.proofs.Iterations.{block-reachable}
 use Rattle.replay_in_place.proofs.block.replay_reached.Statement.{statement}
 use Rattle.replay_in_place.proofs.block.replay_reached.Tie as tie
 

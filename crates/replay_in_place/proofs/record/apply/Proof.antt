@@ -4,7 +4,7 @@ use borrow.Author.Needs.{needs}
 use Rattle.trace.specs.Answers.{eventRead}
 use Rattle.words.specs.Layout.{runOf}
 use Rattle.in_place.proofs.Leaving.{same-words}
-use Rattle.replay_in_place.proofs.Said.{malformed-performs, unsound-performs}
+use Rattle.replay_in_place.proofs.Summarised.{malformed-performs, unsound-performs}
 use Rattle.replay_in_place.proofs.record.apply.Statement.{statement}
 use Rattle.replay_in_place.proofs.record.apply.Tie as tie
 

@@ -5,10 +5,10 @@ use Rattle.model.specs.Sound.{sound}
 use Rattle.words.specs.Layout.{runOf}
 use Rattle.whole_runs.specs.Outcomes.{Report, recoverReport}
 use Rattle.whole_runs.proofs.WholeRuns.{reachable-sound}
-use Rattle.listing.specs.Said.{reportIn}
+use Rattle.listing.specs.Summarised.{reportIn}
 use Rattle.sound_calls.proofs.Staying.{calls-keep-sound}
 use Rattle.sound_calls.specs.Staying.{CallsKeepSound}
-use Rattle.replay_in_place.proofs.Said.{recover-performs, recover-reachable}
+use Rattle.replay_in_place.proofs.Summarised.{recover-performs, recover-reachable}
 use Rattle.replay_in_place.proofs.record.recover.Statement.{statement}
 use Rattle.replay_in_place.proofs.record.recover.Tie as tie
 

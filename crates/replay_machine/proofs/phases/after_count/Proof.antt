@@ -9,7 +9,7 @@ use Rattle.replay_machine.proofs.phases.after_count.Statement.{statemen
 use Rattle.replay_machine.proofs.phases.after_count.Tie as tie
 
 returns : tie.Need-returns
-returns c = let a = c .before .before .before .before .before .args in rw (c .plain .ensures) (plain-counted (c .before .is-number .result) (now (a .words)) (now (a .input)) (now (a .out)) (c .before .before .before .before .before .pre) ∙ ap counted (c .before .is-number .ensures (a .p .held) (now (a .input))))
+returns c = let a = c .before .before .before .before .before .args in rw (c .plain .ensures) (plain-counted (c .before .is-number .result) (now (a .words)) (now (a .input)) (now (a .out)) (c .before .before .before .before .before .pre) ∙ ap counted (c .before .is-number .ensures (a .p .buffered) (now (a .input))))
 
 pub after-count-spec : {M : Type 1} → statement M
 after-count-spec = tie.close (tie.spec (λ c κs. search needs) (λ c κs. search needs) returns)

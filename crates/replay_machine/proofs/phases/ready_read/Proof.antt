@@ -18,9 +18,9 @@ use Rattle.replay_machine.specs.declared.place.Place.{Place}
 use Rattle.replay_machine.specs.Replaying.{Between, ending, mostToRead, onward, filled}
 use Rattle.replay_machine.specs.Standing.{Lies, betweenIn, holding}
 use Rattle.replay_machine.specs.Ready.{comesTo, Lying, readState}
-use Rattle.replay_machine.proofs.Places.{Inside, inside-out, roomy-input, roomy-out, text-ending}
+use Rattle.replay_machine.proofs.Places.{Inside, inside-out, enough-input, enough-out, text-ending}
 use Rattle.replay_machine.proofs.Texts.{front-text}
-use Rattle.replay_machine.proofs.Starts.{most-same, more-held}
+use Rattle.replay_machine.proofs.Starts.{most-same, more-buffered}
 use Rattle.replay_machine.proofs.phases.ready_read.Statement.{statement}
 use Rattle.replay_machine.proofs.phases.ready_read.Tie as tie
 
@@ -43,8 +43,8 @@ module _ (s : tie.Start) where
   in-lists : Inside p (length input) (length out)
   in-lists = inside-out p (length input) (length out) (s .pre .0 .1)
 
-  few-held : p .held < 4
-  few-held = in-lists .front (λ e. omega (arith, s .pre .1)) .0
+  few-buffered : p .buffered < 4
+  few-buffered = in-lists .front (λ e. omega (arith, s .pre .1)) .0
 
   at-front : p .from ≡ 0
   at-front = in-lists .front (λ e. omega (arith, s .pre .1)) .1
@@ -54,52 +54,52 @@ module _ (c : tie.After-read) where
   abbrev start : tie.Start
   start = c .before .before .before .before .before
 
-  most-is : c .before .fill-to .result - p start .held ≡ mostToRead (length (input start)) (between start)
-  most-is = ap (λ (k : ℕ). k - p start .held) (c .before .fill-to .ensures) ∙ most-same (p start) (words start) (input start) (at-front start) (in-lists start .bytes)
+  most-is : c .before .fill-to .result - p start .buffered ≡ mostToRead (length (input start)) (between start)
+  most-is = ap (λ (k : ℕ). k - p start .buffered) (c .before .fill-to .ensures) ∙ most-same (p start) (words start) (input start) (at-front start) (in-lists start .bytes)
 
   heard-as : (form : takens.Taken) → c .read .result ≡ form
-      → heardRead (mostToRead (length (input start)) (between start)) (answerOf (start .args .answer) (p start .held) (input start)) ≡ takenOf form (p start .held) (input start)
+      → heardRead (mostToRead (length (input start)) (between start)) (answerOf (start .args .answer) (p start .buffered) (input start)) ≡ takenOf form (p start .buffered) (input start)
   heard-as form e =
-      let fits : p start .held + (c .before .fill-to .result - p start .held) ≤ length (input start) = omega (arith, c .before .fill-to .ensures, in-lists start .few, few-held start, roomy-input _ _ _ (start .pre .0 .0)) in
-      rw (← most-is) (c .read .ensures .0 (p start .held) (input start) fits ∙ ap (λ (f : takens.Taken). takenOf f (p start .held) (input start)) e)
+      let fits : p start .buffered + (c .before .fill-to .result - p start .buffered) ≤ length (input start) = omega (arith, c .before .fill-to .ensures, in-lists start .few, few-buffered start, enough-input _ _ _ (start .pre .0 .0)) in
+      rw (← most-is) (c .read .ensures .0 (p start .buffered) (input start) fits ∙ ap (λ (f : takens.Taken). takenOf f (p start .buffered) (input start)) e)
 
 sub-most : tie.Need-sub-most
 sub-most c =
     let s = c .before .before .before .before in
-    omega (arith, c .fill-to .ensures, few-held s, in-lists s .few, roomy-input _ _ _ (s .pre .0 .0))
+    omega (arith, c .fill-to .ensures, few-buffered s, in-lists s .few, enough-input _ _ _ (s .pre .0 .0))
 
 with-more-requires : tie.Need-with-more-requires
 unfolding form.Between
 with-more-requires c κs =
     let few = (rw (c .before .taken .given .1) at (c .before .before .before .read .ensures .1)) .1 in
-    (few-held (c .before .before .before .before .before .before .before .before), omega (arith, few, c .before .before .before .before .fill-to .ensures))
+    (few-buffered (c .before .before .before .before .before .before .before .before), omega (arith, few, c .before .before .before .before .fill-to .ensures))
 
 slice-aggregate-end : tie.Need-slice-aggregate-end
 slice-aggregate-end c =
     let s = c .before .before .before .before .before .before .before .before in
-    sym (length-take-le (p s .held) (input s) (in-lists s .bytes))
+    sym (length-take-le (p s .buffered) (input s) (in-lists s .bytes))
 
 end-requires : tie.Need-end-requires
 end-requires c κs =
     let s = c .before .before .before .before .before .before .before .before .before in
-    (omega (arith, length-take-le (p s .held) (input s) (in-lists s .bytes), few-held s), roomy-out _ _ _ (s .pre .0 .0))
+    (omega (arith, length-take-le (p s .buffered) (input s) (in-lists s .bytes), few-buffered s), enough-out _ _ _ (s .pre .0 .0))
 
 returns : tie.Need-returns
 unfolding form.Between holding comesTo Lying readState filled takenOf
 returns c =
     let s = c .before .before .before .before .before .before .before .before .before in
     let room = length (out s) in
-    let told = c .before .before .taken .given in
-    let more = told .0 .0 in
-    let few = (rw (told .1) at (c .before .before .before .before .read .ensures .1)) .1 in
+    let account = c .before .before .taken .given in
+    let more = account .0 .0 in
+    let few = (rw (account .1) at (c .before .before .before .before .read .ensures .1)) .1 in
     let lies : Lies (holding (p s) more) (words s) (input s) (out s) = record {
       room = s .pre .0 .0;
       few = in-lists s .few;
-      within = omega (arith, few, c .before .before .before .before .before .fill-to .ensures, few-held s, in-lists s .few, roomy-input _ _ _ (s .pre .0 .0));
+      within = omega (arith, few, c .before .before .before .before .before .fill-to .ensures, few-buffered s, in-lists s .few, enough-input _ _ _ (s .pre .0 .0));
     } in (
       ap (λ (q : Place). onward room (betweenIn q (words s) (input s))) (c .with-more .ensures)
-          ∙ ap (onward room) (more-held (p s) (words s) (input s) (at-front s) (in-lists s .bytes) more)
-          ∙ sym (ap (filled room (between s)) (heard-as (c .before .before .before .before) _ (told .1))),
+          ∙ ap (onward room) (more-buffered (p s) (words s) (input s) (at-front s) (in-lists s .bytes) more)
+          ∙ sym (ap (filled room (between s)) (heard-as (c .before .before .before .before) _ (account .1))),
       rw (c .with-more .ensures) lies,
     )
 
@@ -114,7 +114,7 @@ returns-2 c =
     let run = runOf (words s) in (
       rw (c .with-text .ensures) (text-ending (e .result) (words s) (input s) then-out (rw same (s .pre .0 .0)) (omega (arith, printed .1, same))
           ∙ ap ending (front-text (out s) _ then-out (e .result) (printed .0 (p s .all) run) (printed .1))
-          ∙ ap (λ (k : ℕ). ending (records (p s .all) (p s .count) run (take (p s .held) (drop k (input s))))) (sym (at-front s))
+          ∙ ap (λ (k : ℕ). ending (records (p s .all) (p s .count) run (take (p s .buffered) (drop k (input s))))) (sym (at-front s))
           ∙ sym (ap (filled (length (out s)) (between s)) (heard-as (c .before .before .before .before .before .before .before .before) _ (c .before .before .before .before .before .before .enum-told .given .1)))),
       tt,
     )

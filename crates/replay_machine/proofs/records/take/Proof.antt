@@ -41,8 +41,8 @@ module _ (c : tie.After-replay) where
   abbrev then-out : List ℕ
   then-out = c .replay .last .1 .1 .1 .1 .1 .0
 
-  blocked : Blocked (place .all) (place .count) words (take (place .held) (drop (place .from) input)) out made then-words then-out
-  blocked = let same : place .from + place .held - place .from ≡ place .held = omega arith in rw same at (c .replay .ensures)
+  blocked : Blocked (place .all) (place .count) words (take (place .buffered) (drop (place .from) input)) out made then-words then-out
+  blocked = let same : place .from + place .buffered - place .from ≡ place .buffered = omega arith in rw same at (c .replay .ensures)
 
 returns : tie.Need-returns
 returns c = rw (c .before .before .wait .ensures .0) (waits (place (c .before .before .before .before .before .before .before .before .before)) (words (c .before .before .before .before .before .before .before .before .before)) (input (c .before .before .before .before .before .before .before .before .before)) (out (c .before .before .before .before .before .before .before .before .before)) (c .before .before .before .before .before .before .before .before .before .before .before .before .before .before .before .before .before .before .pre .0) (made (c .before .before .before .before .before .before .before .before .before)) (then-words (c .before .before .before .before .before .before .before .before .before)) (then-out (c .before .before .before .before .before .before .before .before .before)) (blocked (c .before .before .before .before .before .before .before .before .before)) (c .before .before .before .before .before .before .before .before .before .replay .kept .0) (c .before .before .before .before .before .before .before .before .before .replay .kept .1 .1 .1 .1 .1 .0) (c .before .before .before .before .if1 .taken) _ (c .before .before .wait .ensures .1) (c .before .before .wait .kept .1 .0))

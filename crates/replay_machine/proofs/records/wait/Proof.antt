@@ -10,7 +10,7 @@ use Rattle.replay_machine.proofs.records.wait.Tie as tie
 
 returns : tie.Need-returns
 unfolding waitingPlace
-returns c = (refl, kept-front (now (c .before .before .before .before .before .args .input)) _ (c .before .before .before .before .before .args .p .from) (c .before .before .before .before .before .args .p .held) (c .before .before .before .before .before .pre) (c .before .before .keep .ensures))
+returns c = (refl, kept-front (now (c .before .before .before .before .before .args .input)) _ (c .before .before .before .before .before .args .p .from) (c .before .before .before .before .before .args .p .buffered) (c .before .before .before .before .before .pre) (c .before .before .keep .ensures))
 
 pub wait-spec : {M : Type 1} → statement M
 wait-spec = tie.close (tie.spec (λ c. search needs) (λ c κs. search needs) (λ c. search needs) returns)

@@ -11,7 +11,7 @@ use Rattle.laws.specs.Choice.{by-eq}
 use Rattle.laws.specs.Truth.{or-none}
 use Rattle.machines.specs.Machines.{stepped, heard}
 use Rattle.replay_machine.specs.Replaying.{asks, next}
-use Rattle.replay_machine.specs.Standing.{betweenIn, Led}
+use Rattle.replay_machine.specs.Standing.{betweenIn, FromStart}
 use Rattle.replay_machine.specs.Ready.{bytesState, readState, linesState}
 use Rattle.replay_machine.proofs.Places.{in-lists, is-starting, is-counted, is-opening, is-reading, is-printing, is-ending, is-failing, is-stopped, text-stopped}
 use Rattle.replay_machine.proofs.step.after.Statement.{statement}
@@ -22,7 +22,7 @@ is-four : (k : ℕ) → (eqb k 3 || eqb k 4) ≡ true → (k ≡ 3 → ⊥) → 
 is-four k e ne = eqb-true k 4 (rw (ne-eqb k 3 ne) at e)
 
 after-bytes-requires : tie.Need-after-bytes-requires
-unfolding Led betweenIn
+unfolding FromStart betweenIn
 after-bytes-requires c κs =
     let s = c .before .before .before .before .before .before .before in (
       s .pre .0,

@@ -9,7 +9,7 @@ use Rattle.machines.specs.Machines.{Read}
 use Rattle.machines.specs.Forms.{requestOf, Placed, GoesTo}
 use Rattle.replay_machine.specs.Replaying.{asks}
 use Rattle.replay_machine.specs.Standing.{Holds}
-use Rattle.replay_machine.proofs.Places.{in-lists, roomy-input, outside-stopped, is-starting, is-counted, is-opening, is-reading, is-printing, is-ending, is-failing, is-stopped}
+use Rattle.replay_machine.proofs.Places.{in-lists, enough-input, outside-stopped, is-starting, is-counted, is-opening, is-reading, is-printing, is-ending, is-failing, is-stopped}
 use Rattle.replay_machine.proofs.Starts.{most-same}
 use Rattle.replay_machine.proofs.step.request_of.Statement.{statement}
 use Rattle.replay_machine.proofs.step.request_of.Tie as tie
@@ -30,7 +30,7 @@ fill-to-requires : tie.Need-fill-to-requires
 fill-to-requires c κs = let a = c .before .before .before .before .before .before .args in omega (arith, (in-lists (a .p) (a .words .now) (a .input .now) (a .out .now) (holds (c .before))) .few)
 
 sub-t15 : tie.Need-sub-t15
-sub-t15 c = let a = c .before .before .before .before .before .before .before .args in omega (arith, c .fill-to .ensures, (in-lists (a .p) (a .words .now) (a .input .now) (a .out .now) (holds (c .before .before))) .few, (in-lists (a .p) (a .words .now) (a .input .now) (a .out .now) (holds (c .before .before))) .front (λ e. omega (arith, c .before .match .keys4)) .0, roomy-input _ _ _ (c .before .before .before .before .before .before .before .pre))
+sub-t15 c = let a = c .before .before .before .before .before .before .before .args in omega (arith, c .fill-to .ensures, (in-lists (a .p) (a .words .now) (a .input .now) (a .out .now) (holds (c .before .before))) .few, (in-lists (a .p) (a .words .now) (a .input .now) (a .out .now) (holds (c .before .before))) .front (λ e. omega (arith, c .before .match .keys4)) .0, enough-input _ _ _ (c .before .before .before .before .before .before .before .pre))
 
 returns-2 : tie.Need-returns-2
 unfolding requestOf asks Placed GoesTo
@@ -38,17 +38,17 @@ returns-2 c = let a = c .before .before .before .before .before .before .args in
 
 returns-3 : tie.Need-returns-3
 unfolding requestOf asks Placed GoesTo
-returns-3 c = let a = c .before .before .before .before .before .before .args in record { stands = rw (is-counted (a .p) (a .words .now) (a .input .now) (a .out .now) (holds (c .before)) (c .match .keys2)); inside = omega (arith, (in-lists (a .p) (a .words .now) (a .input .now) (a .out .now) (holds (c .before))) .front (λ e. omega (arith, c .match .keys2)) .0, roomy-input _ _ _ (c .before .before .before .before .before .before .pre)); there = refl }
+returns-3 c = let a = c .before .before .before .before .before .before .args in record { stands = rw (is-counted (a .p) (a .words .now) (a .input .now) (a .out .now) (holds (c .before)) (c .match .keys2)); inside = omega (arith, (in-lists (a .p) (a .words .now) (a .input .now) (a .out .now) (holds (c .before))) .front (λ e. omega (arith, c .match .keys2)) .0, enough-input _ _ _ (c .before .before .before .before .before .before .pre)); there = refl }
 
 returns-4 : tie.Need-returns-4
 unfolding requestOf asks Placed GoesTo
-returns-4 c = let a = c .before .before .before .before .before .before .args in record { stands = rw (is-opening (a .p) (a .words .now) (a .input .now) (a .out .now) (holds (c .before)) (c .match .keys3)); inside = omega (arith, (in-lists (a .p) (a .words .now) (a .input .now) (a .out .now) (holds (c .before))) .front (λ e. omega (arith, c .match .keys3)) .0, roomy-input _ _ _ (c .before .before .before .before .before .before .pre)); there = refl }
+returns-4 c = let a = c .before .before .before .before .before .before .args in record { stands = rw (is-opening (a .p) (a .words .now) (a .input .now) (a .out .now) (holds (c .before)) (c .match .keys3)); inside = omega (arith, (in-lists (a .p) (a .words .now) (a .input .now) (a .out .now) (holds (c .before))) .front (λ e. omega (arith, c .match .keys3)) .0, enough-input _ _ _ (c .before .before .before .before .before .before .pre)); there = refl }
 
 returns-5 : tie.Need-returns-5
 unfolding requestOf asks Placed GoesTo
 returns-5 c = let a = c .before .before .before .before .before .before .before .args in let front = (in-lists (a .p) (a .words .now) (a .input .now) (a .out .now) (holds (c .before .before))) .front (λ e. omega (arith, c .before .match .keys4)) in record {
-  stands = rw (is-reading (a .p) (a .words .now) (a .input .now) (a .out .now) (holds (c .before .before)) (c .before .match .keys4)) (ap (λ (k : ℕ). Read (k - a .p .held)) (c .fill-to .ensures) ∙ ap Read (most-same (a .p) (a .words .now) (a .input .now) (front .1) ((in-lists (a .p) (a .words .now) (a .input .now) (a .out .now) (holds (c .before .before))) .bytes)));
-  inside = omega (arith, c .fill-to .ensures, (in-lists (a .p) (a .words .now) (a .input .now) (a .out .now) (holds (c .before .before))) .few, front .0, roomy-input _ _ _ (c .before .before .before .before .before .before .before .pre));
+  stands = rw (is-reading (a .p) (a .words .now) (a .input .now) (a .out .now) (holds (c .before .before)) (c .before .match .keys4)) (ap (λ (k : ℕ). Read (k - a .p .buffered)) (c .fill-to .ensures) ∙ ap Read (most-same (a .p) (a .words .now) (a .input .now) (front .1) ((in-lists (a .p) (a .words .now) (a .input .now) (a .out .now) (holds (c .before .before))) .bytes)));
+  inside = omega (arith, c .fill-to .ensures, (in-lists (a .p) (a .words .now) (a .input .now) (a .out .now) (holds (c .before .before))) .few, front .0, enough-input _ _ _ (c .before .before .before .before .before .before .before .pre));
   there = refl;
 }
 

@@ -20,7 +20,7 @@ module _ (c : tie.Else3) where
   place = c .before .before .load .result
 
   holds : Holds place (start .args .words .now) (start .args .input .now) (start .args .out .now)
-  holds = (sym (c .before .before .before .before .before .is-roomy .ensures) ∙ not-false (c .before .before .before .before .before .is-roomy .result) (c .before .before .before .before .if2 .left), sym (c .before .is-inside .ensures) ∙ not-false (c .before .is-inside .result) (c .if3 .left))
+  holds = (sym (c .before .before .before .before .before .is-room-enough .ensures) ∙ not-false (c .before .before .before .before .before .is-room-enough .result) (c .before .before .before .before .if2 .left), sym (c .before .is-inside .ensures) ∙ not-false (c .before .is-inside .result) (c .if3 .left))
 
   stands : stateOf (start .args .words .now) (start .args .memory .now) (start .args .input .now) (start .args .out .now) ≡ stateIn place (start .args .words .now) (start .args .input .now) (start .args .out .now)
   stands = state-of (start .args .words .now) (start .args .memory .now) (start .args .input .now) (start .args .out .now) (c .before .before .before .before .before .before .if1 .left) place (c .before .before .load .ensures)
@@ -30,7 +30,7 @@ returns c = let a = c .before .before .before .before .before .args in let ended
     (stays (a .words .now) (a .memory .now) (a .input .now) (a .out .now) ended _ _ _, asks-stop (a .words .now) (a .memory .now) (a .input .now) (a .out .now) ended _ _)
 
 returns-2 : tie.Need-returns-2
-returns-2 c = let a = c .before .before .before .before .before .before .before .args in let ended = state-of (a .words .now) (a .memory .now) (a .input .now) (a .out .now) (c .before .before .if1 .left) _ refl ∙ narrow-stopped _ (a .words .now) (a .input .now) (a .out .now) (sym (c .before .is-roomy .ensures) ∙ not-true (c .before .is-roomy .result) (c .if2 .taken)) in
+returns-2 c = let a = c .before .before .before .before .before .before .before .args in let ended = state-of (a .words .now) (a .memory .now) (a .input .now) (a .out .now) (c .before .before .if1 .left) _ refl ∙ narrow-stopped _ (a .words .now) (a .input .now) (a .out .now) (sym (c .before .is-room-enough .ensures) ∙ not-true (c .before .is-room-enough .result) (c .if2 .taken)) in
     (stays (a .words .now) (a .memory .now) (a .input .now) (a .out .now) ended _ _ _, asks-stop (a .words .now) (a .memory .now) (a .input .now) (a .out .now) ended _ _)
 
 returns-3 : tie.Need-returns-3

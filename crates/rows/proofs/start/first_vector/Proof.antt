@@ -7,4 +7,4 @@ use Rattle.rows.proofs.start.first_vector.Tie as tie
 
 pub first-vector-spec : {M : Type 1} → statement M
 unfolding started
-first-vector-spec = tie.close (tie.spec (λ c κs. search needs) (λ c. search needs) (λ c. search needs) (λ c counts. rw (c .zero-vector .ensures)))
+first-vector-spec = tie.close (tie.spec (λ c κs. search needs) (λ c. search needs) (λ c. search needs) (λ c blockCounts. rw (c .zero-vector .ensures)))

@@ -4,7 +4,7 @@ use Prim.Native.Nat.{_≤_, _-_}
 use mathlib.Core.Path.{_≡_, _∙_}
 use native.Mathlib.Omega.{arith}
 use borrow.Author.Needs.{needs}
-use Rattle.laws.specs.Loops.{setBelow, below-none, below-all, turn-set}
+use Rattle.laws.specs.Loops.{setBelow, below-none, below-all, step-set}
 use Rattle.model.specs.Steps.{takenEntry, takenVector}
 use Rattle.rows.proofs.vector.greatest.Statement.{statement}
 use Rattle.rows.proofs.vector.greatest.Tie as tie
@@ -20,7 +20,7 @@ unfolding takenEntry
 loop-again c =
     let b = c .before .before .before .before in
     let a = b .before .args in
-    (search needs, turn-set (takenEntry (a .t1) (a .t2)) _ _ _ (b .loop .inv .1) _ (c .greater .ensures))
+    (search needs, step-set (takenEntry (a .t1) (a .t2)) _ _ _ (b .loop .inv .1) _ (c .greater .ensures))
 
 returns : tie.Need-returns Inv-loop μ-loop
 unfolding takenVector

@@ -3,7 +3,7 @@ use mathlib.Core.Bool.{_&&_}
 use mathlib.Core.Path.{_≡_, refl}
 use Prim.Native.Nat.{_≤_, _-_}
 use lib.ListN.{drop}
-use Rattle.laws.specs.Rows.{every-turn, every-end}
+use Rattle.laws.specs.Rows.{every-step, every-end}
 use Rattle.laws.specs.Tests.{every}
 use Rattle.model.specs.declared.Pin.the-variants.{Nothing}
 use Rattle.model.specs.Sound.{isNothing, nothingFrom}
@@ -20,7 +20,7 @@ abbrev μ-loop : tie.MeasureT-loop
 loop-again : tie.Need-loop-again Inv-loop μ-loop
 loop-again c =
     let b = c .before .before .before in
-    (search needs, rw (c .is-nothing .ensures) (every-turn isNothing (b .before .args .t1) (b .loop .f) Nothing (search needs) (b .loop .all) _ (b .loop .inv .1)))
+    (search needs, rw (c .is-nothing .ensures) (every-step isNothing (b .before .args .t1) (b .loop .f) Nothing (search needs) (b .loop .all) _ (b .loop .inv .1)))
 
 returns : tie.Need-returns Inv-loop μ-loop
 unfolding nothingFrom

@@ -5,7 +5,7 @@ use native.Mathlib.Omega.{arith}
 use lib.Dec.{eqb}
 use Rattle.laws.specs.Search.{allBelow}
 use Rattle.model.specs.Words.{entry}
-use Rattle.sound_rows.proofs.Ors.{or-turn}
+use Rattle.sound_rows.proofs.Ors.{or-step}
 use Rattle.run_words.proofs.Tests.{zero-all}
 use borrow.Author.Needs.{needs}
 use Rattle.run_words.proofs.fill.is_zero.Statement.{statement}
@@ -20,7 +20,7 @@ abbrev μ-loop : tie.MeasureT-loop
 loop-again : tie.Need-loop-again Inv-loop μ-loop
 loop-again c =
     let b = c .before .before .before in
-    (search needs, or-turn (λ q. eqb (entry (b .before .args .t1) q .0) 0) (b .loop .f) (b .loop .any) (entry (b .before .args .t1) (b .loop .f) .0) (b .loop .inv .1) refl)
+    (search needs, or-step (λ q. eqb (entry (b .before .args .t1) q .0) 0) (b .loop .f) (b .loop .any) (entry (b .before .args .t1) (b .loop .f) .0) (b .loop .inv .1) refl)
 
 returns : tie.Need-returns Inv-loop μ-loop
 returns c =

@@ -16,13 +16,13 @@ use Rattle.run_words.proofs.fill.put_kept.Statement.{statement}
 use Rattle.run_words.proofs.fill.put_kept.Tie as tie
 
 abbrev Inv-loop : tie.InvT-loop
-Inv-loop w₀ kept held all₀ q₀ w all q =
+Inv-loop w₀ kept keptCount all₀ q₀ w all q =
     (q ≤ 256) × (length w ≡ length w₀)
-    × (all ≡ allBelow q (λ j. placeFits (j % 16) (getD held (j / 16) 0) (getD (getD kept (j / 16) []) 0 pastEnd .blocks) (getD (getD kept (j / 16) []) (j % 16) pastEnd)))
-    × (w ≡ iter q (keptFilled kept held) w₀)
+    × (all ≡ allBelow q (λ j. placeFits (j % 16) (getD keptCount (j / 16) 0) (getD (getD kept (j / 16) []) 0 pastEnd .blocks) (getD (getD kept (j / 16) []) (j % 16) pastEnd)))
+    × (w ≡ iter q (keptFilled kept keptCount) w₀)
 
 abbrev μ-loop : tie.MeasureT-loop
-μ-loop w₀ kept held all₀ q₀ w all q = 256 - q
+μ-loop w₀ kept keptCount all₀ q₀ w all q = 256 - q
 
 slice-write-w : tie.Need-slice-write-w Inv-loop μ-loop
 slice-write-w c = let x = c .before .before .before in omega (arith, x .loop .inv .1, x .before .before .pre)

@@ -8,7 +8,7 @@ use Rattle.laws.specs.Loops.{all-zero}
 use Rattle.laws.specs.Search.{allBelow}
 use Rattle.model.specs.declared.Pin.the-variants.{Nothing}
 use Rattle.words.specs.Puts.{putFrom}
-use Rattle.words.proofs.Reading.{put-none, put-turn}
+use Rattle.words.proofs.Reading.{put-none, put-step}
 use Rattle.run_words.specs.Fits.{pinFits}
 use Rattle.run_words.specs.Filled.{pinWord}
 use borrow.Author.Needs.{needs}
@@ -30,7 +30,7 @@ loop-again c =
       search needs,
       simp length-set (l .inv .1),
       all-and (λ q. pinFits (getD (a .t3) q Nothing)) (l .f) (l .all) _ (l .inv .2) (c .is-pin-fit .ensures),
-      put-turn (a .w .now) (a .at) (λ q. pinWord (getD (a .t3) q Nothing)) (l .f) (l .w) _ (l .inv .3) (x .word-of-pin .ensures),
+      put-step (a .w .now) (a .at) (λ q. pinWord (getD (a .t3) q Nothing)) (l .f) (l .w) _ (l .inv .3) (x .word-of-pin .ensures),
     )
 
 returns : tie.Need-returns Inv-loop μ-loop

@@ -8,7 +8,7 @@ returns : tie.Need-returns
 returns c =
     let i = c .before in
     let a = i .before .before .before .args in
-    place-refused (a .p) (a .k) (a .held) (a .blocks) (a .c) (a .w .now) (i .before .if1 .taken) (denied _ (i .is-index-fit .ensures) (c .if2 .taken))
+    place-refused (a .p) (a .k) (a .kept-count) (a .blocks) (a .c) (a .w .now) (i .before .if1 .taken) (denied _ (i .is-index-fit .ensures) (c .if2 .taken))
 
 put-checkpoint-requires : tie.Need-put-checkpoint-requires
 put-checkpoint-requires c κs =
@@ -22,12 +22,12 @@ returns-2 c =
     let e = t .before .before in
     let i = e .before in
     let a = i .before .before .before .args in
-    place-put (a .p) (a .k) (a .held) (a .blocks) (a .c) (a .w .now) _ (i .before .if1 .taken) (granted _ (i .is-index-fit .ensures) (e .if2 .left)) (t .put-checkpoint .ensures)
+    place-put (a .p) (a .k) (a .kept-count) (a .blocks) (a .c) (a .w .now) _ (i .before .if1 .taken) (granted _ (i .is-index-fit .ensures) (e .if2 .left)) (t .put-checkpoint .ensures)
 
 returns-3 : tie.Need-returns-3
 returns-3 c =
     let a = c .before .before .before .args in
-    place-unused (a .p) (a .k) (a .held) (a .blocks) (a .c) (a .w .now) _ (c .before .if1 .left) (c .is-unused .ensures)
+    place-unused (a .p) (a .k) (a .kept-count) (a .blocks) (a .c) (a .w .now) _ (c .before .if1 .left) (c .is-unused .ensures)
 
 pub put-place-spec : {M : Type 1} → statement M
 put-place-spec =

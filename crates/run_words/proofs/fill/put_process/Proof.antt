@@ -18,7 +18,7 @@ returns c =
     let u = c .before .before .before in
     let v = u .before .before .before .before in
     let a = v .before .before .before .args in
-    (u .put-pins .ensures .0, process-put (a .w .now) _ _ (a .p) (a .vector) (a .pins) (a .held) (a .mark) _ (v .put-vector .ensures) (u .put-pins .ensures .1) (c .mark-word .ensures))
+    (u .put-pins .ensures .0, process-put (a .w .now) _ _ (a .p) (a .vector) (a .pins) (a .kept-count) (a .mark) _ (v .put-vector .ensures) (u .put-pins .ensures .1) (c .mark-word .ensures))
 
 pub put-process-spec : {M : Type 1} → statement M
 put-process-spec =

@@ -15,13 +15,13 @@ use Rattle.run_words.proofs.fill.put_rows.Statement.{statement}
 use Rattle.run_words.proofs.fill.put_rows.Tie as tie
 
 abbrev Inv-loop : tie.InvT-loop
-Inv-loop w₀ n vectors pins held sent all₀ p₀ w all p =
+Inv-loop w₀ n vectors pins keptCount sent all₀ p₀ w all p =
     (p ≤ 16) × (length w ≡ length w₀)
-    × (all ≡ allBelow p (λ q. rowFits q n (getD vectors q []) (getD pins q []) (getD held q 0) (getD sent q false)))
-    × (w ≡ iter p (rowsFilled n vectors pins held sent) w₀)
+    × (all ≡ allBelow p (λ q. rowFits q n (getD vectors q []) (getD pins q []) (getD keptCount q 0) (getD sent q false)))
+    × (w ≡ iter p (rowsFilled n vectors pins keptCount sent) w₀)
 
 abbrev μ-loop : tie.MeasureT-loop
-μ-loop w₀ n vectors pins held sent all₀ p₀ w all p = 16 - p
+μ-loop w₀ n vectors pins keptCount sent all₀ p₀ w all p = 16 - p
 
 put-row-requires : tie.Need-put-row-requires Inv-loop μ-loop
 put-row-requires c κs = let x = c .before .before .before .before in (x .loop .inv .1 ∙ x .before .before .pre, search needs)

@@ -2,7 +2,7 @@
 use Prim.Native.Nat.{_≤_, _-_}
 use mathlib.Core.Path.{_≡_, refl, _∙_}
 use native.Mathlib.Omega.{arith}
-use Rattle.laws.specs.Loops.{setBelow, below-none, turn-set}
+use Rattle.laws.specs.Loops.{setBelow, below-none, step-set}
 use Rattle.words.specs.Layout.{markIn}
 use mathlib.Core.Bool.{false}
 use Rattle.run_words.proofs.Tables.{rows-of}
@@ -21,7 +21,7 @@ unfolding markIn
 loop-again c =
     let l = c .before .before .loop in
     let a = c .before .before .before .args in
-    (search needs, turn-set (markIn (a .w .now)) _ (l .sent) (l .p) (l .inv .1) _ refl)
+    (search needs, step-set (markIn (a .w .now)) _ (l .sent) (l .p) (l .inv .1) _ refl)
 
 returns : tie.Need-returns Inv-loop μ-loop
 returns c =

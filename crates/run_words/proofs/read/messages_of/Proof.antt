@@ -9,13 +9,13 @@ use Rattle.laws.specs.Prefixes.{placed-none}
 use Rattle.model.specs.declared.Message.{Message}
 use Rattle.model.specs.Words.{noMessage}
 use Rattle.words.specs.Layout.{endOf, messagesIn}
-use Rattle.run_words.proofs.Tables.{mail, mail-yes, mail-no}
+use Rattle.run_words.proofs.Tables.{firstMessages, first-messages-used, first-messages-unused}
 use borrow.Author.Needs.{needs}
 use Rattle.run_words.proofs.read.messages_of.Statement.{statement}
 use Rattle.run_words.proofs.read.messages_of.Tie as tie
 
 abbrev Inv-loop : tie.InvT-loop
-Inv-loop w end messages₀ many₀ k₀ messages many k = (k ≤ end) × (many ≤ k) × (many ≡ length (mail w k)) × (messages ≡ placed 64 noMessage (mail w k))
+Inv-loop w end messages₀ many₀ k₀ messages many k = (k ≤ end) × (many ≤ k) × (many ≡ length (firstMessages w k)) × (messages ≡ placed 64 noMessage (firstMessages w k))
 
 abbrev μ-loop : tie.MeasureT-loop
 μ-loop w end messages₀ many₀ k₀ messages many k = end - k
@@ -32,10 +32,10 @@ loop-again c =
     let a = b .before .before .before .args in
     either (c .if1 .came)
     (λ t.
-    let n = mail-yes (a .w .now) (l .k) (l .many) (l .messages) _ (search needs) (m .message-at .ensures) (l .inv .2) (l .inv .3) (t .0 .taken) in
+    let n = first-messages-used (a .w .now) (l .k) (l .many) (l .messages) _ (search needs) (m .message-at .ensures) (l .inv .2) (l .inv .3) (t .0 .taken) in
     (search needs, omega (arith, t .2), t .2 ∙ n .0, t .1 ∙ n .1))
     (λ t.
-    let n = mail-no (a .w .now) (l .k) (l .many) (l .messages) _ (search needs) (m .message-at .ensures) (l .inv .2) (l .inv .3) (t .0 .left) in
+    let n = first-messages-unused (a .w .now) (l .k) (l .many) (l .messages) _ (search needs) (m .message-at .ensures) (l .inv .2) (l .inv .3) (t .0 .left) in
     (search needs, omega (arith, t .2), t .2 ∙ n .0, t .1 ∙ n .1))
 
 returns : tie.Need-returns Inv-loop μ-loop

@@ -2,7 +2,7 @@
 use Prim.Native.Nat.{_≤_, _-_, _+_}
 use mathlib.Core.Path.{_≡_, refl, _∙_}
 use native.Mathlib.Omega.{arith}
-use Rattle.laws.specs.Loops.{setBelow, below-none, turn-set, below-all}
+use Rattle.laws.specs.Loops.{setBelow, below-none, step-set, below-all}
 use Rattle.words.specs.Layout.{word, pinOf, pinsIn}
 use borrow.Author.Needs.{needs}
 use Rattle.run_words.proofs.read.pins_at.Statement.{statement}
@@ -18,7 +18,7 @@ loop-again : tie.Need-loop-again Inv-loop μ-loop
 loop-again c =
     let l = c .before .before .before .loop in
     let a = c .before .before .before .before .before .args in
-    (search needs, turn-set (λ q. pinOf (word (a .w .now) (a .at + q))) _ (l .pins) (l .f) (l .inv .1) _ (c .pin-of .ensures))
+    (search needs, step-set (λ q. pinOf (word (a .w .now) (a .at + q))) _ (l .pins) (l .f) (l .inv .1) _ (c .pin-of .ensures))
 
 returns : tie.Need-returns Inv-loop μ-loop
 unfolding pinsIn

@@ -4,7 +4,7 @@ use mathlib.Core.Path.{_≡_, ap, _∙_}
 use mathlib.Core.List.{List}
 use native.Mathlib.Omega.{arith}
 use lib.ListN.{replicate}
-use Rattle.laws.specs.Loops.{setBelow, below-none, turn-set}
+use Rattle.laws.specs.Loops.{setBelow, below-none, step-set}
 use Rattle.words.specs.Layout.{pinsAt, pinsIn}
 use Rattle.model.specs.declared.Pin.{Pin}
 use Rattle.model.specs.Words.{noPins}
@@ -23,7 +23,7 @@ loop-again : tie.Need-loop-again Inv-loop μ-loop
 loop-again c =
     let l = c .before .before .loop in
     let a = c .before .before .before .before .before .args in
-    (search needs, turn-set (λ q. pinsIn (a .w .now) (pinsAt q)) _ (l .pins) (l .p) (l .inv .1) _ (c .pins-at .ensures))
+    (search needs, step-set (λ q. pinsIn (a .w .now) (pinsAt q)) _ (l .pins) (l .p) (l .inv .1) _ (c .pins-at .ensures))
 
 returns : tie.Need-returns Inv-loop μ-loop
 returns c =

@@ -11,16 +11,16 @@ use Rattle.model.specs.declared.Checkpoint.{Checkpoint}
 use Rattle.words.specs.Layout.{countOf}
 use Rattle.words.proofs.View.{fits-size, fits-end, end-most}
 use Rattle.run_words.proofs.ReadOut.{read-ends}
-use Rattle.run_words.proofs.Tables.{soFar, unused-rows, so-far-turn, so-far-keep, so-far-all, kept-some}
+use Rattle.run_words.proofs.Tables.{soFar, unused-rows, so-far-step, so-far-keep, so-far-all, kept-some}
 use borrow.Author.Needs.{needs}
 use Rattle.run_words.proofs.read.read.Statement.{statement}
 use Rattle.run_words.proofs.read.read.Tie as tie
 
 abbrev Inv-loop : tie.InvT-loop
-Inv-loop w n vectors pins sent held end messages disk last underway table₀ q₀ q-end table q = (q ≤ q-end) × (n ≤ 16) × (table ≡ soFar w q)
+Inv-loop w n vectors pins sent keptCount end messages disk last underway table₀ q₀ q-end table q = (q ≤ q-end) × (n ≤ 16) × (table ≡ soFar w q)
 
 abbrev μ-loop : tie.MeasureT-loop
-μ-loop w n vectors pins sent held end messages disk last underway table₀ q₀ q-end table q = q-end - q
+μ-loop w n vectors pins sent keptCount end messages disk last underway table₀ q₀ q-end table q = q-end - q
 
 -- How many words there are.
 sized : (c : tie.Start Inv-loop μ-loop) → length (c .args .w .now) ≡ 6464
@@ -32,7 +32,7 @@ asked : (c : tie.After-number-of Inv-loop μ-loop)
 asked c = let s = c .before .before .before in (sized s, c .number-of .ensures, omega (arith, c .number-of .ensures, s .pre .few))
 
 -- The place where the count was read, from later ones.
-abbrev count : tie.After-held-of Inv-loop μ-loop → tie.After-number-of Inv-loop μ-loop
+abbrev count : tie.After-kept-count-of Inv-loop μ-loop → tie.After-number-of Inv-loop μ-loop
 count c = c .before .before .before .before .before .before
 
 abbrev counted : tie.After-no-checkpoint Inv-loop μ-loop → tie.After-number-of Inv-loop μ-loop
@@ -72,7 +72,7 @@ loop-again c =
     let l = b .loop in
     let w = counted (b .before) .before .before .before .args .w .now in
     either (c .if1 .came)
-    (λ t. (search needs, l .inv .1, t .2 ∙ so-far-turn w (l .q) (search needs) (l .table) _ (l .inv .2) (t .1 .ensures) (sym (k .is-kept .ensures) ∙ t .0 .taken)))
+    (λ t. (search needs, l .inv .1, t .2 ∙ so-far-step w (l .q) (search needs) (l .table) _ (l .inv .2) (t .1 .ensures) (sym (k .is-kept .ensures) ∙ t .0 .taken)))
     (λ t. (search needs, l .inv .1, t .1 ∙ l .inv .2 ∙ so-far-keep w (l .q) (search needs) (sym (k .is-kept .ensures) ∙ t .0 .left)))
 
 returns : tie.Need-returns Inv-loop μ-loop
@@ -81,9 +81,9 @@ returns c =
     let ten = c .before .before .before .before in
     let two = ten .before .before in
     let disk = two .before in
-    let mail = disk .before in
-    let held = mail .before .before .before in
-    let marks = held .before in
+    let firstMessages = disk .before in
+    let keptCount = firstMessages .before .before .before in
+    let marks = keptCount .before in
     let pins = marks .before in
     let vectors = pins .before .before in
     let n = vectors .before .before in
@@ -94,8 +94,8 @@ returns c =
     (pins .pins-from .ensures ∙ ap (λ (r : List (List Pin)). record { 0 = r }) (pins .before .pins-of .ensures))
     (marks .marks-of .ensures)
     (c .kept-from .ensures ∙ ap (λ (r : List (List Checkpoint)). record { 0 = r }) (rw e at (l .inv .2) ∙ so-far-all (s .args .w .now) (n .number-of .result) (n .number-of .ensures) (l .inv .1)))
-    (held .held-of .ensures)
-    (mail .messages-of .ensures)
+    (keptCount .kept-count-of .ensures)
+    (firstMessages .messages-of .ensures)
     (two .wide2 .ensures)
     (disk .disk-of .ensures)
     (n .number-of .ensures)

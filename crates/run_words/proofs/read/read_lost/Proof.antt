@@ -23,9 +23,9 @@ underway-read c = let e = sized (c .before .before .before .before .before) in o
 returns : tie.Need-returns
 returns c =
     let many = c .before .before .before .before .before .before in
-    let mail = many .before .before in
-    let s = mail .before .before .before .before in
-    lost-ends (s .args .w .now) (s .args .s) (s .pre .0) (s .pre .1) _ _ (mail .messages-of .ensures) (many .number-of2 .ensures)
+    let firstMessages = many .before .before in
+    let s = firstMessages .before .before .before .before in
+    lost-ends (s .args .w .now) (s .args .s) (s .pre .0) (s .pre .1) _ _ (firstMessages .messages-of .ensures) (many .number-of2 .ensures)
 
 pub read-lost-spec : {M : Type 1} → statement M
 read-lost-spec =

@@ -33,10 +33,10 @@ returns : tie.Need-returns
 returns c =
     let many = c .before .before .before .before .before in
     let two = many .before .before in
-    let mail = two .before in
-    let marks = mail .before .before .before in
+    let firstMessages = two .before in
+    let marks = firstMessages .before .before .before in
     let s = marks .before .before in
-    sent-ends (s .args .w .now) (s .args .s) (s .pre .0) (s .pre .1) _ _ _ _ (marks .marks-of .ensures) (mail .messages-of .ensures) (two .wide2 .ensures) (many .number-of2 .ensures)
+    sent-ends (s .args .w .now) (s .args .s) (s .pre .0) (s .pre .1) _ _ _ _ (marks .marks-of .ensures) (firstMessages .messages-of .ensures) (two .wide2 .ensures) (many .number-of2 .ensures)
 
 pub read-sent-spec : {M : Type 1} → statement M
 read-sent-spec =

@@ -4,7 +4,7 @@ use mathlib.Core.Path.{_≡_, ap, _∙_}
 use mathlib.Core.List.{List}
 use native.Mathlib.Omega.{arith}
 use lib.ListN.{replicate}
-use Rattle.laws.specs.Loops.{setBelow, below-none, turn-set}
+use Rattle.laws.specs.Loops.{setBelow, below-none, step-set}
 use Rattle.words.specs.Layout.{partAt, vectorIn}
 use Rattle.model.specs.declared.Interval.{Interval}
 use Rattle.model.specs.Words.{zeroVector}
@@ -23,7 +23,7 @@ loop-again : tie.Need-loop-again Inv-loop μ-loop
 loop-again c =
     let l = c .before .before .loop in
     let a = c .before .before .before .before .before .args in
-    (search needs, turn-set (λ q. vectorIn (a .w .now) (partAt q)) _ (l .vectors) (l .p) (l .inv .1) _ (c .vector-at .ensures))
+    (search needs, step-set (λ q. vectorIn (a .w .now) (partAt q)) _ (l .vectors) (l .p) (l .inv .1) _ (c .vector-at .ensures))
 
 returns : tie.Need-returns Inv-loop μ-loop
 returns c =

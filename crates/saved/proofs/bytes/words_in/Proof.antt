@@ -4,7 +4,7 @@ use mathlib.Core.Path.{_≡_, _∙_}
 use native.Mathlib.Omega.{arith}
 use lib.ListN.{length-replicate}
 use borrow.Author.Needs.{needs}
-use Rattle.laws.specs.Loops.{setBelow, below-none, turn-set, below-all}
+use Rattle.laws.specs.Loops.{setBelow, below-none, step-set, below-all}
 use Rattle.saved.specs.Format.{wordIn, wordsIn}
 use Rattle.saved.proofs.bytes.words_in.Statement.{statement}
 use Rattle.saved.proofs.bytes.words_in.Tie as tie
@@ -18,7 +18,7 @@ abbrev μ-loop : tie.MeasureT-loop
 loop-again : tie.Need-loop-again Inv-loop μ-loop
 loop-again c =
     let l = c .before .before .loop in
-    (search needs, turn-set (wordIn (c .before .before .before .before .args .bytes .now)) _ (l .w) (l .k) (l .inv .1) _ (c .word-in .ensures))
+    (search needs, step-set (wordIn (c .before .before .before .before .args .bytes .now)) _ (l .w) (l .k) (l .inv .1) _ (c .word-in .ensures))
 
 returns : tie.Need-returns Inv-loop μ-loop
 unfolding wordsIn

@@ -7,7 +7,7 @@ use lib.ListN.{length, getD, length-set}
 use lib.Seq.{sets}
 use borrow.Author.Needs.{needs}
 use Rattle.laws.specs.Below.{below-written}
-use Rattle.laws.specs.Loops.{setBelow, below-none, turn-set}
+use Rattle.laws.specs.Loops.{setBelow, below-none, step-set}
 use Rattle.saved.specs.Format.{heading}
 use Rattle.saved.proofs.Parts.{heading-table}
 use Rattle.saved.proofs.bytes.write_heading.Statement.{statement}
@@ -23,7 +23,7 @@ loop-again : tie.Need-loop-again Inv-loop μ-loop
 loop-again c =
     let l = c .before .loop in
     let a = c .before .before .before .before .args in
-    (search needs, l .inv .1, simp length-set (l .inv .2), turn-set (λ q. getD heading q 0) (a .bytes .now) (l .bytes) (l .k) (l .inv .3) _ (ap (λ (h : List ℕ). getD h (l .k) 0) (l .inv .1)))
+    (search needs, l .inv .1, simp length-set (l .inv .2), step-set (λ q. getD heading q 0) (a .bytes .now) (l .bytes) (l .k) (l .inv .3) _ (ap (λ (h : List ℕ). getD h (l .k) 0) (l .inv .1)))
 
 returns : tie.Need-returns Inv-loop μ-loop
 returns c =

@@ -29,9 +29,9 @@ returns-2 c =
     let place = c .before .before .before .before .before .hyphen-in in
     let from = c .before .before .before .number-in in
     let to = c .number-in2 in
-    let behind = place .result + 1 in
+    let next = place .result + 1 in
     two-spacings word (place .result) (from .result) (to .result) (place .ensures .0) (c .before .before .if1 .left) (from .ensures)
-    (to .ensures ∙ ap numberIn (take-all (length word - behind) (drop behind word) (omega (arith, length-drop behind word))))
+    (to .ensures ∙ ap numberIn (take-all (length word - next) (drop next word) (omega (arith, length-drop next word))))
 
 pub spacings-in-spec : {M : Type 1} → statement M
 spacings-in-spec =

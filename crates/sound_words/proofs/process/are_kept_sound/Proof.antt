@@ -8,13 +8,13 @@ use Rattle.sound_words.proofs.process.are_kept_sound.Statement.{stateme
 use Rattle.sound_words.proofs.process.are_kept_sound.Tie as tie
 
 abbrev Inv-loop : tie.InvT-loop
-Inv-loop w p held owns pins-at pins unmet₀ off₀ before₀ k₀ unmet off before k = Walked w p held off₀ k before off unmet
+Inv-loop w p keptCount owns pins-at pins unmet₀ off₀ before₀ k₀ unmet off before k = Walked w p keptCount off₀ k before off unmet
 
 abbrev μ-loop : tie.MeasureT-loop
-μ-loop w p held owns pins-at pins unmet₀ off₀ before₀ k₀ unmet off before k = held - k
+μ-loop w p keptCount owns pins-at pins unmet₀ off₀ before₀ k₀ unmet off before k = keptCount - k
 
 loop-holds : tie.Need-loop-holds Inv-loop μ-loop
-loop-holds c = let q = c .before in let a = q .before .before .args in none-walked (a .w .now) (a .p) (a .held) (a .first) _ (rw (q .pins-at .ensures) at (c .row-at .ensures))
+loop-holds c = let q = c .before in let a = q .before .before .args in none-walked (a .w .now) (a .p) (a .kept-count) (a .first) _ (rw (q .pins-at .ensures) at (c .row-at .ensures))
 
 is-kept-sound-requires : tie.Need-is-kept-sound-requires Inv-loop μ-loop
 is-kept-sound-requires c κs = let i = c .before in
@@ -29,7 +29,7 @@ returns : tie.Need-returns Inv-loop μ-loop
 returns c = let m = c .before in
     let l = m .before .before .before .before in
     let a = l .before .before .before .before .args in
-    walk-stops (a .w .now) (a .p) (a .held) (a .first) (l .loop .k) (m .before .before .before .loop-test .taken) (m .is-kept-sound .result) (m .is-kept-sound .ensures) (c .if1 .taken)
+    walk-stops (a .w .now) (a .p) (a .kept-count) (a .first) (l .loop .k) (m .before .before .before .loop-test .taken) (m .is-kept-sound .result) (m .is-kept-sound .ensures) (c .if1 .taken)
 
 loop-again : tie.Need-loop-again Inv-loop μ-loop
 loop-again c = let v = c .before in
@@ -43,7 +43,7 @@ loop-again c = let v = c .before in
     let q = r .before in
     let s = q .before .before in
     let a = s .args in
-    one-walked (a .w .now) (a .p) (a .held) (a .first) (l .loop .k) (l .loop .before) _ _ (l .loop .off) _ (l .loop .unmet) _ (v .vector-at .result) (a .owns) (l .loop .inv) (i .before .loop-test .taken)
+    one-walked (a .w .now) (a .p) (a .kept-count) (a .first) (l .loop .k) (l .loop .before) _ _ (l .loop .off) _ (l .loop .unmet) _ (v .vector-at .result) (a .owns) (l .loop .inv) (i .before .loop-test .taken)
     (rw (q .pins-at .ensures) at (r .row-at .ensures)) (ap (λ (j : ℕ). word (a .w .now) j) (i .index-at .ensures)) (m .is-kept-sound .result) (m .is-kept-sound .ensures) (e .if1 .left) (o .without .ensures)
     (rw (t .stored-at .ensures) at (v .vector-at .ensures)) (s .pre .3) (c .over-by .ensures)
 
@@ -54,7 +54,7 @@ returns-2 c = let t = c .before in
     let l = al .before in
     let s = l .before .before .before .before in
     let a = s .args in
-    walk-misses (a .w .now) (a .p) (a .held) (a .first) (l .loop .k) (l .loop .before) (t .last-word .result) (l .loop .off) (l .loop .unmet) (l .loop .inv) (al .loop-test .left)
+    walk-misses (a .w .now) (a .p) (a .kept-count) (a .first) (l .loop .k) (l .loop .before) (t .last-word .result) (l .loop .off) (l .loop .unmet) (l .loop .inv) (al .loop-test .left)
     (last-is (a .w .now) (a .p) (pa .part-at .result) (t .last-word .result) (pa .part-at .ensures) (t .last-word .ensures) (s .pre .4)) (c .if2 .taken)
 
 returns-3 : tie.Need-returns-3 Inv-loop μ-loop
@@ -65,7 +65,7 @@ returns-3 c = let e = c .before in
     let l = al .before in
     let s = l .before .before .before .before in
     let a = s .args in
-    walk-ends (a .w .now) (a .p) (a .held) (a .first) (l .loop .k) (l .loop .before) (t .last-word .result) (l .loop .off) (l .loop .unmet) (l .loop .inv) (al .loop-test .left)
+    walk-ends (a .w .now) (a .p) (a .kept-count) (a .first) (l .loop .k) (l .loop .before) (t .last-word .result) (l .loop .off) (l .loop .unmet) (l .loop .inv) (al .loop-test .left)
     (last-is (a .w .now) (a .p) (pa .part-at .result) (t .last-word .result) (pa .part-at .ensures) (t .last-word .ensures) (s .pre .4)) (e .if2 .left) (c .are-zero .result) (c .are-zero .ensures)
 
 pub are-kept-sound-spec : {M : Type 1} → statement M

@@ -13,8 +13,8 @@ returns c = let pa = c .before in
     let ha = n .before .before in
     let s = ha .before .before in
     let a = s .args in
-    numbers-are (a .w .now) (a .p) (a .n) (n .number-of .result) (ha .held-at .result) (ba .blocks-at .result) (oa .part-at .result) (l .last-word .result) (pa .pins-at .result)
-    (ha .held-at .ensures) (n .number-of .ensures) (ba .blocks-at .ensures) (oa .part-at .ensures) (l .last-word .ensures) (pa .pins-at .ensures) (s .pre .1)
+    numbers-are (a .w .now) (a .p) (a .n) (n .number-of .result) (ha .kept-count-at .result) (ba .blocks-at .result) (oa .part-at .result) (l .last-word .result) (pa .pins-at .result)
+    (ha .kept-count-at .ensures) (n .number-of .ensures) (ba .blocks-at .ensures) (oa .part-at .ensures) (l .last-word .ensures) (pa .pins-at .ensures) (s .pre .1)
 
 pub are-numbers-sound-spec : {M : Type 1} → statement M
 are-numbers-sound-spec =

@@ -1,7 +1,7 @@
 -- `sound_words::process::is_kept_sound` meets its contract. Assumes nothing.
 use borrow.Author.Needs.{needs}
 use mathlib.Core.Path.{_∙_}
-use Rattle.sound_words.proofs.Judging.{named-row, kept-unnumbered, kept-whole}
+use Rattle.sound_words.proofs.Judging.{pinned-row, kept-unnumbered, kept-whole}
 use Rattle.sound_words.proofs.process.is_kept_sound.Statement.{statement}
 use Rattle.sound_words.proofs.process.is_kept_sound.Tie as tie
 
@@ -17,7 +17,7 @@ returns-2 c = let e = c .before in
     let s = n .before .before in
     let a = s .args in
     kept-whole (a .w .now) (a .p) (a .k) (a .x) (a .before) (s .pre .3) (s .pre .4) (n .is-kept-numbered .result) (n .is-kept-numbered .ensures) (e .if1 .left)
-    (c .is-among .result) (c .is-among .ensures ∙ named-row (a .w .now) (a .p) (a .x) (a .pins) (s .pre .5))
+    (c .is-among .result) (c .is-among .ensures ∙ pinned-row (a .w .now) (a .p) (a .x) (a .pins) (s .pre .5))
 
 pub is-kept-sound-spec : {M : Type 1} → statement M
 is-kept-sound-spec =

@@ -3,7 +3,7 @@ use borrow.Author.Needs.{needs}
 use Prim.Native.Nat.{ℕ, _-_}
 use native.Mathlib.Omega.{arith}
 use mathlib.Core.Path.{_≡_, _∙_, ap}
-use Rattle.words.specs.Layout.{word, heldAt}
+use Rattle.words.specs.Layout.{word, keptCountAt}
 use Rattle.sound_words.proofs.Judging.{numbers-fail, process-whole, numbers-few, numbers-own}
 use Rattle.sound_words.proofs.process.is_sound.Statement.{statement}
 use Rattle.sound_words.proofs.process.is_sound.Tie as tie
@@ -22,7 +22,7 @@ are-kept-sound-requires c κs = let ha = c .before .before in
     let m = r .before .before in
     let s = m .before .before in
     let a = s .args in
-    let held : c .number-of .result ≡ word (a .w .now) (heldAt (a .p)) = c .number-of .ensures ∙ ap (λ (j : ℕ). word (a .w .now) j) (ha .held-at .ensures) in (
+    let keptCount : c .number-of .result ≡ word (a .w .now) (keptCountAt (a .p)) = c .number-of .ensures ∙ ap (λ (j : ℕ). word (a .w .now) j) (ha .kept-count-at .ensures) in (
       s .pre .0 .sized,
       search needs,
       omega (arith, numbers-few (a .w .now) (a .p) (a .n) (m .are-numbers-sound .result) (m .are-numbers-sound .ensures) (r .before .if1 .left) (s .pre .0 .counted) (s .pre .0 .few)),
@@ -37,7 +37,7 @@ returns-2 c = let n = c .before in
     let m = r .before .before in
     let a = m .before .before .args in
     process-whole (a .w .now) (a .p) (m .are-numbers-sound .result) (m .are-numbers-sound .ensures) (r .before .if1 .left) (r .rows-off .result) (r .rows-off .ensures) (n .number-of .result)
-    (n .number-of .ensures ∙ ap (λ (j : ℕ). word (a .w .now) j) (ha .held-at .ensures)) (c .are-kept-sound .result) (c .are-kept-sound .ensures)
+    (n .number-of .ensures ∙ ap (λ (j : ℕ). word (a .w .now) j) (ha .kept-count-at .ensures)) (c .are-kept-sound .result) (c .are-kept-sound .ensures)
 
 pub is-sound-spec : {M : Type 1} → statement M
 is-sound-spec =

@@ -5,7 +5,7 @@ use lib.Dec.{ltb, leb}
 use borrow.Author.Needs.{needs}
 use borrow.Author.Tests.{ltb-true, leb-true}
 use Rattle.laws.specs.Truth.{and-out}
-use Rattle.words.specs.Layout.{word, heldAt}
+use Rattle.words.specs.Layout.{word, keptCountAt}
 use Rattle.recover_in_place.specs.Restored.{restoredOwn}
 use Rattle.recover_in_place.proofs.process.owns.own_then.Statement.{statement}
 use Rattle.recover_in_place.proofs.process.owns.own_then.Tie as tie
@@ -14,17 +14,17 @@ abbrev start : tie.Then1 → tie.Start
 start i = i .before .before .before
 
 -- The member is stored: it is in one of the places.
-stored : (i : tie.Then1) → let a = start i .args in (1 ≤ a .past) × (a .past ≤ word (a .w .now) (heldAt (a .p))) × (a .past ≤ 16)
+stored : (i : tie.Then1) → let a = start i .args in (1 ≤ a .past) × (a .past ≤ word (a .w .now) (keptCountAt (a .p))) × (a .past ≤ 16)
 stored i =
     let a = start i .args in
-    let held = word (a .w .now) (heldAt (a .p)) in
-    let e = and-out (ltb 0 (a .past)) (leb (a .past) held) (i .if1 .taken) in
+    let keptCount = word (a .w .now) (keptCountAt (a .p)) in
+    let e = and-out (ltb 0 (a .past)) (leb (a .past) keptCount) (i .if1 .taken) in
     let one : 1 ≤ a .past = ltb-true 0 (a .past) (e .0) in
-    let most : a .past ≤ held = leb-true (a .past) held (e .1) in
+    let most : a .past ≤ keptCount = leb-true (a .past) keptCount (e .1) in
     (one, most, omega (arith, start i .pre .2 one .0))
 
-cast-held : tie.Need-cast-held
-cast-held c = let small = c .shared-slice-known2 .given (heldAt (c .before .before .args .p)) in search (needs, small)
+cast-kept-count : tie.Need-cast-kept-count
+cast-kept-count c = let small = c .shared-slice-known2 .given (keptCountAt (c .before .before .args .p)) in search (needs, small)
 
 add-interval-of : tie.Need-add-interval-of
 add-interval-of c =
@@ -36,7 +36,7 @@ pub own-then-spec : {M : Type 1} → statement M
 unfolding restoredOwn
 own-then-spec =
     tie.close
-    (tie.spec (λ c. search needs) (λ c. search needs) (λ c. search needs) cast-held (λ c. search needs) (λ c. search needs) (λ c. let s = stored c in search needs)
+    (tie.spec (λ c. search needs) (λ c. search needs) (λ c. search needs) cast-kept-count (λ c. search needs) (λ c. search needs) (λ c. let s = stored c in search needs)
     (λ c. let s = stored c in search needs) (λ c. let s = stored c in search needs) (λ c. let s = stored c in search needs) (λ c. let s = stored c in search needs)
     (λ c. let s = stored (c .before) in search needs) add-interval-of (λ c κs. search needs) (λ c. search needs) (λ c. search needs) (λ c. search needs)
     (λ c. search needs) (λ c. search needs) (λ c κs. search needs) (λ c. rw (c .before .before .if1 .taken) (c .interval-of .ensures))

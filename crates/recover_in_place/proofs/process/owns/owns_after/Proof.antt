@@ -5,7 +5,7 @@ use mathlib.Core.Path.{_≡_, refl, _∙_}
 use native.Mathlib.Omega.{arith}
 use lib.ListN.{getD}
 use borrow.Author.Needs.{needs}
-use Rattle.laws.specs.Loops.{setBelow, below-none, turn-set, below-all}
+use Rattle.laws.specs.Loops.{setBelow, below-none, step-set, below-all}
 use Rattle.recover_in_place.specs.Restored.{restoredOwn, ownsAfter}
 use Rattle.recover_in_place.proofs.process.owns.owns_after.Statement.{statement}
 use Rattle.recover_in_place.proofs.process.owns.owns_after.Tie as tie
@@ -26,7 +26,7 @@ loop-again : tie.Need-loop-again Inv-loop μ-loop
 loop-again c =
     let l = c .before .before .before .loop in
     let a = c .before .before .before .before .before .before .args in
-    (search needs, turn-set (λ q. restoredOwn (a .w .now) q (getD (a .pasts .now) q 0)) _ (l .owns) (l .p) (l .inv .1) _ (c .own-then .ensures))
+    (search needs, step-set (λ q. restoredOwn (a .w .now) q (getD (a .pasts .now) q 0)) _ (l .owns) (l .p) (l .inv .1) _ (c .own-then .ensures))
 
 returns : tie.Need-returns Inv-loop μ-loop
 unfolding ownsAfter

@@ -14,8 +14,8 @@ use Rattle.recover_in_place.proofs.ProcessRestoring.{stored-ready, stor
 use Rattle.recover_in_place.proofs.process.restore.restore_stored.Statement.{statement}
 use Rattle.recover_in_place.proofs.process.restore.restore_stored.Tie as tie
 
-go-back-requires : tie.Need-go-back-requires
-go-back-requires c κs =
+roll-back-requires : tie.Need-roll-back-requires
+roll-back-requires c κs =
     let st = c .before .before .before in
     let r = st .pre .1 .0 .1 .0 in
     (st .pre .0 .0, st .pre .0 .1, omega (arith, st .pre .1 .0 .0, r .0, r .1), r .3 (st .pre .1 .0 .0))
@@ -26,9 +26,9 @@ settle-requires c κs =
     let st = g .before .before .before .before in
     let a = st .args in
     let h = st .pre .1 .0 in
-    let u = stored-ready (a .w .now) (st .pre .0 .0) (a .p) (st .pre .0 .1) (a .past) (a .owns) (h .0) (h .1 .0 .0) _ (g .go-back .ensures) (h .1 .1) in (
+    let u = stored-ready (a .w .now) (st .pre .0 .0) (a .p) (st .pre .0 .1) (a .past) (a .owns) (h .0) (h .1 .0 .0) _ (g .roll-back .ensures) (h .1 .1) in (
       (
-        g .go-back .kept .0 ∙ st .pre .0 .0,
+        g .roll-back .kept .0 ∙ st .pre .0 .0,
         st .pre .0 .1,
         omega (arith, ap (λ (d : Disk). d .written) (u .0), st .pre .0 .2),
         omega (arith, ap (λ (d : Disk). d .deleted) (u .0), st .pre .0 .3),
@@ -46,8 +46,8 @@ returns c =
     let st = g .before .before .before .before in
     let a = st .args in
     let h = st .pre .1 .0 in
-    let gone = stored-gone (a .w .now) (st .pre .0 .0) (a .p) (st .pre .0 .1) (a .past) (a .owns) (h .0) (h .1 .0 .0) _ (g .go-back .ensures) _ _ _ (v .vector-at .ensures) (f .find-latest .ensures) (k .known-pins .ensures) in (
-      stored-moves (a .w .now) (st .pre .0 .0) (a .p) (st .pre .0 .1) (a .past) (a .owns) (h .0) (h .1 .0 .0) _ (g .go-back .ensures) _ _ _ (v .vector-at .ensures) (f .find-latest .ensures) (k .known-pins .ensures) _ _ (t .settle .ensures .0),
+    let gone = stored-gone (a .w .now) (st .pre .0 .0) (a .p) (st .pre .0 .1) (a .past) (a .owns) (h .0) (h .1 .0 .0) _ (g .roll-back .ensures) _ _ _ (v .vector-at .ensures) (f .find-latest .ensures) (k .known-pins .ensures) in (
+      stored-moves (a .w .now) (st .pre .0 .0) (a .p) (st .pre .0 .1) (a .past) (a .owns) (h .0) (h .1 .0 .0) _ (g .roll-back .ensures) _ _ _ (v .vector-at .ensures) (f .find-latest .ensures) (k .known-pins .ensures) _ _ (t .settle .ensures .0),
       (
         t .settle .ensures .1 .0 ∙ ap (λ (l : List Checkpoint). sets (a .deleted .now) (2 * a .before) (pairs (listed (a .p) l))) gone,
         t .settle .ensures .1 .1 ∙ ap length gone,
@@ -57,5 +57,5 @@ returns c =
 pub restore-stored-spec : {M : Type 1} → statement M
 restore-stored-spec =
     tie.close
-    (tie.spec (λ c. search needs) go-back-requires (λ c. search needs) (λ c. search needs) (λ c κs. search needs) (λ c κs. search needs) (λ c κs. search needs)
+    (tie.spec (λ c. search needs) roll-back-requires (λ c. search needs) (λ c. search needs) (λ c κs. search needs) (λ c κs. search needs) (λ c κs. search needs)
     settle-requires (λ c. search needs) (λ c. search needs) returns)

@@ -9,9 +9,9 @@ use borrow.Author.Needs.{needs}
 use Rattle.model.specs.declared.Checkpoint.{Checkpoint}
 use Rattle.model.specs.Steps.{listed}
 use Rattle.whole_runs.specs.Outcomes.{pairs}
-use Rattle.words.specs.Layout.{word, heldAt}
+use Rattle.words.specs.Layout.{word, keptCountAt}
 use Rattle.process_words.proofs.Settling.{pinned-used}
-use Rattle.recover_in_place.proofs.ProcessSettling.{none-named, unnamed-is, settled-size, settled-disk, settled-moves}
+use Rattle.recover_in_place.proofs.ProcessSettling.{none-pinned, unpinned-is, settled-size, settled-disk, settled-moves}
 use Rattle.recover_in_place.proofs.process.restore.settle.Statement.{statement}
 use Rattle.recover_in_place.proofs.process.restore.settle.Tie as tie
 
@@ -25,8 +25,8 @@ collect-requires c κs =
         st .pre .0 .1,
         omega arith,
         st .pre .1 .0 .0,
-        rw (q .put-row .ensures) (pinned-used (a .w .now) (st .pre .0 .0) (a .p) (st .pre .0 .1) (a .pins) (word (a .w .now) (heldAt (a .p))) (st .pre .1 .0 .0) (st .pre .1 .0 .1)),
-        none-named _ _ _,
+        rw (q .put-row .ensures) (pinned-used (a .w .now) (st .pre .0 .0) (a .p) (st .pre .0 .1) (a .pins) (word (a .w .now) (keptCountAt (a .p))) (st .pre .1 .0 .0) (st .pre .1 .0 .1)),
+        none-pinned _ _ _,
       ),
       (st .pre .1 .1 .0, st .pre .1 .1 .1),
     )
@@ -56,7 +56,7 @@ returns c =
     let q = t .before .before .before .before .before in
     let st = q .before .before .before .before .before .before in
     let a = st .args in
-    let gone = unnamed-is (a .w .now) (st .pre .0 .0) (a .p) (st .pre .0 .1) (a .pins) _ (q .put-row .ensures) (st .pre .1 .0 .0) in (
+    let gone = unpinned-is (a .w .now) (st .pre .0 .0) (a .p) (st .pre .0 .1) (a .pins) _ (q .put-row .ensures) (st .pre .1 .0 .0) in (
       settled-moves (a .w .now) (st .pre .0 .0) (a .p) (st .pre .0 .1) (a .pins) _ (q .put-row .ensures) (st .pre .1 .0 .0) _ _ (t .collect .ensures .0) _ _ _ (bill .0) (bill .1 .0) (bill .1 .1),
       (
         t .collect .ensures .1 .0 ∙ ap (λ (l : List Checkpoint). sets (a .deleted .now) (2 * a .before) (pairs (listed (a .p) l))) gone,

@@ -1,0 +1,11 @@
+-- `exam::facts::named` meets its contract. Assumes nothing.
+use Prim.Native.Nat.{_-_}
+use borrow.Author.Needs.{needs}
+use Rattle.exam.proofs.facts.pin_row.Statement.{statement}
+use Rattle.exam.proofs.facts.pin_row.Tie as tie
+
+pub pin-row-spec : {M : Type 1} → statement M
+pin-row-spec =
+    tie.close
+    (tie.spec (λ n row f₀ f. Unit) (λ n row f₀ f. n - f) (λ c. search needs) (λ c. search needs) (λ c. search needs) (λ c κs. search needs) (λ c. search needs)
+    (λ c. search needs) (λ c. search needs) (λ c κs. search needs) (λ c. search needs))

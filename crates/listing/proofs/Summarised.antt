@@ -1,0 +1,27 @@
+-- A summary that says what a reply says prints the same line.
+-- Assumes nothing.
+use mathlib.Core.Path.{_≡_, sym, _∙_, ap}
+use mathlib.Core.List.{List}
+use Prim.Native.Nat.{ℕ}
+use Rattle.whole_runs.specs.Outcomes.{Report}
+use Rattle.whole_runs.specs.Calls.{Reply}
+use Rattle.whole_runs.specs.Listing.{deletionsText, acceptedText, lineText}
+use Rattle.listing.specs.declared.Summary.{Summary}
+use Rattle.listing.specs.Lines.{valueIn, replyOf}
+use Rattle.listing.specs.Summarised.{reportIn, Says}
+
+-- The same line is printed of both.
+pub says-line : (summary : Summary) (deleted : List ℕ) (reply : Reply) → Says summary deleted reply → (k : ℕ) → lineText k (replyOf summary deleted) ≡ lineText k reply
+unfolding lineText acceptedText replyOf reportIn
+says-line summary deleted reply h k =
+    let a : reply .report .refused ≡ summary .refused = sym (ap (λ (r : Report). r .refused) (h .report)) in
+    let b : reply .report .value ≡ valueIn (summary .value) = sym (ap (λ (r : Report). r .value) (h .report)) in
+    let c : reply .report .deletions ≡ summary .deletions = sym (ap (λ (r : Report). r .deletions) (h .report)) in
+    rw (a, b, c, h .listed)
+
+-- Without deletions the list plays no part.
+pub none-listed : (summary : Summary) (r : Report) (l m : List ℕ) → reportIn summary ≡ r → r .deletions ≡ 0 → deletionsText (summary .deletions) l ≡ deletionsText (summary .deletions) m
+unfolding reportIn deletionsText
+none-listed summary r l m same zero-deletions =
+    let none : summary .deletions ≡ 0 = ap (λ (x : Report). x .deletions) same ∙ zero-deletions in
+    rw none

@@ -1,7 +1,0 @@
--- `verdicts::is_line_short` meets its contract. Assumes nothing.
-use mathlib.Core.Path.{refl}
-use Rattle.verdicts.proofs.is_line_short.Statement.{statement}
-use Rattle.verdicts.proofs.is_line_short.Tie as tie
-
-pub is-line-short-spec : {M : Type 1} → statement M
-is-line-short-spec = tie.close (tie.spec (λ c. refl))
